@@ -1,13 +1,18 @@
-// A library with one function.
+//! The texts of curriculum-based course timetabling: instances and solutions.
 #![tactic(auto)]
 
-ghost use Rattle.std.specs.Prelude.{◌≡◌};
-ghost use Rattle.ctt_text.specs.Echo.{echo_of};
+mod course_facts;
+mod fault;
+mod ids;
+mod names;
+mod numbers;
+mod placed;
+mod reader;
+mod words;
 
-// The `ensures` clause is the contract: what `echo` returns is `echo_of` of its argument, a definition
-// in `specs/Echo.antt`, which a caller's clause can cite too.
-pub fn echo(x: usize) -> usize
-    ensures { result ≡ echo_of x }
-{
-    x
-}
+pub use course_facts::CourseFacts;
+pub use fault::ReadFault;
+pub use ids::{CourseNo, CurriculumNo, RoomNo, SlotNo, TeacherNo};
+pub use numbers::number;
+pub use placed::Placed;
+pub use words::Words;

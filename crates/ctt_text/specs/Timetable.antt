@@ -1,0 +1,37 @@
+-- A timetable is a list of lectures, strictly ascending by course and slot. Its rows are its parts.
+use Rattle.std.specs.Prelude.{ℕ, ◌<◌, ◌≡◌, Bool, true, List, filter, ◌==◌, nat_lt, ◌&&◌, ◌||◌, not}
+use Rattle.std.specs.List.{AllByRecursion as Each}
+use Rattle.ctt_text.specs.Lists.{Pairwise, put}
+use Rattle.ctt_text.specs.Problem.{Problem, course_count, slot_count, room_count}
+use Rattle.ctt_text.specs.declared.placed.Placed.{Placed}
+
+-- the order of a timetable
+abbrev pub before : Placed → Placed → Bool
+before a b = nat_lt a.course b.course || (a.course == b.course && nat_lt a.slot b.slot)
+
+abbrev pub Ascending : List Placed → Type 0
+Ascending t = Pairwise (λ a b. before a b ≡ true) t
+
+-- its numbers are those of the instance
+abbrev pub Fits : Problem → Placed → Type 0
+Fits i l = (l.course < course_count i) × (l.slot < slot_count i) × (l.room < room_count i)
+
+pub record IsTimetable (i : Problem) (t : List Placed) : Type 0 where
+  pub ascending : Ascending t
+  pub fits : Each (Fits i) t
+
+-- the lectures of a course
+abbrev pub course_row : ℕ → List Placed → List Placed
+course_row c t = filter (λ l. l.course == c) t
+
+-- the lectures in a slot
+abbrev pub slot_row : ℕ → List Placed → List Placed
+slot_row s t = filter (λ l. l.slot == s) t
+
+-- the timetable with one more lecture, in its place
+abbrev pub with : Placed → List Placed → List Placed
+with l t = put before l t
+
+-- the timetable without the lecture of a course in a slot
+abbrev pub without : ℕ → ℕ → List Placed → List Placed
+without c s t = filter (λ l. not (l.course == c && l.slot == s)) t
