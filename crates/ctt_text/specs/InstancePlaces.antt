@@ -43,16 +43,27 @@ number_up_to greatest = number_if BadNumber (λ n. nat_le n greatest) TooLarge
 unfoldable pub period_count : ℕ → Form ReadFault ℕ
 period_count days = number_if BadNumber (λ n. nat_le n 2000 && nat_le (days * n) 2000) TooLarge
 
+-- two numbers, each behind its fixed word
+unfoldable pub two_counts : List ℕ → ℕ → List ℕ → ℕ → Form ReadFault (ℕ × ℕ)
+two_counts first_label first_greatest second_label second_greatest = do
+  first ← after Expected first_label (number_up_to first_greatest)
+  second ← after Expected second_label (number_up_to second_greatest)
+  done (first, second)
+
+-- days, and periods per day
+unfoldable pub calendar : Form ReadFault (ℕ × ℕ)
+calendar = do
+  days ← after Expected (codes "Days:") (number_up_to 2000)
+  periods ← after Expected (codes "Periods_per_day:") (period_count days)
+  done (days, periods)
+
 unfoldable pub header : Form ReadFault Header
 header = do
   name ← after Expected (codes "Name:") any
-  courses ← after Expected (codes "Courses:") (number_up_to 2000)
-  rooms ← after Expected (codes "Rooms:") (number_up_to 1000)
-  days ← after Expected (codes "Days:") (number_up_to 2000)
-  periods ← after Expected (codes "Periods_per_day:") (period_count days)
-  curricula ← after Expected (codes "Curricula:") (number_up_to 20000)
-  constraints ← after Expected (codes "Constraints:") (number_up_to 2000000)
-  done (record { name = name; courses = courses; rooms = rooms; days = days; periods = periods; curricula = curricula; constraints = constraints })
+  places ← two_counts (codes "Courses:") 2000 (codes "Rooms:") 1000
+  times ← calendar
+  lists ← two_counts (codes "Curricula:") 20000 (codes "Constraints:") 2000000
+  done (record { name = name; courses = places.0; rooms = places.1; days = times.0; periods = times.1; curricula = lists.0; constraints = lists.1 })
 
 -- the list with x, at its end if it is new
 abbrev pub with_new : {X : Type 0} → (X → X → Bool) → List X → X → List X

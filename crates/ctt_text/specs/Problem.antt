@@ -1,5 +1,5 @@
 -- An instance of the problem, as the rules see it.
-use Rattle.std.specs.Prelude.{ℕ, ◌*◌, ◌+◌, ◌≤◌, ◌<◌, ◌≡◌, Bool, false, List, [], length, get_or, ◌==◌, ◌&&◌, ◌||◌, not, ◌/◌, ◌%◌, nat_lt}
+use Rattle.std.specs.Prelude.{ℕ, ◌*◌, ◌+◌, ◌≤◌, ◌<◌, ◌≡◌, Bool, false, List, [], length, get_or, ◌==◌, ◌&&◌, ◌||◌, not, ◌/◌, ◌%◌, nat_lt, Option, Some, None, if◌then◌else◌}
 use Rattle.std.specs.List.{list_any, position_or_len, AllByRecursion as Each}
 use Rattle.std.specs.Str.{bytes_eq}
 use Rattle.ctt_text.specs.Lists.{has, Pairwise}
@@ -71,6 +71,10 @@ is_among names word = list_any (bytes_eq word) names
 
 abbrev pub place_of : List (List ℕ) → List ℕ → ℕ
 place_of names word = position_or_len (bytes_eq word) names
+
+-- the number of a name, if it is one of them
+abbrev pub number_in : List (List ℕ) → List ℕ → Option ℕ
+number_in names word = if is_among names word then Some (place_of names word) else None
 
 -- a number that a file can give
 abbrev pub IsSmall : ℕ → Type 0

@@ -4,6 +4,8 @@
 mod course_facts;
 mod fault;
 mod ids;
+mod instance;
+mod marks;
 mod names;
 mod numbers;
 mod placed;
@@ -13,6 +15,7 @@ mod words;
 pub use course_facts::CourseFacts;
 pub use fault::ReadFault;
 pub use ids::{CourseNo, CurriculumNo, RoomNo, SlotNo, TeacherNo};
+pub use marks::Marks;
 pub use numbers::number;
 pub use placed::Placed;
 pub use words::Words;

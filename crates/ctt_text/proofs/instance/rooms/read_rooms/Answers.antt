@@ -1,0 +1,17 @@
+use Rattle.std.proofs.Common.{[], length, ◌+◌}
+use Rattle.std.proofs.lemmas.Result.{err_from_is_err_and}
+use Rattle.ctt_text.specs.Forms.{times}
+use Rattle.ctt_text.specs.InstancePlaces.{reads, missing, wants_memory, room, no_rooms}
+use Rattle.ctt_text.proofs.Steps.{goes_on, ends, is_done}
+use Rattle.ctt_text.proofs.instance.rooms.read_rooms.Goals as goal
+
+pub returns-in_err-read_one_room : goal.returns-in_err-read_one_room
+returns-in_err-read_one_room c =
+    let p = err_from_is_err_and c.from_residual.result c.from_residual.ensures.1 in
+    rw (p.1, p.2) (ends missing (room) c.args.count c.loop.counter c.loop.section c.loop.reader (reads (times (room) c.args.count no_rooms) c.args.reader.now) c.loop.invariant wants_memory c.in_err-read_one_room.field-0.0 c.loop-test.true c.in_err-read_one_room.ensures)
+
+pub loop-preserved : goal.loop-preserved
+loop-preserved c = goes_on missing (room) c.args.count c.loop.counter c.loop.section c.loop.reader (reads (times (room) c.args.count no_rooms) c.args.reader.now) c.loop.invariant c.read_one_room.new.section c.read_one_room.new.reader c.loop-test.true c.in_ok-read_one_room.ensures
+
+pub returns : goal.returns
+returns c = is_done missing (room) c.args.count c.loop.counter c.loop.section c.loop.reader (reads (times (room) c.args.count no_rooms) c.args.reader.now) c.loop.invariant c.loop-test.false

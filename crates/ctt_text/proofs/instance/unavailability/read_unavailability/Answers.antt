@@ -1,0 +1,17 @@
+use Rattle.std.proofs.Common.{[], length, ◌+◌}
+use Rattle.std.proofs.lemmas.Result.{err_from_is_err_and}
+use Rattle.ctt_text.specs.Forms.{times}
+use Rattle.ctt_text.specs.InstancePlaces.{reads, missing, wants_memory, unavailability}
+use Rattle.ctt_text.proofs.Steps.{goes_on, ends, is_done}
+use Rattle.ctt_text.proofs.instance.unavailability.read_unavailability.Goals as goal
+
+pub returns-in_err-read_one_period : goal.returns-in_err-read_one_period
+returns-in_err-read_one_period c =
+    let p = err_from_is_err_and c.from_residual.result c.from_residual.ensures.1 in
+    rw (p.1, p.2) (ends missing (unavailability c.args.courses.now c.args.days c.args.periods) c.args.count c.loop.counter c.loop.marks c.loop.reader (reads (times (unavailability c.args.courses.now c.args.days c.args.periods) c.args.count c.args.marks.now) c.args.reader.now) c.loop.invariant wants_memory c.in_err-read_one_period.field-0.0 c.loop-test.true c.in_err-read_one_period.ensures)
+
+pub loop-preserved : goal.loop-preserved
+loop-preserved c = goes_on missing (unavailability c.args.courses.now c.args.days c.args.periods) c.args.count c.loop.counter c.loop.marks c.loop.reader (reads (times (unavailability c.args.courses.now c.args.days c.args.periods) c.args.count c.args.marks.now) c.args.reader.now) c.loop.invariant c.read_one_period.new.marks c.read_one_period.new.reader c.loop-test.true c.in_ok-read_one_period.ensures
+
+pub returns : goal.returns
+returns c = is_done missing (unavailability c.args.courses.now c.args.days c.args.periods) c.args.count c.loop.counter c.loop.marks c.loop.reader (reads (times (unavailability c.args.courses.now c.args.days c.args.periods) c.args.count c.args.marks.now) c.args.reader.now) c.loop.invariant c.loop-test.false

@@ -1,0 +1,8 @@
+use Rattle.std.proofs.Common.{◌≡◌, ◌-◌, ◌≤◌, [], length}
+use Rattle.ctt_text.specs.Forms.{times}
+use Rattle.ctt_text.specs.InstancePlaces.{reads, unavailability}
+use Rattle.ctt_text.proofs.instance.unavailability.read_unavailability.Given as goal
+
+-- what was read so far, and the rest read after it, is all
+abbrev pub invariant-loop : goal.invariant-loop
+invariant-loop l = reads (times (unavailability l.courses l.days l.periods) (l.count - l.counter) l.marks) l.reader ≡ reads (times (unavailability l.courses l.days l.periods) l.count l.fn.marks) l.fn.reader

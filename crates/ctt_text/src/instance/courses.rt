@@ -1,0 +1,77 @@
+//! The section of the courses.
+
+ghost use Rattle.std.specs.Prelude.{[], ◌≤◌, ◌<◌, ◌+◌, length, IfOk, OnOk};
+ghost use Rattle.ctt_text.specs.Forms.{times};
+ghost use Rattle.ctt_text.specs.InstancePlaces.{GivesRead, reads, course, no_courses};
+
+use crate::course_facts::CourseFacts;
+use crate::fault::ReadFault;
+use crate::ids::TeacherNo;
+use crate::instance::places::{read_any, read_new_name, read_number};
+use crate::names::Names;
+use crate::reader::Reader;
+use std::alloc::Global;
+use std::marker::Model;
+
+/// The courses that were read, and the names of their teachers.
+#[derive(Drop)]
+pub(crate) struct CourseSection {
+    pub(crate) names: Names,
+    pub(crate) facts: Vec<CourseFacts>,
+    pub(crate) teachers: Names,
+}
+
+impl Model for CourseSection {
+    ghost use Rattle.ctt_text.specs.InstancePlaces.{Courses};
+
+    ghost Value = { Courses };
+
+    ghost view = { λ s. record { names = s.names; facts = s.facts.items; teachers = s.teachers } };
+}
+
+/// Reads one course, and adds it to those before it.
+#[tactic(auto, using(crate::proofs::Steps::read_bind, crate::proofs::Steps::read_done), unfolding(crate::specs::InstancePlaces::course))]
+fn read_one_course(
+    alloc: Global,
+    reader: &mut Reader,
+    section: &mut CourseSection,
+) -> Result<(), ReadFault>
+    requires { length section.old.teachers < 2000 }
+    ensures teachers { OnOk result (length section.new.teachers ≤ length section.old.teachers + 1) }
+    ensures exact { GivesRead (λ _. (section.new, reader.new)) result (reads (course section.old) reader.old) }
+{
+    let name = read_new_name(reader, &section.names)?;
+    let teacher = read_any(reader)?;
+    let lectures = read_number(reader)?;
+    let min_days = read_number(reader)?;
+    let students = read_number(reader)?;
+    let teacher = section.teachers.number_or_add(alloc, teacher)?;
+    section.names.add(alloc, name)?;
+    section.facts.push(CourseFacts {
+        teacher: TeacherNo::new(teacher as u16),
+        lectures,
+        min_days,
+        students,
+    })?;
+    Ok(())
+}
+
+/// Reads so many courses.
+pub(crate) fn read_courses(
+    alloc: Global,
+    reader: &mut Reader,
+    count: u32,
+) -> Result<CourseSection, ReadFault>
+    requires { count ≤ 2000 }
+    ensures { GivesRead (λ section. (section, reader.new)) result (reads (times course count no_courses) reader.old) }
+{
+    let mut section = CourseSection {
+        names: Names::new(alloc),
+        facts: Vec::new(alloc),
+        teachers: Names::new(alloc),
+    };
+    for _ in 0..count {
+        read_one_course(alloc, reader, &mut section)?;
+    }
+    Ok(section)
+}
