@@ -97,6 +97,7 @@ pub record IsProblem (i : Problem) : Type 0 where
   pub days_few : i.days ≤ 2000
   pub periods_few : i.periods ≤ 2000
   pub slots_few : i.days * i.periods ≤ 2000
+  pub marked : length i.unavailable ≡ length i.courses * (i.days * i.periods)
   pub courses_named : length i.course_names ≡ length i.courses
   pub rooms_named : length i.room_names ≡ length i.capacities
   pub curricula_named : length i.curriculum_names ≡ length i.curricula

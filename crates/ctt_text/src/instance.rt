@@ -1,4 +1,7 @@
-//! The instance, and how it is read.
+//! The instance, and what it says.
+
+ghost use Rattle.std.specs.Prelude.{◌≡◌, ◌<◌, ◌≤◌, ◌*◌, [], length, slice_index_or};
+ghost use Rattle.ctt_text.specs.Problem.{IsProblem, course_of, capacity_of, members, course_count, room_count, teacher_count, curriculum_count, slot_count, slot_of, day_of, period_of, clash, is_unavailable, number_in};
 
 mod courses;
 mod curricula;
@@ -7,3 +10,230 @@ mod members;
 mod places;
 mod rooms;
 mod unavailability;
+
+use crate::course_facts::CourseFacts;
+use crate::ids::{CourseNo, CurriculumNo, RoomNo, SlotNo, TeacherNo};
+use crate::names::Names;
+use std::marker::Model;
+
+/// An instance of curriculum-based course timetabling, as it was read from its file.
+///
+/// There are at most 2,000 courses, 1,000 rooms, 2,000 teachers, 20,000 curricula and 2,000 slots.
+#[derive(Debug, Drop)]
+pub struct Instance {
+    name: String,
+    course_names: Names,
+    courses: Vec<CourseFacts>,
+    teacher_names: Names,
+    room_names: Names,
+    capacities: Vec<u32>,
+    curriculum_names: Names,
+    curricula: Vec<Vec<CourseNo>>,
+    days: u16,
+    periods: u16,
+    /// For each course in turn, for each slot in turn.
+    unavailable: Vec<bool>,
+    /// For each course in turn, for each course in turn.
+    clashes: Vec<bool>,
+}
+
+impl Model for Instance {
+    ghost use Rattle.ctt_text.specs.Problem.{Problem};
+
+    ghost Value = { Problem };
+
+    ghost use Rattle.ctt_text.specs.Instance.{problem_in, IsInstance};
+
+    ghost view = { problem_in };
+
+    ghost invariant = { IsInstance };
+}
+
+impl Instance {
+    /// Computes nothing: its contract says what holds of each instance.
+    pub fn limits(&self)
+        ensures { IsProblem self.now }
+    {
+        let _days = &self.days;
+    }
+
+    /// The name of the instance.
+    pub fn name(&self) -> &str
+        ensures { result.now ≡ self.now.name }
+    {
+        self.name.as_str()
+    }
+
+    /// How many courses there are, at most 2,000.
+    pub fn courses(&self) -> u16
+        ensures { result ≡ course_count self.now }
+    {
+        self.courses.len() as u16
+    }
+
+    /// How many rooms there are, at most 1,000.
+    pub fn rooms(&self) -> u16
+        ensures { result ≡ room_count self.now }
+    {
+        self.capacities.len() as u16
+    }
+
+    /// How many teachers there are, at most one for each course.
+    pub fn teachers(&self) -> u16
+        ensures { result ≡ teacher_count self.now }
+    {
+        self.teacher_names.len() as u16
+    }
+
+    /// How many curricula there are, at most 20,000.
+    pub fn curricula(&self) -> u16
+        ensures { result ≡ curriculum_count self.now }
+    {
+        self.curricula.len() as u16
+    }
+
+    /// How many days there are, at most 2,000.
+    pub fn days(&self) -> u16
+        ensures { result ≡ self.now.days }
+    {
+        self.days
+    }
+
+    /// How many periods a day has, at most 2,000.
+    pub fn periods(&self) -> u16
+        ensures { result ≡ self.now.periods }
+    {
+        self.periods
+    }
+
+    /// How many slots there are, at most 2,000: the days times the periods of a day.
+    pub fn slots(&self) -> u16
+        ensures { result ≡ slot_count self.now }
+    {
+        self.days * self.periods
+    }
+
+    /// The name of a course.
+    pub fn course_name(&self, course: CourseNo) -> &str
+        requires { course < course_count self.now }
+        ensures { result.now ≡ slice_index_or self.now.course_names course [] }
+    {
+        self.course_names.name(course.get() as usize)
+    }
+
+    /// The name of a room.
+    pub fn room_name(&self, room: RoomNo) -> &str
+        requires { room < room_count self.now }
+        ensures { result.now ≡ slice_index_or self.now.room_names room [] }
+    {
+        self.room_names.name(room.get() as usize)
+    }
+
+    /// Who teaches a course.
+    pub fn teacher(&self, course: CourseNo) -> TeacherNo
+        requires { course < course_count self.now }
+        ensures { result ≡ (course_of self.now course).teacher }
+    {
+        self.courses[course.get() as usize].teacher
+    }
+
+    /// How many lectures a course has, at most 999,999,999.
+    pub fn lectures(&self, course: CourseNo) -> u32
+        requires { course < course_count self.now }
+        ensures { result ≡ (course_of self.now course).lectures }
+    {
+        self.courses[course.get() as usize].lectures
+    }
+
+    /// On how many days the lectures of a course should be spread at least, at most 999,999,999.
+    pub fn min_days(&self, course: CourseNo) -> u32
+        requires { course < course_count self.now }
+        ensures { result ≡ (course_of self.now course).min_days }
+    {
+        self.courses[course.get() as usize].min_days
+    }
+
+    /// How many students attend a course, at most 999,999,999.
+    pub fn students(&self, course: CourseNo) -> u32
+        requires { course < course_count self.now }
+        ensures { result ≡ (course_of self.now course).students }
+    {
+        self.courses[course.get() as usize].students
+    }
+
+    /// How many seats a room has, at most 999,999,999.
+    pub fn capacity(&self, room: RoomNo) -> u32
+        requires { room < room_count self.now }
+        ensures { result ≡ capacity_of self.now room }
+    {
+        self.capacities[room.get() as usize]
+    }
+
+    /// The courses of a curriculum, in the order in which the file first names them, each once.
+    pub fn members(&self, curriculum: CurriculumNo) -> &[CourseNo]
+        requires { curriculum < curriculum_count self.now }
+        ensures { result.now ≡ members self.now curriculum }
+    {
+        &self.curricula[curriculum.get() as usize]
+    }
+
+    /// Whether two different courses have the same teacher or are members of one curriculum.
+    pub fn clash(&self, course: CourseNo, other: CourseNo) -> bool
+        requires course { course < course_count self.now }
+        requires other { other < course_count self.now }
+        ensures { result ≡ clash self.now course other }
+    {
+        self.clashes[course.get() as usize * self.courses.len() + other.get() as usize]
+    }
+
+    /// Whether a course is unavailable in a slot.
+    pub fn unavailable(&self, course: CourseNo, slot: SlotNo) -> bool
+        requires course { course < course_count self.now }
+        requires slot { slot < slot_count self.now }
+        ensures { result ≡ is_unavailable self.now course slot }
+    {
+        let slots = self.days as usize * self.periods as usize;
+        self.unavailable[course.get() as usize * slots + slot.get() as usize]
+    }
+
+    /// The slot of a period in a day.
+    pub fn slot_of(&self, day: u16, period: u16) -> SlotNo
+        requires day { day < self.now.days }
+        requires period { period < self.now.periods }
+        ensures { result ≡ slot_of self.now day period }
+    {
+        SlotNo::new(day * self.periods + period)
+    }
+
+    /// The day of a slot.
+    pub fn day_of(&self, slot: SlotNo) -> u16
+        requires { slot < slot_count self.now }
+        ensures { result ≡ day_of self.now slot }
+    {
+        slot.get() / self.periods
+    }
+
+    /// The period of a slot in its day.
+    pub fn period_of(&self, slot: SlotNo) -> u16
+        requires { slot < slot_count self.now }
+        ensures { result ≡ period_of self.now slot }
+    {
+        slot.get() % self.periods
+    }
+
+    /// The number of a course by its name.
+    pub fn find_course(&self, name: &str) -> Option<CourseNo>
+        ensures { result ≡ number_in self.now.course_names name.now }
+    {
+        let number = self.course_names.number(name)?;
+        Some(CourseNo::new(number as u16))
+    }
+
+    /// The number of a room by its name.
+    pub fn find_room(&self, name: &str) -> Option<RoomNo>
+        ensures { result ≡ number_in self.now.room_names name.now }
+    {
+        let number = self.room_names.number(name)?;
+        Some(RoomNo::new(number as u16))
+    }
+}

@@ -1,0 +1,29 @@
+-- The fields of an instance, and the problem that they are.
+use Rattle.std.specs.Prelude.{◌≡◌, ◌<◌, ◌+◌, ◌*◌, ℕ, List, Bool, false, length, map, get_or}
+use Rattle.std.specs.String.{string_bytes}
+use Rattle.ctt_text.specs.Problem.{Problem, IsProblem, course_count, slot_count, clash}
+use Rattle.ctt_text.specs.declared.instance.Instance.TheInside.{Inside}
+
+abbrev pub problem_in : Inside → Problem
+problem_in i = record {
+  name = string_bytes i.name;
+  course_names = i.course_names;
+  courses = i.courses.items;
+  teacher_names = i.teacher_names;
+  room_names = i.room_names;
+  capacities = i.capacities.items;
+  curriculum_names = i.curriculum_names;
+  curricula = map (λ q. q.items) i.curricula.items;
+  days = i.days;
+  periods = i.periods;
+  unavailable = i.unavailable.items;
+}
+
+-- the table of the clashes: for each course in turn, for each course in turn
+pub record AreClashes (p : Problem) (marks : List Bool) : Type 0 where
+  pub size : length marks ≡ course_count p * course_count p
+  pub mark : (c d : ℕ) → c < course_count p → d < course_count p → get_or marks (c * course_count p + d) false ≡ clash p c d
+
+pub record IsInstance (i : Inside) : Type 0 where
+  pub problem : IsProblem (problem_in i)
+  pub clashes : AreClashes (problem_in i) i.clashes.items
