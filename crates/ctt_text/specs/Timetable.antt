@@ -1,5 +1,5 @@
 -- A timetable is a list of lectures, strictly ascending by course and slot. Its rows are its parts.
-use Rattle.std.specs.Prelude.{ℕ, ◌<◌, ◌≡◌, Bool, true, List, filter, ◌==◌, nat_lt, ◌&&◌, ◌||◌, not}
+use Rattle.std.specs.Prelude.{ℕ, ◌<◌, ◌+◌, ◌≡◌, Bool, true, List, length, get_or, filter, ◌==◌, nat_lt, ◌&&◌, ◌||◌, not}
 use Rattle.std.specs.List.{AllByRecursion as Each}
 use Rattle.ctt_text.specs.Lists.{Pairwise, put}
 use Rattle.ctt_text.specs.Problem.{Problem, course_count, slot_count, room_count}
@@ -19,6 +19,11 @@ Fits i l = (l.course < course_count i) × (l.slot < slot_count i) × (l.room < r
 pub record IsTimetable (i : Problem) (t : List Placed) : Type 0 where
   pub ascending : Ascending t
   pub fits : Each (Fits i) t
+
+-- the same by neighbours, as a program goes over the list: each lecture fits, and comes after the one before it
+pub record ByNeighbours (i : Problem) (t : List Placed) : Type 0 where
+  pub fits : (k : ℕ) (d : Placed) → k < length t → Fits i (get_or t k d)
+  pub ascending : (k : ℕ) (d : Placed) → k + 1 < length t → before (get_or t k d) (get_or t (k + 1) d) ≡ true
 
 -- the lectures of a course
 abbrev pub course_row : ℕ → List Placed → List Placed

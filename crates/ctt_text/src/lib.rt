@@ -3,6 +3,7 @@
 
 mod course_facts;
 mod fault;
+mod fits;
 mod ids;
 mod instance;
 mod marks;
@@ -10,6 +11,7 @@ mod names;
 mod numbers;
 mod placed;
 mod reader;
+mod timetable;
 mod words;
 
 pub use course_facts::CourseFacts;
@@ -19,4 +21,5 @@ pub use instance::Instance;
 pub use marks::Marks;
 pub use numbers::number;
 pub use placed::Placed;
+pub use timetable::is_timetable;
 pub use words::Words;
