@@ -10,3 +10,6 @@ pub use device::Device;
 pub use input::{InputFault, read_all};
 pub use sink::{Sink, put_all};
 pub use source::{Failed, Source};
+
+#[cfg(test)]
+mod tests;
