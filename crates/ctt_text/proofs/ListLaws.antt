@@ -1,0 +1,194 @@
+-- Lists of which each element is taken once, and the places of names.
+use Rattle.std.proofs.Common.{◌≡◌, ℕ, suc, ◌+◌, ◌≤◌, ◌<◌, List, [], ◌∷◌, ◌++◌, length, map, Bool, true, false, cond, not, ◌||◌, refl, sym, ap, subst, ◌∙◌, append_assoc, arith}
+use Rattle.std.specs.Prelude.{fold, filter}
+use Rattle.std.specs.List.{list_any, position_or_len, AllByRecursion as Each}
+use Rattle.std.specs.Str.{bytes_eq}
+use Rattle.std.proofs.lemmas.List.{append-nil}
+use Rattle.std.proofs.lemmas.Bool.{true≢false, both_ways, not-true, or_left, or_right}
+use Rattle.std.proofs.lemmas.List.Folds.{list_any-append}
+use Rattle.std.proofs.lemmas.Slice.Eq.{bytes_eq-Decides}
+use Rattle.ctt_text.specs.Lists.{Pairwise, each_once}
+use Rattle.ctt_text.specs.Problem.{is_among, place_of}
+use Rattle.ctt_text.specs.InstancePlaces.{with_new}
+
+-- by cases
+pub by_cases : (C : Type 0) (b : Bool) → (b ≡ true → C) → (b ≡ false → C) → C
+by_cases C true so otherwise = so refl
+by_cases C false so otherwise = otherwise refl
+
+-- what holds of each, by what is known of each
+pub each_so : {X : Type 0} (P Q : X → Type 0) → ((x : X) → P x → Q x) → (xs : List X) → Each P xs → Each Q xs
+each_so P Q so [] each = tt
+each_so P Q so (x ∷ xs) each = (so x each.0, each_so P Q so xs each.1)
+
+pub each_map : {X Y : Type 0} (P : Y → Type 0) (f : X → Y) (xs : List X) → Each (λ x. P (f x)) xs → Each P (map f xs)
+each_map P f [] each = tt
+each_map P f (x ∷ xs) each = (each.0, each_map P f xs each.1)
+
+pub each_front : {X : Type 0} (P : X → Type 0) (xs ys : List X) → Each P (xs ++ ys) → Each P xs
+each_front P [] ys each = tt
+each_front P (x ∷ xs) ys each = (each.0, each_front P xs ys each.1)
+
+pub each_rest : {X : Type 0} (P : X → Type 0) (xs ys : List X) → Each P (xs ++ ys) → Each P ys
+each_rest P [] ys each = each
+each_rest P (x ∷ xs) ys each = each_rest P xs ys each.1
+
+-- what holds of each holds of those that a filter keeps
+each_kept : {X : Type 0} (P : X → Type 0) (test : X → Bool) (xs : List X) → Each P xs → Each P (filter test xs)
+each_kept P test [] each = tt
+each_kept P test (x ∷ xs) each = by_cases _ (test x) (λ is. rw is (each.0, each_kept P test xs each.1)) (λ isnt. rw isnt (each_kept P test xs each.1))
+
+pairs_kept : {X : Type 0} (R : X → X → Type 0) (test : X → Bool) (xs : List X) → Pairwise R xs → Pairwise R (filter test xs)
+pairs_kept R test [] pairs = tt
+pairs_kept R test (x ∷ xs) pairs = by_cases _ (test x) (λ is. rw is (each_kept (R x) test xs pairs.0, pairs_kept R test xs pairs.1)) (λ isnt. rw isnt (pairs_kept R test xs pairs.1))
+
+each_passes : {X : Type 0} (test : X → Bool) (xs : List X) → Each (λ x. test x ≡ true) (filter test xs)
+each_passes test [] = tt
+each_passes test (x ∷ xs) = by_cases _ (test x) (λ is. rw is (is, each_passes test xs)) (λ isnt. rw isnt (each_passes test xs))
+
+few_kept : {X : Type 0} (test : X → Bool) (xs : List X) → length (filter test xs) ≤ length xs
+few_kept test [] = omega arith
+few_kept test (x ∷ xs) =
+    let rest : length (filter test xs) ≤ length xs = few_kept test xs in
+    by_cases _ (test x) (λ is. rw is (omega arith)) (λ isnt. rw isnt (omega arith))
+
+module _ {X : Type 0} (same : X → X → Bool) (sound : (x y : X) → same x y ≡ true → x ≡ y) where
+  -- those that s has not
+  abbrev left : List X → List X → List X
+  left s xs = filter (λ y. not (list_any (same y) s)) xs
+
+  abbrev others : X → List X → List X
+  others x xs = filter (λ y. not (same y x)) xs
+
+  -- what is there already need not be taken out twice
+  twice : (s : List X) (x : X) → list_any (same x) s ≡ true → (xs : List X) → left s xs ≡ left s (others x xs)
+  twice s x there [] = refl
+  twice s x there (y ∷ ys) = by_cases _ (same y x)
+      (λ is.
+      let gone : list_any (same y) s ≡ true = ap (λ q. list_any (same q) s) (sound y x is) ∙ there in
+      rw (is, gone) (twice s x there ys))
+      (λ isnt. rw isnt (ap (λ r. cond (not (list_any (same y) s)) (y ∷ r) r) (twice s x there ys)))
+
+  -- one more to be taken out
+  one_out : (s : List X) (x : X) (xs : List X) → left (s ++ x ∷ []) xs ≡ left s (others x xs)
+  one_out s x [] = refl
+  one_out s x (y ∷ ys) = by_cases _ (same y x)
+      (λ is.
+      let gone : list_any (same y) (s ++ x ∷ []) ≡ true = list_any-append (same y) s (x ∷ []) ∙ at_end (list_any (same y) s) (same y x) is in
+      rw (is, gone) (one_out s x ys))
+      (λ isnt.
+      let stays : list_any (same y) (s ++ x ∷ []) ≡ list_any (same y) s = list_any-append (same y) s (x ∷ []) ∙ not_at_end (list_any (same y) s) (same y x) isnt in
+      rw (isnt, stays) (ap (λ r. cond (not (list_any (same y) s)) (y ∷ r) r) (one_out s x ys)))
+    where
+      at_end : (a b : Bool) → b ≡ true → (a || (b || false)) ≡ true
+      at_end true b h = refl
+      at_end false b h = rw h refl
+
+      not_at_end : (a b : Bool) → b ≡ false → (a || (b || false)) ≡ a
+      not_at_end true b h = refl
+      not_at_end false b h = rw h refl
+
+  -- a list that grew by what was new in xs, has those of xs that it had not
+  pub grown : (xs s : List X) → fold (with_new same) s xs ≡ s ++ left s (each_once same xs)
+  grown [] s = sym (append-nil s)
+  grown (x ∷ xs) s = by_cases _ (list_any (same x) s)
+      (λ there. rw there (grown xs s ∙ ap (λ r. s ++ r) (twice s x there (each_once same xs))))
+      (λ new. rw new (grown xs (s ++ x ∷ []) ∙ append_assoc s (x ∷ []) (left (s ++ x ∷ []) (each_once same xs)) ∙ ap (λ r. s ++ x ∷ r) (one_out s x (each_once same xs))))
+
+  all_left : (xs : List X) → left [] xs ≡ xs
+  all_left [] = refl
+  all_left (x ∷ xs) = ap (λ r. x ∷ r) (all_left xs)
+
+  -- a list that grew from none has each once
+  pub grown_once : (xs : List X) → fold (with_new same) [] xs ≡ each_once same xs
+  grown_once xs = grown xs [] ∙ all_left (each_once same xs)
+
+  -- what holds of each holds of those that are taken
+  pub once_each : (P : X → Type 0) (xs : List X) → Each P xs → Each P (each_once same xs)
+  once_each P [] each = tt
+  once_each P (x ∷ xs) each = (each.0, each_kept P (λ y. not (same y x)) (each_once same xs) (once_each P xs each.1))
+
+  -- those that are taken differ
+  pub once_apart : (xs : List X) → Pairwise (λ x y. same x y ≡ false) (each_once same xs)
+  once_apart [] = tt
+  once_apart (x ∷ xs) = (
+    each_so (λ y. not (same y x) ≡ true) (λ y. same x y ≡ false) (λ y h. turned y (not-true (same y x) h)) (others x (each_once same xs)) (each_passes (λ y. not (same y x)) (each_once same xs)),
+    pairs_kept (λ x y. same x y ≡ false) (λ y. not (same y x)) (each_once same xs) (once_apart xs),
+  )
+    where
+      turned : (y : X) → same y x ≡ false → same x y ≡ false
+      turned y h = by_cases _ (same x y)
+          (λ is.
+          let e : x ≡ y = sound x y is in
+          absurd (both_ways (same y x) h (ap (λ q. same y q) e ∙ ap (λ q. same q y) (sym e) ∙ is)))
+          (λ isnt. isnt)
+
+  -- what another than x is found among, it is found among without x
+  found_without : (x z : X) → same z x ≡ false → (ys : List X) → list_any (same z) (others x ys) ≡ list_any (same z) ys
+  found_without x z isnt [] = refl
+  found_without x z isnt (y ∷ ys) = by_cases _ (same y x)
+      (λ gone.
+      let other : same z y ≡ false = ap (λ q. same z q) (sound y x gone) ∙ isnt in
+      rw (gone, other) (found_without x z isnt ys))
+      (λ stays. rw stays (ap (λ b. same z y || b) (found_without x z isnt ys)))
+
+  -- each is among those that are taken
+  pub once_found : (xs : List X) (z : X) → list_any (same z) (each_once same xs) ≡ list_any (same z) xs
+  once_found [] z = refl
+  once_found (x ∷ xs) z = by_cases _ (same z x)
+      (λ is. rw is refl)
+      (λ isnt. rw isnt (found_without x z isnt (each_once same xs) ∙ once_found xs z))
+
+  -- they are no more than there were
+  pub once_few : (xs : List X) → length (each_once same xs) ≤ length xs
+  once_few [] = omega arith
+  once_few (x ∷ xs) = omega (arith, few_kept (λ y. not (same y x)) (each_once same xs), once_few xs)
+
+-- the place of what is found is a place of the list
+pub place_below : {X : Type 0} (test : X → Bool) (xs : List X) → list_any test xs ≡ true → position_or_len test xs < length xs
+place_below test [] h = absurd (true≢false (sym h))
+place_below test (x ∷ xs) h = by (test x) h (place_below test xs)
+  where
+    by : (b : Bool) → (b || list_any test xs) ≡ true → (list_any test xs ≡ true → position_or_len test xs < length xs) → cond (not b) (1 + position_or_len test xs) 0 < suc (length xs)
+    by true h rest = omega arith
+    by false h rest = omega (arith, rest h)
+
+-- the place of a name stays when names are added behind it
+place_kept : {X : Type 0} (test : X → Bool) (xs ys : List X) → list_any test xs ≡ true → position_or_len test (xs ++ ys) ≡ position_or_len test xs
+place_kept test [] ys h = absurd (true≢false (sym h))
+place_kept test (x ∷ xs) ys h = by (test x) h (place_kept test xs ys)
+  where
+    by : (b : Bool) → (b || list_any test xs) ≡ true → (list_any test xs ≡ true → position_or_len test (xs ++ ys) ≡ position_or_len test xs)
+        → cond (not b) (1 + position_or_len test (xs ++ ys)) 0 ≡ cond (not b) (1 + position_or_len test xs) 0
+    by true h rest = refl
+    by false h rest = ap (λ n. 1 + n) (rest h)
+
+-- a new name stands where the names before it end
+pub place_new : {X : Type 0} (test : X → Bool) (xs : List X) (y : X) (ys : List X) → list_any test xs ≡ false → test y ≡ true → position_or_len test (xs ++ y ∷ ys) ≡ position_or_len test xs
+place_new test [] y ys h is = rw is refl
+place_new test (x ∷ xs) y ys h is = by (test x) h (λ k. place_new test xs y ys k is)
+  where
+    by : (b : Bool) → (b || list_any test xs) ≡ false → (list_any test xs ≡ false → position_or_len test (xs ++ y ∷ ys) ≡ position_or_len test xs)
+        → cond (not b) (1 + position_or_len test (xs ++ y ∷ ys)) 0 ≡ cond (not b) (1 + position_or_len test xs) 0
+    by true h rest = refl
+    by false h rest = ap (λ n. 1 + n) (rest h)
+
+pub same_bytes : (xs : List ℕ) → bytes_eq xs xs ≡ true
+same_bytes xs = (bytes_eq-Decides xs xs).1 refl
+
+pub bytes_sound : (xs ys : List ℕ) → bytes_eq xs ys ≡ true → xs ≡ ys
+bytes_sound xs ys h = (bytes_eq-Decides xs ys).0 h
+
+-- each name is among them
+pub each_among : (names : List (List ℕ)) → Each (λ name. is_among names name ≡ true) names
+each_among [] = tt
+each_among (name ∷ names) = (
+  or_left (bytes_eq name name) (is_among names name) (same_bytes name),
+  each_so (λ n. is_among names n ≡ true) (λ n. is_among (name ∷ names) n ≡ true) (λ n h. or_right (bytes_eq n name) (is_among names n) h) names (each_among names),
+)
+
+-- the number of a name, once it is given, is its number among all
+pub place_grown : (name : List ℕ) (names more : List (List ℕ)) → place_of (fold (with_new bytes_eq) (with_new bytes_eq names name) more) name ≡ place_of names name
+place_grown name names more = by_cases _ (is_among names name)
+    (λ there. rw there (ap (λ q. place_of q name) (grown bytes_eq bytes_sound more names) ∙ place_kept (bytes_eq name) names _ there))
+    (λ new. rw new (ap (λ q. place_of q name) (grown bytes_eq bytes_sound more (names ++ name ∷ []) ∙ append_assoc names (name ∷ []) _) ∙ place_new (bytes_eq name) names name _ new (same_bytes name)))
