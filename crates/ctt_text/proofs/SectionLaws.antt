@@ -90,3 +90,27 @@ each_apart add P (w ∷ given) s fit = (fit.0, each_apart add P given (add s w) 
 pub each_together : {S W : Type 0} (add : S → W → S) (P : W → Type 0) (given : List W) (s : S) → Each P given → AllFit add (λ _. P) s given
 each_together add P [] s each = tt
 each_together add P (w ∷ given) s each = (each.0, each_together add P given (add s w) each.1)
+
+-- the given words of a section whose entries have names of their own
+pub record Section {S W : Type 0} (spelled : W → List (List ℕ)) (names : List (List ℕ)) (name : W → List ℕ) (P : W → Type 0) (made : List W → S) (n : ℕ) (words : List (List ℕ)) (t : S) : Type 0 where
+  pub given : List W
+  pub count : length given ≡ n
+  pub all : words ≡ flat_map spelled given
+  pub new : AreNew names (map name given)
+  pub each : Each P given
+  pub gives : made given ≡ t
+
+-- such a section, both ways
+module _ {F S W : Type 0} (step : S → Form F S) (spelled : W → List (List ℕ)) (add : S → W → S) (names : S → List (List ℕ)) (name : W → List ℕ) (P : W → Type 0)
+    (more : (s : S) (w : W) → names (add s w) ≡ names s ++ name w ∷ []) (start : S) (made : List W → S) (is_made : (given : List W) → fold add start given ≡ made given) where
+  pub section_fills : ((s : S) (w : W) → Named names name P s w → Fills (step s) (spelled w) (add s w))
+      → (given : List W) → AreNew (names start) (map name given) → Each P given → Fills (times step (length given) start) (flat_map spelled given) (made given)
+  section_fills one given new each = subst (λ t. Fills (times step (length given) start) (flat_map spelled given) t) (is_made given)
+      (entries_fill step spelled add (Named names name P) one given start (names_together add names name P more given start new each))
+
+  pub section_taken : ((s : S) (words : List (List ℕ)) (t : S) → Fills (step s) words t → Entry spelled add (Named names name P) s words t)
+      → (n : ℕ) (words : List (List ℕ)) (t : S) → Fills (times step n start) words t → Section spelled (names start) name P made n words t
+  section_taken one n words t h =
+      let r = entries_taken step spelled add (Named names name P) one n start words t h in
+      let apart = names_apart add names name P more r.given start r.fit in
+      record { given = r.given; count = r.count; all = r.all; new = apart.0; each = apart.1; gives = sym (is_made r.given) ∙ r.gives }
