@@ -108,20 +108,21 @@ module _ {X : Type 0} (same : X → X → Bool) (sound : (x y : X) → same x y 
   once_each P [] each = tt
   once_each P (x ∷ xs) each = (each.0, each_kept P (λ y. not (same y x)) (each_once same xs) (once_each P xs each.1))
 
+  -- two that differ do so either way
+  pub apart_turned : (x y : X) → same x y ≡ false → same y x ≡ false
+  apart_turned x y h = by_cases _ (same y x)
+      (λ is.
+      let e : y ≡ x = sound y x is in
+      absurd (both_ways (same x y) h (ap (λ q. same x q) e ∙ ap (λ q. same q x) (sym e) ∙ is)))
+      (λ isnt. isnt)
+
   -- those that are taken differ
   pub once_apart : (xs : List X) → Pairwise (λ x y. same x y ≡ false) (each_once same xs)
   once_apart [] = tt
   once_apart (x ∷ xs) = (
-    each_so (λ y. not (same y x) ≡ true) (λ y. same x y ≡ false) (λ y h. turned y (not-true (same y x) h)) (others x (each_once same xs)) (each_passes (λ y. not (same y x)) (each_once same xs)),
+    each_so (λ y. not (same y x) ≡ true) (λ y. same x y ≡ false) (λ y h. apart_turned y x (not-true (same y x) h)) (others x (each_once same xs)) (each_passes (λ y. not (same y x)) (each_once same xs)),
     pairs_kept (λ x y. same x y ≡ false) (λ y. not (same y x)) (each_once same xs) (once_apart xs),
   )
-    where
-      turned : (y : X) → same y x ≡ false → same x y ≡ false
-      turned y h = by_cases _ (same x y)
-          (λ is.
-          let e : x ≡ y = sound x y is in
-          absurd (both_ways (same y x) h (ap (λ q. same y q) e ∙ ap (λ q. same q y) (sym e) ∙ is)))
-          (λ isnt. isnt)
 
   -- what another than x is found among, it is found among without x
   found_without : (x z : X) → same z x ≡ false → (ys : List X) → list_any (same z) (others x ys) ≡ list_any (same z) ys
