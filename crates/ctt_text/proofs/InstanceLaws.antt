@@ -1,5 +1,5 @@
 -- The laws of the texts of instances.
-use Rattle.std.proofs.Common.{◌≡◌, ◌⊎◌, inl, inr, ℕ, List, ◌++◌, Result, Ok, Err, refl, sym, ap, ◌∙◌}
+use Rattle.std.proofs.Common.{◌≡◌, ◌⊎◌, inl, inr, ℕ, List, ◌++◌, Result, Ok, Err, refl, sym, ap, subst, ◌∙◌}
 use Rattle.ctt_text.specs.declared.fault.ReadFault.{ReadFault}
 use Rattle.ctt_text.specs.Forms.{without_rest}
 use Rattle.ctt_text.specs.Problem.{Problem}
@@ -13,8 +13,7 @@ use Rattle.ctt_text.proofs.InstanceWhole.{instance_fills, instance_taken}
 read_spelled : (words : List (List ℕ)) (i : Problem) → answer words ≡ Ok i → Spells words i
 read_spelled words i h =
     let r = answer_fills missing instance words i h in
-    let t = instance_taken r.0 i r.3 in
-    record { given = t.given; rest = r.1; all = r.2 ∙ ap (λ ws. ws ++ r.1) t.all; obey = t.obey; says = t.says }
+    subst (λ ws. Spells ws i) (sym r.2) (instance_taken r.0 r.1 i r.3)
 
 -- what is spelled is read
 spelled_read : (words : List (List ℕ)) (i : Problem) → Spells words i → answer words ≡ Ok i

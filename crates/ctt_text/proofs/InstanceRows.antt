@@ -18,19 +18,7 @@ use Rattle.ctt_text.specs.InstanceText.{CourseWords, RoomWords, CurriculumWords,
 use Rattle.ctt_text.proofs.FormLaws.{fills_both, bind_case, done_taken}
 use Rattle.ctt_text.proofs.SectionLaws.{Entry, Named, entries_fill, entries_taken, each_apart, each_together}
 use Rattle.ctt_text.proofs.ListLaws.{grown_once}
-
--- a word that passes, whatever fault there is for the others
-pub passes : {F : Type 0} (b : Bool) (e : ℕ → F) → cond b None (Some e) ≡ None → b ≡ true
-passes true e h = refl
-passes false e h = cc
-
-pub fails_not : {F : Type 0} (b : Bool) (e : ℕ → F) → cond b (Some e) None ≡ None → b ≡ false
-fails_not true e h = cc
-fails_not false e h = refl
-
-pub passes_both : {F : Type 0} (b c : Bool) (bad out : ℕ → F) → cond b (cond c None (Some out)) (Some bad) ≡ None → (b ≡ true) × (c ≡ true)
-passes_both true c bad out h = (refl, passes c out h)
-passes_both false c bad out h = cc
+use Rattle.ctt_text.proofs.PlaceLaws.{passed, failed, below_passes, passed_below}
 
 -- rooms
 abbrev pub add_room : Rooms → RoomWords → Rooms
@@ -50,7 +38,7 @@ room_taken s (name ∷ []) t h = absurd h.1
 room_taken s (name ∷ capacity ∷ []) t h = record {
   given = record { name = name; capacity = capacity };
   all = refl;
-  fit = (fails_not (is_among s.names name) RepeatedName h.0, passes (is_number capacity) BadNumber h.1.0);
+  fit = (failed (is_among s.names name) RepeatedName h.0, passed (is_number capacity) BadNumber h.1.0);
   gives = h.1.1;
 }
 room_taken s (name ∷ capacity ∷ more ∷ words) t h = absurd h.1.1
@@ -77,8 +65,8 @@ course_taken s (name ∷ teacher ∷ lectures ∷ days ∷ students ∷ []) t h 
   given = record { name = name; teacher = teacher; lectures = lectures; min_days = days; students = students };
   all = refl;
   fit = (
-    fails_not (is_among s.names name) RepeatedName h.0,
-    (passes (is_number lectures) BadNumber h.1.1.0, passes (is_number days) BadNumber h.1.1.1.0, passes (is_number students) BadNumber h.1.1.1.1.0),
+    failed (is_among s.names name) RepeatedName h.0,
+    (passed (is_number lectures) BadNumber h.1.1.0, passed (is_number days) BadNumber h.1.1.1.0, passed (is_number students) BadNumber h.1.1.1.1.0),
   );
   gives = h.1.1.1.1.1;
 }
@@ -103,7 +91,7 @@ module _ (names : List (List ℕ)) where
   member_taken : (s : List ℕ) (words : List (List ℕ)) (t : List ℕ) → Fills (member names s) words t → Entry (λ w. w ∷ []) add_member FitsMember s words t
   unfolding member known_name one ◌>>=◌
   member_taken s [] t h = absurd h
-  member_taken s (w ∷ []) t h = record { given = w; all = refl; fit = passes (is_among names w) UnknownCourse h.0; gives = h.1 }
+  member_taken s (w ∷ []) t h = record { given = w; all = refl; fit = passed (is_among names w) UnknownCourse h.0; gives = h.1 }
   member_taken s (w ∷ more ∷ words) t h = absurd h.1
 
   abbrev numbers : List (List ℕ) → List ℕ
@@ -164,7 +152,7 @@ module _ (names : List (List ℕ)) where
       record {
         given = record { name = name; count = count; members = us };
         all = ap (λ r. name ∷ count ∷ r) all;
-        fit = (fails_not (is_among s.names name) RepeatedName h.0, ((passes (is_number count) BadNumber h.1.0, sym members.count), members.known));
+        fit = (failed (is_among s.names name) RepeatedName h.0, ((passed (is_number count) BadNumber h.1.0, sym members.count), members.known));
         gives = ap (λ ns. with_members s name ns) members.gives ∙ end.1;
       })
 
@@ -182,23 +170,17 @@ module _ (names : List (List ℕ)) where
 
     pub pair_fills : (s : List Bool) (w : PairWords) → FitsPair s w → Fills (unavailability names days periods s) (spelled_pair w) (add_pair s w)
     unfolding unavailability known_name day_below period_below number_if one ◌>>=◌
-    pair_fills s w fit =
-        let day : nat_lt (value w.day) days ≡ true = lt-ltb (value w.day) days fit.1.1 in
-        let period : nat_lt (value w.period) periods ≡ true = lt-ltb (value w.period) periods fit.2.1 in
-        (rw fit.0 refl, (rw (fit.1.0, day) refl, (rw (fit.2.0, period) refl, refl)))
+    pair_fills s w fit = (rw fit.0 refl, (below_passes BadNumber DayOut w.day days fit.1, (below_passes BadNumber PeriodOut w.period periods fit.2, refl)))
 
     pub pair_taken : (s : List Bool) (words : List (List ℕ)) (t : List Bool) → Fills (unavailability names days periods s) words t → Entry spelled_pair add_pair FitsPair s words t
     unfolding unavailability known_name day_below period_below number_if one ◌>>=◌
     pair_taken s [] t h = absurd h
     pair_taken s (c ∷ []) t h = absurd h.1
     pair_taken s (c ∷ d ∷ []) t h = absurd h.1.1
-    pair_taken s (c ∷ d ∷ p ∷ []) t h =
-        let day = passes_both (is_number d) (nat_lt (value d) days) BadNumber DayOut h.1.0 in
-        let period = passes_both (is_number p) (nat_lt (value p) periods) BadNumber PeriodOut h.1.1.0 in
-        record {
-          given = record { course = c; day = d; period = p };
-          all = refl;
-          fit = (passes (is_among names c) UnknownCourse h.0, (day.0, ltb-true (value d) days day.1), (period.0, ltb-true (value p) periods period.1));
-          gives = h.1.1.1;
-        }
+    pair_taken s (c ∷ d ∷ p ∷ []) t h = record {
+      given = record { course = c; day = d; period = p };
+      all = refl;
+      fit = (passed (is_among names c) UnknownCourse h.0, passed_below BadNumber DayOut d days h.1.0, passed_below BadNumber PeriodOut p periods h.1.1.0);
+      gives = h.1.1.1;
+    }
     pair_taken s (c ∷ d ∷ p ∷ more ∷ words) t h = absurd h.1.1.1

@@ -19,7 +19,8 @@ use Rattle.ctt_text.proofs.FormLaws.{bind_case}
 use Rattle.ctt_text.proofs.SectionLaws.{Section, section_fills, section_taken, entries_fill, entries_taken, list_grown, each_apart, each_together}
 use Rattle.ctt_text.proofs.ListLaws.{grown_once, bytes_sound, place_grown}
 use Rattle.ctt_text.proofs.MarkLaws.{marked, marks_made, marks_many, marks_same, place_in_rows, Row, row_of}
-use Rattle.ctt_text.proofs.InstanceRows.{passes, passes_both, add_room, room_fills, room_taken, add_course, course_fills, course_taken, add_curriculum, curriculum_fills, curriculum_taken, mark_of, add_pair, FitsPair, pair_fills, pair_taken}
+use Rattle.ctt_text.proofs.PlaceLaws.{passed_both, up_to_passes, passed_up_to, is_fixed}
+use Rattle.ctt_text.proofs.InstanceRows.{add_room, room_fills, room_taken, add_course, course_fills, course_taken, add_curriculum, curriculum_fills, curriculum_taken, mark_of, add_pair, FitsPair, pair_fills, pair_taken}
 
 -- rooms
 abbrev pub rooms_of : List RoomWords → Rooms
@@ -139,30 +140,18 @@ module _ (names : List (List ℕ)) where
 abbrev pub header_of : HeaderWords → Header
 header_of h = record { name = h.name; courses = value h.courses; rooms = value h.rooms; days = value h.days; periods = value h.periods; curricula = value h.curricula; constraints = value h.constraints }
 
-up_to : (word : List ℕ) (n : ℕ) → IsUpTo n word → passing_number BadNumber (λ m. nat_le m n) TooLarge word ≡ None
-up_to word n p = rw (p.0, le-leb (value word) n p.1) refl
-
-from_up_to : (word : List ℕ) (n : ℕ) → passing_number BadNumber (λ m. nat_le m n) TooLarge word ≡ None → IsUpTo n word
-from_up_to word n h =
-    let p = passes_both (is_number word) (nat_le (value word) n) BadNumber TooLarge h in
-    (p.0, leb-true (value word) n p.1)
-
 pub header_fills : (h : HeaderWords) → HeaderObeys h → Fills header (spelled_header h) (header_of h)
 unfolding header number_up_to period_count number_if fixed any one ◌>>=◌
 header_fills h o =
     let periods : passing_number BadNumber (λ n. nat_le n 2000 && nat_le (value h.days * n) 2000) TooLarge h.periods ≡ None
     = rw (o.periods.0, le-leb (value h.periods) 2000 o.periods.1, le-leb (value h.days * value h.periods) 2000 o.slots) refl in
-    (refl, (refl, (refl, (up_to h.courses 2000 o.courses, (refl, (up_to h.rooms 1000 o.rooms, (refl, (up_to h.days 2000 o.days, (refl, (periods, (refl, (up_to h.curricula 20000 o.curricula, (refl, (up_to h.constraints 2000000 o.constraints, refl))))))))))))))
+    (refl, (refl, (refl, (up_to_passes BadNumber TooLarge h.courses 2000 o.courses, (refl, (up_to_passes BadNumber TooLarge h.rooms 1000 o.rooms, (refl, (up_to_passes BadNumber TooLarge h.days 2000 o.days, (refl, (periods, (refl, (up_to_passes BadNumber TooLarge h.curricula 20000 o.curricula, (refl, (up_to_passes BadNumber TooLarge h.constraints 2000000 o.constraints, refl))))))))))))))
 
 pub record HeaderTaken (words : List (List ℕ)) (x : Header) : Type 0 where
   pub given : HeaderWords
   pub all : words ≡ spelled_header given
   pub obeys : HeaderObeys given
   pub gives : header_of given ≡ x
-
--- the fixed word of a place
-pub is_label : (word label : List ℕ) → passing (λ w. bytes_eq w label) Expected word ≡ None → word ≡ label
-is_label word label h = bytes_sound word label (passes (bytes_eq word label) Expected h)
 
 pub header_taken : (words : List (List ℕ)) (x : Header) → Fills header words x → HeaderTaken words x
 unfolding header number_up_to period_count number_if fixed any one ◌>>=◌
@@ -181,27 +170,20 @@ header_taken (l1 ∷ name ∷ l2 ∷ courses ∷ l3 ∷ rooms ∷ l4 ∷ days �
 header_taken (l1 ∷ name ∷ l2 ∷ courses ∷ l3 ∷ rooms ∷ l4 ∷ days ∷ l5 ∷ periods ∷ l6 ∷ curricula ∷ []) x h = absurd h.1.1.1.1.1.1.1.1.1.1.1.1
 header_taken (l1 ∷ name ∷ l2 ∷ courses ∷ l3 ∷ rooms ∷ l4 ∷ days ∷ l5 ∷ periods ∷ l6 ∷ curricula ∷ l7 ∷ []) x h = absurd h.1.1.1.1.1.1.1.1.1.1.1.1.1
 header_taken (l1 ∷ name ∷ l2 ∷ courses ∷ l3 ∷ rooms ∷ l4 ∷ days ∷ l5 ∷ periods ∷ l6 ∷ curricula ∷ l7 ∷ constraints ∷ []) x h =
-    let p = passes_both (is_number periods) (nat_le (value periods) 2000 && nat_le (value days * value periods) 2000) BadNumber TooLarge (h.1.1.1.1.1.1.1.1.1.0) in
+    let p = passed_both (is_number periods) (nat_le (value periods) 2000 && nat_le (value days * value periods) 2000) BadNumber TooLarge (h.1.1.1.1.1.1.1.1.1.0) in
     let slots = and_parts (nat_le (value periods) 2000) (nat_le (value days * value periods) 2000) p.1 in
     record {
       given = record { name = name; courses = courses; rooms = rooms; days = days; periods = periods; curricula = curricula; constraints = constraints };
-      all = rw (is_label l1 (codes "Name:") h.0, is_label l2 (codes "Courses:") h.1.1.0, is_label l3 (codes "Rooms:") h.1.1.1.1.0, is_label l4 (codes "Days:") h.1.1.1.1.1.1.0, is_label l5 (codes "Periods_per_day:") h.1.1.1.1.1.1.1.1.0, is_label l6 (codes "Curricula:") h.1.1.1.1.1.1.1.1.1.1.0, is_label l7 (codes "Constraints:") h.1.1.1.1.1.1.1.1.1.1.1.1.0) refl;
+      all = rw (is_fixed Expected l1 (codes "Name:") h.0, is_fixed Expected l2 (codes "Courses:") h.1.1.0, is_fixed Expected l3 (codes "Rooms:") h.1.1.1.1.0, is_fixed Expected l4 (codes "Days:") h.1.1.1.1.1.1.0, is_fixed Expected l5 (codes "Periods_per_day:") h.1.1.1.1.1.1.1.1.0, is_fixed Expected l6 (codes "Curricula:") h.1.1.1.1.1.1.1.1.1.1.0, is_fixed Expected l7 (codes "Constraints:") h.1.1.1.1.1.1.1.1.1.1.1.1.0) refl;
       obeys = record {
-        courses = from_up_to courses 2000 h.1.1.1.0;
-        rooms = from_up_to rooms 1000 h.1.1.1.1.1.0;
-        days = from_up_to days 2000 h.1.1.1.1.1.1.1.0;
+        courses = passed_up_to BadNumber TooLarge courses 2000 h.1.1.1.0;
+        rooms = passed_up_to BadNumber TooLarge rooms 1000 h.1.1.1.1.1.0;
+        days = passed_up_to BadNumber TooLarge days 2000 h.1.1.1.1.1.1.1.0;
         periods = (p.0, leb-true (value periods) 2000 slots.0);
         slots = leb-true (value days * value periods) 2000 slots.1;
-        curricula = from_up_to curricula 20000 h.1.1.1.1.1.1.1.1.1.1.1.0;
-        constraints = from_up_to constraints 2000000 h.1.1.1.1.1.1.1.1.1.1.1.1.1.0;
+        curricula = passed_up_to BadNumber TooLarge curricula 20000 h.1.1.1.1.1.1.1.1.1.1.1.0;
+        constraints = passed_up_to BadNumber TooLarge constraints 2000000 h.1.1.1.1.1.1.1.1.1.1.1.1.1.0;
       };
       gives = h.1.1.1.1.1.1.1.1.1.1.1.1.1.1;
     }
 header_taken (l1 ∷ name ∷ l2 ∷ courses ∷ l3 ∷ rooms ∷ l4 ∷ days ∷ l5 ∷ periods ∷ l6 ∷ curricula ∷ l7 ∷ constraints ∷ more ∷ words) x h = absurd h.1.1.1.1.1.1.1.1.1.1.1.1.1.1
-
--- a fixed word and a form after it, and what follows both
-pub after_case : {A B : Type 0} (C : Type 0) (label : List ℕ) (f : Form ReadFault A) (g : A → Form ReadFault B) (words : List (List ℕ)) (b : B) → Fills (after Expected label f >>= g) words b
-    → ((us vs : List (List ℕ)) (a : A) → Fills f us a → Fills (g a) vs b → words ≡ label ∷ us ++ vs → C) → C
-unfolding fixed one ◌>>=◌
-after_case C label f g [] b h then = absurd h
-after_case C label f g (w ∷ ws) b h then = bind_case C f g ws b h.1 (λ us vs a p q e. then us vs a p q (ap (λ x. x ∷ ws) (is_label w label h.0) ∙ ap (λ x. label ∷ x) e))

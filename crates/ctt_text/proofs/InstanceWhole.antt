@@ -12,9 +12,10 @@ use Rattle.ctt_text.specs.Problem.{Problem, is_unavailable}
 use Rattle.ctt_text.specs.Forms.{Form, done, ◌>>=◌, times, Fills}
 use Rattle.ctt_text.specs.Places.{one, fixed, after}
 use Rattle.ctt_text.specs.InstancePlaces.{Header, Courses, Rooms, Curricula, header, course, room, curriculum, unavailability, no_courses, no_rooms, no_curricula, all_available, problem_of, instance}
-use Rattle.ctt_text.specs.InstanceText.{Given, spelled_header, spelled_course, spelled_room, spelled_curriculum, spelled_pair, spelled, course_names, facts_of, members_of, is_listed, Obey, SaysInstance}
+use Rattle.ctt_text.specs.InstanceText.{Given, spelled_header, spelled_course, spelled_room, spelled_curriculum, spelled_pair, spelled, course_names, facts_of, members_of, is_listed, Obey, SaysInstance, Spells}
 use Rattle.ctt_text.proofs.FormLaws.{fills_both, bind_case}
-use Rattle.ctt_text.proofs.InstanceSections.{header_of, header_fills, header_taken, rooms_of, rooms_fill, rooms_taken, courses_of, courses_fill, courses_taken, curricula_of, curricula_fill, curricula_taken, pairs_fill, pairs_taken, table_of, table_many, table_says, table_same, is_label, after_case}
+use Rattle.ctt_text.proofs.InstanceSections.{header_of, header_fills, header_taken, rooms_of, rooms_fill, rooms_taken, courses_of, courses_fill, courses_taken, curricula_of, curricula_fill, curricula_taken, pairs_fill, pairs_taken, table_of, table_many, table_says, table_same}
+use Rattle.ctt_text.proofs.PlaceLaws.{is_fixed, after_case}
 
 -- the instance that given words say, with a table of where courses are unavailable
 abbrev said : Given → List Bool → Problem
@@ -137,7 +138,7 @@ from_courses head = after Expected (codes "COURSES:") (times course head.courses
 end_taken : (x i : Problem) (words : List (List ℕ)) → Fills (fixed Expected (codes "END.") >>= λ _. done x) words i → (words ≡ codes "END." ∷ []) × (x ≡ i)
 unfolding fixed one ◌>>=◌
 end_taken x i [] h = absurd h
-end_taken x i (w ∷ []) h = (ap (λ q. q ∷ []) (is_label w (codes "END.") h.0), h.1)
+end_taken x i (w ∷ []) h = (ap (λ q. q ∷ []) (is_fixed Expected w (codes "END.") h.0), h.1)
 end_taken x i (w ∷ more ∷ ws) h = absurd h.1
 
 -- the parts of a text, one behind another
@@ -147,31 +148,24 @@ all_parts : (words us0 us1 us2 us3 us4 vs0 vs1 vs2 vs3 vs4 ws0 ws1 ws2 ws3 ws4 :
     → words ≡ ws0 ++ (codes "COURSES:" ∷ ws1 ++ (codes "ROOMS:" ∷ ws2 ++ (codes "CURRICULA:" ∷ ws3 ++ (codes "UNAVAILABILITY_CONSTRAINTS:" ∷ ws4 ++ (codes "END." ∷ [])))))
 all_parts words us0 us1 us2 us3 us4 vs0 vs1 vs2 vs3 vs4 ws0 ws1 ws2 ws3 ws4 e0 e1 e2 e3 e4 e5 f0 f1 f2 f3 f4 = rw (e0, e1, e2, e3, e4, e5, f0, f1, f2, f3, f4) refl
 
--- given words that say an instance, and nothing after them
-pub record InstanceTaken (words : List (List ℕ)) (i : Problem) : Type 0 where
-  pub given : Given
-  pub all : words ≡ spelled given
-  pub obey : Obey given
-  pub says : SaysInstance given i
-
--- what fills the form is spelled
-pub instance_taken : (words : List (List ℕ)) (i : Problem) → Fills instance words i → InstanceTaken words i
+-- what fills the form is spelled, whatever follows it
+pub instance_taken : (words rest : List (List ℕ)) (i : Problem) → Fills instance words i → Spells (words ++ rest) i
 unfolding instance ◌>>=◌
-instance_taken words i filled =
-    bind_case (InstanceTaken words i) header from_courses words i filled (λ us0 vs0 head p0 q0 e0.
+instance_taken words rest i filled =
+    bind_case (Spells (words ++ rest) i) header from_courses words i filled (λ us0 vs0 head p0 q0 e0.
     let h = header_taken us0 head p0 in
     let head_of : Header = header_of h.given in
     let days = value h.given.days in
     let periods = value h.given.periods in
-    after_case (InstanceTaken words i) (codes "COURSES:") (times course head_of.courses no_courses) (from_rooms head_of) vs0 i (subst (λ x. Fills (from_courses x) vs0 i) (sym h.gives) q0) (λ us1 vs1 courses p1 q1 e1.
+    after_case (Spells (words ++ rest) i) Expected (codes "COURSES:") (times course head_of.courses no_courses) (from_rooms head_of) vs0 i (subst (λ x. Fills (from_courses x) vs0 i) (sym h.gives) q0) (λ us1 vs1 courses p1 q1 e1.
     let c = courses_taken head_of.courses us1 courses p1 in
     let names = course_names c.given in
-    after_case (InstanceTaken words i) (codes "ROOMS:") (times room head_of.rooms no_rooms) (from_curricula head_of (courses_of c.given)) vs1 i (subst (λ x. Fills (from_rooms head_of x) vs1 i) (sym c.gives) q1) (λ us2 vs2 rooms p2 q2 e2.
+    after_case (Spells (words ++ rest) i) Expected (codes "ROOMS:") (times room head_of.rooms no_rooms) (from_curricula head_of (courses_of c.given)) vs1 i (subst (λ x. Fills (from_rooms head_of x) vs1 i) (sym c.gives) q1) (λ us2 vs2 rooms p2 q2 e2.
     let r = rooms_taken head_of.rooms us2 rooms p2 in
-    after_case (InstanceTaken words i) (codes "CURRICULA:") (times (curriculum names) head_of.curricula no_curricula) (from_pairs head_of (courses_of c.given) (rooms_of r.given)) vs2 i
+    after_case (Spells (words ++ rest) i) Expected (codes "CURRICULA:") (times (curriculum names) head_of.curricula no_curricula) (from_pairs head_of (courses_of c.given) (rooms_of r.given)) vs2 i
     (subst (λ x. Fills (from_curricula head_of (courses_of c.given) x) vs2 i) (sym r.gives) q2) (λ us3 vs3 curricula p3 q3 e3.
     let q = curricula_taken names head_of.curricula us3 curricula p3 in
-    after_case (InstanceTaken words i) (codes "UNAVAILABILITY_CONSTRAINTS:") (times (unavailability names days periods) head_of.constraints (all_available head_of)) (from_end head_of (courses_of c.given) (rooms_of r.given) (curricula_of names q.given)) vs3 i
+    after_case (Spells (words ++ rest) i) Expected (codes "UNAVAILABILITY_CONSTRAINTS:") (times (unavailability names days periods) head_of.constraints (all_available head_of)) (from_end head_of (courses_of c.given) (rooms_of r.given) (curricula_of names q.given)) vs3 i
     (subst (λ x. Fills (from_pairs head_of (courses_of c.given) (rooms_of r.given) x) vs3 i) (sym q.gives) q3) (λ us4 vs4 unavailable p4 q4 e4.
     let u = pairs_taken names days periods head_of.constraints (all_available head_of) us4 unavailable p4 in
     let end = end_taken (problem_of head_of (courses_of c.given) (rooms_of r.given) (curricula_of names q.given) unavailable) i vs4 q4 in
@@ -192,7 +186,8 @@ instance_taken words i filled =
     } in
     record {
       given = g;
-      all = all_parts words us0 us1 us2 us3 us4 vs0 vs1 vs2 vs3 vs4 (spelled_header h.given) (flat_map spelled_course c.given) (flat_map spelled_room r.given) (flat_map spelled_curriculum q.given) (flat_map spelled_pair u.given) e0 e1 e2 e3 e4 end.0 h.all c.all r.all q.all u.all;
+      rest = rest;
+      all = ap (λ ws. ws ++ rest) (all_parts words us0 us1 us2 us3 us4 vs0 vs1 vs2 vs3 vs4 (spelled_header h.given) (flat_map spelled_course c.given) (flat_map spelled_room r.given) (flat_map spelled_curriculum q.given) (flat_map spelled_pair u.given) e0 e1 e2 e3 e4 end.0 h.all c.all r.all q.all u.all);
       obey = obey;
       says = subst (λ j. SaysInstance g j) (ap (λ marks. said g marks) u.gives ∙ end.1) (says_table g obey);
     })))))
