@@ -10,7 +10,8 @@ use Rattle.ctt_text.specs.Lists.{Pairwise, each_once}
 use Rattle.ctt_text.specs.Problem.{Problem, is_among, place_of, IsSmall, IsCourseFacts, AreMembers, IsProblem}
 use Rattle.ctt_text.specs.InstanceText.{CourseWords, RoomWords, CurriculumWords, Given, course_names, teacher_names, IsNumber, IsCourse, IsRoom, IsCurriculum, facts_of, members_of, Obey, SaysInstance, Spells}
 use Rattle.ctt_text.specs.InstanceLaws.{SpelledIsProblem}
-use Rattle.ctt_text.proofs.ListLaws.{each_so, each_map, once_each, once_apart, once_found, once_few, place_below, bytes_sound, each_among}
+use Rattle.ctt_text.proofs.TimetableLemmas.{Each-map}
+use Rattle.ctt_text.proofs.ListLaws.{Each-mapped, once_each, once_apart, once_found, once_few, place_below, bytes_sound, each_among}
 
 -- a number of a file is small
 number_small : (word : List ℕ) → IsNumber word → IsSmall (value word)
@@ -24,27 +25,27 @@ number_below names word h = place_below (bytes_eq word) names h
 members_are : (names : List (List ℕ)) (q : CurriculumWords) → IsCurriculum names q → AreMembers (length names) (members_of names q)
 members_are names q is =
     let numbers : List ℕ = map (place_of names) q.members in
-    let below : Each (λ c. c < length names) numbers = each_map (λ c. c < length names) (place_of names) q.members (each_so (λ m. is_among names m ≡ true) (λ m. place_of names m < length names) (number_below names) q.members is.1) in
+    let below : Each (λ c. c < length names) numbers = Each-mapped (λ c. c < length names) (place_of names) q.members (Each-map (λ m. is_among names m ≡ true) (λ m. place_of names m < length names) (number_below names) q.members is.1) in
     (once_each ◌==◌ (λ x y. eqb-true x y) (λ c. c < length names) numbers below, once_apart ◌==◌ (λ x y. eqb-true x y) numbers)
 
 -- each course has a teacher among the teachers
 teachers_known : (cs : List CourseWords) → Each (λ (c : CourseWords). is_among (teacher_names cs) c.teacher ≡ true) cs
-teachers_known cs = each_so (λ c. is_among (map (λ c. c.teacher) cs) c.teacher ≡ true) (λ c. is_among (teacher_names cs) c.teacher ≡ true)
+teachers_known cs = Each-map (λ c. is_among (map (λ c. c.teacher) cs) c.teacher ≡ true) (λ c. is_among (teacher_names cs) c.teacher ≡ true)
     (λ c h. once_found bytes_eq bytes_sound (map (λ c. c.teacher) cs) c.teacher ∙ h) cs (unmapped (λ name. is_among (map (λ c. c.teacher) cs) name ≡ true) cs (each_among (map (λ c. c.teacher) cs)))
   where
     unmapped : (P : List ℕ → Type 0) (cs : List CourseWords) → Each P (map (λ c. c.teacher) cs) → Each (λ c. P c.teacher) cs
     unmapped P [] each = tt
     unmapped P (c ∷ cs) each = (each.0, unmapped P cs each.1)
 
-each_both : {X : Type 0} (P Q : X → Type 0) (xs : List X) → Each P xs → Each Q xs → Each (λ x. P x × Q x) xs
-each_both P Q [] p q = tt
-each_both P Q (x ∷ xs) p q = ((p.0, q.0), each_both P Q xs p.1 q.1)
+Each-both : {X : Type 0} (P Q : X → Type 0) (xs : List X) → Each P xs → Each Q xs → Each (λ x. P x × Q x) xs
+Each-both P Q [] p q = tt
+Each-both P Q (x ∷ xs) p q = ((p.0, q.0), Each-both P Q xs p.1 q.1)
 
 facts_are : (cs : List CourseWords) → Each IsCourse cs → Each (IsCourseFacts (length (teacher_names cs))) (map (facts_of (teacher_names cs)) cs)
-facts_are cs each = each_map (IsCourseFacts (length (teacher_names cs))) (facts_of (teacher_names cs)) cs
-    (each_so (λ c. IsCourse c × (is_among (teacher_names cs) c.teacher ≡ true)) (λ c. IsCourseFacts (length (teacher_names cs)) (facts_of (teacher_names cs) c))
+facts_are cs each = Each-mapped (IsCourseFacts (length (teacher_names cs))) (facts_of (teacher_names cs)) cs
+    (Each-map (λ c. IsCourse c × (is_among (teacher_names cs) c.teacher ≡ true)) (λ c. IsCourseFacts (length (teacher_names cs)) (facts_of (teacher_names cs) c))
     (λ c is. (number_below (teacher_names cs) c.teacher is.1, number_small c.lectures is.0.0, number_small c.min_days is.0.1, number_small c.students is.0.2))
-    cs (each_both IsCourse (λ c. is_among (teacher_names cs) c.teacher ≡ true) cs each (teachers_known cs)))
+    cs (Each-both IsCourse (λ c. is_among (teacher_names cs) c.teacher ≡ true) cs each (teachers_known cs)))
 
 pub spelled_is_problem : SpelledIsProblem
 spelled_is_problem words i s =
@@ -64,12 +65,13 @@ spelled_is_problem words i s =
       days_few = subst (λ n. n ≤ 2000) (sym says.days) o.header.days.1;
       periods_few = subst (λ n. n ≤ 2000) (sym says.periods) o.header.periods.1;
       slots_few = subst (λ n. n ≤ 2000) (ap (λ d. d * value g.head.periods) (sym says.days) ∙ ap (λ p. i.days * p) (sym says.periods)) o.header.slots;
+      marked = says.marks;
       courses_named = names_many ∙ sym courses_many;
       rooms_named = ap (λ ns. length ns) says.room_names ∙ length-map g.rooms (λ r. r.name) ∙ sym rooms_many;
       curricula_named = ap (λ ns. length ns) says.curriculum_names ∙ length-map g.curricula (λ q. q.name) ∙ sym curricula_many;
       courses = subst (λ ts. Each (IsCourseFacts (length ts)) i.courses) (sym says.teacher_names) (subst (λ cs. Each (IsCourseFacts (length (teacher_names g.courses))) cs) (sym courses_same) (facts_are g.courses o.courses));
-      capacities = subst (λ rs. Each IsSmall rs) (sym says.capacities) (each_map IsSmall (λ r. value r.capacity) g.rooms (each_so IsRoom (λ r. IsSmall (value r.capacity)) (λ r is. number_small r.capacity is) g.rooms o.rooms));
+      capacities = subst (λ rs. Each IsSmall rs) (sym says.capacities) (Each-mapped IsSmall (λ r. value r.capacity) g.rooms (Each-map IsRoom (λ r. IsSmall (value r.capacity)) (λ r is. number_small r.capacity is) g.rooms o.rooms));
       curricula = subst (λ n. Each (AreMembers n) i.curricula) (names_many ∙ sym courses_many) (subst (λ qs. Each (AreMembers (length i.course_names)) qs) (sym says.curricula)
-          (each_map (AreMembers (length i.course_names)) (members_of i.course_names) g.curricula (each_so (IsCurriculum i.course_names) (λ q. AreMembers (length i.course_names) (members_of i.course_names q)) (members_are i.course_names) g.curricula
+          (Each-mapped (AreMembers (length i.course_names)) (members_of i.course_names) g.curricula (Each-map (IsCurriculum i.course_names) (λ q. AreMembers (length i.course_names) (members_of i.course_names q)) (members_are i.course_names) g.curricula
           (subst (λ ns. Each (IsCurriculum ns) g.curricula) (sym says.course_names) o.curricula))));
     }

@@ -4,52 +4,50 @@ use Rattle.std.specs.Prelude.{fold, filter}
 use Rattle.std.specs.List.{list_any, position_or_len, AllByRecursion as Each}
 use Rattle.std.specs.Str.{bytes_eq}
 use Rattle.std.proofs.lemmas.List.{append-nil}
-use Rattle.std.proofs.lemmas.Bool.{true≢false, both_ways, not-true, or_left, or_right}
+use Rattle.std.proofs.lemmas.Bool.{true≢false, both_ways, not-true, or_left, or_right, ltb-true}
 use Rattle.std.proofs.lemmas.List.Folds.{list_any-append}
 use Rattle.std.proofs.lemmas.Slice.Eq.{bytes_eq-Decides}
 use Rattle.ctt_text.specs.Lists.{Pairwise, each_once}
 use Rattle.ctt_text.specs.Problem.{is_among, place_of}
 use Rattle.ctt_text.specs.InstancePlaces.{with_new}
+use Rattle.ctt_text.proofs.NameLemmas.{any_by_place}
+use Rattle.ctt_text.proofs.TimetableLemmas.{Each-map}
 
 -- by cases
 pub by_cases : (C : Type 0) (b : Bool) → (b ≡ true → C) → (b ≡ false → C) → C
 by_cases C true so otherwise = so refl
 by_cases C false so otherwise = otherwise refl
 
--- what holds of each, by what is known of each
-pub each_so : {X : Type 0} (P Q : X → Type 0) → ((x : X) → P x → Q x) → (xs : List X) → Each P xs → Each Q xs
-each_so P Q so [] each = tt
-each_so P Q so (x ∷ xs) each = (so x each.0, each_so P Q so xs each.1)
+-- what holds of each that a function gives, and of each in a part of a list
+pub Each-mapped : {X Y : Type 0} (P : Y → Type 0) (f : X → Y) (xs : List X) → Each (λ x. P (f x)) xs → Each P (map f xs)
+Each-mapped P f [] each = tt
+Each-mapped P f (x ∷ xs) each = (each.0, Each-mapped P f xs each.1)
 
-pub each_map : {X Y : Type 0} (P : Y → Type 0) (f : X → Y) (xs : List X) → Each (λ x. P (f x)) xs → Each P (map f xs)
-each_map P f [] each = tt
-each_map P f (x ∷ xs) each = (each.0, each_map P f xs each.1)
+pub Each-front : {X : Type 0} (P : X → Type 0) (xs ys : List X) → Each P (xs ++ ys) → Each P xs
+Each-front P [] ys each = tt
+Each-front P (x ∷ xs) ys each = (each.0, Each-front P xs ys each.1)
 
-pub each_front : {X : Type 0} (P : X → Type 0) (xs ys : List X) → Each P (xs ++ ys) → Each P xs
-each_front P [] ys each = tt
-each_front P (x ∷ xs) ys each = (each.0, each_front P xs ys each.1)
-
-pub each_rest : {X : Type 0} (P : X → Type 0) (xs ys : List X) → Each P (xs ++ ys) → Each P ys
-each_rest P [] ys each = each
-each_rest P (x ∷ xs) ys each = each_rest P xs ys each.1
+pub Each-rest : {X : Type 0} (P : X → Type 0) (xs ys : List X) → Each P (xs ++ ys) → Each P ys
+Each-rest P [] ys each = each
+Each-rest P (x ∷ xs) ys each = Each-rest P xs ys each.1
 
 -- what holds of each holds of those that a filter keeps
-each_kept : {X : Type 0} (P : X → Type 0) (test : X → Bool) (xs : List X) → Each P xs → Each P (filter test xs)
-each_kept P test [] each = tt
-each_kept P test (x ∷ xs) each = by_cases _ (test x) (λ is. rw is (each.0, each_kept P test xs each.1)) (λ isnt. rw isnt (each_kept P test xs each.1))
+Each-filter : {X : Type 0} (P : X → Type 0) (test : X → Bool) (xs : List X) → Each P xs → Each P (filter test xs)
+Each-filter P test [] each = tt
+Each-filter P test (x ∷ xs) each = by_cases _ (test x) (λ is. rw is (each.0, Each-filter P test xs each.1)) (λ isnt. rw isnt (Each-filter P test xs each.1))
 
-pairs_kept : {X : Type 0} (R : X → X → Type 0) (test : X → Bool) (xs : List X) → Pairwise R xs → Pairwise R (filter test xs)
-pairs_kept R test [] pairs = tt
-pairs_kept R test (x ∷ xs) pairs = by_cases _ (test x) (λ is. rw is (each_kept (R x) test xs pairs.0, pairs_kept R test xs pairs.1)) (λ isnt. rw isnt (pairs_kept R test xs pairs.1))
+Pairwise-filter : {X : Type 0} (R : X → X → Type 0) (test : X → Bool) (xs : List X) → Pairwise R xs → Pairwise R (filter test xs)
+Pairwise-filter R test [] pairs = tt
+Pairwise-filter R test (x ∷ xs) pairs = by_cases _ (test x) (λ is. rw is (Each-filter (R x) test xs pairs.0, Pairwise-filter R test xs pairs.1)) (λ isnt. rw isnt (Pairwise-filter R test xs pairs.1))
 
-each_passes : {X : Type 0} (test : X → Bool) (xs : List X) → Each (λ x. test x ≡ true) (filter test xs)
-each_passes test [] = tt
-each_passes test (x ∷ xs) = by_cases _ (test x) (λ is. rw is (is, each_passes test xs)) (λ isnt. rw isnt (each_passes test xs))
+Each-passes : {X : Type 0} (test : X → Bool) (xs : List X) → Each (λ x. test x ≡ true) (filter test xs)
+Each-passes test [] = tt
+Each-passes test (x ∷ xs) = by_cases _ (test x) (λ is. rw is (is, Each-passes test xs)) (λ isnt. rw isnt (Each-passes test xs))
 
-few_kept : {X : Type 0} (test : X → Bool) (xs : List X) → length (filter test xs) ≤ length xs
-few_kept test [] = omega arith
-few_kept test (x ∷ xs) =
-    let rest : length (filter test xs) ≤ length xs = few_kept test xs in
+length-filter : {X : Type 0} (test : X → Bool) (xs : List X) → length (filter test xs) ≤ length xs
+length-filter test [] = omega arith
+length-filter test (x ∷ xs) =
+    let rest : length (filter test xs) ≤ length xs = length-filter test xs in
     by_cases _ (test x) (λ is. rw is (omega arith)) (λ isnt. rw isnt (omega arith))
 
 module _ {X : Type 0} (same : X → X → Bool) (sound : (x y : X) → same x y ≡ true → x ≡ y) where
@@ -106,7 +104,7 @@ module _ {X : Type 0} (same : X → X → Bool) (sound : (x y : X) → same x y 
   -- what holds of each holds of those that are taken
   pub once_each : (P : X → Type 0) (xs : List X) → Each P xs → Each P (each_once same xs)
   once_each P [] each = tt
-  once_each P (x ∷ xs) each = (each.0, each_kept P (λ y. not (same y x)) (each_once same xs) (once_each P xs each.1))
+  once_each P (x ∷ xs) each = (each.0, Each-filter P (λ y. not (same y x)) (each_once same xs) (once_each P xs each.1))
 
   -- two that differ do so either way
   pub apart_turned : (x y : X) → same x y ≡ false → same y x ≡ false
@@ -120,8 +118,8 @@ module _ {X : Type 0} (same : X → X → Bool) (sound : (x y : X) → same x y 
   pub once_apart : (xs : List X) → Pairwise (λ x y. same x y ≡ false) (each_once same xs)
   once_apart [] = tt
   once_apart (x ∷ xs) = (
-    each_so (λ y. not (same y x) ≡ true) (λ y. same x y ≡ false) (λ y h. apart_turned y x (not-true (same y x) h)) (others x (each_once same xs)) (each_passes (λ y. not (same y x)) (each_once same xs)),
-    pairs_kept (λ x y. same x y ≡ false) (λ y. not (same y x)) (each_once same xs) (once_apart xs),
+    Each-map (λ y. not (same y x) ≡ true) (λ y. same x y ≡ false) (λ y h. apart_turned y x (not-true (same y x) h)) (others x (each_once same xs)) (Each-passes (λ y. not (same y x)) (each_once same xs)),
+    Pairwise-filter (λ x y. same x y ≡ false) (λ y. not (same y x)) (each_once same xs) (once_apart xs),
   )
 
   -- what another than x is found among, it is found among without x
@@ -143,16 +141,11 @@ module _ {X : Type 0} (same : X → X → Bool) (sound : (x y : X) → same x y 
   -- they are no more than there were
   pub once_few : (xs : List X) → length (each_once same xs) ≤ length xs
   once_few [] = omega arith
-  once_few (x ∷ xs) = omega (arith, few_kept (λ y. not (same y x)) (each_once same xs), once_few xs)
+  once_few (x ∷ xs) = omega (arith, length-filter (λ y. not (same y x)) (each_once same xs), once_few xs)
 
 -- the place of what is found is a place of the list
 pub place_below : {X : Type 0} (test : X → Bool) (xs : List X) → list_any test xs ≡ true → position_or_len test xs < length xs
-place_below test [] h = absurd (true≢false (sym h))
-place_below test (x ∷ xs) h = by (test x) h (place_below test xs)
-  where
-    by : (b : Bool) → (b || list_any test xs) ≡ true → (list_any test xs ≡ true → position_or_len test xs < length xs) → cond (not b) (1 + position_or_len test xs) 0 < suc (length xs)
-    by true h rest = omega arith
-    by false h rest = omega (arith, rest h)
+place_below test xs h = ltb-true (position_or_len test xs) (length xs) (any_by_place test xs ∙ h)
 
 -- the place of a name stays when names are added behind it
 place_kept : {X : Type 0} (test : X → Bool) (xs ys : List X) → list_any test xs ≡ true → position_or_len test (xs ++ ys) ≡ position_or_len test xs
@@ -185,7 +178,7 @@ pub each_among : (names : List (List ℕ)) → Each (λ name. is_among names nam
 each_among [] = tt
 each_among (name ∷ names) = (
   or_left (bytes_eq name name) (is_among names name) (same_bytes name),
-  each_so (λ n. is_among names n ≡ true) (λ n. is_among (name ∷ names) n ≡ true) (λ n h. or_right (bytes_eq n name) (is_among names n) h) names (each_among names),
+  Each-map (λ n. is_among names n ≡ true) (λ n. is_among (name ∷ names) n ≡ true) (λ n h. or_right (bytes_eq n name) (is_among names n) h) names (each_among names),
 )
 
 -- the number of a name, once it is given, is its number among all

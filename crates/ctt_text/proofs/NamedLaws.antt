@@ -11,7 +11,8 @@ use Rattle.ctt_text.specs.Problem.{Problem, is_among}
 use Rattle.ctt_text.specs.InstanceText.{CourseWords, RoomWords, CurriculumWords, Given, spelled, spelled_header, spelled_course, spelled_room, spelled_curriculum, spelled_pair, AreNew, AreDistinct, course_names, room_names, curriculum_names, teacher_names, Obey, SaysInstance, Spells}
 use Rattle.ctt_text.specs.Named.{IsWord, AreNames, IsNamed}
 use Rattle.ctt_text.specs.InstanceLaws.{SpelledIsNamed}
-use Rattle.ctt_text.proofs.ListLaws.{each_so, each_front, each_rest, once_each, once_apart, apart_turned, bytes_sound}
+use Rattle.ctt_text.proofs.TimetableLemmas.{Each-map}
+use Rattle.ctt_text.proofs.ListLaws.{Each-front, Each-rest, once_each, once_apart, apart_turned, bytes_sound}
 
 -- a byte in front of words that is not blank
 grow_words : (b : ℕ) (begins : Bool) (ws : List (List ℕ)) → is_blank b ≡ false → Each IsWord ws → Each IsWord (grow b begins ws)
@@ -45,7 +46,7 @@ module _ (P : List ℕ → Type 0) where
 
   curriculum_names_each : (qs : List CurriculumWords) → Each P (flat_map spelled_curriculum qs) → Each P (curriculum_names qs)
   curriculum_names_each [] each = tt
-  curriculum_names_each (q ∷ qs) each = (each.0, curriculum_names_each qs (each_rest P q.members (flat_map spelled_curriculum qs) each.1.1))
+  curriculum_names_each (q ∷ qs) each = (each.0, curriculum_names_each qs (Each-rest P q.members (flat_map spelled_curriculum qs) each.1.1))
 
 -- names of which no two are alike, and none is there before, are new
 new_names : (before names : List (List ℕ)) → Each (λ name. is_among before name ≡ false) names → Pairwise (λ a b. bytes_eq a b ≡ false) names → AreNew before names
@@ -68,16 +69,16 @@ spelled_is_named text i s =
     let g : Given = s.given in
     let o : Obey g = s.obey in
     let says : SaysInstance g i = s.says in
-    let all : Each IsWord (spelled g) = each_front IsWord (spelled g) s.rest (subst (λ ws. Each IsWord ws) s.all (words_are_words text)) in
+    let all : Each IsWord (spelled g) = Each-front IsWord (spelled g) s.rest (subst (λ ws. Each IsWord ws) s.all (words_are_words text)) in
     let pairs_on : List (List ℕ) = codes "UNAVAILABILITY_CONSTRAINTS:" ∷ flat_map spelled_pair g.pairs ++ (codes "END." ∷ []) in
     let curricula_on : List (List ℕ) = codes "CURRICULA:" ∷ flat_map spelled_curriculum g.curricula ++ pairs_on in
     let rooms_on : List (List ℕ) = codes "ROOMS:" ∷ flat_map spelled_room g.rooms ++ curricula_on in
-    let from_courses : Each IsWord (flat_map spelled_course g.courses ++ rooms_on) = (each_rest IsWord (spelled_header g.head) (codes "COURSES:" ∷ flat_map spelled_course g.courses ++ rooms_on) all).1 in
-    let from_rooms : Each IsWord (flat_map spelled_room g.rooms ++ curricula_on) = (each_rest IsWord (flat_map spelled_course g.courses) rooms_on from_courses).1 in
-    let from_curricula : Each IsWord (flat_map spelled_curriculum g.curricula ++ pairs_on) = (each_rest IsWord (flat_map spelled_room g.rooms) curricula_on from_rooms).1 in
-    let courses : Each IsWord (flat_map spelled_course g.courses) = each_front IsWord (flat_map spelled_course g.courses) rooms_on from_courses in
-    let rooms : Each IsWord (flat_map spelled_room g.rooms) = each_front IsWord (flat_map spelled_room g.rooms) curricula_on from_rooms in
-    let curricula : Each IsWord (flat_map spelled_curriculum g.curricula) = each_front IsWord (flat_map spelled_curriculum g.curricula) pairs_on from_curricula in
+    let from_courses : Each IsWord (flat_map spelled_course g.courses ++ rooms_on) = (Each-rest IsWord (spelled_header g.head) (codes "COURSES:" ∷ flat_map spelled_course g.courses ++ rooms_on) all).1 in
+    let from_rooms : Each IsWord (flat_map spelled_room g.rooms ++ curricula_on) = (Each-rest IsWord (flat_map spelled_course g.courses) rooms_on from_courses).1 in
+    let from_curricula : Each IsWord (flat_map spelled_curriculum g.curricula ++ pairs_on) = (Each-rest IsWord (flat_map spelled_room g.rooms) curricula_on from_rooms).1 in
+    let courses : Each IsWord (flat_map spelled_course g.courses) = Each-front IsWord (flat_map spelled_course g.courses) rooms_on from_courses in
+    let rooms : Each IsWord (flat_map spelled_room g.rooms) = Each-front IsWord (flat_map spelled_room g.rooms) curricula_on from_rooms in
+    let curricula : Each IsWord (flat_map spelled_curriculum g.curricula) = Each-front IsWord (flat_map spelled_curriculum g.curricula) pairs_on from_curricula in
     record {
       name = subst (λ n. IsWord n) (sym says.name) all.1.0;
       courses = subst (λ ns. AreNames ns) (sym says.course_names) (o.courses_new, course_names_each IsWord g.courses courses);
