@@ -6,6 +6,7 @@ mod fault;
 mod fits;
 mod ids;
 mod instance;
+pub mod laws;
 mod marks;
 mod names;
 mod numbers;
