@@ -1,13 +1,16 @@
 //! The section of the unavailable periods.
 
-ghost use Rattle.std.specs.Prelude.{◌≡◌, ◌≤◌, ◌*◌, length};
+ghost use Rattle.std.specs.Prelude.{◌≡◌, ◌≤◌, ◌*◌, length, false, replicate, codes};
+ghost use Rattle.ctt_text.specs.Places.{after};
+ghost use Rattle.ctt_text.specs.declared.fault.ReadFault.TheVariants.{Expected};
 ghost use Rattle.ctt_text.specs.Forms.{times};
 ghost use Rattle.ctt_text.specs.InstancePlaces.{GivesRead, reads, unavailability};
 
 use crate::fault::ReadFault;
-use crate::instance::places::{read_course, read_day, read_period};
+use crate::instance::places::{read_course, read_day, read_fixed, read_period};
 use crate::names::Names;
 use crate::reader::Reader;
+use std::alloc::Global;
 
 /// Reads one period in which a course is unavailable, and marks it.
 #[tactic(auto, using(crate::proofs::Steps::read_bind, crate::proofs::Steps::read_done), unfolding(crate::specs::InstancePlaces::unavailability))]
@@ -32,7 +35,7 @@ fn read_one_period(
 }
 
 /// Reads so many periods in which a course is unavailable.
-pub(crate) fn read_unavailability(
+fn read_periods(
     reader: &mut Reader,
     courses: &Names,
     days: u32,
@@ -49,4 +52,25 @@ pub(crate) fn read_unavailability(
         read_one_period(reader, courses, days, periods, marks)?;
     }
     Ok(())
+}
+
+/// Reads the section: its heading, and so many periods in which a course is unavailable. What it
+/// gives has a mark for each course in turn, for each slot in turn.
+#[tactic(auto, using(crate::proofs::Steps::read_bind))]
+pub(crate) fn read_unavailability_section(
+    alloc: Global,
+    reader: &mut Reader,
+    courses: &Names,
+    days: u32,
+    periods: u32,
+    count: u32,
+) -> Result<Vec<bool>, ReadFault>
+    requires courses { length courses.now ≤ 2000 }
+    requires slots { days * periods ≤ 2000 }
+    ensures { GivesRead (λ marks. (marks.items, reader.new)) result (reads (after Expected (codes "UNAVAILABILITY_CONSTRAINTS:") (times (unavailability courses.now days periods) count (replicate (length courses.now * (days * periods)) false))) reader.old) }
+{
+    read_fixed(reader, "UNAVAILABILITY_CONSTRAINTS:")?;
+    let mut marks = vec![in alloc; false; courses.len() * (days * periods) as usize]?;
+    read_periods(reader, courses, days, periods, count, &mut marks)?;
+    Ok(marks)
 }
