@@ -9,6 +9,7 @@ mod curricula;
 mod header;
 mod members;
 mod places;
+mod read;
 mod rooms;
 mod unavailability;
 

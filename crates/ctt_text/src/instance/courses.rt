@@ -9,6 +9,7 @@ ghost use Rattle.ctt_text.specs.InstancePlaces.{GivesRead, reads, course, no_cou
 use crate::course_facts::CourseFacts;
 use crate::fault::ReadFault;
 use crate::ids::TeacherNo;
+use crate::instance::header::Header;
 use crate::instance::places::{read_any, read_fixed, read_new_name, read_number};
 use crate::names::Names;
 use crate::reader::Reader;
@@ -60,11 +61,7 @@ fn read_one_course(
 }
 
 /// Reads so many courses.
-fn read_courses(
-    alloc: Global,
-    reader: &mut Reader,
-    count: u32,
-) -> Result<CourseSection, ReadFault>
+fn read_courses(alloc: Global, reader: &mut Reader, count: u32) -> Result<CourseSection, ReadFault>
     requires { count ≤ 2000 }
     ensures count { IfOk result (λ section. length section.names ≡ count) }
     ensures exact { GivesRead (λ section. (section, reader.new)) result (reads (times course count no_courses) reader.old) }
@@ -80,17 +77,17 @@ fn read_courses(
     Ok(section)
 }
 
-/// Reads the section: its heading, and so many courses.
+/// Reads the section: its heading, and as many courses as the header says.
 #[tactic(auto, using(crate::proofs::Steps::read_bind))]
 pub(crate) fn read_course_section(
     alloc: Global,
     reader: &mut Reader,
-    count: u32,
+    header: &Header,
 ) -> Result<CourseSection, ReadFault>
-    requires { count ≤ 2000 }
-    ensures count { IfOk result (λ section. length section.names ≡ count) }
-    ensures exact { GivesRead (λ section. (section, reader.new)) result (reads (after Expected (codes "COURSES:") (times course count no_courses)) reader.old) }
+    requires { header.now.courses ≤ 2000 }
+    ensures count { IfOk result (λ section. length section.names ≡ header.now.courses) }
+    ensures exact { GivesRead (λ section. (section, reader.new)) result (reads (after Expected (codes "COURSES:") (times course header.now.courses no_courses)) reader.old) }
 {
     read_fixed(reader, "COURSES:")?;
-    read_courses(alloc, reader, count)
+    read_courses(alloc, reader, header.courses)
 }

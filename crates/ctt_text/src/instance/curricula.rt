@@ -8,6 +8,8 @@ ghost use Rattle.ctt_text.specs.InstancePlaces.{GivesRead, reads, curriculum, no
 
 use crate::fault::ReadFault;
 use crate::ids::CourseNo;
+use crate::instance::courses::CourseSection;
+use crate::instance::header::Header;
 use crate::instance::members::read_members;
 use crate::instance::places::{read_fixed, read_new_name, read_number};
 use crate::names::Names;
@@ -70,17 +72,17 @@ fn read_curricula(
     Ok(section)
 }
 
-/// Reads the section: its heading, and so many curricula.
+/// Reads the section: its heading, and as many curricula as the header says.
 #[tactic(auto, using(crate::proofs::Steps::read_bind))]
 pub(crate) fn read_curriculum_section(
     alloc: Global,
     reader: &mut Reader,
-    courses: &Names,
-    count: u32,
+    header: &Header,
+    courses: &CourseSection,
 ) -> Result<CurriculumSection, ReadFault>
-    requires { length courses.now ≤ 2000 }
-    ensures { GivesRead (λ section. (section, reader.new)) result (reads (after Expected (codes "CURRICULA:") (times (curriculum courses.now) count no_curricula)) reader.old) }
+    requires { length courses.now.names ≤ 2000 }
+    ensures { GivesRead (λ section. (section, reader.new)) result (reads (after Expected (codes "CURRICULA:") (times (curriculum courses.now.names) header.now.curricula no_curricula)) reader.old) }
 {
     read_fixed(reader, "CURRICULA:")?;
-    read_curricula(alloc, reader, courses, count)
+    read_curricula(alloc, reader, &courses.names, header.curricula)
 }

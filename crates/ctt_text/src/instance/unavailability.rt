@@ -1,12 +1,14 @@
 //! The section of the unavailable periods.
 
-ghost use Rattle.std.specs.Prelude.{◌≡◌, ◌≤◌, ◌*◌, length, false, replicate, codes};
+ghost use Rattle.std.specs.Prelude.{◌≡◌, ◌≤◌, ◌*◌, length, codes};
 ghost use Rattle.ctt_text.specs.Places.{after};
 ghost use Rattle.ctt_text.specs.declared.fault.ReadFault.TheVariants.{Expected};
 ghost use Rattle.ctt_text.specs.Forms.{times};
-ghost use Rattle.ctt_text.specs.InstancePlaces.{GivesRead, reads, unavailability};
+ghost use Rattle.ctt_text.specs.InstancePlaces.{GivesRead, reads, unavailability, all_available};
 
 use crate::fault::ReadFault;
+use crate::instance::courses::CourseSection;
+use crate::instance::header::Header;
 use crate::instance::places::{read_course, read_day, read_fixed, read_period};
 use crate::names::Names;
 use crate::reader::Reader;
@@ -54,23 +56,31 @@ fn read_periods(
     Ok(())
 }
 
-/// Reads the section: its heading, and so many periods in which a course is unavailable. What it
+/// Reads the section: its heading, and as many periods in which a course is
+/// unavailable as the header says. What it
 /// gives has a mark for each course in turn, for each slot in turn.
 #[tactic(auto, using(crate::proofs::Steps::read_bind))]
 pub(crate) fn read_unavailability_section(
     alloc: Global,
     reader: &mut Reader,
-    courses: &Names,
-    days: u32,
-    periods: u32,
-    count: u32,
+    header: &Header,
+    courses: &CourseSection,
 ) -> Result<Vec<bool>, ReadFault>
-    requires courses { length courses.now ≤ 2000 }
-    requires slots { days * periods ≤ 2000 }
-    ensures { GivesRead (λ marks. (marks.items, reader.new)) result (reads (after Expected (codes "UNAVAILABILITY_CONSTRAINTS:") (times (unavailability courses.now days periods) count (replicate (length courses.now * (days * periods)) false))) reader.old) }
+    requires few { header.now.courses ≤ 2000 }
+    requires slots { header.now.days * header.now.periods ≤ 2000 }
+    requires courses { length courses.now.names ≡ header.now.courses }
+    ensures { GivesRead (λ marks. (marks.items, reader.new)) result (reads (after Expected (codes "UNAVAILABILITY_CONSTRAINTS:") (times (unavailability courses.now.names header.now.days header.now.periods) header.now.constraints (all_available header.now))) reader.old) }
 {
     read_fixed(reader, "UNAVAILABILITY_CONSTRAINTS:")?;
-    let mut marks = vec![in alloc; false; courses.len() * (days * periods) as usize]?;
-    read_periods(reader, courses, days, periods, count, &mut marks)?;
+    let slots = header.days * header.periods;
+    let mut marks = vec![in alloc; false; header.courses as usize * slots as usize]?;
+    read_periods(
+        reader,
+        &courses.names,
+        header.days,
+        header.periods,
+        header.constraints,
+        &mut marks,
+    )?;
     Ok(marks)
 }
