@@ -1,14 +1,13 @@
 -- What is known of an instance that is spelled: its limits and its numbers.
-use Rattle.std.proofs.Common.{◌≡◌, ℕ, ◌+◌, ◌*◌, ◌<◌, ◌≤◌, List, [], ◌∷◌, length, map, Bool, true, false, ◌&&◌, ◌==◌, refl, sym, ap, subst, ◌∙◌, arith}
+use Rattle.std.proofs.Common.{◌≡◌, ℕ, ◌*◌, ◌<◌, ◌≤◌, List, [], ◌∷◌, length, map, true, ◌&&◌, ◌==◌, sym, ap, subst, ◌∙◌}
 use Rattle.std.specs.Prelude.{nat_lt, nat_le}
 use Rattle.std.specs.List.{list_all, AllByRecursion as Each}
 use Rattle.std.specs.Str.{bytes_eq}
 use Rattle.std.proofs.lemmas.List.{length-map}
 use Rattle.std.proofs.lemmas.Bool.{and_parts, leb-true, eqb-true}
-use Rattle.ctt_text.specs.Numbers.{is_digit, is_number, value}
-use Rattle.ctt_text.specs.Lists.{Pairwise, each_once}
-use Rattle.ctt_text.specs.Problem.{Problem, is_among, place_of, IsSmall, IsCourseFacts, AreMembers, IsProblem}
-use Rattle.ctt_text.specs.InstanceText.{CourseWords, RoomWords, CurriculumWords, Given, course_names, teacher_names, IsNumber, IsCourse, IsRoom, IsCurriculum, facts_of, members_of, Obey, SaysInstance, Spells}
+use Rattle.ctt_text.specs.Numbers.{is_digit, value}
+use Rattle.ctt_text.specs.Problem.{is_among, place_of, IsSmall, IsCourseFacts, AreMembers}
+use Rattle.ctt_text.specs.InstanceText.{CourseWords, CurriculumWords, Given, teacher_names, IsNumber, IsCourse, IsRoom, IsCurriculum, facts_of, members_of, Obey, SaysInstance}
 use Rattle.ctt_text.specs.InstanceLaws.{SpelledIsProblem}
 use Rattle.ctt_text.proofs.TimetableLemmas.{Each-map}
 use Rattle.ctt_text.proofs.ListLaws.{Each-mapped, once_each, once_apart, once_found, once_few, place_below, bytes_sound, each_among}

@@ -1,11 +1,11 @@
 -- The entries of each section of an instance: their words, and what they add.
-use Rattle.std.proofs.Common.{◌≡◌, ℕ, ◌+◌, ◌*◌, List, [], ◌∷◌, ◌++◌, length, map, flat_map, Bool, true, false, cond, ◌==◌, Some, None, refl, sym, ap, subst, ◌∙◌}
-use Rattle.std.specs.Prelude.{fold, nat_lt, slice_set}
+use Rattle.std.proofs.Common.{◌≡◌, ℕ, ◌+◌, ◌*◌, List, [], ◌∷◌, ◌++◌, length, map, flat_map, Bool, true, ◌==◌, refl, sym, ap, subst, ◌∙◌}
+use Rattle.std.specs.Prelude.{fold, slice_set}
 use Rattle.std.specs.List.{AllByRecursion as Each}
 use Rattle.std.specs.Str.{bytes_eq}
 use Rattle.std.proofs.lemmas.List.{append-nil}
 use Rattle.std.proofs.lemmas.List.Folds.{fold-map}
-use Rattle.std.proofs.lemmas.Bool.{ltb-true, lt-ltb, eqb-true}
+use Rattle.std.proofs.lemmas.Bool.{eqb-true}
 use Rattle.ctt_text.specs.declared.fault.ReadFault.{ReadFault}
 use Rattle.ctt_text.specs.declared.fault.ReadFault.TheVariants.{BadNumber, RepeatedName, UnknownCourse, DayOut, PeriodOut}
 use Rattle.ctt_text.specs.Numbers.{is_number, value}

@@ -1,21 +1,19 @@
 -- The header and the sections of an instance: their words, and what they make.
-use Rattle.std.proofs.Common.{◌≡◌, ℕ, ◌+◌, ◌*◌, ◌<◌, ◌≤◌, List, [], ◌∷◌, ◌++◌, length, map, flat_map, Bool, true, false, ◌&&◌, ◌==◌, None, refl, sym, ap, subst, ◌∙◌, append_assoc, mul_comm}
+use Rattle.std.proofs.Common.{◌≡◌, ℕ, ◌+◌, ◌*◌, ◌<◌, List, [], ◌∷◌, ◌++◌, length, map, flat_map, Bool, false, ◌&&◌, ◌==◌, None, refl, sym, ap, subst, ◌∙◌, append_assoc, mul_comm}
 use Rattle.std.specs.Prelude.{fold, replicate, codes, nat_le, get_or}
 use Rattle.std.specs.List.{list_any, AllByRecursion as Each}
 use Rattle.std.specs.Str.{bytes_eq}
 use Rattle.std.proofs.lemmas.List.{append-nil}
 use Rattle.std.proofs.lemmas.Bool.{leb-true, le-leb, and_parts}
 use Rattle.std.proofs.lemmas.Nat.{mul-add-lt}
-use Rattle.ctt_text.specs.declared.fault.ReadFault.{ReadFault}
 use Rattle.ctt_text.specs.declared.fault.ReadFault.TheVariants.{Expected, BadNumber, TooLarge}
 use Rattle.ctt_text.specs.declared.course_facts.CourseFacts.{CourseFacts}
 use Rattle.ctt_text.specs.Numbers.{is_number, value}
 use Rattle.ctt_text.specs.Problem.{place_of}
-use Rattle.ctt_text.specs.Forms.{Form, ◌>>=◌, times, Fills}
-use Rattle.ctt_text.specs.Places.{passing, passing_number, one, any, fixed, number_if, after}
+use Rattle.ctt_text.specs.Forms.{◌>>=◌, times, Fills}
+use Rattle.ctt_text.specs.Places.{passing_number, one, any, fixed, number_if}
 use Rattle.ctt_text.specs.InstancePlaces.{Header, Courses, Rooms, Curricula, number_up_to, period_count, two_counts, calendar, header, with_new, course, room, curriculum, unavailability, no_courses, no_rooms, no_curricula}
-use Rattle.ctt_text.specs.InstanceText.{HeaderWords, CourseWords, RoomWords, CurriculumWords, PairWords, spelled_header, spelled_course, spelled_room, spelled_curriculum, spelled_pair, AreDistinct, IsNumber, IsUpTo, course_names, room_names, curriculum_names, teacher_names, IsCourse, IsRoom, IsCurriculum, IsPair, HeaderObeys, facts_of, members_of, is_listed}
-use Rattle.ctt_text.proofs.FormLaws.{bind_case}
+use Rattle.ctt_text.specs.InstanceText.{HeaderWords, CourseWords, RoomWords, CurriculumWords, PairWords, spelled_header, spelled_course, spelled_room, spelled_curriculum, spelled_pair, AreDistinct, course_names, room_names, curriculum_names, teacher_names, IsCourse, IsRoom, IsCurriculum, IsPair, HeaderObeys, facts_of, members_of, is_listed}
 use Rattle.ctt_text.proofs.SectionLaws.{Section, section_fills, section_taken, entries_fill, entries_taken, list_grown, each_apart, each_together}
 use Rattle.ctt_text.proofs.ListLaws.{grown_once, bytes_sound, place_grown}
 use Rattle.ctt_text.proofs.MarkLaws.{marked, marks_made, marks_many, marks_same, place_in_rows, Row, row_of}
