@@ -36,10 +36,12 @@ teachers_known cs = Each-map (λ c. is_among (map (λ c. c.teacher) cs) c.teache
     unmapped P [] each = tt
     unmapped P (c ∷ cs) each = (each.0, unmapped P cs each.1)
 
+-- two facts of each
 Each-both : {X : Type 0} (P Q : X → Type 0) (xs : List X) → Each P xs → Each Q xs → Each (λ x. P x × Q x) xs
 Each-both P Q [] p q = tt
 Each-both P Q (x ∷ xs) p q = ((p.0, q.0), Each-both P Q xs p.1 q.1)
 
+-- the numbers of courses are small, and those of their teachers are numbers of teachers
 facts_are : (cs : List CourseWords) → Each IsCourse cs → Each (IsCourseFacts (length (teacher_names cs))) (map (facts_of (teacher_names cs)) cs)
 facts_are cs each = Each-mapped (IsCourseFacts (length (teacher_names cs))) (facts_of (teacher_names cs)) cs
     (Each-map (λ c. IsCourse c × (is_among (teacher_names cs) c.teacher ≡ true)) (λ c. IsCourseFacts (length (teacher_names cs)) (facts_of (teacher_names cs) c))

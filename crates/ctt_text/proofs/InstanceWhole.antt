@@ -30,6 +30,7 @@ periods_of g = value g.head.periods
 abbrev table : Given → List Bool
 table g = table_of (course_names g.courses) (days_of g) (periods_of g) (value g.head.courses) g.pairs
 
+-- problems are their fields
 problem_same : (n n' : List ℕ) (cn cn' : List (List ℕ)) (c c' : List CourseFacts) (t t' rn rn' : List (List ℕ)) (r r' : List ℕ) (qn qn' q q' : List (List ℕ)) (d d' p p' : ℕ) (u : List Bool)
     → n ≡ n' → cn ≡ cn' → c ≡ c' → t ≡ t' → rn ≡ rn' → r ≡ r' → qn ≡ qn' → q ≡ q' → d ≡ d' → p ≡ p'
     → ◌≡◌ {A = Problem}
@@ -67,6 +68,7 @@ table_is_said g o marks says =
     (says.marks ∙ ap (λ n. n * (days_of g * periods_of g)) many)
     (λ c s known lt. sym (looked_up (said g marks) c s lt) ∙ says.unavailable c s (subst (λ n. c < n) (sym many) known) lt)
 
+-- the given words say the instance with the table that their pairs make
 says_table : (g : Given) → Obey g → SaysInstance g (said g (table g))
 says_table g o =
     let many : length (said g (table g)).courses ≡ value g.head.courses = courses_many g o in
@@ -111,6 +113,7 @@ spelled_fills g o =
           ),
     )
 
+-- what spells an instance fills the form with it
 pub instance_fills : (g : Given) → Obey g → (i : Problem) → SaysInstance g i → Fills instance (spelled g) i
 instance_fills g o i says =
     let is : i ≡ said g i.unavailable = is_said g i says in
@@ -134,6 +137,7 @@ from_rooms head courses = after Expected (codes "ROOMS:") (times room head.rooms
 abbrev from_courses : Header → Form ReadFault Problem
 from_courses head = after Expected (codes "COURSES:") (times course head.courses no_courses) >>= from_rooms head
 
+-- what fills the end is its word
 end_taken : (x i : Problem) (words : List (List ℕ)) → Fills (fixed Expected (codes "END.") >>= λ _. done x) words i → (words ≡ codes "END." ∷ []) × (x ≡ i)
 unfolding fixed one ◌>>=◌
 end_taken x i [] h = absurd h

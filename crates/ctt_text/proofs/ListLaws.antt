@@ -36,14 +36,17 @@ Each-filter : {X : Type 0} (P : X → Type 0) (test : X → Bool) (xs : List X) 
 Each-filter P test [] each = tt
 Each-filter P test (x ∷ xs) each = by_cases _ (test x) (λ is. rw is (each.0, Each-filter P test xs each.1)) (λ isnt. rw isnt (Each-filter P test xs each.1))
 
+-- what holds of each two holds of those that a filter keeps
 Pairwise-filter : {X : Type 0} (R : X → X → Type 0) (test : X → Bool) (xs : List X) → Pairwise R xs → Pairwise R (filter test xs)
 Pairwise-filter R test [] pairs = tt
 Pairwise-filter R test (x ∷ xs) pairs = by_cases _ (test x) (λ is. rw is (Each-filter (R x) test xs pairs.0, Pairwise-filter R test xs pairs.1)) (λ isnt. rw isnt (Pairwise-filter R test xs pairs.1))
 
+-- those that a filter keeps pass its test
 Each-passes : {X : Type 0} (test : X → Bool) (xs : List X) → Each (λ x. test x ≡ true) (filter test xs)
 Each-passes test [] = tt
 Each-passes test (x ∷ xs) = by_cases _ (test x) (λ is. rw is (is, Each-passes test xs)) (λ isnt. rw isnt (Each-passes test xs))
 
+-- they are no more than there were
 length-filter : {X : Type 0} (test : X → Bool) (xs : List X) → length (filter test xs) ≤ length xs
 length-filter test [] = omega arith
 length-filter test (x ∷ xs) =
@@ -55,6 +58,7 @@ module _ {X : Type 0} (same : X → X → Bool) (sound : (x y : X) → same x y 
   abbrev left : List X → List X → List X
   left s xs = filter (λ y. not (list_any (same y) s)) xs
 
+  -- those that are not x
   abbrev others : X → List X → List X
   others x xs = filter (λ y. not (same y x)) xs
 
@@ -93,6 +97,7 @@ module _ {X : Type 0} (same : X → X → Bool) (sound : (x y : X) → same x y 
       (λ there. rw there (grown xs s ∙ ap (λ r. s ++ r) (twice s x there (each_once same xs))))
       (λ new. rw new (grown xs (s ++ x ∷ []) ∙ append_assoc s (x ∷ []) (left (s ++ x ∷ []) (each_once same xs)) ∙ ap (λ r. s ++ x ∷ r) (one_out s x (each_once same xs))))
 
+  -- the empty list has none of them
   all_left : (xs : List X) → left [] xs ≡ xs
   all_left [] = refl
   all_left (x ∷ xs) = ap (λ r. x ∷ r) (all_left xs)
@@ -167,6 +172,7 @@ place_new test (x ∷ xs) y ys h is = by (test x) h (λ k. place_new test xs y y
     by true h rest = refl
     by false h rest = ap (λ n. 1 + n) (rest h)
 
+-- the test of bytes is true of equal bytes alone
 pub same_bytes : (xs : List ℕ) → bytes_eq xs xs ≡ true
 same_bytes xs = (bytes_eq-Decides xs xs).1 refl
 

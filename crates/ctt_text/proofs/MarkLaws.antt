@@ -13,10 +13,12 @@ module _ {W : Type 0} (place : W → ℕ) where
   abbrev pub marked : List Bool → List W → List Bool
   marked table ws = fold (λ s w. slice_set s (place w) true) table ws
 
+  -- as long as the table was
   pub marked_length : (ws : List W) (s : List Bool) → length (marked s ws) ≡ length s
   marked_length [] s = refl
   marked_length (w ∷ ws) s = marked_length ws (slice_set s (place w) true) ∙ length-set s (place w) true
 
+  -- a mark more changes the place where it stands, and no other
   mark_here : (a b c : Bool) → b ≡ true → (a || true) ≡ (b || a || c)
   mark_here true b c h = rw h refl
   mark_here false b c h = rw h refl
@@ -50,6 +52,7 @@ module _ {W : Type 0} (place : W → ℕ) where
       or-false true = refl
       or-false false = refl
 
+  -- of the length of the table
   pub marks_many : (n : ℕ) (ws : List W) → length (marked (replicate n false) ws) ≡ n
   marks_many n ws = marked_length ws (replicate n false) ∙ length-replicate n false
 
@@ -79,6 +82,7 @@ pub record Row (m n k : ℕ) : Type 0 where
   pub column_below : column < n
   pub place : row * n + column ≡ k
 
+-- by dividing
 pub row_of : (m n k : ℕ) → k < m * n → Row m n k
 row_of m n k lt =
     let some : 0 < n = some_columns n lt in

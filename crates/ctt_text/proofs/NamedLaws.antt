@@ -56,6 +56,7 @@ new_names before (name ∷ names) apart pairs = (apart.0, new_names (before ++ n
     behind [] a b = tt
     behind (n ∷ ns) a b = (list_any-append (bytes_eq n) before (name ∷ []) ∙ or_from (is_among before n) (bytes_eq n name || false) a.0 (or_from (bytes_eq n name) false (apart_turned bytes_eq bytes_sound name n b.0) refl), behind ns a.1 b.1)
 
+-- each once is distinct
 teachers_distinct : (names : List (List ℕ)) → AreDistinct (each_once bytes_eq names)
 teachers_distinct names = new_names [] (each_once bytes_eq names) (all_apart (each_once bytes_eq names)) (once_apart bytes_eq bytes_sound names)
   where
