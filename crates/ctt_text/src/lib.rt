@@ -16,7 +16,7 @@ mod timetable;
 mod words;
 
 pub use course_facts::CourseFacts;
-pub use fault::ReadFault;
+pub use fault::{ReadFault, SolutionFault};
 pub use ids::{CourseNo, CurriculumNo, RoomNo, SlotNo, TeacherNo};
 pub use instance::Instance;
 pub use marks::Marks;
