@@ -32,7 +32,7 @@ pub record IsRead {F A : Type 0} (form : Form F A) (words : List (List ℕ)) (n 
   pub fills : Fills form front x.0
 
 -- one place obeys its rule or breaks it
-read_case : {F X : Type 0} (C : Type 0) (o : Option (ℕ → F)) (n : ℕ) (rest r : Result X F) → elim o [ None ↦ rest | Some broken ↦ Err (broken n) ] ≡ r
+pub read_case : {F X : Type 0} (C : Type 0) (o : Option (ℕ → F)) (n : ℕ) (rest r : Result X F) → elim o [ None ↦ rest | Some broken ↦ Err (broken n) ] ≡ r
     → (o ≡ None → rest ≡ r → C) → ((broken : ℕ → F) → o ≡ Some broken → Err (broken n) ≡ r → C) → C
 read_case C None n rest r h obeyed broke = obeyed refl h
 read_case C (Some broken) n rest r h obeyed broke = broke broken refl h
