@@ -29,6 +29,9 @@ Each-put P lt x (y ∷ ys) h each = bool_case _ (lt x y) (λ is. rw is (h, each)
 pub before_apart : (a b : Placed) → before a b ≡ true → (b.course == a.course && b.slot == a.slot) ≡ false
 before_apart a b h = grind (arith, nat_tests)
 
+pub before_apart_turned : (a b : Placed) → before a b ≡ true → (a.course == b.course && a.slot == b.slot) ≡ false
+before_apart_turned a b h = grind (arith, nat_tests)
+
 before_either : (a b : Placed) → before a b ≡ false → (b.course == a.course && b.slot == a.slot) ≡ false → before b a ≡ true
 before_either a b h k = grind (arith, nat_tests)
 
@@ -48,7 +51,7 @@ with_ascends (m ∷ t) l up new =
 exactly : Placed → Placed → Bool
 exactly a b = (b.course == a.course && b.slot == a.slot) && a.room == b.room
 
-placed_same : (c d s t r q : ℕ) → c ≡ d → s ≡ t → r ≡ q → ◌≡◌ {A = Placed} (record { course = c; slot = s; room = r }) (record { course = d; slot = t; room = q })
+pub placed_same : (c d s t r q : ℕ) → c ≡ d → s ≡ t → r ≡ q → ◌≡◌ {A = Placed} (record { course = c; slot = s; room = r }) (record { course = d; slot = t; room = q })
 placed_same c d s t r q e f g = rw (e, f, g) refl
 
 exactly_is : (a b : Placed) → exactly a b ≡ true → a ≡ b

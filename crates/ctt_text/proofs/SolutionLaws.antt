@@ -14,7 +14,7 @@ use Rattle.ctt_text.specs.Forms.{◌>>=◌, times, Fills, read, without_rest}
 use Rattle.ctt_text.specs.Problem.{Problem, IsProblem, is_among}
 use Rattle.ctt_text.specs.Timetable.{before, Ascending, Fits, has_lecture, with}
 use Rattle.ctt_text.specs.Places.{one, known_name, number_if}
-use Rattle.ctt_text.specs.SolutionPlaces.{entry, begun, solution, cut}
+use Rattle.ctt_text.specs.SolutionPlaces.{free_slot, entry, begun, solution, cut}
 use Rattle.ctt_text.specs.SolutionText.{EntryWords, spelled_entry, IsEntry, lecture_of, AreApart, SameLectures, SolSpells, SolutionBreaksAt}
 use Rattle.ctt_text.specs.SolutionLaws.{solution_answer, ReadsSolutions, SpellsOneTimetable, SolutionFailsWhereBroken, SolutionBreaksOnce, SolutionSpellsOrBreaks, SpelledIsTimetable}
 use Rattle.ctt_text.proofs.FormLaws.{answer_fills, fills_answer, answer_breaks, breaks_answer, breaks_once, answered, ok_same, ok_is_err}
@@ -41,7 +41,7 @@ module _ (i : Problem) where
 
   -- such an entry fills its four places
   entry_fills : (s : List Placed) (w : EntryWords) → FitsEntry s w → Fills (entry i s) (spelled_entry w) (add_entry s w)
-  unfolding entry known_name number_if one ◌>>=◌
+  unfolding entry free_slot known_name number_if one ◌>>=◌
   entry_fills s w fit = (
     rw fit.0.0 refl,
     (rw fit.0.1 refl, (below_passes BadNumber DayOut w.day i.days fit.0.2, (rw (fit.0.3.0, lt-ltb (value w.period) i.periods fit.0.3.1, fit.1) refl, refl))),
@@ -49,7 +49,7 @@ module _ (i : Problem) where
 
   -- what fills them is such an entry
   pub entry_taken : (s : List Placed) (words : List (List ℕ)) (t : List Placed) → Fills (entry i s) words t → Entry spelled_entry add_entry FitsEntry s words t
-  unfolding entry known_name number_if one ◌>>=◌
+  unfolding entry free_slot known_name number_if one ◌>>=◌
   entry_taken s [] t h = absurd h
   entry_taken s (c ∷ []) t h = absurd h.1
   entry_taken s (c ∷ r ∷ []) t h = absurd h.1.1

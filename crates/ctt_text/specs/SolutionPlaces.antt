@@ -16,12 +16,16 @@ abbrev pub free_period : Problem → List Placed → ℕ → ℕ → Rule Soluti
 free_period i so_far course day word =
     if is_number word then (if nat_lt (value word) i.periods then (if has_lecture course (slot_of i day (value word)) so_far then Some Repeated else None) else Some PeriodOut) else Some BadNumber
 
+-- such a period, as its slot
+unfoldable pub free_slot : Problem → List Placed → ℕ → ℕ → Form SolutionFault ℕ
+free_slot i so_far course day = one (free_period i so_far course day) (λ word. slot_of i day (value word))
+
 unfoldable pub entry : Problem → List Placed → Form SolutionFault (List Placed)
 entry i so_far = do
   course ← known_name UnknownCourse i.course_names
   room ← known_name UnknownRoom i.room_names
   day ← number_if BadNumber (λ n. nat_lt n i.days) DayOut
-  slot ← one (free_period i so_far course day) (λ word. slot_of i day (value word))
+  slot ← free_slot i so_far course day
   done (with (record { course = course; slot = slot; room = room }) so_far)
 
 -- how many entries of four words are begun

@@ -12,6 +12,7 @@ mod names;
 mod numbers;
 mod placed;
 mod reader;
+mod solution;
 mod timetable;
 mod words;
 
@@ -22,5 +23,6 @@ pub use instance::{Instance, read_instance};
 pub use marks::Marks;
 pub use numbers::number;
 pub use placed::Placed;
+pub use solution::read_solution;
 pub use timetable::is_timetable;
 pub use words::Words;
