@@ -1,0 +1,4 @@
+pub mod ListLemmas
+pub mod SumLemmas
+pub mod TimetableLemmas
+pub mod RowLemmas

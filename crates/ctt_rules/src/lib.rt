@@ -1,0 +1,11 @@
+//! The rules of curriculum-based course timetabling: what a timetable breaks, and what it costs.
+#![tactic(auto)]
+
+mod cost;
+mod hard;
+mod row;
+mod rows;
+
+pub use cost::Cost;
+pub use hard::Hard;
+pub use row::course_row;
