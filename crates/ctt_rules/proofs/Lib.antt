@@ -1,4 +1,9 @@
 pub mod ListLemmas
 pub mod SumLemmas
+pub mod SlotLemmas
+pub mod DistinctLemmas
+pub mod NeighbourLemmas
+pub mod PartLemmas
 pub mod TimetableLemmas
 pub mod RowLemmas
+pub mod WorkedCosts

@@ -19,6 +19,9 @@ row_fits i t c h = Each-filter (Fits i) (λ l. l.course == c) t h.fits
 pub courses_fit : (i : Problem) (t : List Placed) → IsTimetable i t → Each (λ (l : Placed). l.course < course_count i) t
 courses_fit i t h = Each-map (Fits i) (λ (l : Placed). l.course < course_count i) (λ l f. f.0) t h.fits
 
+pub slots_fit : (i : Problem) (t : List Placed) → Each (Fits i) t → Each (λ (l : Placed). l.slot < slot_count i) t
+slots_fit i t h = Each-map (Fits i) (λ (l : Placed). l.slot < slot_count i) (λ l f. f.1) t h
+
 -- a sum over the lectures, course by course
 pub sum_by_course : (f : Placed → ℕ) (n : ℕ) (t : List Placed) → Each (λ (l : Placed). l.course < n) t → sum_by f t ≡ sum_below (λ c. sum_by f (course_row c t)) n
 sum_by_course f n [] h = sym (sum_below_zero (λ c. 0) n (λ c lt. refl))
@@ -59,7 +62,7 @@ module _ (i : Problem) (t : List Placed) (h : IsTimetable i t) where
   -- a row has at most one lecture in each slot
   pub row_is_short : (c : ℕ) → length (course_row c t) ≤ slot_count i
   row_is_short c =
-      let slots : Each (λ (l : Placed). l.slot < slot_count i) (course_row c t) = Each-map (Fits i) (λ (l : Placed). l.slot < slot_count i) (λ l f. f.1) (course_row c t) (row_fits i t c h) in
+      let slots : Each (λ (l : Placed). l.slot < slot_count i) (course_row c t) = slots_fit i (course_row c t) (row_fits i t c h) in
       let every : Each (λ (l : Placed). 0 ≤ l.slot) (course_row c t) = Each-map (λ (l : Placed). l.slot < slot_count i) (λ (l : Placed). 0 ≤ l.slot) (λ l f. omega arith) (course_row c t) slots in
       omega (arith, slots_left (slot_count i) 0 (course_row c t) (omega arith) every slots (row_by_slot c t h.ascending))
 

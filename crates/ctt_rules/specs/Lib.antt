@@ -1,3 +1,4 @@
 pub mod Penalty
 pub mod Hard
 pub mod Rows
+pub mod Neighbours

@@ -1,11 +1,14 @@
 //! The rules of curriculum-based course timetabling: what a timetable breaks, and what it costs.
 #![tactic(auto)]
 
+mod compactness;
 mod cost;
 mod hard;
 mod row;
 mod rows;
+mod soft;
 
 pub use cost::Cost;
 pub use hard::Hard;
 pub use row::course_row;
+pub use soft::{course_cost, penalty};

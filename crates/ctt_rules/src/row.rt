@@ -1,7 +1,8 @@
 //! The lectures of one course in a timetable.
 
 ghost use Rattle.std.specs.Prelude.{◌≡◌};
-ghost use Rattle.ctt_text.specs.Timetable.{IsTimetable, course_row};
+ghost use Rattle.std.specs.List.{AllByRecursion as Each};
+ghost use Rattle.ctt_text.specs.Timetable.{IsTimetable, Fits, course_row};
 
 use ctt_text::{CourseNo, Instance, Placed};
 
@@ -12,7 +13,8 @@ pub fn course_row<'a>(
     course: CourseNo,
 ) -> &'a [Placed]
     requires { IsTimetable instance.now timetable.now }
-    ensures { result.now ≡ course_row course timetable.now }
+    ensures row { result.now ≡ course_row course timetable.now }
+    ensures fits { Each (Fits instance.now) result.now }
 {
     let start = timetable.partition_point(|l| l.course.get() < course.get());
     let rest = &timetable[start..];

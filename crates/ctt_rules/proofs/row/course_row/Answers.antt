@@ -7,8 +7,8 @@ use Rattle.ctt_text.specs.declared.placed.Placed.{Placed}
 use Rattle.ctt_rules.proofs.RowLemmas.{courses_rise, rise_from, start_by_places, row_by_places}
 use Rattle.ctt_rules.proofs.row.course_row.Goals as goal
 
-pub returns : goal.returns
-returns c =
+pub returns-clause-row : goal.returns-clause-row
+returns-clause-row c =
     let t = c.args.timetable.now in
     let rise = courses_rise t c.requires.ascending in
     let s = c.partition_point-start.result in
