@@ -6,4 +6,5 @@ pub mod NeighbourLemmas
 pub mod PartLemmas
 pub mod TimetableLemmas
 pub mod RowLemmas
+pub mod ConflictLemmas
 pub mod WorkedCosts

@@ -38,3 +38,7 @@ filter_within p q (x ∷ xs) h = elim (cases_Bool (p x)) [
 pub Each-filter_passes : {X : Type 0} (p : X → Bool) (xs : List X) → Each (λ x. p x ≡ true) (filter p xs)
 Each-filter_passes p [] = tt
 Each-filter_passes p (x ∷ xs) = elim (cases_Bool (p x)) [ inl e ↦ rw e (e, Each-filter_passes p xs) | inr e ↦ rw e (Each-filter_passes p xs) ]
+
+pub Each-both : {X : Type 0} (P Q R : X → Type 0) → ((x : X) → P x → Q x → R x) → (xs : List X) → Each P xs → Each Q xs → Each R xs
+Each-both P Q R f [] h k = tt
+Each-both P Q R f (x ∷ xs) h k = (f x h.0 k.0, Each-both P Q R f xs h.1 k.1)

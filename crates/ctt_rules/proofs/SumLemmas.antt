@@ -1,5 +1,5 @@
 -- Sums over numbers and over lists.
-use Rattle.std.proofs.Common.{◌≡◌, ℕ, zero, suc, ◌+◌, ◌*◌, ◌<◌, ◌≤◌, true, false, cond, eqb, Bool, List, [], ◌∷◌, length, refl, sym, arith, inl, inr, add-one}
+use Rattle.std.proofs.Common.{◌≡◌, ℕ, zero, suc, ◌+◌, ◌*◌, ◌<◌, ◌≤◌, true, false, cond, eqb, Bool, List, [], ◌∷◌, length, refl, sym, ap₂, ◌∙◌, arith, inl, inr, add-one}
 use Rattle.std.specs.List.{sum_by, count_by}
 use Rattle.std.proofs.lemmas.Bool.{cases_eq, eq-eqb, ne_eqb}
 use Rattle.std.proofs.lemmas.List.Sums.{sum_by-cons}
@@ -49,3 +49,7 @@ length_is (x ∷ xs) = omega (arith, length_is xs, sum_by-cons (λ _. 1) x xs)
 
 pub count_by-cons : {X : Type 0} (p : X → Bool) (x : X) (xs : List X) → count_by p (x ∷ xs) ≡ cond (p x) 1 0 + count_by p xs
 count_by-cons p x xs = sum_by-cons (λ y. cond (p y) 1 0) x xs
+
+pub count_by-agree : {X : Type 0} (p q : X → Bool) → ((x : X) → p x ≡ q x) → (xs : List X) → count_by p xs ≡ count_by q xs
+count_by-agree p q e [] = refl
+count_by-agree p q e (x ∷ xs) = count_by-cons p x xs ∙ ap₂ (λ b n. cond b 1 0 + n) (e x) (count_by-agree p q e xs) ∙ sym (count_by-cons q x xs)

@@ -32,23 +32,24 @@ sum_by_course f n (x ∷ xs) h =
     sum_below_same (λ c. sum_by f (course_row c (x ∷ xs))) (λ c. cond (eqb x.course c) (f x) 0 + sum_by f (course_row c xs)) n each ∙ sum_below_add (λ c. cond (eqb x.course c) (f x) 0) (λ c. sum_by f (course_row c xs)) n in
     omega (arith, split, sum_below_one (f x) x.course n h.0, sum_by_course f n xs h.1, sum_by-cons f x xs)
 
--- the slots of a row ascend
-pub row_by_slot : (c : ℕ) (t : List Placed) → Ascending t → Pairwise (λ (a b : Placed). a.slot < b.slot) (course_row c t)
-row_by_slot c [] h = tt
-row_by_slot c (x ∷ xs) h = elim (cases_Bool (eqb x.course c)) [
-  | inl y ↦ rw y (after xs (eqb-true x.course c y) h.0, row_by_slot c xs h.1)
-  | inr n ↦ rw n (row_by_slot c xs h.1)
+-- the lectures of a course that come after one of it stand in later slots
+pub row_after : (c : ℕ) (x : Placed) (ys : List Placed) → x.course ≡ c → Each (λ z. before x z ≡ true) ys → Each (λ (z : Placed). x.slot < z.slot) (course_row c ys)
+row_after c x [] same k = tt
+row_after c x (y ∷ ys) same k = elim (cases_Bool (eqb y.course c)) [
+  | inl b ↦ rw b (later y same (eqb-true y.course c b) k.0, row_after c x ys same k.1)
+  | inr b ↦ rw b (row_after c x ys same k.1)
 ]
   where
     later : (y : Placed) → x.course ≡ c → y.course ≡ c → before x y ≡ true → x.slot < y.slot
     later y same other k = grind (arith, nat_tests)
 
-    after : (ys : List Placed) → x.course ≡ c → Each (λ z. before x z ≡ true) ys → Each (λ (z : Placed). x.slot < z.slot) (course_row c ys)
-    after [] same k = tt
-    after (y ∷ ys) same k = elim (cases_Bool (eqb y.course c)) [
-      | inl b ↦ rw b (later y same (eqb-true y.course c b) k.0, after ys same k.1)
-      | inr b ↦ rw b (after ys same k.1)
-    ]
+-- the slots of a row ascend
+pub row_by_slot : (c : ℕ) (t : List Placed) → Ascending t → Pairwise (λ (a b : Placed). a.slot < b.slot) (course_row c t)
+row_by_slot c [] h = tt
+row_by_slot c (x ∷ xs) h = elim (cases_Bool (eqb x.course c)) [
+  | inl y ↦ rw y (row_after c x xs (eqb-true x.course c y) h.0, row_by_slot c xs h.1)
+  | inr n ↦ rw n (row_by_slot c xs h.1)
+]
 
 -- lectures in slots that ascend are as many as slots at most
 slots_left : (n low : ℕ) (ls : List Placed) → low ≤ n → Each (λ (l : Placed). low ≤ l.slot) ls → Each (λ (l : Placed). l.slot < n) ls → Pairwise (λ (a b : Placed). a.slot < b.slot) ls → length ls + low ≤ n

@@ -2,3 +2,4 @@ pub mod Penalty
 pub mod Hard
 pub mod Rows
 pub mod Neighbours
+pub mod Pairs

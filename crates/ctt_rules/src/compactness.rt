@@ -9,18 +9,8 @@ ghost use Rattle.ctt_rules.specs.Penalty.{penalty, alone_cost, part_of};
 ghost use Rattle.ctt_rules.specs.Neighbours.{busy, is_beside};
 
 use crate::rows::Rows;
+use crate::slots::mark_slots;
 use ctt_text::{CourseNo, CurriculumNo, Instance, Marks, Placed, SlotNo};
-
-/// Marks the slots of lectures.
-pub(crate) fn mark_slots(instance: &Instance, slots: &mut Marks, lectures: &[Placed])
-    requires { Each (Fits instance.now) lectures.now }
-    ensures { (s : ℕ) → is_marked slots.new s ≡ (is_marked slots.old s || busy lectures.now s) }
-{
-    instance.limits();
-    for lecture in lectures {
-        slots.mark(lecture.slot.get() as usize);
-    }
-}
 
 /// Whether the slot before or the one after, on the same day, is marked.
 fn is_beside(instance: &Instance, slots: &Marks, slot: SlotNo) -> bool

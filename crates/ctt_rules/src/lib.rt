@@ -3,9 +3,11 @@
 
 mod compactness;
 mod cost;
+mod conflicts;
 mod hard;
 mod row;
 mod rows;
+mod slots;
 mod soft;
 
 pub use cost::Cost;
