@@ -7,4 +7,5 @@ pub mod PartLemmas
 pub mod TimetableLemmas
 pub mod RowLemmas
 pub mod ConflictLemmas
+pub mod CellLemmas
 pub mod WorkedCosts

@@ -3,13 +3,15 @@ use Rattle.std.proofs.Common.{◌≡◌, ℕ, zero, suc, ◌+◌, ◌*◌, ◌<�
 use Rattle.std.specs.List.{filter, sum_by, AllByRecursion as Each}
 use Rattle.std.proofs.Math.Nat.{mul-le-mul_right}
 use Rattle.std.proofs.lemmas.Bool.Decides.{nat_tests}
-use Rattle.std.proofs.lemmas.Bool.{cases_Bool, eqb-true}
+use Rattle.std.proofs.lemmas.Bool.{cases_Bool, cases_lt, eqb-true}
+use Rattle.std.proofs.lemmas.List.{get_or_past}
 use Rattle.std.proofs.lemmas.List.Sums.{sum_by-cons}
 use Rattle.ctt_text.specs.Lists.{Pairwise, sum_below}
-use Rattle.ctt_text.specs.Problem.{Problem, IsProblem, course_count, slot_count}
+use Rattle.ctt_text.specs.Problem.{Problem, IsProblem, IsSmall, IsCourseFacts, course_of, course_count, slot_count}
+use Rattle.ctt_text.specs.declared.course_facts.CourseFacts.{CourseFacts}
 use Rattle.ctt_text.specs.Timetable.{IsTimetable, before, Ascending, Fits, course_row}
 use Rattle.ctt_text.specs.declared.placed.Placed.{Placed}
-use Rattle.ctt_text.proofs.TimetableLemmas.{Each-map}
+use Rattle.ctt_text.proofs.TimetableLemmas.{Each-map, Each-at}
 use Rattle.ctt_rules.proofs.ListLemmas.{Each-filter}
 use Rattle.ctt_rules.proofs.SumLemmas.{sum_below_same, sum_below_add, sum_below_one, sum_below_zero, sum_below_le, length_is}
 
@@ -21,6 +23,16 @@ courses_fit i t h = Each-map (Fits i) (λ (l : Placed). l.course < course_count 
 
 pub slots_fit : (i : Problem) (t : List Placed) → Each (Fits i) t → Each (λ (l : Placed). l.slot < slot_count i) t
 slots_fit i t h = Each-map (Fits i) (λ (l : Placed). l.slot < slot_count i) (λ l f. f.1) t h
+
+-- a course has a small number of lectures
+pub lectures_small : (i : Problem) → IsProblem i → (c : ℕ) → IsSmall (course_of i c).lectures
+lectures_small i p c = elim (cases_lt c (course_count i)) [
+  | inl lt ↦ (Each-at (IsCourseFacts (length i.teacher_names)) i.courses p.courses c none lt).1
+  | inr le ↦ (let past : course_of i c ≡ none = get_or_past i.courses c none le in rw past (omega arith))
+]
+  where
+    none : CourseFacts
+    none = record { teacher = 0; lectures = 0; min_days = 0; students = 0 }
 
 -- a sum over the lectures, course by course
 pub sum_by_course : (f : Placed → ℕ) (n : ℕ) (t : List Placed) → Each (λ (l : Placed). l.course < n) t → sum_by f t ≡ sum_below (λ c. sum_by f (course_row c t)) n

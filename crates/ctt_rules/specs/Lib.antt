@@ -3,3 +3,4 @@ pub mod Hard
 pub mod Rows
 pub mod Neighbours
 pub mod Pairs
+pub mod Cells

@@ -5,12 +5,13 @@ mod compactness;
 mod cost;
 mod conflicts;
 mod hard;
+mod occupancy;
 mod row;
 mod rows;
 mod slots;
 mod soft;
 
 pub use cost::Cost;
-pub use hard::Hard;
+pub use hard::{Hard, hard_counts};
 pub use row::course_row;
 pub use soft::{course_cost, penalty};
