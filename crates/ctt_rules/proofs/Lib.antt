@@ -8,4 +8,5 @@ pub mod TimetableLemmas
 pub mod RowLemmas
 pub mod ConflictLemmas
 pub mod CellLemmas
+pub mod CountLemmas
 pub mod WorkedCosts

@@ -5,6 +5,7 @@ mod compactness;
 mod cost;
 mod conflicts;
 mod hard;
+mod lawful;
 mod occupancy;
 mod row;
 mod rows;
@@ -13,5 +14,6 @@ mod soft;
 
 pub use cost::Cost;
 pub use hard::{Hard, hard_counts};
+pub use lawful::{is_complete, is_lawful};
 pub use row::course_row;
 pub use soft::{course_cost, penalty};
