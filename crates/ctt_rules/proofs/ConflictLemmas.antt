@@ -1,9 +1,9 @@
 -- Pairs of lectures in one slot, counted course by course.
-use Rattle.std.proofs.Common.{◌≡◌, ℕ, zero, suc, ◌+◌, ◌<◌, ◌≤◌, Bool, true, false, cond, not, ◌&&◌, ◌||◌, ◌==◌, eqb, ltb, List, [], ◌∷◌, refl, ◌∙◌, sym, ap, ap₂, arith, inl, inr, ◌⊎◌}
-use Rattle.std.specs.List.{filter, count_by, list_any, AllByRecursion as Each}
+use Rattle.std.proofs.Common.{◌≡◌, ℕ, ◌+◌, ◌<◌, ◌≤◌, Bool, true, false, cond, not, ◌&&◌, ◌||◌, ◌==◌, eqb, ltb, List, [], ◌∷◌, refl, ◌∙◌, sym, ap, ap₂, arith, inl, inr, ◌⊎◌}
+use Rattle.std.specs.List.{count_by, AllByRecursion as Each}
 use Rattle.std.proofs.lemmas.Bool.Decides.{nat_tests}
-use Rattle.std.proofs.lemmas.Bool.{cases_Bool, cases_eq, cases_order, eq-eqb, ne_eqb, eqb-true, ltb-true, lt-ltb, le-ltb, and_parts}
-use Rattle.ctt_text.specs.Lists.{Pairwise, sum_below}
+use Rattle.std.proofs.lemmas.Bool.{cases_eq, cases_order, eq-eqb, ne_eqb, eqb-true, ltb-true, lt-ltb, le-ltb, and_parts}
+use Rattle.ctt_text.specs.Lists.{sum_below}
 use Rattle.ctt_text.specs.Problem.{Problem, course_count, course_of, mates, clash}
 use Rattle.ctt_text.specs.Timetable.{before, Ascending, course_row}
 use Rattle.ctt_text.specs.declared.placed.Placed.{Placed}

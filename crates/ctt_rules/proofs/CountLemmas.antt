@@ -9,7 +9,7 @@ use Rattle.ctt_text.specs.Problem.{Problem, course_of, course_count, slot_count,
 use Rattle.ctt_text.specs.Timetable.{IsTimetable, Fits, course_row}
 use Rattle.ctt_text.specs.declared.placed.Placed.{Placed}
 use Rattle.ctt_text.proofs.TimetableLemmas.{Each-map}
-use Rattle.ctt_rules.specs.Hard.{Lawful, Complete, conflicts, share_room, missing_count, conflict_count, unavailable_count, occupancy_count}
+use Rattle.ctt_rules.specs.Hard.{Lawful, conflicts, share_room, missing_count, conflict_count, unavailable_count, occupancy_count}
 use Rattle.ctt_rules.proofs.ListLemmas.{filter_none}
 use Rattle.ctt_rules.proofs.SumLemmas.{sum_below_zero, count_by-cons}
 use Rattle.ctt_rules.proofs.TimetableLemmas.{courses_fit}

@@ -1,7 +1,7 @@
 -- Slots that stand next to each other, and lectures that stand alone.
-use Rattle.std.proofs.Common.{◌≡◌, ℕ, zero, suc, ◌+◌, ◌-◌, ◌*◌, ◌/◌, ◌%◌, ◌<◌, ◌≤◌, Bool, true, false, cond, not, ◌&&◌, ◌||◌, ◌==◌, eqb, ltb, List, [], ◌∷◌, refl, ◌∙◌, sym, ap, ap₂, arith, inl, inr, ◌⊎◌}
+use Rattle.std.proofs.Common.{◌≡◌, ℕ, suc, ◌+◌, ◌-◌, ◌*◌, ◌/◌, ◌%◌, ◌<◌, ◌≤◌, Bool, true, false, cond, not, ◌&&◌, ◌||◌, ◌==◌, ltb, List, [], ◌∷◌, refl, ◌∙◌, sym, ap, ap₂, arith, inl, inr, ◌⊎◌}
 use Rattle.std.specs.List.{count_by, list_any, AllByRecursion as Each}
-use Rattle.std.proofs.lemmas.Bool.{cases_Bool, cases_eq, cases_lt, eq-eqb, ne_eqb, lt-ltb, le-ltb, eqb-true}
+use Rattle.std.proofs.lemmas.Bool.{cases_eq, cases_lt, eq-eqb, ne_eqb, lt-ltb, le-ltb}
 use Rattle.std.proofs.lemmas.Nat.{div-add-mod', div-mul-add, mod-mul-add, mod_below}
 use Rattle.std.proofs.Math.Nat.{suc-mul}
 use Rattle.ctt_text.specs.Problem.{Problem, day_of, period_of, slot_count}

@@ -1,7 +1,7 @@
 -- The lectures of a curriculum, row by row.
-use Rattle.std.proofs.Common.{◌≡◌, ℕ, ◌+◌, ◌≤◌, Bool, true, false, cond, ◌||◌, ◌&&◌, ◌==◌, eqb, List, [], ◌∷◌, length, refl, ◌∙◌, sym, ap, ap₂, arith, inl, inr}
+use Rattle.std.proofs.Common.{◌≡◌, ℕ, ◌+◌, ◌≤◌, Bool, true, false, cond, ◌||◌, ◌==◌, List, [], ◌∷◌, length, refl, ◌∙◌, sym, ap, ap₂, arith, inl, inr}
 use Rattle.std.specs.List.{filter, sum_by, count_by, list_any, AllByRecursion as Each}
-use Rattle.std.proofs.lemmas.Bool.{cases_Bool, eqb-true, eq-eqb, ne_eqb}
+use Rattle.std.proofs.lemmas.Bool.{cases_Bool, eqb-true}
 use Rattle.std.proofs.lemmas.List.Sums.{sum_by-cons, count_by-le-length, length-filter}
 use Rattle.ctt_text.specs.Lists.{has, Pairwise}
 use Rattle.ctt_text.specs.Timetable.{course_row}

@@ -1,16 +1,15 @@
 -- The rows of a timetable, which stand one after another.
-use Rattle.std.proofs.Common.{◌≡◌, ℕ, zero, suc, ◌+◌, ◌-◌, ◌<◌, ◌≤◌, Bool, true, false, cond, ◌==◌, eqb, leb, List, [], ◌∷◌, length, take, drop, get_or, set, refl, subst, ◌∙◌, sym, ap, arith, inl, inr, one-add, add-one}
-use Rattle.std.specs.List.{filter, prefix_len, AllWithin, AllByRecursion as Each}
+use Rattle.std.proofs.Common.{◌≡◌, ℕ, zero, suc, ◌+◌, ◌-◌, ◌<◌, ◌≤◌, Bool, true, false, ◌==◌, leb, List, [], ◌∷◌, length, take, drop, get_or, set, refl, subst, ◌∙◌, sym, ap, arith, inl, inr, one-add, add-one}
+use Rattle.std.specs.List.{prefix_len, AllWithin, AllByRecursion as Each}
 use Rattle.std.specs.List.Sorted.{IsNonDecreasingBy}
 use Rattle.std.proofs.lemmas.Bool.Decides.{nat_tests}
-use Rattle.std.proofs.lemmas.Bool.{cases_Bool, cases_eq, eq-eqb, ne_eqb, eqb-true, leb-true, le-leb, lt-leb}
+use Rattle.std.proofs.lemmas.Bool.{cases_eq, eq-eqb, ne_eqb, eqb-true, leb-true, le-leb, lt-leb}
 use Rattle.std.proofs.lemmas.List.{take_rest, get_or-set_same, get_or-set_other, drop-drop, get_or-drop, length-drop, drop_all}
 use Rattle.std.proofs.lemmas.List.Sums.{prefix_len-le-length}
-use Rattle.ctt_text.specs.Lists.{Pairwise}
 use Rattle.ctt_text.specs.Timetable.{before, Ascending, course_row}
 use Rattle.ctt_text.specs.declared.placed.Placed.{Placed}
 use Rattle.ctt_text.proofs.TimetableLemmas.{Each-map, Each-at, Each-from_index}
-use Rattle.ctt_rules.specs.Rows.{from_course, IsStart, AreStarts}
+use Rattle.ctt_rules.specs.Rows.{from_course, IsStart}
 use Rattle.ctt_rules.proofs.ListLemmas.{filter_none, filter_every, filter_within, Pairwise-filter, Each-filter_passes}
 
 -- the lectures of a course at the front, and those of the courses after it

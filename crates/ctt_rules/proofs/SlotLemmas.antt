@@ -1,5 +1,5 @@
 -- Slots and their days.
-use Rattle.std.proofs.Common.{◌≡◌, ℕ, zero, suc, ◌+◌, ◌-◌, ◌*◌, ◌<◌, ◌/◌, ◌%◌, arith}
+use Rattle.std.proofs.Common.{ℕ, zero, suc, ◌*◌, ◌<◌, arith}
 use Rattle.std.proofs.lemmas.Nat.{div_below}
 use Rattle.ctt_text.specs.Problem.{Problem, day_of, slot_count}
 

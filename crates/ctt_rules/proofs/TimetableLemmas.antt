@@ -1,6 +1,6 @@
 -- Timetables: their rows, and how long they are.
-use Rattle.std.proofs.Common.{◌≡◌, ℕ, zero, suc, ◌+◌, ◌*◌, ◌<◌, ◌≤◌, Bool, true, false, cond, ◌==◌, eqb, List, [], ◌∷◌, length, refl, ◌∙◌, sym, ap, arith, inl, inr}
-use Rattle.std.specs.List.{filter, sum_by, AllByRecursion as Each}
+use Rattle.std.proofs.Common.{◌≡◌, ℕ, suc, ◌+◌, ◌*◌, ◌<◌, ◌≤◌, true, cond, ◌==◌, eqb, List, [], ◌∷◌, length, refl, ◌∙◌, sym, arith, inl, inr}
+use Rattle.std.specs.List.{sum_by, AllByRecursion as Each}
 use Rattle.std.proofs.Math.Nat.{mul-le-mul_right}
 use Rattle.std.proofs.lemmas.Bool.Decides.{nat_tests}
 use Rattle.std.proofs.lemmas.Bool.{cases_Bool, cases_lt, eqb-true}

@@ -1,7 +1,7 @@
 -- The slots beside a slot.
-use Rattle.std.specs.Prelude.{ℕ, ◌+◌, ◌-◌, Bool, List, count_by, ◌==◌, ◌&&◌, ◌||◌, not, nat_lt}
+use Rattle.std.specs.Prelude.{ℕ, ◌+◌, ◌-◌, Bool, List, ◌==◌, ◌&&◌, ◌||◌, nat_lt}
 use Rattle.std.specs.List.{list_any}
-use Rattle.ctt_text.specs.Problem.{Problem, period_of, day_of}
+use Rattle.ctt_text.specs.Problem.{Problem, period_of}
 use Rattle.ctt_text.specs.declared.placed.Placed.{Placed}
 
 -- some lecture stands in the slot

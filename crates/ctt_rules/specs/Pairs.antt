@@ -1,5 +1,5 @@
 -- Pairs of lectures in one slot, course by course.
-use Rattle.std.specs.Prelude.{ℕ, Bool, List, count_by, cond, ◌&&◌, nat_lt}
+use Rattle.std.specs.Prelude.{ℕ, List, count_by, cond, ◌&&◌, nat_lt}
 use Rattle.ctt_text.specs.Lists.{sum_below}
 use Rattle.ctt_text.specs.Problem.{Problem, course_count, clash}
 use Rattle.ctt_text.specs.Timetable.{course_row}

@@ -1,10 +1,9 @@
-use Rattle.std.proofs.Common.{◌≡◌, ◌*◌, ◌+◌, ◌≤◌, ◌∙◌, ℕ, Bool, not, sym, ap, arith, take, count_by, sum_by, length, get_or, List}
+use Rattle.std.proofs.Common.{◌≡◌, ◌*◌, ◌≤◌, ◌∙◌, ℕ, Bool, not, sym, ap, arith, count_by, sum_by, length, get_or, List}
 use Rattle.ctt_text.specs.Lists.{has}
-use Rattle.std.specs.List.{list_any, AllByRecursion as Each}
+use Rattle.std.specs.List.{list_any}
 use Rattle.std.proofs.lemmas.List.{take_all}
 use Rattle.std.proofs.lemmas.List.Sums.{sum_by_more_le}
 use Rattle.ctt_text.specs.Marks.{is_marked}
-use Rattle.ctt_text.specs.Problem.{slot_count}
 use Rattle.ctt_text.specs.Timetable.{Fits, course_row}
 use Rattle.ctt_text.specs.declared.placed.Placed.{Placed}
 use Rattle.ctt_rules.specs.Penalty.{part_of}

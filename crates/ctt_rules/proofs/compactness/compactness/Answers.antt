@@ -1,4 +1,4 @@
-use Rattle.std.proofs.Common.{◌≡◌, ◌*◌, ◌+◌, ◌≤◌, ◌∙◌, ℕ, sym, ap, arith, take, sum_by, length, List, []}
+use Rattle.std.proofs.Common.{◌≡◌, ◌+◌, ◌∙◌, ℕ, ap, arith, take, sum_by, List, []}
 use Rattle.std.proofs.lemmas.List.Sums.{sum_by_more}
 use Rattle.ctt_text.specs.Problem.{members}
 use Rattle.ctt_rules.specs.Penalty.{alone_cost, part_of}

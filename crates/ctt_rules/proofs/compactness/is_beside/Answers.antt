@@ -1,4 +1,4 @@
-use Rattle.std.proofs.Common.{arith, ◌+◌, ◌<◌}
+use Rattle.std.proofs.Common.{arith}
 use Rattle.std.proofs.lemmas.Nat.{mod_below}
 use Rattle.ctt_rules.proofs.SlotLemmas.{periods_above}
 use Rattle.ctt_rules.proofs.compactness.is_beside.Goals as goal

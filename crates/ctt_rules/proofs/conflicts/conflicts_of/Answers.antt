@@ -1,4 +1,4 @@
-use Rattle.std.proofs.Common.{◌≡◌, ◌+◌, ◌*◌, ◌≤◌, ◌<◌, ◌||◌, ◌∙◌, ℕ, sym, ap, ap₂, arith, count_by, length, false}
+use Rattle.std.proofs.Common.{◌≡◌, ◌≤◌, ◌||◌, ◌∙◌, ℕ, sym, ap, ap₂, arith, count_by, length}
 use Rattle.ctt_text.specs.Marks.{is_marked}
 use Rattle.ctt_text.specs.Problem.{clash}
 use Rattle.ctt_text.specs.Timetable.{course_row}

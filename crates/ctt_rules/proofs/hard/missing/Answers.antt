@@ -1,5 +1,5 @@
-use Rattle.std.proofs.Common.{◌≡◌, ◌+◌, ◌-◌, ◌≤◌, ◌∙◌, ℕ, ap, ap₂, arith, length}
-use Rattle.ctt_text.specs.Problem.{course_of, IsCourseFacts}
+use Rattle.std.proofs.Common.{◌≡◌, ◌+◌, ◌-◌, ◌∙◌, ℕ, ap, ap₂, arith, length}
+use Rattle.ctt_text.specs.Problem.{course_of}
 use Rattle.ctt_text.specs.Timetable.{course_row}
 use Rattle.ctt_rules.proofs.SumLemmas.{sum_below_more}
 use Rattle.ctt_rules.proofs.TimetableLemmas.{row_is_short, lectures_small}

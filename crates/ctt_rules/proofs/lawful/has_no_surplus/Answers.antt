@@ -1,6 +1,5 @@
-use Rattle.std.proofs.Common.{◌≤◌, ℕ, arith, refl, inl, inr}
+use Rattle.std.proofs.Common.{arith, refl, inl, inr}
 use Rattle.std.proofs.lemmas.Bool.{cases_lt}
-use Rattle.ctt_text.specs.Problem.{course_of}
 use Rattle.ctt_rules.proofs.CountLemmas.{none_past}
 use Rattle.ctt_rules.proofs.lawful.has_no_surplus.Goals as goal
 

@@ -1,6 +1,6 @@
 use Rattle.std.proofs.Common.{◌≡◌, ◌∙◌, sym, ap}
 use Rattle.std.proofs.lemmas.Bool.{eqb-true}
-use Rattle.ctt_rules.specs.Hard.{Complete, missing_count}
+use Rattle.ctt_rules.specs.Hard.{missing_count}
 use Rattle.ctt_rules.proofs.CountLemmas.{all_placed, none_missing}
 use Rattle.ctt_rules.proofs.lawful.is_complete.Goals as goal
 

@@ -1,9 +1,9 @@
-use Rattle.std.proofs.Common.{◌≡◌, ◌≤◌, ◌∙◌, ℕ, Bool, true, false, sym, ap, length}
+use Rattle.std.proofs.Common.{◌≡◌, ◌≤◌, ◌∙◌, ℕ, true, sym, ap, length}
 use Rattle.std.proofs.lemmas.Bool.{both_ways, eqb-true, eq-eqb}
 use Rattle.ctt_text.specs.Problem.{course_of}
 use Rattle.ctt_text.specs.Timetable.{course_row}
 use Rattle.ctt_rules.specs.Hard.{Lawful, conflict_count, unavailable_count, occupancy_count}
-use Rattle.ctt_rules.proofs.CountLemmas.{NoneCounted, counted, lawful}
+use Rattle.ctt_rules.proofs.CountLemmas.{counted, lawful}
 use Rattle.ctt_rules.proofs.lawful.is_lawful.Goals as goal
 use Rattle.ctt_rules.proofs.lawful.is_lawful.Goals.{then-has_no_surplus, else-has_no_surplus, then-unavailable-eq0, else-unavailable-eq0}
 

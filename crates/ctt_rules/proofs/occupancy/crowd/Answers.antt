@@ -1,9 +1,7 @@
-use Rattle.std.proofs.Common.{◌≡◌, ◌+◌, ◌-◌, ◌*◌, ◌<◌, ◌≤◌, ◌∙◌, ℕ, Bool, true, false, cond, not, sym, ap, ap₂, arith, refl, inl, inr, ◌⊎◌}
+use Rattle.std.proofs.Common.{◌≡◌, ◌+◌, ◌-◌, ◌*◌, ◌<◌, ◌≤◌, ◌∙◌, ℕ, true, false, cond, sym, ap, ap₂, arith, inl, inr, ◌⊎◌}
 use Rattle.std.proofs.lemmas.Bool.{not-true, not-false}
 use Rattle.ctt_text.specs.Marks.{is_marked}
 use Rattle.ctt_text.specs.Problem.{room_count}
-use Rattle.ctt_text.specs.declared.placed.Placed.{Placed}
-use Rattle.ctt_rules.specs.Cells.{crowd_below}
 use Rattle.ctt_rules.proofs.CellLemmas.{crowd_none, outside, no_cell, inside, one_cell}
 use Rattle.ctt_rules.proofs.occupancy.crowd.Goals as goal
 use Rattle.ctt_rules.proofs.occupancy.crowd.Goals.{then-first-slot+then-slot-end+then-not-take, then-first-slot+then-slot-end+else-not-take, else-first-slot, else-first-slot-via-then-first-slot+else-slot-end, else-first-slot-via-else-first-slot}

@@ -1,5 +1,4 @@
-use Rattle.std.proofs.Common.{rules, tests, ◌≤◌, ◌<◌, ◌+◌, length, drop, ltb, leb, List, add-one, arith}
-use Rattle.std.specs.List.{AllWithin}
+use Rattle.std.proofs.Common.{rules, tests, ◌≤◌, ◌+◌, length, drop, ltb, leb, List, arith}
 use Rattle.std.proofs.lemmas.List.{take_rest}
 use Rattle.std.proofs.lemmas.List.Sorted.{IsPartitionPoint-from_clause, IsPartitionedBy-leb, IsPartitionedBy-ltb}
 use Rattle.std.proofs.lemmas.Bool.{ltb-true, ltb-false, leb-true, leb-false}

@@ -1,5 +1,4 @@
 use Rattle.std.proofs.Common.{◌≤◌, arith, length}
-use Rattle.ctt_text.specs.Timetable.{course_row}
 use Rattle.ctt_rules.proofs.TimetableLemmas.{row_is_short}
 use Rattle.ctt_rules.proofs.soft.course_cost.Goals as goal
 

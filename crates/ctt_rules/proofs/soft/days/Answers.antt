@@ -1,4 +1,4 @@
-use Rattle.std.proofs.Common.{◌≡◌, ◌+◌, ◌∙◌, ℕ, ap, arith}
+use Rattle.std.proofs.Common.{◌≡◌, ◌∙◌, ℕ, ap, arith}
 use Rattle.ctt_text.specs.Timetable.{course_row}
 use Rattle.ctt_rules.specs.Penalty.{days_cost}
 use Rattle.ctt_rules.proofs.SumLemmas.{sum_below_more}

@@ -1,10 +1,6 @@
-use Rattle.std.proofs.Common.{◌≡◌, ◌∙◌, ◌+◌, ◌≤◌, ◌<◌, ℕ, zero, length, get_or, set, replicate, arith, sym, ap, inl, inr}
-use Rattle.std.specs.List.{prefix_len}
-use Rattle.std.proofs.lemmas.Bool.{cases_eq, cases_lt}
-use Rattle.std.proofs.lemmas.List.{length-set, get_or-set_same, get_or-set_other, length-replicate, get_or-replicate, length-drop, take_rest}
-use Rattle.std.proofs.lemmas.List.Sums.{prefix_len-le-length}
-use Rattle.ctt_text.specs.declared.placed.Placed.{Placed}
-use Rattle.ctt_rules.specs.Rows.{IsStart}
+use Rattle.std.proofs.Common.{◌∙◌, ◌<◌, length, get_or, arith, ap, inl, inr}
+use Rattle.std.proofs.lemmas.Bool.{cases_lt}
+use Rattle.std.proofs.lemmas.List.{length-set, get_or-set_other, length-replicate, get_or-replicate}
 use Rattle.ctt_rules.proofs.RowLemmas.{start_at, next_by_front, start_at_end, more_starts}
 use Rattle.ctt_rules.proofs.TimetableLemmas.{few_lectures, courses_fit}
 use Rattle.ctt_rules.proofs.rows.Rows.new.Goals as goal

@@ -1,7 +1,5 @@
-use Rattle.std.proofs.Common.{◌≡◌, ◌∙◌, ◌+◌, ◌-◌, ap, List, drop, take, sym, ap₂}
+use Rattle.std.proofs.Common.{◌∙◌, ◌-◌, ap, drop, take}
 use Rattle.ctt_text.specs.Timetable.{Ascending, course_row}
-use Rattle.ctt_text.specs.declared.placed.Placed.{Placed}
-use Rattle.ctt_rules.specs.Rows.{IsStart}
 use Rattle.ctt_rules.proofs.RowLemmas.{row_between, starts_rise}
 use Rattle.ctt_rules.proofs.rows.Rows.row.Goals as goal
 
