@@ -2,18 +2,22 @@
 
 ghost use Rattle.std.specs.Prelude.{◌≡◌, ◌<◌, ◌≤◌, ◌*◌, [], length, slice_index_or};
 ghost use Rattle.ctt_text.specs.Problem.{IsProblem, course_of, capacity_of, members, course_count, room_count, teacher_count, curriculum_count, slot_count, slot_of, day_of, period_of, clash, is_unavailable, number_in};
+ghost use Rattle.ctt_text.specs.Named.{IsNamed};
 
+mod clashes;
 mod courses;
 mod curricula;
 mod header;
 mod members;
 mod places;
+mod read;
 mod rooms;
 mod unavailability;
 
 use crate::course_facts::CourseFacts;
 use crate::ids::{CourseNo, CurriculumNo, RoomNo, SlotNo, TeacherNo};
 use crate::names::Names;
+pub use read::read_instance;
 use std::marker::Model;
 
 /// An instance of curriculum-based course timetabling, as it was read from its file.
@@ -53,6 +57,13 @@ impl Instance {
     /// Computes nothing: its contract says what holds of each instance.
     pub fn limits(&self)
         ensures { IsProblem self.now }
+    {
+        let _days = &self.days;
+    }
+
+    /// Computes nothing: its contract says that all names are words, distinct in their lists.
+    pub fn names(&self)
+        ensures { IsNamed self.now }
     {
         let _days = &self.days;
     }
@@ -127,6 +138,22 @@ impl Instance {
         ensures { result.now ≡ slice_index_or self.now.room_names room [] }
     {
         self.room_names.name(room.get() as usize)
+    }
+
+    /// The name of a teacher.
+    pub fn teacher_name(&self, teacher: TeacherNo) -> &str
+        requires { teacher < teacher_count self.now }
+        ensures { result.now ≡ slice_index_or self.now.teacher_names teacher [] }
+    {
+        self.teacher_names.name(teacher.get() as usize)
+    }
+
+    /// The name of a curriculum.
+    pub fn curriculum_name(&self, curriculum: CurriculumNo) -> &str
+        requires { curriculum < curriculum_count self.now }
+        ensures { result.now ≡ slice_index_or self.now.curriculum_names curriculum [] }
+    {
+        self.curriculum_names.name(curriculum.get() as usize)
     }
 
     /// Who teaches a course.
@@ -227,6 +254,22 @@ impl Instance {
     {
         let number = self.course_names.number(name)?;
         Some(CourseNo::new(number as u16))
+    }
+
+    /// The number of a teacher by his name.
+    pub fn find_teacher(&self, name: &str) -> Option<TeacherNo>
+        ensures { result ≡ number_in self.now.teacher_names name.now }
+    {
+        let number = self.teacher_names.number(name)?;
+        Some(TeacherNo::new(number as u16))
+    }
+
+    /// The number of a curriculum by its name.
+    pub fn find_curriculum(&self, name: &str) -> Option<CurriculumNo>
+        ensures { result ≡ number_in self.now.curriculum_names name.now }
+    {
+        let number = self.curriculum_names.number(name)?;
+        Some(CurriculumNo::new(number as u16))
     }
 
     /// The number of a room by its name.

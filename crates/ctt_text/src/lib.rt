@@ -6,6 +6,7 @@ mod fault;
 mod fits;
 mod ids;
 mod instance;
+pub mod laws;
 mod marks;
 mod names;
 mod numbers;
@@ -17,9 +18,12 @@ mod words;
 pub use course_facts::CourseFacts;
 pub use fault::ReadFault;
 pub use ids::{CourseNo, CurriculumNo, RoomNo, SlotNo, TeacherNo};
-pub use instance::Instance;
+pub use instance::{Instance, read_instance};
 pub use marks::Marks;
 pub use numbers::number;
 pub use placed::Placed;
 pub use timetable::is_timetable;
 pub use words::Words;
+
+#[cfg(test)]
+mod tests;

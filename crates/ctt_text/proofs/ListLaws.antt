@@ -1,0 +1,190 @@
+-- Lists of which each element is taken once, and the places of names.
+use Rattle.std.proofs.Common.{◌≡◌, ℕ, ◌+◌, ◌≤◌, ◌<◌, List, [], ◌∷◌, ◌++◌, length, map, Bool, true, false, cond, not, ◌||◌, refl, sym, ap, ◌∙◌, append_assoc, arith}
+use Rattle.std.specs.Prelude.{fold, filter}
+use Rattle.std.specs.List.{list_any, position_or_len, AllByRecursion as Each}
+use Rattle.std.specs.Str.{bytes_eq}
+use Rattle.std.proofs.lemmas.List.{append-nil}
+use Rattle.std.proofs.lemmas.Bool.{true≢false, both_ways, not-true, or_left, or_right, ltb-true}
+use Rattle.std.proofs.lemmas.List.Folds.{list_any-append}
+use Rattle.std.proofs.lemmas.Slice.Eq.{bytes_eq-Decides}
+use Rattle.ctt_text.specs.Lists.{Pairwise, each_once}
+use Rattle.ctt_text.specs.Problem.{is_among, place_of}
+use Rattle.ctt_text.specs.InstancePlaces.{with_new}
+use Rattle.ctt_text.proofs.NameLemmas.{any_by_place}
+use Rattle.ctt_text.proofs.TableLemmas.{bool_case}
+use Rattle.ctt_text.proofs.TimetableLemmas.{Each-map}
+
+-- what holds of each that a function gives, and of each in a part of a list
+pub Each-mapped : {X Y : Type 0} (P : Y → Type 0) (f : X → Y) (xs : List X) → Each (λ x. P (f x)) xs → Each P (map f xs)
+Each-mapped P f [] each = tt
+Each-mapped P f (x ∷ xs) each = (each.0, Each-mapped P f xs each.1)
+
+pub Each-front : {X : Type 0} (P : X → Type 0) (xs ys : List X) → Each P (xs ++ ys) → Each P xs
+Each-front P [] ys each = tt
+Each-front P (x ∷ xs) ys each = (each.0, Each-front P xs ys each.1)
+
+pub Each-rest : {X : Type 0} (P : X → Type 0) (xs ys : List X) → Each P (xs ++ ys) → Each P ys
+Each-rest P [] ys each = each
+Each-rest P (x ∷ xs) ys each = Each-rest P xs ys each.1
+
+-- what holds of each holds of those that a filter keeps
+Each-filter : {X : Type 0} (P : X → Type 0) (test : X → Bool) (xs : List X) → Each P xs → Each P (filter test xs)
+Each-filter P test [] each = tt
+Each-filter P test (x ∷ xs) each = bool_case _ (test x) (λ is. rw is (each.0, Each-filter P test xs each.1)) (λ isnt. rw isnt (Each-filter P test xs each.1))
+
+-- what holds of each two holds of those that a filter keeps
+Pairwise-filter : {X : Type 0} (R : X → X → Type 0) (test : X → Bool) (xs : List X) → Pairwise R xs → Pairwise R (filter test xs)
+Pairwise-filter R test [] pairs = tt
+Pairwise-filter R test (x ∷ xs) pairs = bool_case _ (test x) (λ is. rw is (Each-filter (R x) test xs pairs.0, Pairwise-filter R test xs pairs.1)) (λ isnt. rw isnt (Pairwise-filter R test xs pairs.1))
+
+-- those that a filter keeps pass its test
+Each-passes : {X : Type 0} (test : X → Bool) (xs : List X) → Each (λ x. test x ≡ true) (filter test xs)
+Each-passes test [] = tt
+Each-passes test (x ∷ xs) = bool_case _ (test x) (λ is. rw is (is, Each-passes test xs)) (λ isnt. rw isnt (Each-passes test xs))
+
+-- they are no more than there were
+length-filter : {X : Type 0} (test : X → Bool) (xs : List X) → length (filter test xs) ≤ length xs
+length-filter test [] = omega arith
+length-filter test (x ∷ xs) =
+    let rest : length (filter test xs) ≤ length xs = length-filter test xs in
+    bool_case _ (test x) (λ is. rw is (omega arith)) (λ isnt. rw isnt (omega arith))
+
+module _ {X : Type 0} (same : X → X → Bool) (sound : (x y : X) → same x y ≡ true → x ≡ y) where
+  -- those that s has not
+  abbrev left : List X → List X → List X
+  left s xs = filter (λ y. not (list_any (same y) s)) xs
+
+  -- those that are not x
+  abbrev others : X → List X → List X
+  others x xs = filter (λ y. not (same y x)) xs
+
+  -- what is there already need not be taken out twice
+  twice : (s : List X) (x : X) → list_any (same x) s ≡ true → (xs : List X) → left s xs ≡ left s (others x xs)
+  twice s x there [] = refl
+  twice s x there (y ∷ ys) = bool_case _ (same y x)
+      (λ is.
+      let gone : list_any (same y) s ≡ true = ap (λ q. list_any (same q) s) (sound y x is) ∙ there in
+      rw (is, gone) (twice s x there ys))
+      (λ isnt. rw isnt (ap (λ r. cond (not (list_any (same y) s)) (y ∷ r) r) (twice s x there ys)))
+
+  -- one more to be taken out
+  one_out : (s : List X) (x : X) (xs : List X) → left (s ++ x ∷ []) xs ≡ left s (others x xs)
+  one_out s x [] = refl
+  one_out s x (y ∷ ys) = bool_case _ (same y x)
+      (λ is.
+      let gone : list_any (same y) (s ++ x ∷ []) ≡ true = list_any-append (same y) s (x ∷ []) ∙ at_end (list_any (same y) s) (same y x) is in
+      rw (is, gone) (one_out s x ys))
+      (λ isnt.
+      let stays : list_any (same y) (s ++ x ∷ []) ≡ list_any (same y) s = list_any-append (same y) s (x ∷ []) ∙ not_at_end (list_any (same y) s) (same y x) isnt in
+      rw (isnt, stays) (ap (λ r. cond (not (list_any (same y) s)) (y ∷ r) r) (one_out s x ys)))
+    where
+      at_end : (a b : Bool) → b ≡ true → (a || (b || false)) ≡ true
+      at_end true b h = refl
+      at_end false b h = rw h refl
+
+      not_at_end : (a b : Bool) → b ≡ false → (a || (b || false)) ≡ a
+      not_at_end true b h = refl
+      not_at_end false b h = rw h refl
+
+  -- a list that grew by what was new in xs, has those of xs that it had not
+  pub grown : (xs s : List X) → fold (with_new same) s xs ≡ s ++ left s (each_once same xs)
+  grown [] s = sym (append-nil s)
+  grown (x ∷ xs) s = bool_case _ (list_any (same x) s)
+      (λ there. rw there (grown xs s ∙ ap (λ r. s ++ r) (twice s x there (each_once same xs))))
+      (λ new. rw new (grown xs (s ++ x ∷ []) ∙ append_assoc s (x ∷ []) (left (s ++ x ∷ []) (each_once same xs)) ∙ ap (λ r. s ++ x ∷ r) (one_out s x (each_once same xs))))
+
+  -- the empty list has none of them
+  all_left : (xs : List X) → left [] xs ≡ xs
+  all_left [] = refl
+  all_left (x ∷ xs) = ap (λ r. x ∷ r) (all_left xs)
+
+  -- a list that grew from none has each once
+  pub grown_once : (xs : List X) → fold (with_new same) [] xs ≡ each_once same xs
+  grown_once xs = grown xs [] ∙ all_left (each_once same xs)
+
+  -- what holds of each holds of those that are taken
+  pub once_each : (P : X → Type 0) (xs : List X) → Each P xs → Each P (each_once same xs)
+  once_each P [] each = tt
+  once_each P (x ∷ xs) each = (each.0, Each-filter P (λ y. not (same y x)) (each_once same xs) (once_each P xs each.1))
+
+  -- two that differ do so either way
+  pub apart_turned : (x y : X) → same x y ≡ false → same y x ≡ false
+  apart_turned x y h = bool_case _ (same y x)
+      (λ is.
+      let e : y ≡ x = sound y x is in
+      absurd (both_ways (same x y) h (ap (λ q. same x q) e ∙ ap (λ q. same q x) (sym e) ∙ is)))
+      (λ isnt. isnt)
+
+  -- those that are taken differ
+  pub once_apart : (xs : List X) → Pairwise (λ x y. same x y ≡ false) (each_once same xs)
+  once_apart [] = tt
+  once_apart (x ∷ xs) = (
+    Each-map (λ y. not (same y x) ≡ true) (λ y. same x y ≡ false) (λ y h. apart_turned y x (not-true (same y x) h)) (others x (each_once same xs)) (Each-passes (λ y. not (same y x)) (each_once same xs)),
+    Pairwise-filter (λ x y. same x y ≡ false) (λ y. not (same y x)) (each_once same xs) (once_apart xs),
+  )
+
+  -- what another than x is found among, it is found among without x
+  found_without : (x z : X) → same z x ≡ false → (ys : List X) → list_any (same z) (others x ys) ≡ list_any (same z) ys
+  found_without x z isnt [] = refl
+  found_without x z isnt (y ∷ ys) = bool_case _ (same y x)
+      (λ gone.
+      let other : same z y ≡ false = ap (λ q. same z q) (sound y x gone) ∙ isnt in
+      rw (gone, other) (found_without x z isnt ys))
+      (λ stays. rw stays (ap (λ b. same z y || b) (found_without x z isnt ys)))
+
+  -- each is among those that are taken
+  pub once_found : (xs : List X) (z : X) → list_any (same z) (each_once same xs) ≡ list_any (same z) xs
+  once_found [] z = refl
+  once_found (x ∷ xs) z = bool_case _ (same z x)
+      (λ is. rw is refl)
+      (λ isnt. rw isnt (found_without x z isnt (each_once same xs) ∙ once_found xs z))
+
+  -- they are no more than there were
+  pub once_few : (xs : List X) → length (each_once same xs) ≤ length xs
+  once_few [] = omega arith
+  once_few (x ∷ xs) = omega (arith, length-filter (λ y. not (same y x)) (each_once same xs), once_few xs)
+
+-- the place of what is found is a place of the list
+pub place_below : {X : Type 0} (test : X → Bool) (xs : List X) → list_any test xs ≡ true → position_or_len test xs < length xs
+place_below test xs h = ltb-true (position_or_len test xs) (length xs) (any_by_place test xs ∙ h)
+
+-- the place of a name stays when names are added behind it
+place_kept : {X : Type 0} (test : X → Bool) (xs ys : List X) → list_any test xs ≡ true → position_or_len test (xs ++ ys) ≡ position_or_len test xs
+place_kept test [] ys h = absurd (true≢false (sym h))
+place_kept test (x ∷ xs) ys h = by (test x) h (place_kept test xs ys)
+  where
+    by : (b : Bool) → (b || list_any test xs) ≡ true → (list_any test xs ≡ true → position_or_len test (xs ++ ys) ≡ position_or_len test xs)
+        → cond (not b) (1 + position_or_len test (xs ++ ys)) 0 ≡ cond (not b) (1 + position_or_len test xs) 0
+    by true h rest = refl
+    by false h rest = ap (λ n. 1 + n) (rest h)
+
+-- a new name stands where the names before it end
+pub place_new : {X : Type 0} (test : X → Bool) (xs : List X) (y : X) (ys : List X) → list_any test xs ≡ false → test y ≡ true → position_or_len test (xs ++ y ∷ ys) ≡ position_or_len test xs
+place_new test [] y ys h is = rw is refl
+place_new test (x ∷ xs) y ys h is = by (test x) h (λ k. place_new test xs y ys k is)
+  where
+    by : (b : Bool) → (b || list_any test xs) ≡ false → (list_any test xs ≡ false → position_or_len test (xs ++ y ∷ ys) ≡ position_or_len test xs)
+        → cond (not b) (1 + position_or_len test (xs ++ y ∷ ys)) 0 ≡ cond (not b) (1 + position_or_len test xs) 0
+    by true h rest = refl
+    by false h rest = ap (λ n. 1 + n) (rest h)
+
+-- the test of bytes is true of equal bytes alone
+pub same_bytes : (xs : List ℕ) → bytes_eq xs xs ≡ true
+same_bytes xs = (bytes_eq-Decides xs xs).1 refl
+
+pub bytes_sound : (xs ys : List ℕ) → bytes_eq xs ys ≡ true → xs ≡ ys
+bytes_sound xs ys h = (bytes_eq-Decides xs ys).0 h
+
+-- each name is among them
+pub each_among : (names : List (List ℕ)) → Each (λ name. is_among names name ≡ true) names
+each_among [] = tt
+each_among (name ∷ names) = (
+  or_left (bytes_eq name name) (is_among names name) (same_bytes name),
+  Each-map (λ n. is_among names n ≡ true) (λ n. is_among (name ∷ names) n ≡ true) (λ n h. or_right (bytes_eq n name) (is_among names n) h) names (each_among names),
+)
+
+-- the number of a name, once it is given, is its number among all
+pub place_grown : (name : List ℕ) (names more : List (List ℕ)) → place_of (fold (with_new bytes_eq) (with_new bytes_eq names name) more) name ≡ place_of names name
+place_grown name names more = bool_case _ (is_among names name)
+    (λ there. rw there (ap (λ q. place_of q name) (grown bytes_eq bytes_sound more names) ∙ place_kept (bytes_eq name) names _ there))
+    (λ new. rw new (ap (λ q. place_of q name) (grown bytes_eq bytes_sound more (names ++ name ∷ []) ∙ append_assoc names (name ∷ []) _) ∙ place_new (bytes_eq name) names name _ new (same_bytes name)))

@@ -1,0 +1,53 @@
+-- The kinds of places: which words obey their rules.
+use Rattle.std.proofs.Common.{◌≡◌, ℕ, List, [], ◌∷◌, ◌++◌, Bool, true, false, cond, Some, None, refl, ap, ◌∙◌}
+use Rattle.std.specs.Prelude.{nat_lt, nat_le}
+use Rattle.std.specs.Str.{bytes_eq}
+use Rattle.std.proofs.lemmas.Bool.{ltb-true, lt-ltb, leb-true, le-leb}
+use Rattle.ctt_text.specs.Numbers.{is_number, value}
+use Rattle.ctt_text.specs.Forms.{Form, ◌>>=◌, Fills}
+use Rattle.ctt_text.specs.Places.{passing, passing_number, one, fixed, after}
+use Rattle.ctt_text.specs.InstanceText.{IsUpTo, IsBelow}
+use Rattle.ctt_text.proofs.FormLaws.{bind_case}
+use Rattle.ctt_text.proofs.ListLaws.{bytes_sound}
+
+-- what obeys a rule passed its test, or did not
+pub passed : {F : Type 0} (b : Bool) (e : ℕ → F) → cond b None (Some e) ≡ None → b ≡ true
+passed true e h = refl
+passed false e h = cc
+
+pub failed : {F : Type 0} (b : Bool) (e : ℕ → F) → cond b (Some e) None ≡ None → b ≡ false
+failed true e h = cc
+failed false e h = refl
+
+pub passed_both : {F : Type 0} (b c : Bool) (bad out : ℕ → F) → cond b (cond c None (Some out)) (Some bad) ≡ None → (b ≡ true) × (c ≡ true)
+passed_both true c bad out h = (refl, passed c out h)
+passed_both false c bad out h = cc
+
+-- numbers below a limit, and up to one
+module _ {F : Type 0} (bad out : ℕ → F) (word : List ℕ) (limit : ℕ) where
+  pub below_passes : IsBelow limit word → passing_number bad (λ n. nat_lt n limit) out word ≡ None
+  below_passes is = rw (is.0, lt-ltb (value word) limit is.1) refl
+
+  pub passed_below : passing_number bad (λ n. nat_lt n limit) out word ≡ None → IsBelow limit word
+  passed_below h =
+      let p = passed_both (is_number word) (nat_lt (value word) limit) bad out h in
+      (p.0, ltb-true (value word) limit p.1)
+
+  pub up_to_passes : IsUpTo limit word → passing_number bad (λ n. nat_le n limit) out word ≡ None
+  up_to_passes is = rw (is.0, le-leb (value word) limit is.1) refl
+
+  pub passed_up_to : passing_number bad (λ n. nat_le n limit) out word ≡ None → IsUpTo limit word
+  passed_up_to h =
+      let p = passed_both (is_number word) (nat_le (value word) limit) bad out h in
+      (p.0, leb-true (value word) limit p.1)
+
+-- what stands in the place of a fixed word is that word
+pub is_fixed : {F : Type 0} (fault : ℕ → F) (word text : List ℕ) → passing (λ w. bytes_eq w text) fault word ≡ None → word ≡ text
+is_fixed fault word text h = bytes_sound word text (passed (bytes_eq word text) fault h)
+
+-- a fixed word and a form after it, and what follows both
+pub after_case : {F A B : Type 0} (C : Type 0) (fault : ℕ → F) (text : List ℕ) (f : Form F A) (g : A → Form F B) (words : List (List ℕ)) (b : B) → Fills (after fault text f >>= g) words b
+    → ((us vs : List (List ℕ)) (a : A) → Fills f us a → Fills (g a) vs b → words ≡ text ∷ us ++ vs → C) → C
+unfolding fixed one ◌>>=◌
+after_case C fault text f g [] b h then = absurd h
+after_case C fault text f g (w ∷ ws) b h then = bind_case C f g ws b h.1 (λ us vs a p q e. then us vs a p q (ap (λ x. x ∷ ws) (is_fixed fault w text h.0) ∙ ap (λ x. text ∷ x) e))
