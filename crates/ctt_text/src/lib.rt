@@ -26,3 +26,6 @@ pub use placed::Placed;
 pub use solution::read_solution;
 pub use timetable::is_timetable;
 pub use words::Words;
+
+#[cfg(test)]
+mod tests;
