@@ -8,9 +8,11 @@ use Rattle.ctt_text.specs.declared.placed.Placed.{Placed}
 use Rattle.ctt_text.specs.Words.{words}
 use Rattle.ctt_text.specs.Forms.{read, without_rest}
 use Rattle.ctt_text.specs.Problem.{Problem, IsProblem}
+use Rattle.ctt_text.specs.Named.{IsNamed}
 use Rattle.ctt_text.specs.Timetable.{IsTimetable}
 use Rattle.ctt_text.specs.SolutionPlaces.{solution, cut}
 use Rattle.ctt_text.specs.SolutionText.{SolSpells, SolutionBreaksAt}
+use Rattle.ctt_text.specs.Written.{soltext}
 
 -- what reading the words from the first on answers
 abbrev pub solution_answer : Problem → List (List ℕ) → Result (List Placed) SolutionFault
@@ -47,3 +49,7 @@ SolutionSpellsOrBreaks = (i : Problem) (words : List (List ℕ)) → (((t : List
 -- What words spell is a timetable: its numbers are those of the instance.
 abbrev pub SpelledIsTimetable : Type 0
 SpelledIsTimetable = (i : Problem) (words : List (List ℕ)) (t : List Placed) → IsProblem i → SolSpells i words t → IsTimetable i t
+
+-- What is written of a timetable spells it, and no other.
+abbrev pub WrittenSpells : Type 0
+WrittenSpells = (i : Problem) (t : List Placed) → IsProblem i → IsNamed i → IsTimetable i t → SolSpells i (words (soltext i t)) t × ((u : List Placed) → SolSpells i (words (soltext i t)) u → u ≡ t)

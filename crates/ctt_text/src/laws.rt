@@ -2,7 +2,7 @@
 //! computes nothing.
 
 ghost use Rattle.ctt_text.specs.InstanceLaws.{ReadsWhatIsSpelled, SpellsOne, FailsWhereBroken, BreaksOnce, SpellsOrBreaks, SpelledIsProblem, SpelledIsNamed};
-ghost use Rattle.ctt_text.specs.SolutionLaws.{ReadsSolutions, SpellsOneTimetable, SolutionFailsWhereBroken, SolutionBreaksOnce, SolutionSpellsOrBreaks, SpelledIsTimetable};
+ghost use Rattle.ctt_text.specs.SolutionLaws.{ReadsSolutions, SpellsOneTimetable, SolutionFailsWhereBroken, SolutionBreaksOnce, SolutionSpellsOrBreaks, SpelledIsTimetable, WrittenSpells};
 
 /// Reading answers an instance exactly where the words spell it.
 pub fn reads_what_is_spelled()
@@ -68,4 +68,9 @@ pub fn solution_spells_or_breaks()
 /// What words spell is a timetable of the instance.
 pub fn spelled_is_timetable()
     ensures { SpelledIsTimetable }
+{}
+
+/// What is written of a timetable spells it, and no other.
+pub fn written_spells()
+    ensures { WrittenSpells }
 {}

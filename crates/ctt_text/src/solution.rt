@@ -3,5 +3,7 @@
 mod lectures;
 mod places;
 mod read;
+mod write;
 
 pub use read::read_solution;
+pub use write::write_solution;
