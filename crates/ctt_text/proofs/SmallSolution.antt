@@ -2,6 +2,7 @@
 use Rattle.std.proofs.Common.{◌≡◌, ℕ, ◌+◌, ◌%◌, ◌==◌, not, List, [], ◌∷◌, map, take, Ok, Err, refl}
 use Rattle.std.specs.Prelude.{codes, filter}
 use Rattle.std.specs.List.{range_with_len}
+use Rattle.std.specs.Fmt.{digits}
 use Rattle.ctt_text.specs.declared.placed.Placed.{Placed}
 use Rattle.ctt_text.specs.declared.fault.SolutionFault.TheVariants.{Cut, UnknownCourse, UnknownRoom, BadNumber, DayOut, PeriodOut, Repeated}
 use Rattle.ctt_text.specs.Words.{words, is_blank}
@@ -10,6 +11,7 @@ use Rattle.ctt_text.specs.Places.{one, known_name, number_if}
 use Rattle.ctt_text.specs.SolutionPlaces.{free_slot, entry, begun}
 use Rattle.ctt_text.specs.SolutionText.{SolSpells}
 use Rattle.ctt_text.specs.SolutionLaws.{solution_answer}
+use Rattle.ctt_text.specs.Written.{soltext}
 use Rattle.ctt_text.proofs.SolutionLaws.{reads_solutions}
 use Rattle.ctt_text.proofs.SmallInstance.{small_instance}
 
@@ -76,3 +78,8 @@ late_day = refl
 late_period : solution_answer small_instance (words (codes "alg A 0 3")) ≡ Err (PeriodOut 4)
 unfolding read ◌>>=◌ times words is_blank one known_name number_if free_slot entry begun small_instance
 late_period = refl
+
+-- what is written of the five lectures
+written : soltext small_instance lectures ≡ codes "alg A 0 0\nalg B 1 0\ngeo A 0 1\ngeo A 1 2\ntop B 0 2\n"
+unfolding small_instance at lectures digits
+written = refl

@@ -1,5 +1,5 @@
 -- What is written of a timetable.
-use Rattle.std.proofs.Common.{◌≡◌, ℕ, zero, suc, ◌+◌, ◌*◌, ◌/◌, ◌%◌, ◌^◌, ◌<◌, ◌≤◌, List, [], ◌∷◌, ◌++◌, length, map, flat_map, Bool, true, false, cond, not, ◌&&◌, ◌||◌, ◌==◌, refl, sym, ap, subst, ◌∙◌, arith, rules, append_assoc, true≢false}
+use Rattle.std.proofs.Common.{◌≡◌, ℕ, zero, suc, ◌+◌, ◌*◌, ◌^◌, ◌<◌, ◌≤◌, List, [], ◌∷◌, ◌++◌, length, map, flat_map, Bool, true, false, cond, not, ◌&&◌, ◌||◌, ◌==◌, refl, sym, ap, subst, ◌∙◌, arith, rules, append_assoc, true≢false}
 use Rattle.std.specs.Prelude.{codes, fold, slice_index_or}
 use Rattle.std.specs.List.{list_any, list_all, position_or_len, AllByRecursion as Each}
 use Rattle.std.specs.Str.{bytes_eq}
@@ -12,10 +12,10 @@ use Rattle.std.proofs.lemmas.Bool.Decides.{nat_tests}
 use Rattle.std.proofs.lemmas.Str.Parse.{IsNumeralModel, numerals_by_fold}
 use Rattle.ctt_text.specs.declared.placed.Placed.{Placed}
 use Rattle.ctt_text.specs.Numbers.{is_digit, with_digit, value}
-use Rattle.ctt_text.specs.Words.{words, is_blank, begins_word, grow}
+use Rattle.ctt_text.specs.Words.{words, is_blank, grow}
 use Rattle.ctt_text.specs.Problem.{Problem, IsProblem, is_among, place_of, day_of, period_of}
 use Rattle.ctt_text.specs.Named.{IsWord, IsNamed}
-use Rattle.ctt_text.specs.Timetable.{Fits, before, Ascending, IsTimetable}
+use Rattle.ctt_text.specs.Timetable.{Fits, before, Ascending}
 use Rattle.ctt_text.specs.InstanceText.{AreNew, AreDistinct, IsNumber}
 use Rattle.ctt_text.specs.SolutionText.{EntryWords, spelled_entry, IsEntry, lecture_of, AreApart, SolSpells}
 use Rattle.ctt_text.specs.Written.{words_of, line_of, soltext}
@@ -174,10 +174,10 @@ module _ (i : Problem) (is : IsProblem i) (named : IsNamed i) where
   text_words (l ∷ t) each =
       let s = split l.slot each.0.1 in
       line_words (words_of i l) (soltext i t)
-          (Each-at IsWord i.course_names named.courses.1 l.course [] (course_below l each.0))
-          (Each-at IsWord i.room_names named.rooms.1 l.room [] (room_below l each.0))
-          (decimal_word (day_of i l.slot) (omega (arith, s.small_day)))
-          (decimal_word (period_of i l.slot) (omega (arith, s.small_period)))
+      (Each-at IsWord i.course_names named.courses.1 l.course [] (course_below l each.0))
+      (Each-at IsWord i.room_names named.rooms.1 l.room [] (room_below l each.0))
+      (decimal_word (day_of i l.slot) (omega (arith, s.small_day)))
+      (decimal_word (period_of i l.slot) (omega (arith, s.small_period)))
       ∙ ap (λ x. spelled_entry (words_of i l) ++ x) (text_words t each.1)
 
 pub written_spells : WrittenSpells

@@ -3,6 +3,8 @@
 mod lectures;
 mod places;
 mod read;
+#[cfg(test)]
+mod tests;
 mod write;
 
 pub use read::read_solution;
