@@ -32,7 +32,7 @@ pub record IsRead {F A : Type 0} (form : Form F A) (words : List (List ℕ)) (n 
   pub fills : Fills form front x.0
 
 -- one place obeys its rule or breaks it
-read_case : {F X : Type 0} (C : Type 0) (o : Option (ℕ → F)) (n : ℕ) (rest r : Result X F) → elim o [ None ↦ rest | Some broken ↦ Err (broken n) ] ≡ r
+pub read_case : {F X : Type 0} (C : Type 0) (o : Option (ℕ → F)) (n : ℕ) (rest r : Result X F) → elim o [ None ↦ rest | Some broken ↦ Err (broken n) ] ≡ r
     → (o ≡ None → rest ≡ r → C) → ((broken : ℕ → F) → o ≡ Some broken → Err (broken n) ≡ r → C) → C
 read_case C None n rest r h obeyed broke = obeyed refl h
 read_case C (Some broken) n rest r h obeyed broke = broke broken refl h
@@ -54,6 +54,7 @@ err_same a b h = cc
 one_later : (n k : ℕ) → n + 1 + k ≡ n + suc k
 one_later n k = omega arith
 
+-- the first word counted
 at_once : (n : ℕ) → n ≡ n + 0
 at_once n = omega arith
 
@@ -111,10 +112,12 @@ breaks_read missing (place rule next) [] (w ∷ ws) n e r h k =
 breaks_read missing (place rule next) (w ∷ before) from n e r h k =
     rw h.0 (breaks_read missing (next w) before from (n + 1) e r h.1 (subst (λ m. Breaks missing r from m e) (sym (one_later n (length before))) k))
 
+-- a rule that was obeyed was not broken
 none_is_some : {X : Type 0} (C : Type 0) (o : Option X) (x : X) → o ≡ None → o ≡ Some x → C
 none_is_some C None x h k = cc
 none_is_some C (Some y) x h k = cc
 
+-- lists that are one have one head and one tail, and none is empty that has a head
 cons_head : {X : Type 0} (x y : X) (xs ys : List X) → x ∷ xs ≡ y ∷ ys → x ≡ y
 cons_head x y xs ys h = cc
 
@@ -141,6 +144,7 @@ places_meet missing (place rule next) (w ∷ b) f (v ∷ b') f' k k' e e' r r' s
 
 -- the answer of a whole reading
 module _ {F A : Type 0} (missing : ℕ → F) (form : Form F A) where
+  -- an answer was read with something left, and a fault as it is
   with_rest : (C : Type 0) (r : Result (A × Left) F) (a : A) → without_rest r ≡ Ok a → ((left : Left) → r ≡ Ok (a, left) → C) → C
   with_rest C (Ok x) a h then = then x.1 (ap (λ q. Ok (q, x.1)) (ok_same x.0 a h))
   with_rest C (Err e) a h then = err_is_ok C a e h
@@ -155,6 +159,7 @@ module _ {F A : Type 0} (missing : ℕ → F) (form : Form F A) where
       let r = read_fills missing form words 1 (a, left) e in
       (r.front, left.words, r.all, r.fills))
 
+  -- and what words at the front fill the form with is the answer
   pub fills_answer : (front rest : List (List ℕ)) (a : A) → Fills form front a → without_rest (read missing form (front ++ rest) 1) ≡ Ok a
   fills_answer front rest a h = ap (λ r. without_rest r) (fills_read missing form front rest 1 a h)
 
@@ -164,6 +169,7 @@ module _ {F A : Type 0} (missing : ℕ → F) (form : Form F A) where
       let b = read_breaks missing form words 1 e (same_fault (read missing form words 1) e h) in
       (1 + length b.before, record { before = b.before; from = b.from; all = b.all; number = omega arith; rule = b.rule; obey = b.obey; breaks = b.breaks })
 
+  -- and the fault of a place which the words break is the fault that is answered
   pub breaks_answer : (words : List (List ℕ)) (k : ℕ) (e : F) → BreaksAt missing form words k e → without_rest (read missing form words 1) ≡ Err e
   breaks_answer words k e b =
       let count : k ≡ 1 + length b.before = b.number ∙ omega arith in

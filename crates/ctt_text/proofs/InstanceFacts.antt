@@ -1,14 +1,13 @@
 -- What is known of an instance that is spelled: its limits and its numbers.
-use Rattle.std.proofs.Common.{◌≡◌, ℕ, ◌+◌, ◌*◌, ◌<◌, ◌≤◌, List, [], ◌∷◌, length, map, Bool, true, false, ◌&&◌, ◌==◌, refl, sym, ap, subst, ◌∙◌, arith}
+use Rattle.std.proofs.Common.{◌≡◌, ℕ, ◌*◌, ◌<◌, ◌≤◌, List, [], ◌∷◌, length, map, true, ◌&&◌, ◌==◌, sym, ap, subst, ◌∙◌}
 use Rattle.std.specs.Prelude.{nat_lt, nat_le}
 use Rattle.std.specs.List.{list_all, AllByRecursion as Each}
 use Rattle.std.specs.Str.{bytes_eq}
 use Rattle.std.proofs.lemmas.List.{length-map}
 use Rattle.std.proofs.lemmas.Bool.{and_parts, leb-true, eqb-true}
-use Rattle.ctt_text.specs.Numbers.{is_digit, is_number, value}
-use Rattle.ctt_text.specs.Lists.{Pairwise, each_once}
-use Rattle.ctt_text.specs.Problem.{Problem, is_among, place_of, IsSmall, IsCourseFacts, AreMembers, IsProblem}
-use Rattle.ctt_text.specs.InstanceText.{CourseWords, RoomWords, CurriculumWords, Given, course_names, teacher_names, IsNumber, IsCourse, IsRoom, IsCurriculum, facts_of, members_of, Obey, SaysInstance, Spells}
+use Rattle.ctt_text.specs.Numbers.{is_digit, value}
+use Rattle.ctt_text.specs.Problem.{is_among, place_of, IsSmall, IsCourseFacts, AreMembers}
+use Rattle.ctt_text.specs.InstanceText.{CourseWords, CurriculumWords, Given, teacher_names, IsNumber, IsCourse, IsRoom, IsCurriculum, facts_of, members_of, Obey, SaysInstance}
 use Rattle.ctt_text.specs.InstanceLaws.{SpelledIsProblem}
 use Rattle.ctt_text.proofs.TimetableLemmas.{Each-map}
 use Rattle.ctt_text.proofs.ListLaws.{Each-mapped, once_each, once_apart, once_found, once_few, place_below, bytes_sound, each_among}
@@ -37,10 +36,12 @@ teachers_known cs = Each-map (λ c. is_among (map (λ c. c.teacher) cs) c.teache
     unmapped P [] each = tt
     unmapped P (c ∷ cs) each = (each.0, unmapped P cs each.1)
 
+-- two facts of each
 Each-both : {X : Type 0} (P Q : X → Type 0) (xs : List X) → Each P xs → Each Q xs → Each (λ x. P x × Q x) xs
 Each-both P Q [] p q = tt
 Each-both P Q (x ∷ xs) p q = ((p.0, q.0), Each-both P Q xs p.1 q.1)
 
+-- the numbers of courses are small, and those of their teachers are numbers of teachers
 facts_are : (cs : List CourseWords) → Each IsCourse cs → Each (IsCourseFacts (length (teacher_names cs))) (map (facts_of (teacher_names cs)) cs)
 facts_are cs each = Each-mapped (IsCourseFacts (length (teacher_names cs))) (facts_of (teacher_names cs)) cs
     (Each-map (λ c. IsCourse c × (is_among (teacher_names cs) c.teacher ≡ true)) (λ c. IsCourseFacts (length (teacher_names cs)) (facts_of (teacher_names cs) c))

@@ -1,7 +1,6 @@
 -- The laws of the texts of instances.
-use Rattle.std.proofs.Common.{◌≡◌, ◌⊎◌, inl, inr, ℕ, List, ◌++◌, Result, Ok, Err, refl, sym, ap, subst, ◌∙◌}
+use Rattle.std.proofs.Common.{◌≡◌, ◌⊎◌, inl, inr, ℕ, List, Ok, Err, sym, ap, subst, ◌∙◌}
 use Rattle.ctt_text.specs.declared.fault.ReadFault.{ReadFault}
-use Rattle.ctt_text.specs.Forms.{without_rest}
 use Rattle.ctt_text.specs.Problem.{Problem}
 use Rattle.ctt_text.specs.InstancePlaces.{instance, missing}
 use Rattle.ctt_text.specs.InstanceText.{spelled, Spells, InstanceBreaksAt}

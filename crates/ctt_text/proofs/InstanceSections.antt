@@ -1,21 +1,19 @@
 -- The header and the sections of an instance: their words, and what they make.
-use Rattle.std.proofs.Common.{◌≡◌, ℕ, ◌+◌, ◌*◌, ◌<◌, ◌≤◌, List, [], ◌∷◌, ◌++◌, length, map, flat_map, Bool, true, false, ◌&&◌, ◌==◌, None, refl, sym, ap, subst, ◌∙◌, append_assoc, mul_comm}
+use Rattle.std.proofs.Common.{◌≡◌, ℕ, ◌+◌, ◌*◌, ◌<◌, List, [], ◌∷◌, ◌++◌, length, map, flat_map, Bool, false, ◌&&◌, ◌==◌, None, refl, sym, ap, subst, ◌∙◌, append_assoc, mul_comm}
 use Rattle.std.specs.Prelude.{fold, replicate, codes, nat_le, get_or}
 use Rattle.std.specs.List.{list_any, AllByRecursion as Each}
 use Rattle.std.specs.Str.{bytes_eq}
 use Rattle.std.proofs.lemmas.List.{append-nil}
 use Rattle.std.proofs.lemmas.Bool.{leb-true, le-leb, and_parts}
 use Rattle.std.proofs.lemmas.Nat.{mul-add-lt}
-use Rattle.ctt_text.specs.declared.fault.ReadFault.{ReadFault}
 use Rattle.ctt_text.specs.declared.fault.ReadFault.TheVariants.{Expected, BadNumber, TooLarge}
 use Rattle.ctt_text.specs.declared.course_facts.CourseFacts.{CourseFacts}
 use Rattle.ctt_text.specs.Numbers.{is_number, value}
 use Rattle.ctt_text.specs.Problem.{place_of}
-use Rattle.ctt_text.specs.Forms.{Form, ◌>>=◌, times, Fills}
-use Rattle.ctt_text.specs.Places.{passing, passing_number, one, any, fixed, number_if, after}
+use Rattle.ctt_text.specs.Forms.{◌>>=◌, times, Fills}
+use Rattle.ctt_text.specs.Places.{passing_number, one, any, fixed, number_if}
 use Rattle.ctt_text.specs.InstancePlaces.{Header, Courses, Rooms, Curricula, number_up_to, period_count, two_counts, calendar, header, with_new, course, room, curriculum, unavailability, no_courses, no_rooms, no_curricula}
-use Rattle.ctt_text.specs.InstanceText.{HeaderWords, CourseWords, RoomWords, CurriculumWords, PairWords, spelled_header, spelled_course, spelled_room, spelled_curriculum, spelled_pair, AreDistinct, IsNumber, IsUpTo, course_names, room_names, curriculum_names, teacher_names, IsCourse, IsRoom, IsCurriculum, IsPair, HeaderObeys, facts_of, members_of, is_listed}
-use Rattle.ctt_text.proofs.FormLaws.{bind_case}
+use Rattle.ctt_text.specs.InstanceText.{HeaderWords, CourseWords, RoomWords, CurriculumWords, PairWords, spelled_header, spelled_course, spelled_room, spelled_curriculum, spelled_pair, AreDistinct, course_names, room_names, curriculum_names, teacher_names, IsCourse, IsRoom, IsCurriculum, IsPair, HeaderObeys, facts_of, members_of, is_listed}
 use Rattle.ctt_text.proofs.SectionLaws.{Section, section_fills, section_taken, entries_fill, entries_taken, list_grown, each_apart, each_together}
 use Rattle.ctt_text.proofs.ListLaws.{grown_once, bytes_sound, place_grown}
 use Rattle.ctt_text.proofs.MarkLaws.{marked, marks_made, marks_many, marks_same, place_in_rows, Row, row_of}
@@ -26,12 +24,15 @@ use Rattle.ctt_text.proofs.InstanceRows.{add_room, room_fills, room_taken, add_c
 abbrev pub rooms_of : List RoomWords → Rooms
 rooms_of given = record { names = room_names given; capacities = map (λ r. value r.capacity) given }
 
+-- rooms are their two lists
 rooms_same : (n n' : List (List ℕ)) (c c' : List ℕ) → n ≡ n' → c ≡ c' → ◌≡◌ {A = Rooms} (record { names = n; capacities = c }) (record { names = n'; capacities = c' })
 rooms_same n n' c c' e0 e1 = rw (e0, e1) refl
 
+-- rooms that are added one by one
 rooms_made : (given : List RoomWords) → fold add_room no_rooms given ≡ rooms_of given
 rooms_made given = rooms_same _ _ _ _ (list_grown add_room (λ s. s.names) (λ w. w.name) (λ s w. refl) given no_rooms) (list_grown add_room (λ s. s.capacities) (λ w. value w.capacity) (λ s w. refl) given no_rooms)
 
+-- rooms of distinct names fill their section, and what fills it is such rooms
 pub rooms_fill : (given : List RoomWords) → AreDistinct (room_names given) → Each IsRoom given → Fills (times room (length given) no_rooms) (flat_map spelled_room given) (rooms_of given)
 rooms_fill = section_fills room spelled_room add_room (λ s. s.names) (λ w. w.name) IsRoom (λ s w. refl) no_rooms rooms_of rooms_made room_fills
 
@@ -42,13 +43,16 @@ rooms_taken = section_taken room spelled_room add_room (λ s. s.names) (λ w. w.
 abbrev pub courses_of : List CourseWords → Courses
 courses_of given = record { names = course_names given; facts = map (facts_of (teacher_names given)) given; teachers = teacher_names given }
 
+-- courses are their three lists
 courses_same : (n n' : List (List ℕ)) (f f' : List CourseFacts) (t t' : List (List ℕ)) → n ≡ n' → f ≡ f' → t ≡ t' → ◌≡◌ {A = Courses} (record { names = n; facts = f; teachers = t }) (record { names = n'; facts = f'; teachers = t' })
 courses_same n n' f f' t t' e0 e1 e2 = rw (e0, e1, e2) refl
 
+-- the teachers of courses that are added one by one
 teachers_added : (given : List CourseWords) (s : Courses) → (fold add_course s given).teachers ≡ fold (with_new bytes_eq) s.teachers (map (λ w. w.teacher) given)
 teachers_added [] s = refl
 teachers_added (w ∷ given) s = teachers_added given (add_course s w)
 
+-- their facts, with the numbers that the teachers have in the end
 facts_added : (given : List CourseWords) (s : Courses) (teachers : List (List ℕ)) → fold (with_new bytes_eq) s.teachers (map (λ w. w.teacher) given) ≡ teachers
     → (fold add_course s given).facts ≡ s.facts ++ map (facts_of teachers) given
 facts_added [] s teachers h = sym (append-nil s.facts)
@@ -58,11 +62,13 @@ facts_added (w ∷ given) s teachers h =
     ∙ append_assoc s.facts (facts_of s.teachers w ∷ []) (map (facts_of teachers) given)
     ∙ ap (λ n. s.facts ++ record { teacher = n; lectures = value w.lectures; min_days = value w.min_days; students = value w.students } ∷ map (facts_of teachers) given) at
 
+-- courses that are added one by one
 courses_made : (given : List CourseWords) → fold add_course no_courses given ≡ courses_of given
 courses_made given =
     let teachers : fold (with_new bytes_eq) [] (map (λ (w : CourseWords). w.teacher) given) ≡ teacher_names given = grown_once bytes_eq bytes_sound (map (λ w. w.teacher) given) in
     courses_same _ _ _ _ _ _ (list_grown add_course (λ s. s.names) (λ w. w.name) (λ s w. refl) given no_courses) (facts_added given no_courses (teacher_names given) teachers) (teachers_added given no_courses ∙ teachers)
 
+-- courses of distinct names fill their section, and what fills it is such courses
 pub courses_fill : (given : List CourseWords) → AreDistinct (course_names given) → Each IsCourse given → Fills (times course (length given) no_courses) (flat_map spelled_course given) (courses_of given)
 courses_fill = section_fills course spelled_course add_course (λ s. s.names) (λ w. w.name) IsCourse (λ s w. refl) no_courses courses_of courses_made course_fills
 
@@ -71,15 +77,19 @@ courses_taken = section_taken course spelled_course add_course (λ s. s.names) (
 
 -- curricula, of courses with these names
 module _ (names : List (List ℕ)) where
+  -- what curricula make
   abbrev pub curricula_of : List CurriculumWords → Curricula
   curricula_of given = record { names = curriculum_names given; members = map (members_of names) given }
 
+  -- curricula are their two lists
   curricula_same : (n n' : List (List ℕ)) (m m' : List (List ℕ)) → n ≡ n' → m ≡ m' → ◌≡◌ {A = Curricula} (record { names = n; members = m }) (record { names = n'; members = m' })
   curricula_same n n' m m' e0 e1 = rw (e0, e1) refl
 
+  -- curricula that are added one by one
   curricula_made : (given : List CurriculumWords) → fold (add_curriculum names) no_curricula given ≡ curricula_of given
   curricula_made given = curricula_same _ _ _ _ (list_grown (add_curriculum names) (λ s. s.names) (λ w. w.name) (λ s w. refl) given no_curricula) (list_grown (add_curriculum names) (λ s. s.members) (members_of names) (λ s w. refl) given no_curricula)
 
+  -- curricula of distinct names fill their section, and what fills it is such curricula
   pub curricula_fill : (given : List CurriculumWords) → AreDistinct (curriculum_names given) → Each (IsCurriculum names) given
       → Fills (times (curriculum names) (length given) no_curricula) (flat_map spelled_curriculum given) (curricula_of given)
   curricula_fill = section_fills (curriculum names) spelled_curriculum (add_curriculum names) (λ s. s.names) (λ w. w.name) (IsCurriculum names) (λ s w. refl) no_curricula curricula_of curricula_made (curriculum_fills names)
@@ -90,10 +100,12 @@ module _ (names : List (List ℕ)) where
 
   -- unavailability
   module _ (days periods : ℕ) where
+    -- pairs fill their section, and mark the table
     pub pairs_fill : (given : List PairWords) (s : List Bool) → Each (IsPair names days periods) given
         → Fills (times (unavailability names days periods) (length given) s) (flat_map spelled_pair given) (marked (mark_of names days periods) s given)
     pairs_fill given s each = entries_fill (unavailability names days periods) spelled_pair (add_pair names days periods) (FitsPair names days periods) (pair_fills names days periods) given s (each_together (add_pair names days periods) (IsPair names days periods) given s each)
 
+    -- the pairs of a section, and the table that they mark
     pub record Pairs (n : ℕ) (s : List Bool) (words : List (List ℕ)) (t : List Bool) : Type 0 where
       pub given : List PairWords
       pub count : length given ≡ n
@@ -101,6 +113,7 @@ module _ (names : List (List ℕ)) where
       pub each : Each (IsPair names days periods) given
       pub gives : marked (mark_of names days periods) s given ≡ t
 
+    -- what fills the section is pairs
     pub pairs_taken : (n : ℕ) (s : List Bool) (words : List (List ℕ)) (t : List Bool) → Fills (times (unavailability names days periods) n s) words t → Pairs n s words t
     pairs_taken n s words t h =
         let r = entries_taken (unavailability names days periods) spelled_pair (add_pair names days periods) (FitsPair names days periods) (pair_taken names days periods) n s words t h in
@@ -119,6 +132,7 @@ module _ (names : List (List ℕ)) where
       abbrev pub table_of : List Bool
       table_of = marked (mark_of names days periods) (replicate (courses * (days * periods)) false) pairs
 
+      -- of so many marks
       pub table_many : length table_of ≡ courses * (days * periods)
       table_many = marks_many (mark_of names days periods) (courses * (days * periods)) pairs
 
@@ -140,6 +154,7 @@ module _ (names : List (List ℕ)) where
 abbrev pub header_of : HeaderWords → Header
 header_of h = record { name = h.name; courses = value h.courses; rooms = value h.rooms; days = value h.days; periods = value h.periods; curricula = value h.curricula; constraints = value h.constraints }
 
+-- a header within the limits fills its fourteen places
 pub header_fills : (h : HeaderWords) → HeaderObeys h → Fills header (spelled_header h) (header_of h)
 unfolding header two_counts calendar number_up_to period_count number_if fixed any one ◌>>=◌
 header_fills h o =
@@ -147,12 +162,14 @@ header_fills h o =
     = rw (o.periods.0, le-leb (value h.periods) 2000 o.periods.1, le-leb (value h.days * value h.periods) 2000 o.slots) refl in
     (refl, (refl, (refl, (up_to_passes BadNumber TooLarge h.courses 2000 o.courses, (refl, (up_to_passes BadNumber TooLarge h.rooms 1000 o.rooms, (refl, (up_to_passes BadNumber TooLarge h.days 2000 o.days, (refl, (periods, (refl, (up_to_passes BadNumber TooLarge h.curricula 20000 o.curricula, (refl, (up_to_passes BadNumber TooLarge h.constraints 2000000 o.constraints, refl))))))))))))))
 
+-- the given words of a header
 pub record HeaderTaken (words : List (List ℕ)) (x : Header) : Type 0 where
   pub given : HeaderWords
   pub all : words ≡ spelled_header given
   pub obeys : HeaderObeys given
   pub gives : header_of given ≡ x
 
+-- what fills them is such a header
 pub header_taken : (words : List (List ℕ)) (x : Header) → Fills header words x → HeaderTaken words x
 unfolding header two_counts calendar number_up_to period_count number_if fixed any one ◌>>=◌
 header_taken ([]) x h = absurd h

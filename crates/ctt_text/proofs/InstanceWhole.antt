@@ -1,7 +1,6 @@
 -- The whole text of an instance: what fills its form is what is spelled.
-use Rattle.std.proofs.Common.{◌≡◌, ℕ, ◌+◌, ◌*◌, ◌<◌, List, [], ◌∷◌, ◌++◌, length, map, flat_map, Bool, true, false, ◌&&◌, refl, sym, ap, subst, ◌∙◌}
-use Rattle.std.specs.Prelude.{codes, replicate, get_or, nat_lt}
-use Rattle.std.specs.List.{list_any}
+use Rattle.std.proofs.Common.{◌≡◌, ℕ, ◌+◌, ◌*◌, ◌<◌, List, [], ◌∷◌, ◌++◌, length, map, flat_map, Bool, false, refl, sym, ap, subst, ◌∙◌}
+use Rattle.std.specs.Prelude.{codes, get_or}
 use Rattle.std.proofs.lemmas.List.{length-map}
 use Rattle.std.proofs.lemmas.Bool.{lt-ltb}
 use Rattle.ctt_text.specs.declared.fault.ReadFault.{ReadFault}
@@ -12,7 +11,7 @@ use Rattle.ctt_text.specs.Problem.{Problem, is_unavailable}
 use Rattle.ctt_text.specs.Forms.{Form, done, ◌>>=◌, times, Fills}
 use Rattle.ctt_text.specs.Places.{one, fixed, after}
 use Rattle.ctt_text.specs.InstancePlaces.{Header, Courses, Rooms, Curricula, header, course, room, curriculum, unavailability, no_courses, no_rooms, no_curricula, all_available, problem_of, instance}
-use Rattle.ctt_text.specs.InstanceText.{Given, spelled_header, spelled_course, spelled_room, spelled_curriculum, spelled_pair, spelled, course_names, facts_of, members_of, is_listed, Obey, SaysInstance, Spells}
+use Rattle.ctt_text.specs.InstanceText.{Given, spelled_header, spelled_course, spelled_room, spelled_curriculum, spelled_pair, spelled, course_names, facts_of, members_of, Obey, SaysInstance, Spells}
 use Rattle.ctt_text.proofs.FormLaws.{fills_both, bind_case}
 use Rattle.ctt_text.proofs.InstanceSections.{header_of, header_fills, header_taken, rooms_of, rooms_fill, rooms_taken, courses_of, courses_fill, courses_taken, curricula_of, curricula_fill, curricula_taken, pairs_fill, pairs_taken, table_of, table_many, table_says, table_same}
 use Rattle.ctt_text.proofs.PlaceLaws.{is_fixed, after_case}
@@ -31,6 +30,7 @@ periods_of g = value g.head.periods
 abbrev table : Given → List Bool
 table g = table_of (course_names g.courses) (days_of g) (periods_of g) (value g.head.courses) g.pairs
 
+-- problems are their fields
 problem_same : (n n' : List ℕ) (cn cn' : List (List ℕ)) (c c' : List CourseFacts) (t t' rn rn' : List (List ℕ)) (r r' : List ℕ) (qn qn' q q' : List (List ℕ)) (d d' p p' : ℕ) (u : List Bool)
     → n ≡ n' → cn ≡ cn' → c ≡ c' → t ≡ t' → rn ≡ rn' → r ≡ r' → qn ≡ qn' → q ≡ q' → d ≡ d' → p ≡ p'
     → ◌≡◌ {A = Problem}
@@ -68,6 +68,7 @@ table_is_said g o marks says =
     (says.marks ∙ ap (λ n. n * (days_of g * periods_of g)) many)
     (λ c s known lt. sym (looked_up (said g marks) c s lt) ∙ says.unavailable c s (subst (λ n. c < n) (sym many) known) lt)
 
+-- the given words say the instance with the table that their pairs make
 says_table : (g : Given) → Obey g → SaysInstance g (said g (table g))
 says_table g o =
     let many : length (said g (table g)).courses ≡ value g.head.courses = courses_many g o in
@@ -112,6 +113,7 @@ spelled_fills g o =
           ),
     )
 
+-- what spells an instance fills the form with it
 pub instance_fills : (g : Given) → Obey g → (i : Problem) → SaysInstance g i → Fills instance (spelled g) i
 instance_fills g o i says =
     let is : i ≡ said g i.unavailable = is_said g i says in
@@ -135,6 +137,7 @@ from_rooms head courses = after Expected (codes "ROOMS:") (times room head.rooms
 abbrev from_courses : Header → Form ReadFault Problem
 from_courses head = after Expected (codes "COURSES:") (times course head.courses no_courses) >>= from_rooms head
 
+-- what fills the end is its word
 end_taken : (x i : Problem) (words : List (List ℕ)) → Fills (fixed Expected (codes "END.") >>= λ _. done x) words i → (words ≡ codes "END." ∷ []) × (x ≡ i)
 unfolding fixed one ◌>>=◌
 end_taken x i [] h = absurd h

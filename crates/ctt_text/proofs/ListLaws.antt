@@ -1,5 +1,5 @@
 -- Lists of which each element is taken once, and the places of names.
-use Rattle.std.proofs.Common.{◌≡◌, ℕ, suc, ◌+◌, ◌≤◌, ◌<◌, List, [], ◌∷◌, ◌++◌, length, map, Bool, true, false, cond, not, ◌||◌, refl, sym, ap, subst, ◌∙◌, append_assoc, arith}
+use Rattle.std.proofs.Common.{◌≡◌, ℕ, ◌+◌, ◌≤◌, ◌<◌, List, [], ◌∷◌, ◌++◌, length, map, Bool, true, false, cond, not, ◌||◌, refl, sym, ap, ◌∙◌, append_assoc, arith}
 use Rattle.std.specs.Prelude.{fold, filter}
 use Rattle.std.specs.List.{list_any, position_or_len, AllByRecursion as Each}
 use Rattle.std.specs.Str.{bytes_eq}
@@ -11,12 +11,8 @@ use Rattle.ctt_text.specs.Lists.{Pairwise, each_once}
 use Rattle.ctt_text.specs.Problem.{is_among, place_of}
 use Rattle.ctt_text.specs.InstancePlaces.{with_new}
 use Rattle.ctt_text.proofs.NameLemmas.{any_by_place}
+use Rattle.ctt_text.proofs.TableLemmas.{bool_case}
 use Rattle.ctt_text.proofs.TimetableLemmas.{Each-map}
-
--- by cases
-pub by_cases : (C : Type 0) (b : Bool) → (b ≡ true → C) → (b ≡ false → C) → C
-by_cases C true so otherwise = so refl
-by_cases C false so otherwise = otherwise refl
 
 -- what holds of each that a function gives, and of each in a part of a list
 pub Each-mapped : {X Y : Type 0} (P : Y → Type 0) (f : X → Y) (xs : List X) → Each (λ x. P (f x)) xs → Each P (map f xs)
@@ -34,34 +30,38 @@ Each-rest P (x ∷ xs) ys each = Each-rest P xs ys each.1
 -- what holds of each holds of those that a filter keeps
 Each-filter : {X : Type 0} (P : X → Type 0) (test : X → Bool) (xs : List X) → Each P xs → Each P (filter test xs)
 Each-filter P test [] each = tt
-Each-filter P test (x ∷ xs) each = by_cases _ (test x) (λ is. rw is (each.0, Each-filter P test xs each.1)) (λ isnt. rw isnt (Each-filter P test xs each.1))
+Each-filter P test (x ∷ xs) each = bool_case _ (test x) (λ is. rw is (each.0, Each-filter P test xs each.1)) (λ isnt. rw isnt (Each-filter P test xs each.1))
 
+-- what holds of each two holds of those that a filter keeps
 Pairwise-filter : {X : Type 0} (R : X → X → Type 0) (test : X → Bool) (xs : List X) → Pairwise R xs → Pairwise R (filter test xs)
 Pairwise-filter R test [] pairs = tt
-Pairwise-filter R test (x ∷ xs) pairs = by_cases _ (test x) (λ is. rw is (Each-filter (R x) test xs pairs.0, Pairwise-filter R test xs pairs.1)) (λ isnt. rw isnt (Pairwise-filter R test xs pairs.1))
+Pairwise-filter R test (x ∷ xs) pairs = bool_case _ (test x) (λ is. rw is (Each-filter (R x) test xs pairs.0, Pairwise-filter R test xs pairs.1)) (λ isnt. rw isnt (Pairwise-filter R test xs pairs.1))
 
+-- those that a filter keeps pass its test
 Each-passes : {X : Type 0} (test : X → Bool) (xs : List X) → Each (λ x. test x ≡ true) (filter test xs)
 Each-passes test [] = tt
-Each-passes test (x ∷ xs) = by_cases _ (test x) (λ is. rw is (is, Each-passes test xs)) (λ isnt. rw isnt (Each-passes test xs))
+Each-passes test (x ∷ xs) = bool_case _ (test x) (λ is. rw is (is, Each-passes test xs)) (λ isnt. rw isnt (Each-passes test xs))
 
+-- they are no more than there were
 length-filter : {X : Type 0} (test : X → Bool) (xs : List X) → length (filter test xs) ≤ length xs
 length-filter test [] = omega arith
 length-filter test (x ∷ xs) =
     let rest : length (filter test xs) ≤ length xs = length-filter test xs in
-    by_cases _ (test x) (λ is. rw is (omega arith)) (λ isnt. rw isnt (omega arith))
+    bool_case _ (test x) (λ is. rw is (omega arith)) (λ isnt. rw isnt (omega arith))
 
 module _ {X : Type 0} (same : X → X → Bool) (sound : (x y : X) → same x y ≡ true → x ≡ y) where
   -- those that s has not
   abbrev left : List X → List X → List X
   left s xs = filter (λ y. not (list_any (same y) s)) xs
 
+  -- those that are not x
   abbrev others : X → List X → List X
   others x xs = filter (λ y. not (same y x)) xs
 
   -- what is there already need not be taken out twice
   twice : (s : List X) (x : X) → list_any (same x) s ≡ true → (xs : List X) → left s xs ≡ left s (others x xs)
   twice s x there [] = refl
-  twice s x there (y ∷ ys) = by_cases _ (same y x)
+  twice s x there (y ∷ ys) = bool_case _ (same y x)
       (λ is.
       let gone : list_any (same y) s ≡ true = ap (λ q. list_any (same q) s) (sound y x is) ∙ there in
       rw (is, gone) (twice s x there ys))
@@ -70,7 +70,7 @@ module _ {X : Type 0} (same : X → X → Bool) (sound : (x y : X) → same x y 
   -- one more to be taken out
   one_out : (s : List X) (x : X) (xs : List X) → left (s ++ x ∷ []) xs ≡ left s (others x xs)
   one_out s x [] = refl
-  one_out s x (y ∷ ys) = by_cases _ (same y x)
+  one_out s x (y ∷ ys) = bool_case _ (same y x)
       (λ is.
       let gone : list_any (same y) (s ++ x ∷ []) ≡ true = list_any-append (same y) s (x ∷ []) ∙ at_end (list_any (same y) s) (same y x) is in
       rw (is, gone) (one_out s x ys))
@@ -89,10 +89,11 @@ module _ {X : Type 0} (same : X → X → Bool) (sound : (x y : X) → same x y 
   -- a list that grew by what was new in xs, has those of xs that it had not
   pub grown : (xs s : List X) → fold (with_new same) s xs ≡ s ++ left s (each_once same xs)
   grown [] s = sym (append-nil s)
-  grown (x ∷ xs) s = by_cases _ (list_any (same x) s)
+  grown (x ∷ xs) s = bool_case _ (list_any (same x) s)
       (λ there. rw there (grown xs s ∙ ap (λ r. s ++ r) (twice s x there (each_once same xs))))
       (λ new. rw new (grown xs (s ++ x ∷ []) ∙ append_assoc s (x ∷ []) (left (s ++ x ∷ []) (each_once same xs)) ∙ ap (λ r. s ++ x ∷ r) (one_out s x (each_once same xs))))
 
+  -- the empty list has none of them
   all_left : (xs : List X) → left [] xs ≡ xs
   all_left [] = refl
   all_left (x ∷ xs) = ap (λ r. x ∷ r) (all_left xs)
@@ -108,7 +109,7 @@ module _ {X : Type 0} (same : X → X → Bool) (sound : (x y : X) → same x y 
 
   -- two that differ do so either way
   pub apart_turned : (x y : X) → same x y ≡ false → same y x ≡ false
-  apart_turned x y h = by_cases _ (same y x)
+  apart_turned x y h = bool_case _ (same y x)
       (λ is.
       let e : y ≡ x = sound y x is in
       absurd (both_ways (same x y) h (ap (λ q. same x q) e ∙ ap (λ q. same q x) (sym e) ∙ is)))
@@ -125,7 +126,7 @@ module _ {X : Type 0} (same : X → X → Bool) (sound : (x y : X) → same x y 
   -- what another than x is found among, it is found among without x
   found_without : (x z : X) → same z x ≡ false → (ys : List X) → list_any (same z) (others x ys) ≡ list_any (same z) ys
   found_without x z isnt [] = refl
-  found_without x z isnt (y ∷ ys) = by_cases _ (same y x)
+  found_without x z isnt (y ∷ ys) = bool_case _ (same y x)
       (λ gone.
       let other : same z y ≡ false = ap (λ q. same z q) (sound y x gone) ∙ isnt in
       rw (gone, other) (found_without x z isnt ys))
@@ -134,7 +135,7 @@ module _ {X : Type 0} (same : X → X → Bool) (sound : (x y : X) → same x y 
   -- each is among those that are taken
   pub once_found : (xs : List X) (z : X) → list_any (same z) (each_once same xs) ≡ list_any (same z) xs
   once_found [] z = refl
-  once_found (x ∷ xs) z = by_cases _ (same z x)
+  once_found (x ∷ xs) z = bool_case _ (same z x)
       (λ is. rw is refl)
       (λ isnt. rw isnt (found_without x z isnt (each_once same xs) ∙ once_found xs z))
 
@@ -167,6 +168,7 @@ place_new test (x ∷ xs) y ys h is = by (test x) h (λ k. place_new test xs y y
     by true h rest = refl
     by false h rest = ap (λ n. 1 + n) (rest h)
 
+-- the test of bytes is true of equal bytes alone
 pub same_bytes : (xs : List ℕ) → bytes_eq xs xs ≡ true
 same_bytes xs = (bytes_eq-Decides xs xs).1 refl
 
@@ -183,6 +185,6 @@ each_among (name ∷ names) = (
 
 -- the number of a name, once it is given, is its number among all
 pub place_grown : (name : List ℕ) (names more : List (List ℕ)) → place_of (fold (with_new bytes_eq) (with_new bytes_eq names name) more) name ≡ place_of names name
-place_grown name names more = by_cases _ (is_among names name)
+place_grown name names more = bool_case _ (is_among names name)
     (λ there. rw there (ap (λ q. place_of q name) (grown bytes_eq bytes_sound more names) ∙ place_kept (bytes_eq name) names _ there))
     (λ new. rw new (ap (λ q. place_of q name) (grown bytes_eq bytes_sound more (names ++ name ∷ []) ∙ append_assoc names (name ∷ []) _) ∙ place_new (bytes_eq name) names name _ new (same_bytes name)))

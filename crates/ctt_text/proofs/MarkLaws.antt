@@ -1,23 +1,24 @@
 -- Marks at places of a table.
 use Rattle.std.proofs.Common.{◌≡◌, ℕ, ◌+◌, ◌*◌, ◌/◌, ◌%◌, ◌<◌, List, [], ◌∷◌, length, Bool, true, false, ◌||◌, ◌&&◌, ◌==◌, refl, sym, ap, subst, ◌∙◌, arith}
 use Rattle.std.specs.Prelude.{fold, replicate, get_or, slice_set}
-use Rattle.std.specs.List.{list_any, AllByRecursion as Each}
+use Rattle.std.specs.List.{list_any}
 use Rattle.std.proofs.lemmas.List.{get_or-set_other, length-set, get_or-replicate, length-replicate, ext_get_or}
 use Rattle.std.proofs.lemmas.Grind.{get_or-set_at}
-use Rattle.std.proofs.lemmas.Bool.{eqb-true, eqb-false, eq-eqb, ne_eqb, and_parts, true_from_ne_false}
-use Rattle.std.proofs.lemmas.Bool.Decides.{same_from_decides, Decides-eqb}
-use Rattle.std.proofs.lemmas.Nat.{same_from_place, mul-add-lt, div-add-mod', div_below, mod_below}
-use Rattle.ctt_text.proofs.ListLaws.{by_cases}
+use Rattle.std.proofs.lemmas.Bool.{eqb-true, eqb-false, eq-eqb, and_parts}
+use Rattle.std.proofs.lemmas.Nat.{same_from_place, div-add-mod', div_below, mod_below}
+use Rattle.ctt_text.proofs.TableLemmas.{bool_case}
 
 module _ {W : Type 0} (place : W → ℕ) where
   -- the table with a mark at the place of each
   abbrev pub marked : List Bool → List W → List Bool
   marked table ws = fold (λ s w. slice_set s (place w) true) table ws
 
+  -- as long as the table was
   pub marked_length : (ws : List W) (s : List Bool) → length (marked s ws) ≡ length s
   marked_length [] s = refl
   marked_length (w ∷ ws) s = marked_length ws (slice_set s (place w) true) ∙ length-set s (place w) true
 
+  -- a mark more changes the place where it stands, and no other
   mark_here : (a b c : Bool) → b ≡ true → (a || true) ≡ (b || a || c)
   mark_here true b c h = rw h refl
   mark_here false b c h = rw h refl
@@ -31,7 +32,7 @@ module _ {W : Type 0} (place : W → ℕ) where
   marked_at (w ∷ ws) s k lt =
       let rest : get_or (marked s (w ∷ ws)) k false ≡ (list_any (λ w. place w == k) ws || get_or (slice_set s (place w) true) k false)
       = marked_at ws (slice_set s (place w) true) k (subst (λ n. k < n) (sym (length-set s (place w) true)) lt) in
-      by_cases _ (place w == k)
+      bool_case _ (place w == k)
       (λ is.
       let e : place w ≡ k = eqb-true (place w) k is in
       let here : get_or (slice_set s (place w) true) k false ≡ true = get_or-set_at s (place w) k true false (sym e) (subst (λ n. n < length s) (sym e) lt) in
@@ -51,6 +52,7 @@ module _ {W : Type 0} (place : W → ℕ) where
       or-false true = refl
       or-false false = refl
 
+  -- of the length of the table
   pub marks_many : (n : ℕ) (ws : List W) → length (marked (replicate n false) ws) ≡ n
   marks_many n ws = marked_length ws (replicate n false) ∙ length-replicate n false
 
@@ -62,11 +64,11 @@ module _ {W : Type 0} (place : W → ℕ) where
 
 -- a place in rows of n is the place of one row and one column
 pub place_in_rows : (n row column row' column' : ℕ) → column < n → column' < n → (row * n + column == row' * n + column') ≡ (row == row' && column == column')
-place_in_rows n row column row' column' in_row in_row' = by_cases _ (row * n + column == row' * n + column')
+place_in_rows n row column row' column' in_row in_row' = bool_case _ (row * n + column == row' * n + column')
     (λ is.
     let e = same_from_place row column row' column' n in_row in_row' (eqb-true (row * n + column) (row' * n + column') is) in
     rw (is, eq-eqb row row' e.0, eq-eqb column column' e.1) refl)
-    (λ isnt. rw isnt (by_cases _ (row == row' && column == column')
+    (λ isnt. rw isnt (bool_case _ (row == row' && column == column')
     (λ both.
     let parts = and_parts (row == row') (column == column') both in
     absurd (eqb-false (row * n + column) (row' * n + column') isnt (rw (eqb-true row row' parts.0, eqb-true column column' parts.1) refl)))
@@ -80,6 +82,7 @@ pub record Row (m n k : ℕ) : Type 0 where
   pub column_below : column < n
   pub place : row * n + column ≡ k
 
+-- by dividing
 pub row_of : (m n k : ℕ) → k < m * n → Row m n k
 row_of m n k lt =
     let some : 0 < n = some_columns n lt in

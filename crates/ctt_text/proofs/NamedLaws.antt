@@ -1,17 +1,16 @@
 -- The names of an instance that a text spells: words of the text, and distinct.
-use Rattle.std.proofs.Common.{◌≡◌, ℕ, ◌<◌, List, [], ◌∷◌, ◌++◌, length, map, flat_map, Bool, true, false, cond, ◌||◌, refl, sym, ap, subst, ◌∙◌, arith}
+use Rattle.std.proofs.Common.{◌≡◌, ℕ, List, [], ◌∷◌, ◌++◌, map, flat_map, Bool, true, false, cond, ◌||◌, refl, sym, subst, ◌∙◌, arith}
 use Rattle.std.specs.Prelude.{codes}
-use Rattle.std.specs.List.{list_any, AllByRecursion as Each}
+use Rattle.std.specs.List.{AllByRecursion as Each}
 use Rattle.std.specs.Str.{bytes_eq}
 use Rattle.std.proofs.lemmas.Bool.{or_from}
 use Rattle.std.proofs.lemmas.List.Folds.{list_any-append}
 use Rattle.ctt_text.specs.Words.{words, is_blank, begins_word, grow}
 use Rattle.ctt_text.specs.Lists.{Pairwise, each_once}
-use Rattle.ctt_text.specs.Problem.{Problem, is_among}
-use Rattle.ctt_text.specs.InstanceText.{CourseWords, RoomWords, CurriculumWords, Given, spelled, spelled_header, spelled_course, spelled_room, spelled_curriculum, spelled_pair, AreNew, AreDistinct, course_names, room_names, curriculum_names, teacher_names, Obey, SaysInstance, Spells}
-use Rattle.ctt_text.specs.Named.{IsWord, AreNames, IsNamed}
+use Rattle.ctt_text.specs.Problem.{is_among}
+use Rattle.ctt_text.specs.InstanceText.{CourseWords, RoomWords, CurriculumWords, Given, spelled, spelled_header, spelled_course, spelled_room, spelled_curriculum, spelled_pair, AreNew, AreDistinct, course_names, room_names, curriculum_names, Obey, SaysInstance}
+use Rattle.ctt_text.specs.Named.{IsWord, AreNames}
 use Rattle.ctt_text.specs.InstanceLaws.{SpelledIsNamed}
-use Rattle.ctt_text.proofs.TimetableLemmas.{Each-map}
 use Rattle.ctt_text.proofs.ListLaws.{Each-front, Each-rest, once_each, once_apart, apart_turned, bytes_sound}
 
 -- a byte in front of words that is not blank
@@ -57,6 +56,7 @@ new_names before (name ∷ names) apart pairs = (apart.0, new_names (before ++ n
     behind [] a b = tt
     behind (n ∷ ns) a b = (list_any-append (bytes_eq n) before (name ∷ []) ∙ or_from (is_among before n) (bytes_eq n name || false) a.0 (or_from (bytes_eq n name) false (apart_turned bytes_eq bytes_sound name n b.0) refl), behind ns a.1 b.1)
 
+-- each once is distinct
 teachers_distinct : (names : List (List ℕ)) → AreDistinct (each_once bytes_eq names)
 teachers_distinct names = new_names [] (each_once bytes_eq names) (all_apart (each_once bytes_eq names)) (once_apart bytes_eq bytes_sound names)
   where

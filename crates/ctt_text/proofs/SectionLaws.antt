@@ -75,6 +75,7 @@ names_apart add names name P more (w ∷ given) s fit =
     let rest = names_apart add names name P more given (add s w) fit.1 in
     ((fit.0.0, subst (λ x. AreNew x (map name given)) (more s w) rest.0), (fit.0.1, rest.1))
 
+-- and back
 pub names_together : {S W : Type 0} (add : S → W → S) (names : S → List (List ℕ)) (name : W → List ℕ) (P : W → Type 0)
     → ((s : S) (w : W) → names (add s w) ≡ names s ++ name w ∷ [])
     → (given : List W) (s : S) → AreNew (names s) (map name given) → Each P given → AllFit add (Named names name P) s given
@@ -87,6 +88,7 @@ pub each_apart : {S W : Type 0} (add : S → W → S) (P : W → Type 0) (given 
 each_apart add P [] s fit = tt
 each_apart add P (w ∷ given) s fit = (fit.0, each_apart add P given (add s w) fit.1)
 
+-- and back
 pub each_together : {S W : Type 0} (add : S → W → S) (P : W → Type 0) (given : List W) (s : S) → Each P given → AllFit add (λ _. P) s given
 each_together add P [] s each = tt
 each_together add P (w ∷ given) s each = (each.0, each_together add P given (add s w) each.1)
@@ -103,11 +105,13 @@ pub record Section {S W : Type 0} (spelled : W → List (List ℕ)) (names : Lis
 -- such a section, both ways
 module _ {F S W : Type 0} (step : S → Form F S) (spelled : W → List (List ℕ)) (add : S → W → S) (names : S → List (List ℕ)) (name : W → List ℕ) (P : W → Type 0)
     (more : (s : S) (w : W) → names (add s w) ≡ names s ++ name w ∷ []) (start : S) (made : List W → S) (is_made : (given : List W) → fold add start given ≡ made given) where
+  -- given words under new names fill the section, and make this
   pub section_fills : ((s : S) (w : W) → Named names name P s w → Fills (step s) (spelled w) (add s w))
       → (given : List W) → AreNew (names start) (map name given) → Each P given → Fills (times step (length given) start) (flat_map spelled given) (made given)
   section_fills one given new each = subst (λ t. Fills (times step (length given) start) (flat_map spelled given) t) (is_made given)
       (entries_fill step spelled add (Named names name P) one given start (names_together add names name P more given start new each))
 
+  -- what fills the section is given words under new names
   pub section_taken : ((s : S) (words : List (List ℕ)) (t : S) → Fills (step s) words t → Entry spelled add (Named names name P) s words t)
       → (n : ℕ) (words : List (List ℕ)) (t : S) → Fills (times step n start) words t → Section spelled (names start) name P made n words t
   section_taken one n words t h =

@@ -2,6 +2,7 @@
 use Rattle.std.specs.Prelude.{◌≡◌, ◌<◌, ◌+◌, ◌*◌, ℕ, List, Bool, false, length, map, get_or}
 use Rattle.std.specs.String.{string_bytes}
 use Rattle.ctt_text.specs.Problem.{Problem, IsProblem, course_count, slot_count, clash}
+use Rattle.ctt_text.specs.Named.{IsNamed}
 use Rattle.ctt_text.specs.declared.instance.Instance.TheInside.{Inside}
 
 abbrev pub problem_in : Inside → Problem
@@ -26,4 +27,5 @@ pub record AreClashes (p : Problem) (marks : List Bool) : Type 0 where
 
 pub record IsInstance (i : Inside) : Type 0 where
   pub problem : IsProblem (problem_in i)
+  pub named : IsNamed (problem_in i)
   pub clashes : AreClashes (problem_in i) i.clashes.items

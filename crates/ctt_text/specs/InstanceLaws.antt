@@ -1,6 +1,9 @@
 -- What holds of each list of words: it spells one instance, or it breaks the form at one place.
 use Rattle.std.specs.Prelude.{◌≡◌, ◌⊎◌, ℕ, List, Result, Ok, Err}
 use Rattle.ctt_text.specs.declared.fault.ReadFault.{ReadFault}
+use Rattle.ctt_text.specs.declared.fault.ReadFault.TheVariants.{NotText, NoMemory}
+use Rattle.std.specs.Str.{IsUtf8}
+use Rattle.std.specs.Str.Lossy.{utf8_valid_len}
 use Rattle.ctt_text.specs.Words.{words}
 use Rattle.ctt_text.specs.Forms.{read, without_rest}
 use Rattle.ctt_text.specs.Problem.{Problem, IsProblem}
@@ -11,6 +14,12 @@ use Rattle.ctt_text.specs.Named.{IsNamed}
 -- what reading the words from the first on answers
 abbrev pub answer : List (List ℕ) → Result Problem ReadFault
 answer words = without_rest (read missing instance words 1)
+
+-- The cause of a fault in a text: NotText names the length of its longest valid beginning, NoMemory comes at any time, and each other fault is that of the place where the words break the form.
+abbrev pub IsCauseOf : List ℕ → ReadFault → Type 0
+IsCauseOf text (NotText byte) = ¬ IsUtf8 text × (byte ≡ utf8_valid_len text)
+IsCauseOf text NoMemory = Unit {0}
+IsCauseOf text fault = IsUtf8 text × ((k : ℕ) × InstanceBreaksAt (words text) k fault)
 
 -- Reading answers an instance exactly where the words spell it.
 abbrev pub ReadsWhatIsSpelled : Type 0

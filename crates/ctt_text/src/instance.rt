@@ -2,6 +2,7 @@
 
 ghost use Rattle.std.specs.Prelude.{◌≡◌, ◌<◌, ◌≤◌, ◌*◌, [], length, slice_index_or};
 ghost use Rattle.ctt_text.specs.Problem.{IsProblem, course_of, capacity_of, members, course_count, room_count, teacher_count, curriculum_count, slot_count, slot_of, day_of, period_of, clash, is_unavailable, number_in};
+ghost use Rattle.ctt_text.specs.Named.{IsNamed};
 
 mod clashes;
 mod courses;
@@ -9,12 +10,14 @@ mod curricula;
 mod header;
 mod members;
 mod places;
+mod read;
 mod rooms;
 mod unavailability;
 
 use crate::course_facts::CourseFacts;
 use crate::ids::{CourseNo, CurriculumNo, RoomNo, SlotNo, TeacherNo};
 use crate::names::Names;
+pub use read::read_instance;
 use std::marker::Model;
 
 /// An instance of curriculum-based course timetabling, as it was read from its file.
@@ -54,6 +57,13 @@ impl Instance {
     /// Computes nothing: its contract says what holds of each instance.
     pub fn limits(&self)
         ensures { IsProblem self.now }
+    {
+        let _days = &self.days;
+    }
+
+    /// Computes nothing: its contract says that all names are words, distinct in their lists.
+    pub fn names(&self)
+        ensures { IsNamed self.now }
     {
         let _days = &self.days;
     }

@@ -18,7 +18,7 @@ mod words;
 pub use course_facts::CourseFacts;
 pub use fault::ReadFault;
 pub use ids::{CourseNo, CurriculumNo, RoomNo, SlotNo, TeacherNo};
-pub use instance::Instance;
+pub use instance::{Instance, read_instance};
 pub use marks::Marks;
 pub use numbers::number;
 pub use placed::Placed;

@@ -1,13 +1,16 @@
 //! The section of the courses.
 
-ghost use Rattle.std.specs.Prelude.{[], ◌≤◌, ◌<◌, ◌+◌, length, IfOk, OnOk};
+ghost use Rattle.std.specs.Prelude.{◌≡◌, [], ◌≤◌, ◌<◌, ◌+◌, length, IfOk, OnOk, codes};
+ghost use Rattle.ctt_text.specs.Places.{after};
+ghost use Rattle.ctt_text.specs.declared.fault.ReadFault.TheVariants.{Expected};
 ghost use Rattle.ctt_text.specs.Forms.{times};
 ghost use Rattle.ctt_text.specs.InstancePlaces.{GivesRead, reads, course, no_courses};
 
 use crate::course_facts::CourseFacts;
 use crate::fault::ReadFault;
 use crate::ids::TeacherNo;
-use crate::instance::places::{read_any, read_new_name, read_number};
+use crate::instance::header::Header;
+use crate::instance::places::{read_any, read_fixed, read_new_name, read_number};
 use crate::names::Names;
 use crate::reader::Reader;
 use std::alloc::Global;
@@ -38,6 +41,7 @@ fn read_one_course(
 ) -> Result<(), ReadFault>
     requires { length section.old.teachers < 2000 }
     ensures teachers { OnOk result (length section.new.teachers ≤ length section.old.teachers + 1) }
+    ensures names { OnOk result (length section.new.names ≡ length section.old.names + 1) }
     ensures exact { GivesRead (λ _. (section.new, reader.new)) result (reads (course section.old) reader.old) }
 {
     let name = read_new_name(reader, &section.names)?;
@@ -57,13 +61,10 @@ fn read_one_course(
 }
 
 /// Reads so many courses.
-pub(crate) fn read_courses(
-    alloc: Global,
-    reader: &mut Reader,
-    count: u32,
-) -> Result<CourseSection, ReadFault>
+fn read_courses(alloc: Global, reader: &mut Reader, count: u32) -> Result<CourseSection, ReadFault>
     requires { count ≤ 2000 }
-    ensures { GivesRead (λ section. (section, reader.new)) result (reads (times course count no_courses) reader.old) }
+    ensures count { IfOk result (λ section. length section.names ≡ count) }
+    ensures exact { GivesRead (λ section. (section, reader.new)) result (reads (times course count no_courses) reader.old) }
 {
     let mut section = CourseSection {
         names: Names::new(alloc),
@@ -74,4 +75,19 @@ pub(crate) fn read_courses(
         read_one_course(alloc, reader, &mut section)?;
     }
     Ok(section)
+}
+
+/// Reads the section: its heading, and as many courses as the header says.
+#[tactic(auto, using(crate::proofs::Steps::read_bind))]
+pub(crate) fn read_course_section(
+    alloc: Global,
+    reader: &mut Reader,
+    header: &Header,
+) -> Result<CourseSection, ReadFault>
+    requires { header.now.courses ≤ 2000 }
+    ensures count { IfOk result (λ section. length section.names ≡ header.now.courses) }
+    ensures exact { GivesRead (λ section. (section, reader.new)) result (reads (after Expected (codes "COURSES:") (times course header.now.courses no_courses)) reader.old) }
+{
+    read_fixed(reader, "COURSES:")?;
+    read_courses(alloc, reader, header.courses)
 }

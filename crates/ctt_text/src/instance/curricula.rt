@@ -1,13 +1,17 @@
 //! The section of the curricula.
 
-ghost use Rattle.std.specs.Prelude.{[], ◌≤◌, length};
+ghost use Rattle.std.specs.Prelude.{[], ◌≤◌, length, codes};
+ghost use Rattle.ctt_text.specs.Places.{after};
+ghost use Rattle.ctt_text.specs.declared.fault.ReadFault.TheVariants.{Expected};
 ghost use Rattle.ctt_text.specs.Forms.{times};
 ghost use Rattle.ctt_text.specs.InstancePlaces.{GivesRead, reads, curriculum, no_curricula};
 
 use crate::fault::ReadFault;
 use crate::ids::CourseNo;
+use crate::instance::courses::CourseSection;
+use crate::instance::header::Header;
 use crate::instance::members::read_members;
-use crate::instance::places::{read_new_name, read_number};
+use crate::instance::places::{read_fixed, read_new_name, read_number};
 use crate::names::Names;
 use crate::reader::Reader;
 use std::alloc::Global;
@@ -49,7 +53,7 @@ fn read_one_curriculum(
 }
 
 /// Reads so many curricula.
-pub(crate) fn read_curricula(
+fn read_curricula(
     alloc: Global,
     reader: &mut Reader,
     courses: &Names,
@@ -66,4 +70,19 @@ pub(crate) fn read_curricula(
         read_one_curriculum(alloc, reader, courses, &mut section)?;
     }
     Ok(section)
+}
+
+/// Reads the section: its heading, and as many curricula as the header says.
+#[tactic(auto, using(crate::proofs::Steps::read_bind))]
+pub(crate) fn read_curriculum_section(
+    alloc: Global,
+    reader: &mut Reader,
+    header: &Header,
+    courses: &CourseSection,
+) -> Result<CurriculumSection, ReadFault>
+    requires { length courses.now.names ≤ 2000 }
+    ensures { GivesRead (λ section. (section, reader.new)) result (reads (after Expected (codes "CURRICULA:") (times (curriculum courses.now.names) header.now.curricula no_curricula)) reader.old) }
+{
+    read_fixed(reader, "CURRICULA:")?;
+    read_curricula(alloc, reader, &courses.names, header.curricula)
 }

@@ -80,8 +80,11 @@ pub(crate) fn read_header<'a>(reader: &mut Reader<'a>) -> Result<Header<'a>, Rea
     let name = read_name(reader)?;
     let (courses, rooms) = read_two_counts(reader, ("Courses:", 2000), ("Rooms:", 1000))?;
     let (days, periods) = read_calendar(reader)?;
-    let (curricula, constraints) =
-        read_two_counts(reader, ("Curricula:", 20_000), ("Constraints:", 2_000_000))?;
+    let (curricula, constraints) = read_two_counts(
+        reader,
+        ("Curricula:", 20_000),
+        ("Constraints:", 2_000_000),
+    )?;
     Ok(Header {
         name,
         courses,

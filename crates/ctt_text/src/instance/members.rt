@@ -64,11 +64,7 @@ impl Members {
 
 /// Reads one member, and adds it to those before it.
 #[tactic(auto, using(crate::proofs::Steps::read_bind, crate::proofs::Steps::read_done), unfolding(crate::specs::InstancePlaces::member))]
-fn read_member(
-    reader: &mut Reader,
-    courses: &Names,
-    members: &mut Members,
-) -> Result<(), ReadFault>
+fn read_member(reader: &mut Reader, courses: &Names, members: &mut Members) -> Result<(), ReadFault>
     requires { length courses.now ≤ 2000 }
     ensures { GivesRead (λ _. (members.new, reader.new)) result (reads (member courses.now members.old) reader.old) }
 {

@@ -143,11 +143,7 @@ pub(crate) fn read_period(reader: &mut Reader, periods: u32) -> Result<u32, Read
 
 /// A fixed word, and then a number of at most `greatest`.
 #[tactic(auto, using(crate::proofs::Steps::read_bind))]
-pub(crate) fn read_count(
-    reader: &mut Reader,
-    label: &str,
-    greatest: u32,
-) -> Result<u32, ReadFault>
+pub(crate) fn read_count(reader: &mut Reader, label: &str, greatest: u32) -> Result<u32, ReadFault>
     ensures limit { IfOk result (λ number. number ≤ greatest) }
     ensures exact { GivesRead (λ number. (number, reader.new)) result (reads (after Expected label.now (number_up_to greatest)) reader.old) }
 {

@@ -1,11 +1,14 @@
 //! The section of the rooms.
 
-ghost use Rattle.std.specs.Prelude.{[]};
+ghost use Rattle.std.specs.Prelude.{[], codes};
+ghost use Rattle.ctt_text.specs.Places.{after};
+ghost use Rattle.ctt_text.specs.declared.fault.ReadFault.TheVariants.{Expected};
 ghost use Rattle.ctt_text.specs.Forms.{times};
 ghost use Rattle.ctt_text.specs.InstancePlaces.{GivesRead, reads, room, no_rooms};
 
 use crate::fault::ReadFault;
-use crate::instance::places::{read_new_name, read_number};
+use crate::instance::header::Header;
+use crate::instance::places::{read_fixed, read_new_name, read_number};
 use crate::names::Names;
 use crate::reader::Reader;
 use std::alloc::Global;
@@ -43,11 +46,7 @@ fn read_one_room(
 }
 
 /// Reads so many rooms.
-pub(crate) fn read_rooms(
-    alloc: Global,
-    reader: &mut Reader,
-    count: u32,
-) -> Result<RoomSection, ReadFault>
+fn read_rooms(alloc: Global, reader: &mut Reader, count: u32) -> Result<RoomSection, ReadFault>
     ensures { GivesRead (λ section. (section, reader.new)) result (reads (times room count no_rooms) reader.old) }
 {
     let mut section = RoomSection {
@@ -58,4 +57,17 @@ pub(crate) fn read_rooms(
         read_one_room(alloc, reader, &mut section)?;
     }
     Ok(section)
+}
+
+/// Reads the section: its heading, and as many rooms as the header says.
+#[tactic(auto, using(crate::proofs::Steps::read_bind))]
+pub(crate) fn read_room_section(
+    alloc: Global,
+    reader: &mut Reader,
+    header: &Header,
+) -> Result<RoomSection, ReadFault>
+    ensures { GivesRead (λ section. (section, reader.new)) result (reads (after Expected (codes "ROOMS:") (times room header.now.rooms no_rooms)) reader.old) }
+{
+    read_fixed(reader, "ROOMS:")?;
+    read_rooms(alloc, reader, header.rooms)
 }

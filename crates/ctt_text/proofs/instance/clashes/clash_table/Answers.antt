@@ -11,5 +11,5 @@ returns-clause-marks c =
     let from : c.deref_mut-2.result.now ≡ c.mark_teachers.new.table = c.deref_mut-2.ensures.value ∙ written c.in_ok-table.table.len c.mark_teachers.new.table _ first in
     let empty : c.deref_mut.result.now ≡ replicate (length c.args.courses.now * length c.args.courses.now) false = search rules in
     rw (written c.in_ok-table.table.len c.mark_curricula.new.table (drop (length c.mark_curricula.new.table) _) second)
-        (clash_marks (λ q. q.items) (teacher_at c.args.courses.now) (length c.args.courses.now) c.deref_mut.result.now c.mark_teachers.new.table c.mark_curricula.new.table c.args.curricula.now (λ x y. rw empty (none_marked (length c.args.courses.now * length c.args.courses.now) (x * length c.args.courses.now + y)))
-            c.mark_teachers.ensures (rw from at c.mark_curricula.ensures))
+    (clash_marks (λ q. q.items) (teacher_at c.args.courses.now) (length c.args.courses.now) c.deref_mut.result.now c.mark_teachers.new.table c.mark_curricula.new.table c.args.curricula.now (λ x y. rw empty (none_marked (length c.args.courses.now * length c.args.courses.now) (x * length c.args.courses.now + y)))
+    c.mark_teachers.ensures (rw from at c.mark_curricula.ensures))

@@ -7,5 +7,6 @@ use Rattle.ctt_text.proofs.instance.courses.read_courses.Given as goal
 abbrev pub invariant-loop : goal.invariant-loop
 invariant-loop l = record {
   so_far : reads (times (course) (l.count - l.counter) l.section) l.reader ≡ reads (times (course) l.count no_courses) l.fn.reader;
+  count : length l.section.names ≡ l.counter;
   few : length l.section.teachers ≤ l.counter;
 }

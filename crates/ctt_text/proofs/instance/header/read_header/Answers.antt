@@ -20,8 +20,8 @@ unfolding header
 returns-in_err-curricula-clause-exact c =
     let p = err_from_is_err_and c.from_residual-in_err-curricula.result c.from_residual-in_err-curricula.ensures.1 in
     rw (p.1, p.2)
-        (fails_there missing wants_memory c.in_err-curricula.field-0.0 (two_counts (codes "Curricula:") 20000 (codes "Constraints:") 2000000) _ c.read_calendar.new.reader _
-            (read_then missing (after Expected (codes "Name:") any) _ c.args.reader.now c.read_name.new.reader c.in_ok-name.name.now c.in_ok-name.ensures
-            ∙ read_then missing (two_counts (codes "Courses:") 2000 (codes "Rooms:") 1000) _ c.read_name.new.reader c.read_two_counts.new.reader (c.in_ok-courses.courses, c.in_ok-courses.rooms) c.in_ok-courses.ensures.exact
-            ∙ read_then missing calendar _ c.read_two_counts.new.reader c.read_calendar.new.reader (c.in_ok-days.days, c.in_ok-days.periods) c.in_ok-days.ensures.exact)
-            c.in_err-curricula.ensures.exact)
+    (fails_there missing wants_memory c.in_err-curricula.field-0.0 (two_counts (codes "Curricula:") 20000 (codes "Constraints:") 2000000) _ c.read_calendar.new.reader _
+    (read_then missing (after Expected (codes "Name:") any) _ c.args.reader.now c.read_name.new.reader c.in_ok-name.name.now c.in_ok-name.ensures
+    ∙ read_then missing (two_counts (codes "Courses:") 2000 (codes "Rooms:") 1000) _ c.read_name.new.reader c.read_two_counts.new.reader (c.in_ok-courses.courses, c.in_ok-courses.rooms) c.in_ok-courses.ensures.exact
+    ∙ read_then missing calendar _ c.read_two_counts.new.reader c.read_calendar.new.reader (c.in_ok-days.days, c.in_ok-days.periods) c.in_ok-days.ensures.exact)
+    c.in_err-curricula.ensures.exact)

@@ -1,7 +1,7 @@
 use Rattle.std.proofs.Common.{◌≡◌, ◌-◌, ◌≤◌, [], length}
 use Rattle.ctt_text.specs.Forms.{times}
 use Rattle.ctt_text.specs.InstancePlaces.{reads, unavailability}
-use Rattle.ctt_text.proofs.instance.unavailability.read_unavailability.Given as goal
+use Rattle.ctt_text.proofs.instance.unavailability.read_periods.Given as goal
 
 -- what was read so far, and the rest read after it, is all
 abbrev pub invariant-loop : goal.invariant-loop

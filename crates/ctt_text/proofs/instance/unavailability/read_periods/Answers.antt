@@ -3,7 +3,7 @@ use Rattle.std.proofs.lemmas.Result.{err_from_is_err_and}
 use Rattle.ctt_text.specs.Forms.{times}
 use Rattle.ctt_text.specs.InstancePlaces.{reads, missing, wants_memory, unavailability}
 use Rattle.ctt_text.proofs.Steps.{goes_on, ends, is_done}
-use Rattle.ctt_text.proofs.instance.unavailability.read_unavailability.Goals as goal
+use Rattle.ctt_text.proofs.instance.unavailability.read_periods.Goals as goal
 
 pub returns-in_err-read_one_period : goal.returns-in_err-read_one_period
 returns-in_err-read_one_period c =

@@ -1,0 +1,28 @@
+use Rattle.std.proofs.Common.{sym, subst, ◌∙◌, ap, length, not, ◌&&◌, ◌||◌, ◌==◌}
+use Rattle.ctt_text.specs.Lists.{has}
+use Rattle.ctt_text.specs.Problem.{IsProblem}
+use Rattle.ctt_text.specs.Named.{IsNamed}
+use Rattle.ctt_text.specs.Tables.{teacher_at}
+use Rattle.ctt_text.proofs.InstanceReading.{members_known, any_mapped}
+use Rattle.ctt_text.proofs.instance.read.Sections.into_instance.Goals as goal
+
+pub clash_table-requires-clause-members : goal.clash_table-requires-clause-members
+clash_table-requires-clause-members c =
+    let same = rw (← c.courses.view_is, ← c.curricula.view_is) at c.self.view_is in
+    let problem = subst IsProblem (sym same) c.requires.problem in
+    rw (c.deref.ensures.value, c.deref-2.ensures.value) (members_known (λ q. q.items) (length c.courses.inside.facts.items) c.curricula.inside.members.items problem.curricula)
+
+pub invariant_of-result : goal.invariant_of-result
+invariant_of-result c =
+    let same = rw (← c.header.view_is, ← c.courses.view_is, ← c.rooms.view_is, ← c.curricula.view_is) at c.self.view_is in
+    let marks = rw (c.deref.ensures.value, c.deref-2.ensures.value) at c.in_ok-clashes.ensures.marks in
+    let size = rw c.deref.ensures.value at c.in_ok-clashes.ensures.size in
+    record {
+      problem = rw c.in_ok-from_str.ensures.ok (subst IsProblem (sym same) c.requires.problem);
+      named = rw c.in_ok-from_str.ensures.ok (subst IsNamed (sym same) c.requires.named);
+      clashes = record {
+        size = size;
+        mark = λ a b la lb. marks a b la lb
+            ∙ ap (λ any. not (a == b) && (teacher_at c.courses.inside.facts.items a == teacher_at c.courses.inside.facts.items b || any)) (sym (any_mapped (λ q. has a q && has b q) (λ q. q.items) c.curricula.inside.members.items));
+      };
+    }
