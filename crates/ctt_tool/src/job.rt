@@ -1,12 +1,13 @@
 //! The words of the command line, and the job that they ask for.
 
-ghost use Rattle.std.specs.Prelude.{◌≡◌, false, map, IfOk};
-ghost use Rattle.clap.specs.Words.{rule_of};
+ghost use Rattle.std.specs.Prelude.{◌≡◌, [], false, Some, map, codes, IfOk, IfErr, OnOk};
+ghost use Rattle.clap.specs.Words.{found_of, kind_of, rows_of, rule_of, subcommand_rows_of};
 ghost use Rattle.ctt_tool.specs.CommandLine.{IsCommand, check, flag, required_word, timedesk};
-ghost use Rattle.ctt_tool.specs.Jobs.{IsJobOf};
+ghost use Rattle.ctt_tool.specs.Jobs.{IsJobBy, IsJobOf, IsOfKind, IsOfKinds, IsWhole, NamesFiles, faults_of};
+ghost use Rattle.ctt_tool.specs.declared.job.WordsFault.TheVariants.{NoMemory};
 
 use clap::error::ErrorKind;
-use clap::{Arg, ArgAction, Command};
+use clap::{Arg, ArgAction, ArgMatches, Command};
 use std::alloc::{AllocError, Global};
 
 /// What the program is asked to do. Files are given by their names.
@@ -89,7 +90,9 @@ fn command_line<'a>(alloc: Global) -> Result<Command<'a>, AllocError>
 }
 
 /// The fault that `clap` found in the words.
-fn fault_of_words(alloc: Global, error: clap::Error) -> WordsFault {
+fn fault_of_words(alloc: Global, error: clap::Error) -> WordsFault
+    ensures { IsOfKind (kind_of error) result }
+{
     let kind = error.kind();
     let Ok(text) = error.to_string(alloc) else {
         return WordsFault::NoMemory;
@@ -101,25 +104,42 @@ fn fault_of_words(alloc: Global, error: clap::Error) -> WordsFault {
     }
 }
 
-/// Reads the words of a command line, of which the first is the program's name.
-pub fn read_words(alloc: Global, words: &[&str]) -> Result<Job, WordsFault>
-    ensures { IfOk result (IsJobOf (map (λ word. word.now) words.now)) }
+/// The job of the command `check`, by its matches.
+fn check_job(alloc: Global, given: &ArgMatches<'_>) -> Result<Job, WordsFault>
+    requires { NamesFiles (rows_of (found_of given.now)) }
+    ensures job { IfOk result (λ job. IsJobBy (Some (codes "check", rows_of (found_of given.now))) job) }
+    ensures fault { IfErr result (λ fault. fault ≡ NoMemory) }
 {
-    let command = command_line(alloc)?;
-    let matches = match command.try_get_matches_from(words) {
-        Ok(matches) => matches,
-        Err(error) => return Err(fault_of_words(alloc, error)),
-    };
-    let Some(given) = matches.subcommand_matches("check") else {
-        return Err(WordsFault::Refused(String::new(alloc)));
-    };
-    let (Some(instance), Some(solution)) = (given.get_str("instance"), given.get_str("solution"))
-    else {
-        return Err(WordsFault::Refused(String::new(alloc)));
-    };
+    let instance = given.get_str("instance").unwrap();
+    let solution = given.get_str("solution").unwrap();
     Ok(Job::Check {
         instance: String::from_str(alloc, instance)?,
         solution: String::from_str(alloc, solution)?,
         json: given.get_flag("json"),
     })
+}
+
+/// The job of a command, by the matches of the words.
+fn job_of(alloc: Global, matches: &ArgMatches<'_>) -> Result<Job, WordsFault>
+    requires { IsWhole (subcommand_rows_of matches.now) }
+    ensures job { IfOk result (IsJobBy (subcommand_rows_of matches.now)) }
+    ensures fault { IfErr result (λ fault. fault ≡ NoMemory) }
+{
+    match matches.subcommand() {
+        Some(("check", given)) => check_job(alloc, given),
+        _ => unreachable!(),
+    }
+}
+
+/// Reads the words of a command line, of which the first is the program's name.
+pub fn read_words(alloc: Global, words: &[&str]) -> Result<Job, WordsFault>
+    ensures job { IfOk result (IsJobOf (map (λ word. word.now) words.now)) }
+    ensures taken { OnOk result (faults_of (map (λ word. word.now) words.now) ≡ []) }
+    ensures fault { IfErr result (IsOfKinds (faults_of (map (λ word. word.now) words.now))) }
+{
+    let command = command_line(alloc)?;
+    match command.try_get_matches_from(words) {
+        Ok(matches) => job_of(alloc, &matches),
+        Err(error) => Err(fault_of_words(alloc, error)),
+    }
 }
