@@ -30,7 +30,8 @@ impl CourseNo {
     pub fn get(self) -> u16
         ensures { result ≡ self }
     {
-        self.0
+        let CourseNo(number) = self;
+        number
     }
 }
 
@@ -60,7 +61,8 @@ impl RoomNo {
     pub fn get(self) -> u16
         ensures { result ≡ self }
     {
-        self.0
+        let RoomNo(number) = self;
+        number
     }
 }
 
@@ -90,7 +92,8 @@ impl SlotNo {
     pub fn get(self) -> u16
         ensures { result ≡ self }
     {
-        self.0
+        let SlotNo(number) = self;
+        number
     }
 }
 
@@ -120,7 +123,8 @@ impl TeacherNo {
     pub fn get(self) -> u16
         ensures { result ≡ self }
     {
-        self.0
+        let TeacherNo(number) = self;
+        number
     }
 }
 
@@ -150,6 +154,7 @@ impl CurriculumNo {
     pub fn get(self) -> u16
         ensures { result ≡ self }
     {
-        self.0
+        let CurriculumNo(number) = self;
+        number
     }
 }

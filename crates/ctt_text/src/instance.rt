@@ -140,6 +140,22 @@ impl Instance {
         self.room_names.name(room.get() as usize)
     }
 
+    /// The name of a teacher.
+    pub fn teacher_name(&self, teacher: TeacherNo) -> &str
+        requires { teacher < teacher_count self.now }
+        ensures { result.now ≡ slice_index_or self.now.teacher_names teacher [] }
+    {
+        self.teacher_names.name(teacher.get() as usize)
+    }
+
+    /// The name of a curriculum.
+    pub fn curriculum_name(&self, curriculum: CurriculumNo) -> &str
+        requires { curriculum < curriculum_count self.now }
+        ensures { result.now ≡ slice_index_or self.now.curriculum_names curriculum [] }
+    {
+        self.curriculum_names.name(curriculum.get() as usize)
+    }
+
     /// Who teaches a course.
     pub fn teacher(&self, course: CourseNo) -> TeacherNo
         requires { course < course_count self.now }
@@ -238,6 +254,22 @@ impl Instance {
     {
         let number = self.course_names.number(name)?;
         Some(CourseNo::new(number as u16))
+    }
+
+    /// The number of a teacher by his name.
+    pub fn find_teacher(&self, name: &str) -> Option<TeacherNo>
+        ensures { result ≡ number_in self.now.teacher_names name.now }
+    {
+        let number = self.teacher_names.number(name)?;
+        Some(TeacherNo::new(number as u16))
+    }
+
+    /// The number of a curriculum by its name.
+    pub fn find_curriculum(&self, name: &str) -> Option<CurriculumNo>
+        ensures { result ≡ number_in self.now.curriculum_names name.now }
+    {
+        let number = self.curriculum_names.number(name)?;
+        Some(CurriculumNo::new(number as u16))
     }
 
     /// The number of a room by its name.

@@ -24,3 +24,6 @@ pub use numbers::number;
 pub use placed::Placed;
 pub use timetable::is_timetable;
 pub use words::Words;
+
+#[cfg(test)]
+mod tests;

@@ -9,9 +9,9 @@ use Rattle.ctt_text.proofs.instance.read.read_text.Goals as goal
 pub into_instance-requires-clause-problem : goal.into_instance-requires-clause-problem
 into_instance-requires-clause-problem c =
     spelled_is_problem (words c.args.text.now) c.in_ok-sections.sections
-        ((reads_what_is_spelled (words c.args.text.now) c.in_ok-sections.sections).0 (ap without_rest (rw c.new-reader.ensures at c.in_ok-sections.ensures)))
+    ((reads_what_is_spelled (words c.args.text.now) c.in_ok-sections.sections).0 (ap without_rest (rw c.new-reader.ensures at c.in_ok-sections.ensures)))
 
 pub into_instance-requires-clause-named : goal.into_instance-requires-clause-named
 into_instance-requires-clause-named c =
     spelled_is_named c.args.text.now c.in_ok-sections.sections
-        ((reads_what_is_spelled (words c.args.text.now) c.in_ok-sections.sections).0 (ap without_rest (rw c.new-reader.ensures at c.in_ok-sections.ensures)))
+    ((reads_what_is_spelled (words c.args.text.now) c.in_ok-sections.sections).0 (ap without_rest (rw c.new-reader.ensures at c.in_ok-sections.ensures)))

@@ -1,0 +1,12 @@
+pub mod ListLemmas
+pub mod SumLemmas
+pub mod SlotLemmas
+pub mod DistinctLemmas
+pub mod NeighbourLemmas
+pub mod PartLemmas
+pub mod TimetableLemmas
+pub mod RowLemmas
+pub mod ConflictLemmas
+pub mod CellLemmas
+pub mod CountLemmas
+pub mod WorkedCosts

@@ -1,0 +1,44 @@
+-- Filters, and what holds of each element.
+use Rattle.std.proofs.Common.{◌≡◌, Bool, true, false, List, [], ◌∷◌, refl, ap, inl, inr}
+use Rattle.std.specs.List.{filter, AllByRecursion as Each}
+use Rattle.std.proofs.lemmas.Bool.{cases_Bool}
+use Rattle.ctt_text.specs.Lists.{Pairwise}
+
+pub filter_yes : {X : Type 0} (p : X → Bool) (x : X) (xs : List X) → p x ≡ true → filter p (x ∷ xs) ≡ x ∷ filter p xs
+filter_yes p x xs e = rw e refl
+
+pub filter_no : {X : Type 0} (p : X → Bool) (x : X) (xs : List X) → p x ≡ false → filter p (x ∷ xs) ≡ filter p xs
+filter_no p x xs e = rw e refl
+
+pub Each-filter : {X : Type 0} (P : X → Type 0) (p : X → Bool) (xs : List X) → Each P xs → Each P (filter p xs)
+Each-filter P p [] h = tt
+Each-filter P p (x ∷ xs) h = elim (cases_Bool (p x)) [ inl e ↦ rw e (h.0, Each-filter P p xs h.1) | inr e ↦ rw e (Each-filter P p xs h.1) ]
+
+pub Pairwise-filter : {X : Type 0} (R : X → X → Type 0) (p : X → Bool) (xs : List X) → Pairwise R xs → Pairwise R (filter p xs)
+Pairwise-filter R p [] h = tt
+Pairwise-filter R p (x ∷ xs) h = elim (cases_Bool (p x)) [ inl e ↦ rw e (Each-filter (R x) p xs h.0, Pairwise-filter R p xs h.1) | inr e ↦ rw e (Pairwise-filter R p xs h.1) ]
+
+-- what passes nowhere
+pub filter_none : {X : Type 0} (p : X → Bool) (xs : List X) → Each (λ x. p x ≡ false) xs → filter p xs ≡ []
+filter_none p [] h = refl
+filter_none p (x ∷ xs) h = rw h.0 (filter_none p xs h.1)
+
+pub filter_every : {X : Type 0} (p : X → Bool) (xs : List X) → Each (λ x. p x ≡ true) xs → filter p xs ≡ xs
+filter_every p [] h = refl
+filter_every p (x ∷ xs) h = rw h.0 (ap (λ ys. x ∷ ys) (filter_every p xs h.1))
+
+-- a filter after one that keeps all that it keeps
+pub filter_within : {X : Type 0} (p q : X → Bool) (xs : List X) → ((x : X) → p x ≡ true → q x ≡ true) → filter p (filter q xs) ≡ filter p xs
+filter_within p q [] h = refl
+filter_within p q (x ∷ xs) h = elim (cases_Bool (p x)) [
+  | inl e ↦ (let k : q x ≡ true = h x e in rw (k, e) (ap (λ ys. x ∷ ys) (filter_within p q xs h)))
+  | inr e ↦ (elim (cases_Bool (q x)) [ inl k ↦ rw (k, e) (filter_within p q xs h) | inr k ↦ rw (k, e) (filter_within p q xs h) ])
+]
+
+pub Each-filter_passes : {X : Type 0} (p : X → Bool) (xs : List X) → Each (λ x. p x ≡ true) (filter p xs)
+Each-filter_passes p [] = tt
+Each-filter_passes p (x ∷ xs) = elim (cases_Bool (p x)) [ inl e ↦ rw e (e, Each-filter_passes p xs) | inr e ↦ rw e (Each-filter_passes p xs) ]
+
+pub Each-both : {X : Type 0} (P Q R : X → Type 0) → ((x : X) → P x → Q x → R x) → (xs : List X) → Each P xs → Each Q xs → Each R xs
+Each-both P Q R f [] h k = tt
+Each-both P Q R f (x ∷ xs) h k = (f x h.0 k.0, Each-both P Q R f xs h.1 k.1)

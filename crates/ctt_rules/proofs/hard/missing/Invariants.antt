@@ -1,0 +1,11 @@
+use Rattle.std.proofs.Common.{◌≡◌, ◌+◌, ◌-◌, ◌*◌, ◌≤◌, length}
+use Rattle.ctt_text.specs.Lists.{sum_below}
+use Rattle.ctt_text.specs.Problem.{course_of}
+use Rattle.ctt_text.specs.Timetable.{course_row}
+use Rattle.ctt_rules.proofs.hard.missing.Given as goal
+
+abbrev pub invariant-loop-number : goal.invariant-loop-number
+invariant-loop-number l = record {
+  so_far : l.total ≡ sum_below (λ c. ((course_of l.instance c).lectures - length (course_row c l.rows)) + (length (course_row c l.rows) - (course_of l.instance c).lectures)) l.number;
+  small : l.total ≤ l.number * 1000002000;
+}

@@ -1,0 +1,7 @@
+use Rattle.std.proofs.Common.{ℕ, ◌≤◌, ◌<◌, length}
+use Rattle.ctt_text.specs.Problem.{course_of}
+use Rattle.ctt_text.specs.Timetable.{course_row}
+use Rattle.ctt_rules.proofs.lawful.has_no_surplus.Given as goal
+
+abbrev pub invariant-loop-number : goal.invariant-loop-number
+invariant-loop-number l = (c : ℕ) → c < l.number → length (course_row c l.rows) ≤ (course_of l.instance c).lectures

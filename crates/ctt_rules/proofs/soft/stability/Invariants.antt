@@ -1,0 +1,11 @@
+use Rattle.std.proofs.Common.{◌≡◌, ◌*◌, ◌≤◌}
+use Rattle.ctt_text.specs.Lists.{sum_below}
+use Rattle.ctt_text.specs.Timetable.{course_row}
+use Rattle.ctt_rules.specs.Penalty.{rooms_cost}
+use Rattle.ctt_rules.proofs.soft.stability.Given as goal
+
+abbrev pub invariant-loop-number : goal.invariant-loop-number
+invariant-loop-number l = record {
+  so_far : l.total ≡ sum_below (λ c. rooms_cost l.instance (course_row c l.rows)) l.number;
+  small : l.total ≤ l.number * (1000);
+}

@@ -1,0 +1,52 @@
+-- The hard rules, and how often they are broken.
+use Rattle.std.specs.Prelude.{ℕ, ◌+◌, ◌-◌, ◌≤◌, ◌≡◌, Bool, false, List, [], ◌∷◌, length, count_by, ◌==◌, ◌&&◌}
+use Rattle.std.specs.List.{AllByRecursion as Each}
+use Rattle.ctt_text.specs.Lists.{Pairwise, sum_below}
+use Rattle.ctt_text.specs.Problem.{Problem, course_of, course_count, slot_count, room_count, clash, is_unavailable}
+use Rattle.ctt_text.specs.Timetable.{IsTimetable, course_row}
+use Rattle.ctt_text.specs.declared.placed.Placed.{Placed}
+use Rattle.ctt_rules.specs.declared.hard.Hard.{Hard}
+
+-- in one slot, with courses that clash
+abbrev pub conflicts : Problem → Placed → Placed → Bool
+conflicts i a b = a.slot == b.slot && clash i a.course b.course
+
+-- in one slot and one room
+abbrev pub share_room : Placed → Placed → Bool
+share_room a b = a.slot == b.slot && a.room == b.room
+
+pub record Lawful (i : Problem) (t : List Placed) : Type 0 where
+  pub timetable : IsTimetable i t
+  pub conflict_free : Pairwise (λ a b. conflicts i a b ≡ false) t
+  pub available : Each (λ l. is_unavailable i l.course l.slot ≡ false) t
+  pub rooms_apart : Pairwise (λ a b. share_room a b ≡ false) t
+  pub few : (c : ℕ) → length (course_row c t) ≤ (course_of i c).lectures
+
+pub record Complete (i : Problem) (t : List Placed) : Type 0 where
+  pub lawful : Lawful i t
+  pub all_placed : (c : ℕ) → length (course_row c t) ≡ (course_of i c).lectures
+
+-- the lectures that courses lack, and those that they have too many
+abbrev pub missing_count : Problem → List Placed → ℕ
+missing_count i t = sum_below (λ c. ((course_of i c).lectures - length (course_row c t)) + (length (course_row c t) - (course_of i c).lectures)) (course_count i)
+
+-- pairs of lectures in one slot, with courses that clash
+abbrev pub conflict_count : Problem → List Placed → ℕ
+conflict_count i [] = 0
+conflict_count i (x ∷ xs) = count_by (conflicts i x) xs + conflict_count i xs
+
+-- lectures in slots in which their courses are unavailable
+abbrev pub unavailable_count : Problem → List Placed → ℕ
+unavailable_count i t = count_by (λ l. is_unavailable i l.course l.slot) t
+
+-- lectures beyond the first in each room and slot
+abbrev pub occupancy_count : Problem → List Placed → ℕ
+occupancy_count i t = sum_below (λ r. sum_below (λ s. count_by (λ l. l.room == r && l.slot == s) t - 1) (slot_count i)) (room_count i)
+
+abbrev pub hard_counts : Problem → List Placed → Hard
+hard_counts i t = record {
+  lectures = missing_count i t;
+  conflicts = conflict_count i t;
+  availability = unavailable_count i t;
+  occupancy = occupancy_count i t;
+}

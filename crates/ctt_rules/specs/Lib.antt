@@ -1,0 +1,6 @@
+pub mod Penalty
+pub mod Hard
+pub mod Rows
+pub mod Neighbours
+pub mod Pairs
+pub mod Cells

@@ -1,0 +1,69 @@
+//! How often the hard rules are broken.
+
+ghost use Rattle.std.specs.Prelude.{◌≡◌, ◌≤◌, length};
+ghost use Rattle.std.specs.List.{AllByRecursion as Each};
+ghost use Rattle.ctt_text.specs.Timetable.{IsTimetable, Fits};
+
+use crate::conflicts::conflicts;
+use crate::occupancy::occupancy;
+use crate::rows::Rows;
+use ctt_text::{CourseNo, Instance, Placed};
+
+/// How often a timetable breaks each of the four hard constraints of the technical report of
+/// Di Gaspero, McCollum and Schaerf for ITC 2007.
+#[derive(Clone, Copy, Debug, Default, PartialEq, Eq)]
+pub struct Hard {
+    /// Lectures that courses lack, and lectures that they have too many.
+    pub lectures: u64,
+    /// Pairs of lectures in one slot whose courses have the same teacher or a common curriculum.
+    pub conflicts: u64,
+    /// Lectures in slots in which their courses are unavailable.
+    pub availability: u64,
+    /// Lectures beyond the first in each room and slot.
+    pub occupancy: u64,
+}
+
+ghost use Rattle.ctt_rules.specs.Hard.{hard_counts, missing_count, unavailable_count};
+
+/// The lectures that courses lack, and those that they have too many.
+pub(crate) fn missing(instance: &Instance, rows: &Rows) -> u64
+    requires { IsTimetable instance.now rows.now }
+    ensures { result ≡ missing_count instance.now rows.now }
+{
+    instance.limits();
+    let mut total = 0;
+    for number in 0..instance.courses() {
+        let course = CourseNo::new(number);
+        let lectures = u64::from(instance.lectures(course));
+        total += lectures.abs_diff(rows.row(course).len() as u64);
+    }
+    total
+}
+
+/// The lectures in slots in which their courses are unavailable.
+pub(crate) fn unavailable(instance: &Instance, lectures: &[Placed]) -> u64
+    requires { Each (Fits instance.now) lectures.now }
+    ensures { result ≡ unavailable_count instance.now lectures.now }
+{
+    let mut count = 0;
+    for lecture in lectures {
+        if instance.unavailable(lecture.course, lecture.slot) {
+            count += 1;
+        }
+    }
+    count
+}
+
+/// How often a timetable breaks each of the hard constraints.
+pub fn hard_counts(instance: &Instance, timetable: &[Placed]) -> Hard
+    requires { IsTimetable instance.now timetable.now }
+    ensures { result ≡ hard_counts instance.now timetable.now }
+{
+    let rows = Rows::new(instance, timetable);
+    Hard {
+        lectures: missing(instance, &rows),
+        conflicts: conflicts(instance, &rows),
+        availability: unavailable(instance, timetable),
+        occupancy: occupancy(instance, timetable),
+    }
+}

@@ -1,0 +1,146 @@
+//! What a timetable costs.
+
+ghost use Rattle.std.specs.Prelude.{◌≡◌, ◌<◌, ◌≤◌, ◌*◌, ◌^◌, length, sum_by};
+ghost use Rattle.std.specs.List.{AllByRecursion as Each};
+ghost use Rattle.ctt_text.specs.Lists.{sum_below};
+ghost use Rattle.ctt_text.specs.Problem.{course_count};
+ghost use Rattle.ctt_text.specs.Timetable.{IsTimetable, Fits, course_row};
+ghost use Rattle.ctt_rules.specs.Penalty.{penalty, course_cost, total, unseated, days_of, rooms_of, days_cost, rooms_cost};
+
+use crate::compactness::compactness;
+use crate::cost::Cost;
+use crate::row::course_row;
+use crate::rows::Rows;
+use ctt_text::{CourseNo, Instance, Marks, Placed};
+
+/// The students above the capacities of the rooms, over all these lectures.
+fn capacity(instance: &Instance, lectures: &[Placed]) -> u64
+    requires fits { Each (Fits instance.now) lectures.now }
+    requires few { length lectures.now ≤ 4000000 }
+    ensures value { result ≡ sum_by (unseated instance.now) lectures.now }
+    ensures bound { result ≤ 999999999 * length lectures.now }
+{
+    instance.limits();
+    let mut total = 0;
+    for lecture in lectures {
+        let students = instance.students(lecture.course);
+        total += u64::from(students.saturating_sub(instance.capacity(lecture.room)));
+    }
+    total
+}
+
+/// On how many different days these lectures are.
+fn day_count(instance: &Instance, lectures: &[Placed]) -> u64
+    requires { Each (Fits instance.now) lectures.now }
+    ensures { result ≡ days_of instance.now lectures.now }
+{
+    instance.limits();
+    let mut seen = Marks::new();
+    let mut count = 0;
+    for lecture in lectures {
+        if seen.mark(instance.day_of(lecture.slot) as usize) {
+            count += 1;
+        }
+    }
+    count
+}
+
+/// In how many different rooms these lectures are.
+fn room_count(instance: &Instance, lectures: &[Placed]) -> u64
+    requires { Each (Fits instance.now) lectures.now }
+    ensures { result ≡ rooms_of instance.now lectures.now }
+{
+    instance.limits();
+    let mut seen = Marks::new();
+    let mut count = 0;
+    for lecture in lectures {
+        if seen.mark(lecture.room.get() as usize) {
+            count += 1;
+        }
+    }
+    count
+}
+
+/// Five points for each day that the lectures of a course have too few.
+fn missing_days(instance: &Instance, course: CourseNo, row: &[Placed]) -> u64
+    requires course { course < course_count instance.now }
+    requires fits { Each (Fits instance.now) row.now }
+    ensures value { result ≡ days_cost instance.now course row.now }
+    ensures bound { result ≤ 5 * 999999999 }
+{
+    instance.limits();
+    5 * u64::from(instance.min_days(course)).saturating_sub(day_count(instance, row))
+}
+
+/// One point for each room beyond the first that the lectures of a course have.
+fn surplus_rooms(instance: &Instance, row: &[Placed]) -> u64
+    requires { Each (Fits instance.now) row.now }
+    ensures value { result ≡ rooms_cost instance.now row.now }
+    ensures bound { result ≤ 1000 }
+{
+    instance.limits();
+    room_count(instance, row).saturating_sub(1)
+}
+
+/// Five points for each day that the lectures of a course have too few, over all courses.
+fn days(instance: &Instance, rows: &Rows) -> u64
+    requires { IsTimetable instance.now rows.now }
+    ensures value { result ≡ (penalty instance.now rows.now).days }
+    ensures bound { result ≤ 2000 * (5 * 999999999) }
+{
+    instance.limits();
+    let mut total = 0;
+    for number in 0..instance.courses() {
+        let course = CourseNo::new(number);
+        total += missing_days(instance, course, rows.row(course));
+    }
+    total
+}
+
+/// One point for each room beyond the first that the lectures of a course have, over all courses.
+fn stability(instance: &Instance, rows: &Rows) -> u64
+    requires { IsTimetable instance.now rows.now }
+    ensures value { result ≡ (penalty instance.now rows.now).stability }
+    ensures bound { result ≤ 2000 * 1000 }
+{
+    instance.limits();
+    let mut total = 0;
+    for number in 0..instance.courses() {
+        total += surplus_rooms(instance, rows.row(CourseNo::new(number)));
+    }
+    total
+}
+
+/// What a timetable costs.
+pub fn penalty(instance: &Instance, timetable: &[Placed]) -> Cost
+    requires { IsTimetable instance.now timetable.now }
+    ensures value { result ≡ penalty instance.now timetable.now }
+    ensures bound { total result < 2 ^ 63 }
+{
+    instance.limits();
+    let rows = Rows::new(instance, timetable);
+    Cost {
+        capacity: capacity(instance, timetable),
+        days: days(instance, &rows),
+        compactness: compactness(instance, &rows),
+        stability: stability(instance, &rows),
+    }
+}
+
+/// What the lectures of one course cost by the constraints that are counted course by course, that
+/// is by all but the compactness of curricula, which is 0 here.
+pub fn course_cost(instance: &Instance, timetable: &[Placed], course: CourseNo) -> Cost
+    requires timetable { IsTimetable instance.now timetable.now }
+    requires course { course < course_count instance.now }
+    ensures value { result ≡ course_cost instance.now timetable.now course }
+    ensures bound { total result < 2 ^ 63 }
+{
+    instance.limits();
+    let row = course_row(instance, timetable, course);
+    Cost {
+        capacity: capacity(instance, row),
+        days: missing_days(instance, course, row),
+        compactness: 0,
+        stability: surplus_rooms(instance, row),
+    }
+}
