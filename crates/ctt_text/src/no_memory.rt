@@ -2,22 +2,18 @@
 
 use std::alloc::{AllocError, AllocFailed};
 
-/// No memory was left.
+/// There is not enough memory.
 #[derive(Clone, Copy, Debug, PartialEq, Eq)]
 pub struct NoMemory;
 
 impl From<AllocError> for NoMemory {
-    ghost from_gives = { λ _ _. Unit {0} };
-
-    fn from(_error: AllocError) -> NoMemory {
+    fn from(_e: AllocError) -> NoMemory {
         NoMemory
     }
 }
 
 impl<T: Drop> From<AllocFailed<T>> for NoMemory {
-    ghost from_gives = { λ _ _. Unit {0} };
-
-    fn from(_error: AllocFailed<T>) -> NoMemory {
+    fn from(_e: AllocFailed<T>) -> NoMemory {
         NoMemory
     }
 }
