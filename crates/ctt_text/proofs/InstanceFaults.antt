@@ -2,10 +2,9 @@
 use Rattle.std.proofs.Common.{ℕ, List, Bool, codes}
 use Rattle.ctt_text.specs.declared.fault.ReadFault.{ReadFault}
 use Rattle.ctt_text.specs.declared.fault.ReadFault.TheVariants.{NotText, Expected, BadNumber, TooLarge, RepeatedName, UnknownCourse, DayOut, PeriodOut, NoMemory}
-use Rattle.ctt_text.specs.Forms.{Form, times, ◌>>=◌}
+use Rattle.ctt_text.specs.Forms.{Form, ◌>>=◌}
 use Rattle.ctt_text.specs.Places.{after, number, new_name, known_name}
-use Rattle.ctt_text.specs.Problem.{Problem}
-use Rattle.ctt_text.specs.InstancePlaces.{Header, Courses, Rooms, Curricula, number_up_to, period_count, two_counts, calendar, header, course, room, member, curriculum, day_below, period_below, unavailability, instance}
+use Rattle.ctt_text.specs.InstancePlaces.{Courses, Rooms, Curricula, number_up_to, period_count, two_counts, calendar, header, course, room, member, curriculum, day_below, period_below, unavailability, instance}
 use Rattle.ctt_text.proofs.FaultLaws.{FormFaults, bind_faults, times_faults, any_faults, fixed_faults, number_faults, number_if_faults, new_name_faults, known_name_faults}
 
 -- a fault of a place, which names a word

@@ -1,17 +1,15 @@
 -- What was read of an instance, and the instance that is made of it.
-use Rattle.std.proofs.Common.{◌≡◌, ◌<◌, ◌⊎◌, ℕ, List, [], ◌∷◌, ◌++◌, map, Bool, true, false, ◌&&◌, ◌||◌, Result, Ok, Err, IfOk, IfErr, inl, inr, refl, sym, ap, subst, ◌∙◌}
+use Rattle.std.proofs.Common.{◌≡◌, ◌<◌, ◌⊎◌, ℕ, List, [], ◌∷◌, map, Bool, ◌||◌, Result, Ok, Err, IfOk, IfErr, inl, inr, refl, sym, ap, ◌∙◌}
 use Rattle.std.specs.List.{list_any, AllByRecursion as Each}
 use Rattle.std.specs.Str.{IsUtf8}
 use Rattle.ctt_text.specs.declared.fault.ReadFault.{ReadFault}
 use Rattle.ctt_text.specs.declared.fault.ReadFault.TheVariants.{NotText, Missing, Expected, BadNumber, TooLarge, RepeatedName, UnknownCourse, DayOut, PeriodOut, NoMemory}
 use Rattle.ctt_text.specs.Words.{words}
-use Rattle.ctt_text.specs.Lists.{has}
 use Rattle.ctt_text.specs.Problem.{Problem, AreMembers}
 use Rattle.ctt_text.specs.Reading.{Gives, Fails}
 use Rattle.ctt_text.specs.InstancePlaces.{wants_memory, missing, instance}
 use Rattle.ctt_text.specs.InstanceText.{Spells, InstanceBreaksAt}
 use Rattle.ctt_text.specs.InstanceLaws.{answer, IsCauseOf}
-use Rattle.ctt_text.proofs.FormLaws.{ok_same, ok_is_err, err_same}
 use Rattle.ctt_text.proofs.FaultLaws.{answer_faults}
 use Rattle.ctt_text.proofs.InstanceLaws.{reads_what_is_spelled, fails_where_broken}
 use Rattle.ctt_text.proofs.InstanceFaults.{IsOfWord, instance_faults}

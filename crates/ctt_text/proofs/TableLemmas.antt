@@ -1,5 +1,5 @@
 -- Tables of marks, row by row.
-use Rattle.std.proofs.Common.{◌≡◌, ℕ, ◌+◌, ◌*◌, ◌<◌, List, [], ◌∷◌, ◌++◌, length, Bool, true, false, not, ◌==◌, ◌&&◌, ◌||◌, get_or, take, take_all, refl, sym, ap, subst, ◌∙◌, arith, true≢false, nat_lt}
+use Rattle.std.proofs.Common.{◌≡◌, ℕ, ◌+◌, ◌*◌, ◌<◌, List, [], ◌∷◌, ◌++◌, length, Bool, true, false, not, ◌==◌, ◌&&◌, ◌||◌, take, take_all, refl, sym, ap, ◌∙◌, arith, true≢false, nat_lt}
 use Rattle.std.specs.List.{slice_set, list_any}
 use Rattle.std.proofs.lemmas.List.{get_or-set_other, length-set, take-append-le}
 use Rattle.std.proofs.lemmas.Grind.{get_or-set_at}

@@ -1,7 +1,7 @@
 -- The fields of an instance, and the problem that they are.
 use Rattle.std.specs.Prelude.{◌≡◌, ◌<◌, ◌+◌, ◌*◌, ℕ, List, Bool, false, length, map, get_or}
 use Rattle.std.specs.String.{string_bytes}
-use Rattle.ctt_text.specs.Problem.{Problem, IsProblem, course_count, slot_count, clash}
+use Rattle.ctt_text.specs.Problem.{Problem, IsProblem, course_count, clash}
 use Rattle.ctt_text.specs.Named.{IsNamed}
 use Rattle.ctt_text.specs.declared.instance.Instance.TheInside.{Inside}
 

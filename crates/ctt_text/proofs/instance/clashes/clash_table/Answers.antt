@@ -1,4 +1,4 @@
-use Rattle.std.proofs.Common.{length, drop, ◌≡◌, ◌∙◌, ℕ, false, arith, ◌+◌, rules, ◌*◌, replicate}
+use Rattle.std.proofs.Common.{length, drop, ◌≡◌, ◌∙◌, false, arith, ◌+◌, rules, ◌*◌, replicate}
 use Rattle.ctt_text.specs.Tables.{teacher_at}
 use Rattle.ctt_text.proofs.MarkLemmas.{none_marked}
 use Rattle.ctt_text.proofs.TableLemmas.{clash_marks, written}

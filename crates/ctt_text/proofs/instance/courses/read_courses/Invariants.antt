@@ -1,4 +1,4 @@
-use Rattle.std.proofs.Common.{◌≡◌, ◌-◌, ◌≤◌, [], length}
+use Rattle.std.proofs.Common.{◌≡◌, ◌-◌, ◌≤◌, length}
 use Rattle.ctt_text.specs.Forms.{times}
 use Rattle.ctt_text.specs.InstancePlaces.{reads, course, no_courses}
 use Rattle.ctt_text.proofs.instance.courses.read_courses.Given as goal

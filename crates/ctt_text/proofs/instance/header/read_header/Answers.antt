@@ -1,4 +1,4 @@
-use Rattle.std.proofs.Common.{◌∙◌, codes, refl}
+use Rattle.std.proofs.Common.{◌∙◌, codes}
 use Rattle.std.proofs.lemmas.Result.{err_from_is_err_and}
 use Rattle.ctt_text.specs.Places.{any, after}
 use Rattle.ctt_text.specs.InstancePlaces.{two_counts, calendar, header, missing, wants_memory}

@@ -1,4 +1,4 @@
-use Rattle.std.proofs.Common.{◌≡◌, ◌-◌, ◌≤◌, [], length}
+use Rattle.std.proofs.Common.{◌≡◌, ◌-◌, []}
 use Rattle.ctt_text.specs.Forms.{times}
 use Rattle.ctt_text.specs.InstancePlaces.{reads, member}
 use Rattle.ctt_text.proofs.instance.members.read_members.Given as goal

@@ -1,4 +1,3 @@
-use Rattle.std.proofs.Common.{subst}
 use Rattle.ctt_text.proofs.InstanceReading.{gives_spelled, gives_accepted, gives_cause, gives_broken}
 use Rattle.ctt_text.proofs.instance.read.read_instance.Goals as goal
 

@@ -1,4 +1,4 @@
-use Rattle.std.proofs.Common.{◌≡◌, ◌-◌, ◌≤◌, [], length}
+use Rattle.std.proofs.Common.{◌≡◌, ◌-◌}
 use Rattle.ctt_text.specs.Forms.{times}
 use Rattle.ctt_text.specs.InstancePlaces.{reads, room, no_rooms}
 use Rattle.ctt_text.proofs.instance.rooms.read_rooms.Given as goal
