@@ -20,6 +20,7 @@ free_period i so_far course day word =
 unfoldable pub free_slot : Problem → List Placed → ℕ → ℕ → Form SolutionFault ℕ
 free_slot i so_far course day = one (free_period i so_far course day) (λ word. slot_of i day (value word))
 
+-- one lecture, put in its place among those before it
 unfoldable pub entry : Problem → List Placed → Form SolutionFault (List Placed)
 entry i so_far = do
   course ← known_name UnknownCourse i.course_names
@@ -40,6 +41,7 @@ begun (a ∷ b ∷ c ∷ d ∷ words) = suc (begun words)
 abbrev pub solution : Problem → List (List ℕ) → Form SolutionFault (List Placed)
 solution i words = times (entry i) (begun words) []
 
+-- the fault of a word that is not there
 abbrev pub cut : ℕ → SolutionFault
 cut k = Cut k
 

@@ -18,6 +18,7 @@ pub record EntryWords : Type 0 where
   pub day : List ℕ
   pub period : List ℕ
 
+-- in their order
 abbrev pub spelled_entry : EntryWords → List (List ℕ)
 spelled_entry w = w.course ∷ w.room ∷ w.day ∷ w.period ∷ []
 
@@ -29,7 +30,7 @@ IsEntry i w = (is_among i.course_names w.course ≡ true) × (is_among i.room_na
 abbrev pub lecture_of : Problem → EntryWords → Placed
 lecture_of i w = record { course = place_of i.course_names w.course; slot = slot_of i (value w.day) (value w.period); room = place_of i.room_names w.room }
 
--- no two lectures are of one course in one slot
+-- no two of them are of one course in one slot
 abbrev pub AreApart : List Placed → Type 0
 AreApart ls = Pairwise (λ a b. (a.course == b.course && a.slot == b.slot) ≡ false) ls
 

@@ -27,11 +27,11 @@ fn lecture(instance: &Instance, cell: usize, room: RoomNo) -> Placed
     requires { cell < course_count instance.now * slot_count instance.now }
     ensures { result ≡ lecture_in (slot_count instance.now) cell room }
 {
-    let courses = instance.courses();
-    let slots = instance.slots();
+    instance.limits();
+    let slots = instance.slots() as usize;
     Placed {
-        course: CourseNo::new((cell / slots as usize) as u16),
-        slot: SlotNo::new((cell % slots as usize) as u16),
+        course: CourseNo::new((cell / slots) as u16),
+        slot: SlotNo::new((cell % slots) as u16),
         room,
     }
 }
