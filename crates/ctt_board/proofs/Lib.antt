@@ -1,0 +1,4 @@
+pub mod PutLemmas
+pub mod OrderLemmas
+pub mod ApplyLemmas
+pub mod CellLemmas
