@@ -165,7 +165,7 @@ module _ (i : Problem) (xs : List Placed) (fits : Each (Fits i) xs) (first end k
             let room : x.room ≡ l.room = eqb-true x.room l.room parts.1 in
             let place : (l.slot - first) * room_count i + l.room ≡ cell = ap₂ (λ a b. (a - first) * room_count i + b) (sym slot) (sym room) ∙ sym is in
             and_from (leb first l.slot && ltb l.slot end) ((l.slot - first) * room_count i + l.room == cell)
-                (and_from (leb first l.slot) (ltb l.slot end) (le-leb first l.slot (omega (arith, slot, low))) (lt-ltb l.slot end (omega (arith, slot, high)))) (eq-eqb ((l.slot - first) * room_count i + l.room) cell place)
+            (and_from (leb first l.slot) (ltb l.slot end) (le-leb first l.slot (omega (arith, slot, low))) (lt-ltb l.slot end (omega (arith, slot, high)))) (eq-eqb ((l.slot - first) * room_count i + l.room) cell place)
 
     any_there : list_any (is_cell (room_count i) first end cell) ts ≡ list_any (share_room x) ts
     any_there = any_each (is_cell (room_count i) first end cell) (share_room x) ts (Each-map (Fits i) (λ l. is_cell (room_count i) first end cell l ≡ share_room x l) cell_is ts (Each-take (Fits i) k xs fits))

@@ -2,8 +2,8 @@
 #![tactic(auto)]
 
 mod compactness;
-mod cost;
 mod conflicts;
+mod cost;
 mod hard;
 mod lawful;
 mod occupancy;
@@ -19,3 +19,6 @@ pub use lawful::{is_complete, is_lawful};
 pub use row::course_row;
 pub use slots::mark_slots;
 pub use soft::{course_cost, penalty};
+
+#[cfg(test)]
+mod tests;

@@ -1,10 +1,10 @@
 -- Which faults the places of a form can have.
-use Rattle.std.proofs.Common.{◌≡◌, ℕ, zero, suc, ◌+◌, List, [], ◌∷◌, Bool, true, false, cond, Option, Some, None, Result, Ok, Err, subst, sym, ap, ◌∙◌}
+use Rattle.std.proofs.Common.{◌≡◌, ℕ, zero, suc, ◌+◌, List, [], ◌∷◌, Bool, true, false, cond, Option, Some, None, Result, Ok, Err, subst, ap}
 use Rattle.ctt_text.specs.Left.{Left}
 use Rattle.ctt_text.specs.Numbers.{is_number, value}
 use Rattle.ctt_text.specs.Problem.{is_among}
 use Rattle.ctt_text.specs.Forms.{Rule, Form, done, place, ◌>>=◌, times, read, without_rest}
-use Rattle.ctt_text.specs.Places.{passing, passing_number, one, any, fixed, number, number_if, new_name, known_name, after}
+use Rattle.ctt_text.specs.Places.{one, any, fixed, number, number_if, new_name, known_name}
 use Rattle.ctt_text.proofs.FormLaws.{read_case, ok_is_err, err_same}
 
 module _ {F : Type 0} (P : F → Type 0) where
@@ -34,7 +34,7 @@ module _ {F : Type 0} (P : F → Type 0) where
   none_some C b h = cc
 
   -- the fault of a test
-  test_faults : (b : Bool) (fault broken : ℕ → F) → ((k : ℕ) → P (fault k)) → cond {A = Option (ℕ → F)} b None (Some fault) ≡ Some broken → (k : ℕ) → P (broken k)
+  pub test_faults : (b : Bool) (fault broken : ℕ → F) → ((k : ℕ) → P (fault k)) → cond {A = Option (ℕ → F)} b None (Some fault) ≡ Some broken → (k : ℕ) → P (broken k)
   test_faults true fault broken h e k = none_some _ broken e
   test_faults false fault broken h e k = subst (λ f. P (f k)) (some_same fault broken e) (h k)
 
@@ -42,7 +42,7 @@ module _ {F : Type 0} (P : F → Type 0) where
   two_faults true c bad out broken h l e k = test_faults c out broken l e k
   two_faults false c bad out broken h l e k = subst (λ f. P (f k)) (some_same bad broken e) (h k)
 
-  taken_faults : (b : Bool) (fault broken : ℕ → F) → ((k : ℕ) → P (fault k)) → cond {A = Option (ℕ → F)} b (Some fault) None ≡ Some broken → (k : ℕ) → P (broken k)
+  pub taken_faults : (b : Bool) (fault broken : ℕ → F) → ((k : ℕ) → P (fault k)) → cond {A = Option (ℕ → F)} b (Some fault) None ≡ Some broken → (k : ℕ) → P (broken k)
   taken_faults true fault broken h e k = subst (λ f. P (f k)) (some_same fault broken e) (h k)
   taken_faults false fault broken h e k = none_some _ broken e
 

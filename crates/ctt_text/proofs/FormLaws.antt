@@ -51,11 +51,11 @@ pub err_same : {A F : Type 0} (a b : F) → ◌≡◌ {A = Result A F} (Err a) (
 err_same a b h = cc
 
 -- the number of a word, counted from the one before
-one_later : (n k : ℕ) → n + 1 + k ≡ n + suc k
+pub one_later : (n k : ℕ) → n + 1 + k ≡ n + suc k
 one_later n k = omega arith
 
 -- the first word counted
-at_once : (n : ℕ) → n ≡ n + 0
+pub at_once : (n : ℕ) → n ≡ n + 0
 at_once n = omega arith
 
 -- what is read fills the form

@@ -82,11 +82,12 @@ pub record Row (m n k : ℕ) : Type 0 where
   pub column_below : column < n
   pub place : row * n + column ≡ k
 
+-- where there is a place, there is a column
+pub some_columns : (m n k : ℕ) → k < m * n → 0 < n
+some_columns m n k lt = grind arith
+
 -- by dividing
 pub row_of : (m n k : ℕ) → k < m * n → Row m n k
 row_of m n k lt =
-    let some : 0 < n = some_columns n lt in
+    let some : 0 < n = some_columns m n k lt in
     record { row = k / n; column = k % n; row_below = div_below k n m some lt; column_below = mod_below k n some; place = div-add-mod' k n }
-  where
-    some_columns : (n : ℕ) → k < m * n → 0 < n
-    some_columns n lt = grind arith

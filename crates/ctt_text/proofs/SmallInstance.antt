@@ -15,7 +15,7 @@ use Rattle.ctt_text.proofs.InstanceLaws.{reads_what_is_spelled}
 unfoldable small : List (List ℕ)
 small = words (codes "Name: Small\nCourses: 3\nRooms: 2\nDays: 2\nPeriods_per_day: 3\nCurricula: 1\nConstraints: 1\nCOURSES:\nalg t1 2 2 30\ngeo t2 2 1 20\ntop t1 1 1 50\nROOMS:\nA 25\nB 40\nCURRICULA:\nq1 2 alg geo\nUNAVAILABILITY_CONSTRAINTS:\ngeo 0 0\nEND.\n")
 
-unfoldable small_instance : Problem
+unfoldable pub small_instance : Problem
 small_instance = record {
   name = codes "Small";
   course_names = codes "alg" ∷ codes "geo" ∷ codes "top" ∷ [];

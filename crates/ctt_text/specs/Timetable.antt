@@ -1,6 +1,6 @@
 -- A timetable is a list of lectures, strictly ascending by course and slot. Its rows are its parts.
 use Rattle.std.specs.Prelude.{ℕ, ◌<◌, ◌+◌, ◌≡◌, Bool, true, List, length, get_or, filter, ◌==◌, nat_lt, ◌&&◌, ◌||◌, not}
-use Rattle.std.specs.List.{AllByRecursion as Each}
+use Rattle.std.specs.List.{list_any, AllByRecursion as Each}
 use Rattle.ctt_text.specs.Lists.{Pairwise, put}
 use Rattle.ctt_text.specs.Problem.{Problem, course_count, slot_count, room_count}
 use Rattle.ctt_text.specs.declared.placed.Placed.{Placed}
@@ -32,6 +32,10 @@ course_row c t = filter (λ l. l.course == c) t
 -- the lectures in a slot
 abbrev pub slot_row : ℕ → List Placed → List Placed
 slot_row s t = filter (λ l. l.slot == s) t
+
+-- the course has a lecture in the slot
+abbrev pub has_lecture : ℕ → ℕ → List Placed → Bool
+has_lecture c s t = list_any (λ l. l.course == c && l.slot == s) t
 
 -- the timetable with one more lecture, in its place
 abbrev pub with : Placed → List Placed → List Placed

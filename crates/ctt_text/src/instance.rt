@@ -1,6 +1,6 @@
 //! The instance, and what it says.
 
-ghost use Rattle.std.specs.Prelude.{◌≡◌, ◌<◌, ◌≤◌, ◌*◌, [], length, slice_index_or};
+ghost use Rattle.std.specs.Prelude.{◌≡◌, ◌<◌, ◌≤◌, ◌*◌, [], length, slice_index_or, IfSome};
 ghost use Rattle.ctt_text.specs.Problem.{IsProblem, course_of, capacity_of, members, course_count, room_count, teacher_count, curriculum_count, slot_count, slot_of, day_of, period_of, clash, is_unavailable, number_in};
 ghost use Rattle.ctt_text.specs.Named.{IsNamed};
 
@@ -250,7 +250,8 @@ impl Instance {
 
     /// The number of a course by its name.
     pub fn find_course(&self, name: &str) -> Option<CourseNo>
-        ensures { result ≡ number_in self.now.course_names name.now }
+        ensures number { result ≡ number_in self.now.course_names name.now }
+        ensures within { IfSome result (λ course. course < course_count self.now) }
     {
         let number = self.course_names.number(name)?;
         Some(CourseNo::new(number as u16))
@@ -274,7 +275,8 @@ impl Instance {
 
     /// The number of a room by its name.
     pub fn find_room(&self, name: &str) -> Option<RoomNo>
-        ensures { result ≡ number_in self.now.room_names name.now }
+        ensures number { result ≡ number_in self.now.room_names name.now }
+        ensures within { IfSome result (λ room. room < room_count self.now) }
     {
         let number = self.room_names.number(name)?;
         Some(RoomNo::new(number as u16))

@@ -1,6 +1,8 @@
-//! Laws about the texts of instances, each the contract of a function that computes nothing.
+//! Laws about the texts of instances and of solutions, each the contract of a function that
+//! computes nothing.
 
 ghost use Rattle.ctt_text.specs.InstanceLaws.{ReadsWhatIsSpelled, SpellsOne, FailsWhereBroken, BreaksOnce, SpellsOrBreaks, SpelledIsProblem, SpelledIsNamed};
+ghost use Rattle.ctt_text.specs.SolutionLaws.{ReadsSolutions, SpellsOneTimetable, SolutionFailsWhereBroken, SolutionBreaksOnce, SolutionSpellsOrBreaks, SpelledIsTimetable, WrittenSpells};
 
 /// Reading answers an instance exactly where the words spell it.
 pub fn reads_what_is_spelled()
@@ -35,4 +37,40 @@ pub fn spelled_is_problem()
 /// The names of an instance that a text spells are words, and distinct in each list.
 pub fn spelled_is_named()
     ensures { SpelledIsNamed }
+{}
+
+/// Reading answers a timetable exactly where the words spell it.
+pub fn reads_solutions()
+    ensures { ReadsSolutions }
+{}
+
+/// Words spell one timetable at most.
+pub fn spells_one_timetable()
+    ensures { SpellsOneTimetable }
+{}
+
+/// Reading a solution answers a fault exactly where the words break the form, at the place of that
+/// fault.
+pub fn solution_fails_where_broken()
+    ensures { SolutionFailsWhereBroken }
+{}
+
+/// Words break the form of a solution at one place at most, by one fault.
+pub fn solution_breaks_once()
+    ensures { SolutionBreaksOnce }
+{}
+
+/// Words either spell a timetable or break the form of a solution, and never both.
+pub fn solution_spells_or_breaks()
+    ensures { SolutionSpellsOrBreaks }
+{}
+
+/// What words spell is a timetable of the instance.
+pub fn spelled_is_timetable()
+    ensures { SpelledIsTimetable }
+{}
+
+/// What is written of a timetable spells it, and no other.
+pub fn written_spells()
+    ensures { WrittenSpells }
 {}

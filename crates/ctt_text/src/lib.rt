@@ -13,17 +13,19 @@ mod no_memory;
 mod numbers;
 mod placed;
 mod reader;
+mod solution;
 mod timetable;
 mod words;
 
 pub use course_facts::CourseFacts;
-pub use fault::ReadFault;
+pub use fault::{ReadFault, SolutionFault};
 pub use ids::{CourseNo, CurriculumNo, RoomNo, SlotNo, TeacherNo};
 pub use instance::{Instance, read_instance};
 pub use marks::Marks;
 pub use no_memory::NoMemory;
 pub use numbers::number;
 pub use placed::Placed;
+pub use solution::{read_solution, write_solution};
 pub use timetable::is_timetable;
 pub use words::Words;
 

@@ -8,7 +8,7 @@ use std::process::Abort;
 use std::test::Fail;
 
 /// An instance of 45 words.
-const SMALL: &str = "Name: Small
+pub(crate) const SMALL: &str = "Name: Small
 Courses: 3
 Rooms: 2
 Days: 2

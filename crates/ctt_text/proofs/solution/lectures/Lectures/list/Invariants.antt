@@ -1,0 +1,8 @@
+use Rattle.std.proofs.Common.{◌≡◌, take}
+use Rattle.ctt_text.specs.Problem.{slot_count}
+use Rattle.ctt_text.specs.RoomTable.{lectures_from}
+use Rattle.ctt_text.proofs.solution.lectures.Lectures.list.Given as goal
+
+-- the lectures of the cells so far
+abbrev pub invariant-loop-cell : goal.invariant-loop-cell
+invariant-loop-cell l = l.list.items ≡ lectures_from (slot_count l.self.problem) 0 (take l.cell l.room-items)

@@ -1,0 +1,11 @@
+//! The text of a solution.
+
+mod lectures;
+mod places;
+mod read;
+#[cfg(test)]
+mod tests;
+mod write;
+
+pub use read::read_solution;
+pub use write::write_solution;

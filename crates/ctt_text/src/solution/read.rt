@@ -1,0 +1,85 @@
+//! Reading a solution from its text.
+
+ghost use Rattle.std.specs.Prelude.{◌≡◌, ◌⊎◌, ℕ, List, IfOk, OnOk, IfErr, MatchResult};
+ghost use Rattle.std.specs.Str.{IsUtf8};
+ghost use Rattle.std.specs.Str.Lossy.{utf8_valid_len};
+ghost use Rattle.ctt_text.specs.Words.{words};
+ghost use Rattle.ctt_text.specs.Reading.{Gives};
+ghost use Rattle.ctt_text.specs.Timetable.{IsTimetable};
+ghost use Rattle.ctt_text.specs.SolutionPlaces.{GivesLectures, reads_lectures, lacks_memory, entry, solution};
+ghost use Rattle.ctt_text.specs.SolutionText.{SolSpells, SolutionBreaksAt};
+ghost use Rattle.ctt_text.specs.SolutionLaws.{solution_answer, IsSolutionCauseOf};
+ghost use Rattle.ctt_text.specs.declared.placed.Placed.{Placed};
+ghost use Rattle.ctt_text.specs.declared.fault.SolutionFault.{SolutionFault};
+ghost use Rattle.ctt_text.specs.declared.fault.SolutionFault.TheVariants.{NotText, NoMemory};
+
+use crate::fault::SolutionFault;
+use crate::instance::Instance;
+use crate::placed::Placed;
+use crate::reader::Reader;
+use crate::solution::lectures::Lectures;
+use crate::solution::places::{read_course, read_day, read_room, read_slot};
+use std::alloc::Global;
+
+/// Reads one entry, and adds its lecture to those before it.
+#[tactic(auto, using(crate::proofs::Steps::read_bind, crate::proofs::Steps::read_done), unfolding(crate::specs::SolutionPlaces::entry))]
+fn read_entry(reader: &mut Reader, lectures: &mut Lectures) -> Result<(), SolutionFault>
+    ensures problem { lectures.new.problem ≡ lectures.old.problem }
+    ensures exact { GivesLectures (λ _. (lectures.new.lectures, reader.new)) result (reads_lectures (entry lectures.old.problem lectures.old.lectures) reader.old) }
+{
+    let instance = lectures.instance();
+    let course = read_course(reader, instance)?;
+    let room = read_room(reader, instance)?;
+    let day = read_day(reader, instance)?;
+    let slot = read_slot(reader, lectures, course, day)?;
+    lectures.add(Placed { course, slot, room });
+    Ok(())
+}
+
+/// Reads all entries.
+fn read_lectures(
+    alloc: Global,
+    reader: &mut Reader,
+    instance: &Instance,
+) -> Result<Vec<Placed>, SolutionFault>
+    ensures { GivesLectures (λ list. (list.items, reader.new)) result (reads_lectures (solution instance.now reader.old.words) reader.old) }
+{
+    let mut lectures = Lectures::new(alloc, instance)?;
+    while !reader.is_at_end() {
+        read_entry(reader, &mut lectures)?;
+    }
+    Ok(lectures.list(alloc)?)
+}
+
+/// Reads a solution from a text.
+fn read_text(alloc: Global, instance: &Instance, text: &str) -> Result<Vec<Placed>, SolutionFault>
+    ensures { Gives lacks_memory (λ list. list.items) result (solution_answer instance.now (words text.now)) }
+{
+    let mut reader = Reader::new(text);
+    read_lectures(alloc, &mut reader, instance)
+}
+
+/// Reads a solution from the bytes of its file.
+///
+/// What is read is the timetable that the text spells. A text that is not UTF-8 is refused as
+/// [`SolutionFault::NotText`], whatever its words; else the fault names the first word that breaks
+/// the rule of its place, given the words before it.
+pub fn read_solution(
+    alloc: Global,
+    instance: &Instance,
+    text: &[u8],
+) -> Result<Vec<Placed>, SolutionFault>
+    ensures text { OnOk result (IsUtf8 text.now) }
+    ensures spelled { IfOk result (λ list. SolSpells instance.now (words text.now) list.items) }
+    ensures timetable { IfOk result (λ list. IsTimetable instance.now list.items) }
+    ensures accepted { (t : List Placed) → IsUtf8 text.now → SolSpells instance.now (words text.now) t → MatchResult result (λ list. list.items ≡ t) (λ fault. fault ≡ NoMemory) }
+    ensures fault { IfErr result (IsSolutionCauseOf instance.now text.now) }
+    ensures not_text { ¬ IsUtf8 text.now → result ≡ Err (NotText (utf8_valid_len text.now)) }
+    ensures broken { (k : ℕ) (fault : SolutionFault) → IsUtf8 text.now → SolutionBreaksAt instance.now (words text.now) k fault → (result ≡ Err fault) ⊎ (result ≡ Err NoMemory) }
+{
+    instance.limits();
+    match str::from_utf8(text) {
+        Ok(text) => read_text(alloc, instance, text),
+        Err(error) => Err(SolutionFault::NotText(error.valid_up_to() as u64)),
+    }
+}

@@ -1,0 +1,48 @@
+//! Writing a solution as a text.
+
+ghost use Rattle.std.specs.Prelude.{◌≡◌, ◌++◌, OnOk, IfOk, string_bytes};
+ghost use Rattle.std.specs.Str.{IsUtf8};
+ghost use Rattle.ctt_text.specs.Words.{words};
+ghost use Rattle.ctt_text.specs.SolutionText.{SolSpells};
+ghost use Rattle.ctt_text.specs.Timetable.{Fits, IsTimetable};
+ghost use Rattle.ctt_text.specs.Written.{words_of, line_of, soltext};
+
+use crate::instance::Instance;
+use crate::no_memory::NoMemory;
+use crate::placed::Placed;
+use std::alloc::{AllocError, Global};
+use std::fmt::Write;
+
+/// Adds the line of a lecture to the text.
+fn write_line(text: &mut String, instance: &Instance, lecture: &Placed) -> Result<(), AllocError>
+    requires { Fits instance.now lecture.now }
+    ensures { OnOk result (string_bytes text.new ≡ string_bytes text.old ++ line_of (words_of instance.now lecture.now)) }
+{
+    let course = instance.course_name(lecture.course);
+    let room = instance.room_name(lecture.room);
+    let day = instance.day_of(lecture.slot);
+    let period = instance.period_of(lecture.slot);
+    writeln!(text, "{course} {room} {day} {period}")
+}
+
+/// Writes a timetable as the text of a solution: one line a lecture, in their order.
+///
+/// Read again, the text gives the same timetable.
+pub fn write_solution(
+    alloc: Global,
+    instance: &Instance,
+    lectures: &[Placed],
+) -> Result<Vec<u8>, NoMemory>
+    requires { IsTimetable instance.now lectures.now }
+    ensures text { IfOk result (λ text. text.items ≡ soltext instance.now lectures.now) }
+    ensures utf8 { IfOk result (λ text. IsUtf8 text.items) }
+    ensures spelled { IfOk result (λ text. SolSpells instance.now (words text.items) lectures.now) }
+{
+    instance.limits();
+    instance.names();
+    let mut text = String::new(alloc);
+    for lecture in lectures {
+        write_line(&mut text, instance, lecture)?;
+    }
+    Ok(text.into_bytes())
+}

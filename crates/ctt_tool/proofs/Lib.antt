@@ -1,0 +1,5 @@
+pub mod Commands
+pub mod Matches
+pub mod Rows
+pub mod Walks
+pub mod Taken

@@ -1,0 +1,33 @@
+-- The command line of the program, as far as `clap` reads words by it.
+use Rattle.std.specs.Prelude.{◌≡◌, ℕ, List, codes, true, false, Some}
+use Rattle.clap.specs.Simple.{on_top}
+use Rattle.clap.specs.Words.{App, Rule, app_of, new_app, new_rule, with_rule, with_subcommand}
+use Rattle.clap.specs.declared.builder.Command.{Command}
+use Rattle.clap.specs.declared.builder.Command.TheViews.{out-Command}
+use Rattle.clap.specs.declared.builder.action.ArgAction.TheVariants.{SetTrue}
+
+-- a word that has to be given, by its place
+abbrev pub required_word : List ℕ → Rule
+required_word id = record (new_rule id) { required = true; value_names = 1 }
+
+-- an option that is given or not
+abbrev pub flag : List ℕ → Rule
+flag id = record (new_rule id) { long = Some id; action = Some SetTrue }
+
+-- `check INSTANCE SOLUTION [--json]`
+unfoldable pub check : App
+check = with_rule (with_rule (with_rule (new_app (codes "check"))
+    (required_word (codes "instance"))) (required_word (codes "solution"))) (flag (codes "json"))
+
+-- the program alone: a command has to be given
+abbrev pub bare : App
+bare = on_top (λ s. record s { subcommand_required = true }) (new_app (codes "timedesk"))
+
+-- the program with its commands
+unfoldable pub timedesk : App
+timedesk = with_subcommand bare check.top
+
+-- `clap` reads words by this command as by `app`, and no argument of it holds for other commands
+pub record IsCommand (app : App) (command : Command) : Type 0 where
+  pub reads_by : app_of command ≡ app
+  pub is_local : (out-Command command).has_globals ≡ false

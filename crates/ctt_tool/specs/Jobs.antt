@@ -1,0 +1,64 @@
+-- Which job the words of a command line ask for, and what is said where they ask for none.
+use Rattle.std.specs.Prelude.{◌≡◌, ◌≢◌, ◌⊎◌, Bool, false, List, Option, Some, None, IsSome, codes}
+use Rattle.std.specs.Str.{bytes_eq}
+use Rattle.std.specs.String.{string_bytes}
+use Rattle.clap.specs.Words.{IsAmong, Kinds, Row, Text, fault_of, first_of, one_of, subcommand_of}
+use Rattle.clap.specs.declared.error.kind.ErrorKind.{ErrorKind}
+use Rattle.clap.specs.declared.error.kind.ErrorKind.TheVariants.{DisplayHelp, OutOfMemory}
+use Rattle.ctt_tool.specs.CommandLine.{timedesk}
+use Rattle.ctt_tool.specs.declared.job.Job.{Job}
+use Rattle.ctt_tool.specs.declared.job.Job.TheVariants.{Check}
+use Rattle.ctt_tool.specs.declared.job.WordsFault.{WordsFault}
+use Rattle.ctt_tool.specs.declared.job.WordsFault.TheVariants.{Help, NoMemory, Refused}
+
+-- what is found for an option that is given or not
+abbrev pub IsOnOrOff : Option Text → Type 0
+IsOnOrOff None = Unit {0}
+IsOnOrOff (Some text) = (text ≡ codes "true") ⊎ (text ≡ codes "false")
+
+-- whether it is given
+abbrev pub is_on : Option Text → Bool
+is_on None = false
+is_on (Some text) = bytes_eq text (codes "true")
+
+-- the matches of `check` have what it needs
+pub record NamesFiles (rows : List Row) : Type 0 where
+  pub instance : IsSome (first_of (codes "instance") rows)
+  pub solution : IsSome (first_of (codes "solution") rows)
+  pub json : IsOnOrOff (one_of (codes "json") rows)
+
+-- they have these two files and this option
+pub record HasCheck (rows : List Row) (instance solution : Text) (json : Bool) : Type 0 where
+  pub has_instance : first_of (codes "instance") rows ≡ Some instance
+  pub has_solution : first_of (codes "solution") rows ≡ Some solution
+  pub has_json : json ≡ is_on (one_of (codes "json") rows)
+
+-- the matches of this command have what it needs
+abbrev pub IsWhole : Option (Text × List Row) → Type 0
+IsWhole matched = (rows : List Row) × (matched ≡ Some (codes "check", rows)) × NamesFiles rows
+
+-- the job is that of this command, with what its matches have
+abbrev pub IsJobBy : Option (Text × List Row) → Job → Type 0
+IsJobBy matched (Check instance solution json) = (rows : List Row)
+    × (matched ≡ Some (codes "check", rows))
+    × HasCheck rows (string_bytes instance) (string_bytes solution) json
+
+-- the job is that of the command that `clap` finds in the words, with what its matches have
+abbrev pub IsJobOf : List Text → Job → Type 0
+IsJobOf words = IsJobBy (subcommand_of timedesk words)
+
+-- the kinds of fault that `clap` may find in the words; none where it takes them
+abbrev pub faults_of : List Text → Kinds
+faults_of words = fault_of timedesk words
+
+-- a fault of this kind
+abbrev pub IsOfKind : ErrorKind → WordsFault → Type 0
+IsOfKind kind (Help text) = kind ≡ DisplayHelp
+IsOfKind kind (Refused text) = (kind ≢ DisplayHelp) × (kind ≢ OutOfMemory)
+IsOfKind kind NoMemory = Unit {0}
+
+-- a fault of one of these kinds: help where it is asked for, and else a refusal
+abbrev pub IsOfKinds : Kinds → WordsFault → Type 0
+IsOfKinds kinds (Help text) = IsAmong DisplayHelp kinds
+IsOfKinds kinds (Refused text) = (kind : ErrorKind) × IsAmong kind kinds × (kind ≢ DisplayHelp)
+IsOfKinds kinds NoMemory = Unit {0}
