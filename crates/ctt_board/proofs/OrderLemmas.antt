@@ -6,21 +6,19 @@ use Rattle.std.proofs.lemmas.List.Sums.{position_or_len_is}
 use Rattle.ctt_text.specs.Lists.{Pairwise}
 use Rattle.ctt_text.specs.Timetable.{before, Ascending, with, without}
 use Rattle.ctt_text.specs.declared.placed.Placed.{Placed}
+use Rattle.ctt_text.proofs.LectureLaws.{before_once}
 use Rattle.ctt_rules.proofs.ListLemmas.{Pairwise-filter}
 use Rattle.ctt_board.proofs.PutLemmas.{Pairwise-map, Pairwise-put, put_is}
 
 pub before_goes : (a b c : Placed) → before a b ≡ true → before c b ≡ false → before a c ≡ true
 before_goes a b c h k = grind (arith, nat_tests)
 
-pub before_flip : (a b : Placed) → before a b ≡ true → before b a ≡ false
-before_flip a b h = grind (arith, nat_tests)
-
 -- in order, with lectures of one course and slot allowed
 abbrev pub InOrder : List Placed → Type 0
 InOrder t = Pairwise (λ a b. before b a ≡ false) t
 
 pub in_order : (t : List Placed) → Ascending t → InOrder t
-in_order t h = Pairwise-map (λ a b. before a b ≡ true) (λ a b. before b a ≡ false) before_flip t h
+in_order t h = Pairwise-map (λ a b. before a b ≡ true) (λ a b. before b a ≡ false) before_once t h
 
 pub InOrder-with : (l : Placed) (t : List Placed) → InOrder t → InOrder (with l t)
 InOrder-with l t h = Pairwise-put (λ a b. before b a ≡ false) before l t far (each_up t) (each_down t) h
@@ -30,7 +28,7 @@ InOrder-with l t h = Pairwise-put (λ a b. before b a ≡ false) before l t far 
 
     each_up : (xs : List Placed) → Each (λ y. before l y ≡ true → before y l ≡ false) xs
     each_up [] = tt
-    each_up (x ∷ xs) = (before_flip l x, each_up xs)
+    each_up (x ∷ xs) = (before_once l x, each_up xs)
 
     each_down : (xs : List Placed) → Each (λ y. before l y ≡ false → before l y ≡ false) xs
     each_down [] = tt

@@ -5,6 +5,7 @@ use Rattle.std.proofs.lemmas.Bool.Decides.{nat_tests}
 use Rattle.std.proofs.lemmas.Bool.{cases_Bool}
 use Rattle.ctt_text.specs.Lists.{Pairwise, put}
 use Rattle.ctt_text.proofs.TimetableLemmas.{Each-map}
+use Rattle.ctt_text.proofs.LectureLaws.{Each-put}
 use Rattle.ctt_rules.proofs.ListLemmas.{Each-filter}
 
 pub filter_filter : {X : Type 0} (p q : X → Bool) (xs : List X) → filter p (filter q xs) ≡ filter q (filter p xs)
@@ -14,10 +15,6 @@ filter_filter p q (x ∷ xs) = grind (arith, nat_tests, cases_Bool (p x), cases_
 pub Pairwise-map : {X : Type 0} (R S : X → X → Type 0) → ((x y : X) → R x y → S x y) → (xs : List X) → Pairwise R xs → Pairwise S xs
 Pairwise-map R S f [] h = tt
 Pairwise-map R S f (x ∷ xs) h = (Each-map (R x) (S x) (f x) xs h.0, Pairwise-map R S f xs h.1)
-
-pub Each-put : {X : Type 0} (P : X → Type 0) (lt : X → X → Bool) (l : X) (xs : List X) → P l → Each P xs → Each P (put lt l xs)
-Each-put P lt l [] one h = (one, tt)
-Each-put P lt l (x ∷ xs) one h = elim (cases_Bool (lt l x)) [ inl e ↦ rw e (one, h) | inr e ↦ rw e (h.0, Each-put P lt l xs one h.1) ]
 
 pub length-put : {X : Type 0} (lt : X → X → Bool) (l : X) (xs : List X) → length (put lt l xs) ≡ suc (length xs)
 length-put lt l [] = refl

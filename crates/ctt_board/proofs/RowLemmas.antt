@@ -11,7 +11,7 @@ use Rattle.ctt_rules.proofs.ListLemmas.{filter_none, filter_every, filter_within
 use Rattle.ctt_rules.proofs.TimetableLemmas.{row_fits, row_by_slot}
 use Rattle.ctt_rules.specs.Penalty.{course_cost, row_cost, total}
 use Rattle.ctt_board.specs.Changes.{room_at, room_of}
-use Rattle.ctt_board.specs.Cells.{lecture_of, row_below}
+use Rattle.ctt_board.specs.Cells.{lecture_at, row_below}
 use Rattle.ctt_board.proofs.PutLemmas.{Pairwise-map}
 
 -- of a list in the order of a key, those below n + 1 are those below n and then those at n
@@ -38,13 +38,13 @@ split_at key n (x ∷ xs) h = elim (cases_order (key x) n) [
 ]
 
 -- the lecture of a row in one slot
-one_slot : (c s : ℕ) (ls : List Placed) → Each (λ (l : Placed). (l.course == c) ≡ true) ls → Pairwise (λ (a b : Placed). a.slot < b.slot) ls → filter (λ (l : Placed). l.slot == s) ls ≡ lecture_of c s (room_of (find (λ (l : Placed). l.slot == s) ls))
+one_slot : (c s : ℕ) (ls : List Placed) → Each (λ (l : Placed). (l.course == c) ≡ true) ls → Pairwise (λ (a b : Placed). a.slot < b.slot) ls → filter (λ (l : Placed). l.slot == s) ls ≡ lecture_at c s (room_of (find (λ (l : Placed). l.slot == s) ls))
 one_slot c s [] h p = refl
 one_slot c s (x ∷ xs) h p = elim (cases_eq x.slot s) [
   | inl same ↦ (
       let e : (x.slot == s) ≡ true = eq-eqb x.slot s same in
       let none : filter (λ (l : Placed). l.slot == s) xs ≡ [] = filter_none (λ (l : Placed). l.slot == s) xs (Each-map (λ (y : Placed). x.slot < y.slot) (λ (y : Placed). eqb y.slot s ≡ false) (λ y lt. ne_eqb y.slot s (λ k. omega arith)) xs p.0) in
-      rw (e, none) (ap₂ (λ a b. lecture_of a b (Some x.room)) (eqb-true x.course c h.0) same))
+      rw (e, none) (ap₂ (λ a b. lecture_at a b (Some x.room)) (eqb-true x.course c h.0) same))
   | inr other ↦ (let e : (x.slot == s) ≡ false = ne_eqb x.slot s other in rw e (one_slot c s xs h.1 p.1))
 ]
 

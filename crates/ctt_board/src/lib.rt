@@ -13,3 +13,6 @@ pub use cell::Cell;
 pub use change::Change;
 pub use list_sheet::ListSheet;
 pub use sheet::{Sheet, Timetable};
+
+#[cfg(test)]
+mod tests;

@@ -14,7 +14,7 @@ use crate::delta::delta;
 use crate::laws;
 use crate::sheet::{Sheet, Timetable};
 use ctt_rules::Cost;
-use ctt_text::{CourseNo, Instance, NoMemory, Placed, RoomNo, SlotNo};
+use ctt_text::{CourseNo, Instance, NoMemory, Placed, RoomNo, SlotNo, is_before};
 use std::alloc::{AllocError, Global};
 use std::marker::Model;
 
@@ -35,14 +35,6 @@ impl<'i> Model for ListSheet<'i> {
     ghost view = { λ s. record { problem = s.instance.now; list = s.lectures.items } };
 
     ghost invariant = { λ s. IsListSheet s.instance.now s.lectures.items (vec_capacity s.lectures) };
-}
-
-/// Whether a lecture comes before another, by course and then by slot.
-fn is_before(a: &Placed, b: &Placed) -> bool
-    ensures { result ≡ before a.now b.now }
-{
-    let (a_course, b_course) = (a.course.get(), b.course.get());
-    a_course < b_course || (a_course == b_course && a.slot.get() < b.slot.get())
 }
 
 /// The place of a lecture among others in order.
