@@ -34,11 +34,19 @@ geo 0 0
 END.
 ";
 
-fn cell(course: u16, slot: u16, room: Option<u16>) -> Cell {
+fn removal() -> Cell {
     Cell {
-        course: CourseNo::new(course),
-        slot: SlotNo::new(slot),
-        room: room.map(RoomNo::new),
+        course: CourseNo::new(0),
+        slot: SlotNo::new(0),
+        room: None,
+    }
+}
+
+fn addition() -> Cell {
+    Cell {
+        course: CourseNo::new(0),
+        slot: SlotNo::new(1),
+        room: Some(RoomNo::new(1)),
     }
 }
 
@@ -103,12 +111,14 @@ fn one_placement_on_a_list_sheet(rt: HostRuntime) -> Result<(), Fail> {
 
 #[test]
 fn cells_of_changes(rt: HostRuntime) {
-    let removal = cell(0, 0, None);
-    let addition = cell(0, 1, Some(1));
     assert!(rt; Change::of(&[]).is_some());
-    assert!(rt; Change::of(&[removal, removal, addition, addition]).is_some());
-    assert!(rt; Change::of(&[removal, removal, removal, addition, addition]).is_none());
-    assert!(rt; Change::of(&[addition, removal]).is_none());
-    let change = Change::of(&[removal, addition]).expect(&rt, "a removal and an addition");
-    assert_eq!(rt; change.cells(), [removal, addition].as_slice());
+    let four = [removal(), removal(), addition(), addition()];
+    assert!(rt; Change::of(&four).is_some());
+    let five = [removal(), removal(), removal(), addition(), addition()];
+    assert!(rt; Change::of(&five).is_none());
+    let out_of_turn = [addition(), removal()];
+    assert!(rt; Change::of(&out_of_turn).is_none());
+    let two = [removal(), addition()];
+    let change = Change::of(&two).expect(&rt, "a removal and an addition");
+    assert_eq!(rt; change.cells(), two.as_slice());
 }
