@@ -1,6 +1,6 @@
 -- The penalty by courses and curricula, how large it is, and what a change does to it.
-use Rattle.std.proofs.Common.{◌≡◌, ℕ, zero, suc, ◌+◌, ◌-◌, ◌*◌, ◌<◌, ◌≤◌, Bool, true, false, cond, ◌==◌, List, [], ◌∷◌, length, get_or, refl, ◌∙◌, sym, ap, arith, inl, inr}
-use Rattle.std.specs.List.{sum_by, list_any, AllByRecursion as Each}
+use Rattle.std.proofs.Common.{◌≡◌, ℕ, zero, suc, ◌+◌, ◌*◌, ◌≤◌, Bool, true, false, cond, ◌==◌, List, [], ◌∷◌, length, get_or, refl, ap, arith, inl, inr}
+use Rattle.std.specs.List.{sum_by, list_any}
 use Rattle.std.proofs.Math.Nat.{mul-le-mul_right}
 use Rattle.std.proofs.lemmas.Bool.{cases_lt}
 use Rattle.std.proofs.lemmas.List.{get_or_past}
@@ -11,7 +11,7 @@ use Rattle.ctt_text.specs.Timetable.{IsTimetable, course_row}
 use Rattle.ctt_text.specs.declared.course_facts.CourseFacts.{CourseFacts}
 use Rattle.ctt_text.specs.declared.placed.Placed.{Placed}
 use Rattle.ctt_text.proofs.TimetableLemmas.{Each-at}
-use Rattle.ctt_rules.specs.Penalty.{penalty, total, course_cost, row_cost, unseated, days_cost, rooms_cost, days_of, rooms_of, alone_cost, is_alone, part_of}
+use Rattle.ctt_rules.specs.Penalty.{penalty, total, course_cost, row_cost, unseated, days_cost, rooms_cost, rooms_of, alone_cost, is_alone, part_of}
 use Rattle.ctt_rules.proofs.SumLemmas.{sum_below_le, count_below_le}
 use Rattle.ctt_rules.proofs.PartLemmas.{count_part_le}
 use Rattle.ctt_rules.proofs.TimetableLemmas.{sum_by_course, courses_fit, row_is_short, few_lectures}

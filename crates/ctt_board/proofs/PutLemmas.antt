@@ -1,5 +1,5 @@
 -- Filters one after another, and elements put in their places in a list in order.
-use Rattle.std.proofs.Common.{◌≡◌, suc, Bool, true, false, cond, List, [], ◌∷◌, refl, ◌∙◌, sym, ap, length, arith, inl, inr, one-add}
+use Rattle.std.proofs.Common.{◌≡◌, suc, Bool, true, false, cond, List, [], ◌∷◌, refl, sym, ap, length, arith, inl, inr, one-add}
 use Rattle.std.specs.List.{filter, insert, position_or_len, AllByRecursion as Each}
 use Rattle.std.proofs.lemmas.Bool.Decides.{nat_tests}
 use Rattle.std.proofs.lemmas.Bool.{cases_Bool}

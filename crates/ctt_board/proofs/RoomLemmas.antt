@@ -1,14 +1,13 @@
 -- What stands in each cell of a timetable, and after a change.
-use Rattle.std.proofs.Common.{◌≡◌, ◌≢◌, ℕ, Bool, true, false, cond, not, ◌&&◌, ◌==◌, List, [], ◌∷◌, Option, Some, None, refl, ◌∙◌, sym, ap, ap₂, arith, inl, inr, is_some}
+use Rattle.std.proofs.Common.{◌≡◌, ℕ, Bool, true, false, cond, not, ◌&&◌, ◌==◌, List, [], ◌∷◌, Option, Some, None, refl, ◌∙◌, sym, ap, ap₂, arith, inl, inr, is_some}
 use Rattle.std.specs.List.{filter, find}
 use Rattle.std.proofs.lemmas.Bool.{cases_Bool, eq-eqb, and_parts, eqb-true}
 use Rattle.std.proofs.lemmas.Bool.Decides.{nat_tests}
 use Rattle.ctt_text.specs.Lists.{put}
 use Rattle.ctt_text.specs.Timetable.{before, with, without}
 use Rattle.ctt_text.specs.declared.placed.Placed.{Placed}
-use Rattle.ctt_board.specs.Changes.{room_at, room_of, room_by, apply_at, CellFits, CellsFit}
+use Rattle.ctt_board.specs.Changes.{room_at, room_of, room_by, apply_at, CellFits}
 use Rattle.ctt_board.specs.Laws.{RoomsAfter}
-use Rattle.ctt_board.specs.declared.cell.Cell.{Cell}
 
 -- the first of a row, found in the whole list
 pub find-filter : {X : Type 0} (q p : X → Bool) (xs : List X) → find p (filter q xs) ≡ find (λ x. q x && p x) xs

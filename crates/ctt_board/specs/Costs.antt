@@ -1,5 +1,5 @@
 -- The costs of the courses and curricula that cells touch.
-use Rattle.std.specs.Prelude.{ℕ, ◌+◌, Bool, cond, List, sum_by, ◌==◌}
+use Rattle.std.specs.Prelude.{ℕ, Bool, cond, List, sum_by, ◌==◌}
 use Rattle.std.specs.List.{list_any}
 use Rattle.ctt_text.specs.Lists.{sum_below, has}
 use Rattle.ctt_text.specs.Problem.{Problem, course_count}

@@ -52,12 +52,7 @@ impl<'a, R: Rooms> Model for After<'a, R> {
 }
 
 /// The room of a course in a slot after these cells, from the one before them.
-fn last_room(
-    cells: &[Cell],
-    course: CourseNo,
-    slot: SlotNo,
-    room: Option<RoomNo>,
-) -> Option<RoomNo>
+fn last_room(cells: &[Cell], course: CourseNo, slot: SlotNo, room: Option<RoomNo>) -> Option<RoomNo>
     ensures { result ≡ room_by cells.now course slot room }
 {
     let mut last = room;

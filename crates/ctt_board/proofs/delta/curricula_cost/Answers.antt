@@ -1,4 +1,4 @@
-use Rattle.std.proofs.Common.{◌≡◌, ◌+◌, ◌<◌, ◌∙◌, ℕ, List, [], Bool, true, false, cond, take, sum_by, length, sym, ap, ap₂, arith}
+use Rattle.std.proofs.Common.{◌≡◌, ◌+◌, ◌<◌, ◌∙◌, ℕ, List, [], Bool, cond, take, sum_by, sym, ap, ap₂, arith}
 use Rattle.std.proofs.lemmas.List.Sums.{sum_by_more}
 use Rattle.ctt_text.specs.Problem.{Problem, members, curriculum_count}
 use Rattle.ctt_text.specs.declared.placed.Placed.{Placed}

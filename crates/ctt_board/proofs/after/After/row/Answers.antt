@@ -1,4 +1,4 @@
-use Rattle.std.proofs.Common.{◌≡◌, ◌∙◌, ◌++◌, ◌∷◌, [], ℕ, Option, Some, None, List, sym, ap, arith}
+use Rattle.std.proofs.Common.{◌≡◌, ◌∙◌, ◌++◌, ◌∷◌, [], ℕ, Option, List, sym, ap, arith}
 use Rattle.ctt_text.specs.Problem.{slot_count}
 use Rattle.ctt_text.specs.declared.placed.Placed.{Placed}
 use Rattle.ctt_board.specs.Changes.{room_at}
