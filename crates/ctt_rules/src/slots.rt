@@ -9,7 +9,7 @@ ghost use Rattle.ctt_rules.specs.Neighbours.{busy};
 use ctt_text::{Instance, Marks, Placed};
 
 /// Marks the slots of lectures.
-pub(crate) fn mark_slots(instance: &Instance, slots: &mut Marks, lectures: &[Placed])
+pub fn mark_slots(instance: &Instance, slots: &mut Marks, lectures: &[Placed])
     requires { Each (Fits instance.now) lectures.now }
     ensures { (s : ℕ) → is_marked slots.new s ≡ (is_marked slots.old s || busy lectures.now s) }
 {

@@ -26,7 +26,7 @@ pub use no_memory::NoMemory;
 pub use numbers::number;
 pub use placed::Placed;
 pub use solution::{read_solution, write_solution};
-pub use timetable::is_timetable;
+pub use timetable::{is_before, is_timetable};
 pub use words::Words;
 
 #[cfg(test)]

@@ -8,7 +8,7 @@ use crate::instance::Instance;
 use crate::placed::Placed;
 
 /// Whether a lecture comes before another, by course and then by slot.
-fn is_before(a: &Placed, b: &Placed) -> bool
+pub fn is_before(a: &Placed, b: &Placed) -> bool
     ensures { result ≡ before a.now b.now }
 {
     let (a_course, b_course) = (a.course.get(), b.course.get());

@@ -1,0 +1,49 @@
+-- The order of a timetable, and what keeps it.
+use Rattle.std.proofs.Common.{◌≡◌, ℕ, ◌<◌, true, false, not, ◌&&◌, ◌==◌, List, [], ◌∷◌, length, get_or, sym, arith}
+use Rattle.std.specs.List.{insert, position_or_len, AllByRecursion as Each}
+use Rattle.std.proofs.lemmas.Bool.Decides.{nat_tests}
+use Rattle.std.proofs.lemmas.List.Sums.{position_or_len_is}
+use Rattle.ctt_text.specs.Lists.{Pairwise}
+use Rattle.ctt_text.specs.Timetable.{before, Ascending, with, without}
+use Rattle.ctt_text.specs.declared.placed.Placed.{Placed}
+use Rattle.ctt_text.proofs.LectureLaws.{before_once}
+use Rattle.ctt_rules.proofs.ListLemmas.{Pairwise-filter}
+use Rattle.ctt_board.proofs.PutLemmas.{Pairwise-map, Pairwise-put, put_is}
+
+pub before_goes : (a b c : Placed) → before a b ≡ true → before c b ≡ false → before a c ≡ true
+before_goes a b c h k = grind (arith, nat_tests)
+
+-- in order, with lectures of one course and slot allowed
+abbrev pub InOrder : List Placed → Type 0
+InOrder t = Pairwise (λ a b. before b a ≡ false) t
+
+pub in_order : (t : List Placed) → Ascending t → InOrder t
+in_order t h = Pairwise-map (λ a b. before a b ≡ true) (λ a b. before b a ≡ false) before_once t h
+
+pub InOrder-with : (l : Placed) (t : List Placed) → InOrder t → InOrder (with l t)
+InOrder-with l t h = Pairwise-put (λ a b. before b a ≡ false) before l t far (each_up t) (each_down t) h
+  where
+    far : (y z : Placed) → before l y ≡ true → before z y ≡ false → before z l ≡ false
+    far y z h k = grind (arith, nat_tests)
+
+    each_up : (xs : List Placed) → Each (λ y. before l y ≡ true → before y l ≡ false) xs
+    each_up [] = tt
+    each_up (x ∷ xs) = (before_once l x, each_up xs)
+
+    each_down : (xs : List Placed) → Each (λ y. before l y ≡ false → before l y ≡ false) xs
+    each_down [] = tt
+    each_down (x ∷ xs) = ((λ e. e), each_down xs)
+
+pub InOrder-without : (c s : ℕ) (t : List Placed) → InOrder t → InOrder (without c s t)
+InOrder-without c s t h = Pairwise-filter (λ a b. before b a ≡ false) (λ l. not (l.course == c && l.slot == s)) t h
+
+-- a lecture inserted in its place
+pub with_is : (l : Placed) (t : List Placed) → insert t (position_or_len (before l) t) l ≡ with l t
+with_is l t = sym (put_is before l t)
+
+-- the place where a search for it stops
+pub found_at : (l : Placed) (t : List Placed) (i : ℕ) (d : Placed) → i < length t → ((k : ℕ) (e : Placed) → k < i → before l (get_or t k e) ≡ false) → before l (get_or t i d) ≡ true → i ≡ position_or_len (before l) t
+found_at l t i d lt h e = sym (position_or_len_is (before l) t i d (omega arith) (λ k less. h k d less) (λ less. e))
+
+pub found_nowhere : (l : Placed) (t : List Placed) (i : ℕ) → i ≡ length t → ((k : ℕ) (e : Placed) → k < i → before l (get_or t k e) ≡ false) → i ≡ position_or_len (before l) t
+found_nowhere l t i same h = sym (position_or_len_is (before l) t i l (omega arith) (λ k less. h k l less) (λ less. absurd (omega arith)))

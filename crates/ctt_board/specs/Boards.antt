@@ -1,0 +1,28 @@
+-- A sheet by its value.
+use Rattle.std.specs.Prelude.{◌≡◌, ℕ, ◌*◌, ◌≤◌, ℤ, pos, ◌-ℤ◌, List}
+use Rattle.ctt_text.specs.Problem.{Problem, course_count, slot_count}
+use Rattle.ctt_text.specs.declared.placed.Placed.{Placed}
+use Rattle.ctt_rules.specs.Hard.{Lawful}
+use Rattle.ctt_rules.specs.Penalty.{penalty, total}
+use Rattle.ctt_board.specs.Changes.{apply, CellsFit}
+use Rattle.ctt_board.specs.declared.cell.Cell.{Cell}
+
+-- a timetable of an instance
+pub record Board : Type 0 where
+  pub problem : Problem
+  pub list : List Placed
+
+-- the penalty after the change minus that before
+abbrev pub delta : Problem → List Placed → List Cell → ℤ
+delta i t cells = pos (total (penalty i (apply cells t))) -ℤ pos (total (penalty i t))
+
+-- a lawful list, in a vector of this capacity
+pub record IsListSheet (i : Problem) (t : List Placed) (capacity : ℕ) : Type 0 where
+  pub lawful : Lawful i t
+  pub room : course_count i * slot_count i ≤ capacity
+
+-- a change that fits the lawful list t of the problem j
+pub record IsAfter (i j : Problem) (t : List Placed) (cells : List Cell) : Type 0 where
+  pub same : j ≡ i
+  pub fit : CellsFit cells t
+  pub lawful : Lawful i (apply cells t)

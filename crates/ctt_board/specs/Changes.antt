@@ -1,0 +1,62 @@
+-- Cells of a timetable, and changes, which are made cell by cell.
+use Rattle.std.specs.Prelude.{ℕ, Bool, true, false, cond, not, ◌&&◌, ◌||◌, ◌==◌, List, [], ◌∷◌, length, nat_le, Option, Some, None, is_some, is_none, IsSome, IsNone}
+use Rattle.std.specs.Option.{option_map}
+use Rattle.std.specs.List.{find}
+use Rattle.ctt_text.specs.Problem.{Problem}
+use Rattle.ctt_text.specs.Timetable.{course_row, with, without}
+use Rattle.ctt_text.specs.declared.placed.Placed.{Placed}
+use Rattle.ctt_rules.specs.Hard.{Lawful}
+use Rattle.ctt_board.specs.declared.cell.Cell.{Cell}
+
+-- the room of a lecture that was looked for
+abbrev pub room_of : Option Placed → Option ℕ
+room_of found = option_map (λ (l : Placed). l.room) found
+
+-- the room of the lecture of a course in a slot
+abbrev pub room_at : ℕ → ℕ → List Placed → Option ℕ
+room_at c s t = room_of (find (λ l. l.slot == s) (course_row c t))
+
+abbrev pub cell : ℕ → ℕ → Option ℕ → Cell
+cell c s r = record { course = c; slot = s; room = r }
+
+-- no removal stands behind an addition, of which one may have come before
+abbrev pub in_turn : Bool → List Cell → Bool
+in_turn added [] = true
+in_turn added (x ∷ xs) = not (added && is_none x.room) && in_turn (added || is_some x.room) xs
+
+-- at most four cells, removals before additions
+abbrev pub is_change : List Cell → Bool
+is_change cells = nat_le (length cells) 4 && in_turn false cells
+
+abbrev pub change_of : List Cell → Option (List Cell)
+change_of cells = cond (is_change cells) (Some cells) None
+
+-- the timetable after a cell
+abbrev pub apply_at : ℕ → ℕ → Option ℕ → List Placed → List Placed
+apply_at c s None t = without c s t
+apply_at c s (Some r) t = with (record { course = c; slot = s; room = r }) t
+
+-- the timetable after a change
+abbrev pub apply : List Cell → List Placed → List Placed
+apply [] t = t
+apply (x ∷ xs) t = apply xs (apply_at x.course x.slot x.room t)
+
+-- a removed cell holds a lecture, and an added cell is empty
+abbrev pub CellFits : List Placed → ℕ → ℕ → Option ℕ → Type 0
+CellFits t c s None = IsSome (room_at c s t)
+CellFits t c s (Some r) = IsNone (room_at c s t)
+
+-- each when its turn comes
+abbrev pub CellsFit : List Cell → List Placed → Type 0
+CellsFit [] t = Unit {0}
+CellsFit (x ∷ xs) t = CellFits t x.course x.slot x.room × CellsFit xs (apply_at x.course x.slot x.room t)
+
+-- a change fits a timetable: its cells do, and the timetable afterwards is lawful
+pub record ChangeFits (i : Problem) (cells : List Cell) (t : List Placed) : Type 0 where
+  pub cells_fit : CellsFit cells t
+  pub lawful : Lawful i (apply cells t)
+
+-- the room at a place after these cells, where o is the room before them
+abbrev pub room_by : List Cell → ℕ → ℕ → Option ℕ → Option ℕ
+room_by [] c s o = o
+room_by (x ∷ xs) c s o = room_by xs c s (cond (x.course == c && x.slot == s) x.room o)

@@ -1,0 +1,22 @@
+-- The costs of the courses and curricula that cells touch.
+use Rattle.std.specs.Prelude.{ℕ, Bool, cond, List, sum_by, ◌==◌}
+use Rattle.std.specs.List.{list_any}
+use Rattle.ctt_text.specs.Lists.{sum_below, has}
+use Rattle.ctt_text.specs.Problem.{Problem, course_count}
+use Rattle.ctt_text.specs.declared.placed.Placed.{Placed}
+use Rattle.ctt_rules.specs.Penalty.{course_cost, total, alone_cost, part_of}
+use Rattle.ctt_board.specs.declared.cell.Cell.{Cell}
+
+-- some cell is of the course
+abbrev pub touches : List Cell → ℕ → Bool
+touches cells c = list_any (λ x. x.course == c) cells
+
+-- some cell is of a member of the curriculum
+abbrev pub touches_part : List Cell → List ℕ → Bool
+touches_part cells q = list_any (λ x. has x.course q) cells
+
+abbrev pub courses_cost : Problem → List Cell → List Placed → ℕ
+courses_cost i cells t = sum_below (λ c. cond (touches cells c) (total (course_cost i t c)) 0) (course_count i)
+
+abbrev pub curricula_cost : Problem → List Cell → List Placed → ℕ
+curricula_cost i cells t = sum_by (λ q. cond (touches_part cells q) (alone_cost i (part_of q t)) 0) i.curricula

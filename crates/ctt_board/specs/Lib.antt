@@ -1,0 +1,5 @@
+pub mod Changes
+pub mod Cells
+pub mod Boards
+pub mod Costs
+pub mod Laws

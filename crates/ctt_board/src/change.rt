@@ -1,0 +1,66 @@
+//! What changes in a timetable.
+
+ghost use Rattle.std.specs.Prelude.{◌≡◌, true, false};
+ghost use Rattle.ctt_board.specs.Changes.{in_turn, is_change, change_of};
+
+use crate::cell::Cell;
+use arrayvec::ArrayVec;
+use std::marker::Model;
+
+/// At most four cells, removals before additions.
+#[derive(Debug, Drop)]
+pub struct Change {
+    cells: ArrayVec<Cell, 4>,
+}
+
+impl Model for Change {
+    ghost use Rattle.std.specs.Prelude.{List, ◌≡◌, true};
+    ghost use Rattle.ctt_board.specs.declared.cell.Cell.{Cell};
+
+    ghost Value = { List Cell };
+
+    ghost use Rattle.ctt_board.specs.Changes.{is_change};
+
+    ghost view = { λ c. c.cells.items };
+
+    ghost invariant = { λ c. is_change c.cells.items ≡ true };
+}
+
+/// Whether no removal stands behind an addition.
+fn are_in_turn(cells: &[Cell]) -> bool
+    ensures { result ≡ in_turn false cells.now }
+{
+    let mut added = false;
+    for cell in cells {
+        if added && cell.room.is_none() {
+            return false;
+        }
+        added = cell.room.is_some();
+    }
+    true
+}
+
+impl Change {
+    /// The change of these cells, unless there are more than four or a removal stands behind an
+    /// addition.
+    pub fn of(cells: &[Cell]) -> Option<Change>
+        ensures { result ≡ change_of cells.now }
+    {
+        if !are_in_turn(cells) {
+            return None;
+        }
+        let mut kept = ArrayVec::new();
+        if kept.try_extend_from_slice(cells).is_err() {
+            return None;
+        }
+        Some(Change { cells: kept })
+    }
+
+    /// The cells, in order.
+    pub fn cells(&self) -> &[Cell]
+        ensures value { result.now ≡ self.now }
+        ensures in_turn { is_change self.now ≡ true }
+    {
+        self.cells.as_slice()
+    }
+}

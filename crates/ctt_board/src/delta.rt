@@ -1,0 +1,81 @@
+//! What a change would do to the penalty.
+
+ghost use Rattle.std.specs.Prelude.{◌≡◌, ◌≤◌, ◌+◌, ◌*◌};
+ghost use Rattle.ctt_rules.specs.Hard.{Lawful};
+ghost use Rattle.ctt_board.specs.Boards.{delta};
+ghost use Rattle.ctt_board.specs.Changes.{ChangeFits};
+ghost use Rattle.ctt_board.specs.Costs.{touches, touches_part, courses_cost, curricula_cost};
+
+use crate::after::{After, Rooms};
+use crate::cell::Cell;
+use crate::change::Change;
+use ctt_text::{CourseNo, CurriculumNo, Instance};
+
+/// Whether some cell is of the course.
+fn touches(cells: &[Cell], course: CourseNo) -> bool
+    ensures { result ≡ touches cells.now course }
+{
+    cells.iter().any(|x| x.course == course)
+}
+
+/// Whether some cell is of a member of the curriculum.
+fn touches_part(cells: &[Cell], members: &[CourseNo]) -> bool
+    ensures { result ≡ touches_part cells.now members.now }
+{
+    cells.iter().any(|x| members.contains(&x.course))
+}
+
+/// What the courses cost that some cell touches.
+fn courses_cost<R: Rooms>(after: &After<R>, cells: &[Cell]) -> u64
+    ensures value { result ≡ courses_cost after.now.problem cells.now after.now.list }
+    ensures bound { result ≤ 2000 * 3000000000000 }
+{
+    let instance = after.instance();
+    instance.limits();
+    let mut total = 0;
+    for number in 0..instance.courses() {
+        let course = CourseNo::new(number);
+        if touches(cells, course) {
+            total += after.course_cost(course);
+        }
+    }
+    total
+}
+
+/// What the curricula cost that some cell touches.
+fn curricula_cost<R: Rooms>(after: &After<R>, cells: &[Cell]) -> u64
+    ensures value { result ≡ curricula_cost after.now.problem cells.now after.now.list }
+    ensures bound { result ≤ 20000 * 8000000 }
+{
+    let instance = after.instance();
+    instance.limits();
+    let mut total = 0;
+    for number in 0..instance.curricula() {
+        let members = instance.members(CurriculumNo::new(number));
+        if touches_part(cells, members) {
+            total += after.curriculum_cost(members);
+        }
+    }
+    total
+}
+
+/// What the courses and curricula cost that some cell touches.
+fn touched_cost<R: Rooms>(after: &After<R>, cells: &[Cell]) -> u64
+    ensures value { result ≡ courses_cost after.now.problem cells.now after.now.list + curricula_cost after.now.problem cells.now after.now.list }
+    ensures bound { result ≤ 2000 * 3000000000000 + 20000 * 8000000 }
+{
+    courses_cost(after, cells) + curricula_cost(after, cells)
+}
+
+/// The penalty after a change that fits, minus the one before it.
+pub(crate) fn delta<R: Rooms>(instance: &Instance, rooms: &R, change: &Change) -> i64
+    requires same { R.problem rooms.now ≡ instance.now }
+    requires lawful { Lawful instance.now (R.list rooms.now) }
+    requires fits { ChangeFits instance.now change.now (R.list rooms.now) }
+    ensures { result ≡ delta instance.now (R.list rooms.now) change.now }
+{
+    let cells = change.cells();
+    let before = After::new(instance, rooms, &[]);
+    let after = After::new(instance, rooms, cells);
+    touched_cost(&after, cells) as i64 - touched_cost(&before, cells) as i64
+}

@@ -1,0 +1,184 @@
+//! A sheet that keeps the list of its lectures.
+
+ghost use Rattle.std.specs.Prelude.{◌≡◌, ◌==◌, ◌&&◌, ◌≤◌, ◌<◌, ◌*◌, ℕ, true, false, length, IfOk, []};
+ghost use Rattle.std.specs.List.{position_or_len};
+ghost use Rattle.std.specs.Vec.{vec_len, vec_capacity};
+ghost use Rattle.ctt_text.specs.Problem.{course_count, slot_count};
+ghost use Rattle.ctt_text.specs.Timetable.{course_row, slot_row, with, without, before};
+ghost use Rattle.ctt_board.specs.Changes.{apply, in_turn};
+
+use crate::after::Rooms;
+use crate::cell::Cell;
+use crate::change::Change;
+use crate::delta::delta;
+use crate::laws;
+use crate::sheet::{Sheet, Timetable};
+use ctt_rules::Cost;
+use ctt_text::{CourseNo, Instance, NoMemory, Placed, RoomNo, SlotNo, is_before};
+use std::alloc::{AllocError, Global};
+use std::marker::Model;
+
+/// A sheet whose lectures lie in a vector with room for each lawful timetable, so that no change
+/// takes memory. Its costs are computed anew whenever they are asked for.
+#[derive(Debug, Drop)]
+pub struct ListSheet<'i> {
+    instance: &'i Instance,
+    lectures: Vec<Placed>,
+}
+
+impl<'i> Model for ListSheet<'i> {
+    ghost use Rattle.std.specs.Vec.{vec_capacity};
+    ghost use Rattle.ctt_board.specs.Boards.{Board, IsListSheet};
+
+    ghost Value = { Board };
+
+    ghost view = { λ s. record { problem = s.instance.now; list = s.lectures.items } };
+
+    ghost invariant = { λ s. IsListSheet s.instance.now s.lectures.items (vec_capacity s.lectures) };
+}
+
+/// The place of a lecture among others in order.
+#[tactic(auto, using(crate::proofs::OrderLemmas::found_at, crate::proofs::OrderLemmas::found_nowhere))]
+fn place_of(lectures: &[Placed], lecture: &Placed) -> usize
+    ensures place { result ≡ position_or_len (before lecture.now) lectures.now }
+    ensures within { result ≤ length lectures.now }
+{
+    for (place, other) in lectures.iter().enumerate() {
+        if is_before(lecture, other) {
+            return place;
+        }
+    }
+    lectures.len()
+}
+
+/// Adds a lecture in its place. There is room for it.
+#[tactic(auto, using(crate::proofs::OrderLemmas::with_is))]
+fn add(lectures: &mut Vec<Placed>, lecture: Placed)
+    requires { vec_len lectures.old < vec_capacity lectures.old }
+    ensures items { lectures.new.items ≡ with lecture lectures.old.items }
+    ensures capacity { vec_capacity lectures.old ≤ vec_capacity lectures.new }
+{
+    let place = place_of(lectures, &lecture);
+    lectures.insert(place, lecture).unwrap();
+}
+
+/// Removes the lecture of a course in a slot.
+fn remove(lectures: &mut Vec<Placed>, course: CourseNo, slot: SlotNo)
+    ensures items { lectures.new.items ≡ without course slot lectures.old.items }
+    ensures capacity { vec_capacity lectures.old ≤ vec_capacity lectures.new }
+{
+    lectures.retain(|l| !(l.course == course && l.slot == slot));
+}
+
+/// Makes each cell in turn. There is room for the lectures that are there in the end.
+fn make(lectures: &mut Vec<Placed>, cells: &[Cell])
+    requires turn { in_turn false cells.now ≡ true }
+    requires room { length (apply cells.now lectures.old.items) ≤ vec_capacity lectures.old }
+    ensures items { lectures.new.items ≡ apply cells.now lectures.old.items }
+    ensures capacity { vec_capacity lectures.old ≤ vec_capacity lectures.new }
+{
+    for cell in cells {
+        match cell.room {
+            None => remove(lectures, cell.course, cell.slot),
+            Some(room) => add(
+                lectures,
+                Placed {
+                    course: cell.course,
+                    slot: cell.slot,
+                    room,
+                },
+            ),
+        }
+    }
+}
+
+/// No lecture, and room for as many as a lawful timetable can have.
+fn reserved(alloc: Global, instance: &Instance) -> Result<Vec<Placed>, AllocError>
+    ensures items { IfOk result (λ v. v.items ≡ []) }
+    ensures room { IfOk result (λ v. course_count instance.now * slot_count instance.now ≤ vec_capacity v) }
+{
+    instance.limits();
+    let places = instance.courses() as usize * instance.slots() as usize;
+    Vec::with_capacity(alloc, places)
+}
+
+impl<'i> Rooms for ListSheet<'i> {
+    ghost problem = { λ s. s.problem };
+
+    ghost list = { λ s. s.list };
+
+    fn room(&self, course: CourseNo, slot: SlotNo) -> Option<RoomNo> {
+        let row = ctt_rules::course_row(self.instance, &self.lectures, course);
+        row.iter().find(|l| l.slot == slot).map(|l| l.room)
+    }
+}
+
+impl<'i> Timetable for ListSheet<'i> {
+    ghost problem = { λ s. s.problem };
+
+    ghost list = { λ s. s.list };
+
+    fn lawful(&self) {
+        let _lectures = &self.lectures;
+    }
+
+    fn room_at(&self, course: CourseNo, slot: SlotNo) -> Option<RoomNo> {
+        self.room(course, slot)
+    }
+
+    fn count(&self, course: CourseNo) -> u32 {
+        self.instance.limits();
+        ctt_rules::course_row(self.instance, &self.lectures, course).len() as u32
+    }
+
+    fn cost(&self) -> Cost {
+        ctt_rules::penalty(self.instance, &self.lectures)
+    }
+
+    fn delta(&self, change: &Change) -> i64 {
+        delta(self.instance, self, change)
+    }
+
+    fn apply(&mut self, change: &Change) {
+        laws::length_is_bounded();
+        make(&mut self.lectures, change.cells());
+    }
+
+    fn course_row(&self, course: CourseNo) -> Result<Vec<Placed>, NoMemory> {
+        let row = ctt_rules::course_row(self.instance, &self.lectures, course);
+        Ok(row.to_vec(*self.lectures.allocator())?)
+    }
+
+    fn slot_row(&self, slot: SlotNo) -> Result<Vec<Placed>, NoMemory> {
+        let lectures = self.lectures.iter().copied();
+        Ok(
+            lectures
+                .filter(|l| l.slot == slot)
+                .collect(*self.lectures.allocator())?,
+        )
+    }
+
+    fn list(&self) -> Result<Vec<Placed>, NoMemory> {
+        Ok(self.lectures.as_slice().to_vec(*self.lectures.allocator())?)
+    }
+
+    fn copy(&self) -> Result<Self, NoMemory> {
+        let mut lectures = reserved(*self.lectures.allocator(), self.instance)?;
+        lectures.extend_from_slice(&self.lectures)?;
+        Ok(ListSheet {
+            instance: self.instance,
+            lectures,
+        })
+    }
+}
+
+impl<'i> Sheet<'i> for ListSheet<'i> {
+    fn empty(alloc: Global, instance: &'i Instance) -> Result<Self, NoMemory> {
+        let lectures = reserved(alloc, instance)?;
+        Ok(ListSheet { instance, lectures })
+    }
+
+    fn instance(&self) -> &'i Instance {
+        self.instance
+    }
+}

@@ -1,0 +1,88 @@
+//! What a sheet is.
+
+ghost use Rattle.std.specs.Prelude.{◌≡◌, ◌<◌, ◌^◌, [], length, IfOk};
+ghost use Rattle.ctt_text.specs.Problem.{course_count, slot_count};
+ghost use Rattle.ctt_text.specs.Timetable.{course_row, slot_row};
+ghost use Rattle.ctt_rules.specs.Hard.{Lawful};
+ghost use Rattle.ctt_rules.specs.Penalty.{penalty, total};
+ghost use Rattle.ctt_board.specs.Changes.{room_at, apply, ChangeFits};
+ghost use Rattle.ctt_board.specs.Boards.{delta};
+
+use crate::change::Change;
+use ctt_rules::Cost;
+use ctt_text::{CourseNo, Instance, NoMemory, Placed, RoomNo, SlotNo};
+use std::alloc::Global;
+
+/// A lawful timetable, with its costs. This is what a sheet is without its instance's lifetime, and
+/// what structs that hold one are bound by.
+pub trait Timetable: Drop + Send + Sync {
+    ghost use Rattle.std.specs.Prelude.{List};
+    ghost use Rattle.ctt_text.specs.Problem.{Problem};
+    ghost use Rattle.ctt_text.specs.declared.placed.Placed.{Placed};
+
+    /// The instance that it is a timetable of.
+    ghost problem: { Self → Problem };
+
+    /// The lectures.
+    ghost list: { Self → List Placed };
+
+    /// Computes nothing: its contract says that the timetable is lawful.
+    fn lawful(&self)
+        ensures { Lawful (problem self.now) (list self.now) };
+
+    /// The room of the lecture of a course in a slot, if there is one.
+    fn room_at(&self, course: CourseNo, slot: SlotNo) -> Option<RoomNo>
+        requires course { course < course_count (problem self.now) }
+        requires slot { slot < slot_count (problem self.now) }
+        ensures { result ≡ room_at course slot (list self.now) };
+
+    /// How many lectures of a course are placed.
+    fn count(&self, course: CourseNo) -> u32
+        requires { course < course_count (problem self.now) }
+        ensures { result ≡ length (course_row course (list self.now)) };
+
+    /// What the timetable costs.
+    fn cost(&self) -> Cost
+        ensures value { result ≡ penalty (problem self.now) (list self.now) }
+        ensures bound { total result < 2 ^ 63 };
+
+    /// The penalty after a change, minus the present one.
+    fn delta(&self, change: &Change) -> i64
+        requires { ChangeFits (problem self.now) change.now (list self.now) }
+        ensures { result ≡ delta (problem self.now) (list self.now) change.now };
+
+    /// Makes a change. It takes no memory.
+    fn apply(&mut self, change: &Change)
+        requires { ChangeFits (problem self.old) change.now (list self.old) }
+        ensures problem { problem self.new ≡ problem self.old }
+        ensures list { list self.new ≡ apply change.now (list self.old) };
+
+    /// The lectures of a course, by slot.
+    fn course_row(&self, course: CourseNo) -> Result<Vec<Placed>, NoMemory>
+        requires { course < course_count (problem self.now) }
+        ensures { IfOk result (λ row. row.items ≡ course_row course (list self.now)) };
+
+    /// The lectures in a slot, by course.
+    fn slot_row(&self, slot: SlotNo) -> Result<Vec<Placed>, NoMemory>
+        requires { slot < slot_count (problem self.now) }
+        ensures { IfOk result (λ row. row.items ≡ slot_row slot (list self.now)) };
+
+    /// All lectures, by course and slot.
+    fn list(&self) -> Result<Vec<Placed>, NoMemory>
+        ensures { IfOk result (λ all. all.items ≡ list self.now) };
+
+    /// An equal sheet.
+    fn copy(&self) -> Result<Self, NoMemory>
+        ensures { IfOk result (λ sheet. (problem sheet ≡ problem self.now) × (list sheet ≡ list self.now)) };
+}
+
+/// A lawful timetable that is kept for an instance.
+pub trait Sheet<'i>: Timetable {
+    /// The empty timetable.
+    fn empty(alloc: Global, instance: &'i Instance) -> Result<Self, NoMemory>
+        ensures { IfOk result (λ sheet. (Self.problem sheet ≡ instance.now) × (Self.list sheet ≡ [])) };
+
+    /// The instance.
+    fn instance(&self) -> &'i Instance
+        ensures { result.now ≡ Self.problem self.now };
+}
