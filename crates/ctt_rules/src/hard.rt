@@ -3,6 +3,7 @@
 ghost use Rattle.std.specs.Prelude.{◌≡◌, ◌≤◌, length};
 ghost use Rattle.std.specs.List.{AllByRecursion as Each};
 ghost use Rattle.ctt_text.specs.Timetable.{IsTimetable, Fits};
+ghost use Rattle.ctt_rules.specs.Hard.{hard_counts, missing_count, unavailable_count};
 
 use crate::conflicts::conflicts;
 use crate::occupancy::occupancy;
@@ -22,8 +23,6 @@ pub struct Hard {
     /// Lectures beyond the first in each room and slot.
     pub occupancy: u64,
 }
-
-ghost use Rattle.ctt_rules.specs.Hard.{hard_counts, missing_count, unavailable_count};
 
 /// The lectures that courses lack, and those that they have too many.
 pub(crate) fn missing(instance: &Instance, rows: &Rows) -> u64
