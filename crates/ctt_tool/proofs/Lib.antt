@@ -3,3 +3,4 @@ pub mod Matches
 pub mod Rows
 pub mod Walks
 pub mod Taken
+pub mod Known

@@ -1,2 +1,5 @@
 pub mod CommandLine
 pub mod Jobs
+pub mod Faults
+pub mod Checks
+pub mod Work

@@ -1,22 +1,47 @@
-//! The program `timedesk`.
+//! The program `timedesk`: a shared desk for curriculum-based course timetabling.
 #![tactic(auto)]
 
+mod check;
+mod fault;
+mod files;
 mod job;
+mod output;
+mod program;
+mod texts;
 
+ghost use Rattle.std.specs.Prelude.{◌≡◌, false};
+
+use ctt_script::{Device, Sink};
+use fault::Fault;
+use files::SystemFiles;
+use program::{program, tell};
 use std::process::ExitCode;
 use std::{env, io};
 
-fn main(rt: HostRuntime) -> io::Result<ExitCode> {
-    let mut owned: Vec<String> = Vec::new(rt.alloc());
-    for word in env::args(&rt)? {
-        owned.push(word)?;
+/// The words of the command line, of which the first is the program's name.
+fn owned_words(rt: &HostRuntime) -> Result<Vec<String>, Fault> {
+    match env::args(rt) {
+        Ok(words) => Ok(words.collect(rt.alloc())?),
+        Err(error) if error.kind() == io::ErrorKind::OutOfMemory => Err(Fault::NoMemory),
+        Err(_) => Err(Fault::WordsNotText),
     }
-    let mut words = Vec::new(rt.alloc());
-    for word in &owned {
-        words.push(word.as_str())?;
-    }
-    match job::read_words(rt.alloc(), &words) {
-        Ok(_) => Ok(ExitCode::SUCCESS),
-        Err(_) => Ok(ExitCode::from(2)),
+}
+
+/// Hands the program its words, the files and the standard streams.
+fn run<V: Sink>(rt: &HostRuntime, err: &mut V) -> Result<u8, Fault>
+    requires { V.has_failed err.old ≡ false }
+{
+    let owned = owned_words(rt)?;
+    let words: Vec<&str> = owned.iter().map(|word| word.as_str()).collect(rt.alloc())?;
+    let mut files = SystemFiles::new(rt);
+    let mut out = Device::new(rt.stdout());
+    Ok(program(rt, &words, &mut files, &mut out, err))
+}
+
+fn main(rt: HostRuntime) -> ExitCode {
+    let mut err = Device::new(rt.stderr());
+    match run(&rt, &mut err) {
+        Ok(status) => ExitCode::from(status),
+        Err(fault) => ExitCode::from(tell(rt.alloc(), &fault, &mut err)),
     }
 }

@@ -1,0 +1,15 @@
+use Rattle.std.proofs.Common.{subst, IfSome}
+use Rattle.std.proofs.lemmas.Result.{IfOk-weaker}
+use Rattle.std.specs.String.{string_bytes}
+use Rattle.ctt_text.specs.Problem.{Problem}
+use Rattle.ctt_tool.specs.Checks.{IsInstanceText, IsReportFor, IsReportOn}
+use Rattle.ctt_tool.proofs.Known.{both_told}
+use Rattle.ctt_tool.proofs.check.report_on.Goals as goal
+
+pub returns-clause-reports : goal.returns-clause-reports
+returns-clause-reports g c =
+    let problem : Problem = c.in_ok-instance.instance in
+    IfOk-weaker c.report_for.result _ _ (λ bytes reported. both_told (g.F.Files.held c.args.files.now (string_bytes c.args.instance)) (g.F.Files.held c.args.files.now (string_bytes c.args.solution)) (λ text. IsInstanceText text problem) (λ text. IsReportFor c.args.json problem text bytes.items) (λ instance_text solution_text. IsReportOn c.args.json instance_text solution_text bytes.items)
+    (λ instance_text solution_text is_instance is_report. record { problem = problem; is_instance = is_instance; is_report = is_report })
+    c.in_ok-instance.ensures.spelled
+    (subst (λ held. IfSome (held (string_bytes c.args.solution)) (λ text. IsReportFor c.args.json problem text bytes.items)) c.in_ok-instance.ensures.kept reported)) c.report_for.ensures.reports

@@ -1,0 +1,79 @@
+-- The faults of the program: their numbers and their statuses.
+use Rattle.std.specs.Prelude.{◌≡◌, ℕ}
+use Rattle.std.specs.Global.{Global}
+use Rattle.std.specs.declared.string.String.{String}
+use Rattle.ctt_text.specs.declared.fault.ReadFault.{ReadFault}
+use Rattle.ctt_text.specs.declared.fault.ReadFault.TheVariants as instance
+use Rattle.ctt_text.specs.declared.fault.SolutionFault.{SolutionFault}
+use Rattle.ctt_text.specs.declared.fault.SolutionFault.TheVariants as solution
+use Rattle.ctt_tool.specs.declared.fault.Fault.{Fault}
+use Rattle.ctt_tool.specs.declared.fault.Fault.TheVariants.{CannotRead, CannotWrite, Instance, NoMemory, Solution, TooLong, Words, WordsNotText}
+
+-- the fault of an instance, by its number and the byte or the word that it names
+abbrev pub fault_of_instance : ReadFault → Fault
+fault_of_instance (instance.NotText byte) = Instance 1 byte
+fault_of_instance (instance.Missing word) = Instance 2 word
+fault_of_instance (instance.Expected word) = Instance 3 word
+fault_of_instance (instance.BadNumber word) = Instance 4 word
+fault_of_instance (instance.TooLarge word) = Instance 5 word
+fault_of_instance (instance.RepeatedName word) = Instance 6 word
+fault_of_instance (instance.UnknownCourse word) = Instance 7 word
+fault_of_instance (instance.DayOut word) = Instance 8 word
+fault_of_instance (instance.PeriodOut word) = Instance 9 word
+fault_of_instance instance.NoMemory = NoMemory
+
+-- the fault of a solution
+abbrev pub fault_of_solution : SolutionFault → Fault
+fault_of_solution (solution.NotText byte) = Solution 1 byte
+fault_of_solution (solution.Cut word) = Solution 2 word
+fault_of_solution (solution.UnknownCourse word) = Solution 3 word
+fault_of_solution (solution.UnknownRoom word) = Solution 4 word
+fault_of_solution (solution.BadNumber word) = Solution 5 word
+fault_of_solution (solution.DayOut word) = Solution 6 word
+fault_of_solution (solution.PeriodOut word) = Solution 7 word
+fault_of_solution (solution.Repeated word) = Solution 8 word
+fault_of_solution solution.NoMemory = NoMemory
+
+-- 1 where a text is refused, 2 where the words are, and 3 where the machine failed
+abbrev pub status_of : Fault → ℕ
+status_of (Instance number at) = 1
+status_of (Solution number at) = 1
+status_of (Words text) = 2
+status_of WordsNotText = 2
+status_of (CannotRead name) = 3
+status_of (TooLong name) = 3
+status_of CannotWrite = 3
+status_of NoMemory = 3
+
+-- the file of this name cannot be read, or is too long, or its bytes find no room
+abbrev pub IsOfFile : String Global → Fault → Type 0
+IsOfFile name (CannotRead file) = file ≡ name
+IsOfFile name (TooLong file) = file ≡ name
+IsOfFile name NoMemory = Unit {0}
+IsOfFile name (Instance number at) = ⊥
+IsOfFile name (Solution number at) = ⊥
+IsOfFile name (Words text) = ⊥
+IsOfFile name WordsNotText = ⊥
+IsOfFile name CannotWrite = ⊥
+
+-- the fault lies in a text or its file, or memory was wanted
+abbrev pub IsOfTexts : Fault → Type 0
+IsOfTexts (Instance number at) = Unit {0}
+IsOfTexts (Solution number at) = Unit {0}
+IsOfTexts (CannotRead name) = Unit {0}
+IsOfTexts (TooLong name) = Unit {0}
+IsOfTexts NoMemory = Unit {0}
+IsOfTexts (Words text) = ⊥
+IsOfTexts WordsNotText = ⊥
+IsOfTexts CannotWrite = ⊥
+
+-- P where standard output could not be written, and else Q
+abbrev pub IfUnwritten : Fault → Type 0 → Type 0 → Type 0
+IfUnwritten CannotWrite P Q = P
+IfUnwritten (Instance number at) P Q = Q
+IfUnwritten (Solution number at) P Q = Q
+IfUnwritten (CannotRead name) P Q = Q
+IfUnwritten (TooLong name) P Q = Q
+IfUnwritten NoMemory P Q = Q
+IfUnwritten (Words text) P Q = Q
+IfUnwritten WordsNotText P Q = Q

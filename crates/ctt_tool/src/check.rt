@@ -1,0 +1,90 @@
+//! The command `check`.
+
+ghost use Rattle.std.specs.Prelude.{◌≡◌, true, OnOk, IfOk, IfErr, IfSome};
+ghost use Rattle.std.specs.String.{string_bytes};
+ghost use Rattle.ctt_text.specs.Timetable.{IsTimetable};
+ghost use Rattle.ctt_tool.specs.Checks.{IsReport, IsReportFor, IsReportOn, PrintsReport};
+ghost use Rattle.ctt_tool.specs.Faults.{IfUnwritten, IsOfTexts};
+
+use crate::fault::Fault;
+use crate::files::Files;
+use crate::output::print;
+use crate::texts::{fetch_instance, fetch_solution};
+use ctt_script::{Sink, report_json, report_text};
+use ctt_text::{Instance, NoMemory, Placed};
+use std::alloc::Global;
+
+/// The report on a timetable, as text or as JSON.
+fn report(
+    alloc: Global,
+    instance: &Instance,
+    timetable: &[Placed],
+    json: bool,
+) -> Result<Vec<u8>, NoMemory>
+    requires { IsTimetable instance.now timetable.now }
+    ensures { IfOk result (λ bytes. IsReport json instance.now timetable.now bytes.items) }
+{
+    if json {
+        report_json(alloc, instance, timetable)
+    } else {
+        report_text(alloc, instance, timetable)
+    }
+}
+
+/// The report on a solution of an instance, given by the name of its file.
+fn report_for<F: Files>(
+    alloc: Global,
+    files: &mut F,
+    instance: &Instance,
+    solution: String,
+    json: bool,
+) -> Result<Vec<u8>, Fault>
+    ensures reports { IfOk result (λ bytes.
+        IfSome (F.held files.old (string_bytes solution)) (λ text.
+        IsReportFor json instance.now text bytes.items)) }
+    ensures fault { IfErr result IsOfTexts }
+{
+    let timetable = fetch_solution(alloc, files, instance, solution)?;
+    Ok(report(alloc, instance, &timetable, json)?)
+}
+
+/// The report on a solution of an instance, each given by the name of its file. The solution is
+/// fetched only where the instance could be read.
+fn report_on<F: Files>(
+    alloc: Global,
+    files: &mut F,
+    instance: String,
+    solution: String,
+    json: bool,
+) -> Result<Vec<u8>, Fault>
+    ensures reports { IfOk result (λ bytes.
+        IfSome (F.held files.old (string_bytes instance)) (λ instance_text.
+        IfSome (F.held files.old (string_bytes solution)) (λ solution_text.
+        IsReportOn json instance_text solution_text bytes.items))) }
+    ensures fault { IfErr result IsOfTexts }
+{
+    let instance = fetch_instance(alloc, files, instance)?;
+    report_for(alloc, files, &instance, solution, json)
+}
+
+/// Prints the report on a solution of an instance, each given by the name of its file.
+pub fn check<F: Files, W: Sink>(
+    alloc: Global,
+    files: &mut F,
+    out: &mut W,
+    instance: String,
+    solution: String,
+    json: bool,
+) -> Result<(), Fault>
+    ensures reports { OnOk result
+        (IfSome (F.held files.old (string_bytes instance)) (λ instance_text.
+        IfSome (F.held files.old (string_bytes solution)) (λ solution_text.
+        PrintsReport json instance_text solution_text (W.taken out.old) (W.taken out.new)))) }
+    ensures unmarked { OnOk result (W.has_failed out.new ≡ W.has_failed out.old) }
+    ensures fault { IfErr result (λ fault. IfUnwritten fault
+        (W.has_failed out.new ≡ true)
+        (IsOfTexts fault × (out.new ≡ out.old))) }
+{
+    let report = report_on(alloc, files, instance, solution, json)?;
+    print(out, &report)
+}

@@ -1,0 +1,115 @@
+//! Why the program did not do its job.
+
+ghost use Rattle.std.specs.Prelude.{◌≡◌};
+ghost use Rattle.ctt_tool.specs.Faults.{fault_of_instance, fault_of_solution, status_of};
+ghost use Rattle.ctt_tool.specs.declared.fault.Fault.TheVariants.{NoMemory};
+
+use ctt_text::{ReadFault, SolutionFault};
+use std::alloc::{AllocError, Global};
+use thiserror::Error;
+
+/// Why the program did not do its job. Its text is the line that the program says on standard error,
+/// without the end of the line; that of `Words` is whole.
+#[derive(Debug, Drop, Error)]
+pub enum Fault {
+    /// The words ask for no job. The text says why.
+    #[error("{0}")]
+    Words(String),
+    /// A word of the command line is no text.
+    #[error("timedesk: words that are not text")]
+    WordsNotText,
+    /// The instance is not as it has to be, at this byte or word.
+    #[error("timedesk: instance I{number} {at}")]
+    Instance { number: u8, at: u64 },
+    /// The solution is not as it has to be, at this byte or word.
+    #[error("timedesk: solution S{number} {at}")]
+    Solution { number: u8, at: u64 },
+    /// The file of this name could not be opened or read.
+    #[error("timedesk: cannot read {0}")]
+    CannotRead(String),
+    /// The file of this name has more bytes than are taken.
+    #[error("timedesk: too long {0}")]
+    TooLong(String),
+    /// A write to standard output failed.
+    #[error("timedesk: cannot write")]
+    CannotWrite,
+    /// No memory was left.
+    #[error("timedesk: no memory")]
+    NoMemory,
+}
+
+impl Fault {
+    /// The status with which the program ends.
+    pub fn status(&self) -> u8
+        ensures { result ≡ status_of self.now }
+    {
+        match self {
+            Fault::Instance { .. } | Fault::Solution { .. } => 1,
+            Fault::Words(_) | Fault::WordsNotText => 2,
+            Fault::CannotRead(_) | Fault::TooLong(_) | Fault::CannotWrite | Fault::NoMemory => 3,
+        }
+    }
+
+    /// The line that the program says on standard error.
+    pub fn line(&self, alloc: Global) -> Result<String, AllocError> {
+        match self {
+            Fault::Words(text) => text.clone(),
+            _ => format!(in alloc; "{self}\n"),
+        }
+    }
+}
+
+impl From<ctt_text::NoMemory> for Fault {
+    ghost from_gives = { λ _ fault. fault ≡ NoMemory };
+
+    fn from(_fault: ctt_text::NoMemory) -> Fault {
+        Fault::NoMemory
+    }
+}
+
+impl From<AllocError> for Fault {
+    ghost from_gives = { λ _ fault. fault ≡ NoMemory };
+
+    fn from(_error: AllocError) -> Fault {
+        Fault::NoMemory
+    }
+}
+
+impl From<ReadFault> for Fault {
+    ghost from_gives = { λ read fault. fault ≡ fault_of_instance read };
+
+    fn from(fault: ReadFault) -> Fault {
+        let (number, at) = match fault {
+            ReadFault::NotText(byte) => (1, byte),
+            ReadFault::Missing(word) => (2, word),
+            ReadFault::Expected(word) => (3, word),
+            ReadFault::BadNumber(word) => (4, word),
+            ReadFault::TooLarge(word) => (5, word),
+            ReadFault::RepeatedName(word) => (6, word),
+            ReadFault::UnknownCourse(word) => (7, word),
+            ReadFault::DayOut(word) => (8, word),
+            ReadFault::PeriodOut(word) => (9, word),
+            ReadFault::NoMemory => return Fault::NoMemory,
+        };
+        Fault::Instance { number, at }
+    }
+}
+
+impl From<SolutionFault> for Fault {
+    ghost from_gives = { λ read fault. fault ≡ fault_of_solution read };
+
+    fn from(fault: SolutionFault) -> Fault {
+        let (number, at) = match fault {
+            SolutionFault::NotText(byte) => (1, byte),
+            SolutionFault::Cut(word) => (2, word),
+            SolutionFault::UnknownCourse(word) => (3, word),
+            SolutionFault::UnknownRoom(word) => (4, word),
+            SolutionFault::BadNumber(word) => (5, word),
+            SolutionFault::DayOut(word) => (6, word),
+            SolutionFault::PeriodOut(word) => (7, word),
+            SolutionFault::Repeated(word) => (8, word),
+            SolutionFault::NoMemory => return Fault::NoMemory,
+        };
+        Fault::Solution { number, at }
+    }
+}

@@ -1,0 +1,88 @@
+//! Files by name.
+
+ghost use Rattle.std.specs.Prelude.{◌≡◌, ◌≤◌, false, Some, None, IfOk, IfErr, IfSome, vec_len};
+ghost use Rattle.std.specs.String.{string_bytes};
+ghost use Rattle.ctt_tool.specs.Faults.{IsOfFile};
+
+use crate::fault::Fault;
+use ctt_script::{Device, Failed, InputFault, Sink, Source, put_all, read_all};
+use std::alloc::Global;
+use std::{fs, rt};
+
+/// Files that are read and written by their names.
+pub trait Files {
+    ghost use Rattle.std.specs.Prelude.{ℕ, List, Option};
+
+    /// A file to be read.
+    type Input: Source + Drop;
+
+    /// The bytes of the file of a name, where the files tell them.
+    ghost held: { Self → List ℕ → Option (List ℕ) };
+
+    /// A file to be read from its beginning, of which nothing was read.
+    fn fetch(&mut self, name: &str) -> Result<Self::Input, Failed>
+        ensures unmarked { IfOk result (λ input. Self.Input.has_failed input ≡ false) }
+        ensures whole { IfOk result (λ input.
+            IfSome (held self.old name.now) (λ bytes. Self.Input.left input ≡ Some bytes)) }
+        ensures kept { held self.new ≡ held self.old };
+
+    /// Writes a whole file in place of what it held.
+    fn store(&mut self, name: &str, bytes: &[u8]) -> Result<(), Failed>;
+}
+
+/// The files of the system.
+#[derive(Drop)]
+pub struct SystemFiles<'r, R> {
+    rt: &'r R,
+}
+
+impl<'r, R: rt::Files> SystemFiles<'r, R> {
+    /// The files that the runtime reaches.
+    pub fn new(rt: &'r R) -> Self {
+        SystemFiles { rt }
+    }
+}
+
+impl<'r, R: rt::Files> Files for SystemFiles<'r, R> {
+    type Input = Device<R::File>;
+
+    ghost held = { λ _ _. None };
+
+    fn fetch(&mut self, name: &str) -> Result<Device<R::File>, Failed> {
+        match fs::open(self.rt, name) {
+            Ok(file) => Ok(Device::new(file)),
+            Err(_) => Err(Failed),
+        }
+    }
+
+    fn store(&mut self, name: &str, bytes: &[u8]) -> Result<(), Failed> {
+        let Ok(file) = fs::create(self.rt, name) else {
+            return Err(Failed);
+        };
+        let mut device = Device::new(file);
+        put_all(&mut device, bytes)?;
+        device.flush()
+    }
+}
+
+/// The most bytes that an input may have: 64 MiB.
+pub const INPUT_LIMIT: usize = 67_108_864;
+
+/// All bytes of a file.
+pub fn read_file<F: Files>(alloc: Global, files: &mut F, name: String) -> Result<Vec<u8>, Fault>
+    ensures all { IfOk result (λ bytes.
+        IfSome (F.held files.old (string_bytes name)) (λ held. bytes.items ≡ held)) }
+    ensures kept { F.held files.new ≡ F.held files.old }
+    ensures short { IfOk result (λ bytes. vec_len bytes ≤ INPUT_LIMIT) }
+    ensures fault { IfErr result (IsOfFile name) }
+{
+    let Ok(mut input) = files.fetch(&name) else {
+        return Err(Fault::CannotRead(name));
+    };
+    match read_all(alloc, &mut input, INPUT_LIMIT) {
+        Ok(bytes) => Ok(bytes),
+        Err(InputFault::Read) => Err(Fault::CannotRead(name)),
+        Err(InputFault::TooLong) => Err(Fault::TooLong(name)),
+        Err(InputFault::NoMemory) => Err(Fault::NoMemory),
+    }
+}

@@ -1,0 +1,107 @@
+//! What the program does.
+
+ghost use Rattle.std.specs.Prelude.{◌≡◌, ◌≢◌, ◌≤◌, ◌⊎◌, [], true, false, map, OnOk, IfErr};
+ghost use Rattle.ctt_tool.specs.Faults.{IfUnwritten, IsOfTexts, status_of};
+ghost use Rattle.ctt_tool.specs.Jobs.{faults_of};
+ghost use Rattle.ctt_tool.specs.Work.{DoesAsAsked, DoesJob};
+
+use crate::check::check;
+use crate::fault::Fault;
+use crate::files::Files;
+use crate::job::{Job, WordsFault, read_words};
+use crate::output::{print, say};
+use ctt_script::Sink;
+use std::alloc::Global;
+
+/// Does a job.
+fn do_job<F: Files, W: Sink>(
+    alloc: Global,
+    job: Job,
+    files: &mut F,
+    out: &mut W,
+) -> Result<(), Fault>
+    ensures done { OnOk result (DoesJob job (F.held files.old) (W.taken out.old) (W.taken out.new)) }
+    ensures unmarked { OnOk result (W.has_failed out.new ≡ W.has_failed out.old) }
+    ensures fault { IfErr result (λ fault. IfUnwritten fault
+        (W.has_failed out.new ≡ true)
+        (IsOfTexts fault × (out.new ≡ out.old))) }
+{
+    match job {
+        Job::Check {
+            instance,
+            solution,
+            json,
+        } => check(alloc, files, out, instance, solution, json),
+    }
+}
+
+/// Does the job that the words ask for.
+fn work<F: Files, W: Sink>(
+    alloc: Global,
+    words: &[&str],
+    files: &mut F,
+    out: &mut W,
+) -> Result<(), Fault>
+    ensures done { OnOk result (DoesAsAsked (map (λ word. word.now) words.now) (F.held files.old)
+        (W.taken out.old) (W.taken out.new)) }
+    ensures refused { IfErr result (λ fault. status_of fault ≡ 2
+        → faults_of (map (λ word. word.now) words.now) ≢ []) }
+    ensures unmarked { OnOk result (W.has_failed out.new ≡ W.has_failed out.old) }
+    ensures fault { IfErr result (λ fault. IfUnwritten fault
+        (W.has_failed out.new ≡ true)
+        (out.new ≡ out.old)) }
+{
+    match read_words(alloc, words) {
+        Ok(job) => do_job(alloc, job, files, out),
+        Err(WordsFault::Help(text)) => print(out, text.as_bytes()),
+        Err(WordsFault::Refused(text)) => Err(Fault::Words(text)),
+        Err(WordsFault::NoMemory) => Err(Fault::NoMemory),
+    }
+}
+
+/// Says why a job was not done, and answers the status.
+pub fn tell<V: Sink>(alloc: Global, fault: &Fault, err: &mut V) -> u8
+    ensures { (result ≡ status_of fault.now) ⊎ (result ≡ 3) }
+{
+    match fault.line(alloc) {
+        Ok(line) => {
+            say(err, line.as_bytes());
+            fault.status()
+        }
+        Err(_) => {
+            say(err, b"timedesk: no memory\n");
+            3
+        }
+    }
+}
+
+/// Does the job that the words ask for, of which the first is the program's name, and answers the
+/// status with which to end: 0 where it was done, 1 where a text is refused, 2 where the words are, and
+/// 3 where the machine failed. Answers go to `out`, and why a job was not done to `err`.
+pub fn program<R: AllocGlobal, F: Files, W: Sink, V: Sink>(
+    rt: &R,
+    words: &[&str],
+    files: &mut F,
+    out: &mut W,
+    err: &mut V,
+) -> u8
+    requires out { W.has_failed out.old ≡ false }
+    requires err { V.has_failed err.old ≡ false }
+
+    ensures known { result ≤ 3 }
+    ensures done { result ≡ 0 → DoesAsAsked (map (λ word. word.now) words.now) (F.held files.old)
+        (W.taken out.old) (W.taken out.new) }
+    ensures unmarked { result ≡ 0 → W.has_failed out.new ≡ false }
+    ensures unsaid { result ≡ 0 → err.new ≡ err.old }
+
+    ensures rejected { result ≡ 1 → out.new ≡ out.old }
+    ensures refused { result ≡ 2 → faults_of (map (λ word. word.now) words.now) ≢ [] }
+    ensures unprinted { result ≡ 2 → out.new ≡ out.old }
+    ensures unwritten { W.has_failed out.new ≡ true → result ≡ 3 }
+{
+    let alloc = rt.alloc();
+    match work(alloc, words, files, out) {
+        Ok(()) => 0,
+        Err(fault) => tell(alloc, &fault, err),
+    }
+}

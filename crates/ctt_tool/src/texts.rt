@@ -1,0 +1,44 @@
+//! Instances and solutions by the names of their files.
+
+ghost use Rattle.std.specs.Prelude.{◌≡◌, IfOk, IfErr, IfSome};
+ghost use Rattle.std.specs.String.{string_bytes};
+ghost use Rattle.ctt_text.specs.Timetable.{IsTimetable};
+ghost use Rattle.ctt_tool.specs.Checks.{IsInstanceText, IsSolutionText};
+ghost use Rattle.ctt_tool.specs.Faults.{IsOfTexts};
+
+use crate::fault::Fault;
+use crate::files::{Files, read_file};
+use ctt_text::{Instance, Placed, read_instance, read_solution};
+use std::alloc::Global;
+
+/// The instance that a file holds.
+pub fn fetch_instance<F: Files>(
+    alloc: Global,
+    files: &mut F,
+    name: String,
+) -> Result<Instance, Fault>
+    ensures spelled { IfOk result (λ instance.
+        IfSome (F.held files.old (string_bytes name)) (λ text. IsInstanceText text instance)) }
+    ensures kept { F.held files.new ≡ F.held files.old }
+    ensures fault { IfErr result IsOfTexts }
+{
+    let text = read_file(alloc, files, name)?;
+    Ok(read_instance(alloc, &text)?)
+}
+
+/// The timetable that a file holds, as a solution of the instance.
+pub fn fetch_solution<F: Files>(
+    alloc: Global,
+    files: &mut F,
+    instance: &Instance,
+    name: String,
+) -> Result<Vec<Placed>, Fault>
+    ensures spelled { IfOk result (λ timetable. IfSome (F.held files.old (string_bytes name)) (λ text.
+        IsSolutionText instance.now text timetable.items)) }
+    ensures timetable { IfOk result (λ timetable. IsTimetable instance.now timetable.items) }
+    ensures kept { F.held files.new ≡ F.held files.old }
+    ensures fault { IfErr result IsOfTexts }
+{
+    let text = read_file(alloc, files, name)?;
+    Ok(read_solution(alloc, instance, &text)?)
+}
