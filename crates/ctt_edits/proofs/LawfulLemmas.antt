@@ -1,20 +1,20 @@
 -- An edit without a fault keeps a timetable lawful, and its change fits.
-use Rattle.std.proofs.Common.{◌≡◌, ℕ, suc, ◌<◌, ◌≤◌, Bool, true, false, not, ◌&&◌, ◌||◌, ◌==◌, List, [], ◌∷◌, Option, Some, None, Result, Ok, Err, IfOk, refl, ◌∙◌, sym, ap, ap₂, subst, length, arith, inl, inr, is_some, is_none}
-use Rattle.std.specs.List.{filter, list_any, AllByRecursion as Each}
+use Rattle.std.proofs.Common.{◌≡◌, ℕ, suc, ◌<◌, ◌≤◌, Bool, true, false, not, ◌&&◌, ◌||◌, ◌==◌, List, [], ◌∷◌, Option, Some, None, refl, ◌∙◌, sym, ap, ap₂, subst, length, arith, inl, inr, is_some, is_none}
+use Rattle.std.specs.List.{filter, AllByRecursion as Each}
 use Rattle.std.proofs.lemmas.Bool.Decides.{nat_tests}
 use Rattle.std.proofs.lemmas.Bool.{cases_Bool, cases_eq, eq-eqb, ne_eqb}
 use Rattle.ctt_text.specs.Lists.{has}
 use Rattle.ctt_text.specs.Problem.{Problem, course_of, clash, is_unavailable}
-use Rattle.ctt_text.specs.Timetable.{before, Ascending, Fits, course_row, slot_row, with, without}
+use Rattle.ctt_text.specs.Timetable.{before, Ascending, Fits, course_row, with, without}
 use Rattle.ctt_text.specs.declared.placed.Placed.{Placed}
 use Rattle.ctt_text.proofs.TimetableLemmas.{Each-map}
 use Rattle.ctt_rules.specs.Hard.{Lawful, conflicts, share_room}
 use Rattle.ctt_rules.proofs.ListLemmas.{Each-filter, Pairwise-filter}
+use Rattle.ctt_rules.proofs.NeighbourLemmas.{any_same}
 use Rattle.ctt_board.specs.Changes.{room_at, CellsFit}
-use Rattle.ctt_board.specs.declared.cell.Cell.{Cell}
 use Rattle.ctt_board.proofs.PutLemmas.{filter_filter, filter-put_yes, filter-put_no, length-put, Each-put, Pairwise-put, Pairwise-put_both}
 use Rattle.ctt_board.proofs.OrderLemmas.{before_goes, before_flip, in_order}
-use Rattle.ctt_edits.specs.Edits.{EditFits, fault_if, try_fault, edit_fault, edited, change}
+use Rattle.ctt_edits.specs.Edits.{edit_fault, change}
 use Rattle.ctt_edits.specs.Laws.{EditsKeepLawful, EditsFit}
 use Rattle.ctt_edits.specs.declared.edit.Edit.{Edit}
 use Rattle.ctt_edits.specs.declared.edit.Edit.TheVariants.{Place, Drop}
@@ -43,15 +43,11 @@ and_comm false false = refl
 eqb_comm : (a b : ℕ) → (a == b) ≡ (b == a)
 eqb_comm a b = grind (arith, nat_tests)
 
-some_same : {X : Type 0} (p q : X → Bool) (xs : List X) → ((x : X) → p x ≡ q x) → list_any p xs ≡ list_any q xs
-some_same p q [] e = refl
-some_same p q (x ∷ xs) e = ap₂ (λ a b. a || b) (e x) (some_same p q xs e)
-
 clash_comm : (i : Problem) (c d : ℕ) → clash i c d ≡ clash i d c
 clash_comm i c d =
     ap₂ (λ a b. not a && b) (eqb_comm c d)
     (ap₂ (λ a b. a || b) (eqb_comm (course_of i c).teacher (course_of i d).teacher)
-    (some_same (λ q. has c q && has d q) (λ q. has d q && has c q) i.curricula (λ q. and_comm (has c q) (has d q))))
+    (any_same (λ q. has c q && has d q) (λ q. has d q && has c q) i.curricula (λ q. and_comm (has c q) (has d q))))
 
 without_lawful : (i : Problem) (t : List Placed) (c s : ℕ) → Lawful i t → Lawful i (without c s t)
 without_lawful i t c s h =

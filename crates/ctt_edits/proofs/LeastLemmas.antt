@@ -1,21 +1,21 @@
 -- The clash that is named has the least number.
-use Rattle.std.proofs.Common.{◌≡◌, ℕ, ◌≤◌, Bool, true, false, leb, ◌==◌, List, [], ◌∷◌, length, Option, Some, None, is_some, refl, ◌∙◌, sym, ap, subst, arith, inl, inr, ◌⊎◌}
+use Rattle.std.proofs.Common.{◌≡◌, ℕ, ◌≤◌, Bool, true, false, leb, ◌==◌, List, [], ◌∷◌, length, Option, Some, None, is_some, refl, ◌∙◌, sym, subst, arith, inl, inr}
 use Rattle.std.specs.List.{find, AllByRecursion as Each}
 use Rattle.std.specs.Option.{option_map}
-use Rattle.std.proofs.lemmas.Bool.Decides.{nat_tests}
 use Rattle.std.proofs.lemmas.Bool.{cases_Bool, eq-eqb}
 use Rattle.ctt_text.specs.Lists.{Pairwise}
-use Rattle.ctt_text.specs.Problem.{Problem, course_of, clash, is_unavailable}
-use Rattle.ctt_text.specs.Timetable.{before, Ascending, course_row, slot_row}
+use Rattle.ctt_text.specs.Problem.{course_of, clash, is_unavailable}
+use Rattle.ctt_text.specs.Timetable.{before, course_row, slot_row}
 use Rattle.ctt_text.specs.declared.placed.Placed.{Placed}
 use Rattle.ctt_text.proofs.TimetableLemmas.{Each-map}
 use Rattle.ctt_rules.proofs.ListLemmas.{Pairwise-filter}
 use Rattle.ctt_board.specs.Changes.{room_at}
-use Rattle.ctt_edits.specs.Edits.{or_else, fault_if, first_course}
+use Rattle.ctt_edits.specs.Edits.{or_else, fault_if}
 use Rattle.ctt_edits.specs.Laws.{ClashIsLeast}
 use Rattle.ctt_edits.specs.declared.fault.EditFault.{EditFault}
 use Rattle.ctt_edits.specs.declared.fault.EditFault.TheVariants.{AlreadyThere, CourseFull, Unavailable, Clash, RoomTaken}
 use Rattle.ctt_edits.proofs.LawfulLemmas.{Each-from_filter}
+use Rattle.ctt_edits.proofs.SlotLemmas.{not_above}
 
 -- a later fault, where the first is not the one
 later : (b : Bool) (f g : EditFault) (rest : Option EditFault) → (f ≡ g → ⊥) → or_else (fault_if b f) rest ≡ Some g → rest ≡ Some g
@@ -31,9 +31,6 @@ clashing None None d e = cc
 record IsLeast (p : Placed → Bool) (xs : List Placed) (l : Placed) : Type 0 where
   passes : p l ≡ true
   least : Each (λ (y : Placed). p y ≡ true → l.course ≤ y.course) xs
-
-not_above : (a b : Placed) → before a b ≡ true → a.course ≤ b.course
-not_above a b lt = grind (arith, nat_tests)
 
 least_first : (p : Placed → Bool) (xs : List Placed) (l : Placed) → Pairwise (λ a b. before a b ≡ true) xs → find p xs ≡ Some l → IsLeast p xs l
 least_first p [] l h e = cc

@@ -1,5 +1,5 @@
 -- The lectures in a slot, course by course.
-use Rattle.std.proofs.Common.{◌≡◌, ℕ, suc, ◌+◌, ◌<◌, ◌≤◌, Bool, true, false, ltb, ◌==◌, List, [], ◌∷◌, ◌++◌, Option, Some, None, is_some, refl, add-one, ◌∙◌, sym, ap, ap₂, subst, arith, inl, inr}
+use Rattle.std.proofs.Common.{◌≡◌, ℕ, suc, ◌+◌, ◌<◌, ◌≤◌, Bool, true, false, ltb, ◌==◌, List, [], ◌∷◌, ◌++◌, Option, Some, None, is_some, refl, add-one, ◌∙◌, sym, ap, subst, arith, inl, inr}
 use Rattle.std.specs.List.{filter, find, AllByRecursion as Each}
 use Rattle.std.specs.Option.{option_or, option_map, option_eq}
 use Rattle.std.proofs.lemmas.Bool.{cases_Bool, lt-ltb, le-ltb, ltb-false}
@@ -21,7 +21,7 @@ use Rattle.ctt_board.proofs.RowLemmas.{split_at, one_slot}
 abbrev pub slot_below : ℕ → ℕ → List Placed → List Placed
 slot_below n s t = filter (λ l. ltb l.course n) (slot_row s t)
 
-not_above : (a b : Placed) → before a b ≡ true → a.course ≤ b.course
+pub not_above : (a b : Placed) → before a b ≡ true → a.course ≤ b.course
 not_above a b lt = grind (arith, nat_tests)
 
 -- what is found below m in a list in the order of a key is found in the list

@@ -1,5 +1,5 @@
 -- Edits: the first fault that holds, and else the change.
-use Rattle.std.specs.Prelude.{ℕ, ◌<◌, ◌≡◌, Bool, cond, List, [], ◌∷◌, length, ◌==◌, nat_le, Option, Some, None, is_none, is_some, Result, Ok, Err}
+use Rattle.std.specs.Prelude.{ℕ, ◌<◌, Bool, cond, List, [], ◌∷◌, length, ◌==◌, nat_le, Option, Some, None, is_none, is_some, Result, Ok, Err}
 use Rattle.std.specs.List.{find}
 use Rattle.std.specs.Option.{option_map}
 use Rattle.ctt_text.specs.Problem.{Problem, course_of, course_count, slot_count, room_count, clash, is_unavailable}

@@ -1,4 +1,4 @@
-use Rattle.std.proofs.Common.{rules, ◌≡◌, None, List, sym, ap, ap₂, subst, ◌∙◌, Ok}
+use Rattle.std.proofs.Common.{◌≡◌, None, List, sym, ap, subst, ◌∙◌, Ok}
 use Rattle.ctt_text.specs.Problem.{Problem}
 use Rattle.ctt_text.specs.declared.placed.Placed.{Placed}
 use Rattle.ctt_board.specs.Changes.{ChangeFits}

@@ -1,7 +1,6 @@
-use Rattle.std.proofs.Common.{rules, ◌≡◌, ◌<◌, ◌≤◌, ◌==◌, ◌+◌, ℕ, List, Option, Some, None, true, false, is_some, refl, ◌∙◌, sym, ap, ap₂, subst, arith, IfOk, zero-add, length, eqb-true, eq-eqb}
-use Rattle.std.specs.List.{find, AllByRecursion as Each}
+use Rattle.std.proofs.Common.{◌≡◌, ◌<◌, ◌≤◌, ◌+◌, ℕ, List, Some, None, true, false, is_some, ◌∙◌, sym, ap, ap₂, arith}
+use Rattle.std.specs.List.{find}
 use Rattle.ctt_text.specs.Problem.{Problem, course_count, clash}
-use Rattle.ctt_text.specs.Timetable.{Fits}
 use Rattle.ctt_text.specs.declared.placed.Placed.{Placed}
 use Rattle.ctt_text.proofs.TimetableLemmas.{Each-map}
 use Rattle.ctt_rules.proofs.TimetableLemmas.{courses_fit}

@@ -1,4 +1,4 @@
-use Rattle.std.proofs.Common.{◌≡◌, ◌<◌, ◌≤◌, ◌==◌, ◌+◌, ℕ, List, Option, Some, None, true, false, is_some, ◌∙◌, sym, ap, arith}
+use Rattle.std.proofs.Common.{◌≡◌, ◌<◌, ◌≤◌, ◌==◌, ℕ, List, Some, true, false, ◌∙◌, sym, ap, arith}
 use Rattle.std.specs.Option.{option_eq}
 use Rattle.ctt_text.specs.Problem.{Problem, course_count}
 use Rattle.ctt_text.specs.declared.placed.Placed.{Placed}

@@ -1,4 +1,4 @@
-use Rattle.std.proofs.Common.{rules, ◌≡◌, ◌∙◌, ◌&&◌, ◌==◌, ap, ap₂, List}
+use Rattle.std.proofs.Common.{rules, ◌≡◌, ◌∙◌, ap₂, List}
 use Rattle.std.specs.List.{filter}
 use Rattle.std.proofs.lemmas.Fn.{filter_same}
 use Rattle.ctt_text.specs.Problem.{Problem}
