@@ -38,7 +38,7 @@ split_at key n (x ∷ xs) h = elim (cases_order (key x) n) [
 ]
 
 -- the lecture of a row in one slot
-one_slot : (c s : ℕ) (ls : List Placed) → Each (λ (l : Placed). (l.course == c) ≡ true) ls → Pairwise (λ (a b : Placed). a.slot < b.slot) ls → filter (λ (l : Placed). l.slot == s) ls ≡ lecture_at c s (room_of (find (λ (l : Placed). l.slot == s) ls))
+pub one_slot : (c s : ℕ) (ls : List Placed) → Each (λ (l : Placed). (l.course == c) ≡ true) ls → Pairwise (λ (a b : Placed). a.slot < b.slot) ls → filter (λ (l : Placed). l.slot == s) ls ≡ lecture_at c s (room_of (find (λ (l : Placed). l.slot == s) ls))
 one_slot c s [] h p = refl
 one_slot c s (x ∷ xs) h p = elim (cases_eq x.slot s) [
   | inl same ↦ (

@@ -1,0 +1,84 @@
+-- What no fault says.
+use Rattle.std.proofs.Common.{◌≡◌, ℕ, ◌<◌, Bool, true, false, leb, ◌==◌, List, [], ◌∷◌, length, Option, Some, None, is_some, refl, inl, inr}
+use Rattle.std.specs.List.{find, AllByRecursion as Each}
+use Rattle.std.specs.Option.{option_map}
+use Rattle.std.proofs.lemmas.Bool.{cases_Bool, leb-false}
+use Rattle.ctt_text.specs.Problem.{Problem, course_of, clash, is_unavailable}
+use Rattle.ctt_text.specs.Timetable.{course_row, slot_row}
+use Rattle.ctt_text.specs.declared.placed.Placed.{Placed}
+use Rattle.ctt_board.specs.Changes.{room_of, room_at}
+use Rattle.ctt_edits.specs.Edits.{or_else, fault_if, first_course, try_fault}
+use Rattle.ctt_edits.specs.declared.fault.EditFault.{EditFault}
+use Rattle.ctt_edits.specs.declared.fault.EditFault.TheVariants.{AlreadyThere, CourseFull, Unavailable, Clash, RoomTaken}
+
+or_else_none : (f g : Option EditFault) → or_else f g ≡ None → (f ≡ None) × (g ≡ None)
+or_else_none None g h = (refl, h)
+or_else_none (Some f) g h = cc
+
+pub fault_if_none : (b : Bool) (f : EditFault) → fault_if b f ≡ None → b ≡ false
+fault_if_none true f h = cc
+fault_if_none false f h = refl
+
+find_none : {X : Type 0} (p : X → Bool) (xs : List X) → find p xs ≡ None → Each (λ x. p x ≡ false) xs
+find_none p [] h = tt
+find_none {X = X} p (x ∷ xs) h = elim (cases_Bool (p x)) [
+  | inl b ↦ (let h' : ◌≡◌ {A = Option X} (Some x) None = rw b at h in cc)
+  | inr b ↦ (let h' : find p xs ≡ None = rw b at h in (b, find_none p xs h'))
+]
+
+named_none : (f : ℕ → EditFault) (o : Option Placed) → option_map f (option_map (λ (l : Placed). l.course) o) ≡ None → o ≡ None
+named_none f None h = refl
+named_none f (Some l) h = cc
+
+no_room : (o : Option Placed) → is_some (room_of o) ≡ false → o ≡ None
+no_room None h = refl
+no_room (Some l) h = cc
+
+-- a lecture that can be placed
+pub record Free (i : Problem) (t : List Placed) (c s r : ℕ) : Type 0 where
+  pub empty : is_some (room_at c s t) ≡ false
+  pub absent : Each (λ (l : Placed). (l.slot == s) ≡ false) (course_row c t)
+  pub fewer : length (course_row c t) < (course_of i c).lectures
+  pub available : is_unavailable i c s ≡ false
+  pub no_clash : Each (λ (l : Placed). clash i c l.course ≡ false) (slot_row s t)
+  pub room_free : Each (λ (l : Placed). (l.room == r) ≡ false) (slot_row s t)
+
+pub free : (i : Problem) (t : List Placed) (c s r : ℕ) → try_fault i t c s r ≡ None → Free i t c s r
+free i t c s r e =
+    let e1 = or_else_none there rest1 e in
+    let e2 = or_else_none full rest2 e1.1 in
+    let e3 = or_else_none closed rest3 e2.1 in
+    let e4 = or_else_none clashes taken e3.1 in
+    let empty : is_some (room_at c s t) ≡ false = fault_if_none (is_some (room_at c s t)) AlreadyThere e1.0 in
+    record {
+      empty = empty;
+      absent = find_none (λ (l : Placed). l.slot == s) (course_row c t) (no_room (find (λ (l : Placed). l.slot == s) (course_row c t)) empty);
+      fewer = leb-false (course_of i c).lectures (length (course_row c t)) (fault_if_none (leb (course_of i c).lectures (length (course_row c t))) CourseFull e2.0);
+      available = fault_if_none (is_unavailable i c s) Unavailable e3.0;
+      no_clash = find_none (λ (l : Placed). clash i c l.course) (slot_row s t) (named_none Clash (find (λ (l : Placed). clash i c l.course) (slot_row s t)) e4.0);
+      room_free = find_none (λ (l : Placed). l.room == r) (slot_row s t) (named_none RoomTaken (find (λ (l : Placed). l.room == r) (slot_row s t)) e4.1);
+    }
+  where
+    there : Option EditFault
+    there = fault_if (is_some (room_at c s t)) AlreadyThere
+
+    full : Option EditFault
+    full = fault_if (leb (course_of i c).lectures (length (course_row c t))) CourseFull
+
+    closed : Option EditFault
+    closed = fault_if (is_unavailable i c s) Unavailable
+
+    clashes : Option EditFault
+    clashes = option_map Clash (first_course (λ l. clash i c l.course) (slot_row s t))
+
+    taken : Option EditFault
+    taken = option_map RoomTaken (first_course (λ l. l.room == r) (slot_row s t))
+
+    rest3 : Option EditFault
+    rest3 = or_else clashes taken
+
+    rest2 : Option EditFault
+    rest2 = or_else closed rest3
+
+    rest1 : Option EditFault
+    rest1 = or_else full rest2

@@ -1,0 +1,25 @@
+-- What layers above rest on.
+use Rattle.std.specs.Prelude.{ℕ, ◌≡◌, ◌≤◌, true, List, Some, None}
+use Rattle.std.specs.List.{AllByRecursion as Each}
+use Rattle.ctt_text.specs.Problem.{Problem, clash}
+use Rattle.ctt_text.specs.Timetable.{Ascending}
+use Rattle.ctt_text.specs.declared.placed.Placed.{Placed}
+use Rattle.ctt_rules.specs.Hard.{Lawful}
+use Rattle.ctt_board.specs.Changes.{ChangeFits}
+use Rattle.ctt_edits.specs.declared.edit.Edit.{Edit}
+use Rattle.ctt_edits.specs.declared.edit.Edit.TheVariants.{Place}
+use Rattle.ctt_edits.specs.declared.fault.EditFault.TheVariants.{Clash}
+use Rattle.ctt_edits.specs.Edits.{EditFits, edit_fault, edited, change}
+
+-- an edit without a fault keeps a timetable lawful
+abbrev pub EditsKeepLawful : Type 0
+EditsKeepLawful = (i : Problem) (t : List Placed) (e : Edit) → Lawful i t → EditFits i e → edit_fault i t e ≡ None → Lawful i (edited t e)
+
+-- the change of an edit without a fault fits
+abbrev pub EditsFit : Type 0
+EditsFit = (i : Problem) (t : List Placed) (e : Edit) → Lawful i t → EditFits i e → edit_fault i t e ≡ None → ChangeFits i (change t e) t
+
+-- a clash that is named is a clash, and no course that clashes and stands in the slot comes before it
+abbrev pub ClashIsLeast : Type 0
+ClashIsLeast = (i : Problem) (t : List Placed) (c s r d : ℕ) → Ascending t → edit_fault i t (Place c s r) ≡ Some (Clash d)
+    → (clash i c d ≡ true) × Each (λ (l : Placed). l.slot ≡ s → clash i c l.course ≡ true → d ≤ l.course) t

@@ -1,0 +1,4 @@
+pub mod Edits
+pub mod Looks
+pub mod Replies
+pub mod Laws

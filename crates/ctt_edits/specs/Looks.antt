@@ -1,0 +1,37 @@
+-- What the looks show.
+use Rattle.std.specs.Prelude.{ℕ, ◌<◌, List, filter, ◌==◌}
+use Rattle.ctt_text.specs.Problem.{Problem, course_of, members, course_count, slot_count, teacher_count, curriculum_count}
+use Rattle.ctt_text.specs.Timetable.{course_row, slot_row}
+use Rattle.ctt_text.specs.declared.placed.Placed.{Placed}
+use Rattle.ctt_rules.specs.Penalty.{penalty, part_of}
+use Rattle.ctt_rules.specs.declared.cost.Cost.{Cost}
+use Rattle.ctt_edits.specs.declared.fault.EditFault.{EditFault}
+use Rattle.ctt_edits.specs.declared.looks.Look.{Look}
+use Rattle.ctt_edits.specs.declared.looks.Look.TheVariants.{Course, Slot, Teacher, Curriculum}
+use Rattle.ctt_edits.specs.declared.looks.Look.TheVariants.{Cost as WholeCost}
+
+-- what a planner is told: a reply by its value
+pub data Told : Type 0 where
+  Done : Told
+  Refused : (fault : EditFault) → Told
+  Lectures : (list : List Placed) → Told
+  Costs : (cost : Cost) → Told
+
+-- its number is one of the instance
+abbrev pub LookFits : Problem → Look → Type 0
+LookFits i (Course c) = c < course_count i
+LookFits i (Slot s) = s < slot_count i
+LookFits i (Teacher h) = h < teacher_count i
+LookFits i (Curriculum q) = q < curriculum_count i
+LookFits i WholeCost = Unit {0}
+
+-- the lectures of a teacher's courses
+abbrev pub teacher_row : Problem → ℕ → List Placed → List Placed
+teacher_row i h t = filter (λ l. (course_of i l.course).teacher == h) t
+
+abbrev pub shown : Problem → List Placed → Look → Told
+shown i t (Course c) = Lectures (course_row c t)
+shown i t (Slot s) = Lectures (slot_row s t)
+shown i t (Teacher h) = Lectures (teacher_row i h t)
+shown i t (Curriculum q) = Lectures (part_of (members i q) t)
+shown i t WholeCost = Costs (penalty i t)

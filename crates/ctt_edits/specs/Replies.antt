@@ -1,0 +1,11 @@
+-- A reply by its value: the lectures as a list.
+use Rattle.ctt_edits.specs.declared.reply.Reply.{Reply}
+use Rattle.ctt_edits.specs.declared.reply.Reply.TheVariants.{Done, Refused, Lectures, Costs}
+use Rattle.ctt_edits.specs.Looks.{Told}
+use Rattle.ctt_edits.specs.Looks.Told.{Done as ToldDone, Refused as ToldRefused, Lectures as ToldLectures, Costs as ToldCosts}
+
+abbrev pub told_of : Reply → Told
+told_of Done = ToldDone
+told_of (Refused f) = ToldRefused f
+told_of (Lectures v) = ToldLectures v.items
+told_of (Costs c) = ToldCosts c

@@ -1,0 +1,29 @@
+//! What a planner asks to be changed.
+
+ghost use Rattle.std.specs.Prelude.{◌↔◌, IsTrue};
+ghost use Rattle.ctt_edits.specs.Edits.{EditFits};
+
+use ctt_text::{CourseNo, Instance, RoomNo, SlotNo};
+
+/// One step of planning.
+#[derive(Clone, Copy, Debug, PartialEq, Eq)]
+pub enum Edit {
+    /// A lecture of the course comes into the slot and the room.
+    Place(CourseNo, SlotNo, RoomNo),
+    /// The lecture of the course in the slot goes.
+    Drop(CourseNo, SlotNo),
+}
+
+impl Edit {
+    /// Whether its numbers are those of the instance.
+    pub fn fits(&self, instance: &Instance) -> bool
+        ensures { IsTrue result ↔ EditFits instance.now self.now }
+    {
+        match self {
+            Edit::Place(course, slot, room) => {
+                course.fits(instance) && slot.fits(instance) && room.fits(instance)
+            }
+            Edit::Drop(course, slot) => course.fits(instance) && slot.fits(instance),
+        }
+    }
+}

@@ -1,0 +1,19 @@
+//! Laws of edits, for the layers above. None of these functions computes anything.
+
+ghost use Rattle.ctt_edits.specs.Laws.{EditsKeepLawful, EditsFit, ClashIsLeast};
+
+/// An edit that has no fault keeps a timetable lawful.
+pub fn edits_keep_lawful()
+    ensures { EditsKeepLawful }
+{}
+
+/// The change of an edit that has no fault fits.
+pub fn edits_fit()
+    ensures { EditsFit }
+{}
+
+/// Of the courses that clash with the one that is to be placed, and stand in the slot, the one with
+/// the least number is named.
+pub fn clash_is_least()
+    ensures { ClashIsLeast }
+{}

@@ -1,0 +1,76 @@
+//! What a planner asks to see.
+
+ghost use Rattle.std.specs.Prelude.{◌≡◌, ◌↔◌, IsTrue, IfOk};
+ghost use Rattle.ctt_rules.specs.Penalty.{part_of};
+ghost use Rattle.ctt_edits.specs.Looks.{LookFits, teacher_row, shown};
+ghost use Rattle.ctt_edits.specs.Replies.{told_of};
+
+use crate::reply::Reply;
+use ctt_board::Sheet;
+use ctt_text::{CourseNo, CurriculumNo, Instance, NoMemory, Placed, SlotNo, TeacherNo};
+
+/// A part of a timetable, or its costs.
+#[derive(Clone, Copy, Debug, PartialEq, Eq)]
+pub enum Look {
+    /// The lectures of a course.
+    Course(CourseNo),
+    /// The lectures in a slot.
+    Slot(SlotNo),
+    /// The lectures of all courses of a teacher.
+    Teacher(TeacherNo),
+    /// The lectures of all members of a curriculum.
+    Curriculum(CurriculumNo),
+    /// The four costs of the timetable.
+    Cost,
+}
+
+impl Look {
+    /// Whether its number is one of the instance.
+    pub fn fits(&self, instance: &Instance) -> bool
+        ensures { IsTrue result ↔ LookFits instance.now self.now }
+    {
+        match self {
+            Look::Course(course) => course.fits(instance),
+            Look::Slot(slot) => slot.fits(instance),
+            Look::Teacher(teacher) => teacher.fits(instance),
+            Look::Curriculum(curriculum) => curriculum.fits(instance),
+            Look::Cost => true,
+        }
+    }
+}
+
+/// The lectures of a teacher's courses.
+fn teacher_row<'i, S: Sheet<'i>>(sheet: &S, teacher: TeacherNo) -> Result<Vec<Placed>, NoMemory>
+    ensures { IfOk result (λ row. row.items ≡ teacher_row (S.problem sheet.now) teacher (S.list sheet.now)) }
+{
+    sheet.lawful();
+    let instance = sheet.instance();
+    let mut lectures = sheet.list()?;
+    lectures.retain(|l| l.course.get() < instance.courses()
+        && instance.teacher(l.course) == teacher);
+    Ok(lectures)
+}
+
+/// The lectures of some courses.
+fn part_of<'i, S: Sheet<'i>>(sheet: &S, members: &[CourseNo]) -> Result<Vec<Placed>, NoMemory>
+    ensures { IfOk result (λ row. row.items ≡ part_of members.now (S.list sheet.now)) }
+{
+    let mut lectures = sheet.list()?;
+    lectures.retain(|l| members.contains(&l.course));
+    Ok(lectures)
+}
+
+/// What a look shows.
+pub fn look_at<'i, S: Sheet<'i>>(sheet: &S, look: &Look) -> Result<Reply, NoMemory>
+    requires { LookFits (S.problem sheet.now) look.now }
+    ensures { IfOk result (λ reply. told_of reply ≡ shown (S.problem sheet.now) (S.list sheet.now) look.now) }
+{
+    let lectures = match *look {
+        Look::Course(course) => sheet.course_row(course)?,
+        Look::Slot(slot) => sheet.slot_row(slot)?,
+        Look::Teacher(teacher) => teacher_row(sheet, teacher)?,
+        Look::Curriculum(curriculum) => part_of(sheet, sheet.instance().members(curriculum))?,
+        Look::Cost => return Ok(Reply::Costs(sheet.cost())),
+    };
+    Ok(Reply::Lectures(lectures))
+}
