@@ -45,3 +45,6 @@ fn main(rt: HostRuntime) -> ExitCode {
         Err(fault) => ExitCode::from(tell(rt.alloc(), &fault, &mut err)),
     }
 }
+
+#[cfg(test)]
+mod tests;
