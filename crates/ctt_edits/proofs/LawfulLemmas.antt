@@ -12,8 +12,9 @@ use Rattle.ctt_rules.specs.Hard.{Lawful, conflicts, share_room}
 use Rattle.ctt_rules.proofs.ListLemmas.{Each-filter, Pairwise-filter}
 use Rattle.ctt_rules.proofs.NeighbourLemmas.{any_same}
 use Rattle.ctt_board.specs.Changes.{room_at, CellsFit}
-use Rattle.ctt_board.proofs.PutLemmas.{filter_filter, filter-put_yes, filter-put_no, length-put, Each-put, Pairwise-put, Pairwise-put_both}
-use Rattle.ctt_board.proofs.OrderLemmas.{before_goes, before_flip, in_order}
+use Rattle.ctt_text.proofs.LectureLaws.{Each-put, before_once}
+use Rattle.ctt_board.proofs.PutLemmas.{filter_filter, filter-put_yes, filter-put_no, length-put, Pairwise-put, Pairwise-put_both}
+use Rattle.ctt_board.proofs.OrderLemmas.{before_goes, in_order}
 use Rattle.ctt_edits.specs.Edits.{edit_fault, change}
 use Rattle.ctt_edits.specs.Laws.{EditsKeepLawful, EditsFit}
 use Rattle.ctt_edits.specs.declared.edit.Edit.{Edit}
@@ -81,7 +82,7 @@ Ascending-with l t absent h =
     (Each-map (λ (y : Placed). (y.course == l.course) ≡ true → (y.slot == l.slot) ≡ false) (λ y. before l y ≡ false → before y l ≡ true) other t absent) h
   where
     far : (y z : Placed) → before l y ≡ true → before y z ≡ true → before l z ≡ true
-    far y z a b = before_goes l y z a (before_flip y z b)
+    far y z a b = before_goes l y z a (before_once y z b)
 
     other : (y : Placed) → ((y.course == l.course) ≡ true → (y.slot == l.slot) ≡ false) → before l y ≡ false → before y l ≡ true
     other y n e = elim (cases_eq y.course l.course) [
