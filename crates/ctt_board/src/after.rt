@@ -1,40 +1,22 @@
 //! A timetable as a change would leave it. The change is not made, and no memory is taken.
 
 ghost use Rattle.std.specs.Prelude.{◌≡◌, ◌<◌, ◌≤◌};
-ghost use Rattle.ctt_text.specs.Problem.{AreMembers, course_count, slot_count};
+ghost use Rattle.ctt_text.specs.Problem.{AreMembers, course_count};
 ghost use Rattle.ctt_text.specs.Timetable.{course_row};
 ghost use Rattle.ctt_rules.specs.Hard.{Lawful};
 ghost use Rattle.ctt_rules.specs.Penalty.{course_cost, total, alone_cost, part_of};
-ghost use Rattle.ctt_board.specs.Changes.{room_at, room_by, apply, CellsFit};
+ghost use Rattle.ctt_board.specs.Changes.{room_by, apply, CellsFit};
 
 use crate::cell::Cell;
+use crate::sheet::Rooms;
 use arrayvec::ArrayVec;
 use ctt_rules::{count_alone, mark_slots};
 use ctt_text::{CourseNo, Instance, Marks, Placed, RoomNo, SlotNo};
 use std::marker::Model;
 
-/// What stands where in a timetable.
-pub(crate) trait Rooms: Drop {
-    ghost use Rattle.std.specs.Prelude.{List};
-    ghost use Rattle.ctt_text.specs.Problem.{Problem};
-    ghost use Rattle.ctt_text.specs.declared.placed.Placed.{Placed};
-
-    /// The instance that it is a timetable of.
-    ghost problem: { Self → Problem };
-
-    /// The lectures.
-    ghost list: { Self → List Placed };
-
-    /// The room of the lecture of a course in a slot, if there is one.
-    fn room(&self, course: CourseNo, slot: SlotNo) -> Option<RoomNo>
-        requires course { course < course_count (problem self.now) }
-        requires slot { slot < slot_count (problem self.now) }
-        ensures { result ≡ room_at course slot (list self.now) };
-}
-
 /// A timetable after these cells, seen as a timetable. It is lawful.
 #[derive(Drop)]
-pub(crate) struct After<'a, R: Rooms> {
+pub struct After<'a, R: Rooms> {
     instance: &'a Instance,
     rooms: &'a R,
     cells: &'a [Cell],
@@ -66,7 +48,7 @@ fn last_room(cells: &[Cell], course: CourseNo, slot: SlotNo, room: Option<RoomNo
 
 impl<'a, R: Rooms> After<'a, R> {
     /// The timetable after cells that fit it, where it is lawful then.
-    pub(crate) fn new(instance: &'a Instance, rooms: &'a R, cells: &'a [Cell]) -> Self
+    pub fn new(instance: &'a Instance, rooms: &'a R, cells: &'a [Cell]) -> Self
         requires same { R.problem rooms.now ≡ instance.now }
         requires fit { CellsFit cells.now (R.list rooms.now) }
         requires lawful { Lawful instance.now (apply cells.now (R.list rooms.now)) }
@@ -80,27 +62,11 @@ impl<'a, R: Rooms> After<'a, R> {
         }
     }
 
-    /// Computes nothing: its contract says that the timetable is lawful.
-    pub(crate) fn lawful(&self)
-        ensures { Lawful self.now.problem self.now.list }
-    {
-        let _cells = &self.cells;
-    }
-
     /// The instance.
     pub(crate) fn instance(&self) -> &'a Instance
         ensures { result.now ≡ self.now.problem }
     {
         self.instance
-    }
-
-    /// The room of the lecture of a course in a slot, if there is one.
-    fn room(&self, course: CourseNo, slot: SlotNo) -> Option<RoomNo>
-        requires course { course < course_count self.now.problem }
-        requires slot { slot < slot_count self.now.problem }
-        ensures { result ≡ room_at course slot self.now.list }
-    {
-        last_room(self.cells, course, slot, self.rooms.room(course, slot))
     }
 
     /// The lectures of a course.
@@ -114,7 +80,7 @@ impl<'a, R: Rooms> After<'a, R> {
         let mut row = ArrayVec::new();
         for number in 0..instance.slots() {
             let slot = SlotNo::new(number);
-            if let Some(room) = self.room(course, slot) {
+            if let Some(room) = self.room_at(course, slot) {
                 row.push(Placed { course, slot, room });
             }
         }
@@ -154,5 +120,23 @@ impl<'a, R: Rooms> After<'a, R> {
             count += count_alone(instance, &slots, row.as_slice());
         }
         2 * count
+    }
+}
+
+impl<'a, R: Rooms> Rooms for After<'a, R> {
+    ghost problem = { λ a. a.problem };
+
+    ghost list = { λ a. a.list };
+
+    fn lawful(&self) {
+        let _cells = &self.cells;
+    }
+
+    fn room_at(&self, course: CourseNo, slot: SlotNo) -> Option<RoomNo> {
+        last_room(self.cells, course, slot, self.rooms.room_at(course, slot))
+    }
+
+    fn count(&self, course: CourseNo) -> u32 {
+        self.row(course).len() as u32
     }
 }

@@ -6,9 +6,10 @@ ghost use Rattle.ctt_board.specs.Boards.{delta};
 ghost use Rattle.ctt_board.specs.Changes.{ChangeFits};
 ghost use Rattle.ctt_board.specs.Costs.{touches, touches_part, courses_cost, curricula_cost};
 
-use crate::after::{After, Rooms};
+use crate::after::After;
 use crate::cell::Cell;
 use crate::change::Change;
+use crate::sheet::Rooms;
 use ctt_text::{CourseNo, CurriculumNo, Instance};
 
 /// Whether some cell is of the course.

@@ -9,10 +9,11 @@ pub mod laws;
 mod list_sheet;
 mod sheet;
 
+pub use after::After;
 pub use cell::Cell;
 pub use change::Change;
 pub use list_sheet::ListSheet;
-pub use sheet::{Sheet, Timetable};
+pub use sheet::{Rooms, Sheet, Timetable};
 
 #[cfg(test)]
 mod tests;

@@ -7,12 +7,11 @@ ghost use Rattle.ctt_text.specs.Problem.{course_count, slot_count};
 ghost use Rattle.ctt_text.specs.Timetable.{course_row, slot_row, with, without, before};
 ghost use Rattle.ctt_board.specs.Changes.{apply, in_turn};
 
-use crate::after::Rooms;
 use crate::cell::Cell;
 use crate::change::Change;
 use crate::delta::delta;
 use crate::laws;
-use crate::sheet::{Sheet, Timetable};
+use crate::sheet::{Rooms, Sheet, Timetable};
 use ctt_rules::Cost;
 use ctt_text::{CourseNo, Instance, NoMemory, Placed, RoomNo, SlotNo, is_before};
 use std::alloc::{AllocError, Global};
@@ -107,30 +106,22 @@ impl<'i> Rooms for ListSheet<'i> {
 
     ghost list = { λ s. s.list };
 
-    fn room(&self, course: CourseNo, slot: SlotNo) -> Option<RoomNo> {
-        let row = ctt_rules::course_row(self.instance, &self.lectures, course);
-        row.iter().find(|l| l.slot == slot).map(|l| l.room)
-    }
-}
-
-impl<'i> Timetable for ListSheet<'i> {
-    ghost problem = { λ s. s.problem };
-
-    ghost list = { λ s. s.list };
-
     fn lawful(&self) {
         let _lectures = &self.lectures;
     }
 
     fn room_at(&self, course: CourseNo, slot: SlotNo) -> Option<RoomNo> {
-        self.room(course, slot)
+        let row = ctt_rules::course_row(self.instance, &self.lectures, course);
+        row.iter().find(|l| l.slot == slot).map(|l| l.room)
     }
 
     fn count(&self, course: CourseNo) -> u32 {
         self.instance.limits();
         ctt_rules::course_row(self.instance, &self.lectures, course).len() as u32
     }
+}
 
+impl<'i> Timetable for ListSheet<'i> {
     fn cost(&self) -> Cost {
         ctt_rules::penalty(self.instance, &self.lectures)
     }

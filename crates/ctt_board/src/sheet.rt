@@ -13,9 +13,9 @@ use ctt_rules::Cost;
 use ctt_text::{CourseNo, Instance, NoMemory, Placed, RoomNo, SlotNo};
 use std::alloc::Global;
 
-/// A lawful timetable, with its costs. This is what a sheet is without its instance's lifetime, and
-/// what structs that hold one are bound by.
-pub trait Timetable: Drop + Send + Sync {
+/// A lawful timetable, of which is read what stands where: a sheet, or what a change would leave of
+/// one.
+pub trait Rooms: Drop {
     ghost use Rattle.std.specs.Prelude.{List};
     ghost use Rattle.ctt_text.specs.Problem.{Problem};
     ghost use Rattle.ctt_text.specs.declared.placed.Placed.{Placed};
@@ -40,40 +40,44 @@ pub trait Timetable: Drop + Send + Sync {
     fn count(&self, course: CourseNo) -> u32
         requires { course < course_count (problem self.now) }
         ensures { result ≡ length (course_row course (list self.now)) };
+}
 
+/// A lawful timetable that is kept, with its costs. This is what a sheet is without its instance's
+/// lifetime, and what structs that hold one are bound by.
+pub trait Timetable: Rooms + Send + Sync {
     /// What the timetable costs.
     fn cost(&self) -> Cost
-        ensures value { result ≡ penalty (problem self.now) (list self.now) }
+        ensures value { result ≡ penalty (Self.problem self.now) (Self.list self.now) }
         ensures bound { total result < 2 ^ 63 };
 
     /// The penalty after a change, minus the present one.
     fn delta(&self, change: &Change) -> i64
-        requires { ChangeFits (problem self.now) change.now (list self.now) }
-        ensures { result ≡ delta (problem self.now) (list self.now) change.now };
+        requires { ChangeFits (Self.problem self.now) change.now (Self.list self.now) }
+        ensures { result ≡ delta (Self.problem self.now) (Self.list self.now) change.now };
 
     /// Makes a change. It takes no memory.
     fn apply(&mut self, change: &Change)
-        requires { ChangeFits (problem self.old) change.now (list self.old) }
-        ensures problem { problem self.new ≡ problem self.old }
-        ensures list { list self.new ≡ apply change.now (list self.old) };
+        requires { ChangeFits (Self.problem self.old) change.now (Self.list self.old) }
+        ensures problem { Self.problem self.new ≡ Self.problem self.old }
+        ensures list { Self.list self.new ≡ apply change.now (Self.list self.old) };
 
     /// The lectures of a course, by slot.
     fn course_row(&self, course: CourseNo) -> Result<Vec<Placed>, NoMemory>
-        requires { course < course_count (problem self.now) }
-        ensures { IfOk result (λ row. row.items ≡ course_row course (list self.now)) };
+        requires { course < course_count (Self.problem self.now) }
+        ensures { IfOk result (λ row. row.items ≡ course_row course (Self.list self.now)) };
 
     /// The lectures in a slot, by course.
     fn slot_row(&self, slot: SlotNo) -> Result<Vec<Placed>, NoMemory>
-        requires { slot < slot_count (problem self.now) }
-        ensures { IfOk result (λ row. row.items ≡ slot_row slot (list self.now)) };
+        requires { slot < slot_count (Self.problem self.now) }
+        ensures { IfOk result (λ row. row.items ≡ slot_row slot (Self.list self.now)) };
 
     /// All lectures, by course and slot.
     fn list(&self) -> Result<Vec<Placed>, NoMemory>
-        ensures { IfOk result (λ all. all.items ≡ list self.now) };
+        ensures { IfOk result (λ all. all.items ≡ Self.list self.now) };
 
     /// An equal sheet.
     fn copy(&self) -> Result<Self, NoMemory>
-        ensures { IfOk result (λ sheet. (problem sheet ≡ problem self.now) × (list sheet ≡ list self.now)) };
+        ensures { IfOk result (λ sheet. (Self.problem sheet ≡ Self.problem self.now) × (Self.list sheet ≡ Self.list self.now)) };
 }
 
 /// A lawful timetable that is kept for an instance.

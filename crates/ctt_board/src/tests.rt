@@ -4,7 +4,7 @@
 ghost use Rattle.std.specs.Prelude.{◌<◌};
 ghost use Rattle.ctt_text.specs.Problem.{course_count, slot_count};
 
-use crate::{Cell, Change, ListSheet, Sheet, Timetable};
+use crate::{Cell, Change, ListSheet, Rooms, Sheet, Timetable};
 use ctt_rules::{Cost, is_lawful};
 use ctt_text::{CourseNo, Instance, Placed, RoomNo, SlotNo, is_timetable, read_instance};
 use std::alloc::Global;

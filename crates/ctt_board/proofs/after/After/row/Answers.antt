@@ -11,9 +11,9 @@ pub loop-number-preserved : goal.loop-number-preserved
 loop-number-preserved g c =
     let f : ℕ → Option ℕ = λ s. room_at c.args.course s c.args.self.now.list in
     let n = c.loop-number.number in
-    let here : c.room.result ≡ f n = c.room.ensures ∙ ap f c.new-slot.ensures in
+    let here : c.room_at.result ≡ f n = c.room_at.ensures ∙ ap f c.new-slot.ensures in
     let inv = c.loop-number.invariant in
-    elim c.match-room.branch [
+    elim c.match-room_at.branch [
       | in-Some w ↦ (
           let r = w.in-Some.room in
           let lecture : ℕ → Placed = λ s. record { course = c.args.course; slot = s; room = r } in
