@@ -1,8 +1,9 @@
 -- The penalty by courses and curricula, how large it is, and what a change does to it.
-use Rattle.std.proofs.Common.{◌≡◌, ℕ, zero, suc, ◌+◌, ◌*◌, ◌≤◌, Bool, true, false, cond, ◌==◌, List, [], ◌∷◌, length, get_or, refl, ap, arith, inl, inr}
-use Rattle.std.specs.List.{sum_by, list_any}
+use Rattle.std.proofs.Common.{◌≡◌, ℕ, zero, suc, ◌+◌, ◌*◌, ◌<◌, ◌≤◌, Bool, true, false, cond, ◌==◌, List, [], ◌∷◌, length, get_or, ℤ, w64, SFits, to_z, of_z, refl, ap, arith, inl, inr}
+use Rattle.std.specs.List.{sum_by, list_any, AllByRecursion as Each}
 use Rattle.std.proofs.Math.Nat.{mul-le-mul_right}
 use Rattle.std.proofs.lemmas.Bool.{cases_lt}
+use Rattle.std.proofs.lemmas.Int.{ints}
 use Rattle.std.proofs.lemmas.List.{get_or_past}
 use Rattle.std.proofs.lemmas.List.Sums.{sum_by-cons, sum_by-le}
 use Rattle.ctt_text.specs.Lists.{sum_below, has}
@@ -25,13 +26,16 @@ sum_below_three : (a b c : ℕ → ℕ) (n : ℕ) → sum_below (λ k. a k + b k
 sum_below_three a b c zero = refl
 sum_below_three a b c (suc n) = omega (arith, sum_below_three a b c n)
 
--- the sum over courses and curricula
-pub total_is : (i : Problem) (t : List Placed) → IsTimetable i t → total (penalty i t) ≡ sum_below (λ c. total (course_cost i t c)) (course_count i) + sum_by (λ q. alone_cost i (part_of q t)) i.curricula
-total_is i t h =
+-- the sum over courses and curricula, of any lectures of the instance's courses
+pub total_of : (i : Problem) (t : List Placed) → Each (λ (l : Placed). l.course < course_count i) t → total (penalty i t) ≡ sum_below (λ c. total (course_cost i t c)) (course_count i) + sum_by (λ q. alone_cost i (part_of q t)) i.curricula
+total_of i t h =
     let seats : ℕ → ℕ = λ c. sum_by (unseated i) (course_row c t) in
     let days : ℕ → ℕ = λ c. days_cost i c (course_row c t) in
     let rooms : ℕ → ℕ = λ c. rooms_cost i (course_row c t) in
-    omega (arith, sum_below_three seats days rooms (course_count i), sum_by_course (unseated i) (course_count i) t (courses_fit i t h))
+    omega (arith, sum_below_three seats days rooms (course_count i), sum_by_course (unseated i) (course_count i) t h)
+
+pub total_is : (i : Problem) (t : List Placed) → IsTimetable i t → total (penalty i t) ≡ sum_below (λ c. total (course_cost i t c)) (course_count i) + sum_by (λ q. alone_cost i (part_of q t)) i.curricula
+total_is i t h = total_of i t (courses_fit i t h)
 
 -- sums of which the terms that do not pass are the same
 sum_below_where : (p : ℕ → Bool) (f g : ℕ → ℕ) (n : ℕ) → ((k : ℕ) → p k ≡ false → f k ≡ g k) → sum_below (λ k. cond (p k) (f k) 0) n + sum_below g n ≡ sum_below (λ k. cond (p k) (g k) 0) n + sum_below f n
@@ -51,13 +55,17 @@ sum_by_where p f g (x ∷ xs) e = omega (arith, sum_by_where p f g xs e, by (p x
     by false h = omega (arith, h refl)
 
 -- a change makes the difference that it makes to what it touches
-pub touched_difference : (i : Problem) (cells : List Cell) (t : List Placed) → IsTimetable i t → IsTimetable i (apply cells t)
+pub difference_of : (i : Problem) (cells : List Cell) (t : List Placed) → Each (λ (l : Placed). l.course < course_count i) t → Each (λ (l : Placed). l.course < course_count i) (apply cells t)
     → (courses_cost i cells (apply cells t) + curricula_cost i cells (apply cells t)) + total (penalty i t) ≡ (courses_cost i cells t + curricula_cost i cells t) + total (penalty i (apply cells t))
-touched_difference i cells t h k =
+difference_of i cells t h k =
     let u : List Placed = apply cells t in
     let courses = sum_below_where (touches cells) (λ c. total (course_cost i u c)) (λ c. total (course_cost i t c)) (course_count i) (λ c e. ap (λ ls. total (row_cost i c ls)) (untouched_apply (λ d. d == c) cells t e)) in
     let curricula = sum_by_where (touches_part cells) (λ q. alone_cost i (part_of q u)) (λ q. alone_cost i (part_of q t)) i.curricula (λ q e. ap (alone_cost i) (untouched_apply (λ d. has d q) cells t e)) in
-    omega (arith, courses, curricula, total_is i t h, total_is i u k)
+    omega (arith, courses, curricula, total_of i t h, total_of i u k)
+
+pub touched_difference : (i : Problem) (cells : List Cell) (t : List Placed) → IsTimetable i t → IsTimetable i (apply cells t)
+    → (courses_cost i cells (apply cells t) + curricula_cost i cells (apply cells t)) + total (penalty i t) ≡ (courses_cost i cells t + curricula_cost i cells t) + total (penalty i (apply cells t))
+touched_difference i cells t h k = difference_of i cells t (courses_fit i t h) (courses_fit i (apply cells t) k)
 
 -- the numbers of a course are small
 facts_small : (i : Problem) → IsProblem i → (c : ℕ) → IsSmall (course_of i c).min_days × IsSmall (course_of i c).students
@@ -91,3 +99,7 @@ module _ (i : Problem) (p : IsProblem i) (t : List Placed) (h : IsTimetable i t)
 
 pub penalty_fits : PenaltyFits
 penalty_fits i t p h = omega (arith, penalty_small i p t h)
+
+-- a signed number that is returned is the number
+pub signed_is : (x d : ℤ) → SFits w64 x → x ≡ d → to_z w64 (of_z w64 x) ≡ d
+signed_is x d fits same = omega (arith, ints)

@@ -9,7 +9,7 @@ use Rattle.ctt_text.specs.declared.placed.Placed.{Placed}
 use Rattle.ctt_text.proofs.TimetableLemmas.{Each-map}
 use Rattle.ctt_rules.proofs.ListLemmas.{filter_none, filter_every, filter_within, Pairwise-filter, Each-filter_passes}
 use Rattle.ctt_rules.proofs.TimetableLemmas.{row_fits, row_by_slot}
-use Rattle.ctt_rules.specs.Penalty.{course_cost, row_cost, total}
+use Rattle.ctt_rules.specs.Penalty.{course_cost, row_cost}
 use Rattle.ctt_board.specs.Changes.{room_at, room_of}
 use Rattle.ctt_board.specs.Cells.{lecture_at, row_below}
 use Rattle.ctt_board.proofs.PutLemmas.{Pairwise-map}
@@ -76,5 +76,5 @@ pub row_more_none : (f : ℕ → Option ℕ) (c n : ℕ) → f n ≡ None → ro
 row_more_none f c n e = rw (add-one, e) (append-nil (row_below f c n))
 
 -- what a row costs by itself is what it costs in its timetable
-pub cost_of_row : (i j : Problem) (t ls : List Placed) (c : ℕ) → j ≡ i → ls ≡ course_row c t → total (course_cost j ls c) ≡ total (course_cost i t c)
-cost_of_row i j t ls c same row = ap₂ (λ a b. total (course_cost a b c)) same row ∙ ap (λ b. total (row_cost i c b)) (row_of_row t c)
+pub cost_of_row : (i j : Problem) (t ls : List Placed) (c : ℕ) → j ≡ i → ls ≡ course_row c t → course_cost j ls c ≡ course_cost i t c
+cost_of_row i j t ls c same row = ap₂ (λ a b. course_cost a b c) same row ∙ ap (row_cost i c) (row_of_row t c)

@@ -1,5 +1,5 @@
 -- What no fault says.
-use Rattle.std.proofs.Common.{◌≡◌, ℕ, ◌<◌, Bool, true, false, leb, ◌==◌, List, [], ◌∷◌, length, Option, Some, None, is_some, refl, inl, inr}
+use Rattle.std.proofs.Common.{◌≡◌, ℕ, ℤ, ◌<◌, Bool, true, false, leb, ◌==◌, List, [], ◌∷◌, length, Option, Some, None, is_some, Result, Ok, refl, ap, inl, inr}
 use Rattle.std.specs.List.{find, AllByRecursion as Each}
 use Rattle.std.specs.Option.{option_map}
 use Rattle.std.proofs.lemmas.Bool.{cases_Bool, leb-false}
@@ -7,11 +7,17 @@ use Rattle.ctt_text.specs.Problem.{Problem, course_of, clash, is_unavailable}
 use Rattle.ctt_text.specs.Timetable.{course_row, slot_row}
 use Rattle.ctt_text.specs.declared.placed.Placed.{Placed}
 use Rattle.ctt_board.specs.Changes.{room_of, room_at}
-use Rattle.ctt_edits.specs.Edits.{or_else, fault_if, first_course, try_fault}
+use Rattle.ctt_board.specs.declared.cell.Cell.{Cell}
+use Rattle.ctt_edits.specs.Edits.{or_else, fault_if, first_course, try_fault, checked_by}
+use Rattle.ctt_edits.specs.Looks.{priced_by}
 use Rattle.ctt_edits.specs.declared.fault.EditFault.{EditFault}
 use Rattle.ctt_edits.specs.declared.fault.EditFault.TheVariants.{AlreadyThere, CourseFull, Unavailable, Clash, RoomTaken}
 
-or_else_none : (f g : Option EditFault) → or_else f g ≡ None → (f ≡ None) × (g ≡ None)
+pub no_fault : (o : Option EditFault) → is_some o ≡ false → o ≡ None
+no_fault None h = refl
+no_fault (Some f) h = cc
+
+pub or_else_none : (f g : Option EditFault) → or_else f g ≡ None → (f ≡ None) × (g ≡ None)
 or_else_none None g h = (refl, h)
 or_else_none (Some f) g h = cc
 
@@ -82,3 +88,8 @@ free i t c s r e =
 
     rest1 : Option EditFault
     rest1 = or_else full rest2
+
+-- the price of an edit whose change is known
+pub priced_is : (o : Option EditFault) (cells made : List Cell) (p : List Cell → ℤ) → ◌≡◌ {A = Result (List Cell) EditFault} (Ok made) (checked_by o cells) → ◌≡◌ {A = Result ℤ EditFault} (Ok (p made)) (priced_by o (p cells))
+priced_is None cells made p e = (let same : made ≡ cells = cc in ap (λ x. Ok (p x)) same)
+priced_is (Some f) cells made p e = cc

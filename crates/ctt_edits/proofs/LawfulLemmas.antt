@@ -1,5 +1,5 @@
--- An edit without a fault keeps a timetable lawful, and its change fits.
-use Rattle.std.proofs.Common.{◌≡◌, ℕ, suc, ◌<◌, ◌≤◌, Bool, true, false, not, ◌&&◌, ◌||◌, ◌==◌, List, [], ◌∷◌, Option, Some, None, refl, ◌∙◌, sym, ap, ap₂, subst, length, arith, inl, inr, is_some, is_none}
+-- A timetable stays lawful with one lecture more that can be placed, and with one less.
+use Rattle.std.proofs.Common.{◌≡◌, ℕ, suc, ◌<◌, ◌≤◌, Bool, true, false, not, ◌&&◌, ◌||◌, ◌==◌, List, [], ◌∷◌, refl, ◌∙◌, sym, ap, ap₂, subst, length, arith, inl, inr}
 use Rattle.std.specs.List.{filter, AllByRecursion as Each}
 use Rattle.std.proofs.lemmas.Bool.Decides.{nat_tests}
 use Rattle.std.proofs.lemmas.Bool.{cases_Bool, cases_eq, eq-eqb, ne_eqb}
@@ -11,16 +11,10 @@ use Rattle.ctt_text.proofs.TimetableLemmas.{Each-map}
 use Rattle.ctt_rules.specs.Hard.{Lawful, conflicts, share_room}
 use Rattle.ctt_rules.proofs.ListLemmas.{Each-filter, Pairwise-filter}
 use Rattle.ctt_rules.proofs.NeighbourLemmas.{any_same}
-use Rattle.ctt_board.specs.Changes.{room_at, CellsFit}
 use Rattle.ctt_text.proofs.LectureLaws.{Each-put, before_once}
 use Rattle.ctt_board.proofs.PutLemmas.{filter_filter, filter-put_yes, filter-put_no, length-put, Pairwise-put, Pairwise-put_both}
 use Rattle.ctt_board.proofs.OrderLemmas.{before_goes, in_order}
-use Rattle.ctt_edits.specs.Edits.{edit_fault, change}
-use Rattle.ctt_edits.specs.Laws.{EditsKeepLawful, EditsFit}
-use Rattle.ctt_edits.specs.declared.edit.Edit.{Edit}
-use Rattle.ctt_edits.specs.declared.edit.Edit.TheVariants.{Place, Drop}
-use Rattle.ctt_edits.specs.declared.fault.EditFault.TheVariants.{NotPlaced}
-use Rattle.ctt_edits.proofs.FaultLemmas.{Free, free, fault_if_none}
+use Rattle.ctt_edits.proofs.FaultLemmas.{Free}
 
 -- what a part has is in the whole
 pub Each-from_filter : {X : Type 0} (Q : X → Type 0) (p : X → Bool) (xs : List X) → Each Q (filter p xs) → Each (λ x. p x ≡ true → Q x) xs
@@ -50,7 +44,7 @@ clash_comm i c d =
     (ap₂ (λ a b. a || b) (eqb_comm (course_of i c).teacher (course_of i d).teacher)
     (any_same (λ q. has c q && has d q) (λ q. has d q && has c q) i.curricula (λ q. and_comm (has c q) (has d q))))
 
-without_lawful : (i : Problem) (t : List Placed) (c s : ℕ) → Lawful i t → Lawful i (without c s t)
+pub without_lawful : (i : Problem) (t : List Placed) (c s : ℕ) → Lawful i t → Lawful i (without c s t)
 without_lawful i t c s h =
     let p : Placed → Bool = λ l. not (l.course == c && l.slot == s) in
     record {
@@ -90,7 +84,7 @@ Ascending-with l t absent h =
       | inr differ ↦ grind (arith, nat_tests)
     ]
 
-with_lawful : (i : Problem) (t : List Placed) (c s r : ℕ) → Lawful i t → Fits i (record { course = c; slot = s; room = r }) → Free i t c s r → Lawful i (with (record { course = c; slot = s; room = r }) t)
+pub with_lawful : (i : Problem) (t : List Placed) (c s r : ℕ) → Lawful i t → Fits i (record { course = c; slot = s; room = r }) → Free i t c s r → Lawful i (with (record { course = c; slot = s; room = r }) t)
 with_lawful i t c s r h f e =
     let l : Placed = record { course = c; slot = s; room = r } in
     let absent : Each (λ (y : Placed). (y.course == c) ≡ true → (y.slot == s) ≡ false) t = Each-from_filter (λ (y : Placed). (y.slot == s) ≡ false) (λ y. y.course == c) t e.absent in
@@ -111,18 +105,3 @@ with_lawful i t c s r h f e =
             omega (arith, h.few d))
       ];
     }
-
-pub edits_keep_lawful : EditsKeepLawful
-edits_keep_lawful i t (Place c s r) h f e = with_lawful i t c s r h f (free i t c s r e)
-edits_keep_lawful i t (Drop c s) h f e = without_lawful i t c s h
-
-there : (o : Option ℕ) → is_none o ≡ false → is_some o ≡ true
-there None h = cc
-there (Some r) h = refl
-
-cells_fit : (i : Problem) (t : List Placed) (e : Edit) → edit_fault i t e ≡ None → CellsFit (change t e) t
-cells_fit i t (Place c s r) e = ((free i t c s r e).empty, tt)
-cells_fit i t (Drop c s) e = (there (room_at c s t) (fault_if_none (is_none (room_at c s t)) NotPlaced e), tt)
-
-pub edits_fit : EditsFit
-edits_fit i t e h f k = record { cells_fit = cells_fit i t e k; lawful = edits_keep_lawful i t e h f k }

@@ -1,5 +1,11 @@
 pub mod FaultLemmas
 pub mod LawfulLemmas
+pub mod EditLemmas
 pub mod LeastLemmas
 pub mod SlotLemmas
 pub mod LookLemmas
+pub mod MarkedRows
+pub mod ReadLemmas
+pub mod FrameLemmas
+pub mod PriceFrame
+pub mod CallLemmas

@@ -1,20 +1,23 @@
 -- Edits: the first fault that holds, and else the change.
-use Rattle.std.specs.Prelude.{ℕ, ◌<◌, Bool, cond, List, [], ◌∷◌, length, ◌==◌, nat_le, Option, Some, None, is_none, is_some, Result, Ok, Err}
+use Rattle.std.specs.Prelude.{ℕ, ◌<◌, Bool, cond, ◌||◌, List, [], ◌∷◌, length, ◌==◌, nat_le, Option, Some, None, is_none, is_some, Result, Ok, Err}
 use Rattle.std.specs.List.{find}
 use Rattle.std.specs.Option.{option_map}
 use Rattle.ctt_text.specs.Problem.{Problem, course_of, course_count, slot_count, room_count, clash, is_unavailable}
-use Rattle.ctt_text.specs.Timetable.{course_row, slot_row}
+use Rattle.ctt_text.specs.Timetable.{course_row, slot_row, without}
 use Rattle.ctt_text.specs.declared.placed.Placed.{Placed}
-use Rattle.ctt_board.specs.Changes.{room_of, room_at, cell, apply}
+use Rattle.ctt_board.specs.Changes.{room_of, room_at, cell, apply, apply_at}
 use Rattle.ctt_board.specs.declared.cell.Cell.{Cell}
 use Rattle.ctt_edits.specs.declared.edit.Edit.{Edit}
-use Rattle.ctt_edits.specs.declared.edit.Edit.TheVariants.{Place, Drop}
+use Rattle.ctt_edits.specs.declared.edit.Edit.TheVariants.{Place, Move, Swap, Reroom, Drop}
 use Rattle.ctt_edits.specs.declared.fault.EditFault.{EditFault}
-use Rattle.ctt_edits.specs.declared.fault.EditFault.TheVariants.{NotPlaced, AlreadyThere, CourseFull, Unavailable, Clash, RoomTaken}
+use Rattle.ctt_edits.specs.declared.fault.EditFault.TheVariants.{NotPlaced, SameSlot, SameCourse, AlreadyThere, CourseFull, Unavailable, Clash, RoomTaken}
 
 -- its numbers are those of the instance
 abbrev pub EditFits : Problem → Edit → Type 0
 EditFits i (Place c s r) = (c < course_count i) × (s < slot_count i) × (r < room_count i)
+EditFits i (Move c s s2 r) = (c < course_count i) × (s < slot_count i) × (s2 < slot_count i) × (r < room_count i)
+EditFits i (Swap c s d s2) = (c < course_count i) × (s < slot_count i) × (d < course_count i) × (s2 < slot_count i)
+EditFits i (Reroom c s r) = (c < course_count i) × (s < slot_count i) × (r < room_count i)
 EditFits i (Drop c s) = (c < course_count i) × (s < slot_count i)
 
 -- the fault that stands first
@@ -41,14 +44,34 @@ try_in i c s r course slot =
 abbrev pub try_fault : Problem → List Placed → ℕ → ℕ → ℕ → Option EditFault
 try_fault i t c s r = try_in i c s r (course_row c t) (slot_row s t)
 
+-- the same in the room of another lecture, if that one is there
+abbrev pub try_room_of : Problem → List Placed → ℕ → ℕ → Option ℕ → Option EditFault
+try_room_of i t c s None = None
+try_room_of i t c s (Some r) = try_fault i t c s r
+
 -- the cells that an edit removes, then the cells that it adds
 abbrev pub change : List Placed → Edit → List Cell
 change t (Place c s r) = cell c s (Some r) ∷ []
+change t (Move c s s2 r) = cell c s None ∷ cell c s2 (Some r) ∷ []
+change t (Swap c s d s2) = cell c s None ∷ cell d s2 None ∷ cell c s2 (room_at d s2 t) ∷ cell d s (room_at c s t) ∷ []
+change t (Reroom c s r) = cell c s None ∷ cell c s (Some r) ∷ []
 change t (Drop c s) = cell c s None ∷ []
 
 -- the first fault of an edit
 abbrev pub edit_fault : Problem → List Placed → Edit → Option EditFault
 edit_fault i t (Place c s r) = try_fault i t c s r
+edit_fault i t (Move c s s2 r) =
+    or_else (fault_if (is_none (room_at c s t)) NotPlaced)
+    (or_else (fault_if (s == s2) SameSlot)
+    (try_fault i (without c s t) c s2 r))
+edit_fault i t (Swap c s d s2) =
+    or_else (fault_if (is_none (room_at c s t) || is_none (room_at d s2 t)) NotPlaced)
+    (or_else (fault_if (c == d) SameCourse)
+    (or_else (try_room_of i (without d s2 (without c s t)) c s2 (room_at d s2 t))
+    (try_room_of i (apply_at c s2 (room_at d s2 t) (without d s2 (without c s t))) d s (room_at c s t))))
+edit_fault i t (Reroom c s r) =
+    or_else (fault_if (is_none (room_at c s t)) NotPlaced)
+    (try_fault i (without c s t) c s r)
 edit_fault i t (Drop c s) = fault_if (is_none (room_at c s t)) NotPlaced
 
 -- the timetable after an edit

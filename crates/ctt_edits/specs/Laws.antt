@@ -1,11 +1,14 @@
 -- What layers above rest on.
 use Rattle.std.specs.Prelude.{ℕ, ◌≡◌, ◌≤◌, true, List, Some, None}
 use Rattle.std.specs.List.{AllByRecursion as Each}
+use Rattle.ctt_text.specs.Lists.{Pairwise}
 use Rattle.ctt_text.specs.Problem.{Problem, clash}
 use Rattle.ctt_text.specs.Timetable.{Ascending}
 use Rattle.ctt_text.specs.declared.placed.Placed.{Placed}
 use Rattle.ctt_rules.specs.Hard.{Lawful}
 use Rattle.ctt_board.specs.Changes.{ChangeFits}
+use Rattle.ctt_edits.specs.Calls.{CallFits, reply, cells_of, reads, Agree, RowBefore}
+use Rattle.ctt_edits.specs.declared.call.Call.{Call}
 use Rattle.ctt_edits.specs.declared.edit.Edit.{Edit}
 use Rattle.ctt_edits.specs.declared.edit.Edit.TheVariants.{Place}
 use Rattle.ctt_edits.specs.declared.fault.EditFault.TheVariants.{Clash}
@@ -23,3 +26,12 @@ EditsFit = (i : Problem) (t : List Placed) (e : Edit) → Lawful i t → EditFit
 abbrev pub ClashIsLeast : Type 0
 ClashIsLeast = (i : Problem) (t : List Placed) (c s r d : ℕ) → Ascending t → edit_fault i t (Place c s r) ≡ Some (Clash d)
     → (clash i c d ≡ true) × Each (λ (l : Placed). l.slot ≡ s → clash i c l.course ≡ true → d ≤ l.course) t
+
+-- on two lawful timetables with equal rows where a call reads, the answer is the same, and so is what changes
+abbrev pub CallFrame : Type 0
+CallFrame = (i : Problem) (t u : List Placed) (call : Call) → Lawful i t → Lawful i u → CallFits i call → Agree t u (reads i call)
+    → (reply i t call ≡ reply i u call) × (cells_of i t call ≡ cells_of i u call)
+
+-- the rows that a call reads ascend, each once
+abbrev pub ReadsAscend : Type 0
+ReadsAscend = (i : Problem) (call : Call) → Pairwise RowBefore (reads i call)

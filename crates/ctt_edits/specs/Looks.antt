@@ -1,13 +1,16 @@
 -- What the looks show.
-use Rattle.std.specs.Prelude.{ℕ, ◌<◌, List, filter, ◌==◌}
+use Rattle.std.specs.Prelude.{ℕ, ◌<◌, ℤ, List, filter, ◌==◌, Option, Some, None, Result, Ok, Err}
 use Rattle.ctt_text.specs.Problem.{Problem, course_of, members, course_count, slot_count, teacher_count, curriculum_count}
 use Rattle.ctt_text.specs.Timetable.{course_row, slot_row}
 use Rattle.ctt_text.specs.declared.placed.Placed.{Placed}
-use Rattle.ctt_rules.specs.Penalty.{penalty, part_of}
+use Rattle.ctt_rules.specs.Penalty.{penalty, course_cost, part_of}
 use Rattle.ctt_rules.specs.declared.cost.Cost.{Cost}
+use Rattle.ctt_board.specs.Boards.{delta}
+use Rattle.ctt_edits.specs.Edits.{EditFits, edit_fault, change}
+use Rattle.ctt_edits.specs.declared.edit.Edit.{Edit}
 use Rattle.ctt_edits.specs.declared.fault.EditFault.{EditFault}
 use Rattle.ctt_edits.specs.declared.looks.Look.{Look}
-use Rattle.ctt_edits.specs.declared.looks.Look.TheVariants.{Course, Slot, Teacher, Curriculum}
+use Rattle.ctt_edits.specs.declared.looks.Look.TheVariants.{Course, Slot, Teacher, Curriculum, CourseCost, Price}
 use Rattle.ctt_edits.specs.declared.looks.Look.TheVariants.{Cost as WholeCost}
 
 -- what a planner is told: a reply by its value
@@ -16,6 +19,12 @@ pub data Told : Type 0 where
   Refused : (fault : EditFault) → Told
   Lectures : (list : List Placed) → Told
   Costs : (cost : Cost) → Told
+  Priced : (price : ℤ) → Told
+
+-- refused where there is a fault
+abbrev pub told_or : Option EditFault → Told → Told
+told_or None answer = answer
+told_or (Some f) answer = Refused f
 
 -- its number is one of the instance
 abbrev pub LookFits : Problem → Look → Type 0
@@ -23,15 +32,31 @@ LookFits i (Course c) = c < course_count i
 LookFits i (Slot s) = s < slot_count i
 LookFits i (Teacher h) = h < teacher_count i
 LookFits i (Curriculum q) = q < curriculum_count i
+LookFits i (CourseCost c) = c < course_count i
+LookFits i (Price e) = EditFits i e
 LookFits i WholeCost = Unit {0}
 
 -- the lectures of a teacher's courses
 abbrev pub teacher_row : Problem → ℕ → List Placed → List Placed
 teacher_row i h t = filter (λ l. (course_of i l.course).teacher == h) t
 
+-- the penalty after an edit minus that before
+abbrev pub price : Problem → List Placed → Edit → ℤ
+price i t e = delta i t (change t e)
+
+abbrev pub priced_by : Option EditFault → ℤ → Result ℤ EditFault
+priced_by None p = Ok p
+priced_by (Some f) p = Err f
+
+-- the price of an edit, or the first fault that holds
+abbrev pub priced : Problem → List Placed → Edit → Result ℤ EditFault
+priced i t e = priced_by (edit_fault i t e) (price i t e)
+
 abbrev pub shown : Problem → List Placed → Look → Told
 shown i t (Course c) = Lectures (course_row c t)
 shown i t (Slot s) = Lectures (slot_row s t)
 shown i t (Teacher h) = Lectures (teacher_row i h t)
 shown i t (Curriculum q) = Lectures (part_of (members i q) t)
+shown i t (CourseCost c) = Costs (course_cost i t c)
+shown i t (Price e) = told_or (edit_fault i t e) (Priced (price i t e))
 shown i t WholeCost = Costs (penalty i t)

@@ -1,29 +1,34 @@
 //! Whether an edit can be made.
 
-ghost use Rattle.std.specs.Prelude.{◌≡◌, ◌<◌, ◌==◌, List, IfOk};
-ghost use Rattle.ctt_text.specs.Problem.{course_count, slot_count, room_count, clash};
-ghost use Rattle.ctt_text.specs.Timetable.{slot_row};
-ghost use Rattle.ctt_text.specs.declared.placed.Placed.{Placed};
-ghost use Rattle.ctt_board.specs.Changes.{ChangeFits};
+ghost use Rattle.std.specs.Prelude.{◌≡◌, ◌<◌, ◌==◌, false, Some, None, IfOk, IsSome};
+ghost use Rattle.ctt_text.specs.Problem.{course_count, slot_count, clash};
+ghost use Rattle.ctt_text.specs.Timetable.{slot_row, without};
+ghost use Rattle.ctt_board.specs.Changes.{ChangeFits, cell, room_at};
 ghost use Rattle.ctt_edits.specs.Edits.{EditFits, first_course, try_fault, edit_fault, change, checked};
+ghost use Rattle.ctt_edits.specs.declared.edit.Edit.TheVariants.{Move, Swap, Reroom, Drop};
 
 use crate::edit::Edit;
 use crate::fault::EditFault;
 use crate::laws;
-use ctt_board::{Cell, Change, Sheet};
-use ctt_text::{CourseNo, RoomNo, SlotNo};
+use ctt_board::{After, Cell, Change, Rooms, Sheet};
+use ctt_text::{CourseNo, Instance, RoomNo, SlotNo};
 
 /// The first course with a lecture in the slot that clashes with this one.
-fn first_clash<'i, S: Sheet<'i>>(sheet: &S, course: CourseNo, slot: SlotNo) -> Option<CourseNo>
-    requires course { course < course_count (S.problem sheet.now) }
-    requires slot { slot < slot_count (S.problem sheet.now) }
-    ensures { result ≡ first_course (λ l. clash (S.problem sheet.now) course l.course) (slot_row slot (S.list sheet.now)) }
+fn first_clash<R: Rooms>(
+    instance: &Instance,
+    rooms: &R,
+    course: CourseNo,
+    slot: SlotNo,
+) -> Option<CourseNo>
+    requires same { R.problem rooms.now ≡ instance.now }
+    requires course { course < course_count instance.now }
+    requires slot { slot < slot_count instance.now }
+    ensures { result ≡ first_course (λ l. clash instance.now course l.course) (slot_row slot (R.list rooms.now)) }
 {
-    sheet.lawful();
-    let instance = sheet.instance();
+    rooms.lawful();
     for number in 0..instance.courses() {
         let other = CourseNo::new(number);
-        if instance.clash(course, other) && sheet.room_at(other, slot).is_some() {
+        if instance.clash(course, other) && rooms.room_at(other, slot).is_some() {
             return Some(other);
         }
     }
@@ -31,14 +36,20 @@ fn first_clash<'i, S: Sheet<'i>>(sheet: &S, course: CourseNo, slot: SlotNo) -> O
 }
 
 /// The course whose lecture has the room in the slot.
-fn holder<'i, S: Sheet<'i>>(sheet: &S, slot: SlotNo, room: RoomNo) -> Option<CourseNo>
-    requires { slot < slot_count (S.problem sheet.now) }
-    ensures { result ≡ first_course (λ l. l.room == room) (slot_row slot (S.list sheet.now)) }
+fn holder<R: Rooms>(
+    instance: &Instance,
+    rooms: &R,
+    slot: SlotNo,
+    room: RoomNo,
+) -> Option<CourseNo>
+    requires same { R.problem rooms.now ≡ instance.now }
+    requires slot { slot < slot_count instance.now }
+    ensures { result ≡ first_course (λ l. l.room == room) (slot_row slot (R.list rooms.now)) }
 {
-    sheet.lawful();
-    for number in 0..sheet.instance().courses() {
+    rooms.lawful();
+    for number in 0..instance.courses() {
         let other = CourseNo::new(number);
-        if sheet.room_at(other, slot) == Some(room) {
+        if rooms.room_at(other, slot) == Some(room) {
             return Some(other);
         }
     }
@@ -46,31 +57,178 @@ fn holder<'i, S: Sheet<'i>>(sheet: &S, slot: SlotNo, room: RoomNo) -> Option<Cou
 }
 
 /// The first fault that holds of placing a lecture.
-fn place_fault<'i, S: Sheet<'i>>(
-    sheet: &S,
+fn place_fault<R: Rooms>(
+    instance: &Instance,
+    rooms: &R,
     course: CourseNo,
     slot: SlotNo,
     room: RoomNo,
 ) -> Option<EditFault>
-    requires course { course < course_count (S.problem sheet.now) }
-    requires slot { slot < slot_count (S.problem sheet.now) }
-    ensures { result ≡ try_fault (S.problem sheet.now) (S.list sheet.now) course slot room }
+    requires same { R.problem rooms.now ≡ instance.now }
+    requires course { course < course_count instance.now }
+    requires slot { slot < slot_count instance.now }
+    ensures { result ≡ try_fault instance.now (R.list rooms.now) course slot room }
 {
-    let instance = sheet.instance();
-    if sheet.room_at(course, slot).is_some() {
+    if rooms.room_at(course, slot).is_some() {
         return Some(EditFault::AlreadyThere);
     }
-    if sheet.count(course) >= instance.lectures(course) {
+    if rooms.count(course) >= instance.lectures(course) {
         return Some(EditFault::CourseFull);
     }
     if instance.unavailable(course, slot) {
         return Some(EditFault::Unavailable);
     }
-    if let Some(other) = first_clash(sheet, course, slot) {
+    if let Some(other) = first_clash(instance, rooms, course, slot) {
         return Some(EditFault::Clash(other));
     }
-    if let Some(other) = holder(sheet, slot, room) {
+    if let Some(other) = holder(instance, rooms, slot, room) {
         return Some(EditFault::RoomTaken(other));
+    }
+    None
+}
+
+/// The cell of a lecture that goes.
+fn removal(course: CourseNo, slot: SlotNo) -> Cell
+    ensures { result ≡ cell course slot None }
+{
+    Cell {
+        course,
+        slot,
+        room: None,
+    }
+}
+
+/// The cell of a lecture that comes.
+fn addition(course: CourseNo, slot: SlotNo, room: RoomNo) -> Cell
+    ensures { result ≡ cell course slot (Some room) }
+{
+    Cell {
+        course,
+        slot,
+        room: Some(room),
+    }
+}
+
+/// The first fault that holds of placing a lecture anew, once it has left its slot.
+fn replace_fault<'i, S: Sheet<'i>>(
+    sheet: &S,
+    course: CourseNo,
+    slot: SlotNo,
+    target: SlotNo,
+    room: RoomNo,
+) -> Option<EditFault>
+    requires course { course < course_count (S.problem sheet.now) }
+    requires slot { slot < slot_count (S.problem sheet.now) }
+    requires target { target < slot_count (S.problem sheet.now) }
+    requires there { IsSome (room_at course slot (S.list sheet.now)) }
+    ensures { result ≡ try_fault (S.problem sheet.now) (without course slot (S.list sheet.now)) course target room }
+{
+    sheet.lawful();
+    let instance = sheet.instance();
+    let gone = [removal(course, slot)];
+    let after = After::new(instance, sheet, &gone);
+    place_fault(instance, &after, course, target, room)
+}
+
+/// The first fault that holds of swapping the lectures of two courses, which are there.
+fn exchange_fault<'i, S: Sheet<'i>>(
+    sheet: &S,
+    course: CourseNo,
+    slot: SlotNo,
+    room: RoomNo,
+    other: CourseNo,
+    other_slot: SlotNo,
+    other_room: RoomNo,
+) -> Option<EditFault>
+    requires fits { EditFits (S.problem sheet.now) (Swap course slot other other_slot) }
+    requires apart { (course == other) ≡ false }
+    requires there { room_at course slot (S.list sheet.now) ≡ Some room }
+    requires other_there { room_at other other_slot (S.list sheet.now) ≡ Some other_room }
+    ensures { result ≡ edit_fault (S.problem sheet.now) (S.list sheet.now) (Swap course slot other other_slot) }
+{
+    sheet.lawful();
+    let instance = sheet.instance();
+    let gone = [removal(course, slot), removal(other, other_slot)];
+    let without = After::new(instance, sheet, &gone);
+    let fault = place_fault(instance, &without, course, other_slot, other_room);
+    if fault.is_some() {
+        return fault;
+    }
+    let first = [
+        removal(course, slot),
+        removal(other, other_slot),
+        addition(course, other_slot, other_room),
+    ];
+    let with_first = After::new(instance, sheet, &first);
+    place_fault(instance, &with_first, other, slot, room)
+}
+
+/// The first fault that holds of a swap.
+fn swap_fault<'i, S: Sheet<'i>>(
+    sheet: &S,
+    course: CourseNo,
+    slot: SlotNo,
+    other: CourseNo,
+    other_slot: SlotNo,
+) -> Option<EditFault>
+    requires { EditFits (S.problem sheet.now) (Swap course slot other other_slot) }
+    ensures { result ≡ edit_fault (S.problem sheet.now) (S.list sheet.now) (Swap course slot other other_slot) }
+{
+    let Some(room) = sheet.room_at(course, slot) else {
+        return Some(EditFault::NotPlaced);
+    };
+    let Some(other_room) = sheet.room_at(other, other_slot) else {
+        return Some(EditFault::NotPlaced);
+    };
+    if course == other {
+        return Some(EditFault::SameCourse);
+    }
+    exchange_fault(sheet, course, slot, room, other, other_slot, other_room)
+}
+
+/// The first fault that holds of a move.
+fn move_fault<'i, S: Sheet<'i>>(
+    sheet: &S,
+    course: CourseNo,
+    slot: SlotNo,
+    target: SlotNo,
+    room: RoomNo,
+) -> Option<EditFault>
+    requires { EditFits (S.problem sheet.now) (Move course slot target room) }
+    ensures { result ≡ edit_fault (S.problem sheet.now) (S.list sheet.now) (Move course slot target room) }
+{
+    if sheet.room_at(course, slot).is_none() {
+        return Some(EditFault::NotPlaced);
+    }
+    if slot == target {
+        return Some(EditFault::SameSlot);
+    }
+    replace_fault(sheet, course, slot, target, room)
+}
+
+/// The first fault that holds of taking another room.
+fn reroom_fault<'i, S: Sheet<'i>>(
+    sheet: &S,
+    course: CourseNo,
+    slot: SlotNo,
+    room: RoomNo,
+) -> Option<EditFault>
+    requires { EditFits (S.problem sheet.now) (Reroom course slot room) }
+    ensures { result ≡ edit_fault (S.problem sheet.now) (S.list sheet.now) (Reroom course slot room) }
+{
+    if sheet.room_at(course, slot).is_none() {
+        return Some(EditFault::NotPlaced);
+    }
+    replace_fault(sheet, course, slot, slot, room)
+}
+
+/// The fault of dropping a lecture that is not there.
+fn drop_fault<'i, S: Sheet<'i>>(sheet: &S, course: CourseNo, slot: SlotNo) -> Option<EditFault>
+    requires { EditFits (S.problem sheet.now) (Drop course slot) }
+    ensures { result ≡ edit_fault (S.problem sheet.now) (S.list sheet.now) (Drop course slot) }
+{
+    if sheet.room_at(course, slot).is_none() {
+        return Some(EditFault::NotPlaced);
     }
     None
 }
@@ -81,34 +239,49 @@ fn fault_of<'i, S: Sheet<'i>>(sheet: &S, edit: &Edit) -> Option<EditFault>
     ensures { result ≡ edit_fault (S.problem sheet.now) (S.list sheet.now) edit.now }
 {
     match *edit {
-        Edit::Place(course, slot, room) => place_fault(sheet, course, slot, room),
-        Edit::Drop(course, slot) => {
-            if sheet.room_at(course, slot).is_some() {
-                None
-            } else {
-                Some(EditFault::NotPlaced)
-            }
+        Edit::Place(course, slot, room) => {
+            place_fault(sheet.instance(), sheet, course, slot, room)
         }
+        Edit::Move(course, slot, target, room) => move_fault(sheet, course, slot, target, room),
+        Edit::Swap(course, slot, other, other_slot) => {
+            swap_fault(sheet, course, slot, other, other_slot)
+        }
+        Edit::Reroom(course, slot, room) => reroom_fault(sheet, course, slot, room),
+        Edit::Drop(course, slot) => drop_fault(sheet, course, slot),
     }
 }
 
-/// The change of an edit.
-fn change_of(edit: &Edit) -> Change
-    ensures { (t : List Placed) → result ≡ change t edit.now }
+/// The change of an edit that has no fault.
+fn change_of<'i, S: Sheet<'i>>(sheet: &S, edit: &Edit) -> Change
+    requires fits { EditFits (S.problem sheet.now) edit.now }
+    requires accepted { edit_fault (S.problem sheet.now) (S.list sheet.now) edit.now ≡ None }
+    ensures { result ≡ change (S.list sheet.now) edit.now }
 {
-    let cell = match *edit {
-        Edit::Place(course, slot, room) => Cell {
-            course,
-            slot,
-            room: Some(room),
-        },
-        Edit::Drop(course, slot) => Cell {
-            course,
-            slot,
-            room: None,
-        },
+    let change = match *edit {
+        Edit::Place(course, slot, room) => Change::of(&[addition(course, slot, room)]),
+        Edit::Move(course, slot, target, room) => {
+            Change::of(&[removal(course, slot), addition(course, target, room)])
+        }
+        Edit::Swap(course, slot, other, other_slot) => Change::of(&[
+            removal(course, slot),
+            removal(other, other_slot),
+            Cell {
+                course,
+                slot: other_slot,
+                room: sheet.room_at(other, other_slot),
+            },
+            Cell {
+                course: other,
+                slot,
+                room: sheet.room_at(course, slot),
+            },
+        ]),
+        Edit::Reroom(course, slot, room) => {
+            Change::of(&[removal(course, slot), addition(course, slot, room)])
+        }
+        Edit::Drop(course, slot) => Change::of(&[removal(course, slot)]),
     };
-    Change::of(&[cell]).unwrap()
+    change.unwrap()
 }
 
 /// The change of an edit, or the first fault that holds. It takes no memory.
@@ -120,7 +293,7 @@ pub fn check<'i, S: Sheet<'i>>(sheet: &S, edit: &Edit) -> Result<Change, EditFau
     sheet.lawful();
     laws::edits_fit();
     match fault_of(sheet, edit) {
-        None => Ok(change_of(edit)),
+        None => Ok(change_of(sheet, edit)),
         Some(fault) => Err(fault),
     }
 }

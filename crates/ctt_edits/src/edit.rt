@@ -10,6 +10,13 @@ use ctt_text::{CourseNo, Instance, RoomNo, SlotNo};
 pub enum Edit {
     /// A lecture of the course comes into the slot and the room.
     Place(CourseNo, SlotNo, RoomNo),
+    /// The lecture of the course in the first slot comes into the second slot and the room.
+    Move(CourseNo, SlotNo, SlotNo, RoomNo),
+    /// The lecture of the first course and slot and the lecture of the second course and slot take
+    /// each other's slot and room.
+    Swap(CourseNo, SlotNo, CourseNo, SlotNo),
+    /// The lecture of the course in the slot comes into the room.
+    Reroom(CourseNo, SlotNo, RoomNo),
     /// The lecture of the course in the slot goes.
     Drop(CourseNo, SlotNo),
 }
@@ -20,8 +27,20 @@ impl Edit {
         ensures { IsTrue result ↔ EditFits instance.now self.now }
     {
         match self {
-            Edit::Place(course, slot, room) => {
+            Edit::Place(course, slot, room) | Edit::Reroom(course, slot, room) => {
                 course.fits(instance) && slot.fits(instance) && room.fits(instance)
+            }
+            Edit::Move(course, slot, target, room) => {
+                course.fits(instance)
+                    && slot.fits(instance)
+                    && target.fits(instance)
+                    && room.fits(instance)
+            }
+            Edit::Swap(course, slot, other, other_slot) => {
+                course.fits(instance)
+                    && slot.fits(instance)
+                    && other.fits(instance)
+                    && other_slot.fits(instance)
             }
             Edit::Drop(course, slot) => course.fits(instance) && slot.fits(instance),
         }

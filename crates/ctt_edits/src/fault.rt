@@ -5,8 +5,12 @@ use ctt_text::CourseNo;
 /// What stands against an edit.
 #[derive(Clone, Copy, Debug, PartialEq, Eq)]
 pub enum EditFault {
-    /// The course has no lecture in the slot.
+    /// A lecture that is named is not there.
     NotPlaced,
+    /// A lecture is to be moved to its own slot.
+    SameSlot,
+    /// Two lectures of one course are to be swapped.
+    SameCourse,
     /// The course has a lecture in the slot already.
     AlreadyThere,
     /// All lectures of the course are placed.

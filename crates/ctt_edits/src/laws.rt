@@ -1,6 +1,6 @@
 //! Laws of edits, for the layers above. None of these functions computes anything.
 
-ghost use Rattle.ctt_edits.specs.Laws.{EditsKeepLawful, EditsFit, ClashIsLeast};
+ghost use Rattle.ctt_edits.specs.Laws.{EditsKeepLawful, EditsFit, ClashIsLeast, CallFrame, ReadsAscend};
 
 /// An edit that has no fault keeps a timetable lawful.
 pub fn edits_keep_lawful()
@@ -16,4 +16,14 @@ pub fn edits_fit()
 /// the least number is named.
 pub fn clash_is_least()
     ensures { ClashIsLeast }
+{}
+
+/// What a call answers, and what it changes, depends on the rows that it reads, and on nothing else.
+pub fn call_frame()
+    ensures { CallFrame }
+{}
+
+/// The rows that a call reads ascend, each once.
+pub fn reads_ascend()
+    ensures { ReadsAscend }
 {}

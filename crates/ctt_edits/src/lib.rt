@@ -1,15 +1,23 @@
 //! Edits and looks: what a planner asks of a timetable, and what he is told.
 #![tactic(auto)]
 
+mod call;
 mod checking;
 mod edit;
 mod fault;
 pub mod laws;
 mod looks;
+mod pricing;
+mod reading;
 mod reply;
+mod row;
 
+pub use call::Call;
 pub use checking::check;
 pub use edit::Edit;
 pub use fault::EditFault;
 pub use looks::{Look, look_at};
+pub use pricing::price;
+pub use reading::reads;
 pub use reply::Reply;
+pub use row::Row;

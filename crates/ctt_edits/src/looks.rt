@@ -1,12 +1,18 @@
 //! What a planner asks to see.
 
-ghost use Rattle.std.specs.Prelude.{◌≡◌, ◌↔◌, IsTrue, IfOk};
-ghost use Rattle.ctt_rules.specs.Penalty.{part_of};
-ghost use Rattle.ctt_edits.specs.Looks.{LookFits, teacher_row, shown};
+ghost use Rattle.std.specs.Prelude.{◌≡◌, ◌<◌, ◌↔◌, IsTrue, IfOk};
+ghost use Rattle.ctt_text.specs.Problem.{course_count};
+ghost use Rattle.ctt_rules.specs.Penalty.{course_cost, part_of};
+ghost use Rattle.ctt_edits.specs.Edits.{EditFits, edit_fault};
+ghost use Rattle.ctt_edits.specs.Looks.{LookFits, teacher_row, price, told_or, shown};
+ghost use Rattle.ctt_edits.specs.Looks.Told.{Priced};
 ghost use Rattle.ctt_edits.specs.Replies.{told_of};
 
+use crate::edit::Edit;
+use crate::pricing::price;
 use crate::reply::Reply;
 use ctt_board::Sheet;
+use ctt_rules::Cost;
 use ctt_text::{CourseNo, CurriculumNo, Instance, NoMemory, Placed, SlotNo, TeacherNo};
 
 /// A part of a timetable, or its costs.
@@ -20,8 +26,12 @@ pub enum Look {
     Teacher(TeacherNo),
     /// The lectures of all members of a curriculum.
     Curriculum(CurriculumNo),
+    /// What a course costs by its rooms' capacity, its days and its stability.
+    CourseCost(CourseNo),
     /// The four costs of the timetable.
     Cost,
+    /// What an edit would add to the penalty.
+    Price(Edit),
 }
 
 impl Look {
@@ -34,7 +44,9 @@ impl Look {
             Look::Slot(slot) => slot.fits(instance),
             Look::Teacher(teacher) => teacher.fits(instance),
             Look::Curriculum(curriculum) => curriculum.fits(instance),
+            Look::CourseCost(course) => course.fits(instance),
             Look::Cost => true,
+            Look::Price(edit) => edit.fits(instance),
         }
     }
 }
@@ -60,6 +72,27 @@ fn part_of<'i, S: Sheet<'i>>(sheet: &S, members: &[CourseNo]) -> Result<Vec<Plac
     Ok(lectures)
 }
 
+/// What a course costs by itself.
+fn own_cost<'i, S: Sheet<'i>>(sheet: &S, course: CourseNo) -> Result<Cost, NoMemory>
+    requires { course < course_count (S.problem sheet.now) }
+    ensures { IfOk result (λ cost. cost ≡ course_cost (S.problem sheet.now) (S.list sheet.now) course) }
+{
+    sheet.lawful();
+    let row = sheet.course_row(course)?;
+    Ok(ctt_rules::course_cost(sheet.instance(), &row, course))
+}
+
+/// The price of an edit, or its fault.
+fn price_reply<'i, S: Sheet<'i>>(sheet: &S, edit: &Edit) -> Reply
+    requires { EditFits (S.problem sheet.now) edit.now }
+    ensures { told_of result ≡ told_or (edit_fault (S.problem sheet.now) (S.list sheet.now) edit.now) (Priced (price (S.problem sheet.now) (S.list sheet.now) edit.now)) }
+{
+    match price(sheet, edit) {
+        Ok(price) => Reply::Price(price),
+        Err(fault) => Reply::Refused(fault),
+    }
+}
+
 /// What a look shows.
 pub fn look_at<'i, S: Sheet<'i>>(sheet: &S, look: &Look) -> Result<Reply, NoMemory>
     requires { LookFits (S.problem sheet.now) look.now }
@@ -70,7 +103,9 @@ pub fn look_at<'i, S: Sheet<'i>>(sheet: &S, look: &Look) -> Result<Reply, NoMemo
         Look::Slot(slot) => sheet.slot_row(slot)?,
         Look::Teacher(teacher) => teacher_row(sheet, teacher)?,
         Look::Curriculum(curriculum) => part_of(sheet, sheet.instance().members(curriculum))?,
+        Look::CourseCost(course) => return Ok(Reply::Costs(own_cost(sheet, course)?)),
         Look::Cost => return Ok(Reply::Costs(sheet.cost())),
+        Look::Price(edit) => return Ok(price_reply(sheet, &edit)),
     };
     Ok(Reply::Lectures(lectures))
 }

@@ -9,10 +9,12 @@ use ctt_text::Placed;
 pub enum Reply {
     /// The edit is made.
     Done,
-    /// The edit is not made.
+    /// The edit is not made, or has no price.
     Refused(EditFault),
     /// The lectures that were asked for, by course and slot.
     Lectures(Vec<Placed>),
-    /// The costs of the timetable.
+    /// The costs that were asked for.
     Costs(Cost),
+    /// What the edit would add to the penalty.
+    Price(i64),
 }

@@ -5,4 +5,4 @@ use Rattle.ctt_edits.proofs.SlotLemmas.{slot_below}
 use Rattle.ctt_edits.proofs.checking.first_clash.Given as goal
 
 abbrev pub invariant-loop-number : goal.invariant-loop-number
-invariant-loop-number g l = find (λ x. clash (g.S.Timetable.problem l.sheet) l.course x.course) (slot_below l.number l.slot (g.S.Timetable.list l.sheet)) ≡ None
+invariant-loop-number g l = find (λ x. clash (l.instance) l.course x.course) (slot_below l.number l.slot (g.R.Rooms.list l.rooms)) ≡ None

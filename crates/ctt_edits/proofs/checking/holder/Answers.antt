@@ -1,6 +1,7 @@
-use Rattle.std.proofs.Common.{◌≡◌, ◌<◌, ◌≤◌, ◌==◌, ℕ, List, Some, true, false, ◌∙◌, sym, ap, arith}
+use Rattle.std.proofs.Common.{◌≡◌, ◌<◌, ◌≤◌, ◌==◌, ℕ, List, Some, true, false, ◌∙◌, sym, ap, subst, arith}
 use Rattle.std.specs.Option.{option_eq}
 use Rattle.ctt_text.specs.Problem.{Problem, course_count}
+use Rattle.ctt_text.specs.Timetable.{IsTimetable}
 use Rattle.ctt_text.specs.declared.placed.Placed.{Placed}
 use Rattle.ctt_text.proofs.TimetableLemmas.{Each-map}
 use Rattle.ctt_rules.proofs.TimetableLemmas.{courses_fit}
@@ -9,11 +10,11 @@ use Rattle.ctt_edits.proofs.SlotLemmas.{none_at_first, none_at_last, fails_there
 use Rattle.ctt_edits.proofs.checking.holder.Goals as goal
 
 pub loop-number-init : goal.loop-number-init
-loop-number-init g c = none_at_first (λ l. l.room == c.args.room) c.args.slot (g.S.Timetable.list c.args.sheet.now) c.lawful.ensures.timetable.ascending
+loop-number-init g c = none_at_first (λ l. l.room == c.args.room) c.args.slot (g.R.Rooms.list c.args.rooms.now) c.lawful.ensures.timetable.ascending
 
 pub returns-then-eq : goal.returns-then-eq
 returns-then-eq g c =
-    let t : List Placed = g.S.Timetable.list c.args.sheet.now in
+    let t : List Placed = g.R.Rooms.list c.args.rooms.now in
     let n : ℕ = c.loop-number.number in
     let s : ℕ = c.args.slot in
     let other : c.new-other.result ≡ n = c.new-other.ensures in
@@ -24,7 +25,7 @@ returns-then-eq g c =
 
 pub loop-number-preserved : goal.loop-number-preserved
 loop-number-preserved g c =
-    let t : List Placed = g.S.Timetable.list c.args.sheet.now in
+    let t : List Placed = g.R.Rooms.list c.args.rooms.now in
     let n : ℕ = c.loop-number.number in
     let s : ℕ = c.args.slot in
     let other : c.new-other.result ≡ n = c.new-other.ensures in
@@ -34,8 +35,8 @@ loop-number-preserved g c =
 
 pub returns : goal.returns
 returns g c =
-    let i : Problem = g.S.Timetable.problem c.args.sheet.now in
-    let t : List Placed = g.S.Timetable.list c.args.sheet.now in
-    let end : c.courses-number-end.result ≡ course_count i = c.courses-number-end.ensures ∙ ap course_count c.instance.ensures in
+    let i : Problem = c.args.instance.now in
+    let t : List Placed = g.R.Rooms.list c.args.rooms.now in
+    let end : c.courses-number-end.result ≡ course_count i = c.courses-number-end.ensures in
     let past : course_count i ≤ c.loop-number.number = omega (arith, end, c.loop-number-test.false) in
-    none_at_last (λ l. l.room == c.args.room) c.args.slot t c.lawful.ensures.timetable.ascending c.loop-number.number (Each-map (λ (l : Placed). l.course < course_count i) (λ (l : Placed). l.course < c.loop-number.number) (λ l lt. omega (arith, lt, past)) t (courses_fit i t c.lawful.ensures.timetable)) c.loop-number.invariant
+    none_at_last (λ l. l.room == c.args.room) c.args.slot t c.lawful.ensures.timetable.ascending c.loop-number.number (Each-map (λ (l : Placed). l.course < course_count i) (λ (l : Placed). l.course < c.loop-number.number) (λ l lt. omega (arith, lt, past)) t (courses_fit i t (subst (λ j. IsTimetable j t) c.requires.same c.lawful.ensures.timetable))) c.loop-number.invariant

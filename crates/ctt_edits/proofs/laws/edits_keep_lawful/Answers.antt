@@ -1,4 +1,4 @@
-use Rattle.ctt_edits.proofs.LawfulLemmas as Lemmas
+use Rattle.ctt_edits.proofs.EditLemmas as Lemmas
 use Rattle.ctt_edits.proofs.laws.edits_keep_lawful.Goals as goal
 
 pub returns : goal.returns

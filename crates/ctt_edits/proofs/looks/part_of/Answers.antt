@@ -6,5 +6,5 @@ use Rattle.ctt_edits.proofs.looks.part_of.Goals as goal
 pub returns : goal.returns
 returns g c =
     let kept : c.retain.new.self.items ≡ part_of c.args.members.now c.in_ok-lectures.lectures.items = filter_same _ _ _ (λ x b f' k. search rules) _ _ c.retain.ensures.filtered in
-    let all : c.in_ok-lectures.lectures.items ≡ g.S.Timetable.list c.args.sheet.now = search rules in
+    let all : c.in_ok-lectures.lectures.items ≡ g.S.Rooms.list c.args.sheet.now = search rules in
     kept ∙ ap (part_of c.args.members.now) all

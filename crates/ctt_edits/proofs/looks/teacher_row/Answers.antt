@@ -9,8 +9,8 @@ use Rattle.ctt_edits.proofs.looks.teacher_row.Goals as goal
 
 pub returns : goal.returns
 returns g c =
-    let i : Problem = g.S.Timetable.problem c.args.sheet.now in
-    let t : List Placed = g.S.Timetable.list c.args.sheet.now in
+    let i : Problem = g.S.Rooms.problem c.args.sheet.now in
+    let t : List Placed = g.S.Rooms.list c.args.sheet.now in
     let kept : c.retain.new.self.items ≡ filter (taught c.instance-instance.result.now c.args.teacher) c.in_ok-lectures.lectures.items = filter_same _ _ _ (λ x b f' k. search rules) _ _ c.retain.ensures.filtered in
     let all : c.in_ok-lectures.lectures.items ≡ t = search rules in
     kept ∙ ap₂ (λ j ls. filter (taught j c.args.teacher) ls) c.instance-instance.ensures all ∙ taught_is i c.args.teacher t (courses_fit i t c.lawful.ensures.timetable)

@@ -9,13 +9,13 @@ course_cost-requires-clause-timetable g c = rw (c.instance-instance.ensures, c.a
 
 pub returns-clause-value : goal.returns-clause-value
 returns-clause-value g c =
-    c.total.ensures ∙ ap total c.course_cost.ensures.value
-    ∙ cost_of_row c.args.self.now.problem c.instance-instance.result.now c.args.self.now.list c.as_slice.result.now c.args.course c.instance-instance.ensures (c.as_slice.ensures.value ∙ c.row-row.ensures)
+    c.total.ensures
+    ∙ ap total (c.course_cost.ensures.value ∙ cost_of_row c.args.self.now.problem c.instance-instance.result.now c.args.self.now.list c.as_slice.result.now c.args.course c.instance-instance.ensures (c.as_slice.ensures.value ∙ c.row-row.ensures))
 
 pub returns-clause-bound : goal.returns-clause-bound
 returns-clause-bound g c =
     let i = c.args.self.now.problem in
     let t = c.args.self.now.list in
-    let value : c.total.result ≡ total (course_cost i t c.args.course) = c.total.ensures ∙ ap total c.course_cost.ensures.value
-    ∙ cost_of_row i c.instance-instance.result.now t c.as_slice.result.now c.args.course c.instance-instance.ensures (c.as_slice.ensures.value ∙ c.row-row.ensures) in
+    let value : c.total.result ≡ total (course_cost i t c.args.course) = c.total.ensures
+    ∙ ap total (c.course_cost.ensures.value ∙ cost_of_row i c.instance-instance.result.now t c.as_slice.result.now c.args.course c.instance-instance.ensures (c.as_slice.ensures.value ∙ c.row-row.ensures)) in
     omega (arith, value, course_cost_small i (rw c.instance-instance.ensures at c.limits.ensures) t c.lawful.ensures.timetable c.args.course)

@@ -1,0 +1,16 @@
+-- The marked rows, one by one.
+use Rattle.std.proofs.Common.{◌≡◌, ℕ, zero, suc, ◌+◌, ◌<◌, Bool, true, false, cond, List, [], ◌∷◌, ◌++◌, map, refl, add-one, append-nil, ◌∙◌, ap, ap₂, arith}
+use Rattle.std.proofs.lemmas.List.{map-append}
+use Rattle.ctt_text.specs.Lists.{below}
+
+-- one number more that passes, and one that does not
+pub row_more : {X : Type 0} (f : ℕ → X) (p : ℕ → Bool) (n : ℕ) → p n ≡ true → map f (below p (n + 1)) ≡ map f (below p n) ++ f n ∷ []
+row_more f p n e = rw (add-one, e) (map-append f (below p n) (n ∷ []))
+
+pub row_less : {X : Type 0} (f : ℕ → X) (p : ℕ → Bool) (n : ℕ) → p n ≡ false → map f (below p (n + 1)) ≡ map f (below p n)
+row_less f p n e = rw (add-one, e) (ap (map f) (append-nil (below p n)))
+
+-- the numbers below n that pass are those that pass another test that says the same there
+pub below_same : (p q : ℕ → Bool) (n : ℕ) → ((k : ℕ) → k < n → p k ≡ q k) → below p n ≡ below q n
+below_same p q zero h = refl
+below_same p q (suc n) h = ap₂ (λ a b. a ++ cond b (n ∷ []) []) (below_same p q n (λ k lt. h k (omega (arith, lt)))) (h n (omega arith))

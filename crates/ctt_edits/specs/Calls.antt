@@ -1,0 +1,106 @@
+-- Calls: edits and looks. What is answered, what changes, and the rows that are read for it.
+use Rattle.std.specs.Prelude.{ℕ, ◌≡◌, ◌<◌, Bool, true, false, ◌==◌, ◌||◌, List, [], ◌∷◌, ◌++◌, map, Option, Some, None, All}
+use Rattle.std.specs.List.{list_any}
+use Rattle.ctt_text.specs.Lists.{below, has}
+use Rattle.ctt_text.specs.Problem.{Problem, course_of, members, mates, course_count, slot_count}
+use Rattle.ctt_text.specs.Timetable.{course_row, slot_row}
+use Rattle.ctt_text.specs.declared.placed.Placed.{Placed}
+use Rattle.ctt_board.specs.declared.cell.Cell.{Cell}
+use Rattle.ctt_edits.specs.Edits.{EditFits, edit_fault, change}
+use Rattle.ctt_edits.specs.Looks.{LookFits, shown, told_or, Told}
+use Rattle.ctt_edits.specs.Looks.Told.{Done}
+use Rattle.ctt_edits.specs.declared.edit.Edit.{Edit}
+use Rattle.ctt_edits.specs.declared.edit.Edit.TheVariants.{Place, Move, Swap, Reroom, Drop}
+use Rattle.ctt_edits.specs.declared.fault.EditFault.{EditFault}
+use Rattle.ctt_edits.specs.declared.looks.Look.{Look}
+use Rattle.ctt_edits.specs.declared.looks.Look.TheVariants.{Course, Slot, Teacher, Curriculum, CourseCost, Price}
+use Rattle.ctt_edits.specs.declared.looks.Look.TheVariants.{Cost as WholeCost}
+use Rattle.ctt_edits.specs.declared.call.Call.{Call}
+use Rattle.ctt_edits.specs.declared.call.Call.TheVariants.{Look as Looks, Edit as Edits}
+use Rattle.ctt_edits.specs.declared.row.Row.{Row}
+use Rattle.ctt_edits.specs.declared.row.Row.TheVariants.{Course as CourseRow, Slot as SlotRow}
+
+-- its numbers are those of the instance
+abbrev pub CallFits : Problem → Call → Type 0
+CallFits i (Looks look) = LookFits i look
+CallFits i (Edits e) = EditFits i e
+
+-- what a planner is told
+abbrev pub reply : Problem → List Placed → Call → Told
+reply i t (Looks look) = shown i t look
+reply i t (Edits e) = told_or (edit_fault i t e) Done
+
+abbrev pub cells_if : Option EditFault → List Cell → List Cell
+cells_if None cells = cells
+cells_if (Some f) cells = []
+
+-- the cells that a call changes: those of an edit without a fault
+abbrev pub cells_of : Problem → List Placed → Call → List Cell
+cells_of i t (Looks look) = []
+cells_of i t (Edits e) = cells_if (edit_fault i t e) (change t e)
+
+-- the courses and the slots whose rows an edit reads
+abbrev pub edit_courses : Edit → List ℕ
+edit_courses (Place c s r) = c ∷ []
+edit_courses (Move c s s2 r) = c ∷ []
+edit_courses (Swap c s d s2) = c ∷ d ∷ []
+edit_courses (Reroom c s r) = c ∷ []
+edit_courses (Drop c s) = c ∷ []
+
+abbrev pub edit_slots : Edit → List ℕ
+edit_slots (Place c s r) = s ∷ []
+edit_slots (Move c s s2 r) = s2 ∷ []
+edit_slots (Swap c s d s2) = s ∷ s2 ∷ []
+edit_slots (Reroom c s r) = s ∷ []
+edit_slots (Drop c s) = []
+
+-- the courses and the slots whose rows a look reads; a price needs those of the curriculum mates too
+abbrev pub look_reads_course : Problem → Look → ℕ → Bool
+look_reads_course i (Course c) x = x == c
+look_reads_course i (Slot s) x = false
+look_reads_course i (Teacher h) x = (course_of i x).teacher == h
+look_reads_course i (Curriculum q) x = has x (members i q)
+look_reads_course i (CourseCost c) x = x == c
+look_reads_course i WholeCost x = true
+look_reads_course i (Price e) x = has x (edit_courses e) || list_any (λ c. mates i c x) (edit_courses e)
+
+abbrev pub look_reads_slot : Look → ℕ → Bool
+look_reads_slot (Course c) x = false
+look_reads_slot (Slot s) x = x == s
+look_reads_slot (Teacher h) x = false
+look_reads_slot (Curriculum q) x = false
+look_reads_slot (CourseCost c) x = false
+look_reads_slot WholeCost x = false
+look_reads_slot (Price e) x = has x (edit_slots e)
+
+abbrev pub reads_course : Problem → Call → ℕ → Bool
+reads_course i (Looks look) x = look_reads_course i look x
+reads_course i (Edits e) x = has x (edit_courses e)
+
+abbrev pub reads_slot : Call → ℕ → Bool
+reads_slot (Looks look) x = look_reads_slot look x
+reads_slot (Edits e) x = has x (edit_slots e)
+
+-- rows in order: courses by number, then slots by number
+abbrev pub rows_where : Problem → (ℕ → Bool) → (ℕ → Bool) → List Row
+rows_where i p q = map CourseRow (below p (course_count i)) ++ map SlotRow (below q (slot_count i))
+
+-- the rows that a call reads
+abbrev pub reads : Problem → Call → List Row
+reads i call = rows_where i (reads_course i call) (reads_slot call)
+
+-- the lectures of a row
+abbrev pub row : Row → List Placed → List Placed
+row (CourseRow c) t = course_row c t
+row (SlotRow s) t = slot_row s t
+
+-- two timetables have equal rows there
+abbrev pub Agree : List Placed → List Placed → List Row → Type 0
+Agree t u rows = All (λ r. row r t ≡ row r u) rows
+
+-- the order of rows
+abbrev pub RowBefore : Row → Row → Type 0
+RowBefore (CourseRow c) (CourseRow d) = c < d
+RowBefore (CourseRow c) (SlotRow s) = Unit {0}
+RowBefore (SlotRow s) (CourseRow c) = ⊥
+RowBefore (SlotRow s) (SlotRow s2) = s < s2

@@ -1,0 +1,29 @@
+//! A call: whatever a planner asks.
+
+ghost use Rattle.std.specs.Prelude.{◌↔◌, IsTrue};
+ghost use Rattle.ctt_edits.specs.Calls.{CallFits};
+
+use crate::edit::Edit;
+use crate::looks::Look;
+use ctt_text::Instance;
+
+/// A look or an edit.
+#[derive(Clone, Copy, Debug, PartialEq, Eq)]
+pub enum Call {
+    /// Something is looked at; nothing changes.
+    Look(Look),
+    /// Something is to change.
+    Edit(Edit),
+}
+
+impl Call {
+    /// Whether its numbers are those of the instance.
+    pub fn fits(&self, instance: &Instance) -> bool
+        ensures { IsTrue result ↔ CallFits instance.now self.now }
+    {
+        match self {
+            Call::Look(look) => look.fits(instance),
+            Call::Edit(edit) => edit.fits(instance),
+        }
+    }
+}
