@@ -1,6 +1,7 @@
 -- The faults of the program: their numbers and their statuses.
-use Rattle.std.specs.Prelude.{◌≡◌, ◌++◌, ℕ, List, codes}
+use Rattle.std.specs.Prelude.{◌≡◌, ◌++◌, ℕ, List, Option, codes}
 use Rattle.std.specs.Global.{Global}
+use Rattle.std.specs.Io.KnownBytes.{Appends}
 use Rattle.std.specs.String.{string_bytes}
 use Rattle.std.specs.declared.string.String.{String}
 use Rattle.ctt_text.specs.declared.fault.ReadFault.{ReadFault}
@@ -93,3 +94,7 @@ IsLineOf (TooLong name) bytes = EndsLine bytes
 IsLineOf WordsNotText bytes = EndsLine bytes
 IsLineOf CannotWrite bytes = EndsLine bytes
 IsLineOf NoMemory bytes = EndsLine bytes
+
+-- such a line is said
+abbrev pub SaysLineOf : Fault → Option (List ℕ) → Option (List ℕ) → Type 0
+SaysLineOf fault old new = (bytes : List ℕ) × IsLineOf fault bytes × Appends old new bytes
