@@ -139,7 +139,7 @@ pub fn report_text(
     requires { IsTimetable instance.now timetable.now }
     ensures { IfOk result (λ bytes. IsTextReport instance.now timetable.now bytes.items) }
 {
-    let report = text(
+    let lines = text(
         alloc,
         instance.name(),
         &hard_counts(instance, timetable),
@@ -147,7 +147,7 @@ pub fn report_text(
         is_lawful(instance, timetable),
         is_complete(instance, timetable),
     )?;
-    Ok(report.into_bytes())
+    Ok(lines.into_bytes())
 }
 
 /// The report on a timetable as one line of JSON.

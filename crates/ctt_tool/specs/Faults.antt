@@ -1,6 +1,8 @@
 -- The faults of the program: their numbers and their statuses.
-use Rattle.std.specs.Prelude.{◌≡◌, ℕ}
+use Rattle.std.specs.Prelude.{◌≡◌, ◌++◌, ℕ, List, Option, codes}
 use Rattle.std.specs.Global.{Global}
+use Rattle.std.specs.Io.KnownBytes.{Appends}
+use Rattle.std.specs.String.{string_bytes}
 use Rattle.std.specs.declared.string.String.{String}
 use Rattle.ctt_text.specs.declared.fault.ReadFault.{ReadFault}
 use Rattle.ctt_text.specs.declared.fault.ReadFault.TheVariants as instance
@@ -77,3 +79,22 @@ IfUnwritten (TooLong name) P Q = Q
 IfUnwritten NoMemory P Q = Q
 IfUnwritten (Words text) P Q = Q
 IfUnwritten WordsNotText P Q = Q
+
+-- the bytes end with the end of a line
+abbrev pub EndsLine : List ℕ → Type 0
+EndsLine bytes = (front : List ℕ) × (bytes ≡ front ++ codes "\n")
+
+-- what is said of the fault: the text of refused words as it is, and else a text with its line's end
+abbrev pub IsLineOf : Fault → List ℕ → Type 0
+IsLineOf (Words text) bytes = bytes ≡ string_bytes text
+IsLineOf (Instance number at) bytes = EndsLine bytes
+IsLineOf (Solution number at) bytes = EndsLine bytes
+IsLineOf (CannotRead name) bytes = EndsLine bytes
+IsLineOf (TooLong name) bytes = EndsLine bytes
+IsLineOf WordsNotText bytes = EndsLine bytes
+IsLineOf CannotWrite bytes = EndsLine bytes
+IsLineOf NoMemory bytes = EndsLine bytes
+
+-- such a line is said
+abbrev pub SaysLineOf : Fault → Option (List ℕ) → Option (List ℕ) → Type 0
+SaysLineOf fault old new = (bytes : List ℕ) × IsLineOf fault bytes × Appends old new bytes

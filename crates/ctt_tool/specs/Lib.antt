@@ -3,3 +3,4 @@ pub mod Jobs
 pub mod Faults
 pub mod Checks
 pub mod Work
+pub mod Files

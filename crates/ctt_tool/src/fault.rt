@@ -1,7 +1,8 @@
 //! Why the program did not do its job.
 
-ghost use Rattle.std.specs.Prelude.{◌≡◌};
-ghost use Rattle.ctt_tool.specs.Faults.{fault_of_instance, fault_of_solution, status_of};
+ghost use Rattle.std.specs.Prelude.{◌≡◌, ◌++◌, IfOk, codes};
+ghost use Rattle.std.specs.String.{string_bytes};
+ghost use Rattle.ctt_tool.specs.Faults.{IsLineOf, fault_of_instance, fault_of_solution, status_of};
 ghost use Rattle.ctt_tool.specs.declared.fault.Fault.TheVariants.{NoMemory};
 
 use ctt_text::{ReadFault, SolutionFault};
@@ -38,6 +39,14 @@ pub enum Fault {
     NoMemory,
 }
 
+/// A text with the end of its line.
+fn ended(mut text: String) -> Result<String, AllocError>
+    ensures { IfOk result (λ line. string_bytes line ≡ string_bytes text ++ codes "\n") }
+{
+    text.push_str("\n")?;
+    Ok(text)
+}
+
 impl Fault {
     /// The status with which the program ends.
     pub fn status(&self) -> u8
@@ -51,10 +60,12 @@ impl Fault {
     }
 
     /// The line that the program says on standard error.
-    pub fn line(&self, alloc: Global) -> Result<String, AllocError> {
+    pub fn line(&self, alloc: Global) -> Result<String, AllocError>
+        ensures { IfOk result (λ line. IsLineOf self.now (string_bytes line)) }
+    {
         match self {
             Fault::Words(text) => text.clone(),
-            _ => format!(in alloc; "{self}\n"),
+            _ => ended(self.to_string(alloc)?),
         }
     }
 }

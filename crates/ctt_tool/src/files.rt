@@ -1,6 +1,6 @@
 //! Files by name.
 
-ghost use Rattle.std.specs.Prelude.{◌≡◌, ◌≤◌, false, Some, None, IfOk, IfErr, IfSome, vec_len};
+ghost use Rattle.std.specs.Prelude.{◌≡◌, ◌≤◌, false, Some, None, OnOk, IfOk, IfErr, IfSome, vec_len};
 ghost use Rattle.std.specs.String.{string_bytes};
 ghost use Rattle.ctt_tool.specs.Faults.{IsOfFile};
 
@@ -27,7 +27,9 @@ pub trait Files {
         ensures kept { held self.new ≡ held self.old };
 
     /// Writes a whole file in place of what it held.
-    fn store(&mut self, name: &str, bytes: &[u8]) -> Result<(), Failed>;
+    fn store(&mut self, name: &str, bytes: &[u8]) -> Result<(), Failed>
+        ensures stored { OnOk result
+            (IfSome (held self.new name.now) (λ stored. stored ≡ bytes.now)) };
 }
 
 /// The files of the system.
@@ -37,8 +39,12 @@ pub struct SystemFiles<'r, R> {
 }
 
 impl<'r, R: rt::Files> SystemFiles<'r, R> {
+    ghost use Rattle.ctt_tool.specs.Files.{runtime_of};
+
     /// The files that the runtime reaches.
-    pub fn new(rt: &'r R) -> Self {
+    pub fn new(rt: &'r R) -> Self
+        ensures { runtime_of result ≡ rt.now }
+    {
         SystemFiles { rt }
     }
 }

@@ -9,7 +9,7 @@ mod output;
 mod program;
 mod texts;
 
-ghost use Rattle.std.specs.Prelude.{◌≡◌, false};
+ghost use Rattle.std.specs.Prelude.{◌≡◌, ◌≤◌, false, IfOk};
 
 use ctt_script::{Device, Sink};
 use fault::Fault;
@@ -30,6 +30,8 @@ fn owned_words(rt: &HostRuntime) -> Result<Vec<String>, Fault> {
 /// Hands the program its words, the files and the standard streams.
 fn run<V: Sink>(rt: &HostRuntime, err: &mut V) -> Result<u8, Fault>
     requires { V.has_failed err.old ≡ false }
+    ensures known { IfOk result (λ status. status ≤ 3) }
+    ensures unsaid { IfOk result (λ status. status ≡ 0 → err.new ≡ err.old) }
 {
     let owned = owned_words(rt)?;
     let words: Vec<&str> = owned.iter().map(|word| word.as_str()).collect(rt.alloc())?;

@@ -1,6 +1,6 @@
 //! What the program prints and says.
 
-ghost use Rattle.std.specs.Prelude.{◌≡◌, true, false, OnOk, OnErr, IfErr};
+ghost use Rattle.std.specs.Prelude.{◌≡◌, ◌⊎◌, true, false, OnOk, OnErr, IfErr};
 ghost use Rattle.std.specs.Io.KnownBytes.{Appends};
 ghost use Rattle.ctt_tool.specs.declared.fault.Fault.TheVariants.{CannotWrite};
 
@@ -21,8 +21,13 @@ pub fn print<W: Sink>(out: &mut W, text: &[u8]) -> Result<(), Fault>
 }
 
 /// Says a whole text, where that can be done.
-pub fn say<V: Sink>(err: &mut V, text: &[u8]) {
-    if put_all(err, text).is_ok() {
-        let _ = err.flush();
+pub fn say<V: Sink>(err: &mut V, text: &[u8])
+    ensures { (V.has_failed err.new ≡ true)
+        ⊎ ((V.has_failed err.new ≡ V.has_failed err.old)
+        × Appends (V.taken err.old) (V.taken err.new) text.now) }
+{
+    match print(err, text) {
+        Ok(()) => {}
+        Err(_) => {}
     }
 }

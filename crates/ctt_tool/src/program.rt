@@ -1,7 +1,7 @@
 //! What the program does.
 
 ghost use Rattle.std.specs.Prelude.{◌≡◌, ◌≢◌, ◌≤◌, ◌⊎◌, [], true, false, map, OnOk, IfErr};
-ghost use Rattle.ctt_tool.specs.Faults.{IfUnwritten, IsOfTexts, status_of};
+ghost use Rattle.ctt_tool.specs.Faults.{IfUnwritten, IsOfTexts, SaysLineOf, status_of};
 ghost use Rattle.ctt_tool.specs.Jobs.{faults_of};
 ghost use Rattle.ctt_tool.specs.Work.{DoesAsAsked, DoesJob};
 
@@ -61,7 +61,9 @@ fn work<F: Files, W: Sink>(
 
 /// Says why a job was not done, and answers the status.
 pub fn tell<V: Sink>(alloc: Global, fault: &Fault, err: &mut V) -> u8
-    ensures { (result ≡ status_of fault.now) ⊎ (result ≡ 3) }
+    ensures status { (result ≡ status_of fault.now) ⊎ (result ≡ 3) }
+    ensures said { result ≡ status_of fault.now → (V.has_failed err.new ≡ true)
+        ⊎ SaysLineOf fault.now (V.taken err.old) (V.taken err.new) }
 {
     match fault.line(alloc) {
         Ok(line) => {

@@ -84,10 +84,6 @@ impl<'a> Sections<'a> {
             facts: courses,
             teachers: teacher_names,
         } = courses;
-        let RoomSection {
-            names: room_names,
-            capacities,
-        } = rooms;
         let CurriculumSection {
             names: curriculum_names,
             members: curricula,
@@ -98,8 +94,8 @@ impl<'a> Sections<'a> {
             course_names,
             courses,
             teacher_names,
-            room_names,
-            capacities,
+            room_names: rooms.names,
+            capacities: rooms.capacities,
             curriculum_names,
             curricula,
             days: header.days as u16,
