@@ -21,3 +21,6 @@ pub use pricing::price;
 pub use reading::reads;
 pub use reply::Reply;
 pub use row::Row;
+
+#[cfg(test)]
+mod tests;
