@@ -1,5 +1,5 @@
 -- An edit without a fault keeps a timetable lawful, and its change fits.
-use Rattle.std.proofs.Common.{◌≡◌, ℕ, ◌<◌, Bool, true, false, cond, ◌&&◌, ◌||◌, ◌==◌, List, [], ◌∷◌, Option, Some, None, is_some, is_none, refl, ◌∙◌, ap, subst, inl, inr}
+use Rattle.std.proofs.Common.{◌≡◌, ℕ, ◌<◌, Bool, true, false, ◌||◌, ◌==◌, List, [], ◌∷◌, Option, Some, None, is_some, is_none, refl, ◌∙◌, ap, subst, inl, inr}
 use Rattle.std.specs.List.{find, AllByRecursion as Each}
 use Rattle.std.proofs.lemmas.Bool.{cases_Bool, or_parts}
 use Rattle.ctt_text.specs.Problem.{Problem, course_count, room_count, slot_count}
@@ -10,7 +10,7 @@ use Rattle.ctt_rules.specs.Hard.{Lawful}
 use Rattle.ctt_rules.proofs.ListLemmas.{Each-filter}
 use Rattle.ctt_board.specs.Changes.{room_of, room_at, cell, apply_at, CellFits, CellsFit}
 use Rattle.ctt_board.proofs.RoomLemmas.{room_after}
-use Rattle.ctt_edits.specs.Edits.{EditFits, or_else, fault_if, try_fault, try_room_of, edit_fault, change}
+use Rattle.ctt_edits.specs.Edits.{or_else, fault_if, try_fault, try_room_of, edit_fault, change}
 use Rattle.ctt_edits.specs.Laws.{EditsKeepLawful, EditsFit}
 use Rattle.ctt_edits.specs.declared.edit.Edit.{Edit}
 use Rattle.ctt_edits.specs.declared.edit.Edit.TheVariants.{Place, Move, Swap, Reroom, Drop}

@@ -36,12 +36,7 @@ fn first_clash<R: Rooms>(
 }
 
 /// The course whose lecture has the room in the slot.
-fn holder<R: Rooms>(
-    instance: &Instance,
-    rooms: &R,
-    slot: SlotNo,
-    room: RoomNo,
-) -> Option<CourseNo>
+fn holder<R: Rooms>(instance: &Instance, rooms: &R, slot: SlotNo, room: RoomNo) -> Option<CourseNo>
     requires same { R.problem rooms.now ≡ instance.now }
     requires slot { slot < slot_count instance.now }
     ensures { result ≡ first_course (λ l. l.room == room) (slot_row slot (R.list rooms.now)) }

@@ -43,6 +43,7 @@ geo A 0 1
 geo A 1 2
 top B 0 2
 ";
+
 const WITHOUT_TOP: &str = "alg A 0 0
 alg B 1 0
 geo A 0 1
@@ -237,7 +238,10 @@ fn a_slot_is_unavailable(rt: HostRuntime) -> Result<(), Fail> {
     let small = read_instance(rt.alloc(), SMALL.as_bytes())?;
     let empty = sheet_of(&rt, rt.alloc(), &small, "")?;
     let unavailable = Edit::Place(geo(), at(0), room_a());
-    assert_eq!(&rt; fault(&rt, &empty, &unavailable), Some(EditFault::Unavailable));
+    assert_eq!(&rt;
+        fault(&rt, &empty, &unavailable),
+        Some(EditFault::Unavailable)
+    );
     Ok(())
 }
 
@@ -246,7 +250,10 @@ fn a_room_is_taken(rt: HostRuntime) -> Result<(), Fail> {
     let small = read_instance(rt.alloc(), SMALL.as_bytes())?;
     let sheet = sheet_of(&rt, rt.alloc(), &small, WITHOUT_TOP)?;
     let taken = Edit::Place(top(), at(1), room_a());
-    assert_eq!(&rt; fault(&rt, &sheet, &taken), Some(EditFault::RoomTaken(geo())));
+    assert_eq!(&rt;
+        fault(&rt, &sheet, &taken),
+        Some(EditFault::RoomTaken(geo()))
+    );
     Ok(())
 }
 

@@ -1,4 +1,4 @@
-use Rattle.std.proofs.Common.{rules, ◌≡◌, ◌∙◌, ℤ, w64, SFits, to_z, of_z, List, ap, Ok}
+use Rattle.std.proofs.Common.{rules, ◌≡◌, ◌∙◌, w64, SFits, to_z, of_z, List, ap, Ok}
 use Rattle.ctt_text.specs.Problem.{Problem}
 use Rattle.ctt_text.specs.declared.placed.Placed.{Placed}
 use Rattle.ctt_board.specs.Boards.{delta}

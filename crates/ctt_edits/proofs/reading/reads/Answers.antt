@@ -1,9 +1,8 @@
-use Rattle.std.proofs.Common.{◌≡◌, ◌++◌, ◌∙◌, map, ap₂, List}
+use Rattle.std.proofs.Common.{◌≡◌, ◌++◌, ◌∙◌, map, ap₂}
 use Rattle.ctt_text.specs.Marks.{is_marked}
 use Rattle.ctt_text.specs.Problem.{Problem, course_count, slot_count}
-use Rattle.ctt_edits.specs.Calls.{reads_course, reads_slot, rows_where, reads}
+use Rattle.ctt_edits.specs.Calls.{reads_course, reads_slot, rows_where}
 use Rattle.ctt_edits.specs.declared.call.Call.{Call}
-use Rattle.ctt_edits.specs.declared.row.Row.{Row}
 use Rattle.ctt_edits.specs.declared.row.Row.TheVariants.{Course, Slot}
 use Rattle.ctt_edits.proofs.MarkedRows.{below_same}
 use Rattle.ctt_edits.proofs.reading.reads.Goals as goal
