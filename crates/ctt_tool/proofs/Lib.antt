@@ -4,3 +4,4 @@ pub mod Rows
 pub mod Walks
 pub mod Taken
 pub mod Known
+pub mod Causes

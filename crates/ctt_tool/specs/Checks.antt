@@ -1,5 +1,5 @@
--- What the command `check` prints.
-use Rattle.std.specs.Prelude.{ℕ, Bool, true, false, List, Option}
+-- What the command `check` prints, and which texts it refuses.
+use Rattle.std.specs.Prelude.{◌⊎◌, ℕ, Bool, true, false, List, Option}
 use Rattle.std.specs.Io.KnownBytes.{Appends}
 use Rattle.std.specs.Str.{IsUtf8}
 use Rattle.ctt_text.specs.InstanceText.{Spells}
@@ -18,6 +18,22 @@ pub record IsInstanceText (text : List ℕ) (problem : Problem) : Type 0 where
 pub record IsSolutionText (problem : Problem) (text : List ℕ) (timetable : List Placed) : Type 0 where
   pub is_text : IsUtf8 text
   pub spells : SolSpells problem (words text) timetable
+
+-- the text is that of no instance
+abbrev pub IsNoInstance : List ℕ → Type 0
+IsNoInstance text = (problem : Problem) → ¬ IsInstanceText text problem
+
+-- the text is that of no timetable, as a solution of the instance
+abbrev pub IsNoSolution : Problem → List ℕ → Type 0
+IsNoSolution problem text = (timetable : List Placed) → ¬ IsSolutionText problem text timetable
+
+-- the first text is that of an instance, and the second that of no solution of it
+abbrev pub IsNoSolutionOf : List ℕ → List ℕ → Type 0
+IsNoSolutionOf instance solution = (problem : Problem) × IsInstanceText instance problem × IsNoSolution problem solution
+
+-- one of the two is refused: the first is that of no instance, or the second that of no solution of it
+abbrev pub OneIsRefused : List ℕ → List ℕ → Type 0
+OneIsRefused instance solution = IsNoInstance instance ⊎ IsNoSolutionOf instance solution
 
 -- the report as JSON where it is asked for, and else as text
 abbrev pub IsReport : Bool → Problem → List Placed → List ℕ → Type 0

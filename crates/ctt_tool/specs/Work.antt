@@ -1,9 +1,9 @@
--- What the program has done where it ends well.
+-- What the program has done where it ends well, and where it refuses a text.
 use Rattle.std.specs.Prelude.{◌⊎◌, List, Option, IfSome}
 use Rattle.std.specs.String.{string_bytes}
 use Rattle.clap.specs.Words.{IsAmong, Text}
 use Rattle.clap.specs.declared.error.kind.ErrorKind.TheVariants.{DisplayHelp}
-use Rattle.ctt_tool.specs.Checks.{PrintsReport}
+use Rattle.ctt_tool.specs.Checks.{OneIsRefused, PrintsReport}
 use Rattle.ctt_tool.specs.Jobs.{IsJobOf, faults_of}
 use Rattle.ctt_tool.specs.declared.job.Job.{Job}
 use Rattle.ctt_tool.specs.declared.job.Job.TheVariants.{Check}
@@ -19,3 +19,14 @@ DoesJob (Check instance solution json) held old new =
 abbrev pub DoesAsAsked : List Text → (Text → Option Text) → Option Text → Option Text → Type 0
 DoesAsAsked words held old new = IsAmong DisplayHelp (faults_of words)
     ⊎ ((job : Job) × IsJobOf words job × DoesJob job held old new)
+
+-- a text of the job is refused, over these files, where they tell their bytes
+abbrev pub HasRefusedText : Job → (Text → Option Text) → Type 0
+HasRefusedText (Check instance solution json) held =
+    IfSome (held (string_bytes instance)) (λ instance_text.
+    IfSome (held (string_bytes solution)) (λ solution_text.
+    OneIsRefused instance_text solution_text))
+
+-- the words ask for a job of which a text is refused
+abbrev pub AsksForRefusedText : List Text → (Text → Option Text) → Type 0
+AsksForRefusedText words held = (job : Job) × IsJobOf words job × HasRefusedText job held

@@ -3,7 +3,7 @@
 ghost use Rattle.std.specs.Prelude.{◌≡◌, ◌≢◌, ◌≤◌, ◌⊎◌, [], true, false, map, OnOk, IfErr};
 ghost use Rattle.ctt_tool.specs.Faults.{IfUnwritten, IsOfTexts, SaysLineOf, status_of};
 ghost use Rattle.ctt_tool.specs.Jobs.{faults_of};
-ghost use Rattle.ctt_tool.specs.Work.{DoesAsAsked, DoesJob};
+ghost use Rattle.ctt_tool.specs.Work.{AsksForRefusedText, DoesAsAsked, DoesJob, HasRefusedText};
 
 use crate::check::check;
 use crate::fault::Fault;
@@ -25,6 +25,7 @@ fn do_job<F: Files, W: Sink>(
     ensures fault { IfErr result (λ fault. IfUnwritten fault
         (W.has_failed out.new ≡ true)
         (IsOfTexts fault × (out.new ≡ out.old))) }
+    ensures cause { IfErr result (λ fault. status_of fault ≡ 1 → HasRefusedText job (F.held files.old)) }
 {
     match job {
         Job::Check {
@@ -50,6 +51,10 @@ fn work<F: Files, W: Sink>(
     ensures fault { IfErr result (λ fault. IfUnwritten fault
         (W.has_failed out.new ≡ true)
         (out.new ≡ out.old)) }
+    ensures cause { IfErr result (λ fault. status_of fault ≡ 1
+        → AsksForRefusedText (map (λ word. word.now) words.now) (F.held files.old)) }
+    ensures taken { IfErr result (λ fault. status_of fault ≡ 1
+        → faults_of (map (λ word. word.now) words.now) ≡ []) }
 {
     match read_words(alloc, words) {
         Ok(job) => do_job(alloc, job, files, out),
@@ -96,6 +101,8 @@ pub fn program<R: AllocGlobal, F: Files, W: Sink, V: Sink>(
     ensures unmarked { result ≡ 0 → W.has_failed out.new ≡ false }
     ensures unsaid { result ≡ 0 → err.new ≡ err.old }
 
+    ensures cause { result ≡ 1 → AsksForRefusedText (map (λ word. word.now) words.now) (F.held files.old) }
+    ensures taken { result ≡ 1 → faults_of (map (λ word. word.now) words.now) ≡ [] }
     ensures rejected { result ≡ 1 → out.new ≡ out.old }
     ensures refused { result ≡ 2 → faults_of (map (λ word. word.now) words.now) ≢ [] }
     ensures unprinted { result ≡ 2 → out.new ≡ out.old }

@@ -1,0 +1,54 @@
+-- Why a text is refused.
+use Rattle.std.proofs.Common.{◌≡◌, ◌∙◌, ◌⊎◌, inl, inr, ap, subst, sym, ℕ, List, arith, IfErr, IfSome, IsErrAnd, Option, Result, Ok, Err}
+use Rattle.std.proofs.lemmas.Option.{IfSome_then}
+use Rattle.std.specs.Str.{IsUtf8}
+use Rattle.ctt_text.specs.InstanceText.{Spells}
+use Rattle.ctt_text.specs.Problem.{Problem}
+use Rattle.ctt_text.specs.SolutionText.{SolSpells}
+use Rattle.ctt_text.specs.Words.{words}
+use Rattle.ctt_text.specs.declared.fault.ReadFault.{ReadFault}
+use Rattle.ctt_text.specs.declared.fault.ReadFault.TheVariants as instance
+use Rattle.ctt_text.specs.declared.fault.SolutionFault.{SolutionFault}
+use Rattle.ctt_text.specs.declared.fault.SolutionFault.TheVariants as solution
+use Rattle.ctt_text.specs.declared.placed.Placed.{Placed}
+use Rattle.ctt_text.proofs.FormLaws.{err_is_ok, err_same}
+use Rattle.ctt_tool.specs.Checks.{IsNoInstance, IsNoSolution}
+use Rattle.ctt_tool.specs.Faults.{fault_of_instance, fault_of_solution, status_of}
+use Rattle.ctt_tool.specs.declared.fault.Fault.{Fault}
+
+-- the status that is told is that of the fault, unless it is 3
+pub one_is_of_fault : (fault : Fault) (status : ℕ) → (status ≡ status_of fault) ⊎ (status ≡ 3) → status ≡ 1 → status_of fault ≡ 1
+one_is_of_fault fault status (inl same) one = sym same ∙ one
+one_is_of_fault fault status (inr three) one = absurd (omega (arith, three, one))
+
+-- the want of memory is no refusal
+three_is_one : {C : Type 0} → ◌≡◌ {A = ℕ} 3 1 → C
+three_is_one e = absurd (omega (arith, e))
+
+-- a reading of bytes fails by this fault, and each instance that they spell would be read, but for want of memory
+abbrev pub TakesInstances : List ℕ → ReadFault → Type 0
+TakesInstances bytes read = (problem : Problem) → IsUtf8 bytes → Spells (words bytes) problem
+    → ◌⊎◌ (◌≡◌ {A = Result Problem ReadFault} (Err read) (Ok problem)) (◌≡◌ {A = Result Problem ReadFault} (Err read) (Err instance.NoMemory))
+
+-- the same of solutions
+abbrev pub TakesSolutions : Problem → List ℕ → SolutionFault → Type 0
+TakesSolutions problem bytes read = (timetable : List Placed) → IsUtf8 bytes → SolSpells problem (words bytes) timetable → read ≡ solution.NoMemory
+
+of_no_instance : {C : Type 0} (problem : Problem) (read : ReadFault) → status_of (fault_of_instance read) ≡ 1
+    → ◌⊎◌ (◌≡◌ {A = Result Problem ReadFault} (Err read) (Ok problem)) (◌≡◌ {A = Result Problem ReadFault} (Err read) (Err instance.NoMemory)) → C
+of_no_instance problem read one (inl taken) = err_is_ok _ problem read taken
+of_no_instance problem read one (inr wanted) = three_is_one (subst (λ fault. status_of (fault_of_instance fault) ≡ 1) (err_same {A = Problem} read instance.NoMemory wanted) one)
+
+-- so where the fault is no want of memory, the text is that of no instance
+pub instance_refused : {T : Type 0} (r : Result T Fault) (read : ReadFault) (told : Option (List ℕ)) (bytes items : List ℕ) → IsErrAnd r (λ fault. fault ≡ fault_of_instance read) → TakesInstances bytes read
+    → bytes ≡ items → IfSome told (λ held. items ≡ held) → IfErr r (λ fault. status_of fault ≡ 1 → IfSome told IsNoInstance)
+instance_refused (Ok x) read told bytes items gives takes copied all = tt
+instance_refused (Err fault) read told bytes items gives takes copied all = λ one. IfSome_then told all (λ held same. subst IsNoInstance (copied ∙ same)
+    (λ problem is. of_no_instance problem read (sym (ap status_of gives) ∙ one) (takes problem is.is_text is.spells)))
+
+-- and the text of a solution is that of none
+pub solution_refused : {T : Type 0} (r : Result T Fault) (read : SolutionFault) (problem : Problem) (told : Option (List ℕ)) (bytes items : List ℕ) → IsErrAnd r (λ fault. fault ≡ fault_of_solution read) → TakesSolutions problem bytes read
+    → bytes ≡ items → IfSome told (λ held. items ≡ held) → IfErr r (λ fault. status_of fault ≡ 1 → IfSome told (IsNoSolution problem))
+solution_refused (Ok x) read problem told bytes items gives takes copied all = tt
+solution_refused (Err fault) read problem told bytes items gives takes copied all = λ one. IfSome_then told all (λ held same. subst (IsNoSolution problem) (copied ∙ same)
+    (λ timetable is. three_is_one (subst (λ fault. status_of (fault_of_solution fault) ≡ 1) (takes timetable is.is_text is.spells) (sym (ap status_of gives) ∙ one))))
