@@ -36,18 +36,12 @@ geo 0 0
 END.
 ";
 
-/// A solution of it, and the same without top.
+/// A solution of it.
 const SOLUTION: &str = "alg A 0 0
 alg B 1 0
 geo A 0 1
 geo A 1 2
 top B 0 2
-";
-
-const WITHOUT_TOP: &str = "alg A 0 0
-alg B 1 0
-geo A 0 1
-geo A 1 2
 ";
 
 fn alg() -> CourseNo {
@@ -151,25 +145,24 @@ fn sheet_of<'i>(
     Ok(sheet)
 }
 
-/// What some edits of the small solution would cost.
-fn has_prices<'i, S: Sheet<'i>>(rt: &impl Abort, sheet: &S) {
-    let earlier = Edit::Move(geo(), at(5), at(4), room_a());
-    assert_eq!(rt; price_of(rt, sheet, &earlier), Ok(-4));
-    let larger = Edit::Reroom(alg(), at(0), room_b());
-    assert_eq!(rt; price_of(rt, sheet, &larger), Ok(-6));
-    let same = Edit::Reroom(alg(), at(0), room_a());
-    assert_eq!(rt; price_of(rt, sheet, &same), Ok(0));
-    let swap = Edit::Swap(geo(), at(1), top(), at(2));
-    assert_eq!(rt; price_of(rt, sheet, &swap), Ok(20));
-    let nothing = Edit::Drop(top(), at(0));
-    assert_eq!(rt; price_of(rt, sheet, &nothing), Err(EditFault::NotPlaced));
+/// What edits would cost.
+fn has_prices<'i, S: Sheet<'i>>(rt: &impl Abort, sheet: &S, cases: &[(Edit, i64)]) {
+    for case in cases {
+        assert_eq!(rt; price_of(rt, sheet, &case.0), Ok(case.1));
+    }
 }
 
 #[test]
 fn prices(rt: HostRuntime) -> Result<(), Fail> {
     let small = read_instance(rt.alloc(), SMALL.as_bytes())?;
     let sheet = sheet_of(&rt, rt.alloc(), &small, SOLUTION)?;
-    has_prices(&rt, &sheet);
+    let cases = [
+        (Edit::Move(geo(), at(5), at(4), room_a()), -4),
+        (Edit::Reroom(alg(), at(0), room_b()), -6),
+        (Edit::Reroom(alg(), at(0), room_a()), 0),
+        (Edit::Swap(geo(), at(1), top(), at(2)), 20),
+    ];
+    has_prices(&rt, &sheet, &cases);
     Ok(())
 }
 
@@ -212,70 +205,54 @@ fn swap_within_a_slot(rt: HostRuntime) -> Result<(), Fail> {
     swaps_rooms(&rt, &mut sheet)
 }
 
-/// The faults of placing and dropping on the small solution, and with one lecture less.
-fn refuses_places<'i, S: Sheet<'i>>(rt: &impl Abort, sheet: &mut S) {
-    let third = Edit::Place(alg(), at(4), room_a());
-    assert_eq!(rt; fault(rt, sheet, &third), Some(EditFault::CourseFull));
-    let again = Edit::Place(alg(), at(0), room_b());
-    assert_eq!(rt; fault(rt, sheet, &again), Some(EditFault::AlreadyThere));
-    let last = Edit::Drop(geo(), at(5));
-    assert_eq!(rt; make(rt, sheet, &last), None);
-    assert_eq!(rt; fault(rt, sheet, &last), Some(EditFault::NotPlaced));
-    let clash = Edit::Place(geo(), at(3), room_a());
-    assert_eq!(rt; fault(rt, sheet, &clash), Some(EditFault::Clash(alg())));
+/// Edits are refused, each by its fault, and have no price.
+fn refuses<'i, S: Sheet<'i>>(rt: &impl Abort, sheet: &S, cases: &[(Edit, EditFault)]) {
+    for case in cases {
+        assert_eq!(rt; fault(rt, sheet, &case.0), Some(case.1));
+        assert_eq!(rt; price_of(rt, sheet, &case.0), Err(case.1));
+    }
 }
 
 #[test]
-fn faults_of_place_and_drop(rt: HostRuntime) -> Result<(), Fail> {
-    let small = read_instance(rt.alloc(), SMALL.as_bytes())?;
-    let mut sheet = sheet_of(&rt, rt.alloc(), &small, SOLUTION)?;
-    refuses_places(&rt, &mut sheet);
-    Ok(())
-}
-
-#[test]
-fn a_slot_is_unavailable(rt: HostRuntime) -> Result<(), Fail> {
-    let small = read_instance(rt.alloc(), SMALL.as_bytes())?;
-    let empty = sheet_of(&rt, rt.alloc(), &small, "")?;
-    let unavailable = Edit::Place(geo(), at(0), room_a());
-    assert_eq!(&rt;
-        fault(&rt, &empty, &unavailable),
-        Some(EditFault::Unavailable)
-    );
-    Ok(())
-}
-
-#[test]
-fn a_room_is_taken(rt: HostRuntime) -> Result<(), Fail> {
-    let small = read_instance(rt.alloc(), SMALL.as_bytes())?;
-    let sheet = sheet_of(&rt, rt.alloc(), &small, WITHOUT_TOP)?;
-    let taken = Edit::Place(top(), at(1), room_a());
-    assert_eq!(&rt;
-        fault(&rt, &sheet, &taken),
-        Some(EditFault::RoomTaken(geo()))
-    );
-    Ok(())
-}
-
-/// The faults of moves, swaps and other rooms on the small solution.
-fn refuses_moves<'i, S: Sheet<'i>>(rt: &impl Abort, sheet: &S) {
-    let stays = Edit::Move(geo(), at(1), at(1), room_b());
-    assert_eq!(rt; fault(rt, sheet, &stays), Some(EditFault::SameSlot));
-    let absent = Edit::Move(geo(), at(0), at(0), room_b());
-    assert_eq!(rt; fault(rt, sheet, &absent), Some(EditFault::NotPlaced));
-    let same = Edit::Swap(alg(), at(0), alg(), at(3));
-    assert_eq!(rt; fault(rt, sheet, &same), Some(EditFault::SameCourse));
-    let one_absent = Edit::Swap(geo(), at(0), top(), at(2));
-    assert_eq!(rt; fault(rt, sheet, &one_absent), Some(EditFault::NotPlaced));
-    let no_room = Edit::Reroom(geo(), at(0), room_b());
-    assert_eq!(rt; fault(rt, sheet, &no_room), Some(EditFault::NotPlaced));
-}
-
-#[test]
-fn faults_of_move_and_swap(rt: HostRuntime) -> Result<(), Fail> {
+fn edit_faults_in_order(rt: HostRuntime) -> Result<(), Fail> {
     let small = read_instance(rt.alloc(), SMALL.as_bytes())?;
     let sheet = sheet_of(&rt, rt.alloc(), &small, SOLUTION)?;
-    refuses_moves(&rt, &sheet);
+    let cases = [
+        (Edit::Place(alg(), at(4), room_a()), EditFault::CourseFull),
+        (Edit::Place(alg(), at(0), room_b()), EditFault::AlreadyThere),
+        (Edit::Drop(geo(), at(0)), EditFault::NotPlaced),
+        (
+            Edit::Move(geo(), at(1), at(1), room_b()),
+            EditFault::SameSlot,
+        ),
+        (
+            Edit::Move(geo(), at(0), at(0), room_b()),
+            EditFault::NotPlaced,
+        ),
+        (
+            Edit::Swap(alg(), at(0), alg(), at(3)),
+            EditFault::SameCourse,
+        ),
+        (Edit::Swap(geo(), at(0), top(), at(2)), EditFault::NotPlaced),
+        (Edit::Reroom(geo(), at(0), room_b()), EditFault::NotPlaced),
+    ];
+    refuses(&rt, &sheet, &cases);
+    Ok(())
+}
+
+#[test]
+fn faults_of_placing(rt: HostRuntime) -> Result<(), Fail> {
+    let small = read_instance(rt.alloc(), SMALL.as_bytes())?;
+    let sheet = sheet_of(&rt, rt.alloc(), &small, "alg B 1 0 geo A 0 1")?;
+    let cases = [
+        (Edit::Place(geo(), at(0), room_a()), EditFault::Unavailable),
+        (Edit::Place(geo(), at(3), room_a()), EditFault::Clash(alg())),
+        (
+            Edit::Place(top(), at(1), room_a()),
+            EditFault::RoomTaken(geo()),
+        ),
+    ];
+    refuses(&rt, &sheet, &cases);
     Ok(())
 }
 
