@@ -307,6 +307,13 @@ fn costs_of_courses(rt: HostRuntime) -> Result<(), Fail> {
     shows_costs(&rt, &sheet, &Look::Cost, cost(15, 0, 4, 1))
 }
 
+#[test]
+fn cost_of_a_course_that_is_not_placed(rt: HostRuntime) -> Result<(), Fail> {
+    let small = read_instance(rt.alloc(), SMALL.as_bytes())?;
+    let empty = sheet_of(&rt, rt.alloc(), &small, "")?;
+    shows_costs(&rt, &empty, &Look::CourseCost(alg()), cost(0, 10, 0, 0))
+}
+
 /// The rows that a call reads.
 fn reads_rows(
     rt: &impl Abort,
