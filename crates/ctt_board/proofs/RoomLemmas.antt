@@ -24,14 +24,14 @@ is_at c s l = l.course == c && l.slot == s
 pub room_is : (c s : ℕ) (t : List Placed) → room_at c s t ≡ room_of (find (is_at c s) t)
 room_is c s t = ap room_of (find-filter (λ l. l.course == c) (λ l. l.slot == s) t)
 
-find_put_no : {X : Type 0} (p : X → Bool) (lt : X → X → Bool) (l : X) (xs : List X) → p l ≡ false → find p (put lt l xs) ≡ find p xs
+pub find_put_no : {X : Type 0} (p : X → Bool) (lt : X → X → Bool) (l : X) (xs : List X) → p l ≡ false → find p (put lt l xs) ≡ find p xs
 find_put_no p lt l [] e = rw e refl
 find_put_no p lt l (x ∷ xs) e = elim (cases_Bool (lt l x)) [
   | inl k ↦ rw (k, e) refl
   | inr k ↦ elim (cases_Bool (p x)) [ inl y ↦ rw (k, y) refl | inr y ↦ rw (k, y) (find_put_no p lt l xs e) ]
 ]
 
-find_put_yes : {X : Type 0} (p : X → Bool) (lt : X → X → Bool) (l : X) (xs : List X) → p l ≡ true → find p xs ≡ None → find p (put lt l xs) ≡ Some l
+pub find_put_yes : {X : Type 0} (p : X → Bool) (lt : X → X → Bool) (l : X) (xs : List X) → p l ≡ true → find p xs ≡ None → find p (put lt l xs) ≡ Some l
 find_put_yes p lt l [] e h = rw e refl
 find_put_yes {X = X} p lt l (x ∷ xs) e h = elim (cases_Bool (lt l x)) [
   | inl k ↦ rw (k, e) refl

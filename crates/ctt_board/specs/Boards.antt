@@ -1,10 +1,10 @@
 -- A sheet by its value.
-use Rattle.std.specs.Prelude.{◌≡◌, ℕ, ◌*◌, ◌≤◌, ℤ, pos, ◌-ℤ◌, List}
+use Rattle.std.specs.Prelude.{◌≡◌, true, ℕ, ◌*◌, ◌≤◌, ℤ, pos, ◌-ℤ◌, List}
 use Rattle.ctt_text.specs.Problem.{Problem, course_count, slot_count}
 use Rattle.ctt_text.specs.declared.placed.Placed.{Placed}
 use Rattle.ctt_rules.specs.Hard.{Lawful}
 use Rattle.ctt_rules.specs.Penalty.{penalty, total}
-use Rattle.ctt_board.specs.Changes.{apply, CellsFit}
+use Rattle.ctt_board.specs.Changes.{apply, is_change, CellsFit}
 use Rattle.ctt_board.specs.declared.cell.Cell.{Cell}
 
 -- a timetable of an instance
@@ -24,5 +24,6 @@ pub record IsListSheet (i : Problem) (t : List Placed) (capacity : ℕ) : Type 0
 -- a change that fits the lawful list t of the problem j
 pub record IsAfter (i j : Problem) (t : List Placed) (cells : List Cell) : Type 0 where
   pub same : j ≡ i
+  pub change : is_change cells ≡ true
   pub fit : CellsFit cells t
   pub lawful : Lawful i (apply cells t)

@@ -1,9 +1,9 @@
 -- Cells of a timetable, and changes, which are made cell by cell.
-use Rattle.std.specs.Prelude.{ℕ, Bool, true, false, cond, not, ◌&&◌, ◌||◌, ◌==◌, List, [], ◌∷◌, length, nat_le, Option, Some, None, is_some, is_none, IsSome, IsNone}
-use Rattle.std.specs.Option.{option_map}
-use Rattle.std.specs.List.{find}
-use Rattle.ctt_text.specs.Problem.{Problem}
-use Rattle.ctt_text.specs.Timetable.{course_row, with, without}
+use Rattle.std.specs.Prelude.{ℕ, ◌≡◌, ◌+◌, ◌-◌, Bool, true, false, cond, not, ◌&&◌, ◌||◌, ◌==◌, List, [], ◌∷◌, length, count_by, nat_le, Option, Some, None, is_some, is_none, IsSome, IsNone}
+use Rattle.std.specs.Option.{option_map, option_eq}
+use Rattle.std.specs.List.{find, AllByRecursion as Each}
+use Rattle.ctt_text.specs.Problem.{Problem, clash}
+use Rattle.ctt_text.specs.Timetable.{course_row, slot_row, with, without}
 use Rattle.ctt_text.specs.declared.placed.Placed.{Placed}
 use Rattle.ctt_rules.specs.Hard.{Lawful}
 use Rattle.ctt_board.specs.declared.cell.Cell.{Cell}
@@ -15,6 +15,18 @@ room_of found = option_map (λ (l : Placed). l.room) found
 -- the room of the lecture of a course in a slot
 abbrev pub room_at : ℕ → ℕ → List Placed → Option ℕ
 room_at c s t = room_of (find (λ l. l.slot == s) (course_row c t))
+
+-- the course of a lecture that was looked for
+abbrev pub course_named : Option Placed → Option ℕ
+course_named found = option_map (λ (l : Placed). l.course) found
+
+-- the course whose lecture has a room in a slot
+abbrev pub holder_at : ℕ → ℕ → List Placed → Option ℕ
+holder_at s r t = course_named (find (λ l. l.room == r) (slot_row s t))
+
+-- no course that clashes with this one stands in the slot
+abbrev pub IsClear : Problem → ℕ → ℕ → List Placed → Type 0
+IsClear i c s t = Each (λ l. clash i c l.course ≡ false) (slot_row s t)
 
 abbrev pub cell : ℕ → ℕ → Option ℕ → Cell
 cell c s r = record { course = c; slot = s; room = r }
@@ -60,3 +72,32 @@ pub record ChangeFits (i : Problem) (cells : List Cell) (t : List Placed) : Type
 abbrev pub room_by : List Cell → ℕ → ℕ → Option ℕ → Option ℕ
 room_by [] c s o = o
 room_by (x ∷ xs) c s o = room_by xs c s (cond (x.course == c && x.slot == s) x.room o)
+
+-- the course that has a room after a cell of its slot, where h is the one before it
+abbrev pub held_here : ℕ → Option ℕ → ℕ → Option ℕ → Option ℕ
+held_here c None e h = cond (option_eq (λ (a b : ℕ). a == b) h (Some c)) None h
+held_here c (Some r) e h = cond (r == e) (Some c) h
+
+-- and after a cell of any slot
+abbrev pub held_after : Cell → ℕ → ℕ → Option ℕ → Option ℕ
+held_after x d e h = cond (x.slot == d) (held_here x.course x.room e h) h
+
+-- the course that has a room in a slot after these cells, where h is the one before them
+abbrev pub holder_by : List Cell → ℕ → ℕ → Option ℕ → Option ℕ
+holder_by [] d e h = h
+holder_by (x ∷ xs) d e h = holder_by xs d e (held_after x d e h)
+
+-- a lecture comes into the slot
+abbrev pub comes_into : ℕ → Cell → Bool
+comes_into s x = x.slot == s && is_some x.room
+
+-- a lecture of a course that is added, and one that is removed
+abbrev pub is_added : ℕ → Cell → Bool
+is_added c x = x.course == c && is_some x.room
+
+abbrev pub is_removed : ℕ → Cell → Bool
+is_removed c x = x.course == c && is_none x.room
+
+-- the number of lectures of a course after these cells, of n before them
+abbrev pub count_after : List Cell → ℕ → ℕ → ℕ
+count_after cells c n = (n + count_by (is_added c) cells) - count_by (is_removed c) cells

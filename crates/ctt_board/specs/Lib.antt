@@ -3,3 +3,10 @@ pub mod Cells
 pub mod Boards
 pub mod Costs
 pub mod Laws
+pub mod Joining
+pub mod Tables
+pub mod Counts
+pub mod Seen
+pub mod Grids
+pub mod Ways
+pub mod Fitting

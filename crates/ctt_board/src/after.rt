@@ -1,11 +1,12 @@
 //! A timetable as a change would leave it. The change is not made, and no memory is taken.
 
-ghost use Rattle.std.specs.Prelude.{◌≡◌, ◌<◌, ◌≤◌};
+ghost use Rattle.std.specs.Prelude.{◌≡◌, ◌<◌, ◌≤◌, true, length, count_by};
+ghost use Rattle.std.specs.List.{list_any};
 ghost use Rattle.ctt_text.specs.Problem.{AreMembers, course_count};
 ghost use Rattle.ctt_text.specs.Timetable.{course_row};
 ghost use Rattle.ctt_rules.specs.Hard.{Lawful};
 ghost use Rattle.ctt_rules.specs.Penalty.{course_cost, total, alone_cost, part_of};
-ghost use Rattle.ctt_board.specs.Changes.{room_by, apply, CellsFit};
+ghost use Rattle.ctt_board.specs.Changes.{room_by, held_after, holder_by, comes_into, is_added, is_removed, is_change, apply, CellsFit};
 
 use crate::cell::Cell;
 use crate::sheet::Rooms;
@@ -34,7 +35,7 @@ impl<'a, R: Rooms> Model for After<'a, R> {
 }
 
 /// The room of a course in a slot after these cells, from the one before them.
-fn last_room(cells: &[Cell], course: CourseNo, slot: SlotNo, room: Option<RoomNo>) -> Option<RoomNo>
+pub(crate) fn last_room(cells: &[Cell], course: CourseNo, slot: SlotNo, room: Option<RoomNo>) -> Option<RoomNo>
     ensures { result ≡ room_by cells.now course slot room }
 {
     let mut last = room;
@@ -46,10 +47,83 @@ fn last_room(cells: &[Cell], course: CourseNo, slot: SlotNo, room: Option<RoomNo
     last
 }
 
+/// The course that has a room in a slot after a cell, from the one before it.
+fn held_after(
+    cell: &Cell,
+    slot: SlotNo,
+    room: RoomNo,
+    holder: Option<CourseNo>,
+) -> Option<CourseNo>
+    ensures { result ≡ held_after cell.now slot room holder }
+{
+    if cell.slot != slot {
+        return holder;
+    }
+    match cell.room {
+        None if holder == Some(cell.course) => None,
+        Some(taken) if taken == room => Some(cell.course),
+        _ => holder,
+    }
+}
+
+/// The course that has a room in a slot after these cells, from the one before them.
+fn last_holder(
+    cells: &[Cell],
+    slot: SlotNo,
+    room: RoomNo,
+    holder: Option<CourseNo>,
+) -> Option<CourseNo>
+    ensures { result ≡ holder_by cells.now slot room holder }
+{
+    let mut last = holder;
+    for cell in cells {
+        last = held_after(cell, slot, room, last);
+    }
+    last
+}
+
+/// Whether some lecture comes into a slot.
+fn comes_into(cells: &[Cell], slot: SlotNo) -> bool
+    ensures { result ≡ list_any (comes_into slot) cells.now }
+{
+    cells.iter().any(|x| x.slot == slot && x.room.is_some())
+}
+
+/// How many lectures of a course are added.
+fn added(cells: &[Cell], course: CourseNo) -> u32
+    requires { length cells.now ≤ 4 }
+    ensures value { result ≡ count_by (is_added course) cells.now }
+    ensures bound { result ≤ 4 }
+{
+    let mut count = 0;
+    for cell in cells {
+        if cell.course == course && cell.room.is_some() {
+            count += 1;
+        }
+    }
+    count
+}
+
+/// How many lectures of a course are removed.
+fn removed(cells: &[Cell], course: CourseNo) -> u32
+    requires { length cells.now ≤ 4 }
+    ensures value { result ≡ count_by (is_removed course) cells.now }
+    ensures bound { result ≤ 4 }
+{
+    let mut count = 0;
+    for cell in cells {
+        if cell.course == course && cell.room.is_none() {
+            count += 1;
+        }
+    }
+    count
+}
+
 impl<'a, R: Rooms> After<'a, R> {
     /// The timetable after cells that fit it, where it is lawful then.
     pub fn new(instance: &'a Instance, rooms: &'a R, cells: &'a [Cell]) -> Self
         requires same { R.problem rooms.now ≡ instance.now }
+        requires change { is_change cells.now ≡ true }
         requires fit { CellsFit cells.now (R.list rooms.now) }
         requires lawful { Lawful instance.now (apply cells.now (R.list rooms.now)) }
         ensures problem { result.problem ≡ instance.now }
@@ -136,7 +210,19 @@ impl<'a, R: Rooms> Rooms for After<'a, R> {
         last_room(self.cells, course, slot, self.rooms.room_at(course, slot))
     }
 
+    fn holder(&self, slot: SlotNo, room: RoomNo) -> Option<CourseNo> {
+        self.rooms.lawful();
+        last_holder(self.cells, slot, room, self.rooms.holder(slot, room))
+    }
+
+    fn is_clear(&self, course: CourseNo, slot: SlotNo) -> bool {
+        !comes_into(self.cells, slot) && self.rooms.is_clear(course, slot)
+    }
+
     fn count(&self, course: CourseNo) -> u32 {
-        self.row(course).len() as u32
+        self.rooms.lawful();
+        self.instance.limits();
+        let count = self.rooms.count(course) + added(self.cells, course);
+        count - removed(self.cells, course)
     }
 }

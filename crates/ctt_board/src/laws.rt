@@ -1,6 +1,7 @@
 //! Laws of changes and of costs, for the layers above. None of these functions computes anything.
 
 ghost use Rattle.ctt_board.specs.Laws.{ChangesLeaveOthers, RoomsAfter, LengthIsBounded, PenaltyFits};
+ghost use Rattle.ctt_board.specs.Fitting.{FitsAsTested};
 
 /// A change leaves the rows of the courses and slots that none of its cells names.
 pub fn changes_leave_others()
@@ -20,4 +21,9 @@ pub fn length_is_bounded()
 /// A penalty is below 2^63, and so is each of its parts.
 pub fn penalty_fits()
     ensures { PenaltyFits }
+{}
+
+/// A change fits a lawful timetable exactly where the test of its cells, one by one, is true.
+pub fn fits_as_tested()
+    ensures { FitsAsTested }
 {}

@@ -4,14 +4,22 @@
 mod after;
 mod cell;
 mod change;
+mod counts;
 mod delta;
+mod fitting;
+mod grid_sheet;
+mod joining;
+mod later;
 pub mod laws;
 mod list_sheet;
 mod sheet;
+mod table;
+mod tally;
 
 pub use after::After;
 pub use cell::Cell;
 pub use change::Change;
+pub use grid_sheet::GridSheet;
 pub use list_sheet::ListSheet;
 pub use sheet::{Rooms, Sheet, Timetable};
 

@@ -5,10 +5,11 @@ ghost use Rattle.std.specs.List.{position_or_len};
 ghost use Rattle.std.specs.Vec.{vec_len, vec_capacity};
 ghost use Rattle.ctt_text.specs.Problem.{course_count, slot_count};
 ghost use Rattle.ctt_text.specs.Timetable.{course_row, slot_row, with, without, before};
-ghost use Rattle.ctt_board.specs.Changes.{apply, in_turn};
+ghost use Rattle.ctt_board.specs.Changes.{holder_at, apply, in_turn};
 
 use crate::cell::Cell;
 use crate::change::Change;
+use crate::fitting::fits;
 use crate::delta::delta;
 use crate::laws;
 use crate::sheet::{Rooms, Sheet, Timetable};
@@ -101,6 +102,18 @@ fn reserved(alloc: Global, instance: &Instance) -> Result<Vec<Placed>, AllocErro
     Vec::with_capacity(alloc, places)
 }
 
+/// The course whose lecture has a room in a slot.
+fn holder_in(lectures: &[Placed], slot: SlotNo, room: RoomNo) -> Option<CourseNo>
+    ensures { result ≡ holder_at slot room lectures.now }
+{
+    for lecture in lectures {
+        if lecture.slot == slot && lecture.room == room {
+            return Some(lecture.course);
+        }
+    }
+    None
+}
+
 impl<'i> Rooms for ListSheet<'i> {
     ghost problem = { λ s. s.problem };
 
@@ -113,6 +126,14 @@ impl<'i> Rooms for ListSheet<'i> {
     fn room_at(&self, course: CourseNo, slot: SlotNo) -> Option<RoomNo> {
         let row = ctt_rules::course_row(self.instance, &self.lectures, course);
         row.iter().find(|l| l.slot == slot).map(|l| l.room)
+    }
+
+    fn holder(&self, slot: SlotNo, room: RoomNo) -> Option<CourseNo> {
+        holder_in(&self.lectures, slot, room)
+    }
+
+    fn is_clear(&self, _course: CourseNo, _slot: SlotNo) -> bool {
+        false
     }
 
     fn count(&self, course: CourseNo) -> u32 {
@@ -128,6 +149,10 @@ impl<'i> Timetable for ListSheet<'i> {
 
     fn delta(&self, change: &Change) -> i64 {
         delta(self.instance, self, change)
+    }
+
+    fn accepts(&self, change: &Change) -> bool {
+        fits(self.instance, self, change)
     }
 
     fn apply(&mut self, change: &Change) {

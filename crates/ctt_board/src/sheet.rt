@@ -1,12 +1,13 @@
 //! What a sheet is.
 
-ghost use Rattle.std.specs.Prelude.{◌≡◌, ◌<◌, ◌^◌, [], length, IfOk};
-ghost use Rattle.ctt_text.specs.Problem.{course_count, slot_count};
+ghost use Rattle.std.specs.Prelude.{◌≡◌, ◌<◌, ◌^◌, true, [], length, IfOk};
+ghost use Rattle.ctt_text.specs.Problem.{course_count, slot_count, room_count};
 ghost use Rattle.ctt_text.specs.Timetable.{course_row, slot_row};
 ghost use Rattle.ctt_rules.specs.Hard.{Lawful};
 ghost use Rattle.ctt_rules.specs.Penalty.{penalty, total};
-ghost use Rattle.ctt_board.specs.Changes.{room_at, apply, ChangeFits};
+ghost use Rattle.ctt_board.specs.Changes.{room_at, holder_at, IsClear, apply, ChangeFits};
 ghost use Rattle.ctt_board.specs.Boards.{delta};
+ghost use Rattle.ctt_board.specs.Fitting.{fits};
 
 use crate::change::Change;
 use ctt_rules::Cost;
@@ -36,6 +37,19 @@ pub trait Rooms: Drop {
         requires slot { slot < slot_count (problem self.now) }
         ensures { result ≡ room_at course slot (list self.now) };
 
+    /// The course whose lecture has a room in a slot, if there is one.
+    fn holder(&self, slot: SlotNo, room: RoomNo) -> Option<CourseNo>
+        requires slot { slot < slot_count (problem self.now) }
+        requires room { room < room_count (problem self.now) }
+        ensures { result ≡ holder_at slot room (list self.now) };
+
+    /// Whether it is seen at once that no course that clashes with this one stands in a slot. If
+    /// not, it has to be searched.
+    fn is_clear(&self, course: CourseNo, slot: SlotNo) -> bool
+        requires course { course < course_count (problem self.now) }
+        requires slot { slot < slot_count (problem self.now) }
+        ensures { result ≡ true → IsClear (problem self.now) course slot (list self.now) };
+
     /// How many lectures of a course are placed.
     fn count(&self, course: CourseNo) -> u32
         requires { course < course_count (problem self.now) }
@@ -54,6 +68,10 @@ pub trait Timetable: Rooms + Send + Sync {
     fn delta(&self, change: &Change) -> i64
         requires { ChangeFits (Self.problem self.now) change.now (Self.list self.now) }
         ensures { result ≡ delta (Self.problem self.now) (Self.list self.now) change.now };
+
+    /// Whether a change fits. It takes no memory.
+    fn accepts(&self, change: &Change) -> bool
+        ensures { result ≡ fits (Self.problem self.now) change.now (Self.list self.now) };
 
     /// Makes a change. It takes no memory.
     fn apply(&mut self, change: &Change)

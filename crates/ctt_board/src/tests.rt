@@ -4,7 +4,7 @@
 ghost use Rattle.std.specs.Prelude.{◌<◌};
 ghost use Rattle.ctt_text.specs.Problem.{course_count, slot_count};
 
-use crate::{Cell, Change, ListSheet, Rooms, Sheet, Timetable};
+use crate::{Cell, Change, GridSheet, ListSheet, Rooms, Sheet, Timetable};
 use ctt_rules::{Cost, is_lawful};
 use ctt_text::{CourseNo, Instance, Placed, RoomNo, SlotNo, is_timetable, read_instance};
 use std::alloc::Global;
@@ -107,6 +107,12 @@ fn one_placement<'i, S: Sheet<'i>>(
 fn one_placement_on_a_list_sheet(rt: HostRuntime) -> Result<(), Fail> {
     let small = read_instance(rt.alloc(), SMALL.as_bytes())?;
     one_placement::<ListSheet>(&rt, rt.alloc(), &small)
+}
+
+#[test]
+fn one_placement_on_a_grid_sheet(rt: HostRuntime) -> Result<(), Fail> {
+    let small = read_instance(rt.alloc(), SMALL.as_bytes())?;
+    one_placement::<GridSheet>(&rt, rt.alloc(), &small)
 }
 
 #[test]

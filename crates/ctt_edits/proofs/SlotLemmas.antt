@@ -93,3 +93,8 @@ same_room (Some x) r h = (refl, λ q e. let same : x ≡ q = cc in subst (λ y. 
 pub other_room : (o : Option ℕ) (r : ℕ) → option_eq (λ (a b : ℕ). a == b) o (Some r) ≡ false → (q : ℕ) → o ≡ Some q → (q == r) ≡ false
 other_room None r h q e = cc
 other_room (Some x) r h q e = let same : x ≡ q = cc in subst (λ y. (y == r) ≡ false) same h
+
+-- where nothing passes, there is no first
+pub none_first : (p : Placed → Bool) (xs : List Placed) → Each (λ x. p x ≡ false) xs → None ≡ first_course p xs
+none_first p [] h = refl
+none_first p (x ∷ xs) h = rw h.0 (none_first p xs h.1)

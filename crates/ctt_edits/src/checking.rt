@@ -1,7 +1,7 @@
 //! Whether an edit can be made.
 
 ghost use Rattle.std.specs.Prelude.{◌≡◌, ◌<◌, ◌==◌, false, Some, None, IfOk, IsSome};
-ghost use Rattle.ctt_text.specs.Problem.{course_count, slot_count, clash};
+ghost use Rattle.ctt_text.specs.Problem.{course_count, slot_count, room_count, clash};
 ghost use Rattle.ctt_text.specs.Timetable.{slot_row, without};
 ghost use Rattle.ctt_board.specs.Changes.{ChangeFits, cell, room_at};
 ghost use Rattle.ctt_edits.specs.Edits.{EditFits, first_course, try_fault, edit_fault, change, checked};
@@ -26,25 +26,12 @@ fn first_clash<R: Rooms>(
     ensures { result ≡ first_course (λ l. clash instance.now course l.course) (slot_row slot (R.list rooms.now)) }
 {
     rooms.lawful();
+    if rooms.is_clear(course, slot) {
+        return None;
+    }
     for number in 0..instance.courses() {
         let other = CourseNo::new(number);
         if instance.clash(course, other) && rooms.room_at(other, slot).is_some() {
-            return Some(other);
-        }
-    }
-    None
-}
-
-/// The course whose lecture has the room in the slot.
-fn holder<R: Rooms>(instance: &Instance, rooms: &R, slot: SlotNo, room: RoomNo) -> Option<CourseNo>
-    requires same { R.problem rooms.now ≡ instance.now }
-    requires slot { slot < slot_count instance.now }
-    ensures { result ≡ first_course (λ l. l.room == room) (slot_row slot (R.list rooms.now)) }
-{
-    rooms.lawful();
-    for number in 0..instance.courses() {
-        let other = CourseNo::new(number);
-        if rooms.room_at(other, slot) == Some(room) {
             return Some(other);
         }
     }
@@ -62,6 +49,7 @@ fn place_fault<R: Rooms>(
     requires same { R.problem rooms.now ≡ instance.now }
     requires course { course < course_count instance.now }
     requires slot { slot < slot_count instance.now }
+    requires room { room < room_count instance.now }
     ensures { result ≡ try_fault instance.now (R.list rooms.now) course slot room }
 {
     if rooms.room_at(course, slot).is_some() {
@@ -76,7 +64,7 @@ fn place_fault<R: Rooms>(
     if let Some(other) = first_clash(instance, rooms, course, slot) {
         return Some(EditFault::Clash(other));
     }
-    if let Some(other) = holder(instance, rooms, slot, room) {
+    if let Some(other) = rooms.holder(slot, room) {
         return Some(EditFault::RoomTaken(other));
     }
     None
@@ -115,6 +103,7 @@ fn replace_fault<'i, S: Sheet<'i>>(
     requires course { course < course_count (S.problem sheet.now) }
     requires slot { slot < slot_count (S.problem sheet.now) }
     requires target { target < slot_count (S.problem sheet.now) }
+    requires room { room < room_count (S.problem sheet.now) }
     requires there { IsSome (room_at course slot (S.list sheet.now)) }
     ensures { result ≡ try_fault (S.problem sheet.now) (without course slot (S.list sheet.now)) course target room }
 {

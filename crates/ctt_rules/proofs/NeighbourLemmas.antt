@@ -39,7 +39,7 @@ module _ (p s : ℕ) (some : 0 < p) where
   ]
 
 -- one slot stands next to another: it is the one before or the one after, and the day is the same
-by_period : (i : Problem) (s m : ℕ) → 0 < i.periods → next_to i s m ≡ ((ltb 0 (period_of i s) && m == s - 1) || (ltb (period_of i s + 1) i.periods && m == s + 1))
+pub by_period : (i : Problem) (s m : ℕ) → 0 < i.periods → next_to i s m ≡ ((ltb 0 (period_of i s) && m == s - 1) || (ltb (period_of i s + 1) i.periods && m == s + 1))
 by_period i s m some = elim (cases_eq m (s + 1)) [
   | inl same ↦ (
       let k1 : (s + 1 == m) ≡ true = eq-eqb (s + 1) m (sym same) in

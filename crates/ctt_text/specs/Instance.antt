@@ -3,6 +3,7 @@ use Rattle.std.specs.Prelude.{◌≡◌, ◌<◌, ◌+◌, ◌*◌, ℕ, List, B
 use Rattle.std.specs.String.{string_bytes}
 use Rattle.ctt_text.specs.Problem.{Problem, IsProblem, course_count, clash}
 use Rattle.ctt_text.specs.Named.{IsNamed}
+use Rattle.ctt_text.specs.Belonging.{AreCurricula}
 use Rattle.ctt_text.specs.declared.instance.Instance.TheInside.{Inside}
 
 abbrev pub problem_in : Inside → Problem
@@ -29,3 +30,4 @@ pub record IsInstance (i : Inside) : Type 0 where
   pub problem : IsProblem (problem_in i)
   pub named : IsNamed (problem_in i)
   pub clashes : AreClashes (problem_in i) i.clashes.items
+  pub belonging : AreCurricula (problem_in i) (map (λ q. q.items) i.belonging.items)

@@ -3,7 +3,9 @@
 ghost use Rattle.std.specs.Prelude.{◌≡◌, ◌<◌, ◌≤◌, ◌*◌, [], length, slice_index_or, IfSome};
 ghost use Rattle.ctt_text.specs.Problem.{IsProblem, course_of, capacity_of, members, course_count, room_count, teacher_count, curriculum_count, slot_count, slot_of, day_of, period_of, clash, is_unavailable, number_in};
 ghost use Rattle.ctt_text.specs.Named.{IsNamed};
+ghost use Rattle.ctt_text.specs.Belonging.{curricula_of};
 
+mod belonging;
 mod clashes;
 mod courses;
 mod curricula;
@@ -39,6 +41,8 @@ pub struct Instance {
     unavailable: Vec<bool>,
     /// For each course in turn, for each course in turn.
     clashes: Vec<bool>,
+    /// For each course, its curricula.
+    belonging: Vec<Vec<CurriculumNo>>,
 }
 
 impl Model for Instance {
@@ -202,6 +206,14 @@ impl Instance {
         ensures { result.now ≡ members self.now curriculum }
     {
         &self.curricula[curriculum.get() as usize]
+    }
+
+    /// The curricula of which a course is a member, ascending.
+    pub fn curricula_of(&self, course: CourseNo) -> &[CurriculumNo]
+        requires { course < course_count self.now }
+        ensures { result.now ≡ curricula_of self.now course }
+    {
+        &self.belonging[course.get() as usize]
     }
 
     /// Whether two different courses have the same teacher or are members of one curriculum.

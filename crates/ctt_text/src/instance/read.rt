@@ -15,6 +15,7 @@ ghost use Rattle.ctt_text.specs.declared.fault.ReadFault.TheVariants.{NoMemory, 
 
 use crate::fault::ReadFault;
 use crate::instance::Instance;
+use crate::instance::belonging::belonging;
 use crate::instance::clashes::clash_table;
 use crate::instance::courses::{CourseSection, read_course_section};
 use crate::instance::curricula::{CurriculumSection, read_curriculum_section};
@@ -89,6 +90,7 @@ impl<'a> Sections<'a> {
             members: curricula,
         } = curricula;
         let clashes = clash_table(alloc, &courses, &curricula)?;
+        let belonging = belonging(alloc, &courses, &curricula)?;
         Ok(Instance {
             name: String::from_str(alloc, header.name)?,
             course_names,
@@ -102,6 +104,7 @@ impl<'a> Sections<'a> {
             periods: header.periods as u16,
             unavailable,
             clashes,
+            belonging,
         })
     }
 }

@@ -42,3 +42,9 @@ new-with_first-requires-clause-lawful g c =
     let fits = c.requires.fits in
     rw (c.instance-instance.ensures, c.removal-3.ensures, c.removal-4.ensures, c.addition.ensures)
     (with_lawful i gone c.args.course c.args.other_slot c.args.other_room lawful (fits.0, fits.3, room_fits i t c.args.other c.args.other_slot c.args.other_room c.lawful.ensures c.requires.other_there) (free i gone c.args.course c.args.other_slot c.args.other_room tried))
+
+pub place_fault-fault-requires-clause-room : goal.place_fault-fault-requires-clause-room
+place_fault-fault-requires-clause-room g c = rw c.instance-instance.ensures (room_fits (g.S.Rooms.problem c.args.sheet.now) (g.S.Rooms.list c.args.sheet.now) c.args.other c.args.other_slot c.args.other_room c.lawful.ensures c.requires.other_there)
+
+pub place_fault-requires-clause-room : goal.place_fault-requires-clause-room
+place_fault-requires-clause-room g c = rw c.instance-instance.ensures (room_fits (g.S.Rooms.problem c.args.sheet.now) (g.S.Rooms.list c.args.sheet.now) c.args.course c.args.slot c.args.room c.lawful.ensures c.requires.there)

@@ -32,3 +32,8 @@ pub drop_fault-requires : goal.drop_fault-requires
 drop_fault-requires g c κs =
     let fits : EditFits (g.S.Rooms.problem c.args.sheet.now) (Drop c.in-Drop.course c.in-Drop.slot) = rw c.in-Drop.is at c.requires in
     search rules
+
+pub place_fault-requires-clause-room : goal.place_fault-requires-clause-room
+place_fault-requires-clause-room g c =
+    let fits : EditFits (g.S.Rooms.problem c.args.sheet.now) (Place c.in-Place.course c.in-Place.slot c.in-Place.room) = rw c.in-Place.is at c.requires in
+    rw c.instance.ensures fits.2

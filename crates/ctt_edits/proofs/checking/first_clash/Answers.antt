@@ -1,12 +1,12 @@
-use Rattle.std.proofs.Common.{◌≡◌, ◌<◌, ◌≤◌, ◌+◌, ℕ, List, Some, None, true, false, is_some, ◌∙◌, sym, ap, subst, arith}
+use Rattle.std.proofs.Common.{refl, ◌≡◌, ◌<◌, ◌≤◌, ◌+◌, ℕ, List, Some, None, true, false, is_some, ◌∙◌, sym, ap, subst, arith}
 use Rattle.std.specs.List.{find}
 use Rattle.ctt_text.specs.Problem.{Problem, course_count, clash}
-use Rattle.ctt_text.specs.Timetable.{IsTimetable}
+use Rattle.ctt_text.specs.Timetable.{IsTimetable, slot_row}
 use Rattle.ctt_text.specs.declared.placed.Placed.{Placed}
 use Rattle.ctt_text.proofs.TimetableLemmas.{Each-map}
 use Rattle.ctt_rules.proofs.TimetableLemmas.{courses_fit}
-use Rattle.ctt_board.specs.Changes.{room_at}
-use Rattle.ctt_edits.proofs.SlotLemmas.{none_at_first, none_at_last, fails_there, first_there, slot_below}
+use Rattle.ctt_board.specs.Changes.{room_at, IsClear}
+use Rattle.ctt_edits.proofs.SlotLemmas.{none_first, none_at_first, none_at_last, fails_there, first_there, slot_below}
 use Rattle.ctt_edits.proofs.checking.first_clash.Goals as goal
 use Rattle.ctt_edits.proofs.checking.first_clash.Goals.{else-clash-via-then-clash+else-is_some, else-clash-via-else-clash}
 
@@ -49,3 +49,10 @@ returns g c =
     let end : c.courses-number-end.result ≡ course_count i = c.courses-number-end.ensures in
     let past : course_count i ≤ c.loop-number.number = omega (arith, end, c.loop-number-test.false) in
     none_at_last (λ l. clash i c.args.course l.course) c.args.slot t c.lawful.ensures.timetable.ascending c.loop-number.number (Each-map (λ (l : Placed). l.course < course_count i) (λ (l : Placed). l.course < c.loop-number.number) (λ l lt. omega (arith, lt, past)) t (courses_fit i t (subst (λ j. IsTimetable j t) c.requires.same c.lawful.ensures.timetable))) c.loop-number.invariant
+
+pub returns-then-is_clear : goal.returns-then-is_clear
+returns-then-is_clear g c =
+    let i : Problem = c.args.instance.now in
+    let row = slot_row c.args.slot (g.R.Rooms.list c.args.rooms.now) in
+    let clear : IsClear i c.args.course c.args.slot (g.R.Rooms.list c.args.rooms.now) = subst (λ p. IsClear p c.args.course c.args.slot (g.R.Rooms.list c.args.rooms.now)) c.requires.same (c.if-is_clear.ensures refl) in
+    none_first (λ l. clash i c.args.course l.course) row clear

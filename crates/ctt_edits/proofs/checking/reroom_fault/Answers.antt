@@ -1,5 +1,5 @@
 use Rattle.std.proofs.Common.{rules, ◌≡◌, ◌<◌, ◌∙◌, ap, sym, true, not, is_some}
-use Rattle.ctt_text.specs.Problem.{Problem, course_count, slot_count}
+use Rattle.ctt_text.specs.Problem.{Problem, course_count, slot_count, room_count}
 use Rattle.ctt_board.specs.Changes.{room_at}
 use Rattle.ctt_edits.proofs.checking.reroom_fault.Goals as goal
 
@@ -11,4 +11,5 @@ replace_fault-requires g c κs =
     let course : c.args.course < course_count i = c.requires.0 in
     let slot : c.args.slot < slot_count i = c.requires.1 in
     let target : c.args.slot < slot_count i = c.requires.1 in
+    let room : c.args.room < room_count i = c.requires.2 in
     search rules

@@ -1,5 +1,6 @@
-use Rattle.std.proofs.Common.{sym, subst, ◌∙◌, ap, length, not, ◌&&◌, ◌||◌, ◌==◌}
-use Rattle.ctt_text.specs.Lists.{has}
+use Rattle.std.proofs.lemmas.List.{length-map}
+use Rattle.std.proofs.Common.{map, get_or, [], sym, subst, ◌∙◌, ap, length, not, ◌&&◌, ◌||◌, ◌==◌}
+use Rattle.ctt_text.specs.Lists.{has, below}
 use Rattle.ctt_text.specs.Problem.{IsProblem}
 use Rattle.ctt_text.specs.Named.{IsNamed}
 use Rattle.ctt_text.specs.Tables.{teacher_at}
@@ -17,6 +18,8 @@ invariant_of-result c =
     let same = rw (← c.header.view_is, ← c.courses.view_is, ← c.rooms.view_is, ← c.curricula.view_is) at c.self.view_is in
     let marks = rw (c.deref.ensures.value, c.deref-2.ensures.value) at c.in_ok-clashes.ensures.marks in
     let size = rw c.deref.ensures.value at c.in_ok-clashes.ensures.size in
+    let numbers = rw (c.deref-3.ensures.value, c.deref-4.ensures.value) at c.in_ok-belonging.ensures.lists in
+    let lists = rw c.deref-3.ensures.value at c.in_ok-belonging.ensures.size in
     record {
       problem = rw c.in_ok-from_str.ensures.ok (subst IsProblem (sym same) c.requires.problem);
       named = rw c.in_ok-from_str.ensures.ok (subst IsNamed (sym same) c.requires.named);
@@ -24,5 +27,9 @@ invariant_of-result c =
         size = size;
         mark = λ a b la lb. marks a b la lb
             ∙ ap (λ any. not (a == b) && (teacher_at c.courses.inside.facts.items a == teacher_at c.courses.inside.facts.items b || any)) (sym (any_mapped (λ q. has a q && has b q) (λ q. q.items) c.curricula.inside.members.items));
+      };
+      belonging = record {
+        size = length-map c.in_ok-belonging.belonging.items (λ q. q.items) ∙ lists;
+        list = λ k lt. numbers k lt ∙ ap (below (λ q. has k (get_or (map (λ q. q.items) c.curricula.inside.members.items) q []))) (sym (length-map c.curricula.inside.members.items (λ q. q.items)));
       };
     }

@@ -1,0 +1,149 @@
+-- Each timetable on the way of a change that fits is lawful.
+use Rattle.std.proofs.Common.{◌≡◌, leb, ℕ, zero, suc, ◌+◌, ◌<◌, ◌≤◌, Bool, true, false, not, ◌&&◌, ◌==◌, List, [], ◌∷◌, drop, take, length, get_or, Option, Some, None, is_none, is_some, refl, ◌∙◌, sym, ap, subst, arith, inl, inr, ◌⊎◌}
+use Rattle.std.specs.List.{filter, find, AllByRecursion as Each}
+use Rattle.std.proofs.lemmas.Bool.{cases_Bool, eq-eqb, and_parts}
+use Rattle.std.proofs.lemmas.Bool.Decides.{nat_tests}
+use Rattle.ctt_text.specs.Problem.{Problem, course_of, course_count, slot_count, is_unavailable}
+use Rattle.ctt_text.specs.Timetable.{before, Fits, with, without, course_row}
+use Rattle.ctt_text.specs.declared.placed.Placed.{Placed}
+use Rattle.ctt_rules.specs.Hard.{Lawful, conflicts, share_room}
+use Rattle.ctt_rules.proofs.ListLemmas.{filter_every, Each-filter, Pairwise-filter}
+use Rattle.ctt_board.specs.Changes.{room_at, room_of, apply_at, apply, in_turn, is_change, room_by, CellFits, CellsFit, ChangeFits}
+use Rattle.ctt_board.specs.Ways.{Ready}
+use Rattle.ctt_board.specs.declared.cell.Cell.{Cell}
+use Rattle.ctt_board.proofs.CellLemmas.{cell_at, in_turn_later}
+use Rattle.ctt_board.proofs.PutLemmas.{filter_filter, filter-put_no}
+use Rattle.ctt_board.proofs.RoomLemmas.{is_at, room_is, rooms_after}
+
+pub length-filter_le : {X : Type 0} (p : X → Bool) (xs : List X) → length (filter p xs) ≤ length xs
+length-filter_le p [] = omega arith
+length-filter_le p (x ∷ xs) = elim (cases_Bool (p x)) [ inl b ↦ rw b (omega (arith, length-filter_le p xs)) | inr b ↦ rw b (omega (arith, length-filter_le p xs)) ]
+
+pub without_lawful : (i : Problem) (t : List Placed) (c s : ℕ) → Lawful i t → Lawful i (without c s t)
+without_lawful i t c s h =
+    let p : Placed → Bool = λ l. not (l.course == c && l.slot == s) in
+    record {
+      timetable = record { ascending = Pairwise-filter (λ a b. before a b ≡ true) p t h.timetable.ascending; fits = Each-filter (Fits i) p t h.timetable.fits };
+      conflict_free = Pairwise-filter (λ a b. conflicts i a b ≡ false) p t h.conflict_free;
+      available = Each-filter (λ l. is_unavailable i l.course l.slot ≡ false) p t h.available;
+      rooms_apart = Pairwise-filter (λ a b. share_room a b ≡ false) p t h.rooms_apart;
+      few = λ d. rw (filter_filter (λ l. l.course == d) p t) (omega (arith, length-filter_le p (course_row d t), h.few d));
+    }
+
+-- what isn't found is nowhere
+nowhere : {X : Type 0} (p : X → Bool) (xs : List X) → find p xs ≡ None → Each (λ x. not (p x) ≡ true) xs
+nowhere p [] e = tt
+nowhere {X = X} p (x ∷ xs) e = elim (cases_Bool (p x)) [
+  | inl y ↦ (let e' : ◌≡◌ {A = Option X} (Some x) None = (rw y at e) in cc)
+  | inr n ↦ (let e' : find p xs ≡ None = (rw n at e) in (ap not n, nowhere p xs e'))
+]
+
+none_of : (o : Option Placed) → is_some (room_of o) ≡ false → o ≡ None
+none_of None e = refl
+none_of (Some l) e = cc
+
+-- a lecture that is added and taken out again
+added_back : (c s r : ℕ) (t : List Placed) → is_some (room_at c s t) ≡ false → without c s (with (record { course = c; slot = s; room = r }) t) ≡ t
+added_back c s r t e =
+    let l : Placed = record { course = c; slot = s; room = r } in
+    let mine : not (is_at c s l) ≡ false = rw (eq-eqb c c refl, eq-eqb s s refl) refl in
+    filter-put_no (λ x. not (is_at c s x)) before l t mine ∙ filter_every (λ x. not (is_at c s x)) t (nowhere (is_at c s) t (none_of (find (is_at c s) t) (ap is_some (sym (room_is c s t)) ∙ e)))
+
+lawful_back : (i : Problem) (c s r : ℕ) (t : List Placed) → is_some (room_at c s t) ≡ false → Lawful i (with (record { course = c; slot = s; room = r }) t) → Lawful i t
+lawful_back i c s r t e h = subst (Lawful i) (added_back c s r t e) (without_lawful i (with (record { course = c; slot = s; room = r }) t) c s h)
+
+-- what additions make lawful was lawful before
+additions_back : (i : Problem) (cells : List Cell) (t : List Placed) → in_turn true cells ≡ true → CellsFit cells t → Lawful i (apply cells t) → Lawful i t
+additions_back i [] t turn fits h = h
+additions_back i (x ∷ xs) t turn fits h = at x.room turn fits.0 (λ turn'. additions_back i xs (apply_at x.course x.slot x.room t) turn' fits.1 h)
+  where
+    at : (o : Option ℕ) → in_turn true (record { course = x.course; slot = x.slot; room = o } ∷ xs) ≡ true → CellFits t x.course x.slot o → (in_turn true xs ≡ true → Lawful i (apply_at x.course x.slot o t)) → Lawful i t
+    at None turn fits more = cc
+    at (Some r) turn fits more = lawful_back i x.course x.slot r t fits (more turn)
+
+-- the timetable after the next cell
+pub next_lawful : (i : Problem) (x : Cell) (rest : List Cell) (t : List Placed) → Lawful i t → in_turn false (x ∷ rest) ≡ true → CellsFit (x ∷ rest) t → Lawful i (apply (x ∷ rest) t) → Lawful i (apply_at x.course x.slot x.room t)
+next_lawful i x rest t now turn fits h = at x.room turn (λ turn'. additions_back i rest (apply_at x.course x.slot x.room t) turn' fits.1 h)
+  where
+    at : (o : Option ℕ) → in_turn (is_some o) rest ≡ true → (in_turn true rest ≡ true → Lawful i (apply_at x.course x.slot o t)) → Lawful i (apply_at x.course x.slot o t)
+    at None turn more = without_lawful i t x.course x.slot now
+    at (Some r) turn more = more turn
+
+-- what is found is somewhere
+pub somewhere : (P : Placed → Type 0) (p : Placed → Bool) (xs : List Placed) (r : ℕ) → Each P xs → room_of (find p xs) ≡ Some r → (l : Placed) × P l × (p l ≡ true) × (l.room ≡ r)
+somewhere P p [] r h e = cc
+somewhere P p (x ∷ xs) r h e = elim (cases_Bool (p x)) [
+  | inl y ↦ (let e' : Some x.room ≡ Some r = (rw y at e) in (x, h.0, y, cc))
+  | inr n ↦ (let e' : room_of (find p xs) ≡ Some r = (rw n at e) in somewhere P p xs r h.1 e')
+]
+
+pub put_has : (P : Placed → Type 0) (l : Placed) (xs : List Placed) → Each P (with l xs) → P l
+put_has P l [] h = h.0
+put_has P l (x ∷ xs) h = at (cases_Bool (before l x)) (λ k. put_has P l xs k)
+  where
+    at : (before l x ≡ true) ⊎ (before l x ≡ false) → (Each P (with l xs) → P l) → P l
+    at (inl y) more = (let h' : Each P (l ∷ x ∷ xs) = (rw y at h) in h'.0)
+    at (inr n) more = (let h' : Each P (x ∷ with l xs) = (rw n at h) in more h'.1)
+
+-- the numbers of a lecture that comes, and of one that is there
+pub comes_fits : (i : Problem) (l : Placed) (t : List Placed) → Lawful i (with l t) → Fits i l
+comes_fits i l t h = put_has (Fits i) l t h.timetable.fits
+
+pub there_fits : (i : Problem) (c s r : ℕ) (t : List Placed) → Lawful i t → room_at c s t ≡ Some r → Fits i (record { course = c; slot = s; room = r })
+there_fits i c s r t h e =
+    let there = somewhere (Fits i) (is_at c s) t r h.timetable.fits (sym (room_is c s t) ∙ e) in
+    let l : Placed = there.0 in
+    let course : l.course ≡ c = grind (arith, nat_tests, there.2) in
+    let slot : l.slot ≡ s = grind (arith, nat_tests, there.2) in
+    let f : Fits i l = there.1 in
+    (omega (arith, f.0, course), omega (arith, f.1, slot), omega (arith, f.2, there.3))
+
+pub some_room : (o : Option ℕ) → is_some o ≡ true → (r : ℕ) × (o ≡ Some r)
+some_room (Some r) h = (r, refl)
+some_room None h = cc
+
+ready_at : (i : Problem) (c s : ℕ) (o : Option ℕ) (t : List Placed) → Lawful i t → CellFits t c s o → Lawful i (apply_at c s o t) → Ready i c s o t
+ready_at i c s (Some r) t now fits next = (let f = comes_fits i (record { course = c; slot = s; room = r }) t next in record { course = f.0; slot = f.1; fits = fits; lawful = next })
+ready_at i c s None t now fits next =
+    let stood = some_room (room_at c s t) fits in
+    let f = there_fits i c s stood.0 t now stood.1 in
+    record { course = f.0; slot = f.1; fits = fits; lawful = next }
+
+pub ready : (i : Problem) (cells : List Cell) (k : ℕ) (x : Cell) (t : List Placed) → k < length cells → x ≡ get_or cells k x → Lawful i t → in_turn false (drop k cells) ≡ true → CellsFit (drop k cells) t → Lawful i (apply (drop k cells) t) → Ready i x.course x.slot x.room t
+ready i cells k x t lt is now turn fits h =
+    let rest : List Cell = drop (k + 1) cells in
+    let split : drop k cells ≡ x ∷ rest = cell_at cells k x lt is in
+    let fits' : CellsFit (x ∷ rest) t = subst (λ ys. CellsFit ys t) split fits in
+    ready_at i x.course x.slot x.room t now fits'.0
+    (next_lawful i x rest t now (subst (λ ys. in_turn false ys ≡ true) split turn) fits' (subst (λ ys. Lawful i (apply ys t)) split h))
+
+pub fits_more : (cells : List Cell) (k : ℕ) (x : Cell) (t : List Placed) → k < length cells → x ≡ get_or cells k x → CellsFit (drop k cells) t → CellsFit (drop (k + 1) cells) (apply_at x.course x.slot x.room t)
+fits_more cells k x t lt is fits = (let fits' : CellsFit (x ∷ drop (k + 1) cells) t = subst (λ ys. CellsFit ys t) (cell_at cells k x lt is) fits in fits'.1)
+
+pub turn_rest : (y : Cell) (ys : List Cell) → in_turn false (y ∷ ys) ≡ true → in_turn false ys ≡ true
+turn_rest y ys h = in_turn_later (is_some y.room) ys h
+
+-- the way of a change, up to one of its cells
+pub record OnTheWay (i : Problem) (cells : List Cell) (t : List Placed) (k : ℕ) (x : Cell) : Type 0 where
+  pub done : CellsFit (take k cells) t
+  pub now : Lawful i (apply (take k cells) t)
+  pub next : apply (take (suc k) cells) t ≡ apply_at x.course x.slot x.room (apply (take k cells) t)
+  pub ready : Ready i x.course x.slot x.room (apply (take k cells) t)
+
+pub on_the_way : (i : Problem) (cells : List Cell) (t : List Placed) (k : ℕ) (x : Cell) → k < length cells → x ≡ get_or cells k x → Lawful i t → in_turn false cells ≡ true → CellsFit cells t → Lawful i (apply cells t) → OnTheWay i cells t k x
+on_the_way i [] t k x lt is h turn fits after = absurd (omega (arith, lt))
+on_the_way i (y ∷ ys) t zero x lt is h turn fits after =
+    let lawful = next_lawful i y ys t h turn fits after in
+    record { done = tt; now = h; next = ap (λ z. apply_at z.course z.slot z.room t) (sym is); ready = subst (λ z. Ready i z.course z.slot z.room t) (sym is) (ready_at i y.course y.slot y.room t h fits.0 lawful) }
+on_the_way i (y ∷ ys) t (suc k) x lt is h turn fits after =
+    let lawful = next_lawful i y ys t h turn fits after in
+    let rest = on_the_way i ys (apply_at y.course y.slot y.room t) k x (omega (arith, lt)) is lawful (turn_rest y ys turn) fits.1 after in
+    record { done = (fits.0, rest.done); now = rest.now; next = rest.next; ready = rest.ready }
+
+pub way_of : (i p : Problem) (cells change : List Cell) (t : List Placed) (k : ℕ) (x : Cell) → i ≡ p → cells ≡ change → is_change change ≡ true → Lawful p t → ChangeFits p change t → k < length cells → x ≡ get_or cells k x → OnTheWay i cells t k x
+way_of i p cells change t k x e same is h fits lt at =
+    on_the_way i cells t k x lt at (subst (λ q. Lawful q t) (sym e) h) (rw same (and_parts (leb (length change) 4) (in_turn false change) is).1) (rw same fits.cells_fit) (rw (e, same) fits.lawful)
+
+-- a lecture that leaves, by its room before the cells that are done
+pub left_there : (done : List Cell) (t : List Placed) (c s r : ℕ) (before last : Option ℕ) → last ≡ room_by done c s before → before ≡ room_at c s t → CellsFit done t → last ≡ Some r → room_at c s (apply done t) ≡ Some r
+left_there done t c s r before last e f fits some = rooms_after done t fits c s ∙ sym (e ∙ ap (room_by done c s) f) ∙ some

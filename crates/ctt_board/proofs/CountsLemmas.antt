@@ -1,0 +1,218 @@
+-- The tables of counts after one lecture more, and after one less.
+use Rattle.std.proofs.Common.{◌≡◌, ℕ, zero, suc, ◌+◌, ◌*◌, ◌<◌, ◌≤◌, Bool, true, false, cond, ◌&&◌, ◌==◌, ltb, List, [], ◌∷◌, ◌++◌, length, refl, ◌∙◌, sym, ap, ap₂, subst, arith, inl, inr}
+use Rattle.std.specs.List.{sum_by, count_by, list_any, AllByRecursion as Each}
+use Rattle.std.proofs.lemmas.Bool.{cases_eq, eq-eqb, ne_eqb, lt-ltb, le-ltb}
+use Rattle.std.proofs.lemmas.Bool.Decides.{nat_tests}
+use Rattle.std.proofs.lemmas.List.{length-append}
+use Rattle.std.proofs.lemmas.List.Sums.{sum_by-cons, sum_by-append, length-filter, count_by-le-length}
+use Rattle.ctt_text.specs.Lists.{has, below}
+use Rattle.ctt_text.specs.Belonging.{curricula_of}
+use Rattle.ctt_text.specs.Problem.{Problem, IsProblem, course_of, IsCourseFacts, teacher_count, course_count, room_count, curriculum_count, slot_count, members, day_of}
+use Rattle.ctt_text.specs.Timetable.{IsTimetable, Fits, course_row}
+use Rattle.ctt_text.specs.declared.placed.Placed.{Placed}
+use Rattle.ctt_text.proofs.TimetableLemmas.{Each-at}
+use Rattle.ctt_rules.specs.Penalty.{days_of}
+use Rattle.ctt_rules.proofs.SlotLemmas.{day_fits}
+use Rattle.ctt_rules.proofs.SumLemmas.{sum_below_zero}
+use Rattle.ctt_board.specs.Joining.{IsMore, on_day, in_room, in_slot, is_taught}
+use Rattle.ctt_board.specs.Tables.{Grid, at, Adds, one_at, in_column}
+use Rattle.ctt_board.specs.Counts.{HaveSizes, Counted, AreCounts, AddsLecture, HaveLecture}
+use Rattle.ctt_board.specs.declared.counts.Counts.{Counts}
+use Rattle.ctt_board.proofs.CountedLemmas.{counted_more, days_counted}
+use Rattle.ctt_board.proofs.JoiningLemmas.{more_days, same_used, at_least}
+
+-- the curricula of a course are some of the curricula
+Each-append : {X : Type 0} (P : X → Type 0) (xs ys : List X) → Each P xs → Each P ys → Each P (xs ++ ys)
+Each-append P [] ys h k = k
+Each-append P (x ∷ xs) ys h k = (h.0, Each-append P xs ys h.1 k)
+
+Each-wider : (xs : List ℕ) (n : ℕ) → Each (λ k. k < n) xs → Each (λ k. k < suc n) xs
+Each-wider [] n h = tt
+Each-wider (x ∷ xs) n h = (let lt : x < n = h.0 in omega (arith, lt), Each-wider xs n h.1)
+
+below_fit : (p : ℕ → Bool) (n : ℕ) → Each (λ k. k < n) (below p n)
+below_fit p zero = tt
+below_fit p (suc n) = Each-append (λ k. k < suc n) (below p n) (cond (p n) (n ∷ []) []) (Each-wider (below p n) n (below_fit p n)) (last (p n))
+  where
+    last : (b : Bool) → Each (λ k. k < suc n) (cond b (n ∷ []) [])
+    last true = (omega arith, tt)
+    last false = tt
+
+below_few : (p : ℕ → Bool) (n : ℕ) → length (below p n) ≤ n
+below_few p zero = omega arith
+below_few p (suc n) = omega (arith, below_few p n, length-append (below p n) (cond (p n) (n ∷ []) []), last (p n))
+  where
+    last : (b : Bool) → length (cond b (n ∷ []) []) ≤ 1
+    last true = omega arith
+    last false = omega arith
+
+pub curricula_fit : (i : Problem) (c n : ℕ) (qs : List ℕ) → qs ≡ curricula_of i c → n ≡ curriculum_count i → Each (λ q. q < n) qs
+curricula_fit i c n qs e same = rw (e, same) (below_fit (λ q. has c (members i q)) (curriculum_count i))
+
+pub curricula_few : (i : Problem) (c : ℕ) (qs : List ℕ) → qs ≡ curricula_of i c → IsProblem i → length qs ≤ 20000
+curricula_few i c qs e p = omega (arith, ap length e, below_few (λ q. has c (members i q)) (curriculum_count i), p.curricula_few)
+
+-- the teacher of a course is one of the teachers
+pub teacher_fits : (i : Problem) (c : ℕ) → IsProblem i → c < course_count i → (course_of i c).teacher < teacher_count i
+teacher_fits i c p lt = (Each-at (IsCourseFacts (teacher_count i)) i.courses p.courses c (record { teacher = 0; lectures = 0; min_days = 0; students = 0 }) lt).0
+
+-- each of the numbers that pass stands once among them
+named_once : (p : ℕ → Bool) (r n : ℕ) → count_by (λ q. q == r) (below p n) ≡ cond (p r && ltb r n) 1 0
+named_once p r zero = rw (le-ltb r 0 (omega arith)) (by (p r))
+  where
+    by : (b : Bool) → ◌≡◌ {A = ℕ} 0 (cond (b && false) 1 0)
+    by true = refl
+    by false = refl
+named_once p r (suc n) =
+    sum_by-append (λ q. cond (q == r) 1 0) (below p n) (cond (p n) (n ∷ []) []) ∙ ap (λ m. m + count_by (λ q. q == r) (cond (p n) (n ∷ []) [])) (named_once p r n)
+    ∙ elim (cases_eq n r) [
+      | inl same ↦ (
+          let now : ltb r (suc n) ≡ true = lt-ltb r (suc n) (omega (arith, same)) in
+          let then' : ltb r n ≡ false = le-ltb r n (omega (arith, same)) in
+          rw (now, then', ap p same) (here (p r) (eq-eqb n r same)))
+      | inr other ↦ (
+          let alike : ltb r (suc n) ≡ ltb r n = grind (arith, nat_tests, other) in
+          rw alike (there (p n) (cond (p r && ltb r n) 1 0) (ne_eqb n r other)))
+    ]
+  where
+    here : (b : Bool) → (n == r) ≡ true → cond (b && false) 1 0 + count_by (λ q. q == r) (cond b (n ∷ []) []) ≡ cond (b && true) 1 0
+    here true e = omega (arith, ap (λ c. cond {A = ℕ} c 1 0) e)
+    here false e = refl
+
+    there : (b : Bool) (m : ℕ) → (n == r) ≡ false → m + count_by (λ q. q == r) (cond b (n ∷ []) []) ≡ m
+    there true m e = omega (arith, ap (λ c. cond {A = ℕ} c 1 0) e)
+    there false m e = omega arith
+
+-- a table with w added
+counted_up : (a b : Grid ℕ) (w f g : ℕ → ℕ → ℕ) (rows width : ℕ) → Adds a b w → ((r k : ℕ) → r < rows → k < width → g r k ≡ w r k + f r k) → Counted a rows width f → Counted b rows width g
+counted_up a b w f g rows width adds e h = record {
+  size = (adds.rows ∙ h.size.0, adds.width ∙ h.size.1);
+  counts = λ r k lr lk. omega (arith, adds.sums r k (omega (arith, lk, h.size.1)), e r k lr lk, h.counts r k lr lk);
+}
+
+counted_down : (a b : Grid ℕ) (w f g : ℕ → ℕ → ℕ) (rows width : ℕ) → Adds a b w → ((r k : ℕ) → r < rows → k < width → g r k ≡ w r k + f r k) → Counted b rows width g → Counted a rows width f
+counted_down a b w f g rows width adds e h = record {
+  size = (sym adds.rows ∙ h.size.0, sym adds.width ∙ h.size.1);
+  counts = λ r k lr lk. omega (arith, adds.sums r k (omega (arith, lk, h.size.1, adds.width)), e r k lr lk, h.counts r k lr lk);
+}
+
+module _ (i : Problem) (l : Placed) (t u : List Placed) (more : IsMore l t u) (fits : Fits i l) where
+  lectures_step : (r k : ℕ) → r < 1 → length (course_row k u) ≡ one_at true 0 l.course r k + length (course_row k t)
+  lectures_step r k lr = length-filter (λ x. x.course == k) u ∙ counted_more l t u more (λ x. x.course == k) ∙ ap₂ (λ b n. cond b 1 0 + n) test (sym (length-filter (λ x. x.course == k) t))
+    where
+      test : (l.course == k) ≡ (true && (r == 0 && k == l.course))
+      test = grind (arith, nat_tests)
+
+  days_step : (r k : ℕ) → count_by (on_day i r k) u ≡ one_at true l.course (day_of i l.slot) r k + count_by (on_day i r k) t
+  days_step r k = counted_more l t u more (on_day i r k) ∙ ap (λ b. cond b 1 0 + count_by (on_day i r k) t) test
+    where
+      test : (l.course == r && day_of i l.slot == k) ≡ (true && (r == l.course && k == day_of i l.slot))
+      test = grind (arith, nat_tests)
+
+  rooms_step : (r k : ℕ) → count_by (in_room r k) u ≡ one_at true l.course l.room r k + count_by (in_room r k) t
+  rooms_step r k = counted_more l t u more (in_room r k) ∙ ap (λ b. cond b 1 0 + count_by (in_room r k) t) test
+    where
+      test : (l.course == r && l.room == k) ≡ (true && (r == l.course && k == l.room))
+      test = grind (arith, nat_tests)
+
+  taught_step : (r k : ℕ) → count_by (is_taught i r k) u ≡ one_at true (course_of i l.course).teacher l.slot r k + count_by (is_taught i r k) t
+  taught_step r k = counted_more l t u more (is_taught i r k) ∙ ap (λ b. cond b 1 0 + count_by (is_taught i r k) t) (test (course_of i l.course).teacher)
+    where
+      test : (h : ℕ) → (h == r && l.slot == k) ≡ (true && (r == h && k == l.slot))
+      test h = grind (arith, nat_tests)
+
+  pub used_step : (b : Bool) → b ≡ (count_by (on_day i l.course (day_of i l.slot)) t == 0) → (r k : ℕ) → r < 1 → days_of i (course_row k u) ≡ one_at b 0 l.course r k + days_of i (course_row k t)
+  used_step b is r k lr = elim (cases_eq k l.course) [
+    | inl same ↦ (
+        let own = ap (λ d. days_of i (course_row d u)) same ∙ more_days i l t u more fits ∙ ap (λ d. days_of i (course_row d t) + cond (count_by (on_day i l.course (day_of i l.slot)) t == 0) 1 0) (sym same) in
+        let first : (r == 0) ≡ true = eq-eqb r 0 (omega (arith, lr)) in
+        rw (is, first, eq-eqb k l.course same) (own ∙ by (count_by (on_day i l.course (day_of i l.slot)) t == 0) (days_of i (course_row k t))))
+    | inr other ↦ rw (ne_eqb k l.course other) (same_used i l t u more fits k (ne_eqb k l.course other) ∙ none b (r == 0) (days_of i (course_row k t)))
+  ]
+    where
+      by : (b : Bool) (n : ℕ) → n + cond b 1 0 ≡ cond (b && (true && true)) 1 0 + n
+      by true n = omega arith
+      by false n = omega arith
+
+      none : (a b : Bool) (n : ℕ) → n ≡ cond (a && (b && false)) 1 0 + n
+      none true true n = omega arith
+      none true false n = omega arith
+      none false b n = omega arith
+
+  parts_step : (r k : ℕ) → r < curriculum_count i → count_by (in_slot (members i r) k) u ≡ in_column (curricula_of i l.course) l.slot r k + count_by (in_slot (members i r) k) t
+  parts_step r k lr = counted_more l t u more (in_slot (members i r) k) ∙ ap (λ n. n + count_by (in_slot (members i r) k) t) (by (has l.course (members i r)) (named_once (λ q. has l.course (members i q)) r (curriculum_count i)))
+    where
+      turned : (l.slot == k) ≡ (k == l.slot)
+      turned = grind (arith, nat_tests)
+
+      each : (b c : Bool) → cond (b && c) 1 0 ≡ cond {A = ℕ} c (cond (b && true) 1 0) 0
+      each true true = refl
+      each true false = refl
+      each false true = refl
+      each false false = refl
+
+      by : (b : Bool) → count_by (λ q. q == r) (curricula_of i l.course) ≡ cond (b && ltb r (curriculum_count i)) 1 0 → cond (b && l.slot == k) 1 0 ≡ cond (k == l.slot) (count_by (λ q. q == r) (curricula_of i l.course)) 0
+      by b e = rw (e, lt-ltb r (curriculum_count i) lr, turned) (each b (k == l.slot))
+
+  module _ (a b : Counts) (adds : AddsLecture i l a b) where
+    pub counts_more : AreCounts i t a → AreCounts i u b
+    counts_more h =
+        let new = ap (λ n. n == 0) (h.days.counts l.course (day_of i l.slot) fits.0 (day_fits i l.slot fits.1)) in
+        record {
+          lectures = counted_up a.lectures b.lectures _ _ _ _ _ adds.lectures (λ r k lr lk. lectures_step r k lr) h.lectures;
+          days = counted_up a.days b.days _ _ _ _ _ adds.days (λ r k lr lk. days_step r k) h.days;
+          used = counted_up a.used b.used _ _ _ _ _ adds.used (λ r k lr lk. used_step _ new r k lr) h.used;
+          rooms = counted_up a.rooms b.rooms _ _ _ _ _ adds.rooms (λ r k lr lk. rooms_step r k) h.rooms;
+          parts = counted_up a.parts b.parts _ _ _ _ _ adds.parts (λ r k lr lk. parts_step r k lr) h.parts;
+          taught = counted_up a.taught b.taught _ _ _ _ _ adds.taught (λ r k lr lk. taught_step r k) h.taught;
+        }
+
+    pub counts_less : AreCounts i u b → AreCounts i t a
+    counts_less h =
+        let days = counted_down a.days b.days _ (λ course day. count_by (on_day i course day) t) _ _ _ adds.days (λ r k lr lk. days_step r k) h.days in
+        let new = ap (λ n. n == 0) (days.counts l.course (day_of i l.slot) fits.0 (day_fits i l.slot fits.1)) in
+        record {
+          lectures = counted_down a.lectures b.lectures _ _ _ _ _ adds.lectures (λ r k lr lk. lectures_step r k lr) h.lectures;
+          days = days;
+          used = counted_down a.used b.used _ _ _ _ _ adds.used (λ r k lr lk. used_step _ new r k lr) h.used;
+          rooms = counted_down a.rooms b.rooms _ _ _ _ _ adds.rooms (λ r k lr lk. rooms_step r k) h.rooms;
+          parts = counted_down a.parts b.parts _ _ _ _ _ adds.parts (λ r k lr lk. parts_step r k lr) h.parts;
+          taught = counted_down a.taught b.taught _ _ _ _ _ adds.taught (λ r k lr lk. taught_step r k) h.taught;
+        }
+
+  -- a lecture that is there is counted
+  pub have_lecture : (b : Counts) → IsProblem i → AreCounts i u b → HaveLecture i l b
+  have_lecture b p h =
+      let one : (x y : ℕ) → one_at true x y x y ≡ 1 = λ x y. rw (eq-eqb x x refl, eq-eqb y y refl) refl in
+      let day = day_fits i l.slot fits.1 in
+      record {
+        lectures = omega (arith, h.lectures.counts 0 l.course (omega arith) fits.0, lectures_step 0 l.course (omega arith), one 0 l.course);
+        days = omega (arith, h.days.counts l.course (day_of i l.slot) fits.0 day, days_step l.course (day_of i l.slot), one l.course (day_of i l.slot));
+        used = omega (arith, h.used.counts 0 l.course (omega arith) fits.0, some_day);
+        rooms = omega (arith, h.rooms.counts l.course l.room fits.0 fits.2, rooms_step l.course l.room, one l.course l.room);
+        parts = λ q lt. omega (arith, h.parts.counts q l.slot lt fits.1, parts_step q l.slot lt);
+        taught = omega (arith, h.taught.counts (course_of i l.course).teacher l.slot (teacher_fits i l.course p fits.0) fits.1, taught_step (course_of i l.course).teacher l.slot, one (course_of i l.course).teacher l.slot);
+      }
+    where
+      day_one : one_at true l.course (day_of i l.slot) l.course (day_of i l.slot) ≡ 1
+      day_one = rw (eq-eqb l.course l.course refl, eq-eqb (day_of i l.slot) (day_of i l.slot) refl) refl
+
+      some_day : 1 ≤ days_of i (course_row l.course u)
+      some_day =
+          let term = at_least (λ d. cond (ltb 0 (count_by (on_day i l.course d) u)) 1 0) (day_of i l.slot) i.days (day_fits i l.slot fits.1) in
+          let here : 0 < count_by (on_day i l.course (day_of i l.slot)) u = omega (arith, days_step l.course (day_of i l.slot), day_one) in
+          omega (arith, term, days_counted i l.course u, ap (λ b. cond {A = ℕ} b 1 0) (lt-ltb 0 (count_by (on_day i l.course (day_of i l.slot)) u) here))
+
+-- tables of nothing are the counts of the empty timetable
+abbrev pub IsZero : Grid ℕ → ℕ → ℕ → Type 0
+IsZero g rows width = (r k : ℕ) → r < rows → k < width → at g r k 0 ≡ 0
+
+pub none_counted : (i : Problem) (c : Counts) → HaveSizes i c → IsZero c.lectures 1 (course_count i) → IsZero c.days (course_count i) i.days → IsZero c.used 1 (course_count i) → IsZero c.rooms (course_count i) (room_count i) → IsZero c.parts (curriculum_count i) (slot_count i) → IsZero c.taught (teacher_count i) (slot_count i) → AreCounts i [] c
+none_counted i c h lectures days used rooms parts taught = record {
+  lectures = record { size = h.lectures; counts = lectures };
+  days = record { size = h.days; counts = days };
+  used = record { size = h.used; counts = λ r k lr lk. used r k lr lk ∙ sym (sum_below_zero (λ d. 0) i.days (λ d lt. refl)) };
+  rooms = record { size = h.rooms; counts = rooms };
+  parts = record { size = h.parts; counts = parts };
+  taught = record { size = h.taught; counts = taught };
+}

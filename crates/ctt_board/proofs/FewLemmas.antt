@@ -1,0 +1,56 @@
+-- No count of a timetable is large.
+use Rattle.std.proofs.Common.{◌≡◌, ℕ, zero, suc, ◌+◌, ◌<◌, ◌≤◌, Bool, true, ◌&&◌, ◌==◌, List, [], ◌∷◌, ◌++◌, length, Option, Some, None, refl, ◌∙◌, sym, ap, arith}
+use Rattle.std.specs.List.{filter, count_by, list_any}
+use Rattle.std.proofs.lemmas.Bool.{and_parts}
+use Rattle.std.proofs.lemmas.List.{length-append}
+use Rattle.std.proofs.lemmas.List.Sums.{length-filter}
+use Rattle.ctt_text.specs.Lists.{has}
+use Rattle.ctt_text.specs.Problem.{Problem, IsProblem, course_of, course_count, slot_count, members, day_of}
+use Rattle.ctt_text.specs.Timetable.{IsTimetable, course_row, slot_row}
+use Rattle.ctt_text.specs.declared.placed.Placed.{Placed}
+use Rattle.ctt_rules.proofs.SumLemmas.{count_below_le}
+use Rattle.ctt_board.specs.Cells.{lecture_at, row_below}
+use Rattle.ctt_board.specs.Changes.{room_at}
+use Rattle.ctt_board.specs.Counts.{AreCounts, HaveRoom}
+use Rattle.ctt_board.specs.Grids.{column_below}
+use Rattle.ctt_board.specs.Joining.{on_day, in_room, in_slot, is_taught}
+use Rattle.ctt_board.specs.declared.counts.Counts.{Counts}
+use Rattle.ctt_board.proofs.ClearLemmas.{count_le}
+use Rattle.ctt_board.proofs.GridLemmas.{slot_row_is}
+use Rattle.ctt_board.proofs.RowLemmas.{course_row_is}
+
+one_at_most : (c s : ℕ) (o : Option ℕ) → length (lecture_at c s o) ≤ 1
+one_at_most c s None = omega arith
+one_at_most c s (Some r) = omega arith
+
+row_short : (f : ℕ → Option ℕ) (c n : ℕ) → length (row_below f c n) ≤ n
+row_short f c zero = omega arith
+row_short f c (suc n) = omega (arith, length-append (row_below f c n) (lecture_at c n (f n)), row_short f c n, one_at_most c n (f n))
+
+column_short : (f : ℕ → Option ℕ) (s n : ℕ) → length (column_below f s n) ≤ n
+column_short f s zero = omega arith
+column_short f s (suc n) = omega (arith, length-append (column_below f s n) (lecture_at n s (f n)), column_short f s n, one_at_most n s (f n))
+
+module _ (i : Problem) (t : List Placed) (is : IsTimetable i t) (p : IsProblem i) where
+  course_short : (c : ℕ) → length (course_row c t) ≤ 2000
+  course_short c = omega (arith, ap length (course_row_is i t c is), row_short (λ s. room_at c s t) c (slot_count i), p.slots_few)
+
+  slot_short : (s : ℕ) → length (slot_row s t) ≤ 2000
+  slot_short s = omega (arith, ap length (slot_row_is i t s is), column_short (λ c. room_at c s t) s (course_count i), p.courses_few)
+
+  of_course : (q : Placed → Bool) (c : ℕ) → ((l : Placed) → q l ≡ true → (l.course == c) ≡ true) → count_by q t ≤ 2000
+  of_course q c h = omega (arith, count_le q (λ l. l.course == c) t h, length-filter (λ l. l.course == c) t, course_short c)
+
+  of_slot : (q : Placed → Bool) (s : ℕ) → ((l : Placed) → q l ≡ true → (l.slot == s) ≡ true) → count_by q t ≤ 2000
+  of_slot q s h = omega (arith, count_le q (λ l. l.slot == s) t h, length-filter (λ l. l.slot == s) t, slot_short s)
+
+-- so one more fits
+pub have_room : (i : Problem) (t : List Placed) (c : Counts) → AreCounts i t c → IsTimetable i t → IsProblem i → HaveRoom c
+have_room i t c h is p = record {
+  lectures = λ r k lr lk. omega (arith, h.lectures.counts r k (omega (arith, lr, h.lectures.size.0)) (omega (arith, lk, h.lectures.size.1)), course_short i t is p k);
+  days = λ r k lr lk. omega (arith, h.days.counts r k (omega (arith, lr, h.days.size.0)) (omega (arith, lk, h.days.size.1)), of_course i t is p (on_day i r k) r (λ l e. (and_parts (l.course == r) (day_of i l.slot == k) e).0));
+  used = λ r k lr lk. omega (arith, h.used.counts r k (omega (arith, lr, h.used.size.0)) (omega (arith, lk, h.used.size.1)), count_below_le (λ d. list_any (λ (l : Placed). day_of i l.slot == d) (course_row k t)) i.days, p.days_few);
+  rooms = λ r k lr lk. omega (arith, h.rooms.counts r k (omega (arith, lr, h.rooms.size.0)) (omega (arith, lk, h.rooms.size.1)), of_course i t is p (in_room r k) r (λ l e. (and_parts (l.course == r) (l.room == k) e).0));
+  parts = λ r k lr lk. omega (arith, h.parts.counts r k (omega (arith, lr, h.parts.size.0)) (omega (arith, lk, h.parts.size.1)), of_slot i t is p (in_slot (members i r) k) k (λ l e. (and_parts (has l.course (members i r)) (l.slot == k) e).1));
+  taught = λ r k lr lk. omega (arith, h.taught.counts r k (omega (arith, lr, h.taught.size.0)) (omega (arith, lk, h.taught.size.1)), of_slot i t is p (is_taught i r k) k (λ l e. (and_parts ((course_of i l.course).teacher == r) (l.slot == k) e).1));
+}

@@ -1,0 +1,235 @@
+-- A change fits where the test says so.
+use Rattle.std.proofs.Common.{add-one, ◌≡◌, ◌↔◌, ℕ, zero, suc, leb, take, ◌++◌, ◌+◌, ◌<◌, ◌≤◌, Bool, true, false, cond, not, ltb, ◌&&◌, ◌||◌, ◌==◌, List, [], ◌∷◌, length, get_or, Option, Some, None, is_some, is_none, refl, ◌∙◌, sym, ap, ap₂, subst, arith, inl, inr, ◌⊎◌}
+use Rattle.std.specs.List.{find, list_any, AllByRecursion as Each}
+use Rattle.std.proofs.lemmas.Bool.{cases_Bool, cases_lt, le-ltb, and_parts, le-leb, leb-true, eq-eqb, lt-ltb, ltb-true}
+use Rattle.std.proofs.lemmas.Bool.Decides.{nat_tests}
+use Rattle.ctt_text.specs.Lists.{Pairwise}
+use Rattle.ctt_text.specs.Problem.{Problem, course_of, course_count, slot_count, room_count, clash, is_unavailable}
+use Rattle.ctt_text.specs.Timetable.{before, Fits, course_row, slot_row, with, without}
+use Rattle.ctt_text.specs.declared.placed.Placed.{Placed}
+use Rattle.ctt_text.proofs.TimetableLemmas.{Each-map}
+use Rattle.ctt_rules.specs.Hard.{Lawful, conflicts, share_room}
+use Rattle.ctt_board.specs.Changes.{room_at, room_of, course_named, holder_at, apply_at, apply, in_turn, is_change, CellFits, CellsFit, ChangeFits}
+use Rattle.ctt_board.specs.Cells.{lecture_at}
+use Rattle.ctt_board.specs.Grids.{column_below}
+use Rattle.ctt_board.specs.Fitting.{is_known, is_wanted, is_unhindered, can_come, cell_fits, fits, FitsAsTested}
+use Rattle.ctt_board.specs.declared.cell.Cell.{Cell}
+use Rattle.ctt_board.proofs.AfterLemmas.{one_in_row}
+use Rattle.ctt_board.proofs.BetweenLemmas.{without_lawful, next_lawful, turn_rest, put_has, comes_fits, there_fits, some_room}
+use Rattle.ctt_board.proofs.ClearLemmas.{Each-to_filter}
+use Rattle.ctt_board.proofs.HolderLemmas.{is_in, holder_is, free_else}
+use Rattle.ctt_board.proofs.LawfulLemmas.{Free, with_lawful, clash_comm, eqb_comm}
+use Rattle.ctt_board.proofs.MoreLemmas.{more_with}
+
+find_none : {X : Type 0} (p : X → Bool) (xs : List X) → find p xs ≡ None → Each (λ x. p x ≡ false) xs
+find_none p [] h = tt
+find_none {X = X} p (x ∷ xs) h = elim (cases_Bool (p x)) [
+  | inl b ↦ (let h' : ◌≡◌ {A = Option X} (Some x) None = rw b at h in cc)
+  | inr b ↦ (let h' : find p xs ≡ None = rw b at h in (b, find_none p xs h'))
+]
+
+any_none : {X : Type 0} (p : X → Bool) (xs : List X) → list_any p xs ≡ false → Each (λ x. p x ≡ false) xs
+any_none p [] h = tt
+any_none p (x ∷ xs) h = elim (cases_Bool (p x)) [
+  | inl b ↦ (let h' : true ≡ false = rw b at h in cc)
+  | inr b ↦ (let h' : list_any p xs ≡ false = rw b at h in (b, any_none p xs h'))
+]
+
+pub none_any : {X : Type 0} (p : X → Bool) (xs : List X) → Each (λ x. p x ≡ false) xs → list_any p xs ≡ false
+none_any p [] h = refl
+none_any p (x ∷ xs) h = rw h.0 (none_any p xs h.1)
+
+not_true : (b : Bool) → not b ≡ true → b ≡ false
+not_true true h = cc
+not_true false h = refl
+
+not_some : {X : Type 0} (o : Option X) → is_none o ≡ true → is_some o ≡ false
+not_some None h = refl
+not_some (Some x) h = cc
+
+is_not_some : {X : Type 0} (o : Option X) → is_some o ≡ false → is_none o ≡ true
+is_not_some None h = refl
+is_not_some (Some x) h = cc
+
+no_lecture : (o : Option Placed) → is_none (room_of o) ≡ true → o ≡ None
+no_lecture None h = refl
+no_lecture (Some l) h = cc
+
+no_holder : (o : Option Placed) → is_none (course_named o) ≡ true → o ≡ None
+no_holder None h = refl
+no_holder (Some l) h = cc
+
+module _ (i : Problem) (t : List Placed) (l : Placed) where
+  -- what the test says of a lecture
+  module _ (told : can_come i t l ≡ true) where
+    known : (ltb l.course (course_count i) ≡ true) × ((ltb l.slot (slot_count i) && ltb l.room (room_count i)) ≡ true)
+    known = and_parts (ltb l.course (course_count i)) (ltb l.slot (slot_count i) && ltb l.room (room_count i)) (and_parts (is_known i l) (is_wanted i t l && is_unhindered i t l) told).0
+
+    known_fits : Fits i l
+    known_fits =
+        let rest = and_parts (ltb l.slot (slot_count i)) (ltb l.room (room_count i)) known.1 in
+        (ltb-true l.course (course_count i) known.0, ltb-true l.slot (slot_count i) rest.0, ltb-true l.room (room_count i) rest.1)
+
+    free_there : Free i t l.course l.slot l.room
+    free_there =
+        let both = and_parts (is_wanted i t l) (is_unhindered i t l) (and_parts (is_known i l) (is_wanted i t l && is_unhindered i t l) told).1 in
+        let wanted = and_parts (is_none (room_at l.course l.slot t)) (ltb (length (course_row l.course t)) (course_of i l.course).lectures && not (is_unavailable i l.course l.slot)) both.0 in
+        let room = and_parts (ltb (length (course_row l.course t)) (course_of i l.course).lectures) (not (is_unavailable i l.course l.slot)) wanted.1 in
+        let alone = and_parts (not (list_any (λ (y : Placed). clash i l.course y.course) (slot_row l.slot t))) (is_none (holder_at l.slot l.room t)) both.1 in
+        record {
+          empty = not_some (room_at l.course l.slot t) wanted.0;
+          absent = find_none (λ (y : Placed). y.slot == l.slot) (course_row l.course t) (no_lecture (find (λ (y : Placed). y.slot == l.slot) (course_row l.course t)) wanted.0);
+          fewer = ltb-true (length (course_row l.course t)) (course_of i l.course).lectures room.0;
+          available = not_true (is_unavailable i l.course l.slot) room.1;
+          no_clash = any_none (λ (y : Placed). clash i l.course y.course) (slot_row l.slot t) (not_true (list_any (λ (y : Placed). clash i l.course y.course) (slot_row l.slot t)) alone.0);
+          room_free = find_none (λ (y : Placed). y.room == l.room) (slot_row l.slot t) (no_holder (find (λ (y : Placed). y.room == l.room) (slot_row l.slot t)) alone.1);
+        }
+
+  -- a timetable that is lawful with it
+  module _ (lawful : Lawful i (with l t)) (empty : is_some (room_at l.course l.slot t) ≡ false) where
+    is_known_here : is_known i l ≡ true
+    is_known_here = (let f = comes_fits i l t lawful in rw (lt-ltb l.course (course_count i) f.0, lt-ltb l.slot (slot_count i) f.1, lt-ltb l.room (room_count i) f.2) refl)
+
+    is_wanted_here : is_wanted i t l ≡ true
+    is_wanted_here =
+        let own : length (course_row l.course (with l t)) ≡ 1 + length (course_row l.course t) = one_in_row l t (with l t) l.course (more_with l t) ∙ ap (λ b. cond {A = ℕ} b 1 0 + length (course_row l.course t)) (eq-eqb l.course l.course refl) in
+        let fewer : length (course_row l.course t) < (course_of i l.course).lectures = omega (arith, own, lawful.few l.course) in
+        let available : is_unavailable i l.course l.slot ≡ false = put_has (λ x. is_unavailable i x.course x.slot ≡ false) l t lawful.available in
+        rw (is_not_some (room_at l.course l.slot t) empty, lt-ltb (length (course_row l.course t)) (course_of i l.course).lectures fewer, available) refl
+
+    turned : (a b : Placed) → conflicts i a b ≡ false → conflicts i b a ≡ false
+    turned a b h = ap₂ (λ x y. x && y) (eqb_comm b.slot a.slot) (clash_comm i b.course a.course) ∙ h
+
+    none_here : (y : Placed) → conflicts i y l ≡ false → (y.slot == l.slot) ≡ true → clash i l.course y.course ≡ false
+    none_here y h here = (let h' : clash i y.course l.course ≡ false = (rw here at h) in clash_comm i l.course y.course ∙ h')
+
+    no_conflict : (xs : List Placed) → Pairwise (λ a b. conflicts i a b ≡ false) (with l xs) → Each (λ x. conflicts i x l ≡ false) xs
+    no_conflict [] h = tt
+    no_conflict (x ∷ xs) h = at (cases_Bool (before l x)) (no_conflict xs)
+      where
+        at : (before l x ≡ true) ⊎ (before l x ≡ false) → (Pairwise (λ a b. conflicts i a b ≡ false) (with l xs) → Each (λ z. conflicts i z l ≡ false) xs) → Each (λ z. conflicts i z l ≡ false) (x ∷ xs)
+        at (inl y) more = (let h' : Pairwise (λ a b. conflicts i a b ≡ false) (l ∷ x ∷ xs) = (rw y at h) in Each-map (λ z. conflicts i l z ≡ false) (λ z. conflicts i z l ≡ false) (λ z k. turned l z k) (x ∷ xs) h'.0)
+        at (inr n) more = (let h' : Pairwise (λ a b. conflicts i a b ≡ false) (x ∷ with l xs) = (rw n at h) in (put_has (λ z. conflicts i x z ≡ false) l xs h'.0, more h'.1))
+
+    is_unhindered_here : is_unhindered i t l ≡ true
+    is_unhindered_here =
+        let clear = Each-to_filter (λ (y : Placed). clash i l.course y.course ≡ false) (λ y. y.slot == l.slot) t (Each-map (λ y. conflicts i y l ≡ false) (λ y. (y.slot == l.slot) ≡ true → clash i l.course y.course ≡ false) none_here t (no_conflict t lawful.conflict_free)) in
+        let mine : is_in l.slot l.room l ≡ true = rw (eq-eqb l.slot l.slot refl, eq-eqb l.room l.room refl) refl in
+        let nobody : holder_at l.slot l.room t ≡ None = holder_is l.slot l.room t ∙ ap course_named (free_else l l.slot l.room t lawful.rooms_apart mine) in
+        rw (none_any (λ (y : Placed). clash i l.course y.course) (slot_row l.slot t) clear, nobody) refl
+
+    can_come_here : can_come i t l ≡ true
+    can_come_here = rw (is_known_here, is_wanted_here, is_unhindered_here) refl
+
+-- one cell
+cell_to : (i : Problem) (t : List Placed) (c s : ℕ) (o : Option ℕ) → Lawful i t → cell_fits i t c s o ≡ true → CellFits t c s o × Lawful i (apply_at c s o t)
+cell_to i t c s None h told = (told, without_lawful i t c s h)
+cell_to i t c s (Some r) h told =
+    let l : Placed = record { course = c; slot = s; room = r } in
+    let free = free_there i t l told in
+    (free.empty, with_lawful i t c s r h (known_fits i t l told) free)
+
+cell_from : (i : Problem) (t : List Placed) (c s : ℕ) (o : Option ℕ) → CellFits t c s o → Lawful i (apply_at c s o t) → cell_fits i t c s o ≡ true
+cell_from i t c s None fit h = fit
+cell_from i t c s (Some r) fit h = can_come_here i t (record { course = c; slot = s; room = r }) h fit
+
+pub fits_to : (i : Problem) (cells : List Cell) (t : List Placed) → Lawful i t → fits i cells t ≡ true → ChangeFits i cells t
+fits_to i [] t h told = record { cells_fit = tt; lawful = h }
+fits_to i (x ∷ xs) t h told =
+    let both = and_parts (cell_fits i t x.course x.slot x.room) (fits i xs (apply_at x.course x.slot x.room t)) told in
+    let first = cell_to i t x.course x.slot x.room h both.0 in
+    let rest = fits_to i xs (apply_at x.course x.slot x.room t) first.1 both.1 in
+    record { cells_fit = (first.0, rest.cells_fit); lawful = rest.lawful }
+
+fits_from : (i : Problem) (cells : List Cell) (t : List Placed) → Lawful i t → in_turn false cells ≡ true → CellsFit cells t → Lawful i (apply cells t) → fits i cells t ≡ true
+fits_from i [] t h turn fit after = refl
+fits_from i (x ∷ xs) t h turn fit after =
+    let next = next_lawful i x xs t h turn fit after in
+    rw (cell_from i t x.course x.slot x.room fit.0 next) (fits_from i xs (apply_at x.course x.slot x.room t) next (turn_rest x xs turn) fit.1 after)
+
+pub fits_as_tested : FitsAsTested
+fits_as_tested i cells t h turn = ((λ told. fits_to i cells t h told), (λ fit. fits_from i cells t h turn fit.cells_fit fit.lawful))
+
+pub fits_of : (i : Problem) (l : Placed) → is_known i l ≡ true → Fits i l
+fits_of i l told =
+    let known = and_parts (ltb l.course (course_count i)) (ltb l.slot (slot_count i) && ltb l.room (room_count i)) told in
+    let rest = and_parts (ltb l.slot (slot_count i)) (ltb l.room (room_count i)) known.1 in
+    (ltb-true l.course (course_count i) known.0, ltb-true l.slot (slot_count i) rest.0, ltb-true l.room (room_count i) rest.1)
+
+-- a change, up to one of its cells
+turn_take : (b : Bool) (k : ℕ) (cells : List Cell) → in_turn b cells ≡ true → in_turn b (take k cells) ≡ true
+turn_take b zero cells h = refl
+turn_take b (suc k) [] h = refl
+turn_take b (suc k) (x ∷ xs) h =
+    let both = and_parts (not (b && is_none x.room)) (in_turn (b || is_some x.room) xs) h in
+    rw both.0 (turn_take (b || is_some x.room) k xs both.1)
+
+take_short : (k : ℕ) (cells : List Cell) → length (take k cells) ≤ length cells
+take_short zero cells = omega arith
+take_short (suc k) [] = omega arith
+take_short (suc k) (x ∷ xs) = omega (arith, take_short k xs)
+
+pub change_take : (k : ℕ) (cells : List Cell) → is_change cells ≡ true → is_change (take k cells) ≡ true
+change_take k cells h =
+    let both = and_parts (leb (length cells) 4) (in_turn false cells) h in
+    rw (le-leb (length (take k cells)) 4 (omega (arith, take_short k cells, leb-true (length cells) 4 both.0)), turn_take false k cells both.1) refl
+
+-- a change of which some cell cannot be made, when its turn comes
+pub refused : (i : Problem) (cells : List Cell) (k : ℕ) (x : Cell) (t : List Placed) → k < length cells → x ≡ get_or cells k x → cell_fits i (apply (take k cells) t) x.course x.slot x.room ≡ false → fits i cells t ≡ false
+refused i [] k x t lt is bad = absurd (omega (arith, lt))
+refused i (y ∷ ys) zero x t lt is bad = (let no' : cell_fits i t y.course y.slot y.room ≡ false = subst (λ z. cell_fits i t z.course z.slot z.room ≡ false) is bad in rw no' refl)
+refused i (y ∷ ys) (suc k) x t lt is bad = rw (refused i ys k x (apply_at y.course y.slot y.room t) (omega (arith, lt)) is bad) (by (cell_fits i t y.course y.slot y.room))
+  where
+    by : (a : Bool) → (a && false) ≡ false
+    by true = refl
+    by false = refl
+
+-- and one of which one more cell can be made
+pub passed : (i : Problem) (cells : List Cell) (k : ℕ) (x : Cell) (t : List Placed) → k < length cells → x ≡ get_or cells k x → fits i (take k cells) t ≡ true → cell_fits i (apply (take k cells) t) x.course x.slot x.room ≡ true → fits i (take (suc k) cells) t ≡ true
+passed i [] k x t lt is so_far good = absurd (omega (arith, lt))
+passed i (y ∷ ys) zero x t lt is so_far good = (let here : cell_fits i t y.course y.slot y.room ≡ true = subst (λ z. cell_fits i t z.course z.slot z.room ≡ true) is good in rw here refl)
+passed i (y ∷ ys) (suc k) x t lt is so_far good =
+    let both = and_parts (cell_fits i t y.course y.slot y.room) (fits i (take k ys) (apply_at y.course y.slot y.room t)) so_far in
+    rw both.0 (passed i ys k x (apply_at y.course y.slot y.room t) (omega (arith, lt)) is both.1 good)
+
+-- nothing stands in a slot that is none
+pub no_slot : (i : Problem) (c s : ℕ) (t : List Placed) → Lawful i t → slot_count i ≤ s → is_some (room_at c s t) ≡ false
+no_slot i c s t h le = elim (cases_Bool (is_some (room_at c s t))) [
+  | inl y ↦ (let stood = some_room (room_at c s t) y in let f = there_fits i c s stood.0 t h stood.1 in absurd (omega (arith, f.1, le)))
+  | inr n ↦ n
+]
+
+-- a test on the courses in a slot, course by course
+any_both : {X : Type 0} (p : X → Bool) (xs ys : List X) → list_any p (xs ++ ys) ≡ (list_any p xs || list_any p ys)
+any_both p [] ys = refl
+any_both p (x ∷ xs) ys = ap (λ b. p x || b) (any_both p xs ys) ∙ by (p x)
+  where
+    by : (a : Bool) → (a || (list_any p xs || list_any p ys)) ≡ ((a || list_any p xs) || list_any p ys)
+    by true = refl
+    by false = refl
+
+module _ (q : ℕ → Bool) (f : ℕ → Option ℕ) (s : ℕ) where
+  one_any : (n : ℕ) → list_any (λ (y : Placed). q y.course) (lecture_at n s (f n)) ≡ (is_some (f n) && q n)
+  one_any n = by (f n) (q n) refl
+    where
+      by : (o : Option ℕ) (b : Bool) → q n ≡ b → list_any (λ (y : Placed). q y.course) (lecture_at n s o) ≡ (is_some o && b)
+      by None b e = refl
+      by (Some r) true e = rw e refl
+      by (Some r) false e = rw e refl
+
+  pub any_next : (n : ℕ) → list_any (λ (y : Placed). q y.course) (column_below f s n) ≡ false → (is_some (f n) && q n) ≡ false → list_any (λ (y : Placed). q y.course) (column_below f s (n + 1)) ≡ false
+  any_next n h e = rw add-one (any_both (λ (y : Placed). q y.course) (column_below f s n) (lecture_at n s (f n)) ∙ ap₂ (λ a b. a || b) h (one_any n ∙ e))
+
+  pub any_there : (n m : ℕ) → n < m → (is_some (f n) && q n) ≡ true → list_any (λ (y : Placed). q y.course) (column_below f s m) ≡ true
+  any_there n zero lt e = absurd (omega (arith, lt))
+  any_there n (suc m) lt e = any_both (λ (y : Placed). q y.course) (column_below f s m) (lecture_at m s (f m)) ∙ elim (cases_lt n m) [
+    | inl less ↦ rw (any_there n m less e) refl
+    | inr same ↦ (
+        let is : n ≡ m = omega (arith, lt, same) in
+        let e' : (is_some (f m) && q m) ≡ true = subst (λ k. (is_some (f k) && q k) ≡ true) is e in
+        rw (one_any m ∙ e') (by (list_any (λ (y : Placed). q y.course) (column_below f s m))))
+  ]
+    where
+      by : (a : Bool) → (a || true) ≡ true
+      by true = refl
+      by false = refl

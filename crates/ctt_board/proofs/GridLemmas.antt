@@ -1,0 +1,149 @@
+-- A timetable is the list of its cells, and so what a table of rooms shows.
+use Rattle.std.proofs.Common.{◌≡◌, ℕ, zero, suc, ◌<◌, ◌≤◌, Bool, true, false, cond, ◌&&◌, ◌==◌, ltb, List, [], ◌++◌, ◌+◌, Option, Some, None, is_some, add-one, append_assoc, refl, ◌∙◌, sym, ap, ap₂, subst, arith}
+use Rattle.std.specs.List.{filter, sum_by, count_by, AllByRecursion as Each}
+use Rattle.std.proofs.lemmas.Bool.{lt-ltb, le-ltb}
+use Rattle.std.proofs.lemmas.Bool.Decides.{nat_tests}
+use Rattle.ctt_text.specs.Problem.{Problem, course_count, slot_count}
+use Rattle.ctt_text.specs.Timetable.{before, IsTimetable, Fits, course_row, slot_row, with, without}
+use Rattle.ctt_text.specs.declared.placed.Placed.{Placed}
+use Rattle.ctt_text.proofs.TimetableLemmas.{Each-map}
+use Rattle.ctt_rules.specs.Hard.{Lawful}
+use Rattle.ctt_rules.specs.Penalty.{penalty, days_of}
+use Rattle.ctt_board.specs.Joining.{Joins, with_joining, without_joining}
+use Rattle.ctt_board.specs.Seen.{Sees}
+use Rattle.ctt_board.specs.declared.joining.Joining.{Joining}
+use Rattle.ctt_board.specs.declared.later.Later.{Later}
+use Rattle.ctt_rules.specs.declared.cost.Cost.{Cost}
+use Rattle.ctt_rules.proofs.ListLemmas.{filter_none, filter_every, Each-filter, Pairwise-filter, Each-filter_passes}
+use Rattle.ctt_rules.proofs.TimetableLemmas.{row_by_slot}
+use Rattle.ctt_board.specs.Changes.{room_at, apply_at, CellFits}
+use Rattle.ctt_board.specs.Cells.{lecture_at, row_below}
+use Rattle.ctt_board.specs.Tables.{Grid, at}
+use Rattle.ctt_board.specs.Counts.{AreCounts, HaveSizes, HasSize}
+use Rattle.ctt_board.specs.Grids.{rows_below, column_below, listed, AreRooms, AreHolders, IsGridSheet}
+use Rattle.ctt_board.specs.declared.counts.Counts.{Counts}
+use Rattle.ctt_board.proofs.PutLemmas.{Pairwise-map, filter_filter}
+use Rattle.ctt_board.proofs.RowLemmas.{split_at, one_slot, course_row_is}
+use Rattle.ctt_board.proofs.RoomLemmas.{room_after}
+
+rows_are : (i : Problem) (t : List Placed) (n : ℕ) → IsTimetable i t → filter (λ l. ltb l.course n) t ≡ rows_below (λ c s. room_at c s t) (slot_count i) n
+rows_are i t zero h = filter_none (λ l. ltb l.course 0) t (Each-map (Fits i) (λ l. ltb l.course 0 ≡ false) (λ l k. le-ltb l.course 0 (omega arith)) t h.fits)
+rows_are i t (suc n) h =
+    split_at (λ (l : Placed). l.course) n t (Pairwise-map (λ a b. before a b ≡ true) (λ (a b : Placed). a.course ≤ b.course) (λ a b k. grind (arith, nat_tests)) t h.ascending)
+    ∙ ap₂ (λ a b. a ++ b) (rows_are i t n h) (course_row_is i t n h)
+
+-- a timetable is what its cells say
+pub timetable_is : (i : Problem) (t : List Placed) → IsTimetable i t → t ≡ rows_below (λ c s. room_at c s t) (slot_count i) (course_count i)
+timetable_is i t h =
+    let courses : Each (λ (l : Placed). ltb l.course (course_count i) ≡ true) t = Each-map (Fits i) (λ (l : Placed). ltb l.course (course_count i) ≡ true) (λ l f. lt-ltb l.course (course_count i) f.0) t h.fits in
+    sym (filter_every (λ (l : Placed). ltb l.course (course_count i)) t courses) ∙ rows_are i t (course_count i) h
+
+-- cells that are the same list the same
+pub row_same : (f g : ℕ → Option ℕ) (c n : ℕ) → ((s : ℕ) → s < n → f s ≡ g s) → row_below f c n ≡ row_below g c n
+row_same f g c zero e = refl
+row_same f g c (suc n) e = ap₂ (λ a b. a ++ lecture_at c n b) (row_same f g c n (λ s lt. e s (omega (arith, lt)))) (e n (omega arith))
+
+rows_same : (f g : ℕ → ℕ → Option ℕ) (m n : ℕ) → ((c s : ℕ) → c < n → s < m → f c s ≡ g c s) → rows_below f m n ≡ rows_below g m n
+rows_same f g m zero e = refl
+rows_same f g m (suc n) e = ap₂ (λ a b. a ++ b) (rows_same f g m n (λ c s lt k. e c s (omega (arith, lt)) k)) (row_same (f n) (g n) n m (λ s lt. e n s (omega arith) lt))
+
+-- a table that has the rooms of a timetable shows it
+pub shown : (i : Problem) (t : List Placed) (g : Grid (Option ℕ)) → IsTimetable i t → AreRooms i t g → listed i g ≡ t
+shown i t g h rooms = rows_same (λ c s. at g c s None) (λ c s. room_at c s t) (slot_count i) (course_count i) rooms.rooms ∙ sym (timetable_is i t h)
+
+pub row_shown : (i : Problem) (t : List Placed) (g : Grid (Option ℕ)) (c : ℕ) → IsTimetable i t → AreRooms i t g → c < course_count i → row_below (λ s. at g c s None) c (slot_count i) ≡ course_row c t
+row_shown i t g c h rooms lt = row_same (λ s. at g c s None) (λ s. room_at c s t) c (slot_count i) (λ s k. rooms.rooms c s lt k) ∙ sym (course_row_is i t c h)
+
+-- the rooms after a cell
+abbrev pub WroteRoom : Problem → Grid (Option ℕ) → Grid (Option ℕ) → ℕ → ℕ → Option ℕ → Type 0
+WroteRoom i old new c s o = (d e : ℕ) → e < slot_count i → at new d e None ≡ cond (d == c && e == s) o (at old d e None)
+
+pub rooms_after_cell : (i : Problem) (t : List Placed) (old new : Grid (Option ℕ)) (c s : ℕ) (o : Option ℕ) → AreRooms i t old → new.rows ≡ old.rows → new.width ≡ old.width → WroteRoom i old new c s o → CellFits t c s o → AreRooms i (apply_at c s o t) new
+rooms_after_cell i t old new c s o h rows width wrote fits = record {
+  size = (rows ∙ h.size.0, width ∙ h.size.1);
+  rooms = λ d e ld le. wrote d e le ∙ ap (cond (d == c && e == s) o) (h.rooms d e ld le) ∙ ap (λ b. cond b o (room_at d e t)) (turned d e) ∙ sym (room_after c s o d e t fits);
+}
+  where
+    turned : (d e : ℕ) → (d == c && e == s) ≡ (c == d && s == e)
+    turned d e = grind (arith, nat_tests)
+
+-- tables and costs that are those of a timetable make a sheet
+pub made : (i : Problem) (u : List Placed) (rooms courses : Grid (Option ℕ)) (counts : Counts) (cost : Cost) → Lawful i u → AreRooms i u rooms → AreHolders i u courses → AreCounts i u counts → cost ≡ penalty i u → IsGridSheet i rooms courses counts cost
+made i u rooms courses counts cost lawful are_rooms are_courses are_counts costs =
+    let e : u ≡ listed i rooms = sym (shown i u rooms lawful.timetable are_rooms) in
+    record {
+      lawful = subst (Lawful i) e lawful;
+      rooms_are = subst (λ t. AreRooms i t rooms) e are_rooms;
+      courses_are = subst (λ t. AreHolders i t courses) e are_courses;
+      counts_are = subst (λ t. AreCounts i t counts) e are_counts;
+      cost_is = costs ∙ ap (penalty i) e;
+    }
+
+pub have_sizes : (i : Problem) (t : List Placed) (c : Counts) → AreCounts i t c → HaveSizes i c
+have_sizes i t c h = record { lectures = h.lectures.size; days = h.days.size; used = h.used.size; rooms = h.rooms.size; parts = h.parts.size; taught = h.taught.size }
+
+-- a lecture more
+pub with_rooms : (i : Problem) (t : List Placed) (old new : Grid (Option ℕ)) (l : Placed) → AreRooms i t old → new.rows ≡ old.rows → new.width ≡ old.width → WroteRoom i old new l.course l.slot (Some l.room) → is_some (room_at l.course l.slot t) ≡ false → AreRooms i (with l t) new
+with_rooms i t old new l h rows width wrote empty = rooms_after_cell i t old new l.course l.slot (Some l.room) h rows width wrote empty
+
+-- one less
+pub without_rooms : (i : Problem) (t : List Placed) (old new : Grid (Option ℕ)) (c s r : ℕ) → AreRooms i t old → new.rows ≡ old.rows → new.width ≡ old.width → WroteRoom i old new c s None → room_at c s t ≡ Some r → AreRooms i (without c s t) new
+without_rooms i t old new c s r h rows width wrote there = rooms_after_cell i t old new c s None h rows width wrote (ap is_some there)
+
+cost_same : (a b : Cost) → a.capacity ≡ b.capacity → a.days ≡ b.days → a.compactness ≡ b.compactness → a.stability ≡ b.stability → a ≡ b
+cost_same a b e f g h =
+    ap₂ (λ x y. record { capacity = x; days = y; compactness = a.compactness; stability = a.stability }) e f
+    ∙ ap₂ (λ x y. record { capacity = b.capacity; days = b.days; compactness = x; stability = y }) g h
+
+-- the costs with a lecture, and without it
+pub cost_with : (i : Problem) (t u : List Placed) (j : Joining) → Joins i t u j → with_joining (penalty i t) j ≡ penalty i u
+cost_with i t u j h = cost_same (with_joining (penalty i t) j) (penalty i u) (omega (arith, h.capacity)) (omega (arith, h.days)) (omega (arith, h.compactness)) (omega (arith, h.stability))
+
+pub cost_without : (i : Problem) (t u : List Placed) (j : Joining) → Joins i t u j → without_joining (penalty i u) j ≡ penalty i t
+cost_without i t u j h = cost_same (without_joining (penalty i u) j) (penalty i t) (omega (arith, h.capacity)) (omega (arith, h.days)) (omega (arith, h.compactness)) (omega (arith, h.stability))
+
+-- nothing leaves and nothing comes
+pub sees_now : (i : Problem) (t : List Placed) (v : Later) (c : Counts) → AreCounts i t c → v.counts.now ≡ c → v.removed.items ≡ [] → v.added.items ≡ [] → v.gone.items ≡ [] → v.fresh.items ≡ [] → Sees i v t
+sees_now i t v c h e1 e2 e3 e4 e5 = record {
+  base = t;
+  counts = subst (λ x. AreCounts i t x) (sym e1) h;
+  balance = λ f. ap (λ a. sum_by f t + sum_by f a) (e2 ∙ sym e3);
+  days = λ d lt. ap (λ a. days_of i (course_row d t) + count_by (λ x. x == d) a) (e4 ∙ sym e5);
+}
+
+-- one cell more
+pub row_goes_on : (xs : List Placed) (f : ℕ → Option ℕ) (c n m : ℕ) → m ≡ n → ((xs ++ row_below f c n) ++ lecture_at c m (f m)) ≡ xs ++ row_below f c (n + 1)
+row_goes_on xs f c n m e = rw (add-one, e) (append_assoc xs (row_below f c n) (lecture_at c n (f n)))
+
+pub column_goes_on : (f : ℕ → Option ℕ) (s n m : ℕ) → m ≡ n → (column_below f s n ++ lecture_at m s (f m)) ≡ column_below f s (n + 1)
+column_goes_on f s n m e = rw (add-one, e) refl
+
+-- the lectures in a slot, course by course
+module _ (i : Problem) (t : List Placed) (s : ℕ) (h : IsTimetable i t) where
+  one_course : (n : ℕ) → filter (λ l. l.course == n) (slot_row s t) ≡ lecture_at n s (room_at n s t)
+  one_course n = filter_filter (λ (l : Placed). l.course == n) (λ (l : Placed). l.slot == s) t ∙ one_slot n s (course_row n t) (Each-filter_passes (λ l. l.course == n) t) (row_by_slot n t h.ascending)
+
+  column_is : (n : ℕ) → filter (λ l. ltb l.course n) (slot_row s t) ≡ column_below (λ c. room_at c s t) s n
+  column_is zero = filter_none (λ l. ltb l.course 0) (slot_row s t) (Each-map (Fits i) (λ l. ltb l.course 0 ≡ false) (λ l k. le-ltb l.course 0 (omega arith)) (slot_row s t) (Each-filter (Fits i) (λ l. l.slot == s) t h.fits))
+  column_is (suc n) =
+      split_at (λ (l : Placed). l.course) n (slot_row s t) (Pairwise-map (λ a b. before a b ≡ true) (λ (a b : Placed). a.course ≤ b.course) (λ a b k. grind (arith, nat_tests)) (slot_row s t) (Pairwise-filter (λ a b. before a b ≡ true) (λ l. l.slot == s) t h.ascending))
+      ∙ ap₂ (λ a b. a ++ b) (column_is n) (one_course n)
+
+  pub slot_row_is : slot_row s t ≡ column_below (λ c. room_at c s t) s (course_count i)
+  slot_row_is =
+      let courses : Each (λ (l : Placed). ltb l.course (course_count i) ≡ true) (slot_row s t) = Each-map (Fits i) (λ (l : Placed). ltb l.course (course_count i) ≡ true) (λ l f. lt-ltb l.course (course_count i) f.0) (slot_row s t) (Each-filter (Fits i) (λ l. l.slot == s) t h.fits) in
+      sym (filter_every (λ (l : Placed). ltb l.course (course_count i)) (slot_row s t) courses) ∙ column_is (course_count i)
+
+  pub column_shown : (g : Grid (Option ℕ)) → AreRooms i t g → s < slot_count i → column_below (λ c. at g c s None) s (course_count i) ≡ slot_row s t
+  column_shown g rooms lt = column_same (λ c. at g c s None) (λ c. room_at c s t) (course_count i) (λ c lc. rooms.rooms c s lc lt) ∙ sym slot_row_is
+    where
+      column_same : (f f2 : ℕ → Option ℕ) (n : ℕ) → ((c : ℕ) → c < n → f c ≡ f2 c) → column_below f s n ≡ column_below f2 s n
+      column_same f f2 zero e = refl
+      column_same f f2 (suc n) e = ap₂ (λ a b. a ++ lecture_at n s b) (column_same f f2 n (λ c lt. e c (omega (arith, lt)))) (e n (omega arith))
+
+-- the empty timetable
+pub none_lawful : (i : Problem) → Lawful i []
+none_lawful i = record { timetable = record { ascending = tt; fits = tt }; conflict_free = tt; available = tt; rooms_apart = tt; few = λ c. omega arith }
+
+pub no_rooms : (i : Problem) (g : Grid (Option ℕ)) → HasSize g (course_count i) (slot_count i) → ((c s : ℕ) → c < course_count i → s < slot_count i → at g c s None ≡ None) → AreRooms i [] g
+no_rooms i g size none = record { size = size; rooms = none }

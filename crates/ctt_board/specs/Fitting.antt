@@ -1,0 +1,38 @@
+-- Whether a change fits, as a test.
+use Rattle.std.specs.Prelude.{◌≡◌, ◌↔◌, ℕ, Bool, true, false, not, ◌&&◌, nat_lt, List, [], ◌∷◌, length, Option, Some, None, is_some, is_none}
+use Rattle.std.specs.List.{list_any}
+use Rattle.ctt_text.specs.Problem.{Problem, course_of, course_count, slot_count, room_count, clash, is_unavailable}
+use Rattle.ctt_text.specs.Timetable.{course_row, slot_row}
+use Rattle.ctt_text.specs.declared.placed.Placed.{Placed}
+use Rattle.ctt_rules.specs.Hard.{Lawful}
+use Rattle.ctt_board.specs.Changes.{room_at, holder_at, apply_at, in_turn, ChangeFits}
+use Rattle.ctt_board.specs.declared.cell.Cell.{Cell}
+
+-- its numbers are those of the instance
+abbrev pub is_known : Problem → Placed → Bool
+is_known i l = nat_lt l.course (course_count i) && (nat_lt l.slot (slot_count i) && nat_lt l.room (room_count i))
+
+-- its course can have one more lecture, in this slot
+abbrev pub is_wanted : Problem → List Placed → Placed → Bool
+is_wanted i t l = is_none (room_at l.course l.slot t) && (nat_lt (length (course_row l.course t)) (course_of i l.course).lectures && not (is_unavailable i l.course l.slot))
+
+-- and nothing in the slot is against it
+abbrev pub is_unhindered : Problem → List Placed → Placed → Bool
+is_unhindered i t l = not (list_any (λ (y : Placed). clash i l.course y.course) (slot_row l.slot t)) && is_none (holder_at l.slot l.room t)
+
+-- a lecture can be added to a lawful timetable
+abbrev pub can_come : Problem → List Placed → Placed → Bool
+can_come i t l = is_known i l && (is_wanted i t l && is_unhindered i t l)
+
+abbrev pub cell_fits : Problem → List Placed → ℕ → ℕ → Option ℕ → Bool
+cell_fits i t c s None = is_some (room_at c s t)
+cell_fits i t c s (Some r) = can_come i t (record { course = c; slot = s; room = r })
+
+-- each cell when its turn comes
+abbrev pub fits : Problem → List Cell → List Placed → Bool
+fits i [] t = true
+fits i (x ∷ xs) t = cell_fits i t x.course x.slot x.room && fits i xs (apply_at x.course x.slot x.room t)
+
+-- of a lawful timetable the test is true exactly where the change fits
+abbrev pub FitsAsTested : Type 0
+FitsAsTested = (i : Problem) (cells : List Cell) (t : List Placed) → Lawful i t → in_turn false cells ≡ true → (fits i cells t ≡ true) ↔ ChangeFits i cells t

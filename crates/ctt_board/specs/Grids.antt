@@ -1,0 +1,44 @@
+-- A sheet of tables.
+use Rattle.std.specs.Prelude.{◌≡◌, ◌<◌, ℕ, zero, suc, List, [], ◌++◌, Option, None}
+use Rattle.ctt_text.specs.Problem.{Problem, course_count, slot_count, room_count}
+use Rattle.ctt_text.specs.declared.placed.Placed.{Placed}
+use Rattle.ctt_rules.specs.Hard.{Lawful}
+use Rattle.ctt_rules.specs.Penalty.{penalty}
+use Rattle.ctt_rules.specs.declared.cost.Cost.{Cost}
+use Rattle.ctt_board.specs.Changes.{room_at, holder_at}
+use Rattle.ctt_board.specs.Cells.{row_below, lecture_at}
+use Rattle.ctt_board.specs.Tables.{Grid, at}
+use Rattle.ctt_board.specs.Counts.{HasSize, AreCounts}
+use Rattle.ctt_board.specs.declared.counts.Counts.{Counts}
+
+-- the lectures of the courses below n, in m slots
+abbrev pub rows_below : (ℕ → ℕ → Option ℕ) → ℕ → ℕ → List Placed
+rows_below f m zero = []
+rows_below f m (suc n) = rows_below f m n ++ row_below (f n) n m
+
+-- the lectures in a slot, of the courses below n
+abbrev pub column_below : (ℕ → Option ℕ) → ℕ → ℕ → List Placed
+column_below f s zero = []
+column_below f s (suc n) = column_below f s n ++ lecture_at n s (f n)
+
+-- the lectures that a table of rooms shows
+abbrev pub listed : Problem → Grid (Option ℕ) → List Placed
+listed i rooms = rows_below (λ c s. at rooms c s None) (slot_count i) (course_count i)
+
+-- the rooms by course and slot
+pub record AreRooms (i : Problem) (t : List Placed) (g : Grid (Option ℕ)) : Type 0 where
+  pub size : HasSize g (course_count i) (slot_count i)
+  pub rooms : (c s : ℕ) → c < course_count i → s < slot_count i → at g c s None ≡ room_at c s t
+
+-- the courses by slot and room
+pub record AreHolders (i : Problem) (t : List Placed) (g : Grid (Option ℕ)) : Type 0 where
+  pub size : HasSize g (slot_count i) (room_count i)
+  pub courses : (s r : ℕ) → s < slot_count i → r < room_count i → at g s r None ≡ holder_at s r t
+
+-- each table is what the timetable says, and so are the costs
+pub record IsGridSheet (i : Problem) (rooms courses : Grid (Option ℕ)) (counts : Counts) (cost : Cost) : Type 0 where
+  pub lawful : Lawful i (listed i rooms)
+  pub rooms_are : AreRooms i (listed i rooms) rooms
+  pub courses_are : AreHolders i (listed i rooms) courses
+  pub counts_are : AreCounts i (listed i rooms) counts
+  pub cost_is : cost ≡ penalty i (listed i rooms)

@@ -1,0 +1,126 @@
+//! The lectures of a timetable, counted.
+
+ghost use Rattle.std.specs.Prelude.{◌≡◌, ◌<◌, true, IfOk, []};
+ghost use Rattle.ctt_text.specs.Problem.{course_count, slot_count, room_count};
+ghost use Rattle.ctt_text.specs.Timetable.{Fits};
+ghost use Rattle.ctt_board.specs.Counts.{AreCounts, HaveSizes, HaveRoom, HaveLecture, AddsLecture, HaveAtMost};
+
+use crate::table::Table;
+use crate::tally::{add, add_column, are_at_most, take, take_column};
+use ctt_text::{CourseNo, Instance, Placed, SlotNo};
+use std::alloc::{AllocError, Global};
+
+/// The counts of a timetable that its costs are made of.
+#[derive(Debug, Drop)]
+pub(crate) struct Counts {
+    /// The lectures of each course, in one row.
+    pub(crate) lectures: Table<u16>,
+    /// Those of each course on each day.
+    pub(crate) days: Table<u16>,
+    /// The days on which each course has lectures, in one row.
+    pub(crate) used: Table<u16>,
+    /// The lectures of each course in each room.
+    pub(crate) rooms: Table<u16>,
+    /// Those of each curriculum in each slot.
+    pub(crate) parts: Table<u16>,
+    /// Those of each teacher in each slot.
+    pub(crate) taught: Table<u16>,
+}
+
+impl Counts {
+    /// The counts of the empty timetable.
+    #[tactic(auto, using(crate::proofs::CountsLemmas::none_counted))]
+    pub(crate) fn new(alloc: Global, instance: &Instance) -> Result<Self, AllocError>
+        ensures { IfOk result (AreCounts instance.now []) }
+    {
+        instance.limits();
+        let courses = instance.courses() as usize;
+        let curricula = instance.curricula() as usize;
+        let slots = instance.slots() as usize;
+        Ok(Counts {
+            lectures: Table::new(alloc, 1, courses, 0)?,
+            days: Table::new(alloc, courses, instance.days() as usize, 0)?,
+            used: Table::new(alloc, 1, courses, 0)?,
+            rooms: Table::new(alloc, courses, instance.rooms() as usize, 0)?,
+            parts: Table::new(alloc, curricula, slots, 0)?,
+            taught: Table::new(alloc, instance.teachers() as usize, slots, 0)?,
+        })
+    }
+
+    /// The same counts.
+    pub(crate) fn copy(&self) -> Result<Self, AllocError>
+        ensures { IfOk result (λ c. c ≡ self.now) }
+    {
+        Ok(Counts {
+            lectures: self.lectures.copy()?,
+            days: self.days.copy()?,
+            used: self.used.copy()?,
+            rooms: self.rooms.copy()?,
+            parts: self.parts.copy()?,
+            taught: self.taught.copy()?,
+        })
+    }
+
+    /// Counts one lecture more.
+    pub(crate) fn add(&mut self, instance: &Instance, lecture: &Placed)
+        requires fits { Fits instance.now lecture.now }
+        requires sizes { HaveSizes instance.now self.old }
+        requires room { HaveRoom self.old }
+        ensures { AddsLecture instance.now lecture.now self.old self.new }
+    {
+        instance.limits();
+        let course = lecture.course.get() as usize;
+        let day = instance.day_of(lecture.slot) as usize;
+        let is_new = self.days.get(course, day) == 0;
+        add(&mut self.lectures, 0, course, true);
+        add(&mut self.days, course, day, true);
+        add(&mut self.used, 0, course, is_new);
+        add(&mut self.rooms, course, lecture.room.get() as usize, true);
+        let curricula = instance.curricula_of(lecture.course);
+        add_column(&mut self.parts, curricula, lecture.slot.get() as usize);
+        let teacher = instance.teacher(lecture.course).get() as usize;
+        add(&mut self.taught, teacher, lecture.slot.get() as usize, true);
+    }
+
+    /// Whether the teacher of a course has at most so many lectures in a slot, and each of its
+    /// curricula.
+    pub(crate) fn have_at_most(
+        &self,
+        instance: &Instance,
+        course: CourseNo,
+        slot: SlotNo,
+        most: u16,
+    ) -> bool
+        requires course { course < course_count instance.now }
+        requires slot { slot < slot_count instance.now }
+        requires sizes { HaveSizes instance.now self.now }
+        ensures { result ≡ true → HaveAtMost instance.now self.now course slot most }
+    {
+        instance.limits();
+        let teacher = instance.teacher(course).get() as usize;
+        let slot = slot.get() as usize;
+        self.taught.get(teacher, slot) <= most
+            && are_at_most(&self.parts, instance.curricula_of(course), slot, most)
+    }
+
+    /// Counts one lecture less.
+    pub(crate) fn take(&mut self, instance: &Instance, lecture: &Placed)
+        requires fits { Fits instance.now lecture.now }
+        requires sizes { HaveSizes instance.now self.old }
+        requires there { HaveLecture instance.now lecture.now self.old }
+        ensures { AddsLecture instance.now lecture.now self.new self.old }
+    {
+        instance.limits();
+        let course = lecture.course.get() as usize;
+        let day = instance.day_of(lecture.slot) as usize;
+        take(&mut self.lectures, 0, course, true);
+        take(&mut self.days, course, day, true);
+        let was_new = self.days.get(course, day) == 0;
+        take(&mut self.used, 0, course, was_new);
+        take(&mut self.rooms, course, lecture.room.get() as usize, true);
+        let curricula = instance.curricula_of(lecture.course);
+        take_column(&mut self.parts, curricula, lecture.slot.get() as usize);
+        let teacher = instance.teacher(lecture.course).get() as usize;
+        take(&mut self.taught, teacher, lecture.slot.get() as usize, true);
+    }
+}

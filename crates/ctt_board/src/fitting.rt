@@ -1,0 +1,106 @@
+//! Whether a change fits.
+
+ghost use Rattle.std.specs.Prelude.{◌≡◌, ◌<◌, true};
+ghost use Rattle.std.specs.List.{list_any};
+ghost use Rattle.ctt_text.specs.Problem.{course_count, slot_count, clash};
+ghost use Rattle.ctt_text.specs.Timetable.{Fits, slot_row};
+ghost use Rattle.ctt_board.specs.Fitting.{is_known, is_wanted, is_unhindered, can_come, cell_fits, fits};
+
+use crate::after::After;
+use crate::cell::Cell;
+use crate::change::Change;
+use crate::sheet::Rooms;
+use ctt_text::{CourseNo, Instance, Placed, SlotNo};
+
+/// Whether a course that clashes with this one stands in a slot.
+fn has_clash<R: Rooms>(instance: &Instance, rooms: &R, course: CourseNo, slot: SlotNo) -> bool
+    requires same { R.problem rooms.now ≡ instance.now }
+    requires course { course < course_count instance.now }
+    requires slot { slot < slot_count instance.now }
+    ensures { result ≡ list_any (λ y. clash instance.now course y.course) (slot_row slot (R.list rooms.now)) }
+{
+    rooms.lawful();
+    if rooms.is_clear(course, slot) {
+        return false;
+    }
+    for number in 0..instance.courses() {
+        let other = CourseNo::new(number);
+        if instance.clash(course, other) && rooms.room_at(other, slot).is_some() {
+            return true;
+        }
+    }
+    false
+}
+
+/// Whether the numbers of a lecture are those of the instance.
+fn is_known(instance: &Instance, lecture: &Placed) -> bool
+    ensures { result ≡ is_known instance.now lecture.now }
+{
+    lecture.course.get() < instance.courses()
+        && (lecture.slot.get() < instance.slots() && lecture.room.get() < instance.rooms())
+}
+
+/// Whether its course can have one more lecture, in this slot.
+fn is_wanted<R: Rooms>(instance: &Instance, rooms: &R, lecture: &Placed) -> bool
+    requires same { R.problem rooms.now ≡ instance.now }
+    requires fits { Fits instance.now lecture.now }
+    ensures { result ≡ is_wanted instance.now (R.list rooms.now) lecture.now }
+{
+    let course = lecture.course;
+    let slot = lecture.slot;
+    rooms.room_at(course, slot).is_none()
+        && (rooms.count(course) < instance.lectures(course) && !instance.unavailable(course, slot))
+}
+
+/// Whether nothing in the slot is against it.
+fn is_unhindered<R: Rooms>(instance: &Instance, rooms: &R, lecture: &Placed) -> bool
+    requires same { R.problem rooms.now ≡ instance.now }
+    requires fits { Fits instance.now lecture.now }
+    ensures { result ≡ is_unhindered instance.now (R.list rooms.now) lecture.now }
+{
+    !has_clash(instance, rooms, lecture.course, lecture.slot)
+        && rooms.holder(lecture.slot, lecture.room).is_none()
+}
+
+/// Whether a lecture can be added.
+#[tactic(auto, using(crate::proofs::FitLemmas::fits_of))]
+fn can_come<R: Rooms>(instance: &Instance, rooms: &R, lecture: &Placed) -> bool
+    requires same { R.problem rooms.now ≡ instance.now }
+    ensures { result ≡ can_come instance.now (R.list rooms.now) lecture.now }
+{
+    is_known(instance, lecture)
+        && (is_wanted(instance, rooms, lecture) && is_unhindered(instance, rooms, lecture))
+}
+
+/// Whether a cell can be made.
+fn cell_fits<R: Rooms>(instance: &Instance, rooms: &R, cell: &Cell) -> bool
+    requires same { R.problem rooms.now ≡ instance.now }
+    ensures { result ≡ cell_fits instance.now (R.list rooms.now) cell.now.course cell.now.slot cell.now.room }
+{
+    rooms.lawful();
+    let course = cell.course;
+    let slot = cell.slot;
+    match cell.room {
+        None => {
+            course.get() < instance.courses()
+                && (slot.get() < instance.slots() && rooms.room_at(course, slot).is_some())
+        }
+        Some(room) => can_come(instance, rooms, &Placed { course, slot, room }),
+    }
+}
+
+/// Whether a change fits. It takes no memory.
+pub(crate) fn fits<R: Rooms>(instance: &Instance, rooms: &R, change: &Change) -> bool
+    requires same { R.problem rooms.now ≡ instance.now }
+    ensures { result ≡ fits instance.now change.now (R.list rooms.now) }
+{
+    rooms.lawful();
+    let cells = change.cells();
+    for (number, cell) in cells.iter().enumerate() {
+        let after = After::new(instance, rooms, &cells[..number]);
+        if !cell_fits(instance, &after, cell) {
+            return false;
+        }
+    }
+    true
+}

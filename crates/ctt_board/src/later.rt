@@ -1,0 +1,246 @@
+//! The counts of a timetable as a change would leave them. Nothing is changed, and no memory is
+//! taken.
+
+ghost use Rattle.std.specs.Prelude.{◌≡◌, ◌<◌, ◌≤◌, ◌+◌, ◌-◌, ℕ, [], nat_lt, count_by, length, cond, ◌==◌, ◌++◌, ◌∷◌};
+ghost use Rattle.ctt_text.specs.Problem.{course_count, slot_count, room_count, curriculum_count, members, day_of};
+ghost use Rattle.ctt_text.specs.Timetable.{Fits};
+ghost use Rattle.ctt_board.specs.Joining.{on_day, in_room, in_slot, gain_of};
+ghost use Rattle.ctt_board.specs.Counts.{HaveSizes};
+ghost use Rattle.ctt_board.specs.Seen.{seen_day, seen_room, seen_lectures, seen_part, seen_days, seen_joining};
+
+use crate::counts::Counts;
+use crate::joining::{gain, joining_of};
+use arrayvec::ArrayVec;
+use ctt_text::{CourseNo, CurriculumNo, Instance, Placed, RoomNo, SlotNo};
+
+/// Counts, with lectures that leave and lectures that come.
+#[derive(Drop)]
+pub(crate) struct Later<'a> {
+    pub(crate) counts: &'a Counts,
+    pub(crate) removed: ArrayVec<Placed, 4>,
+    pub(crate) added: ArrayVec<Placed, 4>,
+    /// The courses that lost a day.
+    pub(crate) gone: ArrayVec<CourseNo, 4>,
+    /// The courses that gained a day.
+    pub(crate) fresh: ArrayVec<CourseNo, 4>,
+}
+
+/// How many of the lectures are of a course on a day.
+fn on_day(instance: &Instance, lectures: &[Placed], course: CourseNo, day: u16) -> u64
+    requires few { length lectures.now ≤ 4 }
+    requires some { 0 < instance.now.periods }
+    ensures value { result ≡ count_by (on_day instance.now course day) lectures.now }
+    ensures bound { result ≤ 4 }
+{
+    let mut count = 0;
+    for lecture in lectures {
+        if lecture.course == course && lecture.slot.get() / instance.periods() == day {
+            count += 1;
+        }
+    }
+    count
+}
+
+/// How many of the lectures are of a course in a room.
+fn in_room(lectures: &[Placed], course: CourseNo, room: RoomNo) -> u64
+    requires { length lectures.now ≤ 4 }
+    ensures value { result ≡ count_by (in_room course room) lectures.now }
+    ensures bound { result ≤ 4 }
+{
+    let mut count = 0;
+    for lecture in lectures {
+        if lecture.course == course && lecture.room == room {
+            count += 1;
+        }
+    }
+    count
+}
+
+/// How many of the lectures are of a course.
+fn of_course(lectures: &[Placed], course: CourseNo) -> u64
+    requires { length lectures.now ≤ 4 }
+    ensures value { result ≡ count_by (λ l. l.course == course) lectures.now }
+    ensures bound { result ≤ 4 }
+{
+    let mut count = 0;
+    for lecture in lectures {
+        if lecture.course == course {
+            count += 1;
+        }
+    }
+    count
+}
+
+/// Whether a lecture is of one of these courses, in a slot.
+#[tactic(auto, using(crate::proofs::SeenLemmas::turned_and))]
+fn is_in_slot(lecture: &Placed, members: &[CourseNo], slot: SlotNo) -> bool
+    ensures { result ≡ in_slot members.now slot lecture.now }
+{
+    lecture.slot == slot && members.contains(&lecture.course)
+}
+
+/// How many of the lectures are of these courses in a slot.
+fn in_slot(lectures: &[Placed], members: &[CourseNo], slot: SlotNo) -> u64
+    requires { length lectures.now ≤ 4 }
+    ensures value { result ≡ count_by (in_slot members.now slot) lectures.now }
+    ensures bound { result ≤ 4 }
+{
+    let mut count = 0;
+    for lecture in lectures {
+        if is_in_slot(lecture, members, slot) {
+            count += 1;
+        }
+    }
+    count
+}
+
+/// How often a course is named.
+fn times(courses: &[CourseNo], course: CourseNo) -> u64
+    requires { length courses.now ≤ 4 }
+    ensures value { result ≡ count_by (λ d. d == course) courses.now }
+    ensures bound { result ≤ 4 }
+{
+    let mut count = 0;
+    for other in courses {
+        if *other == course {
+            count += 1;
+        }
+    }
+    count
+}
+
+/// Names a course, if it is wanted.
+fn name_if(courses: &mut ArrayVec<CourseNo, 4>, course: CourseNo, wanted: bool)
+    requires { length courses.old.items < 4 }
+    ensures { courses.new.items ≡ courses.old.items ++ cond wanted (course ∷ []) [] }
+{
+    if wanted {
+        courses.push(course);
+    }
+}
+
+impl<'a> Later<'a> {
+    /// The counts as they are.
+    pub(crate) fn now(counts: &'a Counts) -> Self
+        ensures counts { result.counts.now ≡ counts.now }
+        ensures removed { result.removed.items ≡ [] }
+        ensures added { result.added.items ≡ [] }
+        ensures gone { result.gone.items ≡ [] }
+        ensures fresh { result.fresh.items ≡ [] }
+    {
+        Later {
+            counts,
+            removed: ArrayVec::new(),
+            added: ArrayVec::new(),
+            gone: ArrayVec::new(),
+            fresh: ArrayVec::new(),
+        }
+    }
+
+    /// The lectures of a course on a day.
+    pub(crate) fn on_day(&self, instance: &Instance, course: CourseNo, day: u16) -> u64
+        requires course { course < course_count instance.now }
+        requires day { day < instance.now.days }
+        requires some { 0 < instance.now.periods }
+        requires sizes { HaveSizes instance.now self.now.counts.now }
+        ensures { result ≡ seen_day instance.now self.now course day }
+    {
+        let count = self.counts.days.get(course.get() as usize, day as usize);
+        let more = on_day(instance, &self.added, course, day);
+        let less = on_day(instance, &self.removed, course, day);
+        (u64::from(count) + more).saturating_sub(less)
+    }
+
+    /// The lectures of a course in a room.
+    pub(crate) fn in_room(&self, instance: &Instance, course: CourseNo, room: RoomNo) -> u64
+        requires course { course < course_count instance.now }
+        requires room { room < room_count instance.now }
+        requires sizes { HaveSizes instance.now self.now.counts.now }
+        ensures { result ≡ seen_room self.now course room }
+    {
+        let count = self.counts.rooms.get(course.get() as usize, room.get() as usize);
+        let more = in_room(&self.added, course, room);
+        let less = in_room(&self.removed, course, room);
+        (u64::from(count) + more).saturating_sub(less)
+    }
+
+    /// The lectures of a course.
+    pub(crate) fn lectures(&self, instance: &Instance, course: CourseNo) -> u64
+        requires course { course < course_count instance.now }
+        requires sizes { HaveSizes instance.now self.now.counts.now }
+        ensures { result ≡ seen_lectures self.now course }
+    {
+        let count = self.counts.lectures.get(0, course.get() as usize);
+        let more = of_course(&self.added, course);
+        let less = of_course(&self.removed, course);
+        (u64::from(count) + more).saturating_sub(less)
+    }
+
+    /// The days of a course.
+    pub(crate) fn days(&self, instance: &Instance, course: CourseNo) -> u64
+        requires course { course < course_count instance.now }
+        requires sizes { HaveSizes instance.now self.now.counts.now }
+        ensures { result ≡ seen_days self.now course }
+    {
+        let count = self.counts.used.get(0, course.get() as usize);
+        let more = times(&self.fresh, course);
+        let less = times(&self.gone, course);
+        (u64::from(count) + more).saturating_sub(less)
+    }
+
+    /// The lectures of a curriculum in a slot.
+    pub(crate) fn in_slot(&self, instance: &Instance, part: CurriculumNo, slot: SlotNo) -> u64
+        requires part { part < curriculum_count instance.now }
+        requires slot { slot < slot_count instance.now }
+        requires sizes { HaveSizes instance.now self.now.counts.now }
+        ensures value { result ≡ seen_part instance.now self.now part slot }
+        ensures bound { result ≤ 5000000000 }
+    {
+        let count = self.counts.parts.get(part.get() as usize, slot.get() as usize);
+        let members = instance.members(part);
+        let more = in_slot(&self.added, members, slot);
+        let less = in_slot(&self.removed, members, slot);
+        (u64::from(count) + more).saturating_sub(less)
+    }
+
+    /// Lets a lecture come. Answers what it adds to the penalty.
+    pub(crate) fn come(&mut self, instance: &Instance, lecture: &Placed) -> i64
+        requires fits { Fits instance.now lecture.now }
+        requires sizes { HaveSizes instance.now self.old.counts.now }
+        requires room { length self.old.added.items < 4 }
+        requires fresh_room { length self.old.fresh.items < 4 }
+        ensures gain { result ≡ gain_of (seen_joining instance.now self.old lecture.now) }
+        ensures counts { self.new.counts.now ≡ self.old.counts.now }
+        ensures removed { self.new.removed.items ≡ self.old.removed.items }
+        ensures gone { self.new.gone.items ≡ self.old.gone.items }
+        ensures added { self.new.added.items ≡ self.old.added.items ++ lecture.now ∷ [] }
+        ensures fresh { self.new.fresh.items ≡ self.old.fresh.items ++ cond (seen_day instance.now self.old lecture.now.course (day_of instance.now lecture.now.slot) == 0) (lecture.now.course ∷ []) [] }
+    {
+        let joining = joining_of(self, instance, lecture);
+        let day = instance.day_of(lecture.slot);
+        let is_first = self.on_day(instance, lecture.course, day) == 0;
+        name_if(&mut self.fresh, lecture.course, is_first);
+        self.added.push(*lecture);
+        gain(&joining)
+    }
+
+    /// Lets a lecture leave. Answers what it would add again.
+    pub(crate) fn leave(&mut self, instance: &Instance, lecture: &Placed) -> i64
+        requires fits { Fits instance.now lecture.now }
+        requires sizes { HaveSizes instance.now self.old.counts.now }
+        requires room { length self.old.removed.items < 4 }
+        requires gone_room { length self.old.gone.items < 4 }
+        ensures gain { result ≡ gain_of (seen_joining instance.now self.new lecture.now) }
+        ensures counts { self.new.counts.now ≡ self.old.counts.now }
+        ensures added { self.new.added.items ≡ self.old.added.items }
+        ensures fresh { self.new.fresh.items ≡ self.old.fresh.items }
+        ensures removed { self.new.removed.items ≡ self.old.removed.items ++ lecture.now ∷ [] }
+        ensures gone { self.new.gone.items ≡ self.old.gone.items ++ cond (seen_day instance.now self.old lecture.now.course (day_of instance.now lecture.now.slot) == 1) (lecture.now.course ∷ []) [] }
+    {
+        let day = instance.day_of(lecture.slot);
+        let was_last = self.on_day(instance, lecture.course, day) == 1;
+        name_if(&mut self.gone, lecture.course, was_last);
+        self.removed.push(*lecture);
+        gain(&joining_of(self, instance, lecture))
+    }
+}
