@@ -13,7 +13,7 @@ use Rattle.ctt_board.proofs.OrderLemmas.{in_order}
 use Rattle.ctt_edits.specs.Calls.{CallFits, reply, cells_if, cells_of, edit_courses, look_reads_course, look_reads_slot, reads_course, reads_slot}
 use Rattle.ctt_edits.specs.Laws.{CallFrame}
 use Rattle.ctt_edits.specs.Looks.{LookFits, shown, told_or}
-use Rattle.ctt_edits.specs.Looks.Told.{Done, Lectures, Costs, Priced}
+use Rattle.ctt_edits.specs.declared.reply.Reply.TheVariants.{Done, Lectures, Costs, Price as Priced}
 use Rattle.ctt_edits.specs.declared.call.Call.{Call}
 use Rattle.ctt_edits.specs.declared.call.Call.TheVariants.{Look as Looks, Edit as Edits}
 use Rattle.ctt_edits.specs.declared.looks.Look.{Look}

@@ -7,8 +7,9 @@ use Rattle.ctt_text.specs.Timetable.{course_row, slot_row}
 use Rattle.ctt_text.specs.declared.placed.Placed.{Placed}
 use Rattle.ctt_board.specs.declared.cell.Cell.{Cell}
 use Rattle.ctt_edits.specs.Edits.{EditFits, edit_fault, change}
-use Rattle.ctt_edits.specs.Looks.{LookFits, shown, told_or, Told}
-use Rattle.ctt_edits.specs.Looks.Told.{Done}
+use Rattle.ctt_edits.specs.Looks.{LookFits, shown, told_or}
+use Rattle.ctt_edits.specs.declared.reply.Reply.{Reply}
+use Rattle.ctt_edits.specs.declared.reply.Reply.TheVariants.{Done}
 use Rattle.ctt_edits.specs.declared.edit.Edit.{Edit}
 use Rattle.ctt_edits.specs.declared.edit.Edit.TheVariants.{Place, Move, Swap, Reroom, Drop}
 use Rattle.ctt_edits.specs.declared.fault.EditFault.{EditFault}
@@ -26,7 +27,7 @@ CallFits i (Looks look) = LookFits i look
 CallFits i (Edits e) = EditFits i e
 
 -- what a planner is told
-abbrev pub reply : Problem → List Placed → Call → Told
+abbrev pub reply : Problem → List Placed → Call → Reply
 reply i t (Looks look) = shown i t look
 reply i t (Edits e) = told_or (edit_fault i t e) Done
 

@@ -9,20 +9,14 @@ use Rattle.ctt_board.specs.Boards.{delta}
 use Rattle.ctt_edits.specs.Edits.{EditFits, edit_fault, change}
 use Rattle.ctt_edits.specs.declared.edit.Edit.{Edit}
 use Rattle.ctt_edits.specs.declared.fault.EditFault.{EditFault}
+use Rattle.ctt_edits.specs.declared.reply.Reply.{Reply}
+use Rattle.ctt_edits.specs.declared.reply.Reply.TheVariants.{Refused, Lectures, Costs, Price as Priced}
 use Rattle.ctt_edits.specs.declared.looks.Look.{Look}
 use Rattle.ctt_edits.specs.declared.looks.Look.TheVariants.{Course, Slot, Teacher, Curriculum, CourseCost, Price}
 use Rattle.ctt_edits.specs.declared.looks.Look.TheVariants.{Cost as WholeCost}
 
--- what a planner is told: a reply by its value
-pub data Told : Type 0 where
-  Done : Told
-  Refused : (fault : EditFault) → Told
-  Lectures : (list : List Placed) → Told
-  Costs : (cost : Cost) → Told
-  Priced : (price : ℤ) → Told
-
 -- refused where there is a fault
-abbrev pub told_or : Option EditFault → Told → Told
+abbrev pub told_or : Option EditFault → Reply → Reply
 told_or None answer = answer
 told_or (Some f) answer = Refused f
 
@@ -52,7 +46,7 @@ priced_by (Some f) p = Err f
 abbrev pub priced : Problem → List Placed → Edit → Result ℤ EditFault
 priced i t e = priced_by (edit_fault i t e) (price i t e)
 
-abbrev pub shown : Problem → List Placed → Look → Told
+abbrev pub shown : Problem → List Placed → Look → Reply
 shown i t (Course c) = Lectures (course_row c t)
 shown i t (Slot s) = Lectures (slot_row s t)
 shown i t (Teacher h) = Lectures (teacher_row i h t)

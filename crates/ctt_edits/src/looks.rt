@@ -5,10 +5,10 @@ ghost use Rattle.ctt_text.specs.Problem.{course_count};
 ghost use Rattle.ctt_rules.specs.Penalty.{course_cost, part_of};
 ghost use Rattle.ctt_edits.specs.Edits.{EditFits, edit_fault};
 ghost use Rattle.ctt_edits.specs.Looks.{LookFits, teacher_row, price, told_or, shown};
-ghost use Rattle.ctt_edits.specs.Looks.Told.{Priced};
-ghost use Rattle.ctt_edits.specs.Replies.{told_of};
+ghost use Rattle.ctt_edits.specs.declared.reply.Reply.TheVariants.{Price as Priced};
 
 use crate::edit::Edit;
+use crate::lectures::Lectures;
 use crate::pricing::price;
 use crate::reply::Reply;
 use ctt_board::Sheet;
@@ -85,7 +85,7 @@ fn own_cost<'i, S: Sheet<'i>>(sheet: &S, course: CourseNo) -> Result<Cost, NoMem
 /// The price of an edit, or its fault.
 fn price_reply<'i, S: Sheet<'i>>(sheet: &S, edit: &Edit) -> Reply
     requires { EditFits (S.problem sheet.now) edit.now }
-    ensures { told_of result ≡ told_or (edit_fault (S.problem sheet.now) (S.list sheet.now) edit.now) (Priced (price (S.problem sheet.now) (S.list sheet.now) edit.now)) }
+    ensures { result ≡ told_or (edit_fault (S.problem sheet.now) (S.list sheet.now) edit.now) (Priced (price (S.problem sheet.now) (S.list sheet.now) edit.now)) }
 {
     match price(sheet, edit) {
         Ok(price) => Reply::Price(price),
@@ -96,7 +96,7 @@ fn price_reply<'i, S: Sheet<'i>>(sheet: &S, edit: &Edit) -> Reply
 /// What a look shows.
 pub fn look_at<'i, S: Sheet<'i>>(sheet: &S, look: &Look) -> Result<Reply, NoMemory>
     requires { LookFits (S.problem sheet.now) look.now }
-    ensures { IfOk result (λ reply. told_of reply ≡ shown (S.problem sheet.now) (S.list sheet.now) look.now) }
+    ensures { IfOk result (λ reply. reply ≡ shown (S.problem sheet.now) (S.list sheet.now) look.now) }
 {
     let lectures = match *look {
         Look::Course(course) => sheet.course_row(course)?,
@@ -107,5 +107,5 @@ pub fn look_at<'i, S: Sheet<'i>>(sheet: &S, look: &Look) -> Result<Reply, NoMemo
         Look::Cost => return Ok(Reply::Costs(sheet.cost())),
         Look::Price(edit) => return Ok(price_reply(sheet, &edit)),
     };
-    Ok(Reply::Lectures(lectures))
+    Ok(Reply::Lectures(Lectures::new(lectures)))
 }

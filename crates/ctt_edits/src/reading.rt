@@ -4,7 +4,7 @@ ghost use Rattle.std.specs.Prelude.{◌≡◌, ◌<◌, ◌==◌, ◌||◌, ◌&
 ghost use Rattle.std.specs.List.{list_any, AllByRecursion as Each};
 ghost use Rattle.ctt_text.specs.Lists.{has};
 ghost use Rattle.ctt_text.specs.Marks.{is_marked};
-ghost use Rattle.ctt_text.specs.Problem.{course_of, course_count, curriculum_count, members, mates};
+ghost use Rattle.ctt_text.specs.Problem.{course_of, course_count, slot_count, curriculum_count, members, mates};
 ghost use Rattle.ctt_edits.specs.Calls.{CallFits, edit_courses, edit_slots, look_reads_course, look_reads_slot, reads_course, reads_slot, rows_where, reads};
 ghost use Rattle.ctt_edits.specs.Edits.{EditFits};
 ghost use Rattle.ctt_edits.specs.Looks.{LookFits};
@@ -256,4 +256,24 @@ pub fn reads(alloc: Global, instance: &Instance, call: &Call) -> Result<Vec<Row>
     let courses = courses_of_call(instance, call);
     let slots = slots_of_call(instance, call);
     Ok(rows_of(alloc, instance, &courses, &slots)?)
+}
+
+/// Marks what other marks have.
+fn add_marks(of: &Marks, marks: &mut Marks)
+    ensures { (n : ℕ) → n < 2000 → is_marked marks.new n ≡ (is_marked marks.old n || is_marked of.now n) }
+{
+    for number in 0..2000 {
+        mark_if(of.is_marked(number), number, marks);
+    }
+}
+
+/// Marks the rows that a call reads. It takes no memory.
+pub fn mark_reads(instance: &Instance, call: &Call, courses: &mut Marks, slots: &mut Marks)
+    requires { CallFits instance.now call.now }
+    ensures courses { (n : ℕ) → n < course_count instance.now → is_marked courses.new n ≡ (is_marked courses.old n || reads_course instance.now call.now n) }
+    ensures slots { (n : ℕ) → n < slot_count instance.now → is_marked slots.new n ≡ (is_marked slots.old n || reads_slot call.now n) }
+{
+    instance.limits();
+    add_marks(&courses_of_call(instance, call), courses);
+    add_marks(&slots_of_call(instance, call), slots);
 }

@@ -1,5 +1,8 @@
 //! The rows of a timetable, which calls read.
 
+ghost use Rattle.std.specs.Prelude.{◌↔◌, IsTrue};
+ghost use Rattle.ctt_edits.specs.Calls.{RowBefore};
+
 use ctt_text::{CourseNo, SlotNo};
 
 /// A row of a timetable. Rows are ordered: courses by number, then slots by number.
@@ -9,4 +12,13 @@ pub enum Row {
     Course(CourseNo),
     /// The lectures in a slot.
     Slot(SlotNo),
+}
+
+impl Row {
+    /// Whether it comes before another row.
+    pub fn is_before(self, other: Row) -> bool
+        ensures { IsTrue result ↔ RowBefore self other }
+    {
+        self < other
+    }
 }

@@ -1,0 +1,238 @@
+-- A desk that keeps values answers as its run says.
+use Rattle.std.proofs.Common.{◌≡◌, ℕ, ◌+◌, ◌≤◌, ◌<◌, Bool, true, false, cond, ◌==◌, List, [], ◌∷◌, ◌++◌, take, set, Option, Some, None, refl, ◌∙◌, sym, ap, ap₂, subst, length, length-set, arith, inl, inr, append-nil, take_all}
+use Rattle.std.proofs.lemmas.Bool.{cases_eq, eq-eqb, ne_eqb}
+use Rattle.std.proofs.lemmas.List.{take-append-le, get_or-set_same, get_or-set_other}
+use Rattle.ctt_text.specs.Problem.{Problem}
+use Rattle.ctt_text.specs.declared.placed.Placed.{Placed}
+use Rattle.ctt_rules.specs.Hard.{Lawful}
+use Rattle.ctt_edits.specs.Calls.{reply}
+use Rattle.ctt_edits.specs.Looks.{shown}
+use Rattle.ctt_edits.specs.declared.call.Call.{Call}
+use Rattle.ctt_edits.specs.declared.reply.Reply.{Reply}
+use Rattle.ctt_edits.specs.declared.row.Row.{Row}
+use Rattle.ctt_draft.specs.Drafts.{calls_of, whole, stale}
+use Rattle.ctt_core.specs.declared.event.Event.{Event}
+use Rattle.ctt_core.specs.declared.event.Event.TheVariants.{Open, Ask, Commit, Abandon, Show}
+use Rattle.ctt_core.specs.declared.answer.Answer.{Answer}
+use Rattle.ctt_core.specs.declared.answer.Answer.TheVariants.{Opened, AlreadyOpen, NoDraft, Replied, Committed, Stale, Abandoned, NoMemory}
+use Rattle.ctt_core.specs.declared.journal.JournalEntry.{JournalEntry}
+use Rattle.ctt_draft.specs.DraftValues.{DraftValue}
+use Rattle.ctt_core.specs.Runs.{after, Legal, Turn, OpenDraft, ask, begin, turned, commits, draft, entry, entered, accepted_of, now, base, open_answer, ask_answer, verdict, commit_answer, abandon_answer, plain, may_want, IsRight, Right, EventFits, RunFits}
+use Rattle.ctt_core.specs.Desks.{DeskValue, draft_at, kept, StandsAt, opens, answers, commits_to, abandons, answer_of, with_draft, asks, settled, goes_on, Answers, SameDesk}
+use Rattle.ctt_core.specs.Laws.{Stands, Serial, DeskIsPlain, DeskIsSerial}
+use Rattle.ctt_core.proofs.RunLemmas.{Good, GoodDraft, right_is_good, after-push, headline}
+
+-- the answers
+opens_is : (i : Problem) (t0 : List Placed) (h : List JournalEntry) (o : Option OpenDraft) → opens (kept i t0 h o) ≡ open_answer o
+opens_is i t0 h None = refl
+opens_is i t0 h (Some d) = refl
+
+answers_is : (i : Problem) (t0 : List Placed) (past : List Turn) (call : Call) (o : Option OpenDraft) → answers call (kept i t0 (accepted_of past) o) ≡ ask_answer i t0 past call o
+answers_is i t0 past call None = refl
+answers_is i t0 past call (Some d) = refl
+
+commits_is : (v : DeskValue) (past : List Turn) (o : Option OpenDraft) → v.list ≡ now v.problem v.opening past → length v.journal ≡ commits past → commits_to v (kept v.problem v.opening (accepted_of past) o) ≡ commit_answer v.problem v.opening past o
+commits_is v past None e k = refl
+commits_is v past (Some d) e k = ap₂ (λ n list. verdict (n + 1) (stale v.problem (base v.problem v.opening past d) list (calls_of d.asked))) k e
+
+abandons_is : (i : Problem) (t0 : List Placed) (h : List JournalEntry) (o : Option OpenDraft) → abandons (kept i t0 h o) ≡ abandon_answer o
+abandons_is i t0 h None = refl
+abandons_is i t0 h (Some d) = refl
+
+answer_is : (v : DeskValue) (past : List Turn) (event : Event) → commits past ≡ length (accepted_of past) → StandsAt v past → answer_of v event ≡ plain v.problem v.opening past event
+answer_is v past (Open p) n s = ap opens (s.drafts p) ∙ opens_is v.problem v.opening (accepted_of past) (draft p past)
+answer_is v past (Ask p call) n s = ap (answers call) (s.drafts p) ∙ answers_is v.problem v.opening past call (draft p past)
+answer_is v past (Commit p) n s = ap (commits_to v) (s.drafts p) ∙ commits_is v past (draft p past) s.list (ap length s.journal ∙ sym n)
+answer_is v past (Abandon p) n s = ap abandons (s.drafts p) ∙ abandons_is v.problem v.opening (accepted_of past) (draft p past)
+answer_is v past (Show look) n s = ap (λ list. Replied (shown v.problem list look)) s.list
+
+-- a kept draft does not feel the history grow
+kept_grown : (i : Problem) (t0 : List Placed) (h more : List JournalEntry) (o : Option OpenDraft) → GoodDraft i t0 h o → kept i t0 (h ++ more) o ≡ kept i t0 h o
+kept_grown i t0 h more None g = refl
+kept_grown i t0 h more (Some d) g = let lt : d.count ≤ length h = g.0 in rw take-append-le refl
+
+-- a turn that enters nothing
+stays : (v : DeskValue) (past : List Turn) (event : Event) (answer : Answer) (drafts : List (Option DraftValue)) → entered event answer past ≡ [] → StandsAt v past →
+    ((p : ℕ) → draft_at drafts p ≡ kept v.problem v.opening (accepted_of past) (turned p (commits past) event answer (draft p past))) → StandsAt (record v { drafts = drafts }) (record { event = event; answer = answer } ∷ past)
+stays v past event answer drafts none s each =
+    let same : accepted_of past ++ entered event answer past ≡ accepted_of past = ap (λ es. accepted_of past ++ es) none ∙ append-nil (accepted_of past) in
+    record {
+      list = s.list ∙ ap (after v.problem v.opening) (sym same);
+      journal = s.journal ∙ sym same;
+      drafts = λ p. each p ∙ ap (λ h. kept v.problem v.opening h (turned p (commits past) event answer (draft p past))) (sym same);
+    }
+
+-- one draft is another, and the others stay
+one_draft : (p q : ℕ) (new : Option DraftValue) (old : List (Option DraftValue)) (mine other : Option DraftValue) → p < length old → new ≡ mine → draft_at old q ≡ other → draft_at (set old p new) q ≡ cond (q == p) mine other
+one_draft p q new old mine other lt e k = elim (cases_eq q p) [
+  | inl same ↦ rw (eq-eqb q p same) (ap (draft_at (set old p new)) same ∙ get_or-set_same old p new None lt ∙ e)
+  | inr apart ↦ rw (ne_eqb q p apart) (get_or-set_other old p q new None apart ∙ k)
+]
+
+kept_cond : (i : Problem) (t0 : List Placed) (h : List JournalEntry) (b : Bool) (x y : Option OpenDraft) → cond b (kept i t0 h x) (kept i t0 h y) ≡ kept i t0 h (cond b x y)
+kept_cond i t0 h true x y = refl
+kept_cond i t0 h false x y = refl
+
+-- the draft of planner p is now the one that the run has, and the others are as they were
+turned_one : (v : DeskValue) (past : List Turn) (p q : ℕ) (new : Option DraftValue) (x : Option OpenDraft) → p < length v.drafts → StandsAt v past → new ≡ kept v.problem v.opening (accepted_of past) x → draft_at (set v.drafts p new) q ≡ kept v.problem v.opening (accepted_of past) (cond (q == p) x (draft q past))
+turned_one v past p q new x lt s e =
+    one_draft p q new v.drafts (kept v.problem v.opening (accepted_of past) x) (kept v.problem v.opening (accepted_of past) (draft q past)) lt e (s.drafts q)
+    ∙ kept_cond v.problem v.opening (accepted_of past) (q == p) x (draft q past)
+
+open_goes : (v : DeskValue) (past : List Turn) (p : ℕ) (o : Option OpenDraft) → p < length v.drafts → commits past ≡ length (accepted_of past) → StandsAt v past → StandsAt (goes_on v (Open p) (open_answer o)) (record { event = Open p; answer = open_answer o } ∷ past)
+open_goes v past p (Some d) lt n s = stays v past (Open p) AlreadyOpen v.drafts refl s s.drafts
+open_goes v past p None lt n s =
+    let full : take (commits past) (accepted_of past) ≡ accepted_of past = take_all (commits past) (accepted_of past) (omega (arith, n)) in
+    let new : Option DraftValue = Some (record { problem = v.problem; base = v.list; asked = [] }) in
+    let begun : new ≡ kept v.problem v.opening (accepted_of past) (begin (commits past)) = ap (λ list. Some (record { problem = v.problem; base = list; asked = [] })) (s.list ∙ ap (after v.problem v.opening) (sym full)) in
+    stays v past (Open p) Opened (set v.drafts p new) refl s (λ q. turned_one v past p q new (begin (commits past)) lt s begun)
+
+ask_goes : (v : DeskValue) (past : List Turn) (p : ℕ) (call : Call) (o : Option OpenDraft) → p < length v.drafts → draft p past ≡ o → StandsAt v past → StandsAt (goes_on v (Ask p call) (ask_answer v.problem v.opening past call o)) (record { event = Ask p call; answer = ask_answer v.problem v.opening past call o } ∷ past)
+ask_goes v past p call None lt e s = stays v past (Ask p call) NoDraft v.drafts refl s s.drafts
+ask_goes v past p call (Some d) lt e s =
+    let told : Reply = reply v.problem (whole v.problem (base v.problem v.opening past d) (calls_of d.asked)) call in
+    let mine : asks call told (draft_at v.drafts p) ≡ kept v.problem v.opening (accepted_of past) (ask call told (Some d)) = ap (asks call told) (s.drafts p ∙ ap (kept v.problem v.opening (accepted_of past)) e) in
+    stays v past (Ask p call) (Replied told) (set v.drafts p (asks call told (draft_at v.drafts p))) refl s
+    (λ q. turned_one v past p q (asks call told (draft_at v.drafts p)) (ask call told (Some d)) lt s mine ∙ ap (kept v.problem v.opening (accepted_of past)) (own q told))
+  where
+    own : (q : ℕ) (told : Reply) → cond (q == p) (ask call told (Some d)) (draft q past) ≡ cond (q == p) (ask call told (draft q past)) (draft q past)
+    own q told = elim (cases_eq q p) [
+      | inl same ↦ (let its : draft q past ≡ Some d = ap (λ x. draft x past) same ∙ e in rw its refl)
+      | inr apart ↦ rw (ne_eqb q p apart) refl
+    ]
+
+ended_goes : (v : DeskValue) (past : List Turn) (p : ℕ) (event : Event) (answer : Answer) → p < length v.drafts → entered event answer past ≡ [] → ((q : ℕ) → turned q (commits past) event answer (draft q past) ≡ cond (q == p) None (draft q past)) → StandsAt v past → StandsAt (record v { drafts = set v.drafts p None }) (record { event = event; answer = answer } ∷ past)
+ended_goes v past p event answer lt none turn s =
+    stays v past event answer (set v.drafts p None) none s
+    (λ q. turned_one v past p q None None lt s refl ∙ ap (kept v.problem v.opening (accepted_of past)) (sym (turn q)))
+
+abandon_goes : (v : DeskValue) (past : List Turn) (p : ℕ) (o : Option OpenDraft) → p < length v.drafts → StandsAt v past → StandsAt (goes_on v (Abandon p) (abandon_answer o)) (record { event = Abandon p; answer = abandon_answer o } ∷ past)
+abandon_goes v past p None lt s = stays v past (Abandon p) NoDraft v.drafts refl s s.drafts
+abandon_goes v past p (Some d) lt s = ended_goes v past p (Abandon p) Abandoned lt refl (λ q. refl) s
+
+commit_goes : (v : DeskValue) (past : List Turn) (p n : ℕ) (d : OpenDraft) (o : Option Row) → p < length v.drafts → draft p past ≡ Some d → Good v.problem v.opening (accepted_of past) (commits past) (λ p. draft p past) → StandsAt v past → StandsAt (goes_on v (Commit p) (verdict n o)) (record { event = Commit p; answer = verdict n o } ∷ past)
+commit_goes v past p n d (Some row) lt e g s = ended_goes v past p (Commit p) (Stale row) lt refl (λ q. refl) s
+commit_goes v past p n d None lt e g s =
+    let h : List JournalEntry = accepted_of past in
+    let one : JournalEntry = record { planner = p; asked = d.asked } in
+    let list : h ++ entry p (draft p past) ≡ h ++ one ∷ [] = ap (λ o. h ++ entry p o) e in
+    let mine : draft_at v.drafts p ≡ kept v.problem v.opening h (Some d) = s.drafts p ∙ ap (kept v.problem v.opening h) e in
+    let done : StandsAt (settled p v (kept v.problem v.opening h (Some d))) (record { event = Commit p; answer = Committed n } ∷ past) = record {
+      list = ap (λ t. whole v.problem t (calls_of d.asked)) s.list ∙ sym (after-push v.problem v.opening h one) ∙ ap (after v.problem v.opening) (sym list);
+      journal = ap (λ es. es ++ one ∷ []) s.journal ∙ sym list;
+      drafts = λ q. others q;
+    } in
+    subst (λ k. StandsAt (settled p v k) (record { event = Commit p; answer = Committed n } ∷ past)) (sym mine) done
+  where
+    grown_all : List JournalEntry
+    grown_all = accepted_of past ++ entry p (draft p past)
+
+    others : (q : ℕ) → draft_at (set v.drafts p None) q ≡ kept v.problem v.opening grown_all (cond (q == p) None (draft q past))
+    others q =
+        one_draft p q None v.drafts (kept v.problem v.opening grown_all None) (kept v.problem v.opening grown_all (draft q past)) lt refl
+        (s.drafts q ∙ sym (kept_grown v.problem v.opening (accepted_of past) (entry p (draft p past)) (draft q past) (g.good q)))
+        ∙ kept_cond v.problem v.opening grown_all (q == p) None (draft q past)
+
+commit_any : (v : DeskValue) (past : List Turn) (p : ℕ) (o : Option OpenDraft) → p < length v.drafts → draft p past ≡ o → Good v.problem v.opening (accepted_of past) (commits past) (λ p. draft p past) → StandsAt v past → StandsAt (goes_on v (Commit p) (commit_answer v.problem v.opening past o)) (record { event = Commit p; answer = commit_answer v.problem v.opening past o } ∷ past)
+commit_any v past p None lt e g s = stays v past (Commit p) NoDraft v.drafts refl s s.drafts
+commit_any v past p (Some d) lt e g s = commit_goes v past p (commits past + 1) d (stale v.problem (base v.problem v.opening past d) (now v.problem v.opening past) (calls_of d.asked)) lt e g s
+
+plain_goes : (v : DeskValue) (past : List Turn) (event : Event) → EventFits v.problem (length v.drafts) event → Good v.problem v.opening (accepted_of past) (commits past) (λ p. draft p past) → StandsAt v past → StandsAt (goes_on v event (plain v.problem v.opening past event)) (record { event = event; answer = plain v.problem v.opening past event } ∷ past)
+plain_goes v past (Open p) f g s = open_goes v past p (draft p past) f g.counted s
+plain_goes v past (Ask p call) f g s = ask_goes v past p call (draft p past) f.0 refl s
+plain_goes v past (Commit p) f g s = commit_any v past p (draft p past) f refl g s
+plain_goes v past (Abandon p) f g s = abandon_goes v past p (draft p past) f s
+plain_goes v past (Show look) f g s = stays v past (Show look) (plain v.problem v.opening past (Show look)) v.drafts refl s s.drafts
+
+no_memory_goes : (v : DeskValue) (past : List Turn) (event : Event) → StandsAt v past → StandsAt (goes_on v event NoMemory) (record { event = event; answer = NoMemory } ∷ past)
+no_memory_goes v past (Open p) s = stays v past (Open p) NoMemory v.drafts refl s s.drafts
+no_memory_goes v past (Ask p call) s = stays v past (Ask p call) NoMemory v.drafts refl s s.drafts
+no_memory_goes v past (Commit p) s = stays v past (Commit p) NoMemory v.drafts refl s s.drafts
+no_memory_goes v past (Abandon p) s = stays v past (Abandon p) NoMemory v.drafts refl s s.drafts
+no_memory_goes v past (Show look) s = stays v past (Show look) NoMemory v.drafts refl s s.drafts
+
+-- what no answer changes
+same : (v : DeskValue) → SameDesk v v
+same v = record { problem = refl; opening = refl; planners = refl }
+
+same_with : (p : ℕ) (d : Option DraftValue) (v : DeskValue) → SameDesk v (with_draft p d v)
+same_with p d v = record { problem = refl; opening = refl; planners = length-set v.drafts p d }
+
+same_settled : (p : ℕ) (v : DeskValue) (o : Option DraftValue) → SameDesk v (settled p v o)
+same_settled p v None = same v
+same_settled p v (Some d) = record { problem = refl; opening = refl; planners = length-set v.drafts p None }
+
+pub same_after : (v : DeskValue) (event : Event) (answer : Answer) → SameDesk v (goes_on v event answer)
+same_after v (Open p) Opened = same_with p (Some (record { problem = v.problem; base = v.list; asked = [] })) v
+same_after v (Ask p call) (Replied told) = same_with p (asks call told (draft_at v.drafts p)) v
+same_after v (Commit p) (Committed n) = same_settled p v (draft_at v.drafts p)
+same_after v (Commit p) (Stale row) = same_with p None v
+same_after v (Abandon p) Abandoned = same_with p None v
+same_after v (Open p) AlreadyOpen = same v
+same_after v (Open p) NoDraft = same v
+same_after v (Open p) (Replied told) = same v
+same_after v (Open p) (Committed n) = same v
+same_after v (Open p) (Stale row) = same v
+same_after v (Open p) Abandoned = same v
+same_after v (Open p) NoMemory = same v
+same_after v (Ask p call) Opened = same v
+same_after v (Ask p call) AlreadyOpen = same v
+same_after v (Ask p call) NoDraft = same v
+same_after v (Ask p call) (Committed n) = same v
+same_after v (Ask p call) (Stale row) = same v
+same_after v (Ask p call) Abandoned = same v
+same_after v (Ask p call) NoMemory = same v
+same_after v (Commit p) Opened = same v
+same_after v (Commit p) AlreadyOpen = same v
+same_after v (Commit p) NoDraft = same v
+same_after v (Commit p) (Replied told) = same v
+same_after v (Commit p) Abandoned = same v
+same_after v (Commit p) NoMemory = same v
+same_after v (Abandon p) Opened = same v
+same_after v (Abandon p) AlreadyOpen = same v
+same_after v (Abandon p) NoDraft = same v
+same_after v (Abandon p) (Replied told) = same v
+same_after v (Abandon p) (Committed n) = same v
+same_after v (Abandon p) (Stale row) = same v
+same_after v (Abandon p) NoMemory = same v
+same_after v (Show look) Opened = same v
+same_after v (Show look) AlreadyOpen = same v
+same_after v (Show look) NoDraft = same v
+same_after v (Show look) (Replied told) = same v
+same_after v (Show look) (Committed n) = same v
+same_after v (Show look) (Stale row) = same v
+same_after v (Show look) Abandoned = same v
+same_after v (Show look) NoMemory = same v
+
+pub desk_is_plain : DeskIsPlain
+desk_is_plain v past event answer l st f a =
+    let g : Good v.problem v.opening (accepted_of past) (commits past) (λ p. draft p past) = right_is_good v.problem v.opening (length v.drafts) past l st.fit st.right in
+    let w : DeskValue = goes_on v event answer in
+    let k : SameDesk v w = same_after v event answer in
+    let is : answer_of v event ≡ plain v.problem v.opening past event = answer_is v past event g.counted st.at in
+    record {
+      fit = subst (λ i. RunFits i (length w.drafts) (record { event = event; answer = answer } ∷ past)) (sym k.problem) (subst (λ n. RunFits v.problem n (record { event = event; answer = answer } ∷ past)) (sym k.planners) (f, st.fit));
+      right = subst (λ i. Right i w.opening (record { event = event; answer = answer } ∷ past)) (sym k.problem) (subst (λ t. Right v.problem t (record { event = event; answer = answer } ∷ past)) (sym k.opening) (right_now v past event answer is a, st.right));
+      at = at_now v past event answer f g st.at is a;
+    }
+  where
+    right_now : (v : DeskValue) (past : List Turn) (event : Event) (answer : Answer) → answer_of v event ≡ plain v.problem v.opening past event → Answers v event answer → IsRight v.problem v.opening past event answer
+    right_now v past event answer is (inl e) = inl (e ∙ is)
+    right_now v past event answer is (inr m) = inr (m.0, ap (may_want event) (sym is) ∙ m.1)
+
+    at_now : (v : DeskValue) (past : List Turn) (event : Event) (answer : Answer) → EventFits v.problem (length v.drafts) event → Good v.problem v.opening (accepted_of past) (commits past) (λ p. draft p past) → StandsAt v past → answer_of v event ≡ plain v.problem v.opening past event → Answers v event answer → StandsAt (goes_on v event answer) (record { event = event; answer = answer } ∷ past)
+    at_now v past event answer f g s is (inl e) = subst (λ a. StandsAt (goes_on v event a) (record { event = event; answer = a } ∷ past)) (sym (e ∙ is)) (plain_goes v past event f g s)
+    at_now v past event answer f g s is (inr m) = subst (λ a. StandsAt (goes_on v event a) (record { event = event; answer = a } ∷ past)) (sym m.0) (no_memory_goes v past event s)
+
+-- a desk that stands at a run is what the headline says
+pub desk_is_serial : DeskIsSerial
+desk_is_serial v past l st =
+    let both : Legal v.problem v.opening (accepted_of past) × Lawful v.problem (now v.problem v.opening past) = headline v.problem v.opening (length v.drafts) past l st.fit st.right in
+    record { legal = both.0; list = st.at.list; journal = st.at.journal; lawful = subst (Lawful v.problem) (sym st.at.list) both.1 }
+
+pub serial_after : (v : DeskValue) (past : List Turn) (event : Event) (answer : Answer) → Lawful v.problem v.opening → Stands v past → EventFits v.problem (length v.drafts) event → Answers v event answer → Serial (goes_on v event answer) (record { event = event; answer = answer } ∷ past)
+serial_after v past event answer l st f a =
+    let k : SameDesk v (goes_on v event answer) = same_after v event answer in
+    desk_is_serial (goes_on v event answer) (record { event = event; answer = answer } ∷ past)
+    (subst (λ i. Lawful i (goes_on v event answer).opening) (sym k.problem) (subst (Lawful v.problem) (sym k.opening) l))
+    (desk_is_plain v past event answer l st f a)

@@ -1,0 +1,5 @@
+pub mod RunLemmas
+pub mod DeskLemmas
+pub mod StepLemmas
+pub mod RanLemmas
+pub mod OpeningLemmas

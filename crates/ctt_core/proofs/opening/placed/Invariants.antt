@@ -1,0 +1,5 @@
+use Rattle.ctt_core.specs.Openings.{Placing}
+use Rattle.ctt_core.proofs.opening.placed.Given as goal
+
+abbrev pub invariant-loop-at : goal.invariant-loop-at
+invariant-loop-at g l = Placing l.instance (g.S.Rooms.problem l.sheet) l.lectures (g.S.Rooms.list l.sheet) l.at

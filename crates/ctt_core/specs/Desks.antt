@@ -1,0 +1,112 @@
+-- A desk by its value: what it keeps, its answers, and how it goes on. It knows no run; a law says that it answers as the run says.
+use Rattle.std.specs.Prelude.{ℕ, ◌+◌, ◌≡◌, ◌⊎◌, true, List, [], ◌∷◌, ◌++◌, length, take, Option, Some, None, slice_index_or, slice_set, IfSome}
+use Rattle.ctt_text.specs.Problem.{Problem}
+use Rattle.ctt_text.specs.declared.placed.Placed.{Placed}
+use Rattle.ctt_rules.specs.Hard.{Lawful}
+use Rattle.ctt_edits.specs.Calls.{reply}
+use Rattle.ctt_edits.specs.Looks.{shown}
+use Rattle.ctt_edits.specs.declared.call.Call.{Call}
+use Rattle.ctt_edits.specs.declared.reply.Reply.{Reply}
+use Rattle.ctt_draft.specs.Drafts.{calls_of, whole, stale}
+use Rattle.ctt_draft.specs.DraftValues.{DraftValue, present, asked_more, Settles}
+use Rattle.ctt_core.specs.declared.event.Event.{Event}
+use Rattle.ctt_core.specs.declared.event.Event.TheVariants.{Open, Ask, Commit, Abandon, Show}
+use Rattle.ctt_core.specs.declared.answer.Answer.{Answer}
+use Rattle.ctt_core.specs.declared.answer.Answer.TheVariants.{Opened, AlreadyOpen, NoDraft, Replied, Committed, Stale, Abandoned, NoMemory}
+use Rattle.ctt_core.specs.declared.journal.JournalEntry.{JournalEntry}
+use Rattle.ctt_core.specs.Runs.{after, Turn, OpenDraft, draft, accepted_of, now, verdict, may_want}
+
+-- the opening timetable, the present one, the accepted drafts, and the open draft of each planner
+pub record DeskValue : Type 0 where
+  pub problem : Problem
+  pub opening : List Placed
+  pub list : List Placed
+  pub journal : List JournalEntry
+  pub drafts : List (Option DraftValue)
+
+abbrev pub draft_at : List (Option DraftValue) → ℕ → Option DraftValue
+draft_at drafts p = slice_index_or drafts p None
+
+-- an open draft of a run, with its base
+abbrev pub kept : Problem → List Placed → List JournalEntry → Option OpenDraft → Option DraftValue
+kept i t0 h None = None
+kept i t0 h (Some d) = Some (record { problem = i; base = after i t0 (take d.count h); asked = d.asked })
+
+-- the desk stands where the run leaves it
+pub record StandsAt (v : DeskValue) (past : List Turn) : Type 0 where
+  pub list : v.list ≡ now v.problem v.opening past
+  pub journal : v.journal ≡ accepted_of past
+  pub drafts : (p : ℕ) → draft_at v.drafts p ≡ kept v.problem v.opening (accepted_of past) (draft p past)
+
+-- a desk's answers, by what it keeps
+abbrev pub opens : Option DraftValue → Answer
+opens None = Opened
+opens (Some d) = AlreadyOpen
+
+abbrev pub answers : Call → Option DraftValue → Answer
+answers call None = NoDraft
+answers call (Some d) = Replied (reply d.problem (present d) call)
+
+abbrev pub commits_to : DeskValue → Option DraftValue → Answer
+commits_to v None = NoDraft
+commits_to v (Some d) = verdict (length v.journal + 1) (stale d.problem d.base v.list (calls_of d.asked))
+
+abbrev pub abandons : Option DraftValue → Answer
+abandons None = NoDraft
+abandons (Some d) = Abandoned
+
+abbrev pub answer_of : DeskValue → Event → Answer
+answer_of v (Open p) = opens (draft_at v.drafts p)
+answer_of v (Ask p call) = answers call (draft_at v.drafts p)
+answer_of v (Commit p) = commits_to v (draft_at v.drafts p)
+answer_of v (Abandon p) = abandons (draft_at v.drafts p)
+answer_of v (Show look) = Replied (shown v.problem v.list look)
+
+-- the desk with another draft of planner p
+abbrev pub with_draft : ℕ → Option DraftValue → DeskValue → DeskValue
+with_draft p d v = record v { drafts = slice_set v.drafts p d }
+
+abbrev pub asks : Call → Reply → Option DraftValue → Option DraftValue
+asks call told None = None
+asks call told (Some d) = Some (asked_more d call told)
+
+-- the desk after an accepted commit
+abbrev pub settled : ℕ → DeskValue → Option DraftValue → DeskValue
+settled p v None = v
+settled p v (Some d) = record {
+  problem = v.problem;
+  opening = v.opening;
+  list = whole d.problem v.list (calls_of d.asked);
+  journal = v.journal ++ record { planner = p; asked = d.asked } ∷ [];
+  drafts = slice_set v.drafts p None;
+}
+
+-- what an answered event makes of the desk
+abbrev pub goes_on : DeskValue → Event → Answer → DeskValue
+goes_on v (Open p) Opened = with_draft p (Some (record { problem = v.problem; base = v.list; asked = [] })) v
+goes_on v (Ask p call) (Replied told) = with_draft p (asks call told (draft_at v.drafts p)) v
+goes_on v (Commit p) (Committed n) = settled p v (draft_at v.drafts p)
+goes_on v (Commit p) (Stale row) = with_draft p None v
+goes_on v (Abandon p) Abandoned = with_draft p None v
+goes_on v _ _ = v
+
+-- the answer of a desk, or want of memory where it may come
+abbrev pub Answers : DeskValue → Event → Answer → Type 0
+Answers v event answer = (answer ≡ answer_of v event) ⊎ ((answer ≡ NoMemory) × (may_want event (answer_of v event) ≡ true))
+
+-- what a desk keeps to: its sheet and its open drafts are of its instance, and its opening is lawful
+pub record IsDesk (i j : Problem) (opening : List Placed) (drafts : List (Option DraftValue)) : Type 0 where
+  pub same : j ≡ i
+  pub opening_lawful : Lawful i opening
+  pub drafts_of : (p : ℕ) → IfSome (draft_at drafts p) (λ d. d.problem ≡ i)
+
+-- there is a draft, which can be settled
+abbrev pub IsFresh : DeskValue → Option DraftValue → Type 0
+IsFresh v None = ⊥
+IsFresh v (Some d) = Settles d v.list
+
+-- of one instance, one opening and as many planners
+pub record SameDesk (v w : DeskValue) : Type 0 where
+  pub problem : w.problem ≡ v.problem
+  pub opening : w.opening ≡ v.opening
+  pub planners : length w.drafts ≡ length v.drafts

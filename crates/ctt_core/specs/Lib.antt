@@ -1,0 +1,4 @@
+pub mod Runs
+pub mod Desks
+pub mod Laws
+pub mod Openings

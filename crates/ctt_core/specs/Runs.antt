@@ -1,0 +1,146 @@
+-- Runs of many planners: their drafts, the accepted history, and the answers of a plain desk.
+use Rattle.std.specs.Prelude.{ℕ, ◌+◌, ◌<◌, ◌≡◌, ◌⊎◌, Bool, true, false, cond, List, [], ◌∷◌, ◌++◌, take, ◌==◌, Option, Some, None}
+use Rattle.std.specs.List.{AllByRecursion as Each}
+use Rattle.ctt_text.specs.Problem.{Problem}
+use Rattle.ctt_text.specs.declared.placed.Placed.{Placed}
+use Rattle.ctt_edits.specs.Calls.{CallFits, reply}
+use Rattle.ctt_edits.specs.Looks.{LookFits, shown}
+use Rattle.ctt_edits.specs.declared.call.Call.{Call}
+use Rattle.ctt_edits.specs.declared.reply.Reply.{Reply}
+use Rattle.ctt_edits.specs.declared.row.Row.{Row}
+use Rattle.ctt_draft.specs.Drafts.{calls_of, replies_in, replies, whole, stale}
+use Rattle.ctt_draft.specs.declared.asked.Asked.{Asked}
+use Rattle.ctt_core.specs.declared.event.Event.{Event}
+use Rattle.ctt_core.specs.declared.event.Event.TheVariants.{Open, Ask, Commit, Abandon, Show}
+use Rattle.ctt_core.specs.declared.answer.Answer.{Answer}
+use Rattle.ctt_core.specs.declared.answer.Answer.TheVariants.{Opened, AlreadyOpen, NoDraft, Replied, Committed, Stale, Abandoned, NoMemory}
+use Rattle.ctt_core.specs.declared.journal.JournalEntry.{JournalEntry}
+
+-- the timetable after a history of drafts, each run whole, one after another
+abbrev pub after : Problem → List Placed → List JournalEntry → List Placed
+after i t [] = t
+after i t (e ∷ es) = after i (whole i t (calls_of e.asked)) es
+
+-- each entry was told what it is told at its place in the history
+abbrev pub Legal : Problem → List Placed → List JournalEntry → Type 0
+Legal i t [] = Unit {0}
+Legal i t (e ∷ es) = (replies_in e.asked ≡ replies i t (calls_of e.asked)) × Legal i (whole i t (calls_of e.asked)) es
+
+-- an event with its answer. A run is a list of turns, the newest first
+pub record Turn : Type 0 where
+  pub event : Event
+  pub answer : Answer
+
+-- a draft that is open: how many commits came before it, and what was asked in it
+pub record OpenDraft : Type 0 where
+  pub count : ℕ
+  pub asked : List Asked
+
+abbrev pub ask : Call → Reply → Option OpenDraft → Option OpenDraft
+ask call told None = None
+ask call told (Some d) = Some (record { count = d.count; asked = d.asked ++ record { call = call; reply = told } ∷ [] })
+
+abbrev pub begin : ℕ → Option OpenDraft
+begin count = Some (record { count = count; asked = [] })
+
+-- what a turn makes of the draft d of planner p; count is how many commits came before the turn
+abbrev pub turned : ℕ → ℕ → Event → Answer → Option OpenDraft → Option OpenDraft
+turned p count (Open q) Opened d = cond (p == q) (begin count) d
+turned p count (Ask q call) (Replied told) d = cond (p == q) (ask call told d) d
+turned p count (Commit q) (Committed n) d = cond (p == q) None d
+turned p count (Commit q) (Stale row) d = cond (p == q) None d
+turned p count (Abandon q) Abandoned d = cond (p == q) None d
+turned p count _ _ d = d
+
+abbrev pub is_commit : Answer → ℕ
+is_commit (Committed n) = 1
+is_commit _ = 0
+
+-- how many commits were accepted
+abbrev pub commits : List Turn → ℕ
+commits [] = 0
+commits (turn ∷ past) = commits past + is_commit turn.answer
+
+-- the open draft of planner p, if any
+abbrev pub draft : ℕ → List Turn → Option OpenDraft
+draft p [] = None
+draft p (turn ∷ past) = turned p (commits past) turn.event turn.answer (draft p past)
+
+abbrev pub entry : ℕ → Option OpenDraft → List JournalEntry
+entry p None = []
+entry p (Some d) = record { planner = p; asked = d.asked } ∷ []
+
+abbrev pub entered : Event → Answer → List Turn → List JournalEntry
+entered (Commit p) (Committed n) past = entry p (draft p past)
+entered _ _ past = []
+
+-- the drafts that were accepted, in commit order
+abbrev pub accepted_of : List Turn → List JournalEntry
+accepted_of [] = []
+accepted_of (turn ∷ past) = accepted_of past ++ entered turn.event turn.answer past
+
+-- the timetable as it stands, and as it stood when a draft was opened
+abbrev pub now : Problem → List Placed → List Turn → List Placed
+now i t0 past = after i t0 (accepted_of past)
+
+abbrev pub base : Problem → List Placed → List Turn → OpenDraft → List Placed
+base i t0 past d = after i t0 (take d.count (accepted_of past))
+
+-- the answers of a plain desk
+abbrev pub open_answer : Option OpenDraft → Answer
+open_answer None = Opened
+open_answer (Some d) = AlreadyOpen
+
+abbrev pub ask_answer : Problem → List Placed → List Turn → Call → Option OpenDraft → Answer
+ask_answer i t0 past call None = NoDraft
+ask_answer i t0 past call (Some d) = Replied (reply i (whole i (base i t0 past d) (calls_of d.asked)) call)
+
+abbrev pub verdict : ℕ → Option Row → Answer
+verdict n None = Committed n
+verdict n (Some row) = Stale row
+
+abbrev pub commit_answer : Problem → List Placed → List Turn → Option OpenDraft → Answer
+commit_answer i t0 past None = NoDraft
+commit_answer i t0 past (Some d) = verdict (commits past + 1) (stale i (base i t0 past d) (now i t0 past) (calls_of d.asked))
+
+abbrev pub abandon_answer : Option OpenDraft → Answer
+abandon_answer None = NoDraft
+abandon_answer (Some d) = Abandoned
+
+abbrev pub plain : Problem → List Placed → List Turn → Event → Answer
+plain i t0 past (Open p) = open_answer (draft p past)
+plain i t0 past (Ask p call) = ask_answer i t0 past call (draft p past)
+plain i t0 past (Commit p) = commit_answer i t0 past (draft p past)
+plain i t0 past (Abandon p) = abandon_answer (draft p past)
+plain i t0 past (Show look) = Replied (shown i (now i t0 past) look)
+
+-- where memory may be wanted
+abbrev pub may_want : Event → Answer → Bool
+may_want (Abandon p) a = false
+may_want _ AlreadyOpen = false
+may_want _ NoDraft = false
+may_want _ _ = true
+
+abbrev pub IsRight : Problem → List Placed → List Turn → Event → Answer → Type 0
+IsRight i t0 past event answer = (answer ≡ plain i t0 past event) ⊎ ((answer ≡ NoMemory) × (may_want event (plain i t0 past event) ≡ true))
+
+abbrev pub Right : Problem → List Placed → List Turn → Type 0
+Right i t0 [] = Unit {0}
+Right i t0 (turn ∷ past) = IsRight i t0 past turn.event turn.answer × Right i t0 past
+
+-- its numbers are those of the instance and of n planners
+abbrev pub EventFits : Problem → ℕ → Event → Type 0
+EventFits i n (Open p) = p < n
+EventFits i n (Ask p call) = (p < n) × CallFits i call
+EventFits i n (Commit p) = p < n
+EventFits i n (Abandon p) = p < n
+EventFits i n (Show look) = LookFits i look
+
+abbrev pub RunFits : Problem → ℕ → List Turn → Type 0
+RunFits i n past = Each (λ (turn : Turn). EventFits i n turn.event) past
+
+-- events and their answers, oldest first, put onto a run
+abbrev pub onto : List Turn → List Event → List Answer → List Turn
+onto past [] answers = past
+onto past (e ∷ es) [] = past
+onto past (e ∷ es) (a ∷ answers) = onto (record { event = e; answer = a } ∷ past) es answers

@@ -1,0 +1,24 @@
+//! What a desk answers.
+
+use ctt_edits::{Reply, Row};
+
+/// The answer to an event.
+#[derive(Debug, Drop)]
+pub enum Answer {
+    /// A draft is open.
+    Opened,
+    /// The planner has an open draft already.
+    AlreadyOpen,
+    /// The planner has no open draft.
+    NoDraft,
+    /// What the call was told.
+    Replied(Reply),
+    /// The draft was accepted: the number of drafts that are accepted by now.
+    Committed(u64),
+    /// The draft was refused, since this row has changed; it has ended.
+    Stale(Row),
+    /// The draft was given up.
+    Abandoned,
+    /// There is not enough memory. Nothing was done.
+    NoMemory,
+}

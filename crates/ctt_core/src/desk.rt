@@ -1,0 +1,277 @@
+//! The desk.
+
+ghost use Rattle.std.specs.Prelude.{◌≡◌, ◌⊎◌, ℕ, ◌+◌, ◌<◌, List, [], ◌∷◌, length, None, Ok, Err, IfOk, IfErr, OnErr};
+ghost use Rattle.std.specs.List.{AllByRecursion as Each};
+ghost use Rattle.ctt_text.specs.Timetable.{Fits};
+ghost use Rattle.ctt_edits.specs.Calls.{CallFits};
+ghost use Rattle.ctt_edits.specs.Looks.{LookFits};
+ghost use Rattle.ctt_rules.specs.Hard.{Lawful};
+ghost use Rattle.ctt_rules.specs.Penalty.{penalty};
+ghost use Rattle.ctt_core.specs.Runs.{EventFits, Turn, onto};
+ghost use Rattle.ctt_core.specs.Laws.{Stands, Serial};
+ghost use Rattle.ctt_core.specs.Desks.{Answers, goes_on, draft_at, IsFresh, SameDesk};
+ghost use Rattle.ctt_core.specs.declared.answer.Answer.TheVariants.{Committed};
+ghost use Rattle.ctt_core.specs.declared.answer.Answer.TheVariants.{NoMemory as OutOfMemory};
+ghost use Rattle.ctt_core.specs.Openings.{opening};
+ghost use Rattle.ctt_core.specs.declared.desk_fault.DeskFault.TheVariants.{NoMemory as WantsMemory};
+ghost use Rattle.ctt_core.specs.declared.event.Event.TheVariants.{Open, Ask, Commit, Abandon, Show};
+
+use crate::answer::Answer;
+use crate::desk_fault::DeskFault;
+use crate::event::Event;
+use crate::journal::JournalEntry;
+use crate::laws;
+use crate::opening::placed;
+use crate::planner::PlannerNo;
+use ctt_board::{Rooms, Sheet, Timetable};
+use ctt_draft::Draft;
+use ctt_edits::{Call, Look, look_at};
+use ctt_rules::Cost;
+use ctt_text::{Instance, NoMemory, Placed};
+use std::alloc::{AllocError, Global};
+use std::marker::Model;
+
+/// A timetable on which planners have drafts, and the drafts that were accepted since its opening.
+#[derive(Drop)]
+pub struct Desk<'i, S: Timetable> {
+    instance: &'i Instance,
+    opening: Vec<Placed>,
+    sheet: S,
+    journal: Vec<JournalEntry>,
+    drafts: Vec<Option<Draft<'i, S>>>,
+}
+
+impl<'i, S: Timetable> Model for Desk<'i, S> {
+    ghost use Rattle.ctt_core.specs.Desks.{DeskValue, IsDesk};
+
+    ghost Value = { DeskValue };
+
+    ghost view = { λ d. record { problem = d.instance.now; opening = d.opening.items; list = S.list d.sheet; journal = d.journal.items; drafts = d.drafts.items } };
+
+    ghost invariant = { λ d. IsDesk d.instance.now (S.problem d.sheet) d.opening.items d.drafts.items };
+}
+
+/// No draft for each of so many planners.
+fn no_drafts<'i, S: Timetable>(
+    alloc: Global,
+    planners: u16,
+) -> Result<Vec<Option<Draft<'i, S>>>, AllocError>
+    ensures planners { IfOk result (λ drafts. length drafts.items ≡ planners) }
+    ensures none { IfOk result (λ drafts. (p : ℕ) → draft_at drafts.items p ≡ None) }
+{
+    let mut drafts = Vec::new(alloc);
+    for _ in 0..planners {
+        drafts.push(None)?;
+    }
+    Ok(drafts)
+}
+
+impl<'i, S: Sheet<'i>> Desk<'i, S> {
+    /// A desk whose opening timetable has these lectures, which are placed in their order.
+    pub fn new(
+        alloc: Global,
+        instance: &'i Instance,
+        lectures: &[Placed],
+        planners: u16,
+    ) -> Result<Self, DeskFault>
+        requires { Each (Fits instance.now) lectures.now }
+        ensures problem { IfOk result (λ desk. desk.problem ≡ instance.now) }
+        ensures opening { IfOk result (λ desk. opening instance.now lectures.now ≡ Ok desk.opening) }
+        ensures planners { IfOk result (λ desk. length desk.drafts ≡ planners) }
+        ensures stands { IfOk result (λ desk. Stands desk []) }
+        ensures fault { IfErr result (λ fault. (fault ≡ WantsMemory) ⊎ (opening instance.now lectures.now ≡ Err fault)) }
+    {
+        let sheet: S = placed(alloc, instance, lectures)?;
+        sheet.lawful();
+        let opening = sheet.list()?;
+        let drafts = no_drafts(alloc, planners)?;
+        Ok(Desk {
+            instance,
+            opening,
+            sheet,
+            journal: Vec::new(alloc),
+            drafts,
+        })
+    }
+
+    /// The lectures, by course and slot.
+    pub fn list(&self) -> Result<Vec<Placed>, NoMemory>
+        ensures { IfOk result (λ list. list.items ≡ self.now.list) }
+    {
+        self.sheet.list()
+    }
+
+    /// What the timetable costs.
+    pub fn cost(&self) -> Cost
+        ensures { result ≡ penalty self.now.problem self.now.list }
+    {
+        self.sheet.cost()
+    }
+
+    /// The accepted drafts, in the order of their commits.
+    pub fn journal(&self) -> &[JournalEntry]
+        ensures { result.now ≡ self.now.journal }
+    {
+        self.journal.as_slice()
+    }
+
+    /// Opens a draft.
+    fn open(&mut self, planner: PlannerNo) -> Answer
+        requires { planner < length self.old.drafts }
+        ensures answer { Answers self.old (Open planner) result }
+        ensures goes_on { self.new ≡ goes_on self.old (Open planner) result }
+    {
+        let place = planner.get() as usize;
+        if self.drafts[place].is_some() {
+            return Answer::AlreadyOpen;
+        }
+        match Draft::open(*self.journal.allocator(), &self.sheet) {
+            Ok(draft) => {
+                self.drafts[place] = Some(draft);
+                Answer::Opened
+            }
+            Err(_) => Answer::NoMemory,
+        }
+    }
+
+    /// Makes a call in a draft.
+    fn ask(&mut self, planner: PlannerNo, call: Call) -> Answer
+        requires planner { planner < length self.old.drafts }
+        requires fits { CallFits self.old.problem call }
+        ensures answer { Answers self.old (Ask planner call) result }
+        ensures goes_on { self.new ≡ goes_on self.old (Ask planner call) result }
+    {
+        let place = planner.get() as usize;
+        let draft = &mut self.drafts[place];
+        match draft {
+            None => Answer::NoDraft,
+            Some(draft) => match draft.call(call) {
+                Ok(told) => Answer::Replied(told),
+                Err(_) => Answer::NoMemory,
+            },
+        }
+    }
+
+    /// Gives a draft up.
+    fn abandon(&mut self, planner: PlannerNo) -> Answer
+        requires { planner < length self.old.drafts }
+        ensures answer { Answers self.old (Abandon planner) result }
+        ensures goes_on { self.new ≡ goes_on self.old (Abandon planner) result }
+    {
+        let place = planner.get() as usize;
+        if self.drafts[place].is_none() {
+            return Answer::NoDraft;
+        }
+        self.drafts[place] = None;
+        Answer::Abandoned
+    }
+
+    /// Looks at the timetable as it stands.
+    fn show(&self, look: &Look) -> Answer
+        requires { LookFits self.now.problem look.now }
+        ensures answer { Answers self.now (Show look.now) result }
+        ensures goes_on { self.now ≡ goes_on self.now (Show look.now) result }
+    {
+        match look_at(&self.sheet, look) {
+            Ok(told) => Answer::Replied(told),
+            Err(_) => Answer::NoMemory,
+        }
+    }
+
+    /// Settles a draft that is not stale, and enters it into the journal.
+    fn accept(&mut self, planner: PlannerNo) -> Answer
+        requires planner { planner < length self.old.drafts }
+        requires fresh { IsFresh self.old (draft_at self.old.drafts planner) }
+        ensures answer { (result ≡ OutOfMemory) ⊎ (result ≡ Committed (length self.old.journal + 1)) }
+        ensures goes_on { self.new ≡ goes_on self.old (Commit planner) result }
+    {
+        let place = planner.get() as usize;
+        if self.journal.reserve(1).is_err() {
+            return Answer::NoMemory;
+        }
+        let Some(draft) = self.drafts[place].take() else {
+            return Answer::NoDraft;
+        };
+        let work = draft.finish();
+        work.settle(&mut self.sheet);
+        let asked = work.asked;
+        self.journal.push(JournalEntry { planner, asked }).unwrap();
+        Answer::Committed(self.journal.len() as u64)
+    }
+
+    /// Accepts a draft, or refuses it where it is stale.
+    fn commit(&mut self, planner: PlannerNo) -> Answer
+        requires { planner < length self.old.drafts }
+        ensures answer { Answers self.old (Commit planner) result }
+        ensures goes_on { self.new ≡ goes_on self.old (Commit planner) result }
+    {
+        let place = planner.get() as usize;
+        let found = match &self.drafts[place] {
+            None => return Answer::NoDraft,
+            Some(draft) => draft.stale(&self.sheet),
+        };
+        match found {
+            Err(_) => Answer::NoMemory,
+            Ok(Some(row)) => {
+                self.drafts[place] = None;
+                Answer::Stale(row)
+            }
+            Ok(None) => self.accept(planner),
+        }
+    }
+
+    /// Computes nothing: its contract says that the opening is lawful.
+    fn lawful(&self)
+        ensures { Lawful self.now.problem self.now.opening }
+    {
+        let _opening = &self.opening;
+    }
+
+    /// Answers an event by what the desk keeps.
+    fn answer(&mut self, event: Event) -> Answer
+        requires { EventFits self.old.problem (length self.old.drafts) event }
+        ensures answer { Answers self.old event result }
+        ensures goes_on { self.new ≡ goes_on self.old event result }
+    {
+        match event {
+            Event::Open(planner) => self.open(planner),
+            Event::Ask(planner, call) => self.ask(planner, call),
+            Event::Commit(planner) => self.commit(planner),
+            Event::Abandon(planner) => self.abandon(planner),
+            Event::Show(look) => self.show(&look),
+        }
+    }
+
+    /// Answers an event. Where memory is wanted nothing was done, and a draft stays open.
+    pub fn step(&mut self, event: Event) -> Answer
+        requires { EventFits self.old.problem (length self.old.drafts) event }
+        ensures goes_on { self.new ≡ goes_on self.old event result }
+        ensures same { SameDesk self.old self.new }
+        ensures plain { (past : List Turn) → Stands self.old past → Stands self.new (record { event = event; answer = result } ∷ past) }
+        ensures serial { (past : List Turn) → Stands self.old past → Serial self.new (record { event = event; answer = result } ∷ past) }
+    {
+        laws::desk_is_plain();
+        laws::desk_is_serial();
+        self.lawful();
+        self.answer(event)
+    }
+
+    /// Answers events one after another. Where there is no memory for the answers no event was taken.
+    pub fn run(&mut self, events: &[Event]) -> Result<Vec<Answer>, NoMemory>
+        requires { Each (EventFits self.old.problem (length self.old.drafts)) events.now }
+        ensures same { SameDesk self.old self.new }
+        ensures length { IfOk result (λ answers. length answers.items ≡ length events.now) }
+        ensures plain { IfOk result (λ answers. (past : List Turn) → Stands self.old past → Stands self.new (onto past events.now answers.items)) }
+        ensures serial { IfOk result (λ answers. (past : List Turn) → Stands self.old past → Serial self.new (onto past events.now answers.items)) }
+        ensures err { OnErr result (self.new ≡ self.old) }
+    {
+        laws::desk_is_serial();
+        let mut answers = Vec::with_capacity(*self.journal.allocator(), events.len())?;
+        for event in events {
+            let answer = self.step(*event);
+            answers.push(answer).unwrap();
+        }
+        self.lawful();
+        Ok(answers)
+    }
+}

@@ -1,0 +1,38 @@
+//! What planners do.
+
+ghost use Rattle.std.specs.Prelude.{◌↔◌, IsTrue};
+ghost use Rattle.ctt_core.specs.Runs.{EventFits};
+
+use crate::planner::PlannerNo;
+use ctt_edits::{Call, Look};
+use ctt_text::Instance;
+
+/// One step of a planner, or a look at the timetable as it stands.
+#[derive(Clone, Copy, Debug, PartialEq, Eq)]
+pub enum Event {
+    /// The planner opens a draft on the timetable as it stands.
+    Open(PlannerNo),
+    /// The planner makes a call in his draft.
+    Ask(PlannerNo, Call),
+    /// The planner wants his draft accepted.
+    Commit(PlannerNo),
+    /// The planner gives his draft up.
+    Abandon(PlannerNo),
+    /// Somebody looks at the timetable as it stands.
+    Show(Look),
+}
+
+impl Event {
+    /// Whether its numbers are those of the instance, and its planner is one of so many.
+    pub fn fits(&self, instance: &Instance, planners: u16) -> bool
+        ensures { IsTrue result ↔ EventFits instance.now planners self.now }
+    {
+        match self {
+            Event::Open(planner) | Event::Commit(planner) | Event::Abandon(planner) => {
+                planner.get() < planners
+            }
+            Event::Ask(planner, call) => planner.get() < planners && call.fits(instance),
+            Event::Show(look) => look.fits(instance),
+        }
+    }
+}

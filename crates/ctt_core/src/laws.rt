@@ -1,0 +1,24 @@
+//! Laws of runs and desks, for the layers above. None of these functions computes anything.
+
+ghost use Rattle.ctt_core.specs.Laws.{Headline, DeskIsPlain, DeskIsSerial, OntoJoins};
+
+/// Whatever the planners' steps: the accepted history is legal, and the timetable after it lawful.
+pub fn headline()
+    ensures { Headline }
+{}
+
+/// A desk that stands at a right run answers as the run says, and goes on to stand at the longer run.
+pub fn desk_is_plain()
+    ensures { DeskIsPlain }
+{}
+
+/// A run of events after events is the run of all.
+pub fn onto_joins()
+    ensures { OntoJoins }
+{}
+
+/// Of a desk that stands at a right run: the accepted history is legal, and the timetable is the one
+/// after it, and lawful.
+pub fn desk_is_serial()
+    ensures { DeskIsSerial }
+{}

@@ -1,0 +1,21 @@
+//! The desk: many planners' drafts on one timetable, one step at a time.
+#![tactic(auto)]
+
+mod answer;
+mod desk;
+mod desk_fault;
+mod event;
+mod journal;
+pub mod laws;
+mod opening;
+mod planner;
+
+pub use answer::Answer;
+pub use desk::Desk;
+pub use desk_fault::DeskFault;
+pub use event::Event;
+pub use journal::JournalEntry;
+pub use planner::PlannerNo;
+
+#[cfg(test)]
+mod tests;

@@ -1,0 +1,36 @@
+//! The numbers of planners.
+
+ghost use Rattle.std.specs.Prelude.{◌≡◌};
+
+use std::marker::Model;
+
+/// The number of a planner, from 0.
+#[derive(Clone, Copy, Debug, Default, PartialEq, Eq, PartialOrd, Ord, Hash)]
+pub struct PlannerNo(u16);
+
+impl Model for PlannerNo {
+    ghost use Rattle.std.specs.Prelude.{ℕ};
+
+    ghost Value = { ℕ };
+
+    ghost view = { λ n. n.0 };
+
+    ghost inverse = { λ n. record { 0 = n } };
+}
+
+impl PlannerNo {
+    /// The planner with this number.
+    pub fn new(number: u16) -> Self
+        ensures { result ≡ number }
+    {
+        PlannerNo(number)
+    }
+
+    /// The number itself.
+    pub fn get(self) -> u16
+        ensures { result ≡ self }
+    {
+        let PlannerNo(number) = self;
+        number
+    }
+}

@@ -1,0 +1,84 @@
+-- A draft that is not stale does on the present timetable what it did on its base.
+use Rattle.std.proofs.Common.{◌≡◌, ℕ, Bool, true, false, ◌&&◌, ◌==◌, List, [], ◌∷◌, ◌++◌, Some, None, refl, ◌∙◌, sym, ap, ap₂, subst, inl, inr}
+use Rattle.std.specs.List.{find, AllByRecursion as Each}
+use Rattle.std.proofs.lemmas.Bool.{cases_Bool, eqb-true, and_parts, or_left, or_right, not-false}
+use Rattle.std.proofs.lemmas.List.Elements.{All-from_recursion}
+use Rattle.ctt_text.specs.Problem.{Problem}
+use Rattle.ctt_text.specs.Timetable.{Ascending}
+use Rattle.ctt_text.specs.declared.placed.Placed.{Placed}
+use Rattle.ctt_text.proofs.LectureLaws.{placed_same}
+use Rattle.ctt_text.proofs.TimetableLemmas.{Each-map}
+use Rattle.ctt_rules.specs.Hard.{Lawful}
+use Rattle.ctt_board.specs.Changes.{apply}
+use Rattle.ctt_board.specs.declared.cell.Cell.{Cell}
+use Rattle.ctt_board.proofs.ApplyLemmas.{agree_apply}
+use Rattle.ctt_board.proofs.OrderLemmas.{in_order}
+use Rattle.ctt_edits.specs.Calls.{CallFits, cells_of, reads_course, reads_slot, row, Agree}
+use Rattle.ctt_edits.specs.declared.call.Call.{Call}
+use Rattle.ctt_edits.specs.declared.row.Row.{Row}
+use Rattle.ctt_edits.proofs.CallLemmas.{reply_same, cells_same}
+use Rattle.ctt_edits.proofs.ReadLemmas.{AgreeOn, agree_on}
+use Rattle.ctt_draft.specs.Drafts.{after_call, replies, made, changes, apply_all, all_read_course, all_read_slot, all_reads, same_lecture, same_list, differs, ChangesFit}
+use Rattle.ctt_draft.specs.Laws.{DraftFrame, SettlingFits}
+use Rattle.ctt_draft.proofs.CallRuns.{lawful_after_call, whole_is, changes_fit}
+
+-- what is the same stays the same under the same cells
+agree_after : (p q : ℕ → Bool) (cells : List Cell) (t u : List Placed) → Ascending t → Ascending u → AgreeOn p q t u → AgreeOn p q (apply cells t) (apply cells u)
+agree_after p q cells t u h k a = record {
+  courses = λ c y. agree_apply (λ l. l.course == c) cells t u (in_order t h) (in_order u k) (a.courses c y);
+  slots = λ s y. agree_apply (λ l. l.slot == s) cells t u (in_order t h) (in_order u k) (a.slots s y);
+}
+
+-- the calls one by one, on two timetables that agree at all rows that they read
+run_same : (i : Problem) (p q : ℕ → Bool) (calls : List Call) (t u : List Placed) → Lawful i t → Lawful i u → Each (CallFits i) calls → AgreeOn p q t u →
+    ((c : ℕ) → all_read_course i calls c ≡ true → p c ≡ true) → ((s : ℕ) → all_read_slot calls s ≡ true → q s ≡ true) →
+    (replies i t calls ≡ replies i u calls) × (changes i t calls ≡ changes i u calls)
+run_same i p q [] t u h k f a pc qs = (refl, refl)
+run_same i p q (call ∷ calls) t u h k f a pc qs =
+    let here : AgreeOn (reads_course i call) (reads_slot call) t u = record {
+      courses = λ c y. a.courses c (pc c (or_left (reads_course i call c) (all_read_course i calls c) y));
+      slots = λ s y. a.slots s (qs s (or_left (reads_slot call s) (all_read_slot calls s) y));
+    } in
+    let same : cells_of i t call ≡ cells_of i u call = cells_same i call t u h.timetable k.timetable here in
+    let after : AgreeOn p q (after_call i t call) (after_call i u call) =
+    subst (λ cells. AgreeOn p q (after_call i t call) (apply cells u)) same (agree_after p q (cells_of i t call) t u h.timetable.ascending k.timetable.ascending a) in
+    let rest : (replies i (after_call i t call) calls ≡ replies i (after_call i u call) calls) × (changes i (after_call i t call) calls ≡ changes i (after_call i u call) calls) =
+    run_same i p q calls (after_call i t call) (after_call i u call) (lawful_after_call i t call h f.0) (lawful_after_call i u call k f.0) f.1 after
+    (λ c y. pc c (or_right (reads_course i call c) (all_read_course i calls c) y)) (λ s y. qs s (or_right (reads_slot call s) (all_read_slot calls s) y)) in
+    (ap₂ (λ x xs. x ∷ xs) (reply_same i call t u h.timetable k.timetable f.0 here) rest.0, ap₂ (λ x xs. made x ++ xs) same rest.1)
+
+-- a test of lists that holds of equal lists alone
+same_lecture_true : (a b : Placed) → same_lecture a b ≡ true → a ≡ b
+same_lecture_true a b h =
+    let x = and_parts (a.course == b.course && a.slot == b.slot) (a.room == b.room) h in
+    let y = and_parts (a.course == b.course) (a.slot == b.slot) x.0 in
+    placed_same a.course b.course a.slot b.slot a.room b.room (eqb-true a.course b.course y.0) (eqb-true a.slot b.slot y.1) (eqb-true a.room b.room x.1)
+
+pub same_list_true : (xs ys : List Placed) → same_list xs ys ≡ true → xs ≡ ys
+same_list_true [] [] h = refl
+same_list_true [] (y ∷ ys) h = cc
+same_list_true (x ∷ xs) [] h = cc
+same_list_true (x ∷ xs) (y ∷ ys) h =
+    let parts = and_parts (same_lecture x y) (same_list xs ys) h in
+    ap₂ (λ z zs. z ∷ zs) (same_lecture_true x y parts.0) (same_list_true xs ys parts.1)
+
+first_none : {X : Type 0} (p : X → Bool) (xs : List X) → find p xs ≡ None → Each (λ x. p x ≡ false) xs
+first_none p [] h = tt
+first_none p (x ∷ xs) h = elim (cases_Bool (p x)) [
+  | inl b ↦ (let h' : Some x ≡ None = rw b at h in cc)
+  | inr b ↦ (let h' : find p xs ≡ None = rw b at h in (b, first_none p xs h'))
+]
+
+pub draft_frame : DraftFrame
+draft_frame i base now calls h k f fresh =
+    let same_row : (r : Row) → differs base now r ≡ false → row r now ≡ row r base = λ r e. sym (same_list_true (row r base) (row r now) (not-false (same_list (row r base) (row r now)) e)) in
+    let agree : Agree now base (all_reads i calls) = All-from_recursion (λ r. row r now ≡ row r base) (all_reads i calls)
+    (Each-map (λ r. differs base now r ≡ false) (λ r. row r now ≡ row r base) same_row (all_reads i calls) (first_none (differs base now) (all_reads i calls) fresh)) in
+    let on : AgreeOn (all_read_course i calls) (all_read_slot calls) now base = agree_on i (all_read_course i calls) (all_read_slot calls) now base k.timetable h.timetable agree in
+    let same : (replies i now calls ≡ replies i base calls) × (changes i now calls ≡ changes i base calls) =
+    run_same i (all_read_course i calls) (all_read_slot calls) calls now base k h f on (λ c y. y) (λ s y. y) in
+    record { replies_same = same.0; changes_same = same.1; left = whole_is i calls now ∙ ap (λ list. apply_all list now) same.1 }
+
+pub settling_fits : SettlingFits
+settling_fits i base now calls h k f fresh =
+    subst (λ list. ChangesFit i list now) (draft_frame i base now calls h k f fresh).changes_same (changes_fit i now calls k f)

@@ -1,0 +1,76 @@
+-- A whole draft, and when it is stale.
+use Rattle.std.specs.Prelude.{ℕ, Bool, not, ◌&&◌, ◌==◌, List, [], ◌∷◌, ◌++◌, map, Option}
+use Rattle.std.specs.Cmp.Lexicographic.{pointwise}
+use Rattle.std.specs.List.{list_any, find}
+use Rattle.ctt_text.specs.Problem.{Problem}
+use Rattle.ctt_text.specs.declared.placed.Placed.{Placed}
+use Rattle.ctt_board.specs.Changes.{apply, ChangeFits}
+use Rattle.ctt_board.specs.declared.cell.Cell.{Cell}
+use Rattle.ctt_edits.specs.Calls.{reply, cells_of, reads_course, reads_slot, rows_where, row}
+use Rattle.ctt_edits.specs.declared.call.Call.{Call}
+use Rattle.ctt_edits.specs.declared.reply.Reply.{Reply}
+use Rattle.ctt_edits.specs.declared.row.Row.{Row}
+use Rattle.ctt_draft.specs.declared.asked.Asked.{Asked}
+
+abbrev pub calls_of : List Asked → List Call
+calls_of asked = map (λ (a : Asked). a.call) asked
+
+abbrev pub replies_in : List Asked → List Reply
+replies_in asked = map (λ (a : Asked). a.reply) asked
+
+-- the timetable after a call
+abbrev pub after_call : Problem → List Placed → Call → List Placed
+after_call i t call = apply (cells_of i t call) t
+
+-- the calls made on t one by one, with nobody else at work: the replies, and the timetable afterwards
+abbrev pub replies : Problem → List Placed → List Call → List Reply
+replies i t [] = []
+replies i t (call ∷ calls) = reply i t call ∷ replies i (after_call i t call) calls
+
+abbrev pub whole : Problem → List Placed → List Call → List Placed
+whole i t [] = t
+whole i t (call ∷ calls) = whole i (after_call i t call) calls
+
+-- the change of these cells, if there are any
+abbrev pub made : List Cell → List (List Cell)
+made [] = []
+made (x ∷ xs) = (x ∷ xs) ∷ []
+
+-- the changes that the calls make
+abbrev pub changes : Problem → List Placed → List Call → List (List Cell)
+changes i t [] = []
+changes i t (call ∷ calls) = made (cells_of i t call) ++ changes i (after_call i t call) calls
+
+-- the timetable after changes, in order
+abbrev pub apply_all : List (List Cell) → List Placed → List Placed
+apply_all [] t = t
+apply_all (x ∷ xs) t = apply_all xs (apply x t)
+
+-- each change fits when its turn comes
+abbrev pub ChangesFit : Problem → List (List Cell) → List Placed → Type 0
+ChangesFit i [] t = Unit {0}
+ChangesFit i (x ∷ xs) t = ChangeFits i x t × ChangesFit i xs (apply x t)
+
+-- the courses and the slots whose rows some of the calls read, and these rows
+abbrev pub all_read_course : Problem → List Call → ℕ → Bool
+all_read_course i calls c = list_any (λ call. reads_course i call c) calls
+
+abbrev pub all_read_slot : List Call → ℕ → Bool
+all_read_slot calls s = list_any (λ call. reads_slot call s) calls
+
+abbrev pub all_reads : Problem → List Call → List Row
+all_reads i calls = rows_where i (all_read_course i calls) (all_read_slot calls)
+
+abbrev pub same_lecture : Placed → Placed → Bool
+same_lecture a b = a.course == b.course && a.slot == b.slot && a.room == b.room
+
+abbrev pub same_list : List Placed → List Placed → Bool
+same_list t u = pointwise same_lecture t u
+
+-- the row is not the same in both
+abbrev pub differs : List Placed → List Placed → Row → Bool
+differs t u r = not (same_list (row r t) (row r u))
+
+-- the least row that the calls read and that differs
+abbrev pub stale : Problem → List Placed → List Placed → List Call → Option Row
+stale i base now calls = find (differs base now) (all_reads i calls)

@@ -1,0 +1,23 @@
+-- What layers above rest on.
+use Rattle.std.specs.Prelude.{◌≡◌, List, None}
+use Rattle.std.specs.List.{AllByRecursion as Each}
+use Rattle.ctt_text.specs.Problem.{Problem}
+use Rattle.ctt_text.specs.declared.placed.Placed.{Placed}
+use Rattle.ctt_rules.specs.Hard.{Lawful}
+use Rattle.ctt_edits.specs.Calls.{CallFits}
+use Rattle.ctt_edits.specs.declared.call.Call.{Call}
+use Rattle.ctt_draft.specs.Drafts.{replies, whole, changes, apply_all, ChangesFit, stale}
+
+-- what a draft is on its base, it is on the timetable t: its replies, its changes, and what they leave
+pub record SameOn (i : Problem) (base t : List Placed) (calls : List Call) : Type 0 where
+  pub replies_same : replies i t calls ≡ replies i base calls
+  pub changes_same : changes i t calls ≡ changes i base calls
+  pub left : whole i t calls ≡ apply_all (changes i base calls) t
+
+-- a draft that is not stale gets its replies, and makes its changes, on the present timetable too
+abbrev pub DraftFrame : Type 0
+DraftFrame = (i : Problem) (base now : List Placed) (calls : List Call) → Lawful i base → Lawful i now → Each (CallFits i) calls → stale i base now calls ≡ None → SameOn i base now calls
+
+-- and its changes fit there
+abbrev pub SettlingFits : Type 0
+SettlingFits = (i : Problem) (base now : List Placed) (calls : List Call) → Lawful i base → Lawful i now → Each (CallFits i) calls → stale i base now calls ≡ None → ChangesFit i (changes i base calls) now

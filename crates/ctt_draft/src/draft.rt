@@ -1,0 +1,192 @@
+//! A draft: what one planner asks of a timetable of his own.
+
+ghost use Rattle.std.specs.Prelude.{◌≡◌, ◌++◌, ◌∷◌, [], IfOk, OnOk, OnErr, None, Ok};
+ghost use Rattle.ctt_edits.specs.Calls.{CallFits, reply, cells_of};
+ghost use Rattle.ctt_edits.specs.declared.call.Call.TheVariants.{Look as Looks, Edit as Edits};
+ghost use Rattle.ctt_edits.specs.declared.reply.Reply.TheVariants.{Done};
+ghost use Rattle.ctt_edits.specs.Edits.{EditFits, edit_fault, change as change_of};
+ghost use Rattle.ctt_edits.specs.Looks.{LookFits, shown};
+ghost use Rattle.ctt_draft.specs.Drafts.{calls_of, changes, stale};
+ghost use Rattle.ctt_draft.specs.DraftValues.{present, asked_more, IsTold, Settles};
+
+use crate::asked::{Asked, AskedCalls};
+use crate::comparing::{first_course, first_slot};
+use crate::laws;
+use crate::work::Work;
+use ctt_board::{Change, Rooms, Sheet, Timetable};
+use ctt_edits::{Call, Edit, Look, Reply, Row, check, look_at, mark_reads};
+use ctt_text::{Instance, Marks, NoMemory};
+use std::alloc::Global;
+use std::marker::Model;
+
+/// The timetable at the opening, the calls since then with their replies, and the timetable as these
+/// leave it. Nobody else's work is seen in it.
+#[derive(Drop)]
+pub struct Draft<'i, S: Timetable> {
+    instance: &'i Instance,
+    base: S,
+    present: S,
+    asked: Vec<Asked>,
+    changes: Vec<Change>,
+    courses: Marks,
+    slots: Marks,
+}
+
+impl<'i, S: Timetable> Model for Draft<'i, S> {
+    ghost use Rattle.ctt_draft.specs.DraftValues.{DraftValue, IsDraft};
+
+    ghost Value = { DraftValue };
+
+    ghost view = { λ d. record { problem = d.instance.now; base = S.list d.base; asked = d.asked.items } };
+
+    ghost invariant = { λ d. IsDraft d.instance.now (S.problem d.base) (S.problem d.present) (S.list d.base) (S.list d.present) d.asked.items d.changes.items d.courses d.slots };
+}
+
+impl<'i, S: Sheet<'i>> Draft<'i, S> {
+    /// A draft on the timetable of a sheet, in which nothing was asked yet.
+    pub fn open(alloc: Global, sheet: &S) -> Result<Self, NoMemory>
+        ensures problem { IfOk result (λ draft. draft.problem ≡ S.problem sheet.now) }
+        ensures base { IfOk result (λ draft. draft.base ≡ S.list sheet.now) }
+        ensures asked { IfOk result (λ draft. draft.asked ≡ []) }
+    {
+        let base = sheet.copy()?;
+        let present = sheet.copy()?;
+        Ok(Draft {
+            instance: sheet.instance(),
+            base,
+            present,
+            asked: Vec::new(alloc),
+            changes: Vec::new(alloc),
+            courses: Marks::new(),
+            slots: Marks::new(),
+        })
+    }
+
+    /// The calls with their replies, in order.
+    pub fn asked(&self) -> &[Asked]
+        ensures { result.now ≡ self.now.asked }
+    {
+        self.asked.as_slice()
+    }
+
+    /// Keeps a call that changes nothing, with its reply.
+    fn keep(&mut self, call: Call, told: Reply) -> Result<(), NoMemory>
+        requires fits { CallFits self.old.problem call }
+        requires told { told ≡ reply self.old.problem (present self.old) call }
+        requires still { cells_of self.old.problem (present self.old) call ≡ [] }
+        ensures ok { OnOk result (self.new ≡ asked_more self.old call told) }
+        ensures err { OnErr result (self.new ≡ self.old) }
+    {
+        self.asked.push(Asked { call, reply: told })?;
+        mark_reads(self.instance, &call, &mut self.courses, &mut self.slots);
+        Ok(())
+    }
+
+    /// Keeps an edit that is made, and makes it.
+    fn make(&mut self, edit: Edit, change: Change) -> Result<(), NoMemory>
+        requires fits { EditFits self.old.problem edit }
+        requires accepted { edit_fault self.old.problem (present self.old) edit ≡ None }
+        requires change { change ≡ change_of (present self.old) edit }
+        ensures ok { OnOk result (self.new ≡ asked_more self.old (Edits edit) Done) }
+        ensures err { OnErr result (self.new ≡ self.old) }
+    {
+        let call = Call::Edit(edit);
+        self.present.lawful();
+        self.changes.reserve(1)?;
+        self.asked.push(Asked {
+            call,
+            reply: Reply::Done,
+        })?;
+        mark_reads(self.instance, &call, &mut self.courses, &mut self.slots);
+        self.present.apply(&change);
+        self.changes.push(change).unwrap();
+        Ok(())
+    }
+
+    /// The timetable as the calls leave it.
+    fn present(&self) -> &S
+        ensures problem { S.problem result.now ≡ self.now.problem }
+        ensures list { S.list result.now ≡ present self.now }
+    {
+        &self.present
+    }
+
+    /// Looks, and keeps what is shown.
+    fn look(&mut self, look: Look) -> Result<Reply, NoMemory>
+        requires fits { LookFits self.old.problem look }
+        ensures ok { IfOk result (λ told. (told ≡ shown self.old.problem (present self.old) look) × (self.new ≡ asked_more self.old (Looks look) told)) }
+        ensures err { OnErr result (self.new ≡ self.old) }
+    {
+        let told = look_at(self.present(), &look)?;
+        let kept = told.copy()?;
+        self.keep(Call::Look(look), kept)?;
+        Ok(told)
+    }
+
+    /// Makes an edit, or keeps its fault.
+    fn edit(&mut self, edit: &Edit) -> Result<Reply, NoMemory>
+        requires fits { EditFits self.old.problem edit.now }
+        ensures ok { IfOk result (λ told. (told ≡ reply self.old.problem (present self.old) (Edits edit.now)) × (self.new ≡ asked_more self.old (Edits edit.now) told)) }
+        ensures err { OnErr result (self.new ≡ self.old) }
+    {
+        let checked = check(self.present(), edit);
+        match checked {
+            Ok(change) => {
+                self.make(*edit, change)?;
+                Ok(Reply::Done)
+            }
+            Err(fault) => {
+                let told = Reply::Refused(fault);
+                let kept = told.copy()?;
+                self.keep(Call::Edit(*edit), kept)?;
+                Ok(told)
+            }
+        }
+    }
+
+    /// Makes a call. Where memory is wanted the call was not made, and nothing more was read.
+    pub fn call(&mut self, call: Call) -> Result<Reply, NoMemory>
+        requires { CallFits self.old.problem call }
+        ensures ok { IfOk result (λ told. (told ≡ reply self.old.problem (present self.old) call) × (self.new ≡ asked_more self.old call told)) }
+        ensures err { OnErr result (self.new ≡ self.old) }
+    {
+        match call {
+            Call::Look(look) => self.look(look),
+            Call::Edit(edit) => self.edit(&edit),
+        }
+    }
+
+    /// The first row that the calls read and that is not the same on a sheet, if there is one. Where
+    /// there is none, the draft's changes fit that sheet, and the calls are told the same on it.
+    pub fn stale(&self, sheet: &S) -> Result<Option<Row>, NoMemory>
+        requires same { S.problem sheet.now ≡ self.now.problem }
+        ensures row { IfOk result (λ row. row ≡ stale self.now.problem self.now.base (S.list sheet.now) (calls_of self.now.asked)) }
+        ensures fresh { result ≡ Ok None → Settles self.now (S.list sheet.now) }
+    {
+        laws::draft_frame();
+        laws::settling_fits();
+        sheet.lawful();
+        self.base.lawful();
+        let courses = self.instance.courses();
+        let slots = self.instance.slots();
+        if let Some(course) = first_course(&self.base, sheet, &self.courses, courses)? {
+            return Ok(Some(Row::Course(course)));
+        }
+        if let Some(slot) = first_slot(&self.base, sheet, &self.slots, slots)? {
+            return Ok(Some(Row::Slot(slot)));
+        }
+        Ok(None)
+    }
+
+    /// Ends the draft: its calls with their replies, and the changes that they made.
+    pub fn finish(self) -> Work
+        ensures asked { result.asked ≡ self.entry.asked }
+        ensures changes { result.changes.items ≡ changes self.entry.problem self.entry.base (calls_of self.entry.asked) }
+        ensures told { IsTold self.entry.problem self.entry.base self.entry.asked }
+    {
+        Work {
+            asked: AskedCalls::new(self.asked),
+            changes: self.changes,
+        }
+    }
+}

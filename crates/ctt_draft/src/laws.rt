@@ -1,0 +1,14 @@
+//! Laws of drafts, for the layers above. None of these functions computes anything.
+
+ghost use Rattle.ctt_draft.specs.Laws.{DraftFrame, SettlingFits};
+
+/// A draft that is not stale is told on the present timetable what it was told on its base, and
+/// changes the same there.
+pub fn draft_frame()
+    ensures { DraftFrame }
+{}
+
+/// The changes of a draft that is not stale fit the present timetable, each when its turn comes.
+pub fn settling_fits()
+    ensures { SettlingFits }
+{}

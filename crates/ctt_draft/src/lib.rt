@@ -1,0 +1,12 @@
+//! Drafts: calls that a planner makes on a timetable of his own, and what is made of them.
+#![tactic(auto)]
+
+mod asked;
+mod comparing;
+mod draft;
+pub mod laws;
+mod work;
+
+pub use asked::{Asked, AskedCalls};
+pub use draft::Draft;
+pub use work::Work;

@@ -1,0 +1,36 @@
+//! What a draft was, when it has ended.
+
+ghost use Rattle.std.specs.Prelude.{◌≡◌};
+ghost use Rattle.ctt_draft.specs.Drafts.{apply_all, ChangesFit};
+
+use crate::asked::AskedCalls;
+use ctt_board::{Change, Timetable};
+
+/// The calls of a draft with their replies, and the changes that they made.
+#[derive(Debug, Drop)]
+pub struct Work {
+    pub asked: AskedCalls,
+    pub changes: Vec<Change>,
+}
+
+impl Work {
+    /// Makes its changes on a sheet. It takes no memory.
+    pub fn settle<S: Timetable>(&self, sheet: &mut S)
+        requires { ChangesFit (S.problem sheet.old) self.now.changes.items (S.list sheet.old) }
+        ensures problem { S.problem sheet.new ≡ S.problem sheet.old }
+        ensures list { S.list sheet.new ≡ apply_all self.now.changes.items (S.list sheet.old) }
+    {
+        settle(&self.changes, sheet);
+    }
+}
+
+/// Makes changes, each in its turn.
+fn settle<S: Timetable>(changes: &[Change], sheet: &mut S)
+    requires { ChangesFit (S.problem sheet.old) changes.now (S.list sheet.old) }
+    ensures problem { S.problem sheet.new ≡ S.problem sheet.old }
+    ensures list { S.list sheet.new ≡ apply_all changes.now (S.list sheet.old) }
+{
+    for change in changes {
+        sheet.apply(change);
+    }
+}

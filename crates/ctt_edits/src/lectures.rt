@@ -1,0 +1,52 @@
+//! Lectures that are told.
+
+ghost use Rattle.std.specs.Prelude.{◌≡◌, IfOk};
+
+use ctt_text::{NoMemory, Placed};
+use std::marker::Model;
+
+/// Lectures in a list, seen as this list.
+#[derive(Clone, Debug, Drop)]
+pub struct Lectures {
+    list: Vec<Placed>,
+}
+
+impl Model for Lectures {
+    ghost use Rattle.std.specs.Prelude.{List};
+    ghost use Rattle.ctt_text.specs.declared.placed.Placed.{Placed};
+
+    ghost Value = { List Placed };
+
+    ghost view = { λ l. l.list.items };
+}
+
+impl Lectures {
+    /// The lectures of a list.
+    pub fn new(list: Vec<Placed>) -> Self
+        ensures { result ≡ list.items }
+    {
+        Lectures { list }
+    }
+
+    /// The list.
+    pub fn as_slice(&self) -> &[Placed]
+        ensures { result.now ≡ self.now }
+    {
+        self.list.as_slice()
+    }
+
+    /// The list itself.
+    pub fn into_vec(self) -> Vec<Placed>
+        ensures { result.items ≡ self }
+    {
+        self.list
+    }
+
+    /// Equal lectures.
+    pub fn copy(&self) -> Result<Self, NoMemory>
+        ensures { IfOk result (λ lectures. lectures ≡ self.now) }
+    {
+        let list = self.list.as_slice().to_vec(*self.list.allocator())?;
+        Ok(Lectures { list })
+    }
+}
