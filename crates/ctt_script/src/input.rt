@@ -55,6 +55,8 @@ pub fn read_all<R: Source>(
         IfSome (R.left reader.old) (λ bytes. 0 < length bytes) }
 
     ensures few { R.pulls reader.new ≤ R.pulls reader.old + limit + 1 }
+    ensures fewer { IfSome (R.left reader.old) (λ old. IfSome (R.left reader.new) (λ new.
+        R.pulls reader.new + length new ≤ R.pulls reader.old + length old + 1)) }
 {
     let mut bytes = Vec::new(alloc);
     let mut buffer = [0u8; PIECE];

@@ -1,7 +1,7 @@
 -- What holds where bytes are told.
 use Rattle.std.proofs.Common.{◌≡◌, ◌⊎◌, inl, inr, ℕ, List, codes, refl, arith, IfSome, OnOk, Option, Some, None, Result, Ok, Err}
 use Rattle.std.specs.Io.KnownBytes.{Appends}
-use Rattle.ctt_tool.specs.Faults.{IsLineOf, SaysLineOf, status_of}
+use Rattle.ctt_tool.specs.Faults.{IsLineOf, SaysFault, SaysLineOf, status_of}
 use Rattle.ctt_tool.specs.declared.fault.Fault.{Fault}
 use Rattle.ctt_tool.specs.declared.fault.Fault.TheVariants.{CannotRead, CannotWrite, Instance, NoMemory, Solution, TooLong, Words, WordsNotText}
 
@@ -30,3 +30,7 @@ no_memory_line NoMemory e = (codes "timedesk: no memory", refl)
 pub says_line : (M U : Type 0) (fault : Fault) (old new : Option (List ℕ)) (bytes : List ℕ) → IsLineOf fault bytes → M ⊎ (U × Appends old new bytes) → M ⊎ SaysLineOf fault old new
 says_line M U fault old new bytes line (inl marked) = inl marked
 says_line M U fault old new bytes line (inr said) = inr (bytes, line, said.1)
+
+pub says_fault : (M : Type 0) (fault : Fault) (old new : Option (List ℕ)) → M ⊎ SaysLineOf fault old new → M ⊎ SaysFault (status_of fault) old new
+says_fault M fault old new (inl marked) = inl marked
+says_fault M fault old new (inr said) = inr (fault, refl, said)

@@ -98,3 +98,7 @@ IsLineOf NoMemory bytes = EndsLine bytes
 -- such a line is said
 abbrev pub SaysLineOf : Fault → Option (List ℕ) → Option (List ℕ) → Type 0
 SaysLineOf fault old new = (bytes : List ℕ) × IsLineOf fault bytes × Appends old new bytes
+
+-- the line of some fault of this status is said
+abbrev pub SaysFault : ℕ → Option (List ℕ) → Option (List ℕ) → Type 0
+SaysFault status old new = (fault : Fault) × (status_of fault ≡ status) × SaysLineOf fault old new

@@ -62,3 +62,7 @@ abbrev pub IsOfKinds : Kinds → WordsFault → Type 0
 IsOfKinds kinds (Help text) = IsAmong DisplayHelp kinds
 IsOfKinds kinds (Refused text) = (kind : ErrorKind) × IsAmong kind kinds × (kind ≢ DisplayHelp)
 IsOfKinds kinds NoMemory = Unit {0}
+
+-- a kind of fault is among these that is no help
+abbrev pub IsRefusal : Kinds → Type 0
+IsRefusal kinds = (kind : ErrorKind) × IsAmong kind kinds × (kind ≢ DisplayHelp)

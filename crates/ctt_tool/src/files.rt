@@ -1,8 +1,9 @@
 //! Files by name.
 
-ghost use Rattle.std.specs.Prelude.{◌≡◌, ◌≤◌, false, Some, None, OnOk, IfOk, IfErr, IfSome, vec_len};
+ghost use Rattle.std.specs.Prelude.{◌≡◌, ◌≤◌, ◌<◌, length, Err, false, Some, None, OnOk, IfOk, IfErr, IfSome, vec_len};
 ghost use Rattle.std.specs.String.{string_bytes};
 ghost use Rattle.ctt_tool.specs.Faults.{IsOfFile};
+ghost use Rattle.ctt_tool.specs.declared.fault.Fault.TheVariants.{TooLong};
 
 use crate::fault::Fault;
 use ctt_script::{Device, Failed, InputFault, Sink, Source, put_all, read_all};
@@ -79,7 +80,9 @@ pub fn read_file<F: Files>(alloc: Global, files: &mut F, name: String) -> Result
     ensures all { IfOk result (λ bytes.
         IfSome (F.held files.old (string_bytes name)) (λ held. bytes.items ≡ held)) }
     ensures kept { F.held files.new ≡ F.held files.old }
-    ensures short { IfOk result (λ bytes. vec_len bytes ≤ INPUT_LIMIT) }
+    ensures short { IfOk result (λ bytes. vec_len bytes ≤ 67108864) }
+    ensures too_long { result ≡ Err (TooLong name) →
+        IfSome (F.held files.old (string_bytes name)) (λ held. 67108864 < length held) }
     ensures fault { IfErr result (IsOfFile name) }
 {
     let Ok(mut input) = files.fetch(&name) else {

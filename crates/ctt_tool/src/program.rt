@@ -1,8 +1,8 @@
 //! What the program does.
 
 ghost use Rattle.std.specs.Prelude.{◌≡◌, ◌≢◌, ◌≤◌, ◌⊎◌, [], true, false, map, OnOk, IfErr};
-ghost use Rattle.ctt_tool.specs.Faults.{IfUnwritten, IsOfTexts, SaysLineOf, status_of};
-ghost use Rattle.ctt_tool.specs.Jobs.{faults_of};
+ghost use Rattle.ctt_tool.specs.Faults.{IfUnwritten, IsOfTexts, SaysFault, SaysLineOf, status_of};
+ghost use Rattle.ctt_tool.specs.Jobs.{IsRefusal, faults_of};
 ghost use Rattle.ctt_tool.specs.Work.{AsksForRefusedText, DoesAsAsked, DoesJob, HasRefusedText};
 
 use crate::check::check;
@@ -46,7 +46,7 @@ fn work<F: Files, W: Sink>(
     ensures done { OnOk result (DoesAsAsked (map (λ word. word.now) words.now) (F.held files.old)
         (W.taken out.old) (W.taken out.new)) }
     ensures refused { IfErr result (λ fault. status_of fault ≡ 2
-        → faults_of (map (λ word. word.now) words.now) ≢ []) }
+        → IsRefusal (faults_of (map (λ word. word.now) words.now))) }
     ensures unmarked { OnOk result (W.has_failed out.new ≡ W.has_failed out.old) }
     ensures fault { IfErr result (λ fault. IfUnwritten fault
         (W.has_failed out.new ≡ true)
@@ -69,6 +69,8 @@ pub fn tell<V: Sink>(alloc: Global, fault: &Fault, err: &mut V) -> u8
     ensures status { (result ≡ status_of fault.now) ⊎ (result ≡ 3) }
     ensures said { result ≡ status_of fault.now → (V.has_failed err.new ≡ true)
         ⊎ SaysLineOf fault.now (V.taken err.old) (V.taken err.new) }
+    ensures some { (V.has_failed err.new ≡ true)
+        ⊎ SaysFault result (V.taken err.old) (V.taken err.new) }
 {
     match fault.line(alloc) {
         Ok(line) => {
@@ -104,7 +106,9 @@ pub fn program<R: AllocGlobal, F: Files, W: Sink, V: Sink>(
     ensures cause { result ≡ 1 → AsksForRefusedText (map (λ word. word.now) words.now) (F.held files.old) }
     ensures taken { result ≡ 1 → faults_of (map (λ word. word.now) words.now) ≡ [] }
     ensures rejected { result ≡ 1 → out.new ≡ out.old }
-    ensures refused { result ≡ 2 → faults_of (map (λ word. word.now) words.now) ≢ [] }
+    ensures refused { result ≡ 2 → IsRefusal (faults_of (map (λ word. word.now) words.now)) }
+    ensures said { result ≢ 0 → (V.has_failed err.new ≡ true)
+        ⊎ SaysFault result (V.taken err.old) (V.taken err.new) }
     ensures unprinted { result ≡ 2 → out.new ≡ out.old }
     ensures unwritten { W.has_failed out.new ≡ true → result ≡ 3 }
 {
