@@ -30,13 +30,13 @@ use Rattle.ctt_text.proofs.SolutionLaws.{spells_one_timetable}
 digits_model : IsNumeralModel (λ ds. list_all is_digit ds ≡ true) (λ ds. fold with_digit 0 ds)
 digits_model = numerals_by_fold (λ ds. list_all is_digit ds ≡ true) (search rules) (λ n ds. fold with_digit n ds) (search rules)
 
-decimal_digits : (n : ℕ) → n < 2 ^ 64 → list_all is_digit (decimal n) ≡ true
+pub decimal_digits : (n : ℕ) → n < 2 ^ 64 → list_all is_digit (decimal n) ≡ true
 decimal_digits n h = digits_decimal digits_model n h
 
-decimal_value : (n : ℕ) → n < 2 ^ 64 → value (decimal n) ≡ n
+pub decimal_value : (n : ℕ) → n < 2 ^ 64 → value (decimal n) ≡ n
 decimal_value n h = digits_value-decimal digits_model n h
 
-decimal_number : (n : ℕ) → n ≤ 999999999 → IsNumber (decimal n)
+pub decimal_number : (n : ℕ) → n ≤ 999999999 → IsNumber (decimal n)
 decimal_number n h =
     let small : n < 2 ^ 64 = omega arith in
     rw (lt-ltb 0 (length (decimal n)) (decimal_nonempty n small), decimal_digits n small) (le-leb (value (decimal n)) 999999999 (subst (λ m. m ≤ 999999999) (sym (decimal_value n small)) h))
@@ -45,13 +45,13 @@ digit_not_blank : (b : ℕ) → is_digit b ≡ true → is_blank b ≡ false
 unfolding is_blank
 digit_not_blank b h = grind (arith, nat_tests)
 
-digits_not_blank : (ds : List ℕ) → list_all is_digit ds ≡ true → Each (λ b. is_blank b ≡ false) ds
+pub digits_not_blank : (ds : List ℕ) → list_all is_digit ds ≡ true → Each (λ b. is_blank b ≡ false) ds
 digits_not_blank [] h = tt
 digits_not_blank (b ∷ bs) h =
     let parts = and_parts (is_digit b) (list_all is_digit bs) h in
     (digit_not_blank b parts.0, digits_not_blank bs parts.1)
 
-decimal_word : (n : ℕ) → n < 2 ^ 64 → IsWord (decimal n)
+pub decimal_word : (n : ℕ) → n < 2 ^ 64 → IsWord (decimal n)
 decimal_word n h = (decimal_nonempty n h, digits_not_blank (decimal n) (decimal_digits n h))
 
 -- names and their places
@@ -71,10 +71,10 @@ place_named before (x ∷ xs) (suc n) new lt =
     ∙ place_named (before ++ x ∷ []) xs n new.1 (omega (arith, lt))
     ∙ omega (arith, length-append before (x ∷ []))
 
-place_at : (names : List (List ℕ)) (n : ℕ) → AreDistinct names → n < length names → place_of names (slice_index_or names n []) ≡ n
+pub place_at : (names : List (List ℕ)) (n : ℕ) → AreDistinct names → n < length names → place_of names (slice_index_or names n []) ≡ n
 place_at names n new lt = place_named [] names n new lt ∙ omega arith
 
-among_at : (names : List (List ℕ)) (n : ℕ) → n < length names → is_among names (slice_index_or names n []) ≡ true
+pub among_at : (names : List (List ℕ)) (n : ℕ) → n < length names → is_among names (slice_index_or names n []) ≡ true
 among_at [] n lt = absurd (omega (arith, lt))
 among_at (x ∷ xs) zero lt = or_left (bytes_eq x x) (is_among xs x) (same_bytes x)
 among_at (x ∷ xs) (suc n) lt = or_right (bytes_eq (slice_index_or xs n []) x) (is_among xs (slice_index_or xs n [])) (among_at xs n (omega (arith, lt)))
@@ -85,7 +85,7 @@ apart_from_ascending [] up = tt
 apart_from_ascending (l ∷ t) up = (Each-map (λ m. before l m ≡ true) (λ m. (l.course == m.course && l.slot == m.slot) ≡ false) (λ m h. before_apart_turned l m h) t up.0, apart_from_ascending t up.1)
 
 -- a word with a blank behind it
-word_first : (w : List ℕ) (c : ℕ) (rest : List ℕ) → IsWord w → is_blank c ≡ true → words (w ++ c ∷ rest) ≡ w ∷ words rest
+pub word_first : (w : List ℕ) (c : ℕ) (rest : List ℕ) → IsWord w → is_blank c ≡ true → words (w ++ c ∷ rest) ≡ w ∷ words rest
 unfolding words
 word_first [] c rest is blank = absurd (omega (arith, is.0))
 word_first (b ∷ []) c rest is blank = rw (is.1.0, blank) refl
@@ -100,11 +100,11 @@ word_first (b ∷ d ∷ bs) c rest is blank =
 word_then : (w : List ℕ) (c : ℕ) (tail rest : List ℕ) → IsWord w → is_blank c ≡ true → words ((w ++ c ∷ tail) ++ rest) ≡ w ∷ words (tail ++ rest)
 word_then w c tail rest is blank = ap (λ bs. words bs) (append_assoc w (c ∷ tail) rest) ∙ word_first w c (tail ++ rest) is blank
 
-space_blank : is_blank 32 ≡ true
+pub space_blank : is_blank 32 ≡ true
 unfolding is_blank
 space_blank = refl
 
-line_end_blank : is_blank 10 ≡ true
+pub line_end_blank : is_blank 10 ≡ true
 unfolding is_blank
 line_end_blank = refl
 
@@ -118,23 +118,23 @@ line_words w rest course room day period =
 
 module _ (i : Problem) (is : IsProblem i) (named : IsNamed i) where
   -- the numbers of a lecture that fits
-  record IsSplit (s : ℕ) : Type 0 where
-    day : day_of i s < i.days
-    period : period_of i s < i.periods
-    small_day : day_of i s ≤ 999999999
-    small_period : period_of i s ≤ 999999999
+  pub record IsSplit (s : ℕ) : Type 0 where
+    pub day : day_of i s < i.days
+    pub period : period_of i s < i.periods
+    pub small_day : day_of i s ≤ 999999999
+    pub small_period : period_of i s ≤ 999999999
 
-  split : (s : ℕ) → s < i.days * i.periods → IsSplit s
+  pub split : (s : ℕ) → s < i.days * i.periods → IsSplit s
   split s lt =
       let some : 0 < i.periods = some_columns i.days i.periods s lt in
       let day : day_of i s < i.days = div_below s i.periods i.days some lt in
       let period : period_of i s < i.periods = mod_below s i.periods some in
       record { day = day; period = period; small_day = omega (arith, is.days_few); small_period = omega (arith, is.periods_few) }
 
-  course_below : (l : Placed) → Fits i l → l.course < length i.course_names
+  pub course_below : (l : Placed) → Fits i l → l.course < length i.course_names
   course_below l fits = subst (λ n. l.course < n) (sym is.courses_named) fits.0
 
-  room_below : (l : Placed) → Fits i l → l.room < length i.room_names
+  pub room_below : (l : Placed) → Fits i l → l.room < length i.room_names
   room_below l fits = subst (λ n. l.room < n) (sym is.rooms_named) fits.2
 
   -- the words of a lecture are an entry

@@ -271,7 +271,8 @@ impl Instance {
 
     /// The number of a teacher by his name.
     pub fn find_teacher(&self, name: &str) -> Option<TeacherNo>
-        ensures { result ≡ number_in self.now.teacher_names name.now }
+        ensures number { result ≡ number_in self.now.teacher_names name.now }
+        ensures within { IfSome result (λ teacher. teacher < teacher_count self.now) }
     {
         let number = self.teacher_names.number(name)?;
         Some(TeacherNo::new(number as u16))
@@ -279,7 +280,8 @@ impl Instance {
 
     /// The number of a curriculum by its name.
     pub fn find_curriculum(&self, name: &str) -> Option<CurriculumNo>
-        ensures { result ≡ number_in self.now.curriculum_names name.now }
+        ensures number { result ≡ number_in self.now.curriculum_names name.now }
+        ensures within { IfSome result (λ curriculum. curriculum < curriculum_count self.now) }
     {
         let number = self.curriculum_names.number(name)?;
         Some(CurriculumNo::new(number as u16))

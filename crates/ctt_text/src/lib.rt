@@ -25,6 +25,7 @@ pub use marks::Marks;
 pub use no_memory::NoMemory;
 pub use numbers::number;
 pub use placed::Placed;
+pub use reader::Reader;
 pub use solution::{read_solution, write_solution};
 pub use timetable::{is_before, is_timetable};
 pub use words::Words;
