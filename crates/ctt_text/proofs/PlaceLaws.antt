@@ -8,7 +8,7 @@ use Rattle.ctt_text.specs.Problem.{is_among, place_of, number_in}
 use Rattle.ctt_text.specs.Forms.{Form, ◌>>=◌, Fills}
 use Rattle.ctt_text.specs.Places.{passing_number, broken_unless, meant, exactly, known, one, fixed, after}
 use Rattle.ctt_text.specs.InstanceText.{IsUpTo, IsBelow}
-use Rattle.ctt_text.proofs.FormLaws.{bind_case}
+use Rattle.ctt_text.proofs.FormLaws.{bind_case, Yields}
 use Rattle.ctt_text.proofs.ListLaws.{bytes_sound}
 
 -- what obeys a rule passed its test, or did not
@@ -77,3 +77,22 @@ pub after_case : {F A B : Type 0} (C : Type 0) (fault : ℕ → F) (text : List 
 unfolding fixed known one ◌>>=◌
 after_case C fault text f g [] b h then = absurd h
 after_case C fault text f g (w ∷ ws) b h then = bind_case C f g ws b h.1 (λ us vs a p q e. then us vs a p q (ap (λ x. x ∷ ws) (is_fixed fault w text h.0) ∙ ap (λ x. text ∷ x) e))
+
+-- a word that means this gives it, and the words after it fill what comes after
+pub then_fills : {F A B : Type 0} (fault : ℕ → F) (meaning : List ℕ → Option A) (otherwise : A) (g : A → Form F B) (w : List ℕ) (ws : List (List ℕ)) (a : A) (b : B) → meaning w ≡ Some a → Fills (g a) ws b → Fills (known fault meaning otherwise >>= g) (w ∷ ws) b
+unfolding known one ◌>>=◌
+then_fills fault meaning otherwise g w ws a b h k = rw h (refl, k)
+
+pub word_fills : {F A : Type 0} (fault : ℕ → F) (meaning : List ℕ → Option A) (otherwise : A) (w : List ℕ) (a : A) → meaning w ≡ Some a → Fills (known fault meaning otherwise) (w ∷ []) a
+unfolding known one
+word_fills fault meaning otherwise w a h = rw h (refl, refl)
+
+pub yields_word : {F A : Type 0} (fault : ℕ → F) (meaning : List ℕ → Option A) (otherwise : A) (P : A → Type 0) → ((w : List ℕ) (a : A) → meaning w ≡ Some a → P a) → Yields P (known fault meaning otherwise)
+unfolding known one
+yields_word fault meaning otherwise P h [] a fills = absurd fills
+yields_word {F} {A} fault meaning otherwise P h (w ∷ []) a fills = by (meaning w) refl fills.0 fills.1
+  where
+    by : (o : Option A) → meaning w ≡ o → broken_unless fault o ≡ None → meant otherwise o ≡ a → P a
+    by None e broken same = cc
+    by (Some x) e broken same = h w a (e ∙ ap (λ y. Some y) same)
+yields_word fault meaning otherwise P h (w ∷ v ∷ ws) a fills = absurd fills.1

@@ -11,7 +11,7 @@ use Rattle.ctt_text.specs.declared.fault.SolutionFault.TheVariants.{UnknownCours
 use Rattle.ctt_text.specs.declared.placed.Placed.{Placed}
 use Rattle.ctt_text.specs.Numbers.{is_number, value}
 use Rattle.ctt_text.specs.Forms.{◌>>=◌, times, Fills, read, without_rest}
-use Rattle.ctt_text.specs.Problem.{Problem, IsProblem, is_among}
+use Rattle.ctt_text.specs.Problem.{Problem, IsProblem}
 use Rattle.ctt_text.specs.Timetable.{before, Ascending, Fits, has_lecture, with}
 use Rattle.ctt_text.specs.Places.{one, known, known_name, number_if}
 use Rattle.ctt_text.specs.SolutionPlaces.{free_slot, entry, begun, solution, cut}

@@ -130,10 +130,7 @@ pub fn next_course<F: PlaceFault + Drop>(
 
 /// A room by its name.
 #[tactic(auto, using(crate::proofs::Steps::read_known), unfolding(crate::specs::Places::known_name))]
-pub fn next_room<F: RoomFault + Drop>(
-    reader: &mut Reader,
-    instance: &Instance,
-) -> Result<RoomNo, F>
+pub fn next_room<F: RoomFault + Drop>(reader: &mut Reader, instance: &Instance) -> Result<RoomNo, F>
     ensures within { IfOk result (λ room. room < room_count instance.now) }
     ensures exact { Reads (λ room. (room, reader.new)) result (reading F.missing (known_name F.unknown_room instance.now.room_names) reader.old) }
 {
@@ -162,7 +159,10 @@ pub(crate) fn next_day_below<F: PlaceFault + Drop>(reader: &mut Reader, days: u3
 
 /// A period below the number of periods of a day.
 #[tactic(auto, using(crate::proofs::Steps::read_number_if))]
-pub(crate) fn next_period_below<F: PlaceFault + Drop>(reader: &mut Reader, periods: u32) -> Result<u32, F>
+pub(crate) fn next_period_below<F: PlaceFault + Drop>(
+    reader: &mut Reader,
+    periods: u32,
+) -> Result<u32, F>
     ensures within { IfOk result (λ period. period < periods) }
     ensures exact { Reads (λ period. (period, reader.new)) result (reading F.missing (number_if F.bad_number (λ n. nat_lt n periods) F.period_out) reader.old) }
 {
@@ -185,10 +185,7 @@ pub fn next_day<F: PlaceFault + Drop>(reader: &mut Reader, instance: &Instance) 
 }
 
 /// A period of a day of the instance.
-pub fn next_period<F: PlaceFault + Drop>(
-    reader: &mut Reader,
-    instance: &Instance,
-) -> Result<u16, F>
+pub fn next_period<F: PlaceFault + Drop>(reader: &mut Reader, instance: &Instance) -> Result<u16, F>
     ensures within { IfOk result (λ period. period < instance.now.periods) }
     ensures exact { Reads (λ period. (period, reader.new)) result (reading F.missing (number_if F.bad_number (λ n. nat_lt n instance.now.periods) F.period_out) reader.old) }
 {
