@@ -63,7 +63,7 @@ impl Instance {
     pub fn limits(&self)
         ensures { IsProblem self.now }
     {
-        // All that it is stands in its contract; it reads a field so that the instance is known.
+        // Its contract is all that it is. What holds of an instance is known where one is read.
         let _days = &self.days;
     }
 
@@ -71,7 +71,7 @@ impl Instance {
     pub fn names(&self)
         ensures { IsNamed self.now }
     {
-        // All that it is stands in its contract; it reads a field so that the instance is known.
+        // Its contract is all that it is. What holds of an instance is known where one is read.
         let _days = &self.days;
     }
 
