@@ -3,7 +3,7 @@
 # front of the C library's. Each such run has to end with status 3 and 'timedesk: no memory', or as it does with memory, where
 # the request only gives memory back. Run by hand, since it needs a C compiler. The last line is 'N passed, M failed'.
 set -u
-here=$(cd -- "${BASH_SOURCE[0]%/*}/.." && pwd) || exit 1
+here=$(CDPATH='' cd -- "$(dirname -- "${BASH_SOURCE[0]}")/.." && pwd) || exit 1
 program=${PROGRAM:-$here/crates/ctt_tool/out/ctt_tool}
 room=$(mktemp -d) || exit 1
 trap 'rm -rf -- "$room"' EXIT
