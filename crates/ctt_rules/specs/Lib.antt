@@ -4,3 +4,4 @@ pub mod Rows
 pub mod Neighbours
 pub mod Pairs
 pub mod Cells
+pub mod Windows

@@ -12,12 +12,12 @@ mod rows;
 mod slots;
 mod soft;
 
-pub use compactness::count_alone;
+
 pub use cost::Cost;
 pub use hard::{Hard, hard_counts};
 pub use lawful::{is_complete, is_lawful};
 pub use row::course_row;
-pub use slots::mark_slots;
+pub use slots::{count_alone, mark_slots};
 pub use soft::{course_cost, penalty};
 
 #[cfg(test)]

@@ -122,7 +122,7 @@ pub fn penalty(instance: &Instance, timetable: &[Placed]) -> Cost
     Cost {
         capacity: capacity(instance, timetable),
         days: days(instance, &rows),
-        compactness: compactness(instance, &rows),
+        compactness: compactness(instance, timetable),
         stability: stability(instance, &rows),
     }
 }

@@ -1,7 +1,7 @@
 use Rattle.std.proofs.Common.{◌≡◌, ◌≤◌, take, count_by, not}
 use Rattle.ctt_text.specs.Marks.{is_marked}
 use Rattle.ctt_rules.specs.Neighbours.{is_beside}
-use Rattle.ctt_rules.proofs.compactness.count_alone.Given as goal
+use Rattle.ctt_rules.proofs.slots.count_alone.Given as goal
 
 abbrev pub invariant-loop-lecture : goal.invariant-loop-lecture
 invariant-loop-lecture l = record {

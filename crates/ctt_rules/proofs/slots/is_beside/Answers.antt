@@ -1,7 +1,7 @@
 use Rattle.std.proofs.Common.{arith}
 use Rattle.std.proofs.lemmas.Nat.{mod_below}
 use Rattle.ctt_rules.proofs.SlotLemmas.{periods_above}
-use Rattle.ctt_rules.proofs.compactness.is_beside.Goals as goal
+use Rattle.ctt_rules.proofs.slots.is_beside.Goals as goal
 
 pub overflow_add-period : goal.overflow_add-period
 overflow_add-period c =
