@@ -1,5 +1,5 @@
 -- Conflicts and shared rooms, counted lecture by lecture against those before.
-use Rattle.std.proofs.Common.{◌≡◌, ℕ, zero, suc, ◌+◌, ◌-◌, ◌<◌, ◌≤◌, Bool, true, false, cond, not, ◌&&◌, ◌||◌, ◌==◌, eqb, ltb, leb, List, [], ◌∷◌, ◌++◌, take, length, get_or, refl, ◌∙◌, sym, ap, ap₂, arith, inl, inr, ◌⊎◌, append_assoc, append-nil}
+use Rattle.std.proofs.Common.{◌≡◌, ℕ, zero, suc, ◌+◌, ◌-◌, ◌<◌, ◌≤◌, Bool, true, false, cond, not, ◌&&◌, ◌||◌, ◌==◌, eqb, ltb, leb, List, [], ◌∷◌, ◌++◌, take, length, get_or, replicate, refl, ◌∙◌, sym, ap, ap₂, arith, inl, inr, ◌⊎◌, append_assoc, append-nil}
 use Rattle.std.specs.List.{count_by, list_any, AllByRecursion as Each}
 use Rattle.std.proofs.lemmas.List.{take_more}
 use Rattle.std.proofs.lemmas.List.Sums.{sum_by_push}
@@ -7,17 +7,18 @@ use Rattle.std.proofs.lemmas.List.Folds.{list_any_more}
 use Rattle.std.proofs.lemmas.Bool.Decides.{nat_tests}
 use Rattle.std.proofs.lemmas.Bool.{cases_Bool, cases_lt, eq-eqb, ne_eqb, eqb-true, lt-ltb, le-ltb, le-leb, lt-leb, leb-true, ltb-true, and_from, and_right, and_parts}
 use Rattle.ctt_text.specs.Lists.{Pairwise, has, count_below}
-use Rattle.ctt_text.specs.Marks.{count_marked}
+use Rattle.ctt_text.specs.Marks.{is_marked, count_marked}
 use Rattle.ctt_text.specs.Problem.{Problem, course_count, course_of, slot_count, mates, clash}
 use Rattle.ctt_text.specs.Timetable.{IsTimetable, Fits, before, Ascending}
 use Rattle.ctt_text.specs.declared.placed.Placed.{Placed}
+use Rattle.ctt_text.proofs.MarkLemmas.{past_words}
 use Rattle.ctt_text.proofs.TimetableLemmas.{Each-map, Each-at}
 use Rattle.ctt_rules.specs.Hard.{conflicts, conflict_count, share_room, occupancy_count}
 use Rattle.ctt_rules.specs.Earlier.{tally, new_conflicts, room_taken, only_in, in_row}
 use Rattle.ctt_rules.proofs.ListLemmas.{Each-take, Pairwise-map}
 use Rattle.ctt_rules.proofs.CellLemmas.{occupancy_push, none_shared}
 use Rattle.ctt_rules.proofs.NeighbourLemmas.{any_same}
-use Rattle.ctt_rules.proofs.SumLemmas.{sum_below_same, count_by-cons, count_by-agree}
+use Rattle.ctt_rules.proofs.SumLemmas.{sum_below_same, count_below_le, count_by-cons, count_by-agree}
 use Rattle.ctt_rules.proofs.WindowLemmas.{counted_apart}
 
 -- courses clash both ways
@@ -34,8 +35,18 @@ pub clash_comm : (i : Problem) (c d : ℕ) → clash i c d ≡ clash i d c
 clash_comm i c d = ap₂ (λ a b. not a && b) (eqb_comm c d) (ap₂ (λ a b. a || b) (eqb_comm (course_of i c).teacher (course_of i d).teacher) (mates_comm i c d))
 
 same_marked : (p q : ℕ → Bool) → ((n : ℕ) → p n ≡ q n) → count_marked p ≡ count_below q 2000
-  unfolding count_marked
+unfolding count_marked
 same_marked p q e = sum_below_same (λ n. cond (p n) 1 0) (λ n. cond (q n) 1 0) 2000 (λ n. ap (λ b. cond b 1 0) (e n))
+
+pub few_marked : (p : ℕ → Bool) → count_marked p ≤ 2000
+unfolding count_marked
+few_marked p = count_below_le p 2000
+
+-- a table of rows in which nothing is marked
+pub no_rows : (marks : List ℕ) → ((n : ℕ) → is_marked marks n ≡ false) → (k row n : ℕ) → in_row (replicate k marks) row n ≡ false
+no_rows marks none zero row n = past_words [] n (omega arith)
+no_rows marks none (suc k) zero n = none n
+no_rows marks none (suc k) (suc row) n = no_rows marks none k row n
 
 -- a tally goes on by one lecture
 pub tally_push : (f : List Placed → Placed → ℕ) (before xs : List Placed) (x : Placed) → tally f before (xs ++ x ∷ []) ≡ tally f before xs + f (before ++ xs) x

@@ -1,18 +1,17 @@
 //! The rules of curriculum-based course timetabling: what a timetable breaks, and what it costs.
 #![tactic(auto)]
 
+mod assessment;
 mod compactness;
-mod conflicts;
 mod cost;
 mod hard;
 mod lawful;
-mod occupancy;
 mod row;
-mod rows;
+mod sharing;
 mod slots;
 mod soft;
 
-
+pub use assessment::{Assessment, assess};
 pub use cost::Cost;
 pub use hard::{Hard, hard_counts};
 pub use lawful::{is_complete, is_lawful};

@@ -46,14 +46,3 @@ pub fn count_alone(instance: &Instance, slots: &Marks, lectures: &[Placed]) -> u
     }
     count
 }
-
-/// How many lectures stand in marked slots.
-pub(crate) fn count_marked(slots: &Marks, lectures: &[Placed]) -> u64
-    ensures count { result ≡ count_by (λ l. is_marked slots.now l.slot) lectures.now }
-    ensures few { result ≤ length lectures.now }
-{
-    let marked = lectures
-        .iter()
-        .filter(|l| slots.is_marked(l.slot.get() as usize));
-    marked.count() as u64
-}
