@@ -15,7 +15,7 @@ pub count-requires-clause-few : goal.count-requires-clause-few
 count-requires-clause-few c =
     let i = c.args.instance.now in
     let known : AreMembers (course_count i) (members i c.new.result) = Each-at (AreMembers (course_count i)) i.curricula c.limits.ensures.curricula c.new.result [] (omega arith) in
-    omega (arith, few_members (course_count i) c.members-members.result.now (rw c.members-members.ensures known), c.limits.ensures.courses_few)
+    omega (arith, few_members (course_count i) c.members-members.result.now (rw c.members-members.ensures.exact known), c.limits.ensures.courses_few)
 
 -- the members' lectures that stand alone in the window
 module _ (c : goal.After-count) where
@@ -23,7 +23,7 @@ module _ (c : goal.After-count) where
   part = part_of c.members-members.result.now c.args.timetable.now
 
   known : AreMembers (course_count c.args.instance.now) c.members-members.result.now
-  known = rw c.members-members.ensures (Each-at (AreMembers (course_count c.args.instance.now)) c.args.instance.now.curricula c.limits.ensures.curricula c.new.result [] (omega arith))
+  known = rw c.members-members.ensures.exact (Each-at (AreMembers (course_count c.args.instance.now)) c.args.instance.now.curricula c.limits.ensures.curricula c.new.result [] (omega arith))
 
   counted : c.count.result ≡ count_by (is_alone_within c.args.instance.now c.args.first part) part
   counted = c.count.ensures
@@ -45,7 +45,7 @@ loop-number-preserved c =
     let n = c.loop-number.number in
     let f : List ℕ → ℕ = λ q. 2 * count_by (is_alone_within i c.args.first (part_of q t)) (part_of q t) in
     let more : sum_by f (take (n + 1) i.curricula) ≡ sum_by f (take n i.curricula) + f (members i n) = sum_by_more f i.curricula n [] (omega arith) in
-    let here : 2 * c.count.result ≡ f (members i n) = ap (λ k. 2 * k) (counted c) ∙ ap f (c.members-members.ensures ∙ ap (members i) c.new.ensures) in
+    let here : 2 * c.count.result ≡ f (members i n) = ap (λ k. 2 * k) (counted c) ∙ ap f (c.members-members.ensures.exact ∙ ap (members i) c.new.ensures) in
     record {
       so_far = omega (arith, c.loop-number.invariant.so_far, more, here);
       small = omega (arith, c.loop-number.invariant.small, few c);
