@@ -1,50 +1,14 @@
--- The bits of a word, and how many are set.
+-- The bits of a word.
 use Rattle.std.proofs.Common.{◌≡◌, ℕ, zero, suc, ◌+◌, ◌-◌, ◌*◌, ◌/◌, ◌%◌, ◌^◌, ◌<◌, ◌≤◌, min, max, Bool, true, false, cond, not, ◌&&◌, ◌||◌, ◌==◌, eqb, ltb, refl, ◌∙◌, sym, ap, ap₂, arith, inl, inr, ◌⊎◌}
 use Rattle.std.specs.Prelude.{count_ones, bit_and, bit_or}
 use Rattle.std.specs.Int.{bit_at, bit_not, w64}
-use Rattle.std.specs.Int.Count.{ones-ones}
-use Rattle.std.proofs.lemmas.Nat.{ones-le, ones_cat, div-add-mod', mod_below, div_below, pow_pos, or_lt, and_le_r}
-use Rattle.std.proofs.Math.Nat.{pow-succ'}
-use Rattle.std.proofs.lemmas.Nat.Bits.{bit_at_and, bit_at_or, bit_at-lt, bit_at_cat_low, bit_at_cat_high, bit_at_above, bit_at-suc, bit_at_not, bit_at_set_same, bit_at_set_other, bit_at_mask_inside, bit_at_mask_below, bit_at_mask_above}
+use Rattle.std.proofs.lemmas.Nat.{ones-le, div-add-mod', mod_below, pow_pos, or_lt, and_le_r}
+use Rattle.std.proofs.lemmas.Nat.Bits.{bit_at-lt, bit_at_cat_low, bit_at_cat_high, bit_at-suc, bit_at_not, bit_at_set_same, bit_at_set_other, bit_at_mask_inside, bit_at_mask_below, bit_at_mask_above}
 use Rattle.std.proofs.lemmas.Bool.{cases_Bool, cases_eq, cases_lt, eq-eqb, ne_eqb, ltb-true, lt-ltb, le-ltb, and_from, and_left, and_right, and_parts}
-use Rattle.ctt_text.specs.Lists.{sum_below, count_below}
+use Rattle.ctt_text.specs.Lists.{count_below}
+use Rattle.ctt_text.proofs.MarkLemmas.{both_bits, either_bit, ones_are}
 use Rattle.ctt_rules.specs.Windows.{has_bit}
-use Rattle.ctt_rules.proofs.SumLemmas.{sum_below_same, sum_below_agree}
-
-bit_cases : (n j : ℕ) → (bit_at n j ≡ 0) ⊎ (bit_at n j ≡ 1)
-bit_cases n j = elim (cases_eq (bit_at n j) 0) [ inl e ↦ inl e | inr e ↦ inr (omega (arith, e, bit_at-lt n j)) ]
-
-as_count : (n j : ℕ) → bit_at n j ≡ cond (has_bit n j) 1 0
-as_count n j = by (bit_at n j) (bit_at-lt n j)
-  where
-    by : (b : ℕ) → b < 2 → b ≡ cond (b == 1) 1 0
-    by zero lt = refl
-    by (suc zero) lt = refl
-    by (suc (suc b)) lt = absurd (omega (arith, lt))
-
-pub bit_of_or : (a b j : ℕ) → has_bit (bit_or a b) j ≡ (has_bit a j || has_bit b j)
-bit_of_or a b j = ap (λ n. n == 1) (bit_at_or a b j) ∙ by (bit_at a j) (bit_at b j) (bit_at-lt a j) (bit_at-lt b j)
-  where
-    by : (m n : ℕ) → m < 2 → n < 2 → (max m n == 1) ≡ (m == 1 || n == 1)
-    by zero zero l k = refl
-    by zero (suc zero) l k = refl
-    by (suc zero) zero l k = refl
-    by (suc zero) (suc zero) l k = refl
-    by (suc (suc m)) n l k = absurd (omega (arith, l))
-    by zero (suc (suc n)) l k = absurd (omega (arith, k))
-    by (suc zero) (suc (suc n)) l k = absurd (omega (arith, k))
-
-pub bit_of_and : (a b j : ℕ) → has_bit (bit_and a b) j ≡ (has_bit a j && has_bit b j)
-bit_of_and a b j = ap (λ n. n == 1) (bit_at_and a b j) ∙ by (bit_at a j) (bit_at b j) (bit_at-lt a j) (bit_at-lt b j)
-  where
-    by : (m n : ℕ) → m < 2 → n < 2 → (min m n == 1) ≡ (m == 1 && n == 1)
-    by zero zero l k = refl
-    by zero (suc zero) l k = refl
-    by (suc zero) zero l k = refl
-    by (suc zero) (suc zero) l k = refl
-    by (suc (suc m)) n l k = absurd (omega (arith, l))
-    by zero (suc (suc n)) l k = absurd (omega (arith, k))
-    by (suc zero) (suc (suc n)) l k = absurd (omega (arith, k))
+use Rattle.ctt_rules.proofs.SumLemmas.{sum_below_same}
 
 pub bit_of_not : (a j : ℕ) → a < 2 ^ 64 → j < 64 → has_bit (bit_not w64 a) j ≡ not (has_bit a j)
 bit_of_not a j small lt = ap (λ n. n == 1) (bit_at_not w64 a j small lt) ∙ by (bit_at a j) (bit_at-lt a j)
@@ -74,28 +38,9 @@ bit_of_set a k j lt = elim (cases_eq j k) [
   | inr other ↦ (ap (λ n. n == 1) (bit_at_set_other w64 a k lt j other) ∙ sym (ap (λ b. b || has_bit a j) (ne_eqb j k other)))
 ]
 
--- the bits that are set, counted
-small_ones : (m : ℕ) → m < 2 → count_ones m ≡ m % 2
-small_ones zero lt = ones-ones 0
-small_ones (suc zero) lt = ones-ones 1
-small_ones (suc (suc m)) lt = absurd (omega (arith, lt))
-
-ones_are : (k n : ℕ) → n < 2 ^ k → count_ones n ≡ sum_below (bit_at n) k
-ones_are zero n lt = omega (arith, ones-le 0 n lt)
-ones_are (suc k) n lt =
-    let split : n / 2 ^ k * 2 ^ k + n % 2 ^ k ≡ n = div-add-mod' n (2 ^ k) in
-    let low : n % 2 ^ k < 2 ^ k = mod_below n (2 ^ k) (pow_pos k) in
-    let high : n / 2 ^ k < 2 = div_below n (2 ^ k) 2 (pow_pos k) (omega (arith, lt, pow-succ' 2 k)) in
-    let rest : count_ones (n % 2 ^ k) ≡ sum_below (bit_at n) k = ones_are k (n % 2 ^ k) low ∙ sum_below_agree (bit_at (n % 2 ^ k)) (bit_at n) k (λ j h. low_bits n k j h) in
-    let top : count_ones (n / 2 ^ k) ≡ bit_at n k = small_ones (n / 2 ^ k) high in
-    ap count_ones (sym split) ∙ ones_cat k (n / 2 ^ k) (n % 2 ^ k) low ∙ omega (arith, rest, top)
-
-pub ones_counted : (a : ℕ) → a < 2 ^ 64 → count_ones a ≡ count_below (has_bit a) 64
-ones_counted a lt = ones_are 64 a lt ∙ sum_below_same (bit_at a) (λ j. cond (has_bit a j) 1 0) 64 (as_count a)
-
 -- the bits that two words have both
 pub common_counted : (a b : ℕ) → b < 2 ^ 64 → count_ones (bit_and a b) ≡ count_below (λ j. has_bit a j && has_bit b j) 64
-common_counted a b lt = ones_counted (bit_and a b) (omega (arith, and_le_r a b)) ∙ sum_below_same (λ j. cond (has_bit (bit_and a b) j) 1 0) (λ j. cond (has_bit a j && has_bit b j) 1 0) 64 (λ j. ap (λ c. cond c 1 0) (bit_of_and a b j))
+common_counted a b lt = ones_are 64 (bit_and a b) (omega (arith, and_le_r a b)) ∙ sum_below_same (λ j. cond (has_bit (bit_and a b) j) 1 0) (λ j. cond (has_bit a j && has_bit b j) 1 0) 64 (λ j. ap (λ c. cond c 1 0) (both_bits a b j))
 
 pub few_ones : (a b : ℕ) → b < 2 ^ 64 → count_ones (bit_and a b) ≤ 64
 few_ones a b lt = ones-le 64 (bit_and a b) (omega (arith, and_le_r a b))
@@ -120,11 +65,11 @@ module _ (a : ℕ) (small : a < 2 ^ 64) where
 
   beside_is : (j : ℕ) → 0 < j → j < 63 → has_bit beside j ≡ (has_bit a (j - 1) || has_bit a (j + 1))
   beside_is j low high =
-      bit_of_or (a * 2 ^ 1 % 2 ^ 64) (a / 2 ^ 1) j
+      either_bit (a * 2 ^ 1 % 2 ^ 64) (a / 2 ^ 1) j
       ∙ ap₂ (λ a b. a || b) (ap (has_bit (a * 2 ^ 1 % 2 ^ 64)) (omega (arith, low)) ∙ bit_of_shl a (j - 1) (omega (arith, high))) (bit_of_shr a j ∙ ap (has_bit a) (omega arith))
 
   pub free_of_neighbours : (j : ℕ) → has_bit (bit_and (bit_not w64 beside) 9223372036854775806) j ≡ ((ltb 0 j && ltb j 63) && (not (has_bit a (j - 1)) && not (has_bit a (j + 1))))
-  free_of_neighbours j = bit_of_and (bit_not w64 beside) 9223372036854775806 j ∙ ap (λ b. has_bit (bit_not w64 beside) j && b) (inner_bits j) ∙ elim (cases_Bool (ltb 0 j && ltb j 63)) [
+  free_of_neighbours j = both_bits (bit_not w64 beside) 9223372036854775806 j ∙ ap (λ b. has_bit (bit_not w64 beside) j && b) (inner_bits j) ∙ elim (cases_Bool (ltb 0 j && ltb j 63)) [
     | inl yes' ↦ (
         let parts = and_parts (ltb 0 j) (ltb j 63) yes' in
         let low : 0 < j = ltb-true 0 j parts.0 in

@@ -14,11 +14,11 @@ use Rattle.ctt_text.specs.declared.placed.Placed.{Placed}
 use Rattle.ctt_text.proofs.MarkLemmas.{past_words}
 use Rattle.ctt_text.proofs.TimetableLemmas.{Each-map, Each-at}
 use Rattle.ctt_rules.specs.Hard.{conflicts, conflict_count, share_room, occupancy_count}
-use Rattle.ctt_rules.specs.Earlier.{tally, new_conflicts, room_taken, only_in, in_row}
+use Rattle.ctt_rules.specs.Earlier.{clashes_with, tally, new_conflicts, room_taken, only_in, in_row}
 use Rattle.ctt_rules.proofs.ListLemmas.{Each-take, Pairwise-map}
 use Rattle.ctt_rules.proofs.CellLemmas.{occupancy_push, none_shared}
-use Rattle.ctt_rules.proofs.NeighbourLemmas.{any_same}
-use Rattle.ctt_rules.proofs.SumLemmas.{sum_below_same, count_below_le, count_by-cons, count_by-agree}
+use Rattle.ctt_rules.proofs.NeighbourLemmas.{any_same, count_by-same}
+use Rattle.ctt_rules.proofs.SumLemmas.{sum_below_same, count_below_le, count_by-cons}
 use Rattle.ctt_rules.proofs.WindowLemmas.{counted_apart}
 
 -- courses clash both ways
@@ -37,6 +37,10 @@ clash_comm i c d = ap₂ (λ a b. not a && b) (eqb_comm c d) (ap₂ (λ a b. a |
 same_marked : (p q : ℕ → Bool) → ((n : ℕ) → p n ≡ q n) → count_marked p ≡ count_below q 2000
 unfolding count_marked
 same_marked p q e = sum_below_same (λ n. cond (p n) 1 0) (λ n. cond (q n) 1 0) 2000 (λ n. ap (λ b. cond b 1 0) (e n))
+
+pub marked_same : (p q : ℕ → Bool) → ((n : ℕ) → p n ≡ q n) → count_marked p ≡ count_marked q
+unfolding count_marked
+marked_same p q e = same_marked p q e
 
 pub few_marked : (p : ℕ → Bool) → count_marked p ≤ 2000
 unfolding count_marked
@@ -66,16 +70,19 @@ pub tallied : (P : Placed → Type 0) (g : List Placed → ℕ) (f : List Placed
 tallied P g f e before [] h = rw append-nil (omega arith)
 tallied P g f e before (x ∷ xs) h = ap g (sym (append_assoc before (x ∷ []) xs)) ∙ omega (arith, tallied P g f e (before ++ x ∷ []) xs h.1, e before x h.0)
 
+from_nothing : (P : Placed → Type 0) (g : List Placed → ℕ) (f : List Placed → Placed → ℕ) → ((ts : List Placed) (x : Placed) → P x → g (ts ++ x ∷ []) ≡ g ts + f ts x) → g [] ≡ 0 → (t : List Placed) → Each P t → tally f [] t ≡ g t
+from_nothing P g f e none t h = sym (tallied P g f e [] t h ∙ ap (λ n. n + tally f [] t) none ∙ omega arith)
+
 -- conflicts
 conflicts_push : (i : Problem) (ts : List Placed) (x : Placed) → conflict_count i (ts ++ x ∷ []) ≡ conflict_count i ts + new_conflicts i ts x
 conflicts_push i [] x = refl
 conflicts_push i (y ∷ ys) x = omega (arith, conflicts_push i ys x, sum_by_push (λ l. cond (conflicts i y l) 1 0) ys x, count_by-cons (λ z. conflicts i z x) y ys)
 
 pub conflicts_tallied : (i : Problem) (t : List Placed) → Each (Fits i) t → tally (new_conflicts i) [] t ≡ conflict_count i t
-conflicts_tallied i t h = sym (tallied (Fits i) (conflict_count i) (new_conflicts i) (λ ts x _. conflicts_push i ts x) [] t h)
+conflicts_tallied i t h = from_nothing (Fits i) (conflict_count i) (new_conflicts i) (λ ts x _. conflicts_push i ts x) refl t h
 
 pub rooms_tallied : (i : Problem) (t : List Placed) → Each (Fits i) t → tally room_taken [] t ≡ occupancy_count i t
-rooms_tallied i t h = sym (tallied (Fits i) (occupancy_count i) room_taken (λ ts x f. occupancy_push i ts x f) [] t h ∙ ap (λ n. n + tally room_taken [] t) (none_shared i))
+rooms_tallied i t h = from_nothing (Fits i) (occupancy_count i) room_taken (λ ts x f. occupancy_push i ts x f) (none_shared i) t h
 
 -- by blocks of slots
 module _ (adds : List Placed → Placed → ℕ) where
@@ -128,23 +135,32 @@ module _ (i : Problem) (t : List Placed) (h : IsTimetable i t) (courses_few : co
 
   pub conflicts_more : (courses : List (List ℕ)) → ((r n : ℕ) → r < 64 → in_row courses r n ≡ list_any (λ y. y.slot == first + r && y.course == n) ts)
       → tally (only_in first (first + 64) (new_conflicts i)) [] (take (k + 1) t)
-      ≡ tally (only_in first (first + 64) (new_conflicts i)) [] ts + cond (leb first x.slot && ltb x.slot (first + 64)) (count_marked (λ n. in_row courses (x.slot - first) n && clash i x.course n)) 0
-  conflicts_more courses right = added (new_conflicts i) (count_marked (λ n. in_row courses (x.slot - first) n && clash i x.course n)) by
+      ≡ tally (only_in first (first + 64) (new_conflicts i)) [] ts + cond (leb first x.slot && ltb x.slot (first + 64)) (count_marked (λ n. in_row courses (x.slot - first) n && clashes_with i x.course n)) 0
+  conflicts_more courses right = added (new_conflicts i) (count_marked (λ n. in_row courses (x.slot - first) n && clashes_with i x.course n)) by
     where
       apart : (a b : Placed) → before a b ≡ true → (a.slot == x.slot) ≡ true → (b.slot == x.slot) ≡ true → a.course ≡ b.course → ⊥
       apart a b e ka kb same = absurd (grind (arith, nat_tests))
 
-      by : first ≤ x.slot → x.slot < first + 64 → count_marked (λ n. in_row courses (x.slot - first) n && clash i x.course n) ≡ new_conflicts i ts x
+      by : first ≤ x.slot → x.slot < first + 64 → count_marked (λ n. in_row courses (x.slot - first) n && clashes_with i x.course n) ≡ new_conflicts i ts x
       by low high =
-          same_marked (λ n. in_row courses (x.slot - first) n && clash i x.course n) (λ n. list_any (λ y. y.slot == x.slot && y.course == n) ts && clash i x.course n)
-          (λ n. ap (λ b. b && clash i x.course n) (right (x.slot - first) n (omega (arith, high, low)) ∙ ap (λ s. list_any (λ y. y.slot == s && y.course == n) ts) (omega (arith, low))))
-          ∙ counted_apart (λ y. y.slot == x.slot) (λ y. y.course) (clash i x.course) 2000 ts
+          same_marked (λ n. in_row courses (x.slot - first) n && clashes_with i x.course n) (λ n. list_any (λ y. y.slot == x.slot && y.course == n) ts && clashes_with i x.course n)
+          (λ n. ap (λ b. b && clashes_with i x.course n) (right (x.slot - first) n (omega (arith, high, low)) ∙ ap (λ s. list_any (λ y. y.slot == s && y.course == n) ts) (omega (arith, low))))
+          ∙ counted_apart (λ y. y.slot == x.slot) (λ y. y.course) (clashes_with i x.course) 2000 ts
           (Pairwise-map (λ a b. before a b ≡ true) (λ a b. (a.slot == x.slot) ≡ true → (b.slot == x.slot) ≡ true → a.course ≡ b.course → ⊥) apart ts (Pairwise-take (λ a b. before a b ≡ true) k t h.ascending))
           (Each-map (Fits i) (λ y. (y.slot == x.slot) ≡ true → y.course < 2000) (λ y f _. omega (arith, f.0, courses_few)) ts (Each-take (Fits i) k t h.fits))
-          ∙ count_by-agree (λ y. y.slot == x.slot && clash i x.course y.course) (λ y. conflicts i y x) (λ y. ap (λ b. y.slot == x.slot && b) (clash_comm i x.course y.course)) ts
+          ∙ count_by-same (λ y. y.slot == x.slot && clashes_with i x.course y.course) (λ y. conflicts i y x) ts
+          (Each-map (Fits i) (λ y. (y.slot == x.slot && clashes_with i x.course y.course) ≡ conflicts i y x)
+          (λ y f. ap (λ b. y.slot == x.slot && b) (ap (λ b. b && clash i x.course y.course) (lt-ltb y.course (course_count i) f.0) ∙ clash_comm i x.course y.course)) ts (Each-take (Fits i) k t h.fits))
 
   pub rooms_more : (rooms : List (List ℕ)) → ((r n : ℕ) → r < 64 → in_row rooms r n ≡ list_any (λ y. y.slot == first + r && y.room == n) ts)
       → tally (only_in first (first + 64) room_taken) [] (take (k + 1) t)
       ≡ tally (only_in first (first + 64) room_taken) [] ts + cond (leb first x.slot && ltb x.slot (first + 64)) (cond (in_row rooms (x.slot - first) x.room) 1 0) 0
   rooms_more rooms right = added room_taken (cond (in_row rooms (x.slot - first) x.room) 1 0) (λ low high. ap (λ b. cond b 1 0) (right (x.slot - first) x.room (omega (arith, high, low))
       ∙ any_same (λ y. y.slot == first + (x.slot - first) && y.room == x.room) (share_room x) ts (λ y. ap (λ s. y.slot == s && y.room == x.room) (omega (arith, low)) ∙ ap₂ (λ a b. a && b) (eqb_comm y.slot x.slot) (eqb_comm y.room x.room))))
+
+pub cond_few : (b : Bool) (m n : ℕ) → m ≤ n → cond b m 0 ≤ n
+cond_few true m n le = le
+cond_few false m n le = omega arith
+
+pub one_few : (b : Bool) → cond b 1 0 ≤ 1
+one_few b = cond_few b 1 1 (omega arith)

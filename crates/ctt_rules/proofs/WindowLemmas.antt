@@ -1,5 +1,5 @@
 -- Lectures that stand alone, by the words of a window.
-use Rattle.std.proofs.Common.{◌≡◌, ℕ, zero, suc, ◌+◌, ◌-◌, ◌*◌, ◌/◌, ◌%◌, ◌^◌, ◌<◌, ◌≤◌, Bool, true, false, cond, not, ◌&&◌, ◌||◌, ◌==◌, eqb, ltb, leb, List, [], ◌∷◌, length, get_or, set, replicate, refl, ◌∙◌, sym, ap, ap₂, arith, inl, inr, ◌⊎◌}
+use Rattle.std.proofs.Common.{◌≡◌, ℕ, zero, suc, ◌+◌, ◌-◌, ◌*◌, ◌/◌, ◌%◌, ◌^◌, ◌<◌, ◌≤◌, Bool, true, false, cond, not, ◌&&◌, ◌||◌, ◌==◌, eqb, ltb, leb, List, [], ◌∷◌, length, get_or, set, refl, ◌∙◌, sym, ap, ap₂, arith, inl, inr, ◌⊎◌}
 use Rattle.std.specs.Prelude.{bit_or}
 use Rattle.std.specs.List.{count_by, sum_by, list_any, AllByRecursion as Each}
 use Rattle.std.proofs.Math.Nat.{div-mul-le_self, div-zero}
@@ -220,11 +220,6 @@ bit_set_in words course number first within low high c place = elim (cases_eq co
       ap (λ w. has_bit w place) (get_or-set_other words course c (bit_or (get_or words course 0) (1 * 2 ^ (number - first) % 2 ^ 64)) 0 (λ e. other (sym e)))
       ∙ sym (ap (λ b. b || has_bit (word_of words c) place) (and_left (course == c) (number == first + place) (ne_eqb course c other))))
 ]
-
-pub no_words : (k c : ℕ) → get_or {A = ℕ} (replicate k 0) c 0 ≡ 0
-no_words zero c = refl
-no_words (suc k) zero = refl
-no_words (suc k) (suc c) = no_words k c
 
 -- different numbers below n are at most n
 pub few_members : (n : ℕ) (q : List ℕ) → AreMembers n q → length q ≤ n

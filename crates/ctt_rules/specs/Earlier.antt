@@ -2,7 +2,7 @@
 use Rattle.std.specs.Prelude.{ℕ, ◌+◌, ◌-◌, Bool, cond, List, [], ◌∷◌, ◌++◌, count_by, ◌==◌, ◌&&◌, nat_le, nat_lt, slice_index_or}
 use Rattle.std.specs.List.{list_any}
 use Rattle.ctt_text.specs.Marks.{is_marked}
-use Rattle.ctt_text.specs.Problem.{Problem}
+use Rattle.ctt_text.specs.Problem.{Problem, course_count, clash}
 use Rattle.ctt_text.specs.declared.placed.Placed.{Placed}
 use Rattle.ctt_rules.specs.Hard.{conflicts, share_room}
 
@@ -26,3 +26,7 @@ only_in first end adds before x = cond (nat_le first x.slot && nat_lt x.slot end
 -- a number is marked in a row of a table
 abbrev pub in_row : List (List ℕ) → ℕ → ℕ → Bool
 in_row rows r n = is_marked (slice_index_or rows r []) n
+
+-- a course of the instance that clashes with this one
+abbrev pub clashes_with : Problem → ℕ → ℕ → Bool
+clashes_with i c d = nat_lt d (course_count i) && clash i c d

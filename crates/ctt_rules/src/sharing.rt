@@ -3,10 +3,9 @@
 ghost use Rattle.std.specs.Prelude.{◌≡◌, ◌<◌, ◌≤◌, ◌+◌, ◌-◌, ◌*◌, ◌^◌, ◌==◌, ◌&&◌, ◌||◌, ℕ, [], cond, false, not, length, nat_le, nat_lt};
 ghost use Rattle.std.specs.List.{AllByRecursion as Each};
 ghost use Rattle.ctt_text.specs.Marks.{is_marked, count_marked};
-ghost use Rattle.ctt_text.specs.Problem.{clash};
 ghost use Rattle.ctt_text.specs.Timetable.{IsTimetable, Fits};
 ghost use Rattle.ctt_rules.specs.Hard.{conflict_count, occupancy_count};
-ghost use Rattle.ctt_rules.specs.Earlier.{in_row, new_conflicts, only_in, room_taken, tally};
+ghost use Rattle.ctt_rules.specs.Earlier.{clashes_with, in_row, new_conflicts, only_in, room_taken, tally};
 
 use ctt_text::{Instance, Marks, Placed};
 use std::marker::Model;
@@ -104,7 +103,7 @@ impl Block {
             ≡ ((lecture.now.slot == self.old.first + row && lecture.now.room == n) || in_row self.old.rooms row n) }
         ensures conflicts { self.new.sharing.conflicts ≡ self.old.sharing.conflicts
             + cond (nat_le self.old.first lecture.now.slot && nat_lt lecture.now.slot (self.old.first + 64))
-                (count_marked (λ n. in_row self.old.courses (lecture.now.slot - self.old.first) n && clash instance.now lecture.now.course n)) 0 }
+                (count_marked (λ n. in_row self.old.courses (lecture.now.slot - self.old.first) n && clashes_with instance.now lecture.now.course n)) 0 }
         ensures occupancy { self.new.sharing.occupancy ≡ self.old.sharing.occupancy
             + cond (nat_le self.old.first lecture.now.slot && nat_lt lecture.now.slot (self.old.first + 64))
                 (cond (in_row self.old.rooms (lecture.now.slot - self.old.first) lecture.now.room) 1 0) 0 }
@@ -113,8 +112,8 @@ impl Block {
         let slot = lecture.slot.get();
         if self.first <= slot && slot - self.first < 64 {
             let row = (slot - self.first) as usize;
-            let clashing = clashing(instance, lecture.course);
-            self.sharing.conflicts += u64::from(self.courses.common_count(row, &clashing));
+            let clashing = instance.clashing(lecture.course);
+            self.sharing.conflicts += u64::from(self.courses.common_count(row, clashing));
             self.courses.mark(row, lecture.course.get() as usize);
             let is_taken = !self.rooms.mark(row, lecture.room.get() as usize);
             self.sharing.occupancy += u64::from(is_taken);
@@ -158,11 +157,4 @@ pub(crate) fn count_sharing(instance: &Instance, timetable: &[Placed]) -> Sharin
         first += 64;
     }
     sharing
-}
-
-/// TEMPORARY
-fn clashing(instance: &Instance, course: ctt_text::CourseNo) -> Marks
-    ensures { (n : ℕ) → is_marked result n ≡ clash instance.now course n }
-{
-    Marks::new()
 }

@@ -16,10 +16,10 @@ pub loop-first-preserved : goal.loop-first-preserved
 loop-first-preserved c =
     let n = c.loop-first.first in
     record {
-      conflicts = omega (arith, c.loop-first.invariant.conflicts, c.count_block.ensures.conflicts, block_more (new_conflicts c.args.instance.now) n (n + 64) (omega arith) c.args.timetable.now);
-      occupancy = omega (arith, c.loop-first.invariant.occupancy, c.count_block.ensures.occupancy, block_more room_taken n (n + 64) (omega arith) c.args.timetable.now);
-      small = omega (arith, c.loop-first.invariant.small, c.count_block.ensures.small);
-      few = omega (arith, c.loop-first.invariant.few, c.count_block.ensures.few);
+      conflicts = omega (arith, c.loop-first.invariant.conflicts, c.count_block-block.ensures.conflicts, block_more (new_conflicts c.args.instance.now) n (n + 64) (omega arith) c.args.timetable.now);
+      occupancy = omega (arith, c.loop-first.invariant.occupancy, c.count_block-block.ensures.occupancy, block_more room_taken n (n + 64) (omega arith) c.args.timetable.now);
+      small = omega (arith, c.loop-first.invariant.small, c.count_block-block.ensures.small);
+      few = omega (arith, c.loop-first.invariant.few, c.count_block-block.ensures.few);
       near = omega (arith, c.limits.ensures.slots_few);
     }
 
