@@ -5,6 +5,7 @@ pub mod LeastLemmas
 pub mod SlotLemmas
 pub mod LookLemmas
 pub mod MarkedRows
+pub mod MateLemmas
 pub mod ReadLemmas
 pub mod FrameLemmas
 pub mod PriceFrame

@@ -1,4 +1,5 @@
 pub mod Edits
 pub mod Looks
 pub mod Calls
+pub mod RowSets
 pub mod Laws
