@@ -10,3 +10,4 @@ pub mod ReadLemmas
 pub mod FrameLemmas
 pub mod PriceFrame
 pub mod CallLemmas
+pub mod ReplyLemmas

@@ -2,4 +2,5 @@ pub mod Edits
 pub mod Looks
 pub mod Calls
 pub mod RowSets
+pub mod Fitting
 pub mod Laws

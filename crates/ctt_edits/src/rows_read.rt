@@ -2,8 +2,9 @@
 
 ghost use Rattle.std.specs.Prelude.{◌≡◌, ℕ, false, IfOk};
 ghost use Rattle.ctt_text.specs.Marks.{is_marked};
+ghost use Rattle.ctt_text.specs.Problem.{course_count, slot_count};
 ghost use Rattle.ctt_edits.specs.Calls.{CallFits, rows_where};
-ghost use Rattle.ctt_edits.specs.RowSets.{is_in, rows_of, AddsReads};
+ghost use Rattle.ctt_edits.specs.RowSets.{has_course, has_slot, is_in, rows_of, AddsReads, IsLeast, between};
 
 use crate::call::Call;
 use crate::reading::mark_reads;
@@ -56,12 +57,40 @@ impl RowsRead {
         }
     }
 
+    /// The first course of the instance from a number on whose row is one of them.
+    pub fn next_course(&self, instance: &Instance, from: u16) -> Option<CourseNo>
+        ensures { IsLeast (between from (course_count instance.now) (has_course self.now)) result }
+    {
+        let number = next_marked(&self.courses, from, instance.courses())?;
+        Some(CourseNo::new(number))
+    }
+
+    /// The first slot of the instance from a number on whose row is one of them.
+    pub fn next_slot(&self, instance: &Instance, from: u16) -> Option<SlotNo>
+        ensures { IsLeast (between from (slot_count instance.now) (has_slot self.now)) result }
+    {
+        let number = next_marked(&self.slots, from, instance.slots())?;
+        Some(SlotNo::new(number))
+    }
+
     /// The rows, ascending, each once. The instance is the one of the calls.
     pub fn list(&self, alloc: Global, instance: &Instance) -> Result<Vec<Row>, NoMemory>
         ensures { IfOk result (λ rows. rows.items ≡ rows_of instance.now self.now) }
     {
         Ok(marked_rows(alloc, instance, &self.courses, &self.slots)?)
     }
+}
+
+/// The first marked number from a number on, and below another one.
+fn next_marked(marks: &Marks, from: u16, end: u16) -> Option<u16>
+    ensures { IsLeast (between from end (is_marked marks.now)) result }
+{
+    for number in from..end {
+        if marks.is_marked(number as usize) {
+            return Some(number);
+        }
+    }
+    None
 }
 
 /// The marked rows, in order.
