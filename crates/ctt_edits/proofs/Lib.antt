@@ -11,3 +11,4 @@ pub mod FrameLemmas
 pub mod PriceFrame
 pub mod CallLemmas
 pub mod ReplyLemmas
+pub mod SameLemmas
