@@ -12,3 +12,5 @@ pub mod PriceFrame
 pub mod CallLemmas
 pub mod ReplyLemmas
 pub mod SameLemmas
+pub mod TableLemmas
+pub mod OpeningLemmas
