@@ -3,7 +3,6 @@ pub mod LawfulLemmas
 pub mod EditLemmas
 pub mod LeastLemmas
 pub mod SlotLemmas
-pub mod LookLemmas
 pub mod MarkedRows
 pub mod MateLemmas
 pub mod ReadLemmas
@@ -14,3 +13,4 @@ pub mod ReplyLemmas
 pub mod SameLemmas
 pub mod TableLemmas
 pub mod OpeningLemmas
+pub mod PartLemmas
