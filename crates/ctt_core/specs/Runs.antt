@@ -1,5 +1,5 @@
 -- Runs of many planners: their drafts, the accepted history, and the answers of a plain desk.
-use Rattle.std.specs.Prelude.{ℕ, ◌+◌, ◌<◌, ◌≡◌, ◌⊎◌, Bool, true, false, cond, List, [], ◌∷◌, ◌++◌, take, ◌==◌, Option, Some, None}
+use Rattle.std.specs.Prelude.{ℕ, ◌+◌, ◌<◌, ◌≡◌, ◌⊎◌, Bool, true, false, cond, List, [], ◌∷◌, ◌++◌, length, get_or, take, ◌==◌, Option, Some, None}
 use Rattle.std.specs.List.{AllByRecursion as Each}
 use Rattle.ctt_text.specs.Problem.{Problem}
 use Rattle.ctt_text.specs.declared.placed.Placed.{Placed}
@@ -135,6 +135,10 @@ EventFits i n (Ask p call) = (p < n) × CallFits i call
 EventFits i n (Commit p) = p < n
 EventFits i n (Abandon p) = p < n
 EventFits i n (Show look) = LookFits i look
+
+-- so it is with each of these events, said by its place
+abbrev pub EventsFitByIndex : Problem → ℕ → List Event → Type 0
+EventsFitByIndex i n events = (k : ℕ) (d : Event) → k < length events → EventFits i n (get_or events k d)
 
 abbrev pub RunFits : Problem → ℕ → List Turn → Type 0
 RunFits i n past = Each (λ (turn : Turn). EventFits i n turn.event) past

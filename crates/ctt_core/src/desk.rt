@@ -1,6 +1,6 @@
 //! The desk.
 
-ghost use Rattle.std.specs.Prelude.{◌≡◌, ◌⊎◌, ℕ, ◌+◌, ◌<◌, List, [], ◌∷◌, length, None, Ok, Err, IfOk, IfErr, OnErr};
+ghost use Rattle.std.specs.Prelude.{◌≡◌, ◌⊎◌, ◌↔◌, ℕ, ◌+◌, ◌<◌, List, [], ◌∷◌, length, None, Ok, Err, IfOk, IfErr, OnErr, IsTrue};
 ghost use Rattle.std.specs.List.{AllByRecursion as Each};
 ghost use Rattle.ctt_text.specs.Timetable.{Fits};
 ghost use Rattle.ctt_edits.specs.Calls.{CallFits};
@@ -18,7 +18,7 @@ ghost use Rattle.ctt_core.specs.declared.event.Event.TheVariants.{Open, Ask, Com
 
 use crate::answer::Answer;
 use crate::desk_fault::DeskFault;
-use crate::event::Event;
+use crate::event::{Event, all_fit};
 use crate::journal::JournalEntry;
 use crate::laws;
 use crate::opening::placed;
@@ -39,6 +39,7 @@ pub struct Desk<'i, S: Timetable> {
     sheet: S,
     journal: Vec<JournalEntry>,
     drafts: Vec<Option<Draft<'i, S>>>,
+    planners: u16,
 }
 
 impl<'i, S: Timetable> Model for Desk<'i, S> {
@@ -48,7 +49,7 @@ impl<'i, S: Timetable> Model for Desk<'i, S> {
 
     ghost view = { λ d. record { problem = d.instance.now; opening = d.opening.items; list = S.list d.sheet; journal = d.journal.items; drafts = d.drafts.items } };
 
-    ghost invariant = { λ d. IsDesk d.instance.now (S.problem d.sheet) d.opening.items d.drafts.items };
+    ghost invariant = { λ d. IsDesk d.instance.now (S.problem d.sheet) d.opening.items d.drafts.items d.planners };
 }
 
 /// No draft for each of so many planners.
@@ -91,7 +92,29 @@ impl<'i, S: Sheet<'i>> Desk<'i, S> {
             sheet,
             journal: Vec::new(alloc),
             drafts,
+            planners,
         })
+    }
+
+    /// The instance whose courses are timetabled.
+    pub fn instance(&self) -> &'i Instance
+        ensures { result.now ≡ self.now.problem }
+    {
+        self.instance
+    }
+
+    /// How many planners there are: their numbers are those below.
+    pub fn planners(&self) -> u16
+        ensures { result ≡ length self.now.drafts }
+    {
+        self.planners
+    }
+
+    /// Whether events have numbers of the desk's instance and of its planners, as `step` and `run` ask.
+    pub fn takes(&self, events: &[Event]) -> bool
+        ensures { IsTrue result ↔ Each (EventFits self.now.problem (length self.now.drafts)) events.now }
+    {
+        all_fit(events, self.instance(), self.planners())
     }
 
     /// The lectures, by course and slot.

@@ -1,7 +1,9 @@
 //! What planners do.
 
 ghost use Rattle.std.specs.Prelude.{◌↔◌, IsTrue};
-ghost use Rattle.ctt_core.specs.Runs.{EventFits};
+ghost use Rattle.std.specs.Bool.{OnTrue, OnFalse};
+ghost use Rattle.std.specs.List.{AllByRecursion as Each};
+ghost use Rattle.ctt_core.specs.Runs.{EventFits, EventsFitByIndex};
 
 use crate::planner::PlannerNo;
 use ctt_edits::{Call, Look};
@@ -35,4 +37,24 @@ impl Event {
             Event::Show(look) => look.fits(instance),
         }
     }
+}
+
+/// Whether each event of a list fits.
+fn each_fits(events: &[Event], instance: &Instance, planners: u16) -> bool
+    ensures yes { OnTrue result (EventsFitByIndex instance.now planners events.now) }
+    ensures no { OnFalse result (EventsFitByIndex instance.now planners events.now → ⊥) }
+{
+    for event in events {
+        if !event.fits(instance, planners) {
+            return false;
+        }
+    }
+    true
+}
+
+/// Whether the numbers of all events are those of the instance, and their planners are of so many.
+pub(crate) fn all_fit(events: &[Event], instance: &Instance, planners: u16) -> bool
+    ensures { IsTrue result ↔ Each (EventFits instance.now planners) events.now }
+{
+    each_fits(events, instance, planners)
 }
