@@ -1,15 +1,16 @@
 //! Runs of two planners on the small instance, on both kinds of sheets: each event by `step`, and all
 //! of them by `run`. The costs were computed by hand from the rules.
 
-ghost use Rattle.std.specs.Prelude.{◌≡◌, length};
+ghost use Rattle.std.specs.Prelude.{length};
 ghost use Rattle.std.specs.List.{AllByRecursion as Each};
+ghost use Rattle.ctt_text.specs.Timetable.{Fits};
 ghost use Rattle.ctt_core.specs.Runs.{EventFits};
 
 use crate::{Answer, Desk, DeskFault, Event, PlannerNo};
 use ctt_board::{GridSheet, ListSheet, Sheet};
 use ctt_edits::{Call, Edit, EditFault, Look, Reply, Row};
 use ctt_rules::Cost;
-use ctt_text::{CourseNo, Instance, Placed, RoomNo, SlotNo, is_timetable, read_instance};
+use ctt_text::{CourseNo, Instance, Placed, RoomNo, SlotNo, read_instance};
 use std::alloc::Global;
 use std::process::Abort;
 use std::test::Fail;
@@ -148,8 +149,17 @@ struct Case<'t> {
     turns: &'t [(Event, Told<'t>)],
     list: &'t [Placed],
     cost: Cost,
-    /// How many drafts were accepted.
-    accepted: usize,
+    /// Of each accepted draft, its planner and how many calls it has.
+    journal: &'t [(u16, usize)],
+}
+
+/// Stops where a lecture has numbers beyond those of the instance.
+fn expect_lectures_fit(rt: &impl Abort, instance: &Instance, lectures: &[Placed])
+    ensures { Each (Fits instance.now) lectures.now }
+{
+    for lecture in lectures {
+        assert!(rt; lecture.fits(instance));
+    }
 }
 
 /// A desk of two planners.
@@ -159,7 +169,7 @@ fn desk_of<'i, S: Sheet<'i>>(
     instance: &'i Instance,
     opening: &[Placed],
 ) -> Desk<'i, S> {
-    assert!(rt; is_timetable(instance, opening));
+    expect_lectures_fit(rt, instance, opening);
     Desk::new(alloc, instance, opening, 2).expect(rt, "a lawful opening")
 }
 
@@ -181,7 +191,12 @@ fn expect_takes<'i, S: Sheet<'i>>(rt: &impl Abort, desk: &Desk<'i, S>, events: &
 fn ends<'i, S: Sheet<'i>>(rt: &impl Abort, desk: &Desk<'i, S>, case: &Case) -> Result<(), Fail> {
     assert_eq!(rt; desk.list()?.as_slice(), case.list);
     assert_eq!(rt; desk.cost(), case.cost);
-    assert_eq!(rt; desk.journal().len(), case.accepted);
+    assert_eq!(rt; desk.journal().len(), case.journal.len());
+    for (at, entry) in desk.journal().iter().enumerate() {
+        let (planner, calls) = case.journal[at];
+        assert_eq!(rt; entry.planner.get(), planner, "entry {at}");
+        assert_eq!(rt; entry.asked.as_slice().len(), calls, "entry {at}");
+    }
     Ok(())
 }
 
@@ -202,31 +217,47 @@ fn steps<'i, S: Sheet<'i>>(
 /// The events all at once.
 fn runs<'i, S: Sheet<'i>>(
     rt: &impl Abort,
-    alloc: Global,
     mut desk: Desk<'i, S>,
+    events: &[Event],
     case: &Case,
 ) -> Result<(), Fail> {
-    let mut events = Vec::new(alloc);
-    for turn in case.turns {
-        events.push(turn.0)?;
-    }
-    expect_takes(rt, &desk, &events);
-    let told = desk.run(&events)?;
+    expect_takes(rt, &desk, events);
+    let told = desk.run(events)?;
     assert_eq!(rt; told.len(), case.turns.len());
-    for (at, (answer, turn)) in told.iter().zip(case.turns).enumerate() {
+    for (at, answer) in told.iter().enumerate() {
+        let turn = &case.turns[at];
         assert!(rt; answers(answer, &turn.1), "event {at} by run: {answer:?}");
     }
     ends(rt, &desk, case)
 }
 
+/// The events of a case.
+fn events_of(alloc: Global, case: &Case) -> Result<Vec<Event>, Fail> {
+    let mut events = Vec::with_capacity(alloc, case.turns.len())?;
+    for turn in case.turns {
+        events.push(turn.0)?;
+    }
+    Ok(events)
+}
+
+/// Both ways, on one kind of sheet.
+fn holds_on<'i, S: Sheet<'i>>(
+    rt: &impl Abort,
+    alloc: Global,
+    small: &'i Instance,
+    events: &[Event],
+    case: &Case,
+) -> Result<(), Fail> {
+    steps::<S>(rt, desk_of(rt, alloc, small, case.opening), case)?;
+    runs::<S>(rt, desk_of(rt, alloc, small, case.opening), events, case)
+}
+
 /// Both ways, on both kinds of sheets.
 fn holds(rt: &impl Abort, alloc: Global, case: &Case) -> Result<(), Fail> {
     let small = read_instance(alloc, SMALL.as_bytes())?;
-    let opening = case.opening;
-    steps::<ListSheet>(rt, desk_of(rt, alloc, &small, opening), case)?;
-    runs::<ListSheet>(rt, alloc, desk_of(rt, alloc, &small, opening), case)?;
-    steps::<GridSheet>(rt, desk_of(rt, alloc, &small, opening), case)?;
-    runs::<GridSheet>(rt, alloc, desk_of(rt, alloc, &small, opening), case)
+    let events = events_of(alloc, case)?;
+    holds_on::<ListSheet>(rt, alloc, &small, &events, case)?;
+    holds_on::<GridSheet>(rt, alloc, &small, &events, case)
 }
 
 /// Planner 0 has looked at a slot into which planner 1 places a lecture.
@@ -246,7 +277,194 @@ fn phantom_slot(rt: HostRuntime) -> Result<(), Fail> {
         ],
         list: &[placed(top(), 2, room_b())],
         cost: cost(10, 15, 0, 0),
-        accepted: 1,
+        journal: &[(1, 1)],
     };
     holds(&rt, rt.alloc(), &case)
+}
+
+/// The same, but the lecture has gone again when planner 0 commits.
+#[test]
+fn changed_and_changed_back(rt: HostRuntime) -> Result<(), Fail> {
+    let case = Case {
+        opening: &[],
+        turns: &[
+            (open(0), Told::Opened),
+            (look(0, Look::Slot(at(2))), Told::Lectures(&[])),
+            (edit(0, Edit::Place(geo(), at(1), room_a())), Told::Done),
+            (open(1), Told::Opened),
+            (edit(1, Edit::Place(top(), at(2), room_b())), Told::Done),
+            (commit(1), Told::Committed(1)),
+            (open(1), Told::Opened),
+            (edit(1, Edit::Drop(top(), at(2))), Told::Done),
+            (commit(1), Told::Committed(2)),
+            (commit(0), Told::Committed(3)),
+            (Event::Show(Look::Cost), Told::Costs(cost(0, 15, 2, 0))),
+        ],
+        list: &[placed(geo(), 1, room_a())],
+        cost: cost(0, 15, 2, 0),
+        journal: &[(1, 1), (1, 1), (0, 2)],
+    };
+    holds(&rt, rt.alloc(), &case)
+}
+
+/// The lecture that planner 0 drops leaves a slot, whose row dropping does not read; placing a lecture
+/// there does read it. So planner 1 may commit before planner 0.
+#[test]
+fn commit_before_the_drop(rt: HostRuntime) -> Result<(), Fail> {
+    let case = Case {
+        opening: &[
+            placed(geo(), 5, room_a()),
+            placed(alg(), 3, room_b()),
+            placed(geo(), 1, room_a()),
+            placed(alg(), 0, room_a()),
+        ],
+        turns: &[
+            (open(0), Told::Opened),
+            (open(1), Told::Opened),
+            (edit(0, Edit::Drop(geo(), at(5))), Told::Done),
+            (edit(1, Edit::Place(top(), at(5), room_b())), Told::Done),
+            (commit(1), Told::Committed(1)),
+            (commit(0), Told::Committed(2)),
+            (
+                Event::Show(Look::Slot(at(5))),
+                Told::Lectures(&[placed(top(), 5, room_b())]),
+            ),
+        ],
+        list: &[
+            placed(alg(), 0, room_a()),
+            placed(alg(), 3, room_b()),
+            placed(geo(), 1, room_a()),
+            placed(top(), 5, room_b()),
+        ],
+        cost: cost(15, 0, 2, 1),
+        journal: &[(1, 1), (0, 1)],
+    };
+    holds(&rt, rt.alloc(), &case)
+}
+
+/// But not after planner 0.
+#[test]
+fn commit_after_the_drop(rt: HostRuntime) -> Result<(), Fail> {
+    let case = Case {
+        opening: &[
+            placed(alg(), 0, room_a()),
+            placed(alg(), 3, room_b()),
+            placed(geo(), 1, room_a()),
+            placed(geo(), 5, room_a()),
+        ],
+        turns: &[
+            (open(0), Told::Opened),
+            (open(1), Told::Opened),
+            (edit(0, Edit::Drop(geo(), at(5))), Told::Done),
+            (edit(1, Edit::Place(top(), at(5), room_b())), Told::Done),
+            (commit(0), Told::Committed(1)),
+            (commit(1), Told::Stale(Row::Slot(at(5)))),
+            (Event::Show(Look::Slot(at(5))), Told::Lectures(&[])),
+        ],
+        list: &[
+            placed(alg(), 0, room_a()),
+            placed(alg(), 3, room_b()),
+            placed(geo(), 1, room_a()),
+        ],
+        cost: cost(5, 5, 2, 1),
+        journal: &[(0, 1)],
+    };
+    holds(&rt, rt.alloc(), &case)
+}
+
+/// A planner has one draft at most; one in which nothing was asked is accepted too.
+#[test]
+fn open_twice_and_the_empty_commit(rt: HostRuntime) -> Result<(), Fail> {
+    let case = Case {
+        opening: &[],
+        turns: &[
+            (commit(0), Told::NoDraft),
+            (look(0, Look::Cost), Told::NoDraft),
+            (open(0), Told::Opened),
+            (open(0), Told::AlreadyOpen),
+            (commit(0), Told::Committed(1)),
+            (Event::Show(Look::Cost), Told::Costs(cost(0, 20, 0, 0))),
+        ],
+        list: &[],
+        cost: cost(0, 20, 0, 0),
+        journal: &[(0, 0)],
+    };
+    holds(&rt, rt.alloc(), &case)
+}
+
+/// What alg would cost depends on geo, which is in a curriculum with it.
+#[test]
+fn price_reads_curriculum_mates(rt: HostRuntime) -> Result<(), Fail> {
+    let price = Look::Price(Edit::Place(alg(), at(0), room_b()));
+    let case = Case {
+        opening: &[],
+        turns: &[
+            (open(0), Told::Opened),
+            (look(0, price), Told::Price(-3)),
+            (open(1), Told::Opened),
+            (edit(1, Edit::Place(geo(), at(1), room_a())), Told::Done),
+            (commit(1), Told::Committed(1)),
+            (commit(0), Told::Stale(Row::Course(geo()))),
+        ],
+        list: &[placed(geo(), 1, room_a())],
+        cost: cost(0, 15, 2, 0),
+        journal: &[(1, 1)],
+    };
+    holds(&rt, rt.alloc(), &case)
+}
+
+/// An edit that is refused is a call of its draft as others are.
+#[test]
+fn refused_edit_stays_in_the_journal(rt: HostRuntime) -> Result<(), Fail> {
+    let case = Case {
+        opening: &[placed(geo(), 1, room_a())],
+        turns: &[
+            (open(0), Told::Opened),
+            (
+                edit(0, Edit::Place(top(), at(1), room_a())),
+                Told::Refused(EditFault::RoomTaken(geo())),
+            ),
+            (commit(0), Told::Committed(1)),
+        ],
+        list: &[placed(geo(), 1, room_a())],
+        cost: cost(0, 15, 2, 0),
+        journal: &[(0, 1)],
+    };
+    holds(&rt, rt.alloc(), &case)
+}
+
+/// A draft that is given up changes nothing.
+#[test]
+fn abandoned(rt: HostRuntime) -> Result<(), Fail> {
+    let case = Case {
+        opening: &[],
+        turns: &[
+            (open(0), Told::Opened),
+            (edit(0, Edit::Place(geo(), at(1), room_a())), Told::Done),
+            (abandon(0), Told::Abandoned),
+            (abandon(0), Told::NoDraft),
+            (Event::Show(Look::Cost), Told::Costs(cost(0, 20, 0, 0))),
+        ],
+        list: &[],
+        cost: cost(0, 20, 0, 0),
+        journal: &[],
+    };
+    holds(&rt, rt.alloc(), &case)
+}
+
+/// An opening in which two courses with one teacher stand in one slot is refused.
+fn refuses_clash<'i, S: Sheet<'i>>(rt: &impl Abort, alloc: Global, small: &'i Instance) {
+    let opening = [placed(alg(), 0, room_a()), placed(top(), 0, room_b())];
+    expect_lectures_fit(rt, small, &opening);
+    let fault = Desk::<S>::new(alloc, small, &opening, 2).err();
+    let clash = EditFault::Clash(alg());
+    assert_eq!(rt; fault, Some(DeskFault::Unlawful(2, clash)));
+}
+
+#[test]
+fn unlawful_opening(rt: HostRuntime) -> Result<(), Fail> {
+    let small = read_instance(rt.alloc(), SMALL.as_bytes())?;
+    refuses_clash::<ListSheet>(&rt, rt.alloc(), &small);
+    refuses_clash::<GridSheet>(&rt, rt.alloc(), &small);
+    Ok(())
 }
