@@ -25,7 +25,7 @@ use crate::opening::placed;
 use crate::planner::PlannerNo;
 use ctt_board::{Rooms, Sheet, Timetable};
 use ctt_draft::Draft;
-use ctt_edits::{Call, Look, look_at};
+use ctt_edits::{Call, Look};
 use ctt_rules::Cost;
 use ctt_text::{Instance, NoMemory, Placed};
 use std::alloc::{AllocError, Global};
@@ -195,7 +195,7 @@ impl<'i, S: Sheet<'i>> Desk<'i, S> {
         ensures answer { Answers self.now (Show look.now) result }
         ensures goes_on { self.now ≡ goes_on self.now (Show look.now) result }
     {
-        match look_at(&self.sheet, look) {
+        match ctt_edits::look(&self.sheet, look) {
             Ok(told) => Answer::Replied(told),
             Err(_) => Answer::NoMemory,
         }

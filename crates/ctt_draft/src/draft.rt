@@ -14,7 +14,7 @@ use crate::comparing::{first_course, first_slot};
 use crate::laws;
 use crate::work::Work;
 use ctt_board::{Change, Rooms, Sheet, Timetable};
-use ctt_edits::{Call, Edit, Look, Reply, Row, check, look_at, mark_reads};
+use ctt_edits::{Call, Edit, Look, Reply, Row, check, mark_reads};
 use ctt_text::{Instance, Marks, NoMemory};
 use std::alloc::Global;
 use std::marker::Model;
@@ -117,7 +117,7 @@ impl<'i, S: Sheet<'i>> Draft<'i, S> {
         ensures ok { IfOk result (λ told. (told ≡ shown self.old.problem (present self.old) look) × (self.new ≡ asked_more self.old (Looks look) told)) }
         ensures err { OnErr result (self.new ≡ self.old) }
     {
-        let told = look_at(self.present(), &look)?;
+        let told = ctt_edits::look(self.present(), &look)?;
         let kept = told.copy()?;
         self.keep(Call::Look(look), kept)?;
         Ok(told)

@@ -5,7 +5,9 @@ pub mod LeastLemmas
 pub mod SlotLemmas
 pub mod LookLemmas
 pub mod MarkedRows
+pub mod MateLemmas
 pub mod ReadLemmas
 pub mod FrameLemmas
 pub mod PriceFrame
 pub mod CallLemmas
+pub mod ReplyLemmas

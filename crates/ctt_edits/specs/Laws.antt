@@ -2,7 +2,7 @@
 use Rattle.std.specs.Prelude.{ℕ, ◌≡◌, ◌≤◌, true, List, Some, None}
 use Rattle.std.specs.List.{AllByRecursion as Each}
 use Rattle.ctt_text.specs.Lists.{Pairwise}
-use Rattle.ctt_text.specs.Problem.{Problem, clash}
+use Rattle.ctt_text.specs.Problem.{Problem, IsProblem, clash}
 use Rattle.ctt_text.specs.Timetable.{Ascending}
 use Rattle.ctt_text.specs.declared.placed.Placed.{Placed}
 use Rattle.ctt_rules.specs.Hard.{Lawful}
@@ -12,6 +12,7 @@ use Rattle.ctt_edits.specs.declared.call.Call.{Call}
 use Rattle.ctt_edits.specs.declared.edit.Edit.{Edit}
 use Rattle.ctt_edits.specs.declared.edit.Edit.TheVariants.{Place}
 use Rattle.ctt_edits.specs.declared.fault.EditFault.TheVariants.{Clash}
+use Rattle.ctt_edits.specs.Fitting.{IsReply}
 use Rattle.ctt_edits.specs.Edits.{EditFits, edit_fault, edited, change}
 
 -- an edit without a fault keeps a timetable lawful
@@ -35,3 +36,7 @@ CallFrame = (i : Problem) (t u : List Placed) (call : Call) → Lawful i t → L
 -- the rows that a call reads ascend, each once
 abbrev pub ReadsAscend : Type 0
 ReadsAscend = (i : Problem) (call : Call) → Pairwise RowBefore (reads i call)
+
+-- what a call is told on a lawful timetable fits, and is short
+abbrev pub RepliesFit : Type 0
+RepliesFit = (i : Problem) (t : List Placed) (call : Call) → IsProblem i → Lawful i t → CallFits i call → IsReply i (reply i t call)

@@ -1,4 +1,6 @@
 pub mod Edits
 pub mod Looks
 pub mod Calls
+pub mod RowSets
+pub mod Fitting
 pub mod Laws

@@ -1,6 +1,6 @@
 //! Laws of edits, for the layers above. None of these functions computes anything.
 
-ghost use Rattle.ctt_edits.specs.Laws.{EditsKeepLawful, EditsFit, ClashIsLeast, CallFrame, ReadsAscend};
+ghost use Rattle.ctt_edits.specs.Laws.{EditsKeepLawful, EditsFit, ClashIsLeast, CallFrame, ReadsAscend, RepliesFit};
 
 /// An edit that has no fault keeps a timetable lawful.
 pub fn edits_keep_lawful()
@@ -26,4 +26,11 @@ pub fn call_frame()
 /// The rows that a call reads ascend, each once.
 pub fn reads_ascend()
     ensures { ReadsAscend }
+{}
+
+/// What a call is told on a lawful timetable fits: its numbers are those of the instance, each cost,
+/// and each price without its sign, is at most 9,223,372,036,854,775,807, and there are at most
+/// 999,999,999 lectures.
+pub fn replies_fit()
+    ensures { RepliesFit }
 {}

@@ -3,7 +3,7 @@ use Rattle.ctt_text.specs.Problem.{Problem}
 use Rattle.ctt_text.specs.Timetable.{course_row}
 use Rattle.ctt_text.specs.declared.placed.Placed.{Placed}
 use Rattle.ctt_board.proofs.RowLemmas.{row_is_timetable, cost_of_row}
-use Rattle.ctt_edits.proofs.looks.own_cost.Goals as goal
+use Rattle.ctt_edits.proofs.showing.own_cost.Goals as goal
 
 pub course_cost-requires-clause-timetable : goal.course_cost-requires-clause-timetable
 course_cost-requires-clause-timetable g c =

@@ -1,7 +1,7 @@
 use Rattle.std.proofs.Common.{rules, ◌≡◌, ◌∙◌, ap}
 use Rattle.std.proofs.lemmas.Fn.{filter_same}
 use Rattle.ctt_rules.specs.Penalty.{part_of}
-use Rattle.ctt_edits.proofs.looks.part_of.Goals as goal
+use Rattle.ctt_edits.proofs.showing.part_of.Goals as goal
 
 pub returns : goal.returns
 returns g c =

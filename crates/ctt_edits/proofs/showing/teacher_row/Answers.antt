@@ -5,7 +5,7 @@ use Rattle.ctt_text.specs.Problem.{Problem}
 use Rattle.ctt_text.specs.declared.placed.Placed.{Placed}
 use Rattle.ctt_rules.proofs.TimetableLemmas.{courses_fit}
 use Rattle.ctt_edits.proofs.LookLemmas.{taught, taught_is}
-use Rattle.ctt_edits.proofs.looks.teacher_row.Goals as goal
+use Rattle.ctt_edits.proofs.showing.teacher_row.Goals as goal
 
 pub returns : goal.returns
 returns g c =

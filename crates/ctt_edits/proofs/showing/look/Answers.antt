@@ -1,7 +1,7 @@
 use Rattle.std.proofs.Common.{rules, ◌<◌}
 use Rattle.ctt_text.specs.Problem.{course_count}
 use Rattle.ctt_edits.specs.Edits.{EditFits}
-use Rattle.ctt_edits.proofs.looks.look_at.Goals as goal
+use Rattle.ctt_edits.proofs.showing.look.Goals as goal
 
 pub own_cost-requires : goal.own_cost-requires
 own_cost-requires g c κs =
