@@ -1,5 +1,5 @@
 -- Lectures that are placed one by one.
-use Rattle.std.specs.Prelude.{ℕ, ◌≡◌, ◌+◌, List, drop, [], ◌∷◌, Option, Some, None, Result, Ok, Err}
+use Rattle.std.specs.Prelude.{ℕ, ◌≡◌, ◌+◌, List, [], ◌∷◌, Option, Some, None, Result, Ok, Err}
 use Rattle.ctt_text.specs.Problem.{Problem}
 use Rattle.ctt_text.specs.declared.placed.Placed.{Placed}
 use Rattle.ctt_edits.specs.Edits.{edit_fault, edited}
@@ -26,8 +26,3 @@ opening i ls = placed_on i [] 1 ls
 abbrev pub IsPlaced : List Placed → List Placed → Placed → Option EditFault → Type 0
 IsPlaced t u l None = u ≡ edited t (Place l.course l.slot l.room)
 IsPlaced t u l (Some f) = u ≡ t
-
--- lectures are being placed: the first ones of the list are, and t is their timetable
-pub record Placing (i j : Problem) (ls t : List Placed) (at : ℕ) : Type 0 where
-  pub same : j ≡ i
-  pub rest : opening i ls ≡ placed_on i t (at + 1) (drop at ls)

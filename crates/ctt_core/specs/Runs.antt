@@ -1,5 +1,5 @@
 -- Runs of many planners: their drafts, the accepted history, and the answers of a plain desk.
-use Rattle.std.specs.Prelude.{ℕ, ◌+◌, ◌<◌, ◌≡◌, ◌⊎◌, Bool, true, false, cond, List, [], ◌∷◌, ◌++◌, length, get_or, take, ◌==◌, Option, Some, None}
+use Rattle.std.specs.Prelude.{ℕ, ◌+◌, ◌<◌, ◌≡◌, ◌⊎◌, Bool, true, false, cond, List, [], ◌∷◌, ◌++◌, take, ◌==◌, Option, Some, None}
 use Rattle.std.specs.List.{AllByRecursion as Each}
 use Rattle.ctt_text.specs.Problem.{Problem}
 use Rattle.ctt_text.specs.declared.placed.Placed.{Placed}
@@ -30,6 +30,9 @@ Legal i t (e ∷ es) = (replies_in e.asked ≡ replies i t (calls_of e.asked)) �
 pub record Turn : Type 0 where
   pub event : Event
   pub answer : Answer
+
+abbrev pub answered : Event → Answer → Turn
+answered event answer = record { event = event; answer = answer }
 
 -- a draft that is open: how many commits came before it, and what was asked in it
 pub record OpenDraft : Type 0 where
@@ -136,10 +139,6 @@ EventFits i n (Commit p) = p < n
 EventFits i n (Abandon p) = p < n
 EventFits i n (Show look) = LookFits i look
 
--- so it is with each of these events, said by its place
-abbrev pub EventsFitByIndex : Problem → ℕ → List Event → Type 0
-EventsFitByIndex i n events = (k : ℕ) (d : Event) → k < length events → EventFits i n (get_or events k d)
-
 abbrev pub RunFits : Problem → ℕ → List Turn → Type 0
 RunFits i n past = Each (λ (turn : Turn). EventFits i n turn.event) past
 
@@ -147,4 +146,4 @@ RunFits i n past = Each (λ (turn : Turn). EventFits i n turn.event) past
 abbrev pub onto : List Turn → List Event → List Answer → List Turn
 onto past [] answers = past
 onto past (e ∷ es) [] = past
-onto past (e ∷ es) (a ∷ answers) = onto (record { event = e; answer = a } ∷ past) es answers
+onto past (e ∷ es) (a ∷ answers) = onto (answered e a ∷ past) es answers

@@ -1,9 +1,8 @@
 //! What planners do.
 
 ghost use Rattle.std.specs.Prelude.{◌↔◌, IsTrue};
-ghost use Rattle.std.specs.Bool.{OnTrue, OnFalse};
 ghost use Rattle.std.specs.List.{AllByRecursion as Each};
-ghost use Rattle.ctt_core.specs.Runs.{EventFits, EventsFitByIndex};
+ghost use Rattle.ctt_core.specs.Runs.{EventFits};
 
 use crate::planner::PlannerNo;
 use ctt_edits::{Call, Look};
@@ -39,10 +38,10 @@ impl Event {
     }
 }
 
-/// Whether each event of a list fits.
-fn each_fits(events: &[Event], instance: &Instance, planners: u16) -> bool
-    ensures yes { OnTrue result (EventsFitByIndex instance.now planners events.now) }
-    ensures no { OnFalse result (EventsFitByIndex instance.now planners events.now → ⊥) }
+/// Whether the numbers of all events are those of the instance, and their planners are of so many.
+#[tactic(auto, using(crate::proofs::EachLemmas::each_holds, crate::proofs::EachLemmas::one_fails))]
+pub(crate) fn all_fit(events: &[Event], instance: &Instance, planners: u16) -> bool
+    ensures { IsTrue result ↔ Each (EventFits instance.now planners) events.now }
 {
     for event in events {
         if !event.fits(instance, planners) {
@@ -50,11 +49,4 @@ fn each_fits(events: &[Event], instance: &Instance, planners: u16) -> bool
         }
     }
     true
-}
-
-/// Whether the numbers of all events are those of the instance, and their planners are of so many.
-pub(crate) fn all_fit(events: &[Event], instance: &Instance, planners: u16) -> bool
-    ensures { IsTrue result ↔ Each (EventFits instance.now planners) events.now }
-{
-    each_fits(events, instance, planners)
 }
