@@ -11,3 +11,6 @@ pub mod FrameLemmas
 pub mod PriceFrame
 pub mod CallLemmas
 pub mod ReplyLemmas
+pub mod SameLemmas
+pub mod TableLemmas
+pub mod OpeningLemmas

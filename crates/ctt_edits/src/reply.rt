@@ -39,6 +39,20 @@ impl Reply {
         }
     }
 
+    /// Whether it is the same reply.
+    pub fn is_same(&self, other: &Reply) -> bool
+        ensures { IsTrue result ↔ (self.now ≡ other.now) }
+    {
+        match (self, other) {
+            (Reply::Done, Reply::Done) => true,
+            (Reply::Refused(fault), Reply::Refused(other_fault)) => fault == other_fault,
+            (Reply::Lectures(lectures), Reply::Lectures(others)) => lectures.is_same(others),
+            (Reply::Costs(cost), Reply::Costs(other_cost)) => cost == other_cost,
+            (Reply::Price(price), Reply::Price(other_price)) => price == other_price,
+            _ => false,
+        }
+    }
+
     /// Whether its numbers are those of the instance, and each cost, and a price without its sign, is
     /// at most 9,223,372,036,854,775,807.
     pub fn fits(&self, instance: &Instance) -> bool
