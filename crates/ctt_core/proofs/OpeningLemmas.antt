@@ -4,7 +4,7 @@ use Rattle.ctt_draft.specs.DraftValues.{DraftValue}
 use Rattle.ctt_text.specs.Problem.{Problem}
 use Rattle.ctt_text.specs.declared.placed.Placed.{Placed}
 use Rattle.ctt_core.specs.Desks.{draft_at}
-use Rattle.ctt_core.specs.Openings.{opening, placed_on}
+use Rattle.ctt_edits.specs.Openings.{opening, placed_on}
 
 -- lectures are being placed: the first ones of the list are, and t is their timetable
 pub record Placing (i j : Problem) (ls t : List Placed) (at : ℕ) : Type 0 where

@@ -1,6 +1,6 @@
 //! The desk.
 
-ghost use Rattle.std.specs.Prelude.{◌≡◌, ◌⊎◌, ◌↔◌, ℕ, ◌+◌, ◌<◌, List, [], ◌∷◌, length, None, Ok, Err, IfOk, IfErr, OnErr, IsTrue};
+ghost use Rattle.std.specs.Prelude.{◌≡◌, ◌⊎◌, ◌↔◌, ℕ, ◌+◌, ◌<◌, List, [], ◌∷◌, length, None, Ok, IfOk, IfErr, OnErr, IsTrue};
 ghost use Rattle.std.specs.List.{AllByRecursion as Each};
 ghost use Rattle.ctt_text.specs.Timetable.{Fits};
 ghost use Rattle.ctt_edits.specs.Calls.{CallFits};
@@ -12,8 +12,8 @@ ghost use Rattle.ctt_core.specs.Laws.{Stands};
 ghost use Rattle.ctt_core.specs.Desks.{Answers, goes_on, draft_at, IsFresh, SameDesk};
 ghost use Rattle.ctt_core.specs.declared.answer.Answer.TheVariants.{Committed};
 ghost use Rattle.ctt_core.specs.declared.answer.Answer.TheVariants.{NoMemory as OutOfMemory};
-ghost use Rattle.ctt_core.specs.Openings.{opening};
-ghost use Rattle.ctt_core.specs.declared.desk_fault.DeskFault.TheVariants.{NoMemory as WantsMemory};
+ghost use Rattle.ctt_edits.specs.Openings.{opening};
+ghost use Rattle.ctt_core.specs.Openings.{IsOpeningFault};
 ghost use Rattle.ctt_core.specs.declared.event.Event.TheVariants.{Open, Ask, Commit, Abandon, Show};
 
 use crate::answer::Answer;
@@ -68,7 +68,8 @@ fn no_drafts<'i, S: Timetable>(
 }
 
 impl<'i, S: Sheet<'i>> Desk<'i, S> {
-    /// A desk whose opening timetable has these lectures, which are placed in their order.
+    /// A desk whose opening timetable has these lectures, which are placed in their order, whatever it
+    /// is, for so many planners. It is refused at the first lecture that cannot be placed.
     pub fn new(
         alloc: Global,
         instance: &'i Instance,
@@ -80,7 +81,7 @@ impl<'i, S: Sheet<'i>> Desk<'i, S> {
         ensures opening { IfOk result (λ desk. opening instance.now lectures.now ≡ Ok desk.opening) }
         ensures planners { IfOk result (λ desk. length desk.drafts ≡ planners) }
         ensures stands { IfOk result (λ desk. Stands desk []) }
-        ensures fault { IfErr result (λ fault. (fault ≡ WantsMemory) ⊎ (opening instance.now lectures.now ≡ Err fault)) }
+        ensures fault { IfErr result (IsOpeningFault instance.now lectures.now) }
     {
         let sheet: S = placed(alloc, instance, lectures)?;
         sheet.lawful();

@@ -39,14 +39,8 @@ impl Event {
 }
 
 /// Whether the numbers of all events are those of the instance, and their planners are of so many.
-#[tactic(auto, using(crate::proofs::EachLemmas::each_holds, crate::proofs::EachLemmas::one_fails))]
 pub(crate) fn all_fit(events: &[Event], instance: &Instance, planners: u16) -> bool
     ensures { IsTrue result ↔ Each (EventFits instance.now planners) events.now }
 {
-    for event in events {
-        if !event.fits(instance, planners) {
-            return false;
-        }
-    }
-    true
+    events.iter().all(|event| event.fits(instance, planners))
 }
