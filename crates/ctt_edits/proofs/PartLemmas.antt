@@ -3,13 +3,14 @@ use Rattle.std.proofs.Common.{◌≡◌, ℕ, ◌+◌, ◌<◌, ◌≤◌, Bool,
 use Rattle.std.specs.List.{filter, AllByRecursion as Each}
 use Rattle.std.proofs.lemmas.Bool.{cases_Bool, cases_lt, cases_eq, lt-ltb, le-ltb, eq-eqb, ne_eqb}
 use Rattle.std.proofs.lemmas.Bool.Decides.{nat_tests}
+use Rattle.ctt_text.specs.Marks.{IsLeast}
 use Rattle.ctt_text.specs.Timetable.{before, Ascending, course_row}
 use Rattle.ctt_text.specs.declared.placed.Placed.{Placed}
 use Rattle.ctt_rules.proofs.ListLemmas.{filter_none}
 use Rattle.ctt_text.proofs.TimetableLemmas.{Each-map}
 use Rattle.ctt_text.specs.Problem.{Problem, course_count}
 use Rattle.ctt_edits.specs.Calls.{look_reads_course}
-use Rattle.ctt_edits.specs.RowSets.{RowSet, has_course, is_in, AddsReads, IsLeast, between}
+use Rattle.ctt_edits.specs.RowSets.{RowSet, has_course, is_in, AddsReads, between}
 use Rattle.ctt_edits.specs.declared.call.Call.TheVariants.{Look as Looks}
 use Rattle.ctt_edits.specs.declared.looks.Look.{Look}
 use Rattle.ctt_edits.specs.declared.row.Row.{Row}
@@ -78,10 +79,10 @@ part_whole p n (x ∷ xs) h = elim (cases_Bool (p x.course)) [
   | inr k ↦ rw (lt-ltb x.course n h.0, k) (part_whole p n xs h.1)
 ]
 
-inside : (p : ℕ → Bool) (from end k : ℕ) → between from end p k ≡ false → from ≤ k → k < end → p k ≡ false
+pub inside : (p : ℕ → Bool) (from end k : ℕ) → between from end p k ≡ false → from ≤ k → k < end → p k ≡ false
 inside p from end k e le lt = grind (arith, nat_tests)
 
-found : (p : ℕ → Bool) (from end k : ℕ) → between from end p k ≡ true → (from ≤ k) × (k < end) × (p k ≡ true)
+pub found : (p : ℕ → Bool) (from end k : ℕ) → between from end p k ≡ true → (from ≤ k) × (k < end) × (p k ≡ true)
 found p from end k e = (grind (arith, nat_tests), grind (arith, nat_tests), grind (arith, nat_tests))
 
 -- the next course that passes

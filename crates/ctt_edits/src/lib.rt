@@ -22,7 +22,7 @@ pub use fault::EditFault;
 pub use lectures::Lectures;
 pub use looks::Look;
 pub use pricing::price;
-pub use reading::{mark_reads, reads};
+pub use reading::reads;
 pub use reply::Reply;
 pub use row::Row;
 pub use rows_read::RowsRead;
