@@ -1,9 +1,9 @@
 -- Each timetable on the way of a change that fits is lawful.
-use Rattle.std.proofs.Common.{◌≡◌, leb, ℕ, zero, suc, ◌+◌, ◌<◌, ◌≤◌, Bool, true, false, not, ◌&&◌, ◌==◌, List, [], ◌∷◌, drop, take, length, get_or, Option, Some, None, is_none, is_some, refl, ◌∙◌, sym, ap, subst, arith, inl, inr, ◌⊎◌}
+use Rattle.std.proofs.Common.{◌≡◌, leb, ℕ, zero, suc, ◌+◌, ◌<◌, ◌≤◌, Bool, true, false, not, ◌&&◌, ◌==◌, List, [], ◌∷◌, drop, take, length, get_or, Option, Some, None, is_some, refl, ◌∙◌, sym, ap, subst, arith, inl, inr, ◌⊎◌}
 use Rattle.std.specs.List.{filter, find, AllByRecursion as Each}
 use Rattle.std.proofs.lemmas.Bool.{cases_Bool, eq-eqb, and_parts}
 use Rattle.std.proofs.lemmas.Bool.Decides.{nat_tests}
-use Rattle.ctt_text.specs.Problem.{Problem, course_of, course_count, slot_count, is_unavailable}
+use Rattle.ctt_text.specs.Problem.{Problem, is_unavailable}
 use Rattle.ctt_text.specs.Timetable.{before, Fits, with, without, course_row}
 use Rattle.ctt_text.specs.declared.placed.Placed.{Placed}
 use Rattle.ctt_rules.specs.Hard.{Lawful, conflicts, share_room}

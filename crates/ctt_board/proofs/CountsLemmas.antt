@@ -1,14 +1,14 @@
 -- The tables of counts after one lecture more, and after one less.
-use Rattle.std.proofs.Common.{◌≡◌, ℕ, zero, suc, ◌+◌, ◌*◌, ◌<◌, ◌≤◌, Bool, true, false, cond, ◌&&◌, ◌==◌, ltb, List, [], ◌∷◌, ◌++◌, length, refl, ◌∙◌, sym, ap, ap₂, subst, arith, inl, inr}
-use Rattle.std.specs.List.{sum_by, count_by, list_any, AllByRecursion as Each}
+use Rattle.std.proofs.Common.{◌≡◌, ℕ, zero, suc, ◌+◌, ◌<◌, ◌≤◌, Bool, true, false, cond, ◌&&◌, ◌==◌, ltb, List, [], ◌∷◌, ◌++◌, length, refl, ◌∙◌, sym, ap, ap₂, arith, inl, inr}
+use Rattle.std.specs.List.{count_by, AllByRecursion as Each}
 use Rattle.std.proofs.lemmas.Bool.{cases_eq, eq-eqb, ne_eqb, lt-ltb, le-ltb}
 use Rattle.std.proofs.lemmas.Bool.Decides.{nat_tests}
 use Rattle.std.proofs.lemmas.List.{length-append}
-use Rattle.std.proofs.lemmas.List.Sums.{sum_by-cons, sum_by-append, length-filter, count_by-le-length}
+use Rattle.std.proofs.lemmas.List.Sums.{sum_by-append, length-filter}
 use Rattle.ctt_text.specs.Lists.{has, below}
 use Rattle.ctt_text.specs.Belonging.{curricula_of}
 use Rattle.ctt_text.specs.Problem.{Problem, IsProblem, course_of, IsCourseFacts, teacher_count, course_count, room_count, curriculum_count, slot_count, members, day_of}
-use Rattle.ctt_text.specs.Timetable.{IsTimetable, Fits, course_row}
+use Rattle.ctt_text.specs.Timetable.{Fits, course_row}
 use Rattle.ctt_text.specs.declared.placed.Placed.{Placed}
 use Rattle.ctt_text.proofs.TimetableLemmas.{Each-at}
 use Rattle.ctt_rules.specs.Penalty.{days_of}

@@ -1,14 +1,13 @@
 -- A change fits where the test says so.
-use Rattle.std.proofs.Common.{add-one, ◌≡◌, ◌↔◌, ℕ, zero, suc, leb, take, ◌++◌, ◌+◌, ◌<◌, ◌≤◌, Bool, true, false, cond, not, ltb, ◌&&◌, ◌||◌, ◌==◌, List, [], ◌∷◌, length, get_or, Option, Some, None, is_some, is_none, refl, ◌∙◌, sym, ap, ap₂, subst, arith, inl, inr, ◌⊎◌}
+use Rattle.std.proofs.Common.{add-one, ◌≡◌, ℕ, zero, suc, leb, take, ◌++◌, ◌+◌, ◌<◌, ◌≤◌, Bool, true, false, cond, not, ltb, ◌&&◌, ◌||◌, ◌==◌, List, [], ◌∷◌, length, get_or, Option, Some, None, is_some, is_none, refl, ◌∙◌, ap, ap₂, subst, arith, inl, inr, ◌⊎◌}
 use Rattle.std.specs.List.{find, list_any, AllByRecursion as Each}
-use Rattle.std.proofs.lemmas.Bool.{cases_Bool, cases_lt, le-ltb, and_parts, le-leb, leb-true, eq-eqb, lt-ltb, ltb-true}
-use Rattle.std.proofs.lemmas.Bool.Decides.{nat_tests}
+use Rattle.std.proofs.lemmas.Bool.{cases_Bool, cases_lt, and_parts, le-leb, leb-true, eq-eqb, lt-ltb, ltb-true}
 use Rattle.ctt_text.specs.Lists.{Pairwise}
 use Rattle.ctt_text.specs.Problem.{Problem, course_of, course_count, slot_count, room_count, clash, is_unavailable}
-use Rattle.ctt_text.specs.Timetable.{before, Fits, course_row, slot_row, with, without}
+use Rattle.ctt_text.specs.Timetable.{before, Fits, course_row, slot_row, with}
 use Rattle.ctt_text.specs.declared.placed.Placed.{Placed}
 use Rattle.ctt_text.proofs.TimetableLemmas.{Each-map}
-use Rattle.ctt_rules.specs.Hard.{Lawful, conflicts, share_room}
+use Rattle.ctt_rules.specs.Hard.{Lawful, conflicts}
 use Rattle.ctt_board.specs.Changes.{room_at, room_of, course_named, holder_at, apply_at, apply, in_turn, is_change, CellFits, CellsFit, ChangeFits}
 use Rattle.ctt_board.specs.Cells.{lecture_at}
 use Rattle.ctt_board.specs.Grids.{column_below}

@@ -1,5 +1,5 @@
 -- A timetable is the list of its cells, and so what a table of rooms shows.
-use Rattle.std.proofs.Common.{◌≡◌, ℕ, zero, suc, ◌<◌, ◌≤◌, Bool, true, false, cond, ◌&&◌, ◌==◌, ltb, List, [], ◌++◌, ◌+◌, Option, Some, None, is_some, add-one, append_assoc, refl, ◌∙◌, sym, ap, ap₂, subst, arith}
+use Rattle.std.proofs.Common.{◌≡◌, ℕ, zero, suc, ◌<◌, ◌≤◌, true, false, cond, ◌&&◌, ◌==◌, ltb, List, [], ◌++◌, ◌+◌, Option, Some, None, is_some, add-one, append_assoc, refl, ◌∙◌, sym, ap, ap₂, subst, arith}
 use Rattle.std.specs.List.{filter, sum_by, count_by, AllByRecursion as Each}
 use Rattle.std.proofs.lemmas.Bool.{lt-ltb, le-ltb}
 use Rattle.std.proofs.lemmas.Bool.Decides.{nat_tests}
@@ -118,9 +118,13 @@ row_goes_on xs f c n m e = rw (add-one, e) (append_assoc xs (row_below f c n) (l
 pub column_goes_on : (f : ℕ → Option ℕ) (s n m : ℕ) → m ≡ n → (column_below f s n ++ lecture_at m s (f m)) ≡ column_below f s (n + 1)
 column_goes_on f s n m e = rw (add-one, e) refl
 
+pub column_same : (s : ℕ) (f g : ℕ → Option ℕ) (n : ℕ) → ((c : ℕ) → c < n → f c ≡ g c) → column_below f s n ≡ column_below g s n
+column_same s f g zero e = refl
+column_same s f g (suc n) e = ap₂ (λ a b. a ++ lecture_at n s b) (column_same s f g n (λ c lt. e c (omega (arith, lt)))) (e n (omega arith))
+
 -- the lectures in a slot, course by course
 module _ (i : Problem) (t : List Placed) (s : ℕ) (h : IsTimetable i t) where
-  one_course : (n : ℕ) → filter (λ l. l.course == n) (slot_row s t) ≡ lecture_at n s (room_at n s t)
+  pub one_course : (n : ℕ) → filter (λ l. l.course == n) (slot_row s t) ≡ lecture_at n s (room_at n s t)
   one_course n = filter_filter (λ (l : Placed). l.course == n) (λ (l : Placed). l.slot == s) t ∙ one_slot n s (course_row n t) (Each-filter_passes (λ l. l.course == n) t) (row_by_slot n t h.ascending)
 
   column_is : (n : ℕ) → filter (λ l. ltb l.course n) (slot_row s t) ≡ column_below (λ c. room_at c s t) s n
@@ -135,11 +139,7 @@ module _ (i : Problem) (t : List Placed) (s : ℕ) (h : IsTimetable i t) where
       sym (filter_every (λ (l : Placed). ltb l.course (course_count i)) (slot_row s t) courses) ∙ column_is (course_count i)
 
   pub column_shown : (g : Grid (Option ℕ)) → AreRooms i t g → s < slot_count i → column_below (λ c. at g c s None) s (course_count i) ≡ slot_row s t
-  column_shown g rooms lt = column_same (λ c. at g c s None) (λ c. room_at c s t) (course_count i) (λ c lc. rooms.rooms c s lc lt) ∙ sym slot_row_is
-    where
-      column_same : (f f2 : ℕ → Option ℕ) (n : ℕ) → ((c : ℕ) → c < n → f c ≡ f2 c) → column_below f s n ≡ column_below f2 s n
-      column_same f f2 zero e = refl
-      column_same f f2 (suc n) e = ap₂ (λ a b. a ++ lecture_at n s b) (column_same f f2 n (λ c lt. e c (omega (arith, lt)))) (e n (omega arith))
+  column_shown g rooms lt = column_same s (λ c. at g c s None) (λ c. room_at c s t) (course_count i) (λ c lc. rooms.rooms c s lc lt) ∙ sym slot_row_is
 
 -- the empty timetable
 pub none_lawful : (i : Problem) → Lawful i []

@@ -8,7 +8,6 @@ use Rattle.ctt_text.specs.Problem.{Problem, slot_count, room_count}
 use Rattle.ctt_text.specs.Timetable.{before, Ascending, with, without}
 use Rattle.ctt_text.specs.declared.placed.Placed.{Placed}
 use Rattle.ctt_text.proofs.TimetableLemmas.{Each-map}
-use Rattle.ctt_text.proofs.LectureLaws.{before_once}
 use Rattle.ctt_rules.specs.Hard.{Lawful, share_room}
 use Rattle.ctt_rules.proofs.ListLemmas.{filter_every}
 use Rattle.ctt_board.specs.Changes.{room_at, room_of, course_named, holder_at}
@@ -71,7 +70,7 @@ removed_back c s r (x ∷ xs) h e = elim (cases_Bool (is_at c s x)) [
       let others : without c s xs ≡ xs = filter_every (λ l. not (is_at c s l)) xs (only_one c s x xs y h.0) in
       let room : Some x.room ≡ Some r = (rw y at e) in
       let is : l ≡ x = same x y room in
-      rw (y, others) (ap (λ z. with z xs) is ∙ put_before before x xs h.0 ))
+      rw (y, others) (ap (λ z. with z xs) is ∙ put_before before x xs h.0))
   | inr n ↦ (
       let l : Placed = record { course = c; slot = s; room = r } in
       let e' : room_of (find (is_at c s) xs) ≡ Some r = (rw n at e) in

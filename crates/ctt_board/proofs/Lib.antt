@@ -23,3 +23,4 @@ mod ClearLemmas
 mod FewLemmas
 pub mod LawfulLemmas
 mod FitLemmas
+mod SameLemmas

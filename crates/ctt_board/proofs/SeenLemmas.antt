@@ -1,7 +1,7 @@
 -- Counts that are seen through a change are those of the timetable after it.
-use Rattle.std.proofs.Common.{◌≡◌, ℕ, zero, suc, ◌+◌, ◌-◌, ◌*◌, ◌<◌, ◌≤◌, Bool, true, false, cond, ◌&&◌, ◌||◌, ◌==◌, ltb, List, [], ◌∷◌, ◌++◌, length, refl, ◌∙◌, sym, ap, ap₂, subst, arith, inl, inr}
+use Rattle.std.proofs.Common.{◌≡◌, ℕ, ◌+◌, ◌-◌, ◌<◌, ◌≤◌, Bool, true, false, cond, ◌&&◌, ◌||◌, ◌==◌, ltb, List, [], ◌∷◌, ◌++◌, length, refl, ◌∙◌, sym, ap, ap₂, subst, arith, inl, inr}
 use Rattle.std.specs.List.{sum_by, count_by, AllByRecursion as Each}
-use Rattle.std.proofs.lemmas.Bool.{cases_eq, cases_lt, eq-eqb, ne_eqb, lt-ltb, le-ltb}
+use Rattle.std.proofs.lemmas.Bool.{cases_lt, eq-eqb, ne_eqb, lt-ltb, le-ltb}
 use Rattle.std.proofs.lemmas.Bool.Decides.{nat_tests}
 use Rattle.std.proofs.lemmas.List.Sums.{sum_by-cons, sum_by-append, length-filter}
 use Rattle.ctt_text.specs.Lists.{has}
@@ -10,10 +10,9 @@ use Rattle.ctt_text.specs.Problem.{Problem, course_count, room_count, curriculum
 use Rattle.ctt_text.specs.Timetable.{Fits, course_row}
 use Rattle.ctt_text.specs.declared.placed.Placed.{Placed}
 use Rattle.ctt_rules.specs.Penalty.{days_of}
-use Rattle.ctt_rules.specs.Neighbours.{is_beside}
 use Rattle.ctt_rules.proofs.SlotLemmas.{day_fits}
 use Rattle.ctt_rules.proofs.TimetableLemmas.{slots_fit}
-use Rattle.ctt_board.specs.Joining.{IsMore, on_day, in_room, in_slot, by_slot, alone_at, alone_beside, stands_alone, joining, joining_by}
+use Rattle.ctt_board.specs.Joining.{IsMore, on_day, in_room, in_slot, by_slot, alone_at, alone_beside, stands_alone, joining}
 use Rattle.ctt_board.specs.Tables.{at, one_at}
 use Rattle.ctt_board.specs.Counts.{AreCounts}
 use Rattle.ctt_board.specs.Seen.{Sees, seen, seen_day, seen_room, seen_lectures, seen_part, seen_days, seen_joining}

@@ -1,14 +1,14 @@
 -- A sheet of tables after one lecture more, and after one less.
-use Rattle.std.proofs.Common.{◌≡◌, ℕ, ◌+◌, ◌*◌, ◌<◌, ◌≤◌, false, List, Option, Some, None, is_some, refl, ◌∙◌, sym, ap, ap₂, arith}
-use Rattle.ctt_text.specs.Problem.{Problem, IsProblem, slot_count}
+use Rattle.std.proofs.Common.{◌≡◌, ℕ, ◌≤◌, false, List, Option, Some, None, is_some, ◌∙◌, ap, ap₂, arith}
+use Rattle.ctt_text.specs.Problem.{Problem, IsProblem}
 use Rattle.ctt_text.specs.Timetable.{Fits, with, without}
 use Rattle.ctt_text.specs.declared.placed.Placed.{Placed}
 use Rattle.ctt_rules.specs.Hard.{Lawful}
 use Rattle.ctt_rules.specs.Penalty.{penalty, total}
 use Rattle.ctt_rules.specs.declared.cost.Cost.{Cost}
 use Rattle.ctt_board.specs.Changes.{room_at}
-use Rattle.ctt_board.specs.Tables.{Grid, at}
-use Rattle.ctt_board.specs.Joining.{IsMore, joining, Joins, with_joining, without_joining}
+use Rattle.ctt_board.specs.Tables.{Grid}
+use Rattle.ctt_board.specs.Joining.{IsMore, joining, with_joining, without_joining}
 use Rattle.ctt_board.specs.Counts.{AreCounts, AddsLecture, HaveLecture}
 use Rattle.ctt_board.specs.Seen.{Sees, seen_joining}
 use Rattle.ctt_board.specs.Grids.{listed, IsGridSheet}

@@ -1,7 +1,6 @@
 -- The tables of a sheet, by its timetable.
-use Rattle.std.specs.Prelude.{◌≡◌, ◌<◌, ◌≤◌, ℕ, ◌+◌, Bool, true, cond, List, length, count_by, ◌==◌, ◌&&◌}
+use Rattle.std.specs.Prelude.{◌≡◌, ◌<◌, ◌≤◌, ℕ, true, List, length, count_by, ◌==◌}
 use Rattle.std.specs.List.{AllByRecursion as Each}
-use Rattle.ctt_text.specs.Lists.{has}
 use Rattle.ctt_text.specs.Belonging.{curricula_of}
 use Rattle.ctt_text.specs.Problem.{Problem, course_of, course_count, room_count, teacher_count, curriculum_count, slot_count, members, day_of}
 use Rattle.ctt_text.specs.Timetable.{course_row}

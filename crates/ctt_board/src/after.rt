@@ -35,7 +35,12 @@ impl<'a, R: Rooms> Model for After<'a, R> {
 }
 
 /// The room of a course in a slot after these cells, from the one before them.
-pub(crate) fn last_room(cells: &[Cell], course: CourseNo, slot: SlotNo, room: Option<RoomNo>) -> Option<RoomNo>
+pub(crate) fn last_room(
+    cells: &[Cell],
+    course: CourseNo,
+    slot: SlotNo,
+    room: Option<RoomNo>,
+) -> Option<RoomNo>
     ensures { result ≡ room_by cells.now course slot room }
 {
     let mut last = room;
@@ -48,12 +53,7 @@ pub(crate) fn last_room(cells: &[Cell], course: CourseNo, slot: SlotNo, room: Op
 }
 
 /// The course that has a room in a slot after a cell, from the one before it.
-fn held_after(
-    cell: &Cell,
-    slot: SlotNo,
-    room: RoomNo,
-    holder: Option<CourseNo>,
-) -> Option<CourseNo>
+fn held_after(cell: &Cell, slot: SlotNo, room: RoomNo, holder: Option<CourseNo>) -> Option<CourseNo>
     ensures { result ≡ held_after cell.now slot room holder }
 {
     if cell.slot != slot {

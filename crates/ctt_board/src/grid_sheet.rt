@@ -11,14 +11,15 @@ ghost use Rattle.ctt_board.specs.Ways.{Ready};
 ghost use Rattle.ctt_board.specs.Cells.{row_below, lecture_at};
 ghost use Rattle.ctt_board.specs.Tables.{at};
 
+use crate::after::last_room;
 use crate::cell::Cell;
 use crate::change::Change;
-use crate::fitting::fits;
 use crate::counts::Counts;
-use crate::after::last_room;
+use crate::fitting::fits;
 use crate::joining::{joining_of, with_lecture, without_lecture};
 use crate::later::Later;
 use crate::laws;
+use crate::same_rows::{same_course_row, same_slot_row};
 use crate::sheet::{Rooms, Sheet, Timetable};
 use crate::table::Table;
 use ctt_rules::Cost;
@@ -244,6 +245,14 @@ impl<'i> Timetable for GridSheet<'i> {
         for cell in cells {
             self.make(cell);
         }
+    }
+
+    fn same_course_row(&self, other: &Self, course: CourseNo) -> bool {
+        same_course_row(self.instance, self, other, course)
+    }
+
+    fn same_slot_row(&self, other: &Self, slot: SlotNo) -> bool {
+        same_slot_row(self.instance, self, other, slot)
     }
 
     fn course_row(&self, course: CourseNo) -> Result<Vec<Placed>, NoMemory> {

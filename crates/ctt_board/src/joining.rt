@@ -32,20 +32,31 @@ pub(crate) struct Joining {
 
 /// Whether the curriculum has a lecture in the slot before this one, on its day.
 #[tactic(auto, using(crate::proofs::SlotFacts::later_slot, crate::proofs::SlotFacts::earlier_fits))]
-fn has_before(later: &Later, instance: &Instance, part: CurriculumNo, slot: SlotNo, period: u16) -> bool
+fn has_before(
+    later: &Later,
+    instance: &Instance,
+    part: CurriculumNo,
+    slot: SlotNo,
+    period: u16,
+) -> bool
     requires part { part < curriculum_count instance.now }
     requires slot { slot < slot_count instance.now }
     requires period { period ≡ period_of instance.now slot }
     requires sizes { HaveSizes instance.now later.now.counts.now }
     ensures { result ≡ (nat_lt 0 (period_of instance.now slot) && nat_lt 0 (seen_part instance.now later.now part (slot - 1))) }
 {
-    period > 0
-        && later.in_slot(instance, part, SlotNo::new(slot.get() - 1)) > 0
+    period > 0 && later.in_slot(instance, part, SlotNo::new(slot.get() - 1)) > 0
 }
 
 /// Whether it has one in the slot after this one.
 #[tactic(auto, using(crate::proofs::SlotFacts::next_slot))]
-fn has_after(later: &Later, instance: &Instance, part: CurriculumNo, slot: SlotNo, period: u16) -> bool
+fn has_after(
+    later: &Later,
+    instance: &Instance,
+    part: CurriculumNo,
+    slot: SlotNo,
+    period: u16,
+) -> bool
     requires part { part < curriculum_count instance.now }
     requires slot { slot < slot_count instance.now }
     requires period { period ≡ period_of instance.now slot }
@@ -58,18 +69,31 @@ fn has_after(later: &Later, instance: &Instance, part: CurriculumNo, slot: SlotN
 }
 
 /// Whether it has one in a slot beside this one.
-fn has_beside(later: &Later, instance: &Instance, part: CurriculumNo, slot: SlotNo, period: u16) -> bool
+fn has_beside(
+    later: &Later,
+    instance: &Instance,
+    part: CurriculumNo,
+    slot: SlotNo,
+    period: u16,
+) -> bool
     requires part { part < curriculum_count instance.now }
     requires slot { slot < slot_count instance.now }
     requires period { period ≡ period_of instance.now slot }
     requires sizes { HaveSizes instance.now later.now.counts.now }
     ensures { result ≡ is_beside instance.now (λ k. nat_lt 0 (seen_part instance.now later.now part k)) slot }
 {
-    has_before(later, instance, part, slot, period) || has_after(later, instance, part, slot, period)
+    has_before(later, instance, part, slot, period)
+        || has_after(later, instance, part, slot, period)
 }
 
 /// One, if a lecture of it would stand alone in the slot.
-fn stands_alone(later: &Later, instance: &Instance, part: CurriculumNo, slot: SlotNo, period: u16) -> u64
+fn stands_alone(
+    later: &Later,
+    instance: &Instance,
+    part: CurriculumNo,
+    slot: SlotNo,
+    period: u16,
+) -> u64
     requires part { part < curriculum_count instance.now }
     requires slot { slot < slot_count instance.now }
     requires period { period ≡ period_of instance.now slot }
@@ -85,7 +109,13 @@ fn stands_alone(later: &Later, instance: &Instance, part: CurriculumNo, slot: Sl
 }
 
 /// The lectures of it that stand alone in the slot.
-fn alone_at(later: &Later, instance: &Instance, part: CurriculumNo, slot: SlotNo, period: u16) -> u64
+fn alone_at(
+    later: &Later,
+    instance: &Instance,
+    part: CurriculumNo,
+    slot: SlotNo,
+    period: u16,
+) -> u64
     requires part { part < curriculum_count instance.now }
     requires slot { slot < slot_count instance.now }
     requires period { period ≡ period_of instance.now slot }
@@ -103,7 +133,13 @@ fn alone_at(later: &Later, instance: &Instance, part: CurriculumNo, slot: SlotNo
 
 /// Those in the slot before this one, on its day.
 #[tactic(auto, using(crate::proofs::SlotFacts::later_slot, crate::proofs::SlotFacts::earlier_fits, crate::proofs::SlotFacts::period_before))]
-fn alone_before(later: &Later, instance: &Instance, part: CurriculumNo, slot: SlotNo, period: u16) -> u64
+fn alone_before(
+    later: &Later,
+    instance: &Instance,
+    part: CurriculumNo,
+    slot: SlotNo,
+    period: u16,
+) -> u64
     requires part { part < curriculum_count instance.now }
     requires slot { slot < slot_count instance.now }
     requires period { period ≡ period_of instance.now slot }
@@ -112,7 +148,13 @@ fn alone_before(later: &Later, instance: &Instance, part: CurriculumNo, slot: Sl
     ensures bound { result ≤ 5000000000 }
 {
     if period > 0 {
-        alone_at(later, instance, part, SlotNo::new(slot.get() - 1), period - 1)
+        alone_at(
+            later,
+            instance,
+            part,
+            SlotNo::new(slot.get() - 1),
+            period - 1,
+        )
     } else {
         0
     }
@@ -120,7 +162,13 @@ fn alone_before(later: &Later, instance: &Instance, part: CurriculumNo, slot: Sl
 
 /// Those in the slot after this one.
 #[tactic(auto, using(crate::proofs::SlotFacts::next_slot, crate::proofs::SlotFacts::period_after))]
-fn alone_after(later: &Later, instance: &Instance, part: CurriculumNo, slot: SlotNo, period: u16) -> u64
+fn alone_after(
+    later: &Later,
+    instance: &Instance,
+    part: CurriculumNo,
+    slot: SlotNo,
+    period: u16,
+) -> u64
     requires part { part < curriculum_count instance.now }
     requires slot { slot < slot_count instance.now }
     requires period { period ≡ period_of instance.now slot }
@@ -130,14 +178,26 @@ fn alone_after(later: &Later, instance: &Instance, part: CurriculumNo, slot: Slo
 {
     instance.limits();
     if period + 1 < instance.periods() {
-        alone_at(later, instance, part, SlotNo::new(slot.get() + 1), period + 1)
+        alone_at(
+            later,
+            instance,
+            part,
+            SlotNo::new(slot.get() + 1),
+            period + 1,
+        )
     } else {
         0
     }
 }
 
 /// In how many of these curricula a lecture would stand alone.
-fn alone(later: &Later, instance: &Instance, parts: &[CurriculumNo], slot: SlotNo, period: u16) -> u64
+fn alone(
+    later: &Later,
+    instance: &Instance,
+    parts: &[CurriculumNo],
+    slot: SlotNo,
+    period: u16,
+) -> u64
     requires parts { Each (λ q. q < curriculum_count instance.now) parts.now }
     requires few { length parts.now ≤ 20000 }
     requires slot { slot < slot_count instance.now }
@@ -155,7 +215,13 @@ fn alone(later: &Later, instance: &Instance, parts: &[CurriculumNo], slot: SlotN
 }
 
 /// How many lectures of these curricula stand alone in the slots beside this one.
-fn company(later: &Later, instance: &Instance, parts: &[CurriculumNo], slot: SlotNo, period: u16) -> u64
+fn company(
+    later: &Later,
+    instance: &Instance,
+    parts: &[CurriculumNo],
+    slot: SlotNo,
+    period: u16,
+) -> u64
     requires parts { Each (λ q. q < curriculum_count instance.now) parts.now }
     requires few { length parts.now ≤ 20000 }
     requires slot { slot < slot_count instance.now }
@@ -167,7 +233,8 @@ fn company(later: &Later, instance: &Instance, parts: &[CurriculumNo], slot: Slo
     instance.limits();
     let mut count = 0;
     for part in parts {
-        count += alone_before(later, instance, *part, slot, period) + alone_after(later, instance, *part, slot, period);
+        count += alone_before(later, instance, *part, slot, period)
+            + alone_after(later, instance, *part, slot, period);
     }
     count
 }

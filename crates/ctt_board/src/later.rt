@@ -158,7 +158,10 @@ impl<'a> Later<'a> {
         requires sizes { HaveSizes instance.now self.now.counts.now }
         ensures { result ≡ seen_room self.now course room }
     {
-        let count = self.counts.rooms.get(course.get() as usize, room.get() as usize);
+        let count = self
+            .counts
+            .rooms
+            .get(course.get() as usize, room.get() as usize);
         let more = in_room(&self.added, course, room);
         let less = in_room(&self.removed, course, room);
         (u64::from(count) + more).saturating_sub(less)
@@ -196,7 +199,10 @@ impl<'a> Later<'a> {
         ensures value { result ≡ seen_part instance.now self.now part slot }
         ensures bound { result ≤ 5000000000 }
     {
-        let count = self.counts.parts.get(part.get() as usize, slot.get() as usize);
+        let count = self
+            .counts
+            .parts
+            .get(part.get() as usize, slot.get() as usize);
         let members = instance.members(part);
         let more = in_slot(&self.added, members, slot);
         let less = in_slot(&self.removed, members, slot);

@@ -1,4 +1,4 @@
-use Rattle.std.proofs.Common.{rules, ◌≡◌, ◌∙◌, List, Some, None, is_some, sym, ap, subst, pos, ◌-ℤ◌}
+use Rattle.std.proofs.Common.{rules, ◌≡◌, ◌∙◌, List, Some, sym, ap, subst, pos, ◌-ℤ◌}
 use Rattle.ctt_text.specs.Problem.{Problem}
 use Rattle.ctt_text.specs.Timetable.{Fits, with, without}
 use Rattle.ctt_text.specs.declared.placed.Placed.{Placed}

@@ -1,4 +1,4 @@
-use Rattle.std.proofs.Common.{rules, ◌≡◌, ◌∙◌, ◌-◌, ◌*◌, sum_by, refl, ap, ap₂, arith}
+use Rattle.std.proofs.Common.{rules, ◌≡◌, ◌∙◌, sum_by, refl, ap}
 use Rattle.ctt_text.specs.Belonging.{curricula_of}
 use Rattle.ctt_text.specs.Problem.{curriculum_count}
 use Rattle.ctt_rules.specs.Penalty.{unseated}

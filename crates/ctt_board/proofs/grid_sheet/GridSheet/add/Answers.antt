@@ -1,4 +1,4 @@
-use Rattle.std.proofs.Common.{rules, ◌≡◌, ◌<◌, ◌==◌, ◌&&◌, cond, false, Some, None, is_some, ◌∙◌, sym, ap, ap₂, subst, arith}
+use Rattle.std.proofs.Common.{rules, ◌≡◌, ◌==◌, ◌&&◌, cond, false, Some, None, is_some, ◌∙◌, sym, ap, ap₂, subst, arith}
 use Rattle.ctt_text.specs.Timetable.{Fits, with}
 use Rattle.ctt_rules.specs.Hard.{Lawful}
 use Rattle.ctt_board.specs.Changes.{room_at}

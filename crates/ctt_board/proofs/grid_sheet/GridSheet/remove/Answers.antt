@@ -1,8 +1,7 @@
-use Rattle.std.proofs.Common.{rules, ◌≡◌, ◌<◌, ◌==◌, ◌&&◌, cond, Some, None, refl, ◌∙◌, sym, ap, ap₂, subst, arith}
+use Rattle.std.proofs.Common.{rules, ◌≡◌, ◌==◌, ◌&&◌, cond, Some, None, ◌∙◌, sym, ap, ap₂, subst, arith}
 use Rattle.ctt_text.specs.Timetable.{Fits, without}
 use Rattle.ctt_board.specs.Changes.{room_at}
 use Rattle.ctt_board.specs.Tables.{at}
-use Rattle.ctt_board.specs.Counts.{HaveLecture}
 use Rattle.ctt_board.specs.Grids.{listed, IsGridSheet}
 use Rattle.ctt_board.specs.Seen.{Sees}
 use Rattle.ctt_board.proofs.GridLemmas.{WroteRoom, sees_now}

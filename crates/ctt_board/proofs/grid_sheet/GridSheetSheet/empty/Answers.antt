@@ -1,8 +1,6 @@
-use Rattle.std.proofs.Common.{rules, ◌≡◌, ◌<◌, ◌∙◌, [], None, refl, ap, arith}
+use Rattle.std.proofs.Common.{◌≡◌, ◌∙◌, [], refl, arith}
 use Rattle.ctt_text.specs.Problem.{course_count, slot_count}
-use Rattle.ctt_rules.specs.Penalty.{penalty}
-use Rattle.ctt_board.specs.Tables.{at}
-use Rattle.ctt_board.specs.Grids.{AreRooms, AreHolders, listed}
+use Rattle.ctt_board.specs.Grids.{AreRooms, AreHolders}
 use Rattle.ctt_board.proofs.HolderLemmas.{no_holders}
 use Rattle.ctt_board.proofs.GridLemmas.{made, shown, none_lawful, no_rooms}
 use Rattle.ctt_board.proofs.grid_sheet.GridSheetSheet.empty.Goals as goal
