@@ -11,24 +11,10 @@ use Rattle.ctt_rules.proofs.ListLemmas.{filter_every, Each-filter, Pairwise-filt
 use Rattle.ctt_board.specs.Changes.{room_at, room_of, apply_at, apply, in_turn, is_change, room_by, CellFits, CellsFit, ChangeFits}
 use Rattle.ctt_board.specs.Ways.{Ready}
 use Rattle.ctt_board.specs.declared.cell.Cell.{Cell}
+use Rattle.ctt_board.proofs.LawfulLemmas.{without_lawful}
 use Rattle.ctt_board.proofs.CellLemmas.{cell_at, in_turn_later}
 use Rattle.ctt_board.proofs.PutLemmas.{filter_filter, filter-put_no}
 use Rattle.ctt_board.proofs.RoomLemmas.{is_at, room_is, rooms_after}
-
-pub length-filter_le : {X : Type 0} (p : X → Bool) (xs : List X) → length (filter p xs) ≤ length xs
-length-filter_le p [] = omega arith
-length-filter_le p (x ∷ xs) = elim (cases_Bool (p x)) [ inl b ↦ rw b (omega (arith, length-filter_le p xs)) | inr b ↦ rw b (omega (arith, length-filter_le p xs)) ]
-
-pub without_lawful : (i : Problem) (t : List Placed) (c s : ℕ) → Lawful i t → Lawful i (without c s t)
-without_lawful i t c s h =
-    let p : Placed → Bool = λ l. not (l.course == c && l.slot == s) in
-    record {
-      timetable = record { ascending = Pairwise-filter (λ a b. before a b ≡ true) p t h.timetable.ascending; fits = Each-filter (Fits i) p t h.timetable.fits };
-      conflict_free = Pairwise-filter (λ a b. conflicts i a b ≡ false) p t h.conflict_free;
-      available = Each-filter (λ l. is_unavailable i l.course l.slot ≡ false) p t h.available;
-      rooms_apart = Pairwise-filter (λ a b. share_room a b ≡ false) p t h.rooms_apart;
-      few = λ d. rw (filter_filter (λ l. l.course == d) p t) (omega (arith, length-filter_le p (course_row d t), h.few d));
-    }
 
 -- what isn't found is nowhere
 nowhere : {X : Type 0} (p : X → Bool) (xs : List X) → find p xs ≡ None → Each (λ x. not (p x) ≡ true) xs

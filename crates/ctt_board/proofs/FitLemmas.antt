@@ -14,13 +14,13 @@ use Rattle.ctt_board.specs.Grids.{column_below}
 use Rattle.ctt_board.specs.Fitting.{is_known, is_wanted, is_unhindered, can_come, cell_fits, fits, FitsAsTested}
 use Rattle.ctt_board.specs.declared.cell.Cell.{Cell}
 use Rattle.ctt_board.proofs.AfterLemmas.{one_in_row}
-use Rattle.ctt_board.proofs.BetweenLemmas.{without_lawful, next_lawful, turn_rest, put_has, comes_fits, there_fits, some_room}
+use Rattle.ctt_board.proofs.BetweenLemmas.{next_lawful, turn_rest, put_has, comes_fits, there_fits, some_room}
 use Rattle.ctt_board.proofs.ClearLemmas.{Each-to_filter}
 use Rattle.ctt_board.proofs.HolderLemmas.{is_in, holder_is, free_else}
-use Rattle.ctt_board.proofs.LawfulLemmas.{Free, with_lawful, clash_comm, eqb_comm}
+use Rattle.ctt_board.proofs.LawfulLemmas.{Free, with_lawful, without_lawful, clash_comm, eqb_comm}
 use Rattle.ctt_board.proofs.MoreLemmas.{more_with}
 
-find_none : {X : Type 0} (p : X → Bool) (xs : List X) → find p xs ≡ None → Each (λ x. p x ≡ false) xs
+pub find_none : {X : Type 0} (p : X → Bool) (xs : List X) → find p xs ≡ None → Each (λ x. p x ≡ false) xs
 find_none p [] h = tt
 find_none {X = X} p (x ∷ xs) h = elim (cases_Bool (p x)) [
   | inl b ↦ (let h' : ◌≡◌ {A = Option X} (Some x) None = rw b at h in cc)

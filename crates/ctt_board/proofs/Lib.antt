@@ -22,5 +22,5 @@ mod AfterLemmas
 mod ClearLemmas
 mod FewLemmas
 pub mod LawfulLemmas
-mod FitLemmas
+pub mod FitLemmas
 mod SameLemmas

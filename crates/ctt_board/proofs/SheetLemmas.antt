@@ -20,7 +20,7 @@ use Rattle.ctt_board.proofs.MoreLemmas.{more_with, more_without}
 use Rattle.ctt_board.proofs.JoiningLemmas.{joins}
 use Rattle.ctt_board.proofs.CountsLemmas.{counts_more, counts_less, have_lecture}
 use Rattle.ctt_board.proofs.SeenLemmas.{joining_is}
-use Rattle.ctt_board.proofs.BetweenLemmas.{without_lawful}
+use Rattle.ctt_board.proofs.LawfulLemmas.{without_lawful}
 use Rattle.ctt_board.proofs.HolderLemmas.{WroteCourse, holders_with, holders_without}
 use Rattle.ctt_board.proofs.GridLemmas.{WroteRoom, made, shown, with_rooms, without_rooms, cost_with, cost_without}
 

@@ -14,7 +14,7 @@ use Rattle.ctt_edits.specs.Edits.{or_else, fault_if}
 use Rattle.ctt_edits.specs.Laws.{ClashIsLeast}
 use Rattle.ctt_edits.specs.declared.fault.EditFault.{EditFault}
 use Rattle.ctt_edits.specs.declared.fault.EditFault.TheVariants.{AlreadyThere, CourseFull, Unavailable, Clash, RoomTaken}
-use Rattle.ctt_edits.proofs.LawfulLemmas.{Each-from_filter}
+use Rattle.ctt_board.proofs.LawfulLemmas.{Each-from_filter}
 use Rattle.ctt_edits.proofs.SlotLemmas.{not_above}
 
 -- a later fault, where the first is not the one

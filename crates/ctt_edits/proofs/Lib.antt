@@ -1,5 +1,4 @@
 pub mod FaultLemmas
-pub mod LawfulLemmas
 pub mod EditLemmas
 pub mod LeastLemmas
 pub mod SlotLemmas

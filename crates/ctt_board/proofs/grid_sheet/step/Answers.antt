@@ -8,7 +8,8 @@ use Rattle.ctt_board.specs.Changes.{CellFits, room_at, room_by, apply, apply_at}
 use Rattle.ctt_board.specs.Seen.{Sees}
 use Rattle.ctt_board.proofs.MoreLemmas.{more_with, more_without}
 use Rattle.ctt_board.proofs.RoomLemmas.{rooms_after}
-use Rattle.ctt_board.proofs.BetweenLemmas.{without_lawful, there_fits, comes_fits, left_there}
+use Rattle.ctt_board.proofs.BetweenLemmas.{there_fits, comes_fits, left_there}
+use Rattle.ctt_board.proofs.LawfulLemmas.{without_lawful}
 use Rattle.ctt_board.proofs.SeenLemmas.{sees_come, sees_leave}
 use Rattle.ctt_board.proofs.GainLemmas.{gained, small, same_back, turned_fits, turned_is}
 use Rattle.ctt_board.proofs.grid_sheet.step.Goals as goal
