@@ -27,7 +27,7 @@ returns-then-is_some g c =
     let other : c.new-other.result ≡ n = c.new-other.ensures in
     let clashes : clash i c.args.course n ≡ true = sym (ap (λ d. clash i c.args.course d) other) ∙ sym c.clash.ensures ∙ c.if-clash.true in
     let there : is_some (room_at n s t) ≡ true = sym (ap (λ d. is_some (room_at d s t)) other) ∙ ap is_some (sym c.room_at.ensures) ∙ sym c.is_some.ensures ∙ c.if-is_some.true in
-    let less : n < course_count i = omega (arith, c.loop-number-test.true, c.courses-number-end.ensures) in
+    let less : n < course_count i = omega (arith, c.loop-number-test.true, c.courses-number-end.ensures.exact) in
     sym (ap (list_any (λ y. clash i c.args.course y.course)) (slot_row_is i t s timetable) ∙ any_there (clash i c.args.course) (λ d. room_at d s t) s n (course_count i) less (ap₂ (λ a b. a && b) there clashes))
 
 and_false : (a : Bool) → (a && false) ≡ false
@@ -57,5 +57,5 @@ returns g c =
     let t = g.R.Rooms.list c.args.rooms.now in
     let s = c.args.slot in
     let timetable : IsTimetable i t = subst (λ p. IsTimetable p t) c.requires.same c.lawful.ensures.timetable in
-    let end : c.loop-number.number ≡ course_count i = omega (arith, c.loop-number-test.false, c.loop-number.auto.number-end, c.courses-number-end.ensures) in
+    let end : c.loop-number.number ≡ course_count i = omega (arith, c.loop-number-test.false, c.loop-number.auto.number-end, c.courses-number-end.ensures.exact) in
     sym (ap (list_any (λ y. clash i c.args.course y.course)) (slot_row_is i t s timetable ∙ ap (column_below (λ d. room_at d s t) s) (sym end)) ∙ c.loop-number.invariant)

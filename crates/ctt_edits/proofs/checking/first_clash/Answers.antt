@@ -46,7 +46,7 @@ pub returns : goal.returns
 returns g c =
     let i : Problem = c.args.instance.now in
     let t : List Placed = g.R.Rooms.list c.args.rooms.now in
-    let end : c.courses-number-end.result ≡ course_count i = c.courses-number-end.ensures in
+    let end : c.courses-number-end.result ≡ course_count i = c.courses-number-end.ensures.exact in
     let past : course_count i ≤ c.loop-number.number = omega (arith, end, c.loop-number-test.false) in
     none_at_last (λ l. clash i c.args.course l.course) c.args.slot t c.lawful.ensures.timetable.ascending c.loop-number.number (Each-map (λ (l : Placed). l.course < course_count i) (λ (l : Placed). l.course < c.loop-number.number) (λ l lt. omega (arith, lt, past)) t (courses_fit i t (subst (λ j. IsTimetable j t) c.requires.same c.lawful.ensures.timetable))) c.loop-number.invariant
 

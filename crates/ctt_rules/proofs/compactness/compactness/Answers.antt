@@ -16,7 +16,7 @@ loop-number-preserved c =
     let n = c.loop-number.number in
     let f : List ℕ → ℕ = λ q. alone_cost i (part_of q t) in
     let more : sum_by f (take (n + 1) i.curricula) ≡ sum_by f (take n i.curricula) + f (members i n) = sum_by_more f i.curricula n [] (omega arith) in
-    let here : c.alone-total.result ≡ f (members i n) = c.alone-total.ensures.cost ∙ ap f (c.members.ensures ∙ ap (members i) c.new.ensures) in
+    let here : c.alone-total.result ≡ f (members i n) = c.alone-total.ensures.cost ∙ ap f (c.members.ensures.exact ∙ ap (members i) c.new.ensures) in
     record {
       so_far = omega (arith, inv.so_far, more, here);
       small = omega (arith, inv.small, c.alone-total.ensures.few, few_lectures i t c.requires c.limits.ensures);

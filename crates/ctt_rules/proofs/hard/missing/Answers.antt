@@ -11,7 +11,7 @@ loop-number-preserved c =
     let t = c.args.rows.now in
     let n = c.loop-number.number in
     let f : ℕ → ℕ = λ c. ((course_of i c).lectures - length (course_row c t)) + (length (course_row c t) - (course_of i c).lectures) in
-    let wanted : c.from-lectures.result ≡ (course_of i n).lectures = c.from-lectures.ensures ∙ c.lectures.ensures ∙ ap (λ k. (course_of i k).lectures) c.new-course.ensures in
+    let wanted : c.from-lectures.result ≡ (course_of i n).lectures = c.from-lectures.ensures ∙ c.lectures.ensures.exact ∙ ap (λ k. (course_of i k).lectures) c.new-course.ensures in
     let there : length c.row.result.now ≡ length (course_row n t) = ap length (c.row.ensures ∙ ap (λ k. course_row k t) c.new-course.ensures) in
     let here : c.abs_diff-total.result ≡ f n = c.abs_diff-total.ensures ∙ ap₂ (λ a b. (a - b) + (b - a)) wanted there in
     record {

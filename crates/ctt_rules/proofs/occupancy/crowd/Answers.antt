@@ -28,7 +28,7 @@ loop-lecture-preserved c =
       | then-first-slot+then-slot-end+then-not-take w ↦ (
           let cell : ℕ = (c.get-slot.result - c.args.first) * c.rooms-rooms.result + w.get.result in
           let is : cell ≡ (x.slot - c.args.first) * room_count i + x.room =
-          ap (λ s. (s - c.args.first) * c.rooms-rooms.result + w.get.result) c.get-slot.ensures ∙ ap₂ (λ r m. (x.slot - c.args.first) * r + m) c.rooms-rooms.ensures w.get.ensures in
+          ap (λ s. (s - c.args.first) * c.rooms-rooms.result + w.get.result) c.get-slot.ensures ∙ ap₂ (λ r m. (x.slot - c.args.first) * r + m) c.rooms-rooms.ensures.exact w.get.ensures in
           let low : c.args.first ≤ x.slot = omega arith in
           let high : x.slot < c.args.end = omega arith in
           let was : is_marked c.loop-lecture.cells cell ≡ true = not-false (is_marked c.loop-lecture.cells cell) (sym w.take.ensures.free ∙ w.if-not-take.true) in
@@ -40,7 +40,7 @@ loop-lecture-preserved c =
       | then-first-slot+then-slot-end+else-not-take w ↦ (
           let cell : ℕ = (c.get-slot.result - c.args.first) * c.rooms-rooms.result + w.get.result in
           let is : cell ≡ (x.slot - c.args.first) * room_count i + x.room =
-          ap (λ s. (s - c.args.first) * c.rooms-rooms.result + w.get.result) c.get-slot.ensures ∙ ap₂ (λ r m. (x.slot - c.args.first) * r + m) c.rooms-rooms.ensures w.get.ensures in
+          ap (λ s. (s - c.args.first) * c.rooms-rooms.result + w.get.result) c.get-slot.ensures ∙ ap₂ (λ r m. (x.slot - c.args.first) * r + m) c.rooms-rooms.ensures.exact w.get.ensures in
           let low : c.args.first ≤ x.slot = omega arith in
           let high : x.slot < c.args.end = omega arith in
           let was : is_marked c.loop-lecture.cells cell ≡ false = not-true (is_marked c.loop-lecture.cells cell) (sym w.take.ensures.free ∙ w.if-not-take.false) in

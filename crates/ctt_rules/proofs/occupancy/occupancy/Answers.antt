@@ -12,7 +12,7 @@ overflow_add-total c = omega (arith, few_lectures c.args.instance.now c.args.tim
 pub loop-first-preserved : goal.loop-first-preserved
 loop-first-preserved c =
     let i = c.args.instance.now in
-    let wide : 1 ≤ 32000 / c.max-width.result = le-div 1 32000 c.max-width.result (omega (arith, c.max-width.ensures)) (omega (arith, c.max-width.ensures, c.rooms.ensures, c.limits.ensures.rooms_few)) in
+    let wide : 1 ≤ 32000 / c.max-width.result = le-div 1 32000 c.max-width.result (omega (arith, c.max-width.ensures)) (omega (arith, c.max-width.ensures, c.rooms.ensures.exact, c.limits.ensures.rooms_few)) in
     record {
       so_far = omega (arith, c.loop-first.invariant.so_far, c.crowd-total.ensures.count);
       small = omega (arith, c.loop-first.invariant.small, c.crowd-total.ensures.few, wide, few_lectures i c.args.timetable.now c.requires c.limits.ensures);

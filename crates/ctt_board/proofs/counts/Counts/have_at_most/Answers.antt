@@ -6,7 +6,7 @@ use Rattle.ctt_board.proofs.CountsLemmas.{curricula_fit}
 use Rattle.ctt_board.proofs.counts.Counts.have_at_most.Goals as goal
 
 pub are_at_most-requires-clause-rows : goal.are_at_most-requires-clause-rows
-are_at_most-requires-clause-rows c = curricula_fit c.args.instance.now c.args.course _ _ c.curricula_of.ensures c.requires.sizes.parts.0
+are_at_most-requires-clause-rows c = curricula_fit c.args.instance.now c.args.course _ _ c.curricula_of.ensures.exact c.requires.sizes.parts.0
 
 pub returns-then-get-most : goal.returns-then-get-most
 returns-then-get-most c = λ e.
@@ -16,4 +16,4 @@ returns-then-get-most c = λ e.
     let slot : c.get-slot.result ≡ c.args.slot = search rules in
     let taught : c.get.result ≡ at counts.taught (course_of i c.args.course).teacher c.args.slot 0 = c.get.ensures 0 ∙ ap₂ (λ a b. at counts.taught a b 0) teacher slot in
     let parts : Each (λ r. at counts.parts r c.args.slot 0 ≤ c.args.most) c.curricula_of.result.now = subst (λ s. Each (λ r. at counts.parts r s 0 ≤ c.args.most) c.curricula_of.result.now) slot (c.are_at_most.ensures e) in
-    record { taught = omega (arith, taught, c.if-get-most.true); parts = subst (λ qs. Each (λ r. at counts.parts r c.args.slot 0 ≤ c.args.most) qs) c.curricula_of.ensures parts }
+    record { taught = omega (arith, taught, c.if-get-most.true); parts = subst (λ qs. Each (λ r. at counts.parts r c.args.slot 0 ≤ c.args.most) qs) c.curricula_of.ensures.exact parts }

@@ -9,17 +9,17 @@ module _ (c : goal.After-penalty) where
   rooms_none : AreRooms c.args.instance.now [] c.in_ok-new.field-0
   rooms_none =
       let i = c.args.instance.now in
-      let courses : c.courses-courses.result ≡ course_count i = c.courses-courses.ensures in
-      let slots : c.slots-slots.result ≡ slot_count i = c.slots-slots.ensures in
+      let courses : c.courses-courses.result ≡ course_count i = c.courses-courses.ensures.exact in
+      let slots : c.slots-slots.result ≡ slot_count i = c.slots-slots.ensures.exact in
       let g = c.in_ok-new.ensures in
       no_rooms i c.in_ok-new.field-0 (g.rows.0 ∙ courses, g.rows.1 ∙ slots) (λ k s lk ls. g.cells k s (omega (arith, lk, courses)) (omega (arith, ls, slots)))
 
   courses_none : AreHolders c.args.instance.now [] c.in_ok-new-2.field-0
   courses_none =
       let i = c.args.instance.now in
-      let slots : c.slots-slots.result ≡ slot_count i = c.slots-slots.ensures in
+      let slots : c.slots-slots.result ≡ slot_count i = c.slots-slots.ensures.exact in
       let g = c.in_ok-new-2.ensures in
-      no_holders i c.in_ok-new-2.field-0 (g.rows.0 ∙ slots, g.rows.1 ∙ c.rooms.ensures) (λ s r ls lr. g.cells s r (omega (arith, ls, slots)) (omega (arith, lr, c.rooms.ensures)))
+      no_holders i c.in_ok-new-2.field-0 (g.rows.0 ∙ slots, g.rows.1 ∙ c.rooms.ensures.exact) (λ s r ls lr. g.cells s r (omega (arith, ls, slots)) (omega (arith, lr, c.rooms.ensures.exact)))
 
 pub invariant_of-result : goal.invariant_of-result
 invariant_of-result c = made c.args.instance.now [] c.in_ok-new.field-0 c.in_ok-new-2.field-0 c.in_ok-new-3.field-0 c.penalty.result (none_lawful c.args.instance.now) (rooms_none c) (courses_none c) c.in_ok-new-3.ensures c.penalty.ensures.value

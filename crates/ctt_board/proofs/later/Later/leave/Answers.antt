@@ -6,5 +6,5 @@ use Rattle.ctt_board.proofs.later.Later.leave.Goals as goal
 pub returns-clause-gone : goal.returns-clause-gone
 returns-clause-gone c =
     let l = c.args.lecture.now in
-    let there : c.on_day-was_last.result ≡ seen_day c.args.instance.now c.args.self.now l.course (day_of c.args.instance.now l.slot) = c.on_day-was_last.ensures ∙ ap (seen_day c.args.instance.now c.args.self.now l.course) c.day_of-day.ensures in
+    let there : c.on_day-was_last.result ≡ seen_day c.args.instance.now c.args.self.now l.course (day_of c.args.instance.now l.slot) = c.on_day-was_last.ensures ∙ ap (seen_day c.args.instance.now c.args.self.now l.course) c.day_of-day.ensures.exact in
     c.name_if.ensures ∙ ap (λ n. c.args.self.now.gone.items ++ cond (n == 1) (l.course ∷ []) []) there

@@ -48,6 +48,6 @@ invariant_of-result c =
       ascending = c.requires.ascending;
       right = λ k few. elim (cases_lt k c.loop-number.number) [
         | inl lt ↦ i.found k lt
-        | inr le ↦ rw (i.others k le few) (start_at_end t c.requires.ascending c.courses-number-end.result k (rw c.courses-number-end.ensures (courses_fit c.args.instance.now t c.requires)) (omega arith))
+        | inr le ↦ rw (i.others k le few) (start_at_end t c.requires.ascending c.courses-number-end.result k (rw c.courses-number-end.ensures.exact (courses_fit c.args.instance.now t c.requires)) (omega arith))
       ];
     }
