@@ -1,19 +1,19 @@
 -- Each timetable on the way of a change that fits is lawful.
-use Rattle.std.proofs.Common.{◌≡◌, leb, ℕ, zero, suc, ◌+◌, ◌<◌, ◌≤◌, Bool, true, false, not, ◌&&◌, ◌==◌, List, [], ◌∷◌, drop, take, length, get_or, Option, Some, None, is_some, refl, ◌∙◌, sym, ap, subst, arith, inl, inr, ◌⊎◌}
-use Rattle.std.specs.List.{filter, find, AllByRecursion as Each}
+use Rattle.std.proofs.Common.{◌≡◌, leb, ℕ, zero, suc, ◌+◌, ◌<◌, Bool, true, false, not, List, [], ◌∷◌, drop, take, length, get_or, Option, Some, None, is_some, refl, ◌∙◌, sym, ap, subst, arith, inl, inr, ◌⊎◌}
+use Rattle.std.specs.List.{find, AllByRecursion as Each}
 use Rattle.std.proofs.lemmas.Bool.{cases_Bool, eq-eqb, and_parts}
 use Rattle.std.proofs.lemmas.Bool.Decides.{nat_tests}
-use Rattle.ctt_text.specs.Problem.{Problem, is_unavailable}
-use Rattle.ctt_text.specs.Timetable.{before, Fits, with, without, course_row}
+use Rattle.ctt_text.specs.Problem.{Problem}
+use Rattle.ctt_text.specs.Timetable.{before, Fits, with, without}
 use Rattle.ctt_text.specs.declared.placed.Placed.{Placed}
-use Rattle.ctt_rules.specs.Hard.{Lawful, conflicts, share_room}
-use Rattle.ctt_rules.proofs.ListLemmas.{filter_every, Each-filter, Pairwise-filter}
+use Rattle.ctt_rules.specs.Hard.{Lawful}
+use Rattle.ctt_rules.proofs.ListLemmas.{filter_every}
 use Rattle.ctt_board.specs.Changes.{room_at, room_of, apply_at, apply, in_turn, is_change, room_by, CellFits, CellsFit, ChangeFits}
 use Rattle.ctt_board.specs.Ways.{Ready}
 use Rattle.ctt_board.specs.declared.cell.Cell.{Cell}
 use Rattle.ctt_board.proofs.LawfulLemmas.{without_lawful}
 use Rattle.ctt_board.proofs.CellLemmas.{cell_at, in_turn_later}
-use Rattle.ctt_board.proofs.PutLemmas.{filter_filter, filter-put_no}
+use Rattle.ctt_board.proofs.PutLemmas.{filter-put_no}
 use Rattle.ctt_board.proofs.RoomLemmas.{is_at, room_is, rooms_after}
 
 -- what isn't found is nowhere

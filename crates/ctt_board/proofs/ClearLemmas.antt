@@ -18,7 +18,7 @@ use Rattle.ctt_board.specs.Joining.{in_slot, is_taught}
 use Rattle.ctt_board.specs.Tables.{at}
 use Rattle.ctt_board.specs.declared.counts.Counts.{Counts}
 use Rattle.ctt_board.specs.declared.cell.Cell.{Cell}
-use Rattle.ctt_board.proofs.CountsLemmas.{curricula_fit}
+use Rattle.ctt_text.proofs.BelongingLemmas.{curricula_fit}
 use Rattle.ctt_board.proofs.PutLemmas.{filter_filter, filter-put_no}
 use Rattle.ctt_board.proofs.RoomLemmas.{is_at, room_is}
 
@@ -173,6 +173,6 @@ clear_after i c s (x ∷ xs) t n h = by (x.slot == s && is_some x.room) refl n (
 pub clear_counted : (i : Problem) (t : List Placed) (counts : Counts) (c s n : ℕ) → AreCounts i t counts → (course_of i c).teacher < teacher_count i → s < slot_count i → n ≡ cond (is_some (room_at c s t)) 1 0 → HaveAtMost i counts c s n → IsClear i c s t
 clear_counted i t counts c s n h teacher slot own most =
     let few : n ≤ count_by (is_at c s) t = omega (arith, own, own_counted c s t) in
-    let fit = curricula_fit i c (curriculum_count i) (curricula_of i c) refl refl in
+    let fit = curricula_fit i c (curricula_of i c) refl in
     clear_by i t c s n few (omega (arith, h.taught.counts (course_of i c).teacher s teacher slot, most.taught))
     (Each-from_index (λ q. count_by (in_slot (members i q) s) t ≤ n) (curricula_of i c) (λ k d lt. omega (arith, h.parts.counts (get_or (curricula_of i c) k d) s (Each-at (λ q. q < curriculum_count i) (curricula_of i c) fit k d lt) slot, Each-at (λ q. at counts.parts q s 0 ≤ n) (curricula_of i c) most.parts k d lt)))

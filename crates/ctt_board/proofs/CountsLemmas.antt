@@ -1,9 +1,8 @@
 -- The tables of counts after one lecture more, and after one less.
-use Rattle.std.proofs.Common.{◌≡◌, ℕ, zero, suc, ◌+◌, ◌<◌, ◌≤◌, Bool, true, false, cond, ◌&&◌, ◌==◌, ltb, List, [], ◌∷◌, ◌++◌, length, refl, ◌∙◌, sym, ap, ap₂, arith, inl, inr}
-use Rattle.std.specs.List.{count_by, AllByRecursion as Each}
+use Rattle.std.proofs.Common.{◌≡◌, ℕ, zero, suc, ◌+◌, ◌<◌, ◌≤◌, Bool, true, false, cond, ◌&&◌, ◌==◌, ltb, List, [], ◌∷◌, length, refl, ◌∙◌, sym, ap, ap₂, arith, inl, inr}
+use Rattle.std.specs.List.{count_by}
 use Rattle.std.proofs.lemmas.Bool.{cases_eq, eq-eqb, ne_eqb, lt-ltb, le-ltb}
 use Rattle.std.proofs.lemmas.Bool.Decides.{nat_tests}
-use Rattle.std.proofs.lemmas.List.{length-append}
 use Rattle.std.proofs.lemmas.List.Sums.{sum_by-append, length-filter}
 use Rattle.ctt_text.specs.Lists.{has, below}
 use Rattle.ctt_text.specs.Belonging.{curricula_of}
@@ -20,37 +19,6 @@ use Rattle.ctt_board.specs.Counts.{HaveSizes, Counted, AreCounts, AddsLecture, H
 use Rattle.ctt_board.specs.declared.counts.Counts.{Counts}
 use Rattle.ctt_board.proofs.CountedLemmas.{counted_more, days_counted}
 use Rattle.ctt_board.proofs.JoiningLemmas.{more_days, same_used, at_least}
-
--- the curricula of a course are some of the curricula
-Each-append : {X : Type 0} (P : X → Type 0) (xs ys : List X) → Each P xs → Each P ys → Each P (xs ++ ys)
-Each-append P [] ys h k = k
-Each-append P (x ∷ xs) ys h k = (h.0, Each-append P xs ys h.1 k)
-
-Each-wider : (xs : List ℕ) (n : ℕ) → Each (λ k. k < n) xs → Each (λ k. k < suc n) xs
-Each-wider [] n h = tt
-Each-wider (x ∷ xs) n h = (let lt : x < n = h.0 in omega (arith, lt), Each-wider xs n h.1)
-
-below_fit : (p : ℕ → Bool) (n : ℕ) → Each (λ k. k < n) (below p n)
-below_fit p zero = tt
-below_fit p (suc n) = Each-append (λ k. k < suc n) (below p n) (cond (p n) (n ∷ []) []) (Each-wider (below p n) n (below_fit p n)) (last (p n))
-  where
-    last : (b : Bool) → Each (λ k. k < suc n) (cond b (n ∷ []) [])
-    last true = (omega arith, tt)
-    last false = tt
-
-below_few : (p : ℕ → Bool) (n : ℕ) → length (below p n) ≤ n
-below_few p zero = omega arith
-below_few p (suc n) = omega (arith, below_few p n, length-append (below p n) (cond (p n) (n ∷ []) []), last (p n))
-  where
-    last : (b : Bool) → length (cond b (n ∷ []) []) ≤ 1
-    last true = omega arith
-    last false = omega arith
-
-pub curricula_fit : (i : Problem) (c n : ℕ) (qs : List ℕ) → qs ≡ curricula_of i c → n ≡ curriculum_count i → Each (λ q. q < n) qs
-curricula_fit i c n qs e same = rw (e, same) (below_fit (λ q. has c (members i q)) (curriculum_count i))
-
-pub curricula_few : (i : Problem) (c : ℕ) (qs : List ℕ) → qs ≡ curricula_of i c → IsProblem i → length qs ≤ 20000
-curricula_few i c qs e p = omega (arith, ap length e, below_few (λ q. has c (members i q)) (curriculum_count i), p.curricula_few)
 
 -- the teacher of a course is one of the teachers
 pub teacher_fits : (i : Problem) (c : ℕ) → IsProblem i → c < course_count i → (course_of i c).teacher < teacher_count i

@@ -27,7 +27,7 @@ find_none {X = X} p (x ∷ xs) h = elim (cases_Bool (p x)) [
   | inr b ↦ (let h' : find p xs ≡ None = rw b at h in (b, find_none p xs h'))
 ]
 
-any_none : {X : Type 0} (p : X → Bool) (xs : List X) → list_any p xs ≡ false → Each (λ x. p x ≡ false) xs
+pub any_none : {X : Type 0} (p : X → Bool) (xs : List X) → list_any p xs ≡ false → Each (λ x. p x ≡ false) xs
 any_none p [] h = tt
 any_none p (x ∷ xs) h = elim (cases_Bool (p x)) [
   | inl b ↦ (let h' : true ≡ false = rw b at h in cc)

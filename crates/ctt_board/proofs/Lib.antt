@@ -23,4 +23,5 @@ mod ClearLemmas
 mod FewLemmas
 pub mod LawfulLemmas
 pub mod FitLemmas
+mod MeetingLemmas
 mod SameLemmas

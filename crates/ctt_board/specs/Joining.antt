@@ -32,7 +32,14 @@ in_slot q s l = has l.course q && l.slot == s
 abbrev pub alone_at : Problem → (ℕ → ℕ) → ℕ → ℕ
 alone_at i f s = cond (is_beside i (λ k. nat_lt 0 (f k)) s) 0 (f s)
 
--- and those in the slots beside it
+-- those in the slot before one, and in the slot after it, on its day
+abbrev pub count_before : Problem → (ℕ → ℕ) → ℕ → ℕ
+count_before i f s = cond (nat_lt 0 (period_of i s)) (f (s - 1)) 0
+
+abbrev pub count_after : Problem → (ℕ → ℕ) → ℕ → ℕ
+count_after i f s = cond (nat_lt (period_of i s + 1) i.periods) (f (s + 1)) 0
+
+-- those in the slots beside one that stand alone
 abbrev pub alone_beside : Problem → (ℕ → ℕ) → ℕ → ℕ
 alone_beside i f s = cond (nat_lt 0 (period_of i s)) (alone_at i f (s - 1)) 0 + cond (nat_lt (period_of i s + 1) i.periods) (alone_at i f (s + 1)) 0
 

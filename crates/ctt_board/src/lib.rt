@@ -12,6 +12,7 @@ mod joining;
 mod later;
 pub mod laws;
 mod list_sheet;
+mod meeting;
 mod same_rows;
 mod sheet;
 mod table;

@@ -1,12 +1,11 @@
-use Rattle.std.proofs.Common.{rules, ◌≡◌, ◌≤◌, ◌∙◌, ap₂, subst, arith}
+use Rattle.std.proofs.Common.{◌<◌, sym, rules, ◌≡◌, ◌≤◌, ◌∙◌, ap₂, subst, arith}
 use Rattle.std.specs.List.{AllByRecursion as Each}
 use Rattle.ctt_text.specs.Problem.{course_of}
 use Rattle.ctt_board.specs.Tables.{at}
-use Rattle.ctt_board.proofs.CountsLemmas.{curricula_fit}
 use Rattle.ctt_board.proofs.counts.Counts.have_at_most.Goals as goal
 
 pub are_at_most-requires-clause-rows : goal.are_at_most-requires-clause-rows
-are_at_most-requires-clause-rows c = curricula_fit c.args.instance.now c.args.course _ _ c.curricula_of.ensures.exact c.requires.sizes.parts.0
+are_at_most-requires-clause-rows c = subst (λ n. Each (λ r. r < n) c.curricula_of.result.now) (sym c.requires.sizes.parts.0) c.curricula_of.ensures.within
 
 pub returns-then-get-most : goal.returns-then-get-most
 returns-then-get-most c = λ e.

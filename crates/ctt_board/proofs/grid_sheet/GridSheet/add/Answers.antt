@@ -8,6 +8,8 @@ use Rattle.ctt_board.specs.Seen.{Sees}
 use Rattle.ctt_board.proofs.FewLemmas.{have_room}
 use Rattle.ctt_board.proofs.GridLemmas.{WroteRoom, sees_now}
 use Rattle.ctt_board.proofs.HolderLemmas.{WroteCourse}
+use Rattle.ctt_board.proofs.MeetingLemmas.{none_yet}
+use Rattle.ctt_board.proofs.MoreLemmas.{more_with}
 use Rattle.ctt_board.proofs.SheetLemmas.{cost_small, added}
 use Rattle.ctt_board.proofs.grid_sheet.GridSheet.add.Goals as goal
 
@@ -16,6 +18,14 @@ with_lecture-self-inside-requires-clause-small c = cost_small c.self.inside.inst
 
 pub add-requires-clause-room : goal.add-requires-clause-room
 add-requires-clause-room c = have_room c.self.inside.instance.now (listed c.self.inside.instance.now c.self.inside.rooms) c.self.inside.counts c.self.invariant.counts_are c.self.invariant.lawful.timetable c.limits.ensures
+
+pub joining_of-joining-requires-clause-own : goal.joining_of-joining-requires-clause-own
+joining_of-joining-requires-clause-own c =
+    let i = c.self.inside.instance.now in
+    let l = c.args.lecture.now in
+    let t = listed i c.self.inside.rooms in
+    let lawful : Lawful i (with l t) = subst (λ b. Lawful b.problem (with l b.list)) (sym c.self.view_is) c.requires.lawful in
+    none_yet i l t (with l t) c.now.result (more_with l t) c.self.invariant.lawful lawful (sees_now i t c.now.result c.self.inside.counts c.self.invariant.counts_are c.now.ensures.counts c.now.ensures.removed c.now.ensures.added c.now.ensures.gone c.now.ensures.fresh)
 
 module _ (c : goal.After-set-2) where
   whole : IsGridSheet c.self.inside.instance.now c.set.new.self c.set-2.new.self c.add.new.self c.with_lecture-self-inside.result × (listed c.self.inside.instance.now c.set.new.self ≡ with c.args.lecture.now (listed c.self.inside.instance.now c.self.inside.rooms))

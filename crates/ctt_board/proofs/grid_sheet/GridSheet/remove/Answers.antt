@@ -6,6 +6,10 @@ use Rattle.ctt_board.specs.Grids.{listed, IsGridSheet}
 use Rattle.ctt_board.specs.Seen.{Sees}
 use Rattle.ctt_board.proofs.GridLemmas.{WroteRoom, sees_now}
 use Rattle.ctt_board.proofs.HolderLemmas.{WroteCourse}
+use Rattle.ctt_board.proofs.CountsLemmas.{counts_less}
+use Rattle.ctt_board.proofs.LawfulLemmas.{without_lawful}
+use Rattle.ctt_board.proofs.MeetingLemmas.{none_yet}
+use Rattle.ctt_board.proofs.MoreLemmas.{more_without}
 use Rattle.ctt_board.proofs.SheetLemmas.{cost_small, has_lecture, counts_left, removed}
 use Rattle.ctt_board.proofs.grid_sheet.GridSheet.remove.Goals as goal
 
@@ -20,6 +24,18 @@ take-requires-clause-there c =
 
 pub without_lecture-self-inside-requires-clause-small : goal.without_lecture-self-inside-requires-clause-small
 without_lecture-self-inside-requires-clause-small c = cost_small c.self.inside.instance.now c.self.inside.rooms c.self.inside.courses c.self.inside.counts c.self.inside.cost c.self.invariant c.limits.ensures
+
+pub joining_of-joining-requires-clause-own : goal.joining_of-joining-requires-clause-own
+joining_of-joining-requires-clause-own c =
+    let i = c.self.inside.instance.now in
+    let l = c.args.lecture.now in
+    let t = listed i c.self.inside.rooms in
+    let left = without l.course l.slot t in
+    let fits : Fits i l = subst (λ b. Fits b.problem l) (sym c.self.view_is) c.requires.fits in
+    let there : room_at l.course l.slot t ≡ Some l.room = subst (λ b. room_at l.course l.slot b.list ≡ Some l.room) (sym c.self.view_is) c.requires.there in
+    let more = more_without l.course l.slot l.room t c.self.invariant.lawful.timetable.ascending there in
+    let counted = counts_less i l left t more fits c.take.new.self c.self.inside.counts c.take.ensures c.self.invariant.counts_are in
+    none_yet i l left t c.now.result more (without_lawful i t l.course l.slot c.self.invariant.lawful) c.self.invariant.lawful (sees_now i left c.now.result c.take.new.self counted c.now.ensures.counts c.now.ensures.removed c.now.ensures.added c.now.ensures.gone c.now.ensures.fresh)
 
 module _ (c : goal.After-set-2) where
   whole : IsGridSheet c.self.inside.instance.now c.set.new.self c.set-2.new.self c.take.new.self c.without_lecture-self-inside.result × (listed c.self.inside.instance.now c.set.new.self ≡ without c.args.lecture.now.course c.args.lecture.now.slot (listed c.self.inside.instance.now c.self.inside.rooms))
