@@ -44,7 +44,7 @@ told_more i base asked a d f told = record {
 }
 
 -- a call is kept with its reply, its change is made, and the rows that it reads are marked
-pub draft_more : (i j k l : Problem) (base here next : List Placed) (asked longer : List Asked) (a : Asked) (old new : List (List Cell)) (courses slots courses' slots' : List Bool) → IsDraft i j k base here asked old courses slots →
+pub draft_more : (i j k l : Problem) (base here next : List Placed) (asked longer : List Asked) (a : Asked) (old new : List (List Cell)) (courses slots courses' slots' : List ℕ) → IsDraft i j k base here asked old courses slots →
     longer ≡ asked ++ a ∷ [] → CallFits i a.call → a.reply ≡ reply i here a.call → l ≡ i → next ≡ after_call i here a.call → new ≡ old ++ made (cells_of i here a.call) →
     ((n : ℕ) → n < course_count i → is_marked courses' n ≡ (is_marked courses n || reads_course i a.call n)) → ((n : ℕ) → n < slot_count i → is_marked slots' n ≡ (is_marked slots n || reads_slot a.call n)) →
     IsDraft i j l base next longer new courses' slots'
@@ -61,7 +61,7 @@ draft_more i j k l base here next asked longer a old new courses slots courses' 
     }
 
 -- nothing was asked yet
-pub draft_open : (i j k : Problem) (base here : List Placed) (courses slots : List Bool) → j ≡ i → k ≡ i → here ≡ base → ((n : ℕ) → is_marked courses n ≡ false) → ((n : ℕ) → is_marked slots n ≡ false) → IsDraft i j k base here [] [] courses slots
+pub draft_open : (i j k : Problem) (base here : List Placed) (courses slots : List ℕ) → j ≡ i → k ≡ i → here ≡ base → ((n : ℕ) → is_marked courses n ≡ false) → ((n : ℕ) → is_marked slots n ≡ false) → IsDraft i j k base here [] [] courses slots
 draft_open i j k base here courses slots e f same cs ss = record {
   base_of = e;
   present_of = f;
@@ -73,9 +73,9 @@ draft_open i j k base here courses slots e f same cs ss = record {
 }
 
 -- the steps of a draft, by its value v
-module _ (i j k : Problem) (base here : List Placed) (asked : List Asked) (old : List (List Cell)) (courses slots : List Bool) (v : DraftValue) (d : IsDraft i j k base here asked old courses slots) (e : ◌≡◌ {A = DraftValue} (record { problem = i; base = base; asked = asked }) v) where
+module _ (i j k : Problem) (base here : List Placed) (asked : List Asked) (old : List (List Cell)) (courses slots : List ℕ) (v : DraftValue) (d : IsDraft i j k base here asked old courses slots) (e : ◌≡◌ {A = DraftValue} (record { problem = i; base = base; asked = asked }) v) where
   -- a call that changes nothing
-  pub draft_kept : (longer : List Asked) (courses' slots' : List Bool) (call : Call) (told : Reply) → longer ≡ asked ++ record { call = call; reply = told } ∷ [] → CallFits v.problem call → told ≡ reply v.problem (present v) call → cells_of v.problem (present v) call ≡ [] →
+  pub draft_kept : (longer : List Asked) (courses' slots' : List ℕ) (call : Call) (told : Reply) → longer ≡ asked ++ record { call = call; reply = told } ∷ [] → CallFits v.problem call → told ≡ reply v.problem (present v) call → cells_of v.problem (present v) call ≡ [] →
       ((n : ℕ) → n < course_count i → is_marked courses' n ≡ (is_marked courses n || reads_course i call n)) → ((n : ℕ) → n < slot_count i → is_marked slots' n ≡ (is_marked slots n || reads_slot call n)) →
       IsDraft i j k base here longer old courses' slots'
   draft_kept longer courses' slots' call told same f t still cs ss =
@@ -94,7 +94,7 @@ module _ (i j k : Problem) (base here : List Placed) (asked : List Asked) (old :
       subst (λ cs. ChangeFits k cs here) (sym same') (edits_fit k here x h f' free')
 
   -- an edit that is made
-  pub draft_made : (longer : List Asked) (courses' slots' : List Bool) (x : Edit) (cells : List Cell) (l : Problem) (next : List Placed) (new : List (List Cell)) → longer ≡ asked ++ record { call = Edits x; reply = Done } ∷ [] → EditFits v.problem x → edit_fault v.problem (present v) x ≡ None → cells ≡ change (present v) x →
+  pub draft_made : (longer : List Asked) (courses' slots' : List ℕ) (x : Edit) (cells : List Cell) (l : Problem) (next : List Placed) (new : List (List Cell)) → longer ≡ asked ++ record { call = Edits x; reply = Done } ∷ [] → EditFits v.problem x → edit_fault v.problem (present v) x ≡ None → cells ≡ change (present v) x →
       l ≡ k → next ≡ apply cells here → new ≡ old ++ cells ∷ [] →
       ((n : ℕ) → n < course_count i → is_marked courses' n ≡ (is_marked courses n || reads_course i (Edits x) n)) → ((n : ℕ) → n < slot_count i → is_marked slots' n ≡ (is_marked slots n || reads_slot (Edits x) n)) →
       IsDraft i j l base next longer new courses' slots'

@@ -16,7 +16,7 @@ use Rattle.ctt_draft.specs.Laws.{DraftFrame, SettlingFits}
 use Rattle.ctt_draft.specs.declared.asked.Asked.{Asked}
 use Rattle.ctt_draft.proofs.FirstLemmas.{row_found, row_behind}
 
-module _ (i j k : Problem) (base here : List Placed) (asked : List Asked) (old : List (List Cell)) (courses slots : List Bool) (v : DraftValue) (d : IsDraft i j k base here asked old courses slots) (e : ◌≡◌ {A = DraftValue} (record { problem = i; base = base; asked = asked }) v) (now : List Placed) where
+module _ (i j k : Problem) (base here : List Placed) (asked : List Asked) (old : List (List Cell)) (courses slots : List ℕ) (v : DraftValue) (d : IsDraft i j k base here asked old courses slots) (e : ◌≡◌ {A = DraftValue} (record { problem = i; base = base; asked = asked }) v) (now : List Placed) where
   marked_courses : (count : ℕ) → count ≡ course_count i → below (is_marked courses) count ≡ below (all_read_course i (calls_of asked)) (course_count i)
   marked_courses count same = ap (below (is_marked courses)) same ∙ below_same (is_marked courses) (all_read_course i (calls_of asked)) (course_count i) d.courses_are
 

@@ -32,7 +32,7 @@ pub record IsTold (i : Problem) (base : List Placed) (asked : List Asked) : Type
   pub told : replies_in asked ≡ replies i base (calls_of asked)
 
 -- what a draft keeps: the present timetable, its changes, and marks of the rows read
-pub record IsDraft (i base_problem present_problem : Problem) (base present : List Placed) (asked : List Asked) (made : List (List Cell)) (courses slots : List Bool) : Type 0 where
+pub record IsDraft (i base_problem present_problem : Problem) (base present : List Placed) (asked : List Asked) (made : List (List Cell)) (courses slots : List ℕ) : Type 0 where
   pub base_of : base_problem ≡ i
   pub present_of : present_problem ≡ i
   pub is_told : IsTold i base asked

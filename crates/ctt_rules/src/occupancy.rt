@@ -2,7 +2,7 @@
 
 ghost use Rattle.std.specs.Prelude.{◌≡◌, ◌<◌, ◌≤◌, ◌+◌, ◌-◌, ◌*◌, ◌==◌, ◌||◌, ℕ, false, not, length};
 ghost use Rattle.std.specs.List.{AllByRecursion as Each};
-ghost use Rattle.ctt_text.specs.Marks.{is_marked};
+ghost use Rattle.ctt_rules.specs.Cells.{is_taken};
 ghost use Rattle.ctt_text.specs.Problem.{room_count, slot_count};
 ghost use Rattle.ctt_text.specs.Timetable.{IsTimetable, Fits};
 ghost use Rattle.ctt_rules.specs.Hard.{occupancy_count};
@@ -28,7 +28,7 @@ impl Model for Cells {
 impl Cells {
     /// No cell is taken.
     fn new() -> Self
-        ensures { (n : ℕ) → is_marked result n ≡ false }
+        ensures { (n : ℕ) → is_taken result n ≡ false }
     {
         Cells {
             taken: [false; 32_000],
@@ -38,8 +38,8 @@ impl Cells {
     /// Takes a cell, and answers whether it was free.
     fn take(&mut self, cell: usize) -> bool
         requires { cell < 32000 }
-        ensures free { result ≡ not (is_marked self.old cell) }
-        ensures taken { (n : ℕ) → is_marked self.new n ≡ (n == cell || is_marked self.old n) }
+        ensures free { result ≡ not (is_taken self.old cell) }
+        ensures taken { (n : ℕ) → is_taken self.new n ≡ (n == cell || is_taken self.old n) }
     {
         let is_free = !self.taken[cell];
         self.taken[cell] = true;
