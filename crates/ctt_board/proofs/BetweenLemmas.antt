@@ -3,7 +3,7 @@ use Rattle.std.proofs.Common.{◌≡◌, leb, ℕ, zero, suc, ◌+◌, ◌<◌, 
 use Rattle.std.specs.List.{find, AllByRecursion as Each}
 use Rattle.std.proofs.lemmas.Bool.{cases_Bool, eq-eqb, and_parts}
 use Rattle.std.proofs.lemmas.Bool.Decides.{nat_tests}
-use Rattle.ctt_text.specs.Problem.{Problem}
+use Rattle.ctt_text.specs.Problem.{Problem, IsProblem}
 use Rattle.ctt_text.specs.Timetable.{before, Fits, with, without}
 use Rattle.ctt_text.specs.declared.placed.Placed.{Placed}
 use Rattle.ctt_rules.specs.Hard.{Lawful}
@@ -108,6 +108,14 @@ fits_more cells k x t lt is fits = (let fits' : CellsFit (x ∷ drop (k + 1) cel
 
 pub turn_rest : (y : Cell) (ys : List Cell) → in_turn false (y ∷ ys) ≡ true → in_turn false ys ≡ true
 turn_rest y ys h = in_turn_later (is_some y.room) ys h
+
+-- the courses of cells that fit, removals first
+pub courses_few : (i : Problem) (cells : List Cell) (t : List Placed) → Lawful i t → in_turn false cells ≡ true → CellsFit cells t → Lawful i (apply cells t) → IsProblem i → Each (λ x. x.course < 2000) cells
+courses_few i [] t now turn fits after p = tt
+courses_few i (x ∷ xs) t now turn fits after p =
+    let next = next_lawful i x xs t now turn fits after in
+    let known = (ready_at i x.course x.slot x.room t now fits.0 next).course in
+    (omega (arith, known, p.courses_few), courses_few i xs (apply_at x.course x.slot x.room t) next (turn_rest x xs turn) fits.1 after p)
 
 -- the way of a change, up to one of its cells
 pub record OnTheWay (i : Problem) (cells : List Cell) (t : List Placed) (k : ℕ) (x : Cell) : Type 0 where

@@ -1,6 +1,6 @@
 -- What a lecture does to a curriculum that has none in its slot; and lawful timetables have at most one.
 use Rattle.std.proofs.Common.{◌≡◌, ℕ, zero, suc, ◌+◌, ◌-◌, ◌<◌, ◌≤◌, Bool, true, false, cond, ◌&&◌, ◌||◌, ◌==◌, ltb, List, [], ◌∷◌, ◌++◌, refl, ◌∙◌, sym, ap, ap₂, arith, inl, inr}
-use Rattle.std.specs.List.{count_by, AllByRecursion as Each}
+use Rattle.std.specs.List.{count_by, list_any, AllByRecursion as Each}
 use Rattle.std.proofs.lemmas.Bool.{cases_Bool, ltb-true, and_parts, eq-eqb, lt-ltb}
 use Rattle.std.proofs.lemmas.Bool.Decides.{nat_tests}
 use Rattle.std.proofs.lemmas.List.Sums.{sum_by-append}
@@ -18,7 +18,6 @@ use Rattle.ctt_board.specs.Seen.{Sees, seen_part, NoneThere, OneThere}
 use Rattle.ctt_board.specs.Tables.{at}
 use Rattle.ctt_board.specs.declared.later.Later.{Later}
 use Rattle.ctt_board.proofs.CountedLemmas.{counted_more}
-use Rattle.ctt_board.proofs.FitLemmas.{any_none}
 use Rattle.ctt_board.proofs.SeenLemmas.{part_is}
 use Rattle.ctt_board.proofs.SlotFacts.{later_slot}
 
@@ -112,6 +111,13 @@ Each-both P Q R f (x ∷ xs) h k = (f x h.0 k.0, Each-both P Q R f xs h.1 k.1)
 Pairwise-both : {X : Type 0} (P Q R : X → X → Type 0) → ((a b : X) → P a b → Q a b → R a b) → (xs : List X) → Pairwise P xs → Pairwise Q xs → Pairwise R xs
 Pairwise-both P Q R f [] h k = tt
 Pairwise-both P Q R f (x ∷ xs) h k = (Each-both (P x) (Q x) (R x) (f x) xs h.0 k.0, Pairwise-both P Q R f xs h.1 k.1)
+
+any_none : {X : Type 0} (p : X → Bool) (xs : List X) → list_any p xs ≡ false → Each (λ x. p x ≡ false) xs
+any_none p [] h = tt
+any_none p (x ∷ xs) h = elim (cases_Bool (p x)) [
+  | inl b ↦ (let h' : true ≡ false = rw b at h in cc)
+  | inr b ↦ (let h' : list_any p xs ≡ false = rw b at h in (b, any_none p xs h'))
+]
 
 -- two lectures of one curriculum in one slot would conflict
 apart : (i : Problem) (q s : ℕ) (a b : Placed) → q < curriculum_count i → conflicts i a b ≡ false → before a b ≡ true → in_slot (members i q) s a ≡ true → in_slot (members i q) s b ≡ false

@@ -21,10 +21,6 @@ on_day i c d l = l.course == c && day_of i l.slot == d
 abbrev pub in_room : ℕ → ℕ → Placed → Bool
 in_room c r l = l.course == c && l.room == r
 
--- a lecture of a teacher in a slot
-abbrev pub is_taught : Problem → ℕ → ℕ → Placed → Bool
-is_taught i h s l = (course_of i l.course).teacher == h && l.slot == s
-
 abbrev pub in_slot : List ℕ → ℕ → Placed → Bool
 in_slot q s l = has l.course q && l.slot == s
 

@@ -1,7 +1,6 @@
 pub mod FaultLemmas
 pub mod EditLemmas
 pub mod LeastLemmas
-pub mod SlotLemmas
 pub mod LookLemmas
 pub mod MarkedRows
 pub mod ReadLemmas
