@@ -4,7 +4,7 @@ use Rattle.std.specs.List.{slice_set, AllByRecursion as Each}
 use Rattle.std.proofs.lemmas.List.{get_or-set_other, length-set, get_or-map, map-set, length-map, length-append}
 use Rattle.std.proofs.lemmas.List.Folds.{list_any_more}
 use Rattle.std.proofs.lemmas.Bool.Decides.{nat_tests}
-use Rattle.ctt_text.proofs.TimetableLemmas.{Each-at, Each-map}
+use Rattle.ctt_text.proofs.TimetableLemmas.{Each-at, Each-map, Each-append}
 use Rattle.std.proofs.lemmas.Grind.{get_or-set_at}
 use Rattle.std.proofs.lemmas.Bool.{cases_Bool, cases_eq, eq-eqb, ne_eqb, eqb-true}
 use Rattle.ctt_text.specs.Lists.{has, below, Pairwise}
@@ -34,7 +34,7 @@ pub more_added : (old mid new : List (List ℕ)) (q : ℕ) (p r s : ℕ → Bool
 more_added old mid new q p r s h k same apart = record {
   size = k.size ∙ h.size;
   lists = λ c lt. k.lists c (omega (arith, lt, h.size)) ∙ ap (λ xs. xs ++ cond (r c) (q ∷ []) []) (h.lists c lt)
-    ∙ by (get_or old c []) (p c) (r c) (apart c) ∙ ap (λ b. get_or old c [] ++ cond b (q ∷ []) []) (sym (same c));
+      ∙ by (get_or old c []) (p c) (r c) (apart c) ∙ ap (λ b. get_or old c [] ++ cond b (q ∷ []) []) (sym (same c));
 }
   where
     by : (xs : List ℕ) (a b : Bool) → (a ≡ true → b ≡ false) → ((xs ++ cond a (q ∷ []) []) ++ cond b (q ∷ []) []) ≡ xs ++ cond (a || b) (q ∷ []) []
@@ -79,10 +79,6 @@ one_more_empty (y ∷ ys) h zero = h 0
 one_more_empty (y ∷ ys) h (suc c) = one_more_empty ys (λ k. h (suc k)) c
 
 -- the numbers that pass are below the end, and no more than it
-Each-append : {X : Type 0} (P : X → Type 0) (xs ys : List X) → Each P xs → Each P ys → Each P (xs ++ ys)
-Each-append P [] ys h k = k
-Each-append P (x ∷ xs) ys h k = (h.0, Each-append P xs ys h.1 k)
-
 pub below_fit : (p : ℕ → Bool) (n : ℕ) → Each (λ k. k < n) (below p n)
 below_fit p zero = tt
 below_fit p (suc n) = Each-append (λ k. k < suc n) (below p n) (cond (p n) (n ∷ []) []) (Each-map (λ k. k < n) (λ k. k < suc n) (λ k lt. omega (arith, lt)) (below p n) (below_fit p n)) (last (p n))

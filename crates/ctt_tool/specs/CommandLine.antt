@@ -19,9 +19,9 @@ unfoldable pub check : App
 check = with_rule (with_rule (with_rule (new_app (codes "check"))
     (required_word (codes "instance"))) (required_word (codes "solution"))) (flag (codes "json"))
 
--- the program alone: a command has to be given
+-- the program alone: it has a version, and a command has to be given
 abbrev pub bare : App
-bare = on_top (λ s. record s { subcommand_required = true }) (new_app (codes "timedesk"))
+bare = on_top (λ s. record s { has_version = true; subcommand_required = true }) (new_app (codes "timedesk"))
 
 -- the program with its commands
 unfoldable pub timedesk : App
