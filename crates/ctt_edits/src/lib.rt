@@ -25,4 +25,6 @@ pub use reply::Reply;
 pub use row::Row;
 
 #[cfg(test)]
+mod sheet_tests;
+#[cfg(test)]
 mod tests;
