@@ -31,6 +31,9 @@ pub record Turn : Type 0 where
   pub event : Event
   pub answer : Answer
 
+abbrev pub answered : Event → Answer → Turn
+answered event answer = record { event = event; answer = answer }
+
 -- a draft that is open: how many commits came before it, and what was asked in it
 pub record OpenDraft : Type 0 where
   pub count : ℕ
@@ -143,4 +146,4 @@ RunFits i n past = Each (λ (turn : Turn). EventFits i n turn.event) past
 abbrev pub onto : List Turn → List Event → List Answer → List Turn
 onto past [] answers = past
 onto past (e ∷ es) [] = past
-onto past (e ∷ es) (a ∷ answers) = onto (record { event = e; answer = a } ∷ past) es answers
+onto past (e ∷ es) (a ∷ answers) = onto (answered e a ∷ past) es answers

@@ -3,7 +3,7 @@
 ghost use Rattle.ctt_edits.specs.Edits.{EditFits};
 ghost use Rattle.ctt_edits.specs.Looks.{LookFits};
 
-use crate::{Call, Edit, EditFault, Look, Reply, Row, check, look_at, price, reads};
+use crate::{Call, Edit, EditFault, Look, Reply, Row, check, look, price, reads};
 use ctt_board::{ListSheet, Sheet};
 use ctt_rules::Cost;
 use ctt_text::{
@@ -126,7 +126,7 @@ fn price_of<'i, S: Sheet<'i>>(rt: &impl Abort, sheet: &S, edit: &Edit) -> Result
 /// What a look shows.
 fn shown<'i, S: Sheet<'i>>(rt: &impl Abort, sheet: &S, look: &Look) -> Result<Reply, NoMemory> {
     expect_look_fits(rt, sheet, look);
-    look_at(sheet, look)
+    crate::look(sheet, look)
 }
 
 /// A sheet with the lectures of a solution text.

@@ -1,16 +1,13 @@
-use Rattle.std.proofs.Common.{rules, ◌≡◌, ◌≤◌, ◌∙◌, ◌+◌, List, take, length, refl, add-one, sym, ap, ap₂, subst, pos, ◌-ℤ◌, to_z, w64, arith, take_all}
+use Rattle.std.proofs.Common.{rules, ◌≡◌, ◌≤◌, ◌∙◌, ◌+◌, List, take, add-one, sym, ap, ap₂, subst, pos, ◌-ℤ◌, to_z, w64, arith, take_all}
 use Rattle.ctt_text.specs.Problem.{Problem}
 use Rattle.ctt_text.specs.declared.placed.Placed.{Placed}
 use Rattle.ctt_rules.specs.Hard.{Lawful}
 use Rattle.ctt_rules.specs.Penalty.{penalty, total}
-use Rattle.ctt_board.specs.Boards.{Board, delta}
+use Rattle.ctt_board.specs.Boards.{Board}
 use Rattle.ctt_board.specs.Changes.{apply, apply_at}
-use Rattle.ctt_board.specs.Seen.{Sees}
-use Rattle.ctt_board.specs.Grids.{listed}
 use Rattle.ctt_board.specs.declared.cell.Cell.{Cell}
 use Rattle.ctt_board.proofs.BetweenLemmas.{OnTheWay, way_of}
 use Rattle.ctt_board.proofs.GainLemmas.{small, sum_fits, sum_is}
-use Rattle.ctt_board.proofs.GridLemmas.{sees_now}
 use Rattle.ctt_board.proofs.grid_sheet.GridSheetTimetable.delta.Goals as goal
 
 pub step-total-requires-clause-done : goal.step-total-requires-clause-done
@@ -50,7 +47,7 @@ loop-number-preserved c =
       sees = c.step-total.ensures.sees;
       room = search rules;
       so_far = sum_is (to_z w64 c.loop-number.total-bits) c.step-total.result (total (penalty (i c) (t c))) (total (penalty (i c) (apply_at (x c).course (x c).slot (x c).room (t c)))) (total (penalty (i c) c.args.self.now.list))
-        c.loop-number.invariant.so_far c.step-total.ensures.value (small (i c) (t c) c.limits.ensures (way c).now) (small (i c) (apply_at (x c).course (x c).slot (x c).room (t c)) c.limits.ensures (way c).ready.lawful) (first_small c);
+          c.loop-number.invariant.so_far c.step-total.ensures.value (small (i c) (t c) c.limits.ensures (way c).now) (small (i c) (apply_at (x c).course (x c).slot (x c).room (t c)) c.limits.ensures (way c).ready.lawful) (first_small c);
     })
 
 pub returns : goal.returns
