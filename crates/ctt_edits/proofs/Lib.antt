@@ -1,8 +1,6 @@
 pub mod FaultLemmas
-pub mod LawfulLemmas
 pub mod EditLemmas
 pub mod LeastLemmas
-pub mod SlotLemmas
 pub mod MarkedRows
 pub mod MateLemmas
 pub mod ReadLemmas

@@ -29,4 +29,6 @@ pub use rows_read::RowsRead;
 pub use showing::look;
 
 #[cfg(test)]
+mod sheet_tests;
+#[cfg(test)]
 mod tests;

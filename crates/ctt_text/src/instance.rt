@@ -1,8 +1,9 @@
 //! The instance, and what it says.
 
-ghost use Rattle.std.specs.Prelude.{◌≡◌, ◌<◌, ◌≤◌, ◌*◌, [], length, slice_index_or, IfSome};
+ghost use Rattle.std.specs.Prelude.{◌≡◌, ◌<◌, ◌≤◌, ◌*◌, ◌&&◌, ℕ, [], length, nat_lt, slice_index_or, IfSome};
 ghost use Rattle.std.specs.List.{AllByRecursion as Each};
 ghost use Rattle.ctt_text.specs.Problem.{IsProblem, course_of, capacity_of, members, course_count, room_count, teacher_count, curriculum_count, slot_count, slot_of, day_of, period_of, clash, is_unavailable, number_in, IsSmall, AreMembers};
+ghost use Rattle.ctt_text.specs.Marks.{is_marked};
 ghost use Rattle.ctt_text.specs.Named.{IsNamed};
 ghost use Rattle.ctt_text.specs.Belonging.{curricula_of};
 
@@ -19,6 +20,7 @@ mod unavailability;
 
 use crate::course_facts::CourseFacts;
 use crate::ids::{CourseNo, CurriculumNo, RoomNo, SlotNo, TeacherNo};
+use crate::marks::Marks;
 use crate::names::Names;
 pub use read::read_instance;
 use std::marker::Model;
@@ -40,8 +42,8 @@ pub struct Instance {
     periods: u16,
     /// For each course in turn, for each slot in turn.
     unavailable: Vec<bool>,
-    /// For each course in turn, for each course in turn.
-    clashes: Vec<bool>,
+    /// For each course, those that it clashes with.
+    clashes: Vec<Marks>,
     /// For each course, its curricula.
     belonging: Vec<Vec<CurriculumNo>>,
 }
@@ -240,7 +242,15 @@ impl Instance {
         requires other { other < course_count self.now }
         ensures { result ≡ clash self.now course other }
     {
-        self.clashes[course.get() as usize * self.courses.len() + other.get() as usize]
+        self.clashes[course.get() as usize].is_marked(other.get() as usize)
+    }
+
+    /// The courses that clash with a course.
+    pub fn clashing(&self, course: CourseNo) -> &Marks
+        requires { course < course_count self.now }
+        ensures { (d : ℕ) → is_marked result.now d ≡ (nat_lt d (course_count self.now) && clash self.now course d) }
+    {
+        &self.clashes[course.get() as usize]
     }
 
     /// Whether a course is unavailable in a slot.
