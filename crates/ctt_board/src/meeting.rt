@@ -123,7 +123,13 @@ fn one_if_none(count: u64) -> u64
 }
 
 /// What a lecture does to a curriculum that has none in its slot.
-fn meeting_of(later: &Later, instance: &Instance, part: CurriculumNo, slot: SlotNo, period: u16) -> Meeting
+fn meeting_of(
+    later: &Later,
+    instance: &Instance,
+    part: CurriculumNo,
+    slot: SlotNo,
+    period: u16,
+) -> Meeting
     requires part { part < curriculum_count instance.now }
     requires slot { slot < slot_count instance.now }
     requires period { period ≡ period_of instance.now slot }
@@ -145,7 +151,13 @@ fn meeting_of(later: &Later, instance: &Instance, part: CurriculumNo, slot: Slot
 }
 
 /// What a lecture does to these curricula together.
-pub(crate) fn meetings(later: &Later, instance: &Instance, parts: &[CurriculumNo], slot: SlotNo, period: u16) -> Meeting
+pub(crate) fn meetings(
+    later: &Later,
+    instance: &Instance,
+    parts: &[CurriculumNo],
+    slot: SlotNo,
+    period: u16,
+) -> Meeting
     requires parts { Each (λ q. q < curriculum_count instance.now) parts.now }
     requires few { length parts.now ≤ 20000 }
     requires slot { slot < slot_count instance.now }

@@ -180,15 +180,42 @@ fn small_solution<'i, S: Sheet<'i>>(rt: &impl Abort, sheet: &S) {
         (Edit::Reroom(alg(), at(0), room_b()), Ok(-6)),
         (Edit::Reroom(alg(), at(0), room_a()), Ok(0)),
         (Edit::Swap(geo(), at(1), top(), at(2)), Ok(20)),
-        (Edit::Place(alg(), at(4), room_a()), Err(EditFault::CourseFull)),
-        (Edit::Place(alg(), at(0), room_b()), Err(EditFault::AlreadyThere)),
-        (Edit::Move(geo(), at(1), at(1), room_b()), Err(EditFault::SameSlot)),
-        (Edit::Move(geo(), at(0), at(0), room_b()), Err(EditFault::NotPlaced)),
-        (Edit::Swap(alg(), at(0), alg(), at(3)), Err(EditFault::SameCourse)),
-        (Edit::Swap(geo(), at(0), top(), at(2)), Err(EditFault::NotPlaced)),
-        (Edit::Move(geo(), at(5), at(3), room_a()), Err(EditFault::Clash(alg()))),
-        (Edit::Move(geo(), at(1), at(0), room_b()), Err(EditFault::Unavailable)),
-        (Edit::Move(top(), at(2), at(1), room_a()), Err(EditFault::RoomTaken(geo()))),
+        (
+            Edit::Place(alg(), at(4), room_a()),
+            Err(EditFault::CourseFull),
+        ),
+        (
+            Edit::Place(alg(), at(0), room_b()),
+            Err(EditFault::AlreadyThere),
+        ),
+        (
+            Edit::Move(geo(), at(1), at(1), room_b()),
+            Err(EditFault::SameSlot),
+        ),
+        (
+            Edit::Move(geo(), at(0), at(0), room_b()),
+            Err(EditFault::NotPlaced),
+        ),
+        (
+            Edit::Swap(alg(), at(0), alg(), at(3)),
+            Err(EditFault::SameCourse),
+        ),
+        (
+            Edit::Swap(geo(), at(0), top(), at(2)),
+            Err(EditFault::NotPlaced),
+        ),
+        (
+            Edit::Move(geo(), at(5), at(3), room_a()),
+            Err(EditFault::Clash(alg())),
+        ),
+        (
+            Edit::Move(geo(), at(1), at(0), room_b()),
+            Err(EditFault::Unavailable),
+        ),
+        (
+            Edit::Move(top(), at(2), at(1), room_a()),
+            Err(EditFault::RoomTaken(geo())),
+        ),
     ];
     has_prices(rt, sheet, &cases);
 }
@@ -219,12 +246,30 @@ fn swapped<'i, S: Sheet<'i>>(rt: &impl Abort, sheet: &mut S) -> Result<(), Fail>
     assert_eq!(rt; sheet.cost(), cost(30, 0, 8, 2));
     let row = sheet.list()?;
     assert_eq!(rt; row.len(), 5);
-    assert_eq!(rt; row.get(2).copied(), Some(Placed { course: geo(), slot: at(2), room: room_b() }));
-    assert_eq!(rt; row.get(4).copied(), Some(Placed { course: top(), slot: at(1), room: room_a() }));
+    assert_eq!(rt;
+        row.get(2).copied(),
+        Some(Placed {
+            course: geo(),
+            slot: at(2),
+            room: room_b()
+        })
+    );
+    assert_eq!(rt;
+        row.get(4).copied(),
+        Some(Placed {
+            course: top(),
+            slot: at(1),
+            room: room_a()
+        })
+    );
     Ok(())
 }
 
-fn on_small<'i, S: Sheet<'i>>(rt: &impl Abort, alloc: Global, small: &'i Instance) -> Result<(), Fail> {
+fn on_small<'i, S: Sheet<'i>>(
+    rt: &impl Abort,
+    alloc: Global,
+    small: &'i Instance,
+) -> Result<(), Fail> {
     let border: S = sheet_of(rt, alloc, small, "alg A 0 2 geo A 1 0")?;
     assert_eq!(rt; border.cost(), cost(5, 10, 4, 0));
     let mut sheet: S = sheet_of(rt, alloc, small, SOLUTION)?;
@@ -246,6 +291,7 @@ fn small_on_a_grid_sheet(rt: HostRuntime) -> Result<(), Fail> {
 }
 
 /// Numbers that look drawn.
+#[derive(Drop)]
 struct Dice {
     state: u32,
 }
@@ -255,7 +301,10 @@ impl Dice {
     fn below(&mut self, end: u16) -> u16
         requires { 0 < end }
     {
-        self.state = self.state.wrapping_mul(1_664_525).wrapping_add(1_013_904_223);
+        self.state = self
+            .state
+            .wrapping_mul(1_664_525)
+            .wrapping_add(1_013_904_223);
         (self.state >> 16) as u16 % end
     }
 
@@ -290,7 +339,11 @@ impl Dice {
 }
 
 /// Two sheets have the same lectures and costs.
-fn expect_same<'i, A: Sheet<'i>, B: Sheet<'i>>(rt: &impl Abort, one: &A, other: &B) -> Result<(), Fail> {
+fn expect_same<'i, A: Sheet<'i>, B: Sheet<'i>>(
+    rt: &impl Abort,
+    one: &A,
+    other: &B,
+) -> Result<(), Fail> {
     assert_eq!(rt; one.cost(), other.cost());
     assert_eq!(rt; one.list()?.as_slice(), other.list()?.as_slice());
     Ok(())
@@ -310,7 +363,11 @@ fn make_on_both<'i, A: Sheet<'i>, B: Sheet<'i>>(
 }
 
 /// Makes some hundred drawn edits on two sheets.
-fn draws<'i, A: Sheet<'i>, B: Sheet<'i>>(rt: &impl Abort, one: &mut A, other: &mut B) -> Result<(), Fail> {
+fn draws<'i, A: Sheet<'i>, B: Sheet<'i>>(
+    rt: &impl Abort,
+    one: &mut A,
+    other: &mut B,
+) -> Result<(), Fail> {
     let mut dice = Dice { state: 1 };
     let mut accepted = 0;
     for _ in 0..400u32 {

@@ -15,7 +15,7 @@ after-requires-clause-period c =
     let some : 0 < c.args.count = omega (arith, c.if-count-eq0.false) in
     let there = some_after i f s c.requires.own c.args.count c.requires.count some in
     let beside : c.new-next.result ≡ c.args.slot + 1 = omega (arith, c.new-next.ensures, c.get.ensures) in
-    omega (arith, c.requires.period, period_after i s  there, ap (period_of i) beside)
+    omega (arith, c.requires.period, period_after i s there, ap (period_of i) beside)
 
 pub returns-then-after-gt0-clause-value : goal.returns-then-after-gt0-clause-value
 returns-then-after-gt0-clause-value c =
