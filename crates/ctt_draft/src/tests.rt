@@ -73,10 +73,32 @@ fn expect_call_fits<'i, S: Sheet<'i>>(rt: &impl Abort, draft: &Draft<'i, S>, cal
     assert!(rt; call.fits(draft.instance()));
 }
 
-/// Makes an edit that has no fault.
-fn make<'i, S: Sheet<'i>>(rt: &impl Abort, sheet: &mut S, edit: &Edit)
-    ensures { S.problem sheet.new ≡ S.problem sheet.old }
+/// The empty sheet.
+fn empty<'i, S: Sheet<'i>>(alloc: Global, small: &'i Instance) -> Result<S, NoMemory>
+    ensures { IfOk result (λ sheet. S.problem sheet ≡ small.now) }
 {
+    S::empty(alloc, small)
+}
+
+/// A draft on a sheet.
+fn open<'i, S: Sheet<'i>>(
+    alloc: Global,
+    small: &Instance,
+    sheet: &S,
+) -> Result<Draft<'i, S>, NoMemory>
+    requires { S.problem sheet.now ≡ small.now }
+    ensures { IfOk result (λ draft. draft.problem ≡ small.now) }
+{
+    let _small = small;
+    Draft::open(alloc, sheet)
+}
+
+/// Makes an edit that has no fault.
+fn make<'i, S: Sheet<'i>>(rt: &impl Abort, small: &Instance, sheet: &mut S, edit: &Edit)
+    requires { S.problem sheet.old ≡ small.now }
+    ensures { S.problem sheet.new ≡ small.now }
+{
+    let _small = small;
     expect_edit_fits(rt, sheet, edit);
     let checked = check(sheet, edit);
     match checked {
@@ -88,26 +110,37 @@ fn make<'i, S: Sheet<'i>>(rt: &impl Abort, sheet: &mut S, edit: &Edit)
 /// Asks for something in a draft.
 fn ask<'i, S: Sheet<'i>>(
     rt: &impl Abort,
+    small: &Instance,
     draft: &mut Draft<'i, S>,
     call: Call,
 ) -> Result<Reply, NoMemory>
-    ensures { draft.new.problem ≡ draft.old.problem }
+    requires { draft.old.problem ≡ small.now }
+    ensures { draft.new.problem ≡ small.now }
 {
+    let _small = small;
     expect_call_fits(rt, draft, &call);
     draft.call(call)
 }
 
 /// The least row that is stale.
-fn stale_row<'i, S: Sheet<'i>>(draft: &Draft<'i, S>, sheet: &S) -> Option<Row>
-    requires { S.problem sheet.now ≡ draft.now.problem }
+fn stale_row<'i, S: Sheet<'i>>(
+    small: &Instance,
+    draft: &Draft<'i, S>,
+    sheet: &S,
+) -> Result<Option<Row>, NoMemory>
+    requires sheet { S.problem sheet.now ≡ small.now }
+    requires draft { draft.now.problem ≡ small.now }
 {
-    draft.stale(sheet).ok().flatten()
+    let _small = small;
+    draft.stale(sheet)
 }
 
 /// Settles a draft that is not stale.
-fn settle<'i, S: Sheet<'i>>(rt: &impl Abort, draft: Draft<'i, S>, sheet: &mut S)
-    requires { S.problem sheet.old ≡ draft.problem }
+fn settle<'i, S: Sheet<'i>>(rt: &impl Abort, small: &Instance, draft: Draft<'i, S>, sheet: &mut S)
+    requires sheet { S.problem sheet.old ≡ small.now }
+    requires draft { draft.problem ≡ small.now }
 {
+    let _small = small;
     let found = draft.stale(sheet);
     match found {
         Ok(None) => draft.finish().settle(sheet),
@@ -121,21 +154,22 @@ fn slot_is_read<'i, S: Sheet<'i>>(
     alloc: Global,
     small: &'i Instance,
 ) -> Result<(), Fail> {
-    let mut sheet = S::empty(alloc, small)?;
-    let mut draft = Draft::open(alloc, &sheet)?;
-    ask(rt, &mut draft, Call::Look(Look::Slot(at(2))))?;
+    let mut sheet: S = empty(alloc, small)?;
+    let mut draft = open(alloc, small, &sheet)?;
+    ask(rt, small, &mut draft, Call::Look(Look::Slot(at(2))))?;
     ask(
         rt,
+        small,
         &mut draft,
         Call::Edit(Edit::Place(geo(), at(1), room_a())),
     )?;
     assert_eq!(rt; draft.asked().len(), 2);
-    assert_eq!(rt; stale_row(&draft, &sheet), None);
-    make(rt, &mut sheet, &Edit::Place(top(), at(2), room_b()));
-    assert_eq!(rt; stale_row(&draft, &sheet), Some(Row::Slot(at(2))));
-    make(rt, &mut sheet, &Edit::Drop(top(), at(2)));
-    assert_eq!(rt; stale_row(&draft, &sheet), None);
-    settle(rt, draft, &mut sheet);
+    assert_eq!(rt; stale_row(small, &draft, &sheet)?, None);
+    make(rt, small, &mut sheet, &Edit::Place(top(), at(2), room_b()));
+    assert_eq!(rt; stale_row(small, &draft, &sheet)?, Some(Row::Slot(at(2))));
+    make(rt, small, &mut sheet, &Edit::Drop(top(), at(2)));
+    assert_eq!(rt; stale_row(small, &draft, &sheet)?, None);
+    settle(rt, small, draft, &mut sheet);
     let after = [Placed {
         course: geo(),
         slot: at(1),
@@ -158,12 +192,12 @@ fn mate_is_read<'i, S: Sheet<'i>>(
     alloc: Global,
     small: &'i Instance,
 ) -> Result<(), Fail> {
-    let mut sheet = S::empty(alloc, small)?;
-    let mut draft = Draft::open(alloc, &sheet)?;
+    let mut sheet: S = empty(alloc, small)?;
+    let mut draft = open(alloc, small, &sheet)?;
     let price = Look::Price(Edit::Place(alg(), at(0), room_b()));
-    ask(rt, &mut draft, Call::Look(price))?;
-    make(rt, &mut sheet, &Edit::Place(geo(), at(1), room_a()));
-    assert_eq!(rt; stale_row(&draft, &sheet), Some(Row::Course(geo())));
+    ask(rt, small, &mut draft, Call::Look(price))?;
+    make(rt, small, &mut sheet, &Edit::Place(geo(), at(1), room_a()));
+    assert_eq!(rt; stale_row(small, &draft, &sheet)?, Some(Row::Course(geo())));
     Ok(())
 }
 
