@@ -20,7 +20,7 @@ use Rattle.ctt_board.specs.Changes.{room_at, apply_at, CellFits}
 use Rattle.ctt_board.specs.Cells.{lecture_at, row_below}
 use Rattle.ctt_board.specs.Tables.{Grid, at}
 use Rattle.ctt_board.specs.Counts.{AreCounts, HaveSizes, HasSize}
-use Rattle.ctt_board.specs.Grids.{rows_below, column_below, listed, AreRooms, AreHolders, IsGridSheet}
+use Rattle.ctt_board.specs.Grids.{rows_below, column_below, listed, AreRooms, AreHolders, AreStanding, IsGridSheet}
 use Rattle.ctt_board.specs.declared.counts.Counts.{Counts}
 use Rattle.ctt_board.proofs.PutLemmas.{Pairwise-map, filter_filter}
 use Rattle.ctt_board.proofs.RowLemmas.{split_at, one_slot, course_row_is}
@@ -68,19 +68,20 @@ rooms_after_cell i t old new c s o h rows width wrote fits = record {
     turned d e = grind (arith, nat_tests)
 
 -- tables and costs that are those of a timetable make a sheet
-pub made : (i : Problem) (u : List Placed) (rooms courses : Grid (Option ℕ)) (counts : Counts) (cost : Cost) → Lawful i u → AreRooms i u rooms → AreHolders i u courses → AreCounts i u counts → cost ≡ penalty i u → IsGridSheet i rooms courses counts cost
-made i u rooms courses counts cost lawful are_rooms are_courses are_counts costs =
+pub made : (i : Problem) (u : List Placed) (rooms courses : Grid (Option ℕ)) (standing : Grid (List ℕ)) (counts : Counts) (cost : Cost) → Lawful i u → AreRooms i u rooms → AreHolders i u courses → AreStanding i u standing → AreCounts i u counts → cost ≡ penalty i u → IsGridSheet i rooms courses standing counts cost
+made i u rooms courses standing counts cost lawful are_rooms are_courses are_standing are_counts costs =
     let e : u ≡ listed i rooms = sym (shown i u rooms lawful.timetable are_rooms) in
     record {
       lawful = subst (Lawful i) e lawful;
       rooms_are = subst (λ t. AreRooms i t rooms) e are_rooms;
       courses_are = subst (λ t. AreHolders i t courses) e are_courses;
+      standing_are = subst (λ t. AreStanding i t standing) e are_standing;
       counts_are = subst (λ t. AreCounts i t counts) e are_counts;
       cost_is = costs ∙ ap (penalty i) e;
     }
 
 pub have_sizes : (i : Problem) (t : List Placed) (c : Counts) → AreCounts i t c → HaveSizes i c
-have_sizes i t c h = record { lectures = h.lectures.size; days = h.days.size; used = h.used.size; rooms = h.rooms.size; parts = h.parts.size; taught = h.taught.size }
+have_sizes i t c h = record { lectures = h.lectures.size; days = h.days.size; used = h.used.size; rooms = h.rooms.size; parts = h.parts.size }
 
 -- a lecture more
 pub with_rooms : (i : Problem) (t : List Placed) (old new : Grid (Option ℕ)) (l : Placed) → AreRooms i t old → new.rows ≡ old.rows → new.width ≡ old.width → WroteRoom i old new l.course l.slot (Some l.room) → is_some (room_at l.course l.slot t) ≡ false → AreRooms i (with l t) new

@@ -44,7 +44,7 @@ apart_put l (x ∷ xs) h = at (cases_Bool (before l x)) (apart_put l xs)
     at (inl y) more = (let h' : Apart (l ∷ x ∷ xs) = (rw y at h) in Each-map (λ z. share_room l z ≡ false) (λ z. share_room z l ≡ false) (λ z k. turned l z k) (x ∷ xs) h'.0)
     at (inr n) more = (let h' : Apart (x ∷ with l xs) = (rw n at h) in (put_has (λ z. share_room x z ≡ false) l xs h'.0, more h'.1))
 
-find_nowhere : {X : Type 0} (p : X → Bool) (xs : List X) → Each (λ x. p x ≡ false) xs → find p xs ≡ None
+pub find_nowhere : {X : Type 0} (p : X → Bool) (xs : List X) → Each (λ x. p x ≡ false) xs → find p xs ≡ None
 find_nowhere p [] h = refl
 find_nowhere p (x ∷ xs) h = rw h.0 (find_nowhere p xs h.1)
 

@@ -1,15 +1,15 @@
 //! A timetable as a change would leave it. The change is not made, and no memory is taken.
 
 ghost use Rattle.std.specs.Prelude.{◌≡◌, ◌<◌, ◌≤◌, true, length, count_by};
-ghost use Rattle.std.specs.List.{list_any};
 ghost use Rattle.ctt_text.specs.Problem.{AreMembers, course_count};
 ghost use Rattle.ctt_text.specs.Timetable.{course_row};
 ghost use Rattle.ctt_rules.specs.Hard.{Lawful};
 ghost use Rattle.ctt_rules.specs.Penalty.{course_cost, total, alone_cost, part_of};
-ghost use Rattle.ctt_board.specs.Changes.{room_by, held_after, holder_by, comes_into, is_added, is_removed, is_change, apply, CellsFit};
+ghost use Rattle.ctt_board.specs.Changes.{room_by, held_after, holder_by, is_added, is_removed, is_change, apply, CellsFit};
 
 use crate::cell::Cell;
 use crate::sheet::Rooms;
+use crate::standing::standing_after;
 use arrayvec::ArrayVec;
 use ctt_rules::{count_alone, mark_slots};
 use ctt_text::{CourseNo, Instance, Marks, Placed, RoomNo, SlotNo};
@@ -80,13 +80,6 @@ fn last_holder(
         last = held_after(cell, slot, room, last);
     }
     last
-}
-
-/// Whether some lecture comes into a slot.
-fn comes_into(cells: &[Cell], slot: SlotNo) -> bool
-    ensures { result ≡ list_any (comes_into slot) cells.now }
-{
-    cells.iter().any(|x| x.slot == slot && x.room.is_some())
 }
 
 /// How many lectures of a course are added.
@@ -215,8 +208,10 @@ impl<'a, R: Rooms> Rooms for After<'a, R> {
         last_holder(self.cells, slot, room, self.rooms.holder(slot, room))
     }
 
-    fn is_clear(&self, course: CourseNo, slot: SlotNo) -> bool {
-        !comes_into(self.cells, slot) && self.rooms.is_clear(course, slot)
+    fn standing(&self, slot: SlotNo) -> Marks {
+        self.rooms.lawful();
+        self.instance.limits();
+        standing_after(self.cells, slot, self.rooms.standing(slot))
     }
 
     fn count(&self, course: CourseNo) -> u32 {

@@ -21,9 +21,10 @@ use crate::later::Later;
 use crate::laws;
 use crate::same_rows::{same_course_row, same_slot_row};
 use crate::sheet::{Rooms, Sheet, Timetable};
+use crate::standing::{leave, stand};
 use crate::table::Table;
 use ctt_rules::Cost;
-use ctt_text::{CourseNo, Instance, NoMemory, Placed, RoomNo, SlotNo};
+use ctt_text::{CourseNo, Instance, Marks, NoMemory, Placed, RoomNo, SlotNo};
 use std::alloc::{AllocError, Global};
 use std::marker::Model;
 
@@ -36,6 +37,8 @@ pub struct GridSheet<'i> {
     rooms: Table<Option<RoomNo>>,
     /// By slot and room.
     courses: Table<Option<CourseNo>>,
+    /// The courses that stand in each slot, in one row.
+    standing: Table<Marks>,
     counts: Counts,
     cost: Cost,
     alloc: Global,
@@ -49,7 +52,7 @@ impl<'i> Model for GridSheet<'i> {
 
     ghost view = { λ s. record { problem = s.instance.now; list = listed s.instance.now s.rooms } };
 
-    ghost invariant = { λ s. IsGridSheet s.instance.now s.rooms s.courses s.counts s.cost };
+    ghost invariant = { λ s. IsGridSheet s.instance.now s.rooms s.courses s.standing s.counts s.cost };
 }
 
 impl<'i> GridSheet<'i> {
@@ -70,6 +73,7 @@ impl<'i> GridSheet<'i> {
         self.rooms.set(course, slot, Some(lecture.room));
         let room = lecture.room.get() as usize;
         self.courses.set(slot, room, Some(lecture.course));
+        stand(&mut self.standing, lecture.course, lecture.slot);
     }
 
     /// Removes a lecture that is there.
@@ -88,6 +92,7 @@ impl<'i> GridSheet<'i> {
         self.rooms.set(course, slot, None);
         let room = lecture.room.get() as usize;
         self.courses.set(slot, room, None);
+        leave(&mut self.standing, lecture.course, lecture.slot);
     }
 
     /// Makes a cell.
@@ -148,13 +153,6 @@ fn append_row(
     Ok(())
 }
 
-/// One, if it is so.
-fn one_if(test: bool) -> u16
-    ensures { result ≡ cond test 1 0 }
-{
-    if test { 1 } else { 0 }
-}
-
 impl<'i> Rooms for GridSheet<'i> {
     ghost problem = { λ s. s.problem };
 
@@ -172,10 +170,8 @@ impl<'i> Rooms for GridSheet<'i> {
         self.courses.get(slot.get() as usize, room.get() as usize)
     }
 
-    fn is_clear(&self, course: CourseNo, slot: SlotNo) -> bool {
-        self.instance.limits();
-        let own = one_if(self.room_at(course, slot).is_some());
-        self.counts.have_at_most(self.instance, course, slot, own)
+    fn standing(&self, slot: SlotNo) -> Marks {
+        self.standing.get(0, slot.get() as usize)
     }
 
     fn count(&self, course: CourseNo) -> u32 {
@@ -284,6 +280,7 @@ impl<'i> Timetable for GridSheet<'i> {
             instance: self.instance,
             rooms: self.rooms.copy()?,
             courses: self.courses.copy()?,
+            standing: self.standing.copy()?,
             counts: self.counts.copy()?,
             cost: self.cost,
             alloc: self.alloc,
@@ -300,6 +297,7 @@ impl<'i> Sheet<'i> for GridSheet<'i> {
             instance,
             rooms: Table::new(alloc, courses, slots, None)?,
             courses: Table::new(alloc, slots, instance.rooms() as usize, None)?,
+            standing: Table::new(alloc, 1, slots, Marks::new())?,
             counts: Counts::new(alloc, instance)?,
             cost: ctt_rules::penalty(instance, &[]),
             alloc,

@@ -14,8 +14,9 @@ use crate::fitting::fits;
 use crate::laws;
 use crate::same_rows::{same_course_row, same_slot_row};
 use crate::sheet::{Rooms, Sheet, Timetable};
+use crate::standing::standing_in;
 use ctt_rules::Cost;
-use ctt_text::{CourseNo, Instance, NoMemory, Placed, RoomNo, SlotNo, is_before};
+use ctt_text::{CourseNo, Instance, Marks, NoMemory, Placed, RoomNo, SlotNo, is_before};
 use std::alloc::{AllocError, Global};
 use std::marker::Model;
 
@@ -133,8 +134,9 @@ impl<'i> Rooms for ListSheet<'i> {
         holder_in(&self.lectures, slot, room)
     }
 
-    fn is_clear(&self, _course: CourseNo, _slot: SlotNo) -> bool {
-        false
+    fn standing(&self, slot: SlotNo) -> Marks {
+        self.instance.limits();
+        standing_in(&self.lectures, slot)
     }
 
     fn count(&self, course: CourseNo) -> u32 {

@@ -1,17 +1,18 @@
 //! What a sheet is.
 
-ghost use Rattle.std.specs.Prelude.{◌≡◌, ◌<◌, ◌^◌, ◌↔◌, true, [], length, IfOk, IsTrue};
+ghost use Rattle.std.specs.Prelude.{◌≡◌, ◌<◌, ◌^◌, ◌↔◌, ℕ, [], length, is_some, IfOk, IsTrue};
 ghost use Rattle.ctt_text.specs.Problem.{course_count, slot_count, room_count};
+ghost use Rattle.ctt_text.specs.Marks.{is_marked};
 ghost use Rattle.ctt_text.specs.Timetable.{course_row, slot_row};
 ghost use Rattle.ctt_rules.specs.Hard.{Lawful};
 ghost use Rattle.ctt_rules.specs.Penalty.{penalty, total};
-ghost use Rattle.ctt_board.specs.Changes.{room_at, holder_at, IsClear, apply, ChangeFits};
+ghost use Rattle.ctt_board.specs.Changes.{room_at, holder_at, apply, ChangeFits};
 ghost use Rattle.ctt_board.specs.Boards.{delta};
 ghost use Rattle.ctt_board.specs.Fitting.{fits};
 
 use crate::change::Change;
 use ctt_rules::Cost;
-use ctt_text::{CourseNo, Instance, NoMemory, Placed, RoomNo, SlotNo};
+use ctt_text::{CourseNo, Instance, Marks, NoMemory, Placed, RoomNo, SlotNo};
 use std::alloc::Global;
 
 /// A lawful timetable, of which is read what stands where: a sheet, or what a change would leave of
@@ -43,12 +44,10 @@ pub trait Rooms: Drop {
         requires room { room < room_count (problem self.now) }
         ensures { result ≡ holder_at slot room (list self.now) };
 
-    /// Whether it is seen at once that no course that clashes with this one stands in a slot. If
-    /// not, it has to be searched.
-    fn is_clear(&self, course: CourseNo, slot: SlotNo) -> bool
-        requires course { course < course_count (problem self.now) }
-        requires slot { slot < slot_count (problem self.now) }
-        ensures { result ≡ true → IsClear (problem self.now) course slot (list self.now) };
+    /// The courses that have a lecture in a slot.
+    fn standing(&self, slot: SlotNo) -> Marks
+        requires { slot < slot_count (problem self.now) }
+        ensures { (course : ℕ) → is_marked result course ≡ is_some (room_at course slot (list self.now)) };
 
     /// How many lectures of a course are placed.
     fn count(&self, course: CourseNo) -> u32

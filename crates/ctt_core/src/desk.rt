@@ -196,7 +196,7 @@ impl<'i, S: Sheet<'i>> Desk<'i, S> {
         ensures answer { Answers self.now (Show look.now) result }
         ensures goes_on { self.now ≡ goes_on self.now (Show look.now) result }
     {
-        match ctt_edits::look(&self.sheet, look) {
+        match ctt_edits::look(*self.journal.allocator(), &self.sheet, look) {
             Ok(told) => Answer::Replied(told),
             Err(_) => Answer::NoMemory,
         }

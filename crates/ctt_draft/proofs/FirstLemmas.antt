@@ -5,7 +5,8 @@ use Rattle.std.specs.List.{find}
 use Rattle.std.specs.Option.{option_map}
 use Rattle.std.proofs.lemmas.Bool.{cases_Bool, cases_eq, and_parts, leb-true, le-leb, ltb-true, lt-ltb}
 use Rattle.ctt_text.specs.Lists.{below}
-use Rattle.ctt_edits.specs.RowSets.{IsLeast, between}
+use Rattle.ctt_text.specs.Marks.{IsLeast}
+use Rattle.ctt_edits.specs.RowSets.{between}
 
 find_left : {X : Type 0} (p : X → Bool) (xs ys : List X) (x : X) → find p xs ≡ Some x → find p (xs ++ ys) ≡ Some x
 find_left p [] ys x e = cc

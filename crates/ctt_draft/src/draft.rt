@@ -122,7 +122,7 @@ impl<'i, S: Sheet<'i>> Draft<'i, S> {
         ensures ok { IfOk result (λ told. (told ≡ shown self.old.problem (present self.old) look) × (self.new ≡ asked_more self.old (Looks look) told)) }
         ensures err { OnErr result (self.new ≡ self.old) }
     {
-        let told = ctt_edits::look(self.present(), &look)?;
+        let told = ctt_edits::look(*self.asked.allocator(), self.present(), &look)?;
         let kept = told.copy()?;
         self.keep(Call::Look(look), kept)?;
         Ok(told)

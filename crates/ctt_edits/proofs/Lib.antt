@@ -1,9 +1,6 @@
 pub mod FaultLemmas
-pub mod LawfulLemmas
 pub mod EditLemmas
 pub mod LeastLemmas
-pub mod SlotLemmas
-pub mod LookLemmas
 pub mod MarkedRows
 pub mod MateLemmas
 pub mod ReadLemmas
@@ -14,3 +11,4 @@ pub mod ReplyLemmas
 pub mod SameLemmas
 pub mod TableLemmas
 pub mod OpeningLemmas
+pub mod PartLemmas

@@ -31,9 +31,6 @@ mates_of i c d =
     ap (list_any (λ q. has c q && has d q)) (sym (take_all (curriculum_count i) i.curricula (omega arith)))
     ∙ any_of (λ q. has c q) (λ q. has d q) [] i.curricula (curriculum_count i) (omega arith)
 
-pub members_fit : (i : Problem) (q : ℕ) → IsProblem i → q < curriculum_count i → Each (λ c. c < course_count i) (members i q)
-members_fit i q p lt = (Each-at (AreMembers (course_count i)) i.curricula p.curricula q [] lt).0
-
 -- a curriculum of a course is one of the instance
 pub curriculum_fits : (i : Problem) (c k q : ℕ) (qs : List ℕ) → qs ≡ curricula_of i c → k < length qs → q ≡ get_or qs k q → q < curriculum_count i
 curriculum_fits i c k q qs e lt is = subst (λ r. r < curriculum_count i) (sym is) (Each-at (λ r. r < curriculum_count i) qs (curricula_fit i c (curriculum_count i) qs e refl) k q lt)

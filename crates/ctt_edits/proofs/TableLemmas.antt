@@ -1,5 +1,5 @@
 -- The fault and the change of an edit give what the table of edits gives.
-use Rattle.std.proofs.Common.{◌≡◌, ℕ, Bool, true, false, cond, ◌||◌, ◌==◌, List, Option, Some, None, is_none, Result, Ok, Err, refl, ◌∙◌, ap, ap₂}
+use Rattle.std.proofs.Common.{◌≡◌, ℕ, Bool, true, false, cond, ◌||◌, ◌==◌, List, Option, Some, None, is_none, Ok, Err, refl, ◌∙◌, ap, ap₂}
 use Rattle.ctt_text.specs.Problem.{Problem}
 use Rattle.ctt_text.specs.Timetable.{with, without}
 use Rattle.ctt_text.specs.declared.placed.Placed.{Placed}

@@ -9,8 +9,8 @@ use Rattle.ctt_edits.specs.declared.row.Row.TheVariants.{Course as CourseRow, Sl
 
 -- the courses and the slots whose rows are in the set, each by marks
 pub record RowSet : Type 0 where
-  pub courses : List Bool
-  pub slots : List Bool
+  pub courses : List ℕ
+  pub slots : List ℕ
 
 abbrev pub has_course : RowSet → ℕ → Bool
 has_course rows c = is_marked rows.courses c
@@ -31,11 +31,6 @@ rows_of i rows = rows_where i (has_course rows) (has_slot rows)
 pub record AddsReads (i : Problem) (call : Call) (old new : RowSet) : Type 0 where
   pub courses : (c : ℕ) → c < course_count i → has_course new c ≡ (has_course old c || reads_course i call c)
   pub slots : (s : ℕ) → s < slot_count i → has_slot new s ≡ (has_slot old s || reads_slot call s)
-
--- the least number that passes a test, if any does
-abbrev pub IsLeast : (ℕ → Bool) → Option ℕ → Type 0
-IsLeast test None = (n : ℕ) → test n ≡ false
-IsLeast test (Some n) = (test n ≡ true) × ((m : ℕ) → m < n → test m ≡ false)
 
 -- numbers from here to there that pass
 abbrev pub between : ℕ → ℕ → (ℕ → Bool) → ℕ → Bool

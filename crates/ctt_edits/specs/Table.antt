@@ -1,5 +1,5 @@
 -- The table of edits, read literally: each edit by trials, of which each gives a timetable or a fault.
-use Rattle.std.specs.Prelude.{ℕ, ◌≡◌, cond, List, ◌==◌, Option, Some, None, is_none, Result, Ok, Err}
+use Rattle.std.specs.Prelude.{ℕ, cond, List, ◌==◌, Option, Some, None, is_none, Result, Ok, Err}
 use Rattle.ctt_text.specs.Problem.{Problem}
 use Rattle.ctt_text.specs.Timetable.{with, without}
 use Rattle.ctt_text.specs.declared.placed.Placed.{Placed}

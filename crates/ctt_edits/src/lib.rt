@@ -22,11 +22,13 @@ pub use fault::EditFault;
 pub use lectures::Lectures;
 pub use looks::Look;
 pub use pricing::price;
-pub use reading::{mark_reads, reads};
+pub use reading::reads;
 pub use reply::Reply;
 pub use row::Row;
 pub use rows_read::RowsRead;
 pub use showing::look;
 
+#[cfg(test)]
+mod sheet_tests;
 #[cfg(test)]
 mod tests;

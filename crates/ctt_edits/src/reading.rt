@@ -51,7 +51,6 @@ fn mark_mates(instance: &Instance, course: CourseNo, marks: &mut Marks)
     requires { course < course_count instance.now }
     ensures { (n : ℕ) → is_marked marks.new n ≡ (is_marked marks.old n || mates instance.now course n) }
 {
-    instance.limits();
     for curriculum in instance.curricula_of(course) {
         mark_courses(instance, instance.members(*curriculum), marks);
     }
@@ -71,7 +70,6 @@ fn mark_if(condition: bool, number: usize, marks: &mut Marks)
 fn mark_taught(instance: &Instance, teacher: TeacherNo, marks: &mut Marks)
     ensures { (n : ℕ) → n < course_count instance.now → is_marked marks.new n ≡ (is_marked marks.old n || (course_of instance.now n).teacher == teacher) }
 {
-    instance.limits();
     for number in 0..instance.courses() {
         let is_taught = instance.teacher(CourseNo::new(number)) == teacher;
         mark_if(is_taught, number as usize, marks);
@@ -82,7 +80,6 @@ fn mark_taught(instance: &Instance, teacher: TeacherNo, marks: &mut Marks)
 fn mark_all(instance: &Instance, marks: &mut Marks)
     ensures { (n : ℕ) → n < course_count instance.now → is_marked marks.new n ≡ (is_marked marks.old n || true) }
 {
-    instance.limits();
     for number in 0..instance.courses() {
         marks.mark(number as usize);
     }
@@ -133,7 +130,6 @@ fn mark_courses_of_look(instance: &Instance, look: &Look, marks: &mut Marks)
     requires { LookFits instance.now look.now }
     ensures { (n : ℕ) → n < course_count instance.now → is_marked marks.new n ≡ (is_marked marks.old n || look_reads_course instance.now look.now n) }
 {
-    instance.limits();
     match *look {
         Look::Course(course) | Look::CourseCost(course) => mark_course(instance, course, marks),
         Look::Slot(_) => {}
@@ -179,8 +175,8 @@ fn mark_slots_of_look(instance: &Instance, look: &Look, marks: &mut Marks)
     }
 }
 
-/// Marks the rows that a call reads. It takes no memory.
-pub fn mark_reads(instance: &Instance, call: &Call, courses: &mut Marks, slots: &mut Marks)
+/// Marks the rows that a call reads.
+pub(crate) fn mark_reads(instance: &Instance, call: &Call, courses: &mut Marks, slots: &mut Marks)
     requires { CallFits instance.now call.now }
     ensures courses { (n : ℕ) → n < course_count instance.now → is_marked courses.new n ≡ (is_marked courses.old n || reads_course instance.now call.now n) }
     ensures slots { (n : ℕ) → n < slot_count instance.now → is_marked slots.new n ≡ (is_marked slots.old n || reads_slot call.now n) }

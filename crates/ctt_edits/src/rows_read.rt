@@ -1,16 +1,18 @@
 //! The rows that some calls read, as one value.
 
-ghost use Rattle.std.specs.Prelude.{◌≡◌, ℕ, false, IfOk};
-ghost use Rattle.ctt_text.specs.Marks.{is_marked};
+ghost use Rattle.std.specs.Prelude.{◌≡◌, ◌++◌, map, false, IfOk, OnOk};
+ghost use Rattle.ctt_text.specs.Lists.{below};
+ghost use Rattle.ctt_text.specs.Marks.{is_marked, IsLeast};
 ghost use Rattle.ctt_text.specs.Problem.{course_count, slot_count};
-ghost use Rattle.ctt_edits.specs.Calls.{CallFits, rows_where};
-ghost use Rattle.ctt_edits.specs.RowSets.{has_course, has_slot, is_in, rows_of, AddsReads, IsLeast, between};
+ghost use Rattle.ctt_edits.specs.Calls.{CallFits};
+ghost use Rattle.ctt_edits.specs.declared.row.Row.TheVariants.{Course as CourseRow, Slot as SlotRow};
+ghost use Rattle.ctt_edits.specs.RowSets.{has_course, has_slot, is_in, rows_of, AddsReads, between};
 
 use crate::call::Call;
 use crate::reading::mark_reads;
 use crate::row::Row;
 use ctt_text::{CourseNo, Instance, Marks, NoMemory, SlotNo};
-use std::alloc::{AllocError, Global};
+use std::alloc::Global;
 use std::marker::Model;
 
 /// A set of rows: those that the calls read which were added to it. It takes no memory.
@@ -77,7 +79,36 @@ impl RowsRead {
     pub fn list(&self, alloc: Global, instance: &Instance) -> Result<Vec<Row>, NoMemory>
         ensures { IfOk result (λ rows. rows.items ≡ rows_of instance.now self.now) }
     {
-        Ok(marked_rows(alloc, instance, &self.courses, &self.slots)?)
+        let mut rows = Vec::new(alloc);
+        self.list_courses(instance, &mut rows)?;
+        self.list_slots(instance, &mut rows)?;
+        Ok(rows)
+    }
+
+    /// Adds the rows of courses to a list.
+    fn list_courses(&self, instance: &Instance, rows: &mut Vec<Row>) -> Result<(), NoMemory>
+        ensures { OnOk result (rows.new.items ≡ rows.old.items ++ map CourseRow (below (has_course self.now) (course_count instance.now))) }
+    {
+        instance.limits();
+        let mut from = 0;
+        while let Some(course) = self.next_course(instance, from) {
+            rows.push(Row::Course(course))?;
+            from = course.get() + 1;
+        }
+        Ok(())
+    }
+
+    /// Adds the rows of slots to a list.
+    fn list_slots(&self, instance: &Instance, rows: &mut Vec<Row>) -> Result<(), NoMemory>
+        ensures { OnOk result (rows.new.items ≡ rows.old.items ++ map SlotRow (below (has_slot self.now) (slot_count instance.now))) }
+    {
+        instance.limits();
+        let mut from = 0;
+        while let Some(slot) = self.next_slot(instance, from) {
+            rows.push(Row::Slot(slot))?;
+            from = slot.get() + 1;
+        }
+        Ok(())
     }
 }
 
@@ -85,34 +116,9 @@ impl RowsRead {
 fn next_marked(marks: &Marks, from: u16, end: u16) -> Option<u16>
     ensures { IsLeast (between from end (is_marked marks.now)) result }
 {
-    for number in from..end {
-        if marks.is_marked(number as usize) {
-            return Some(number);
-        }
+    let number = marks.next_from(from as usize)?;
+    if number < end as usize {
+        return Some(number as u16);
     }
     None
-}
-
-/// The marked rows, in order.
-#[tactic(auto, using(crate::proofs::MarkedRows::row_more, crate::proofs::MarkedRows::row_less))]
-fn marked_rows(
-    alloc: Global,
-    instance: &Instance,
-    courses: &Marks,
-    slots: &Marks,
-) -> Result<Vec<Row>, AllocError>
-    ensures { IfOk result (λ rows. rows.items ≡ rows_where instance.now (is_marked courses.now) (is_marked slots.now)) }
-{
-    let mut rows = Vec::new(alloc);
-    for number in 0..instance.courses() {
-        if courses.is_marked(number as usize) {
-            rows.push(Row::Course(CourseNo::new(number)))?;
-        }
-    }
-    for number in 0..instance.slots() {
-        if slots.is_marked(number as usize) {
-            rows.push(Row::Slot(SlotNo::new(number)))?;
-        }
-    }
-    Ok(rows)
 }

@@ -10,7 +10,6 @@ ghost use Rattle.ctt_rules.specs.Penalty.{penalty, course_cost, total, unseated,
 use crate::compactness::compactness;
 use crate::cost::Cost;
 use crate::row::course_row;
-use crate::rows::Rows;
 use ctt_text::{CourseNo, Instance, Marks, Placed};
 
 /// The students above the capacities of the rooms, over all these lectures.
@@ -83,30 +82,31 @@ fn surplus_rooms(instance: &Instance, row: &[Placed]) -> u64
 }
 
 /// Five points for each day that the lectures of a course have too few, over all courses.
-fn days(instance: &Instance, rows: &Rows) -> u64
-    requires { IsTimetable instance.now rows.now }
-    ensures value { result ≡ (penalty instance.now rows.now).days }
+fn days(instance: &Instance, timetable: &[Placed]) -> u64
+    requires { IsTimetable instance.now timetable.now }
+    ensures value { result ≡ (penalty instance.now timetable.now).days }
     ensures bound { result ≤ 2000 * (5 * 999999999) }
 {
     instance.limits();
     let mut total = 0;
     for number in 0..instance.courses() {
         let course = CourseNo::new(number);
-        total += missing_days(instance, course, rows.row(course));
+        total += missing_days(instance, course, course_row(instance, timetable, course));
     }
     total
 }
 
 /// One point for each room beyond the first that the lectures of a course have, over all courses.
-fn stability(instance: &Instance, rows: &Rows) -> u64
-    requires { IsTimetable instance.now rows.now }
-    ensures value { result ≡ (penalty instance.now rows.now).stability }
+fn stability(instance: &Instance, timetable: &[Placed]) -> u64
+    requires { IsTimetable instance.now timetable.now }
+    ensures value { result ≡ (penalty instance.now timetable.now).stability }
     ensures bound { result ≤ 2000 * 1000 }
 {
     instance.limits();
     let mut total = 0;
     for number in 0..instance.courses() {
-        total += surplus_rooms(instance, rows.row(CourseNo::new(number)));
+        let row = course_row(instance, timetable, CourseNo::new(number));
+        total += surplus_rooms(instance, row);
     }
     total
 }
@@ -118,12 +118,11 @@ pub fn penalty(instance: &Instance, timetable: &[Placed]) -> Cost
     ensures bound { total result < 2 ^ 63 }
 {
     instance.limits();
-    let rows = Rows::new(instance, timetable);
     Cost {
         capacity: capacity(instance, timetable),
-        days: days(instance, &rows),
-        compactness: compactness(instance, &rows),
-        stability: stability(instance, &rows),
+        days: days(instance, timetable),
+        compactness: compactness(instance, timetable),
+        stability: stability(instance, timetable),
     }
 }
 

@@ -8,7 +8,9 @@ use Rattle.ctt_board.specs.Changes.{CellFits, room_at, room_by, apply, apply_at}
 use Rattle.ctt_board.specs.Seen.{Sees}
 use Rattle.ctt_board.proofs.MoreLemmas.{more_with, more_without}
 use Rattle.ctt_board.proofs.RoomLemmas.{rooms_after}
-use Rattle.ctt_board.proofs.BetweenLemmas.{without_lawful, there_fits, comes_fits, left_there}
+use Rattle.ctt_board.proofs.BetweenLemmas.{there_fits, comes_fits, left_there}
+use Rattle.ctt_board.proofs.LawfulLemmas.{without_lawful}
+use Rattle.ctt_board.proofs.MeetingLemmas.{none_yet, one_seen}
 use Rattle.ctt_board.proofs.SeenLemmas.{sees_come, sees_leave}
 use Rattle.ctt_board.proofs.GainLemmas.{gained, small, same_back, turned_fits, turned_is}
 use Rattle.ctt_board.proofs.grid_sheet.step.Goals as goal
@@ -26,6 +28,11 @@ leave-requires-clause-fits c =
     let some : c.last_room.result ≡ Some c.unwrap-room.result = search rules in
     there_fits c.args.instance.now x.course x.slot c.unwrap-room.result (apply c.args.done.now c.args.sheet.now.list) c.requires.lawful
     (left_there c.args.done.now c.args.sheet.now.list x.course x.slot c.unwrap-room.result c.room_at-before.result c.last_room.result c.last_room.ensures c.room_at-before.ensures c.requires.done some)
+
+pub leave-requires-clause-own : goal.leave-requires-clause-own
+leave-requires-clause-own c =
+    let x = c.args.cell.now in
+    one_seen c.args.instance.now (record { course = x.course; slot = x.slot; room = c.unwrap-room.result }) (apply c.args.done.now c.args.sheet.now.list) c.args.later.now c.requires.lawful c.requires.sees
 
 module _ (c : goal.After-leave) where
   abbrev i : Problem
@@ -75,6 +82,13 @@ come-requires-clause-fits c =
     let x = c.args.cell.now in
     let t : List Placed = apply c.args.done.now c.args.sheet.now.list in
     comes_fits c.args.instance.now (record { course = x.course; slot = x.slot; room = c.in-Some.room }) t (subst (λ o. Lawful c.args.instance.now (apply_at x.course x.slot o t)) c.in-Some.is c.requires.ready.lawful)
+
+pub come-requires-clause-own : goal.come-requires-clause-own
+come-requires-clause-own c =
+    let x = c.args.cell.now in
+    let t : List Placed = apply c.args.done.now c.args.sheet.now.list in
+    let l : Placed = record { course = x.course; slot = x.slot; room = c.in-Some.room } in
+    none_yet c.args.instance.now l t (with l t) c.args.later.now (more_with l t) c.requires.lawful (subst (λ o. Lawful c.args.instance.now (apply_at x.course x.slot o t)) c.in-Some.is c.requires.ready.lawful) c.requires.sees
 
 module _ (c : goal.After-come) where
   abbrev j : Problem
