@@ -53,26 +53,30 @@ fn make<'i, S: Sheet<'i>>(sheet: &mut S, edit: &Edit) -> Reply
 }
 
 /// Makes a call, and answers as a planner is told.
-fn answer<'i, S: Sheet<'i>>(sheet: &mut S, call: &Call) -> Result<Reply, NoMemory>
+fn answer<'i, S: Sheet<'i>>(alloc: Global, sheet: &mut S, call: &Call) -> Result<Reply, NoMemory>
     requires { CallFits (S.problem sheet.old) call.now }
     ensures told { IfOk result (λ told. told ≡ reply (S.problem sheet.old) (S.list sheet.old) call.now) }
     ensures problem { S.problem sheet.new ≡ S.problem sheet.old }
     ensures list { OnOk result (S.list sheet.new ≡ after_call (S.problem sheet.old) (S.list sheet.old) call.now) }
 {
     match call {
-        Call::Look(look) => ctt_edits::look(sheet, look),
+        Call::Look(look) => ctt_edits::look(alloc, sheet, look),
         Call::Edit(edit) => Ok(make(sheet, edit)),
     }
 }
 
 /// Makes calls on a sheet, up to the first that was told something else: its number, from 1.
-fn replay<'i, S: Sheet<'i>>(sheet: &mut S, asked: &[Asked]) -> Result<Option<u64>, NoMemory>
+fn replay<'i, S: Sheet<'i>>(
+    alloc: Global,
+    sheet: &mut S,
+    asked: &[Asked],
+) -> Result<Option<u64>, NoMemory>
     requires { Each (AskedFits (S.problem sheet.old)) asked.now }
     ensures problem { S.problem sheet.new ≡ S.problem sheet.old }
     ensures found { IfOk result (Replayed (S.problem sheet.old) (S.list sheet.old) (S.list sheet.new) asked.now) }
 {
     for (at, one) in asked.iter().enumerate() {
-        let told = answer(sheet, &one.call)?;
+        let told = answer(alloc, sheet, &one.call)?;
         if !told.is_same(&one.reply) {
             return Ok(Some(at as u64 + 1));
         }
@@ -82,6 +86,7 @@ fn replay<'i, S: Sheet<'i>>(sheet: &mut S, asked: &[Asked]) -> Result<Option<u64
 
 /// Makes the calls of all entries on a sheet, up to the first that was told something else.
 fn replay_all<'i, S: Sheet<'i>>(
+    alloc: Global,
     sheet: &mut S,
     entries: &[JournalEntry],
 ) -> Result<Verdict, NoMemory>
@@ -89,7 +94,7 @@ fn replay_all<'i, S: Sheet<'i>>(
     ensures { IfOk result (Finds (S.problem sheet.old) (S.list sheet.old) entries.now) }
 {
     for (at, entry) in entries.iter().enumerate() {
-        if let Some(call) = replay(sheet, entry.asked.as_slice())? {
+        if let Some(call) = replay(alloc, sheet, entry.asked.as_slice())? {
             return Ok(Verdict::Differs(at as u64 + 1, call));
         }
     }
@@ -108,7 +113,7 @@ fn audit_on<'i, S: Sheet<'i>>(
     ensures { IfOk result (IsVerdict instance.now lectures.now entries.now) }
 {
     match placed::<S>(alloc, instance, lectures) {
-        Ok(mut sheet) => replay_all(&mut sheet, entries),
+        Ok(mut sheet) => replay_all(alloc, &mut sheet, entries),
         Err(DeskFault::Unlawful(at, fault)) => Ok(Verdict::BadOpening(at, fault)),
         Err(DeskFault::NoMemory) => Err(NoMemory),
     }
