@@ -60,6 +60,13 @@ impl<'i, S: Sheet<'i>> Draft<'i, S> {
         })
     }
 
+    /// The instance.
+    pub fn instance(&self) -> &'i Instance
+        ensures { result.now ≡ self.now.problem }
+    {
+        self.instance
+    }
+
     /// The calls with their replies, in order.
     pub fn asked(&self) -> &[Asked]
         ensures { result.now ≡ self.now.asked }
