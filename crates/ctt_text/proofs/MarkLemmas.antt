@@ -146,12 +146,12 @@ without_mark_are words m are small = changed_are words (m / 64) (bit_and (get_or
     and_no false = refl
 
 -- the bits of two words together, and those that are in both
-either_bit : (a b k : ℕ) → (bit_at (bit_or a b) k == 1) ≡ (bit_at a k == 1 || bit_at b k == 1)
+pub either_bit : (a b k : ℕ) → (bit_at (bit_or a b) k == 1) ≡ (bit_at a k == 1 || bit_at b k == 1)
 either_bit a b k = ap (λ n. n == 1) (bit_at_or a b k) ∙ bit_case _ a k
     (λ x. rw x (bit_case _ b k (λ y. rw y refl) (λ y. rw y refl)))
     (λ x. rw x (bit_case _ b k (λ y. rw y refl) (λ y. rw y refl)))
 
-both_bits : (a b k : ℕ) → (bit_at (bit_and a b) k == 1) ≡ (bit_at a k == 1 && bit_at b k == 1)
+pub both_bits : (a b k : ℕ) → (bit_at (bit_and a b) k == 1) ≡ (bit_at a k == 1 && bit_at b k == 1)
 both_bits a b k = ap (λ n. n == 1) (bit_at_and a b k) ∙ bit_case _ a k
     (λ x. rw x (bit_case _ b k (λ y. rw y refl) (λ y. rw y refl)))
     (λ x. rw x (bit_case _ b k (λ y. rw y refl) (λ y. rw y refl)))
