@@ -268,11 +268,11 @@ fn draws<'i, A: Sheet<'i>, B: Sheet<'i>>(
     other: &mut B,
 ) -> Result<(), Fail> {
     let mut dice = Dice { state: 1 };
-    let mut accepted = 0;
+    let mut accepted: u32 = 0;
     for _ in 0..400u32 {
         let edit = dice.edit(one.list()?.as_slice());
         if make_on_both(rt, one, other, &edit) {
-            accepted += 1u32;
+            accepted = accepted.wrapping_add(1);
         }
         expect_same(rt, one, other)?;
     }
