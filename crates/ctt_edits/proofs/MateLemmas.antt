@@ -5,9 +5,8 @@ use Rattle.std.proofs.lemmas.List.{take_all}
 use Rattle.std.proofs.lemmas.List.Folds.{list_any_more, list_any-append}
 use Rattle.ctt_text.specs.Belonging.{curricula_of}
 use Rattle.ctt_text.specs.Lists.{below, has}
-use Rattle.ctt_text.specs.Problem.{Problem, IsProblem, AreMembers, course_count, curriculum_count, members, mates}
+use Rattle.ctt_text.specs.Problem.{Problem, curriculum_count, members, mates}
 use Rattle.ctt_text.proofs.TimetableLemmas.{Each-at}
-use Rattle.ctt_board.proofs.CountsLemmas.{curricula_fit}
 
 -- an element passes both tests: of those that pass the first, one passes the second
 any_of : {X : Type 0} (p q : X → Bool) (d : X) (xs : List X) (n : ℕ) → n ≤ length xs → list_any (λ x. p x && q x) (take n xs) ≡ list_any (λ k. q (get_or xs k d)) (below (λ k. p (get_or xs k d)) n)
@@ -31,6 +30,6 @@ mates_of i c d =
     ap (list_any (λ q. has c q && has d q)) (sym (take_all (curriculum_count i) i.curricula (omega arith)))
     ∙ any_of (λ q. has c q) (λ q. has d q) [] i.curricula (curriculum_count i) (omega arith)
 
--- a curriculum of a course is one of the instance
-pub curriculum_fits : (i : Problem) (c k q : ℕ) (qs : List ℕ) → qs ≡ curricula_of i c → k < length qs → q ≡ get_or qs k q → q < curriculum_count i
-curriculum_fits i c k q qs e lt is = subst (λ r. r < curriculum_count i) (sym is) (Each-at (λ r. r < curriculum_count i) qs (curricula_fit i c (curriculum_count i) qs e refl) k q lt)
+-- an element of a list of numbers below n is below n
+pub one_fits : (n k q : ℕ) (qs : List ℕ) → Each (λ r. r < n) qs → k < length qs → q ≡ get_or qs k q → q < n
+one_fits n k q qs h lt is = subst (λ r. r < n) (sym is) (Each-at (λ r. r < n) qs h k q lt)
