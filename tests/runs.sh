@@ -2,7 +2,7 @@
 # Runs the program as it was built, and compares its status and what it writes on standard output and standard error.
 # PROGRAM names another one. The last line is 'N passed, M failed'.
 set -u
-here=$(cd -- "${BASH_SOURCE[0]%/*}/.." && pwd) || exit 1
+here=$(CDPATH='' cd -- "$(dirname -- "${BASH_SOURCE[0]}")/.." && pwd) || exit 1
 program=${PROGRAM:-$here/crates/ctt_tool/out/ctt_tool}
 room=$(mktemp -d) || exit 1
 trap 'rm -rf -- "$room"' EXIT

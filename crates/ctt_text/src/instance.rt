@@ -62,7 +62,7 @@ impl Model for Instance {
 
 impl Instance {
     /// A statement: each instance is within the limits, and its numbers are those of its lists.
-    pub fn limits(&self)
+    pub fn limits_hold(&self)
         ensures { IsProblem self.now }
     {
         // Its contract is all that it is. What holds of an instance is known where one is read.
@@ -70,7 +70,7 @@ impl Instance {
     }
 
     /// A statement: all names are words, distinct in their lists.
-    pub fn names(&self)
+    pub fn names_are_words(&self)
         ensures { IsNamed self.now }
     {
         // Its contract is all that it is. What holds of an instance is known where one is read.

@@ -19,7 +19,7 @@ use Rattle.clap.specs.declared.error.kind.ErrorKind.{ErrorKind}
 use Rattle.clap.specs.declared.builder.value_parser.ValueParser.{ValueParser}
 use Rattle.clap.specs.declared.builder.value_parser.ValueParser.TheVariants.{Bool as Switch}
 use Rattle.clap.proofs.OnLiterals.{clap_on_literals}
-use Rattle.ctt_tool.specs.Jobs.{IsOnOrOff}
+use Rattle.ctt_tool.specs.CommandLine.{IsOnOrOff}
 use Rattle.ctt_tool.proofs.Rows.{AreRows, FirstPasses, HasOne, IsIn, IsRow, all_in, found_holds, found_in, is_giving, none_in, one_in}
 use Rattle.ctt_tool.proofs.Walks.{MayStop, level_below, level_checked, level_rows, level_stops}
 

@@ -7,8 +7,8 @@ use Rattle.clap.specs.Simple.{Shape, built, built_leaf, label_of, rows_at}
 use Rattle.clap.specs.Walk.{Row, Text, answers_to, nothing_held, rows_after}
 use Rattle.clap.specs.Words.{fault_of, subcommand_of}
 use Rattle.clap.proofs.OnLiterals.{clap_on_literals}
-use Rattle.ctt_tool.specs.CommandLine.{check, timedesk}
-use Rattle.ctt_tool.specs.Jobs.{IsOnOrOff, IsWhole, is_on}
+use Rattle.ctt_tool.specs.CommandLine.{IsOnOrOff, check, is_on, timedesk}
+use Rattle.ctt_tool.specs.Jobs.{IsWhole}
 use Rattle.ctt_tool.proofs.Rows.{is_giving}
 use Rattle.ctt_tool.proofs.Entered.{Enters, enters, has_flag, has_required, is_flag, is_required, not_help}
 

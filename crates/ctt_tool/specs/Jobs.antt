@@ -1,27 +1,16 @@
 -- Which job the words of a command line ask for, and what is said where they ask for none.
-use Rattle.std.specs.Prelude.{◌≡◌, ◌≢◌, ◌⊎◌, Bool, false, List, [], ◌∷◌, Option, Some, None, IsSome, codes}
+use Rattle.std.specs.Prelude.{◌≡◌, ◌≢◌, ◌⊎◌, Bool, List, [], ◌∷◌, Option, Some, IsSome, codes}
 use Rattle.std.specs.Global.{Global}
-use Rattle.std.specs.Str.{bytes_eq}
 use Rattle.std.specs.String.{string_bytes}
 use Rattle.std.specs.declared.string.String.{String}
 use Rattle.clap.specs.Words.{IsAmong, Kinds, Row, Text, fault_of, first_of, one_of, subcommand_of}
 use Rattle.clap.specs.declared.error.kind.ErrorKind.{ErrorKind}
 use Rattle.clap.specs.declared.error.kind.ErrorKind.TheVariants.{DisplayHelp, DisplayVersion, OutOfMemory}
-use Rattle.ctt_tool.specs.CommandLine.{timedesk}
+use Rattle.ctt_tool.specs.CommandLine.{IsOnOrOff, is_on, timedesk}
 use Rattle.ctt_tool.specs.declared.job.Job.{Job}
 use Rattle.ctt_tool.specs.declared.job.Job.TheVariants.{Check}
 use Rattle.ctt_tool.specs.declared.job.WordsFault.{WordsFault}
 use Rattle.ctt_tool.specs.declared.job.WordsFault.TheVariants.{Help, NoMemory, Refused}
-
--- what is found for an option that is given or not
-abbrev pub IsOnOrOff : Option Text → Type 0
-IsOnOrOff None = Unit {0}
-IsOnOrOff (Some text) = (text ≡ codes "true") ⊎ (text ≡ codes "false")
-
--- whether it is given
-abbrev pub is_on : Option Text → Bool
-is_on None = false
-is_on (Some text) = bytes_eq text (codes "true")
 
 -- the matches of `check` have what it needs
 pub record NamesFiles (rows : List Row) : Type 0 where

@@ -34,12 +34,7 @@ fn owned_words(rt: &HostRuntime) -> Result<Vec<String>, Fault>
 }
 
 /// Does what the words of the command line ask for, as `program` does.
-fn run<F: Files, W: Sink, V: Sink>(
-    rt: &HostRuntime,
-    files: &mut F,
-    out: &mut W,
-    err: &mut V,
-) -> u8
+fn run<F: Files, W: Sink, V: Sink>(rt: &HostRuntime, files: &mut F, out: &mut W, err: &mut V) -> u8
     requires out { W.has_failed out.old ≡ false }
     requires err { V.has_failed err.old ≡ false }
 
@@ -59,8 +54,10 @@ fn run<F: Files, W: Sink, V: Sink>(
         Ok(owned) => owned,
         Err(fault) => return fail_with(rt.alloc(), &fault, err),
     };
-    let words: Result<Vec<&str>, AllocError> =
-        owned.iter().map(|word| word.as_str()).collect(rt.alloc());
+    let words: Result<Vec<&str>, AllocError> = owned
+        .iter()
+        .map(|word| word.as_str())
+        .collect(rt.alloc());
     let Ok(words) = words else {
         return fail_with(rt.alloc(), &Fault::NoMemory, err);
     };

@@ -5,6 +5,7 @@ use crate::job::{Job, WordsFault, read_words};
 use crate::output::put_whole;
 use crate::program::program;
 use ctt_script::{Failed, Sink, Source};
+use std::alloc::AllocError;
 use std::fs;
 use std::process::Abort;
 use std::test::Fail;
@@ -332,32 +333,48 @@ fn refuses_words_and_gives_help(rt: HostRuntime) {
     assert_words(&rt, &["timedesk", "check", "--help"], 0);
 }
 
+/// Asserts that words ask to check the files `i` and `s`.
+fn assert_asks(
+    rt: &(impl Abort + AllocGlobal),
+    words: &[&str],
+    json: bool,
+) -> Result<(), AllocError> {
+    let wanted = Job::Check {
+        instance: String::from_str(rt.alloc(), "i")?,
+        solution: String::from_str(rt.alloc(), "s")?,
+        json,
+    };
+    let copy = wanted.clone()?;
+    assert!(rt; copy == wanted);
+    let job = read_words(rt.alloc(), words);
+    assert!(rt; job.is_ok_and(|job| job == wanted));
+    Ok(())
+}
+
 #[test]
 fn reads_the_words_of_a_check(rt: HostRuntime) -> Result<(), Fail> {
-    for json in [false, true] {
-        let wanted = Job::Check {
-            instance: String::from_str(rt.alloc(), "i")?,
-            solution: String::from_str(rt.alloc(), "s")?,
-            json,
-        };
-        let words = ["timedesk", "check", "i", "s", "--json"];
-        let words = if json { &words[..] } else { &words[..4] };
-        let job = read_words(rt.alloc(), words);
-        assert!(rt; job.is_ok_and(|job| job == wanted));
-        assert!(rt; wanted.clone()? == wanted);
-    }
+    assert_asks(&rt, &["timedesk", "check", "i", "s"], false)?;
+    assert_asks(&rt, &["timedesk", "check", "i", "s", "--json"], true)?;
     Ok(())
 }
 
 #[test]
 fn tells_refused_words_from_help(rt: HostRuntime) {
-    for words in [["timedesk", "run"], ["timedesk", "check"], ["timedesk", "--xml"]] {
+    for words in [
+        ["timedesk", "run"],
+        ["timedesk", "check"],
+        ["timedesk", "--xml"],
+    ] {
         let refused = read_words(rt.alloc(), &words);
-        assert!(rt; matches!(refused, Err(WordsFault::Refused(text)) if !text.is_empty()));
+        assert!(rt; matches!(&refused, Err(WordsFault::Refused(text)) if !text.is_empty()));
     }
-    for words in [["timedesk", "help"], ["timedesk", "-h"], ["timedesk", "--version"]] {
+    for words in [
+        ["timedesk", "help"],
+        ["timedesk", "-h"],
+        ["timedesk", "--version"],
+    ] {
         let help = read_words(rt.alloc(), &words);
-        assert!(rt; matches!(help, Err(WordsFault::Help(text)) if !text.is_empty()));
+        assert!(rt; matches!(&help, Err(WordsFault::Help(text)) if !text.is_empty()));
     }
 }
 

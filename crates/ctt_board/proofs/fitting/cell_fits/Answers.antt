@@ -1,4 +1,4 @@
-use Rattle.std.proofs.Common.{◌≡◌, false, nat_lt, sym, ◌∙◌, subst, arith}
+use Rattle.std.proofs.Common.{sym, ◌∙◌, subst, arith}
 use Rattle.std.proofs.lemmas.Bool.{le-ltb}
 use Rattle.ctt_rules.specs.Hard.{Lawful}
 use Rattle.ctt_board.proofs.FitLemmas.{no_slot}

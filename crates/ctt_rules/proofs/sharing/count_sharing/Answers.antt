@@ -20,7 +20,7 @@ loop-first-preserved c =
       occupancy = omega (arith, c.loop-first.invariant.occupancy, c.count_block-block.ensures.occupancy, block_more room_taken n (n + 64) (omega arith) c.args.timetable.now);
       small = omega (arith, c.loop-first.invariant.small, c.count_block-block.ensures.small);
       few = omega (arith, c.loop-first.invariant.few, c.count_block-block.ensures.few);
-      near = omega (arith, c.limits.ensures.slots_few);
+      near = omega (arith, c.limits_hold.ensures.slots_few);
     }
 
 pub returns-clause-conflicts : goal.returns-clause-conflicts
