@@ -158,8 +158,8 @@ module _ (i : Problem) (t : List Placed) (h : IsTimetable i t) (first : ℕ) (wo
           omega (arith, lt, e, wa.0, wb.0, days_rise i a.slot b.slot (omega arith))
 
   module _ (q : List ℕ) (different : Pairwise (λ c d. (c == d) ≡ false) q) (busy bits : ℕ)
-    (busy_is : (place : ℕ) → has_bit busy place ≡ list_any (λ c. has_bit (word_of words c) place) q)
-    (bits_are : (place : ℕ) → has_bit bits place ≡ ((ltb 0 place && ltb place 63) && (not (has_bit busy (place - 1)) && not (has_bit busy (place + 1))))) where
+      (busy_is : (place : ℕ) → has_bit busy place ≡ list_any (λ c. has_bit (word_of words c) place) q)
+      (bits_are : (place : ℕ) → has_bit bits place ≡ ((ltb 0 place && ltb place 63) && (not (has_bit busy (place - 1)) && not (has_bit busy (place + 1))))) where
     abbrev part : List Placed
     part = part_of q t
 
@@ -223,8 +223,12 @@ bit_set_in words course number first within low high c place = elim (cases_eq co
 
 -- different numbers below n are at most n
 pub few_members : (n : ℕ) (q : List ℕ) → AreMembers n q → length q ≤ n
-few_members n q h = omega (arith, all q, counted_apart (λ _. true) (λ c. c) (λ _. true) n q (Pairwise-map (λ c d. (c == d) ≡ false) (λ c d. true ≡ true → true ≡ true → c ≡ d → ⊥) (λ c d k _ _ e. both_ways (c == d) k (eq-eqb c d e)) q h.1) (Each-map (λ c. c < n) (λ c. true ≡ true → c < n) (λ c k _. k) q h.0),
-    count_below_le (λ d. list_any (λ c. true && c == d) q && true) n)
+few_members n q h = omega (
+  arith,
+  all q,
+  counted_apart (λ _. true) (λ c. c) (λ _. true) n q (Pairwise-map (λ c d. (c == d) ≡ false) (λ c d. true ≡ true → true ≡ true → c ≡ d → ⊥) (λ c d k _ _ e. both_ways (c == d) k (eq-eqb c d e)) q h.1) (Each-map (λ c. c < n) (λ c. true ≡ true → c < n) (λ c k _. k) q h.0),
+  count_below_le (λ d. list_any (λ c. true && c == d) q && true) n,
+)
   where
     all : (xs : List ℕ) → count_by (λ _. true && true) xs ≡ length xs
     all [] = refl
