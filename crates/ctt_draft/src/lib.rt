@@ -10,6 +10,3 @@ mod work;
 pub use asked::{Asked, AskedCalls};
 pub use draft::Draft;
 pub use work::Work;
-
-#[cfg(test)]
-mod tests;

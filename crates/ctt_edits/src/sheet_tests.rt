@@ -1,5 +1,5 @@
-//! The same cases on each kind of sheet: worked costs, prices and faults, and some hundred edits that
-//! are made on both kinds side by side.
+//! Cases of sheets: the border of two days, which changes are accepted, and some hundred edits that are
+//! made on both kinds of sheet side by side.
 
 ghost use Rattle.ctt_edits.specs.Edits.{EditFits};
 ghost use Rattle.std.specs.Prelude.{◌<◌};
@@ -87,28 +87,12 @@ c8 2 2
 END.
 ";
 
-fn alg() -> CourseNo {
-    CourseNo::new(0)
-}
-
-fn geo() -> CourseNo {
-    CourseNo::new(1)
-}
-
-fn top() -> CourseNo {
-    CourseNo::new(2)
-}
-
 fn at(slot: u16) -> SlotNo {
     SlotNo::new(slot)
 }
 
 fn room_a() -> RoomNo {
     RoomNo::new(0)
-}
-
-fn room_b() -> RoomNo {
-    RoomNo::new(1)
 }
 
 fn cost(capacity: u64, days: u64, compactness: u64, stability: u64) -> Cost {
@@ -161,65 +145,6 @@ fn sheet_of<'i, S: Sheet<'i>>(
     Ok(sheet)
 }
 
-/// What edits would cost, or their faults.
-fn has_prices<'i, S: Sheet<'i>>(
-    rt: &impl Abort,
-    sheet: &S,
-    cases: &[(Edit, Result<i64, EditFault>)],
-) {
-    for case in cases {
-        assert_eq!(rt; price_of(rt, sheet, &case.0), case.1);
-    }
-}
-
-/// Costs, prices and faults on the small solution.
-fn small_solution<'i, S: Sheet<'i>>(rt: &impl Abort, sheet: &S) {
-    assert_eq!(rt; sheet.cost(), cost(15, 0, 4, 1));
-    let cases = [
-        (Edit::Move(geo(), at(5), at(4), room_a()), Ok(-4)),
-        (Edit::Reroom(alg(), at(0), room_b()), Ok(-6)),
-        (Edit::Reroom(alg(), at(0), room_a()), Ok(0)),
-        (Edit::Swap(geo(), at(1), top(), at(2)), Ok(20)),
-        (
-            Edit::Place(alg(), at(4), room_a()),
-            Err(EditFault::CourseFull),
-        ),
-        (
-            Edit::Place(alg(), at(0), room_b()),
-            Err(EditFault::AlreadyThere),
-        ),
-        (
-            Edit::Move(geo(), at(1), at(1), room_b()),
-            Err(EditFault::SameSlot),
-        ),
-        (
-            Edit::Move(geo(), at(0), at(0), room_b()),
-            Err(EditFault::NotPlaced),
-        ),
-        (
-            Edit::Swap(alg(), at(0), alg(), at(3)),
-            Err(EditFault::SameCourse),
-        ),
-        (
-            Edit::Swap(geo(), at(0), top(), at(2)),
-            Err(EditFault::NotPlaced),
-        ),
-        (
-            Edit::Move(geo(), at(5), at(3), room_a()),
-            Err(EditFault::Clash(alg())),
-        ),
-        (
-            Edit::Move(geo(), at(1), at(0), room_b()),
-            Err(EditFault::Unavailable),
-        ),
-        (
-            Edit::Move(top(), at(2), at(1), room_a()),
-            Err(EditFault::RoomTaken(geo())),
-        ),
-    ];
-    has_prices(rt, sheet, &cases);
-}
-
 /// The change of one cell.
 fn one_cell(rt: &impl Abort, course: u16, slot: u16, room: Option<RoomNo>) -> Change {
     let cell = Cell {
@@ -239,32 +164,7 @@ fn accepted_changes<'i, S: Sheet<'i>>(rt: &impl Abort, sheet: &S) {
     assert!(rt; !sheet.accepts(&one_cell(rt, 3, 1, Some(room_a()))));
 }
 
-/// The small solution after the swap of two lectures.
-fn swapped<'i, S: Sheet<'i>>(rt: &impl Abort, sheet: &mut S) -> Result<(), Fail> {
-    let swap = Edit::Swap(geo(), at(1), top(), at(2));
-    assert_eq!(rt; make(rt, sheet, &swap), None);
-    assert_eq!(rt; sheet.cost(), cost(30, 0, 8, 2));
-    let row = sheet.list()?;
-    assert_eq!(rt; row.len(), 5);
-    assert_eq!(rt;
-        row.get(2).copied(),
-        Some(Placed {
-            course: geo(),
-            slot: at(2),
-            room: room_b()
-        })
-    );
-    assert_eq!(rt;
-        row.get(4).copied(),
-        Some(Placed {
-            course: top(),
-            slot: at(1),
-            room: room_a()
-        })
-    );
-    Ok(())
-}
-
+/// The last period of a day is not beside the first of the next; and changes on the small solution.
 fn on_small<'i, S: Sheet<'i>>(
     rt: &impl Abort,
     alloc: Global,
@@ -272,10 +172,9 @@ fn on_small<'i, S: Sheet<'i>>(
 ) -> Result<(), Fail> {
     let border: S = sheet_of(rt, alloc, small, "alg A 0 2 geo A 1 0")?;
     assert_eq!(rt; border.cost(), cost(5, 10, 4, 0));
-    let mut sheet: S = sheet_of(rt, alloc, small, SOLUTION)?;
-    small_solution(rt, &sheet);
+    let sheet: S = sheet_of(rt, alloc, small, SOLUTION)?;
     accepted_changes(rt, &sheet);
-    swapped(rt, &mut sheet)
+    Ok(())
 }
 
 #[test]
@@ -369,11 +268,11 @@ fn draws<'i, A: Sheet<'i>, B: Sheet<'i>>(
     other: &mut B,
 ) -> Result<(), Fail> {
     let mut dice = Dice { state: 1 };
-    let mut accepted = 0;
+    let mut accepted: u32 = 0;
     for _ in 0..400u32 {
         let edit = dice.edit(one.list()?.as_slice());
         if make_on_both(rt, one, other, &edit) {
-            accepted += 1u32;
+            accepted = accepted.wrapping_add(1);
         }
         expect_same(rt, one, other)?;
     }

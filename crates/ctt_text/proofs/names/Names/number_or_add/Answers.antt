@@ -1,5 +1,5 @@
 use Rattle.std.proofs.Common.{◌∙◌, ap}
-use Rattle.ctt_text.proofs.NameLemmas.{texts, number_same, names_same}
+use Rattle.ctt_text.proofs.NameLemmas.{texts, number_same, names_same, number_of_known, known_not_added}
 use Rattle.ctt_text.proofs.names.Names.number_or_add.Goals as goal
 
 pub returns-clause-number : goal.returns-clause-number
