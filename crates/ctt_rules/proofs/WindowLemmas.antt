@@ -1,10 +1,9 @@
 -- Lectures that stand alone, by the words of a window.
-use Rattle.std.proofs.Common.{◌≡◌, ℕ, zero, suc, ◌+◌, ◌-◌, ◌*◌, ◌/◌, ◌%◌, ◌^◌, ◌<◌, ◌≤◌, Bool, true, false, cond, not, ◌&&◌, ◌||◌, ◌==◌, eqb, ltb, leb, List, [], ◌∷◌, length, get_or, set, refl, ◌∙◌, sym, ap, ap₂, arith, inl, inr, ◌⊎◌}
+use Rattle.std.proofs.Common.{◌≡◌, ℕ, ◌+◌, ◌-◌, ◌*◌, ◌/◌, ◌%◌, ◌^◌, ◌<◌, ◌≤◌, Bool, true, false, cond, not, ◌&&◌, ◌||◌, ◌==◌, eqb, ltb, leb, List, [], ◌∷◌, length, get_or, set, refl, ◌∙◌, sym, ap, ap₂, arith, inl, inr, ◌⊎◌}
 use Rattle.std.specs.Prelude.{bit_or}
 use Rattle.std.specs.List.{count_by, sum_by, list_any, AllByRecursion as Each}
 use Rattle.std.proofs.Math.Nat.{div-mul-le_self, div-zero}
 use Rattle.std.proofs.lemmas.Nat.{le-div}
-use Rattle.std.proofs.lemmas.Bool.Decides.{nat_tests}
 use Rattle.std.proofs.lemmas.Bool.{cases_Bool, cases_eq, cases_lt, eq-eqb, ne_eqb, leb-true, ltb-true, lt-ltb, le-ltb, le-leb, lt-leb, and_from, and_left, and_right, and_parts, both_ways}
 use Rattle.std.proofs.lemmas.List.{get_or-set_same, get_or-set_other}
 use Rattle.ctt_text.specs.Lists.{Pairwise, has, count_below}
