@@ -324,17 +324,30 @@ fn shows_lectures_on<'i, S: Sheet<'i>>(
     small: &'i Instance,
 ) -> Result<(), Fail> {
     let sheet: S = sheet_of(rt, alloc, small, SOLUTION)?;
-    let alg_0 = placed(alg(), 0, room_a());
-    let alg_3 = placed(alg(), 3, room_b());
-    let geo_1 = placed(geo(), 1, room_a());
-    let geo_5 = placed(geo(), 5, room_a());
-    let top_2 = placed(top(), 2, room_b());
+    let taught = [
+        placed(alg(), 0, room_a()),
+        placed(alg(), 3, room_b()),
+        placed(top(), 2, room_b()),
+    ];
+    let of_members = [
+        placed(alg(), 0, room_a()),
+        placed(alg(), 3, room_b()),
+        placed(geo(), 1, room_a()),
+        placed(geo(), 5, room_a()),
+    ];
     let teacher = Look::Teacher(TeacherNo::new(0));
     let curriculum = Look::Curriculum(CurriculumNo::new(0));
-    shows_lectures(rt, alloc, &sheet, teacher, &[alg_0, alg_3, top_2])?;
-    shows_lectures(rt, alloc, &sheet, curriculum, &[alg_0, alg_3, geo_1, geo_5])?;
-    shows_lectures(rt, alloc, &sheet, Look::Course(geo()), &[geo_1, geo_5])?;
-    shows_lectures(rt, alloc, &sheet, Look::Slot(at(2)), &[top_2])
+    shows_lectures(rt, alloc, &sheet, teacher, &taught)?;
+    shows_lectures(rt, alloc, &sheet, curriculum, &of_members)?;
+    shows_rows(rt, alloc, &sheet)
+}
+
+/// Looks at one course and at one slot.
+fn shows_rows<'i, S: Sheet<'i>>(rt: &impl Abort, alloc: Global, sheet: &S) -> Result<(), Fail> {
+    let of_geo = [placed(geo(), 1, room_a()), placed(geo(), 5, room_a())];
+    let last = [placed(top(), 2, room_b())];
+    shows_lectures(rt, alloc, sheet, Look::Course(geo()), &of_geo)?;
+    shows_lectures(rt, alloc, sheet, Look::Slot(at(2)), &last)
 }
 
 #[test]
