@@ -147,7 +147,7 @@ impl<'i> Lectures<'i> {
         requires free { has_lecture lecture.course lecture.slot self.old.lectures ≡ false }
         ensures { self.new ≡ record { problem = self.old.problem; lectures = with lecture self.old.lectures } }
     {
-        self.instance.limits();
+        self.instance.limits_hold();
         let cell = cell(self.instance, lecture.course, lecture.slot);
         self.rooms[cell] = HeldRoom::of(lecture.room);
     }
