@@ -280,10 +280,19 @@ fn draws<'i, A: Sheet<'i>, B: Sheet<'i>>(
     Ok(())
 }
 
+/// Draws edits on two kinds of sheet, both empty at first.
+fn draws_on<'i, A: Sheet<'i>, B: Sheet<'i>>(
+    rt: &impl Abort,
+    alloc: Global,
+    drawn: &'i Instance,
+) -> Result<(), Fail> {
+    let mut one = A::empty(alloc, drawn)?;
+    let mut other = B::empty(alloc, drawn)?;
+    draws(rt, &mut one, &mut other)
+}
+
 #[test]
 fn drawn_edits_on_both_sheets(rt: HostRuntime) -> Result<(), Fail> {
     let drawn = read_instance(rt.alloc(), DRAWN.as_bytes())?;
-    let mut list = ListSheet::empty(rt.alloc(), &drawn)?;
-    let mut grid = GridSheet::empty(rt.alloc(), &drawn)?;
-    draws(&rt, &mut list, &mut grid)
+    draws_on::<ListSheet, GridSheet>(&rt, rt.alloc(), &drawn)
 }
