@@ -1,13 +1,11 @@
-//! Cases of sheets: the border of two days, which changes are accepted, and some hundred edits that are
-//! made on both kinds of sheet side by side.
+//! Cases of sheets: the border of two days, and which changes are accepted.
 
 ghost use Rattle.ctt_edits.specs.Edits.{EditFits};
-ghost use Rattle.std.specs.Prelude.{◌<◌};
 
-use crate::{Edit, EditFault, check, price};
+use crate::{Edit, EditFault, check};
 use ctt_board::{Cell, Change, GridSheet, ListSheet, Sheet};
 use ctt_rules::Cost;
-use ctt_text::{CourseNo, Instance, Placed, RoomNo, SlotNo, read_instance, read_solution};
+use ctt_text::{CourseNo, Instance, RoomNo, SlotNo, read_instance, read_solution};
 use std::alloc::Global;
 use std::process::Abort;
 use std::test::Fail;
@@ -41,50 +39,6 @@ alg B 1 0
 geo A 0 1
 geo A 1 2
 top B 0 2
-";
-
-/// An instance of drawn numbers: twelve courses, four rooms, four days of four periods.
-const DRAWN: &str = "Name: Drawn
-Courses: 12
-Rooms: 4
-Days: 4
-Periods_per_day: 4
-Curricula: 7
-Constraints: 6
-COURSES:
-c0 t5 3 3 77
-c1 t7 2 1 16
-c2 t1 3 2 70
-c3 t6 3 3 23
-c4 t0 3 3 37
-c5 t4 4 1 59
-c6 t1 3 1 89
-c7 t2 4 1 10
-c8 t3 2 1 31
-c9 t4 3 2 35
-c10 t2 3 3 35
-c11 t4 4 1 56
-ROOMS:
-r0 20
-r1 40
-r2 60
-r3 80
-CURRICULA:
-q0 4 c2 c11 c4 c1
-q1 3 c4 c9 c10
-q2 2 c9 c10
-q3 3 c1 c4 c5
-q4 3 c7 c5 c2
-q5 4 c7 c2 c0 c4
-q6 2 c11 c5
-UNAVAILABILITY_CONSTRAINTS:
-c6 0 3
-c5 3 0
-c7 0 1
-c9 1 0
-c3 3 2
-c8 2 2
-END.
 ";
 
 fn at(slot: u16) -> SlotNo {
@@ -121,12 +75,6 @@ fn make<'i, S: Sheet<'i>>(rt: &impl Abort, sheet: &mut S, edit: &Edit) -> Option
         }
         Err(fault) => Some(fault),
     }
-}
-
-/// The price of an edit, or its fault.
-fn price_of<'i, S: Sheet<'i>>(rt: &impl Abort, sheet: &S, edit: &Edit) -> Result<i64, EditFault> {
-    expect_edit_fits(rt, sheet, edit);
-    price(sheet, edit)
 }
 
 /// A sheet with the lectures of a solution text.
@@ -187,112 +135,4 @@ fn small_on_a_list_sheet(rt: HostRuntime) -> Result<(), Fail> {
 fn small_on_a_grid_sheet(rt: HostRuntime) -> Result<(), Fail> {
     let small = read_instance(rt.alloc(), SMALL.as_bytes())?;
     on_small::<GridSheet>(&rt, rt.alloc(), &small)
-}
-
-/// Numbers that look drawn.
-#[derive(Drop)]
-struct Dice {
-    state: u32,
-}
-
-impl Dice {
-    /// A number below another.
-    fn below(&mut self, end: u16) -> u16
-        requires { 0 < end }
-    {
-        self.state = self
-            .state
-            .wrapping_mul(1_664_525)
-            .wrapping_add(1_013_904_223);
-        (self.state >> 16) as u16 % end
-    }
-
-    fn slot(&mut self) -> SlotNo {
-        SlotNo::new(self.below(16))
-    }
-
-    fn room(&mut self) -> RoomNo {
-        RoomNo::new(self.below(4))
-    }
-
-    /// One of these lectures, if there are any.
-    fn lecture(&mut self, lectures: &[Placed]) -> Placed {
-        let number = self.below(48) as usize;
-        lectures.get(number).copied().unwrap_or_default()
-    }
-
-    /// An edit of any kind on a timetable of these lectures.
-    fn edit(&mut self, lectures: &[Placed]) -> Edit {
-        let placed = self.lecture(lectures);
-        let other = self.lecture(lectures);
-        let slot = self.slot();
-        let room = self.room();
-        match self.below(9) {
-            0 => Edit::Drop(placed.course, placed.slot),
-            1 => Edit::Reroom(placed.course, placed.slot, room),
-            2 | 3 => Edit::Move(placed.course, placed.slot, slot, room),
-            4 | 5 => Edit::Swap(placed.course, placed.slot, other.course, other.slot),
-            _ => Edit::Place(CourseNo::new(self.below(12)), slot, room),
-        }
-    }
-}
-
-/// Two sheets have the same lectures and costs.
-fn expect_same<'i, A: Sheet<'i>, B: Sheet<'i>>(
-    rt: &impl Abort,
-    one: &A,
-    other: &B,
-) -> Result<(), Fail> {
-    assert_eq!(rt; one.cost(), other.cost());
-    assert_eq!(rt; one.list()?.as_slice(), other.list()?.as_slice());
-    Ok(())
-}
-
-/// Prices and makes an edit on two sheets, which answer the same. Answers whether it was accepted.
-fn make_on_both<'i, A: Sheet<'i>, B: Sheet<'i>>(
-    rt: &impl Abort,
-    one: &mut A,
-    other: &mut B,
-    edit: &Edit,
-) -> bool {
-    assert_eq!(rt; price_of(rt, one, edit), price_of(rt, other, edit));
-    let fault = make(rt, one, edit);
-    assert_eq!(rt; make(rt, other, edit), fault);
-    fault.is_none()
-}
-
-/// Makes some hundred drawn edits on two sheets.
-fn draws<'i, A: Sheet<'i>, B: Sheet<'i>>(
-    rt: &impl Abort,
-    one: &mut A,
-    other: &mut B,
-) -> Result<(), Fail> {
-    let mut dice = Dice { state: 1 };
-    let mut accepted: u32 = 0;
-    for _ in 0..400u32 {
-        let edit = dice.edit(one.list()?.as_slice());
-        if make_on_both(rt, one, other, &edit) {
-            accepted = accepted.wrapping_add(1);
-        }
-        expect_same(rt, one, other)?;
-    }
-    assert!(rt; accepted > 100 && accepted < 300);
-    Ok(())
-}
-
-/// Draws edits on two kinds of sheet, both empty at first.
-fn draws_on<'i, A: Sheet<'i>, B: Sheet<'i>>(
-    rt: &impl Abort,
-    alloc: Global,
-    drawn: &'i Instance,
-) -> Result<(), Fail> {
-    let mut one = A::empty(alloc, drawn)?;
-    let mut other = B::empty(alloc, drawn)?;
-    draws(rt, &mut one, &mut other)
-}
-
-#[test]
-fn drawn_edits_on_both_sheets(rt: HostRuntime) -> Result<(), Fail> {
-    let drawn = read_instance(rt.alloc(), DRAWN.as_bytes())?;
-    draws_on::<ListSheet, GridSheet>(&rt, rt.alloc(), &drawn)
 }
