@@ -1,3 +1,15 @@
+pub mod Amounts
+pub mod CallPlaces
 pub mod Device
+pub mod Entries
+pub mod JournalPlaces
+pub mod JournalText
+pub mod Kinds
+pub mod Known
 pub mod Output
+pub mod ReplyPlaces
 pub mod ReportText
+pub mod ScriptPlaces
+pub mod ScriptText
+pub mod WrittenText
+pub mod WrittenWords
