@@ -1,8 +1,12 @@
 -- Which calls, replies and entries can be written.
 use Rattle.std.specs.Prelude.{ℕ, ◌<◌, ◌≤◌, List, length, unsigned_abs}
 use Rattle.std.specs.List.{AllByRecursion as Each}
-use Rattle.ctt_text.specs.Problem.{Problem, course_count}
+use Rattle.ctt_text.specs.Problem.{Problem, course_count, slot_count}
 use Rattle.ctt_text.specs.Timetable.{Fits}
+use Rattle.ctt_edits.specs.declared.row.Row.{Row}
+use Rattle.ctt_edits.specs.declared.row.Row.TheVariants.{Course as CourseRow, Slot as SlotRow}
+use Rattle.ctt_core.specs.declared.answer.Answer.{Answer}
+use Rattle.ctt_core.specs.declared.answer.Answer.TheVariants.{Replied, Stale}
 use Rattle.ctt_draft.specs.declared.asked.Asked.{Asked}
 use Rattle.ctt_core.specs.declared.journal.JournalEntry.{JournalEntry}
 use Rattle.ctt_edits.specs.declared.fault.EditFault.{EditFault}
@@ -55,3 +59,14 @@ IsAsked i s = AskedFits i s × IsShortReply s.reply
 
 abbrev pub IsEntry : Problem → JournalEntry → Type 0
 IsEntry i e = EntryFits i e × IsShort e
+
+-- its number is one of the instance
+abbrev pub RowFits : Problem → Row → Type 0
+RowFits i (CourseRow c) = c < course_count i
+RowFits i (SlotRow s) = s < slot_count i
+
+-- an answer that can be written
+abbrev pub AnswerFits : Problem → Answer → Type 0
+AnswerFits i (Replied reply) = ReplyFits i reply
+AnswerFits i (Stale row) = RowFits i row
+AnswerFits i answer = Unit {0}

@@ -1,4 +1,5 @@
 pub mod Amounts
+pub mod AnswerText
 pub mod CallPlaces
 pub mod Device
 pub mod Entries

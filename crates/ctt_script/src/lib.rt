@@ -32,4 +32,6 @@ pub use source::{Failed, Source};
 pub use written::{write_call, write_journal, write_reply};
 
 #[cfg(test)]
+mod journal_tests;
+#[cfg(test)]
 mod tests;
