@@ -221,7 +221,7 @@ impl<'i, S: Sheet<'i>> Desk<'i, S> {
     }
 
     /// Computes nothing: its contract says that the opening is lawful.
-    fn lawful(&self)
+    pub fn lawful(&self)
         ensures { Lawful self.now.problem self.now.opening }
     {
         let _opening = &self.opening;

@@ -33,7 +33,7 @@ use Rattle.ctt_edits.specs.Calls.{CallFits, reply}
 use Rattle.ctt_edits.proofs.EditLemmas.{room_fits, edits_keep_lawful}
 use Rattle.ctt_script.specs.Entries.{FaultFits, IsAmount, ReplyFits, AreFew, IsReply}
 
-length-filter : {X : Type 0} (p : X → Bool) (xs : List X) → length (filter p xs) ≤ length xs
+pub length-filter : {X : Type 0} (p : X → Bool) (xs : List X) → length (filter p xs) ≤ length xs
 length-filter p [] = omega arith
 length-filter p (x ∷ xs) = elim (cases_Bool (p x)) [ inl b ↦ rw b (omega (arith, length-filter p xs)) | inr b ↦ rw b (omega (arith, length-filter p xs)) ]
 

@@ -82,3 +82,10 @@ pub only_line : (text : List ℕ) → position (λ b. b == 10) text ≡ None →
 only_line text h =
     let none = position_none ends_line text h in
     slice_split_none ends_line text (λ k e m. let at = fails_before_first ends_line text k e in grind (arith, common_steps, none, at))
+
+-- a line without words has no item, and another has one
+pub no_item : (i : Problem) (line : List ℕ) → has_words line ≡ false → items_of i (line ∷ []) ≡ []
+no_item i line h = rw h refl
+
+pub one_item : (i : Problem) (line : List ℕ) → has_words line ≡ true → items_of i (line ∷ []) ≡ item i line ∷ []
+one_item i line h = rw h refl

@@ -70,3 +70,9 @@ abbrev pub AnswerFits : Problem → Answer → Type 0
 AnswerFits i (Replied reply) = ReplyFits i reply
 AnswerFits i (Stale row) = RowFits i row
 AnswerFits i answer = Unit {0}
+
+-- a journal that can be written
+pub record IsWritable (i : Problem) (entries : List JournalEntry) : Type 0 where
+  pub fit : Each (EntryFits i) entries
+  pub few : AreFew entries
+  pub short : Each IsShort entries

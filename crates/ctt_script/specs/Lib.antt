@@ -1,5 +1,6 @@
 pub mod Amounts
 pub mod AnswerText
+pub mod Answering
 pub mod CallPlaces
 pub mod Device
 pub mod Entries
@@ -10,6 +11,7 @@ pub mod Known
 pub mod Output
 pub mod ReplyPlaces
 pub mod ReportText
+pub mod RunFaults
 pub mod ScriptPlaces
 pub mod ScriptText
 pub mod WrittenText

@@ -2,8 +2,10 @@
 #![tactic(auto)]
 
 mod amounts;
+mod answers;
 mod calls;
 mod device;
+mod engine;
 mod input;
 mod journal;
 mod journal_fault;
@@ -13,11 +15,13 @@ mod places;
 mod replies;
 mod report;
 mod script;
+mod script_fault;
 mod sink;
 mod source;
 mod text_places;
 mod written;
 
+pub use answers::write_answer;
 pub use calls::{read_call, read_look};
 pub use device::Device;
 pub use input::{InputFault, read_all};
@@ -27,6 +31,7 @@ pub use lines::Lines;
 pub use replies::read_reply;
 pub use report::{report_json, report_text};
 pub use script::{Item, read_line, read_script};
+pub use script_fault::ScriptFault;
 pub use sink::{Sink, put_all};
 pub use source::{Failed, Source};
 pub use written::{write_call, write_journal, write_reply};

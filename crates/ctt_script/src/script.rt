@@ -1,6 +1,7 @@
 //! Reading the lines of a script.
 
-ghost use Rattle.std.specs.Prelude.{◌≡◌, IfOk};
+ghost use Rattle.std.specs.Prelude.{◌≡◌, IfOk, IfSome};
+ghost use Rattle.ctt_core.specs.Runs.{EventFits};
 ghost use Rattle.ctt_script.specs.Known.{word, reads, IsRead};
 ghost use Rattle.ctt_script.specs.Kinds.{step_kind};
 ghost use Rattle.ctt_script.specs.ScriptPlaces.{first_of, step_after, event_after, event_form};
@@ -105,8 +106,10 @@ fn read_event(reader: &mut Reader, instance: &Instance) -> Result<Event, Journal
 
 /// The event that a line asks for; none for a line of any other form.
 pub fn read_line(instance: &Instance, line: &[u8]) -> Option<Event>
-    ensures { result ≡ item instance.now line.now }
+    ensures item { result ≡ item instance.now line.now }
+    ensures fits { IfSome result (EventFits instance.now 64) }
 {
+    instance.limits();
     let Ok(text) = str::from_utf8(line) else {
         return None;
     };
@@ -124,7 +127,7 @@ pub fn read_line(instance: &Instance, line: &[u8]) -> Option<Event>
 }
 
 /// Whether a line has words.
-fn has_words(line: &[u8]) -> bool
+pub(crate) fn has_words(line: &[u8]) -> bool
     ensures { result ≡ has_words line.now }
 {
     Words::new(line).next().is_some()
