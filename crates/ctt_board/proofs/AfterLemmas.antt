@@ -1,5 +1,5 @@
 -- Who has a room after a change, and how many lectures a course has then.
-use Rattle.std.proofs.Common.{◌≡◌, ℕ, ◌+◌, ◌-◌, ◌≤◌, Bool, true, false, cond, not, ◌&&◌, ◌==◌, List, [], ◌∷◌, length, Option, Some, None, is_some, is_none, refl, ◌∙◌, sym, ap, ap₂, subst, arith, inl, inr, ◌⊎◌}
+use Rattle.std.proofs.Common.{◌≡◌, ℕ, ◌+◌, ◌≤◌, Bool, true, false, cond, not, ◌&&◌, ◌==◌, List, [], ◌∷◌, length, Option, Some, None, is_some, is_none, refl, ◌∙◌, sym, ap, ap₂, subst, arith, inl, inr}
 use Rattle.std.specs.List.{find, count_by, AllByRecursion as Each}
 use Rattle.std.specs.Option.{option_eq}
 use Rattle.std.proofs.lemmas.Bool.{cases_Bool, eq-eqb, eqb-true}
@@ -12,12 +12,13 @@ use Rattle.ctt_rules.proofs.ListLemmas.{Each-filter_passes}
 use Rattle.std.proofs.lemmas.List.Sums.{length-filter}
 use Rattle.ctt_rules.proofs.SumLemmas.{count_by-cons}
 use Rattle.ctt_rules.proofs.TimetableLemmas.{few_lectures}
-use Rattle.ctt_board.specs.Changes.{course_named, room_at, holder_at, held_here, held_after, holder_by, is_added, is_removed, count_after, apply_at, apply, in_turn, CellFits, CellsFit}
+use Rattle.ctt_board.specs.Changes.{course_named, room_at, holder_at, held_here, holder_by, is_added, is_removed, apply_at, apply, in_turn, CellFits, CellsFit}
 use Rattle.ctt_board.specs.Joining.{IsMore}
 use Rattle.ctt_board.specs.declared.cell.Cell.{Cell}
-use Rattle.ctt_board.proofs.BetweenLemmas.{next_lawful, turn_rest, some_room, length-filter_le}
+use Rattle.ctt_board.proofs.BetweenLemmas.{next_lawful, turn_rest, some_room}
+use Rattle.ctt_board.proofs.LawfulLemmas.{length-filter_le}
 use Rattle.ctt_board.proofs.CountedLemmas.{counted_more}
-use Rattle.ctt_board.proofs.HolderLemmas.{Apart, is_in, found_in, holder_is, holder_with, holder_without, removed_back}
+use Rattle.ctt_board.proofs.HolderLemmas.{Apart, is_in, holder_is, holder_with, holder_without, removed_back}
 use Rattle.ctt_board.proofs.MoreLemmas.{more_with, more_without}
 use Rattle.ctt_board.proofs.RoomLemmas.{is_at, room_is}
 

@@ -1,21 +1,20 @@
 -- What one lecture more does to those that stand alone, slot by slot.
-use Rattle.std.proofs.Common.{◌≡◌, ℕ, zero, suc, ◌+◌, ◌-◌, ◌*◌, ◌/◌, ◌%◌, ◌<◌, ◌≤◌, Bool, true, false, cond, not, ◌&&◌, ◌||◌, ◌==◌, eqb, ltb, List, [], ◌∷◌, length, refl, ◌∙◌, sym, ap, ap₂, arith, inl, inr, ◌⊎◌}
-use Rattle.std.specs.List.{filter, sum_by, count_by, list_any, AllByRecursion as Each}
+use Rattle.std.proofs.Common.{◌≡◌, ℕ, zero, suc, ◌+◌, ◌-◌, ◌*◌, ◌<◌, ◌≤◌, Bool, true, false, cond, not, ◌&&◌, ◌||◌, ◌==◌, eqb, ltb, List, [], ◌∷◌, refl, ◌∙◌, sym, ap, ap₂, arith, inl, inr}
+use Rattle.std.specs.List.{count_by, AllByRecursion as Each}
 use Rattle.std.proofs.Math.Nat.{suc-mul, mul-le-mul_right}
 use Rattle.std.proofs.lemmas.Nat.{div-add-mod'}
-use Rattle.std.proofs.lemmas.Bool.{cases_Bool, cases_eq, eq-eqb, ne_eqb, eqb-true, lt-ltb, ltb-true}
+use Rattle.std.proofs.lemmas.Bool.{cases_eq, eq-eqb, ne_eqb, lt-ltb, ltb-true}
 use Rattle.std.proofs.lemmas.Bool.Decides.{nat_tests}
 use Rattle.ctt_text.specs.Lists.{has, sum_below}
 use Rattle.ctt_text.specs.Problem.{Problem, slot_count, day_of, period_of}
-use Rattle.ctt_text.specs.Timetable.{Fits}
 use Rattle.ctt_text.specs.declared.placed.Placed.{Placed}
-use Rattle.ctt_rules.specs.Penalty.{next_to, part_of, alone_cost, is_alone}
+use Rattle.ctt_rules.specs.Penalty.{next_to, part_of, alone_cost}
 use Rattle.ctt_rules.specs.Neighbours.{busy, is_beside}
 use Rattle.ctt_rules.proofs.ListLemmas.{Each-filter}
 use Rattle.ctt_rules.proofs.NeighbourLemmas.{by_period, alone_is}
 use Rattle.ctt_rules.proofs.SlotLemmas.{day_fits, periods_above}
 use Rattle.ctt_rules.proofs.SumLemmas.{sum_below_same, sum_below_add, sum_below_one, sum_below_zero, count_by-cons}
-use Rattle.ctt_board.specs.Joining.{in_slot, by_slot, alone_at, alone_beside, stands_alone}
+use Rattle.ctt_board.specs.Joining.{by_slot, alone_at, alone_beside, stands_alone}
 use Rattle.ctt_board.proofs.CountedLemmas.{any_counted, count_filter}
 
 pub sum_below_balance : (a b c d : ℕ → ℕ) (n : ℕ) → ((k : ℕ) → a k + b k ≡ c k + d k) → sum_below a n + sum_below b n ≡ sum_below c n + sum_below d n
@@ -182,4 +181,4 @@ alone_counted i q t h =
     let counts : (s : ℕ) → count_by (λ (l : Placed). l.slot == s) part ≡ by_slot q t s = λ s. count_filter (λ (l : Placed). l.slot == s) (λ l. has l.course q) t in
     let same : (s : ℕ) → marks s ≡ busy part s = λ s. sym (any_counted (λ (l : Placed). l.slot == s) part ∙ ap (ltb 0) (counts s)) in
     ap (λ n. 2 * n) (alone_is i part marks fits same ∙ by_slots (is_beside i marks) (slot_count i) part fits
-      ∙ sum_below_same (λ s. cond (is_beside i marks s) 0 (count_by (λ (l : Placed). l.slot == s) part)) (alone_at i (by_slot q t)) (slot_count i) (λ s. ap (λ n. cond (is_beside i marks s) 0 n) (counts s)))
+    ∙ sum_below_same (λ s. cond (is_beside i marks s) 0 (count_by (λ (l : Placed). l.slot == s) part)) (alone_at i (by_slot q t)) (slot_count i) (λ s. ap (λ n. cond (is_beside i marks s) 0 n) (counts s)))

@@ -1,34 +1,20 @@
 -- Each timetable on the way of a change that fits is lawful.
-use Rattle.std.proofs.Common.{◌≡◌, leb, ℕ, zero, suc, ◌+◌, ◌<◌, ◌≤◌, Bool, true, false, not, ◌&&◌, ◌==◌, List, [], ◌∷◌, drop, take, length, get_or, Option, Some, None, is_none, is_some, refl, ◌∙◌, sym, ap, subst, arith, inl, inr, ◌⊎◌}
-use Rattle.std.specs.List.{filter, find, AllByRecursion as Each}
+use Rattle.std.proofs.Common.{◌≡◌, leb, ℕ, zero, suc, ◌+◌, ◌<◌, Bool, true, false, not, List, [], ◌∷◌, drop, take, length, get_or, Option, Some, None, is_some, refl, ◌∙◌, sym, ap, subst, arith, inl, inr, ◌⊎◌}
+use Rattle.std.specs.List.{find, AllByRecursion as Each}
 use Rattle.std.proofs.lemmas.Bool.{cases_Bool, eq-eqb, and_parts}
 use Rattle.std.proofs.lemmas.Bool.Decides.{nat_tests}
-use Rattle.ctt_text.specs.Problem.{Problem, course_of, course_count, slot_count, is_unavailable}
-use Rattle.ctt_text.specs.Timetable.{before, Fits, with, without, course_row}
+use Rattle.ctt_text.specs.Problem.{Problem, IsProblem}
+use Rattle.ctt_text.specs.Timetable.{before, Fits, with, without}
 use Rattle.ctt_text.specs.declared.placed.Placed.{Placed}
-use Rattle.ctt_rules.specs.Hard.{Lawful, conflicts, share_room}
-use Rattle.ctt_rules.proofs.ListLemmas.{filter_every, Each-filter, Pairwise-filter}
+use Rattle.ctt_rules.specs.Hard.{Lawful}
+use Rattle.ctt_rules.proofs.ListLemmas.{filter_every}
 use Rattle.ctt_board.specs.Changes.{room_at, room_of, apply_at, apply, in_turn, is_change, room_by, CellFits, CellsFit, ChangeFits}
 use Rattle.ctt_board.specs.Ways.{Ready}
 use Rattle.ctt_board.specs.declared.cell.Cell.{Cell}
+use Rattle.ctt_board.proofs.LawfulLemmas.{without_lawful}
 use Rattle.ctt_board.proofs.CellLemmas.{cell_at, in_turn_later}
-use Rattle.ctt_board.proofs.PutLemmas.{filter_filter, filter-put_no}
+use Rattle.ctt_board.proofs.PutLemmas.{filter-put_no}
 use Rattle.ctt_board.proofs.RoomLemmas.{is_at, room_is, rooms_after}
-
-pub length-filter_le : {X : Type 0} (p : X → Bool) (xs : List X) → length (filter p xs) ≤ length xs
-length-filter_le p [] = omega arith
-length-filter_le p (x ∷ xs) = elim (cases_Bool (p x)) [ inl b ↦ rw b (omega (arith, length-filter_le p xs)) | inr b ↦ rw b (omega (arith, length-filter_le p xs)) ]
-
-pub without_lawful : (i : Problem) (t : List Placed) (c s : ℕ) → Lawful i t → Lawful i (without c s t)
-without_lawful i t c s h =
-    let p : Placed → Bool = λ l. not (l.course == c && l.slot == s) in
-    record {
-      timetable = record { ascending = Pairwise-filter (λ a b. before a b ≡ true) p t h.timetable.ascending; fits = Each-filter (Fits i) p t h.timetable.fits };
-      conflict_free = Pairwise-filter (λ a b. conflicts i a b ≡ false) p t h.conflict_free;
-      available = Each-filter (λ l. is_unavailable i l.course l.slot ≡ false) p t h.available;
-      rooms_apart = Pairwise-filter (λ a b. share_room a b ≡ false) p t h.rooms_apart;
-      few = λ d. rw (filter_filter (λ l. l.course == d) p t) (omega (arith, length-filter_le p (course_row d t), h.few d));
-    }
 
 -- what isn't found is nowhere
 nowhere : {X : Type 0} (p : X → Bool) (xs : List X) → find p xs ≡ None → Each (λ x. not (p x) ≡ true) xs
@@ -122,6 +108,14 @@ fits_more cells k x t lt is fits = (let fits' : CellsFit (x ∷ drop (k + 1) cel
 
 pub turn_rest : (y : Cell) (ys : List Cell) → in_turn false (y ∷ ys) ≡ true → in_turn false ys ≡ true
 turn_rest y ys h = in_turn_later (is_some y.room) ys h
+
+-- the courses of cells that fit, removals first
+pub courses_few : (i : Problem) (cells : List Cell) (t : List Placed) → Lawful i t → in_turn false cells ≡ true → CellsFit cells t → Lawful i (apply cells t) → IsProblem i → Each (λ x. x.course < 2000) cells
+courses_few i [] t now turn fits after p = tt
+courses_few i (x ∷ xs) t now turn fits after p =
+    let next = next_lawful i x xs t now turn fits after in
+    let known = (ready_at i x.course x.slot x.room t now fits.0 next).course in
+    (omega (arith, known, p.courses_few), courses_few i xs (apply_at x.course x.slot x.room t) next (turn_rest x xs turn) fits.1 after p)
 
 -- the way of a change, up to one of its cells
 pub record OnTheWay (i : Problem) (cells : List Cell) (t : List Placed) (k : ℕ) (x : Cell) : Type 0 where

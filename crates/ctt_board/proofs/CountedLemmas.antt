@@ -1,17 +1,13 @@
 -- Counts over the lectures, and what one more lecture does to them.
-use Rattle.std.proofs.Common.{◌≡◌, ℕ, zero, suc, ◌+◌, ◌-◌, ◌*◌, ◌<◌, ◌≤◌, Bool, true, false, cond, not, ◌&&◌, ◌||◌, ◌==◌, eqb, ltb, List, [], ◌∷◌, length, refl, ◌∙◌, sym, ap, ap₂, arith, inl, inr, ◌⊎◌}
-use Rattle.std.specs.List.{filter, sum_by, count_by, list_any, AllByRecursion as Each}
-use Rattle.std.proofs.lemmas.Bool.{cases_Bool, cases_eq, cases_lt, eq-eqb, ne_eqb, eqb-true, lt-ltb, le-ltb, ltb-true, and_left, and_right, and_from}
-use Rattle.std.proofs.lemmas.Bool.Decides.{nat_tests}
-use Rattle.std.proofs.lemmas.List.Sums.{sum_by-cons}
-use Rattle.ctt_text.specs.Lists.{has, sum_below, count_below}
-use Rattle.ctt_text.specs.Problem.{Problem, course_of, course_count, room_count, slot_count, day_of, period_of}
-use Rattle.ctt_text.specs.Timetable.{Fits, course_row}
+use Rattle.std.proofs.Common.{◌≡◌, ℕ, zero, suc, ◌+◌, ◌<◌, Bool, true, false, cond, ◌&&◌, ◌||◌, ◌==◌, eqb, ltb, List, [], ◌∷◌, refl, ◌∙◌, sym, ap, arith, inl, inr}
+use Rattle.std.specs.List.{filter, count_by, list_any}
+use Rattle.std.proofs.lemmas.Bool.{cases_eq, eq-eqb, ne_eqb, lt-ltb}
+use Rattle.ctt_text.specs.Lists.{sum_below, count_below}
+use Rattle.ctt_text.specs.Problem.{Problem, room_count, day_of}
+use Rattle.ctt_text.specs.Timetable.{course_row}
 use Rattle.ctt_text.specs.declared.placed.Placed.{Placed}
-use Rattle.ctt_rules.specs.Penalty.{penalty, unseated, days_of, rooms_of, days_cost, rooms_cost, part_of, alone_cost, is_alone}
-use Rattle.ctt_rules.specs.Neighbours.{busy, is_beside}
-use Rattle.ctt_rules.proofs.SlotLemmas.{day_fits}
-use Rattle.ctt_rules.proofs.SumLemmas.{sum_below_same, sum_below_add, sum_below_one, sum_below_zero, count_by-cons}
+use Rattle.ctt_rules.specs.Penalty.{days_of, rooms_of}
+use Rattle.ctt_rules.proofs.SumLemmas.{sum_below_same, sum_below_add, sum_below_one, count_by-cons}
 use Rattle.ctt_board.specs.Joining.{IsMore, on_day, in_room}
 
 -- whether some element passes, by counting

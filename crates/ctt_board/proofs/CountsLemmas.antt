@@ -1,60 +1,24 @@
 -- The tables of counts after one lecture more, and after one less.
-use Rattle.std.proofs.Common.{◌≡◌, ℕ, zero, suc, ◌+◌, ◌*◌, ◌<◌, ◌≤◌, Bool, true, false, cond, ◌&&◌, ◌==◌, ltb, List, [], ◌∷◌, ◌++◌, length, refl, ◌∙◌, sym, ap, ap₂, subst, arith, inl, inr}
-use Rattle.std.specs.List.{sum_by, count_by, list_any, AllByRecursion as Each}
+use Rattle.std.proofs.Common.{◌≡◌, ℕ, zero, suc, ◌+◌, ◌<◌, ◌≤◌, Bool, true, false, cond, ◌&&◌, ◌==◌, ltb, List, [], ◌∷◌, length, refl, ◌∙◌, sym, ap, ap₂, arith, inl, inr}
+use Rattle.std.specs.List.{count_by}
 use Rattle.std.proofs.lemmas.Bool.{cases_eq, eq-eqb, ne_eqb, lt-ltb, le-ltb}
 use Rattle.std.proofs.lemmas.Bool.Decides.{nat_tests}
-use Rattle.std.proofs.lemmas.List.{length-append}
-use Rattle.std.proofs.lemmas.List.Sums.{sum_by-cons, sum_by-append, length-filter, count_by-le-length}
+use Rattle.std.proofs.lemmas.List.Sums.{sum_by-append, length-filter}
 use Rattle.ctt_text.specs.Lists.{has, below}
 use Rattle.ctt_text.specs.Belonging.{curricula_of}
 use Rattle.ctt_text.specs.Problem.{Problem, IsProblem, course_of, IsCourseFacts, teacher_count, course_count, room_count, curriculum_count, slot_count, members, day_of}
-use Rattle.ctt_text.specs.Timetable.{IsTimetable, Fits, course_row}
+use Rattle.ctt_text.specs.Timetable.{Fits, course_row}
 use Rattle.ctt_text.specs.declared.placed.Placed.{Placed}
 use Rattle.ctt_text.proofs.TimetableLemmas.{Each-at}
 use Rattle.ctt_rules.specs.Penalty.{days_of}
 use Rattle.ctt_rules.proofs.SlotLemmas.{day_fits}
 use Rattle.ctt_rules.proofs.SumLemmas.{sum_below_zero}
-use Rattle.ctt_board.specs.Joining.{IsMore, on_day, in_room, in_slot, is_taught}
+use Rattle.ctt_board.specs.Joining.{IsMore, on_day, in_room, in_slot}
 use Rattle.ctt_board.specs.Tables.{Grid, at, Adds, one_at, in_column}
 use Rattle.ctt_board.specs.Counts.{HaveSizes, Counted, AreCounts, AddsLecture, HaveLecture}
 use Rattle.ctt_board.specs.declared.counts.Counts.{Counts}
 use Rattle.ctt_board.proofs.CountedLemmas.{counted_more, days_counted}
 use Rattle.ctt_board.proofs.JoiningLemmas.{more_days, same_used, at_least}
-
--- the curricula of a course are some of the curricula
-Each-append : {X : Type 0} (P : X → Type 0) (xs ys : List X) → Each P xs → Each P ys → Each P (xs ++ ys)
-Each-append P [] ys h k = k
-Each-append P (x ∷ xs) ys h k = (h.0, Each-append P xs ys h.1 k)
-
-Each-wider : (xs : List ℕ) (n : ℕ) → Each (λ k. k < n) xs → Each (λ k. k < suc n) xs
-Each-wider [] n h = tt
-Each-wider (x ∷ xs) n h = (let lt : x < n = h.0 in omega (arith, lt), Each-wider xs n h.1)
-
-below_fit : (p : ℕ → Bool) (n : ℕ) → Each (λ k. k < n) (below p n)
-below_fit p zero = tt
-below_fit p (suc n) = Each-append (λ k. k < suc n) (below p n) (cond (p n) (n ∷ []) []) (Each-wider (below p n) n (below_fit p n)) (last (p n))
-  where
-    last : (b : Bool) → Each (λ k. k < suc n) (cond b (n ∷ []) [])
-    last true = (omega arith, tt)
-    last false = tt
-
-below_few : (p : ℕ → Bool) (n : ℕ) → length (below p n) ≤ n
-below_few p zero = omega arith
-below_few p (suc n) = omega (arith, below_few p n, length-append (below p n) (cond (p n) (n ∷ []) []), last (p n))
-  where
-    last : (b : Bool) → length (cond b (n ∷ []) []) ≤ 1
-    last true = omega arith
-    last false = omega arith
-
-pub curricula_fit : (i : Problem) (c n : ℕ) (qs : List ℕ) → qs ≡ curricula_of i c → n ≡ curriculum_count i → Each (λ q. q < n) qs
-curricula_fit i c n qs e same = rw (e, same) (below_fit (λ q. has c (members i q)) (curriculum_count i))
-
-pub curricula_few : (i : Problem) (c : ℕ) (qs : List ℕ) → qs ≡ curricula_of i c → IsProblem i → length qs ≤ 20000
-curricula_few i c qs e p = omega (arith, ap length e, below_few (λ q. has c (members i q)) (curriculum_count i), p.curricula_few)
-
--- the teacher of a course is one of the teachers
-pub teacher_fits : (i : Problem) (c : ℕ) → IsProblem i → c < course_count i → (course_of i c).teacher < teacher_count i
-teacher_fits i c p lt = (Each-at (IsCourseFacts (teacher_count i)) i.courses p.courses c (record { teacher = 0; lectures = 0; min_days = 0; students = 0 }) lt).0
 
 -- each of the numbers that pass stands once among them
 named_once : (p : ℕ → Bool) (r n : ℕ) → count_by (λ q. q == r) (below p n) ≡ cond (p r && ltb r n) 1 0
@@ -115,12 +79,6 @@ module _ (i : Problem) (l : Placed) (t u : List Placed) (more : IsMore l t u) (f
       test : (l.course == r && l.room == k) ≡ (true && (r == l.course && k == l.room))
       test = grind (arith, nat_tests)
 
-  taught_step : (r k : ℕ) → count_by (is_taught i r k) u ≡ one_at true (course_of i l.course).teacher l.slot r k + count_by (is_taught i r k) t
-  taught_step r k = counted_more l t u more (is_taught i r k) ∙ ap (λ b. cond b 1 0 + count_by (is_taught i r k) t) (test (course_of i l.course).teacher)
-    where
-      test : (h : ℕ) → (h == r && l.slot == k) ≡ (true && (r == h && k == l.slot))
-      test h = grind (arith, nat_tests)
-
   pub used_step : (b : Bool) → b ≡ (count_by (on_day i l.course (day_of i l.slot)) t == 0) → (r k : ℕ) → r < 1 → days_of i (course_row k u) ≡ one_at b 0 l.course r k + days_of i (course_row k t)
   used_step b is r k lr = elim (cases_eq k l.course) [
     | inl same ↦ (
@@ -164,7 +122,6 @@ module _ (i : Problem) (l : Placed) (t u : List Placed) (more : IsMore l t u) (f
           used = counted_up a.used b.used _ _ _ _ _ adds.used (λ r k lr lk. used_step _ new r k lr) h.used;
           rooms = counted_up a.rooms b.rooms _ _ _ _ _ adds.rooms (λ r k lr lk. rooms_step r k) h.rooms;
           parts = counted_up a.parts b.parts _ _ _ _ _ adds.parts (λ r k lr lk. parts_step r k lr) h.parts;
-          taught = counted_up a.taught b.taught _ _ _ _ _ adds.taught (λ r k lr lk. taught_step r k) h.taught;
         }
 
     pub counts_less : AreCounts i u b → AreCounts i t a
@@ -177,7 +134,6 @@ module _ (i : Problem) (l : Placed) (t u : List Placed) (more : IsMore l t u) (f
           used = counted_down a.used b.used _ _ _ _ _ adds.used (λ r k lr lk. used_step _ new r k lr) h.used;
           rooms = counted_down a.rooms b.rooms _ _ _ _ _ adds.rooms (λ r k lr lk. rooms_step r k) h.rooms;
           parts = counted_down a.parts b.parts _ _ _ _ _ adds.parts (λ r k lr lk. parts_step r k lr) h.parts;
-          taught = counted_down a.taught b.taught _ _ _ _ _ adds.taught (λ r k lr lk. taught_step r k) h.taught;
         }
 
   -- a lecture that is there is counted
@@ -191,7 +147,6 @@ module _ (i : Problem) (l : Placed) (t u : List Placed) (more : IsMore l t u) (f
         used = omega (arith, h.used.counts 0 l.course (omega arith) fits.0, some_day);
         rooms = omega (arith, h.rooms.counts l.course l.room fits.0 fits.2, rooms_step l.course l.room, one l.course l.room);
         parts = λ q lt. omega (arith, h.parts.counts q l.slot lt fits.1, parts_step q l.slot lt);
-        taught = omega (arith, h.taught.counts (course_of i l.course).teacher l.slot (teacher_fits i l.course p fits.0) fits.1, taught_step (course_of i l.course).teacher l.slot, one (course_of i l.course).teacher l.slot);
       }
     where
       day_one : one_at true l.course (day_of i l.slot) l.course (day_of i l.slot) ≡ 1
@@ -207,12 +162,11 @@ module _ (i : Problem) (l : Placed) (t u : List Placed) (more : IsMore l t u) (f
 abbrev pub IsZero : Grid ℕ → ℕ → ℕ → Type 0
 IsZero g rows width = (r k : ℕ) → r < rows → k < width → at g r k 0 ≡ 0
 
-pub none_counted : (i : Problem) (c : Counts) → HaveSizes i c → IsZero c.lectures 1 (course_count i) → IsZero c.days (course_count i) i.days → IsZero c.used 1 (course_count i) → IsZero c.rooms (course_count i) (room_count i) → IsZero c.parts (curriculum_count i) (slot_count i) → IsZero c.taught (teacher_count i) (slot_count i) → AreCounts i [] c
-none_counted i c h lectures days used rooms parts taught = record {
+pub none_counted : (i : Problem) (c : Counts) → HaveSizes i c → IsZero c.lectures 1 (course_count i) → IsZero c.days (course_count i) i.days → IsZero c.used 1 (course_count i) → IsZero c.rooms (course_count i) (room_count i) → IsZero c.parts (curriculum_count i) (slot_count i) → AreCounts i [] c
+none_counted i c h lectures days used rooms parts = record {
   lectures = record { size = h.lectures; counts = lectures };
   days = record { size = h.days; counts = days };
   used = record { size = h.used; counts = λ r k lr lk. used r k lr lk ∙ sym (sum_below_zero (λ d. 0) i.days (λ d lt. refl)) };
   rooms = record { size = h.rooms; counts = rooms };
   parts = record { size = h.parts; counts = parts };
-  taught = record { size = h.taught; counts = taught };
 }

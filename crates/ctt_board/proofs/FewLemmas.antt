@@ -1,6 +1,6 @@
 -- No count of a timetable is large.
-use Rattle.std.proofs.Common.{◌≡◌, ℕ, zero, suc, ◌+◌, ◌<◌, ◌≤◌, Bool, true, ◌&&◌, ◌==◌, List, [], ◌∷◌, ◌++◌, length, Option, Some, None, refl, ◌∙◌, sym, ap, arith}
-use Rattle.std.specs.List.{filter, count_by, list_any}
+use Rattle.std.proofs.Common.{refl, cond, false, [], ◌∷◌, ◌+◌, ◌≡◌, ℕ, zero, suc, ◌≤◌, Bool, true, ◌==◌, List, length, Option, Some, None, ap, arith}
+use Rattle.std.specs.List.{count_by, list_any}
 use Rattle.std.proofs.lemmas.Bool.{and_parts}
 use Rattle.std.proofs.lemmas.List.{length-append}
 use Rattle.std.proofs.lemmas.List.Sums.{length-filter}
@@ -13,11 +13,25 @@ use Rattle.ctt_board.specs.Cells.{lecture_at, row_below}
 use Rattle.ctt_board.specs.Changes.{room_at}
 use Rattle.ctt_board.specs.Counts.{AreCounts, HaveRoom}
 use Rattle.ctt_board.specs.Grids.{column_below}
-use Rattle.ctt_board.specs.Joining.{on_day, in_room, in_slot, is_taught}
+use Rattle.ctt_board.specs.Joining.{on_day, in_room, in_slot}
 use Rattle.ctt_board.specs.declared.counts.Counts.{Counts}
-use Rattle.ctt_board.proofs.ClearLemmas.{count_le}
+use Rattle.ctt_rules.proofs.SumLemmas.{count_by-cons}
 use Rattle.ctt_board.proofs.GridLemmas.{slot_row_is}
 use Rattle.ctt_board.proofs.RowLemmas.{course_row_is}
+
+-- of two tests, the narrower one counts no more
+count_le : {X : Type 0} (p q : X → Bool) (xs : List X) → ((x : X) → p x ≡ true → q x ≡ true) → count_by p xs ≤ count_by q xs
+count_le p q [] h = omega arith
+count_le p q (x ∷ xs) h = by (p x) (q x) (h x) (count_le p q xs h)
+  where
+    by : (a b : Bool) → (a ≡ true → b ≡ true) → count_by p xs ≤ count_by q xs → count_by p (x ∷ xs) ≤ count_by q (x ∷ xs)
+    by a b k le = step (p x) (q x) (h x) (count_by p (x ∷ xs)) (count_by q (x ∷ xs)) (count_by-cons p x xs) (count_by-cons q x xs)
+      where
+        step : (a b : Bool) → (a ≡ true → b ≡ true) → (n m : ℕ) → n ≡ cond a 1 0 + count_by p xs → m ≡ cond b 1 0 + count_by q xs → n ≤ m
+        step true true k n m e f = omega (arith, e, f, le)
+        step true false k n m e f = (let z : false ≡ true = k refl in cc)
+        step false true k n m e f = omega (arith, e, f, le)
+        step false false k n m e f = omega (arith, e, f, le)
 
 one_at_most : (c s : ℕ) (o : Option ℕ) → length (lecture_at c s o) ≤ 1
 one_at_most c s None = omega arith
@@ -52,5 +66,4 @@ have_room i t c h is p = record {
   used = λ r k lr lk. omega (arith, h.used.counts r k (omega (arith, lr, h.used.size.0)) (omega (arith, lk, h.used.size.1)), count_below_le (λ d. list_any (λ (l : Placed). day_of i l.slot == d) (course_row k t)) i.days, p.days_few);
   rooms = λ r k lr lk. omega (arith, h.rooms.counts r k (omega (arith, lr, h.rooms.size.0)) (omega (arith, lk, h.rooms.size.1)), of_course i t is p (in_room r k) r (λ l e. (and_parts (l.course == r) (l.room == k) e).0));
   parts = λ r k lr lk. omega (arith, h.parts.counts r k (omega (arith, lr, h.parts.size.0)) (omega (arith, lk, h.parts.size.1)), of_slot i t is p (in_slot (members i r) k) k (λ l e. (and_parts (has l.course (members i r)) (l.slot == k) e).1));
-  taught = λ r k lr lk. omega (arith, h.taught.counts r k (omega (arith, lr, h.taught.size.0)) (omega (arith, lk, h.taught.size.1)), of_slot i t is p (is_taught i r k) k (λ l e. (and_parts ((course_of i l.course).teacher == r) (l.slot == k) e).1));
 }

@@ -1,43 +1,35 @@
 -- A change fits where the test says so.
-use Rattle.std.proofs.Common.{add-one, ◌≡◌, ◌↔◌, ℕ, zero, suc, leb, take, ◌++◌, ◌+◌, ◌<◌, ◌≤◌, Bool, true, false, cond, not, ltb, ◌&&◌, ◌||◌, ◌==◌, List, [], ◌∷◌, length, get_or, Option, Some, None, is_some, is_none, refl, ◌∙◌, sym, ap, ap₂, subst, arith, inl, inr, ◌⊎◌}
-use Rattle.std.specs.List.{find, list_any, AllByRecursion as Each}
-use Rattle.std.proofs.lemmas.Bool.{cases_Bool, cases_lt, le-ltb, and_parts, le-leb, leb-true, eq-eqb, lt-ltb, ltb-true}
-use Rattle.std.proofs.lemmas.Bool.Decides.{nat_tests}
+use Rattle.std.proofs.Common.{add-one, ◌≡◌, ℕ, zero, suc, leb, take, ◌++◌, ◌+◌, ◌<◌, ◌≤◌, Bool, true, false, cond, not, ltb, ◌&&◌, ◌||◌, ◌==◌, List, [], ◌∷◌, length, get_or, Option, Some, None, is_some, is_none, refl, ◌∙◌, ap, ap₂, subst, arith, inl, inr, ◌⊎◌}
+use Rattle.std.specs.List.{filter, find, AllByRecursion as Each}
+use Rattle.std.proofs.lemmas.Bool.{cases_Bool, cases_lt, and_parts, le-leb, leb-true, eq-eqb, lt-ltb, ltb-true}
 use Rattle.ctt_text.specs.Lists.{Pairwise}
 use Rattle.ctt_text.specs.Problem.{Problem, course_of, course_count, slot_count, room_count, clash, is_unavailable}
-use Rattle.ctt_text.specs.Timetable.{before, Fits, course_row, slot_row, with, without}
+use Rattle.ctt_text.specs.Timetable.{before, Fits, course_row, slot_row, with}
 use Rattle.ctt_text.specs.declared.placed.Placed.{Placed}
 use Rattle.ctt_text.proofs.TimetableLemmas.{Each-map}
-use Rattle.ctt_rules.specs.Hard.{Lawful, conflicts, share_room}
-use Rattle.ctt_board.specs.Changes.{room_at, room_of, course_named, holder_at, apply_at, apply, in_turn, is_change, CellFits, CellsFit, ChangeFits}
+use Rattle.ctt_rules.specs.Hard.{Lawful, conflicts}
+use Rattle.ctt_board.specs.Changes.{room_at, room_of, course_named, clash_at, holder_at, apply_at, apply, in_turn, is_change, CellFits, CellsFit, ChangeFits}
 use Rattle.ctt_board.specs.Cells.{lecture_at}
 use Rattle.ctt_board.specs.Grids.{column_below}
 use Rattle.ctt_board.specs.Fitting.{is_known, is_wanted, is_unhindered, can_come, cell_fits, fits, FitsAsTested}
 use Rattle.ctt_board.specs.declared.cell.Cell.{Cell}
 use Rattle.ctt_board.proofs.AfterLemmas.{one_in_row}
-use Rattle.ctt_board.proofs.BetweenLemmas.{without_lawful, next_lawful, turn_rest, put_has, comes_fits, there_fits, some_room}
-use Rattle.ctt_board.proofs.ClearLemmas.{Each-to_filter}
-use Rattle.ctt_board.proofs.HolderLemmas.{is_in, holder_is, free_else}
-use Rattle.ctt_board.proofs.LawfulLemmas.{Free, with_lawful, clash_comm, eqb_comm}
+use Rattle.ctt_board.proofs.BetweenLemmas.{next_lawful, turn_rest, put_has, comes_fits, there_fits, some_room}
+use Rattle.ctt_board.proofs.HolderLemmas.{is_in, holder_is, free_else, find_nowhere}
+use Rattle.ctt_board.proofs.LawfulLemmas.{Free, with_lawful, without_lawful, clash_comm, eqb_comm}
 use Rattle.ctt_board.proofs.MoreLemmas.{more_with}
 
-find_none : {X : Type 0} (p : X → Bool) (xs : List X) → find p xs ≡ None → Each (λ x. p x ≡ false) xs
+-- what holds of those that pass, in the list of those
+Each-to_filter : {X : Type 0} (Q : X → Type 0) (p : X → Bool) (xs : List X) → Each (λ x. p x ≡ true → Q x) xs → Each Q (filter p xs)
+Each-to_filter Q p [] h = tt
+Each-to_filter Q p (x ∷ xs) h = elim (cases_Bool (p x)) [ inl y ↦ rw y (h.0 y, Each-to_filter Q p xs h.1) | inr n ↦ rw n (Each-to_filter Q p xs h.1) ]
+
+pub find_none : {X : Type 0} (p : X → Bool) (xs : List X) → find p xs ≡ None → Each (λ x. p x ≡ false) xs
 find_none p [] h = tt
 find_none {X = X} p (x ∷ xs) h = elim (cases_Bool (p x)) [
   | inl b ↦ (let h' : ◌≡◌ {A = Option X} (Some x) None = rw b at h in cc)
   | inr b ↦ (let h' : find p xs ≡ None = rw b at h in (b, find_none p xs h'))
 ]
-
-any_none : {X : Type 0} (p : X → Bool) (xs : List X) → list_any p xs ≡ false → Each (λ x. p x ≡ false) xs
-any_none p [] h = tt
-any_none p (x ∷ xs) h = elim (cases_Bool (p x)) [
-  | inl b ↦ (let h' : true ≡ false = rw b at h in cc)
-  | inr b ↦ (let h' : list_any p xs ≡ false = rw b at h in (b, any_none p xs h'))
-]
-
-pub none_any : {X : Type 0} (p : X → Bool) (xs : List X) → Each (λ x. p x ≡ false) xs → list_any p xs ≡ false
-none_any p [] h = refl
-none_any p (x ∷ xs) h = rw h.0 (none_any p xs h.1)
 
 not_true : (b : Bool) → not b ≡ true → b ≡ false
 not_true true h = cc
@@ -55,9 +47,9 @@ no_lecture : (o : Option Placed) → is_none (room_of o) ≡ true → o ≡ None
 no_lecture None h = refl
 no_lecture (Some l) h = cc
 
-no_holder : (o : Option Placed) → is_none (course_named o) ≡ true → o ≡ None
-no_holder None h = refl
-no_holder (Some l) h = cc
+no_named : (o : Option Placed) → is_none (course_named o) ≡ true → o ≡ None
+no_named None h = refl
+no_named (Some l) h = cc
 
 module _ (i : Problem) (t : List Placed) (l : Placed) where
   -- what the test says of a lecture
@@ -75,14 +67,14 @@ module _ (i : Problem) (t : List Placed) (l : Placed) where
         let both = and_parts (is_wanted i t l) (is_unhindered i t l) (and_parts (is_known i l) (is_wanted i t l && is_unhindered i t l) told).1 in
         let wanted = and_parts (is_none (room_at l.course l.slot t)) (ltb (length (course_row l.course t)) (course_of i l.course).lectures && not (is_unavailable i l.course l.slot)) both.0 in
         let room = and_parts (ltb (length (course_row l.course t)) (course_of i l.course).lectures) (not (is_unavailable i l.course l.slot)) wanted.1 in
-        let alone = and_parts (not (list_any (λ (y : Placed). clash i l.course y.course) (slot_row l.slot t))) (is_none (holder_at l.slot l.room t)) both.1 in
+        let alone = and_parts (is_none (clash_at i l.course l.slot t)) (is_none (holder_at l.slot l.room t)) both.1 in
         record {
           empty = not_some (room_at l.course l.slot t) wanted.0;
           absent = find_none (λ (y : Placed). y.slot == l.slot) (course_row l.course t) (no_lecture (find (λ (y : Placed). y.slot == l.slot) (course_row l.course t)) wanted.0);
           fewer = ltb-true (length (course_row l.course t)) (course_of i l.course).lectures room.0;
           available = not_true (is_unavailable i l.course l.slot) room.1;
-          no_clash = any_none (λ (y : Placed). clash i l.course y.course) (slot_row l.slot t) (not_true (list_any (λ (y : Placed). clash i l.course y.course) (slot_row l.slot t)) alone.0);
-          room_free = find_none (λ (y : Placed). y.room == l.room) (slot_row l.slot t) (no_holder (find (λ (y : Placed). y.room == l.room) (slot_row l.slot t)) alone.1);
+          no_clash = find_none (λ (y : Placed). clash i l.course y.course) (slot_row l.slot t) (no_named (find (λ (y : Placed). clash i l.course y.course) (slot_row l.slot t)) alone.0);
+          room_free = find_none (λ (y : Placed). y.room == l.room) (slot_row l.slot t) (no_named (find (λ (y : Placed). y.room == l.room) (slot_row l.slot t)) alone.1);
         }
 
   -- a timetable that is lawful with it
@@ -116,7 +108,8 @@ module _ (i : Problem) (t : List Placed) (l : Placed) where
         let clear = Each-to_filter (λ (y : Placed). clash i l.course y.course ≡ false) (λ y. y.slot == l.slot) t (Each-map (λ y. conflicts i y l ≡ false) (λ y. (y.slot == l.slot) ≡ true → clash i l.course y.course ≡ false) none_here t (no_conflict t lawful.conflict_free)) in
         let mine : is_in l.slot l.room l ≡ true = rw (eq-eqb l.slot l.slot refl, eq-eqb l.room l.room refl) refl in
         let nobody : holder_at l.slot l.room t ≡ None = holder_is l.slot l.room t ∙ ap course_named (free_else l l.slot l.room t lawful.rooms_apart mine) in
-        rw (none_any (λ (y : Placed). clash i l.course y.course) (slot_row l.slot t) clear, nobody) refl
+        let no_clash : clash_at i l.course l.slot t ≡ None = ap course_named (find_nowhere (λ (y : Placed). clash i l.course y.course) (slot_row l.slot t) clear) in
+        rw (no_clash, nobody) refl
 
     can_come_here : can_come i t l ≡ true
     can_come_here = rw (is_known_here, is_wanted_here, is_unhindered_here) refl
@@ -198,38 +191,3 @@ no_slot i c s t h le = elim (cases_Bool (is_some (room_at c s t))) [
   | inl y ↦ (let stood = some_room (room_at c s t) y in let f = there_fits i c s stood.0 t h stood.1 in absurd (omega (arith, f.1, le)))
   | inr n ↦ n
 ]
-
--- a test on the courses in a slot, course by course
-any_both : {X : Type 0} (p : X → Bool) (xs ys : List X) → list_any p (xs ++ ys) ≡ (list_any p xs || list_any p ys)
-any_both p [] ys = refl
-any_both p (x ∷ xs) ys = ap (λ b. p x || b) (any_both p xs ys) ∙ by (p x)
-  where
-    by : (a : Bool) → (a || (list_any p xs || list_any p ys)) ≡ ((a || list_any p xs) || list_any p ys)
-    by true = refl
-    by false = refl
-
-module _ (q : ℕ → Bool) (f : ℕ → Option ℕ) (s : ℕ) where
-  one_any : (n : ℕ) → list_any (λ (y : Placed). q y.course) (lecture_at n s (f n)) ≡ (is_some (f n) && q n)
-  one_any n = by (f n) (q n) refl
-    where
-      by : (o : Option ℕ) (b : Bool) → q n ≡ b → list_any (λ (y : Placed). q y.course) (lecture_at n s o) ≡ (is_some o && b)
-      by None b e = refl
-      by (Some r) true e = rw e refl
-      by (Some r) false e = rw e refl
-
-  pub any_next : (n : ℕ) → list_any (λ (y : Placed). q y.course) (column_below f s n) ≡ false → (is_some (f n) && q n) ≡ false → list_any (λ (y : Placed). q y.course) (column_below f s (n + 1)) ≡ false
-  any_next n h e = rw add-one (any_both (λ (y : Placed). q y.course) (column_below f s n) (lecture_at n s (f n)) ∙ ap₂ (λ a b. a || b) h (one_any n ∙ e))
-
-  pub any_there : (n m : ℕ) → n < m → (is_some (f n) && q n) ≡ true → list_any (λ (y : Placed). q y.course) (column_below f s m) ≡ true
-  any_there n zero lt e = absurd (omega (arith, lt))
-  any_there n (suc m) lt e = any_both (λ (y : Placed). q y.course) (column_below f s m) (lecture_at m s (f m)) ∙ elim (cases_lt n m) [
-    | inl less ↦ rw (any_there n m less e) refl
-    | inr same ↦ (
-        let is : n ≡ m = omega (arith, lt, same) in
-        let e' : (is_some (f m) && q m) ≡ true = subst (λ k. (is_some (f k) && q k) ≡ true) is e in
-        rw (one_any m ∙ e') (by (list_any (λ (y : Placed). q y.course) (column_below f s m))))
-  ]
-    where
-      by : (a : Bool) → (a || true) ≡ true
-      by true = refl
-      by false = refl

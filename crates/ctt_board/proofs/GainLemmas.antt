@@ -1,12 +1,11 @@
 -- What a cell adds to the penalty, as a signed number.
-use Rattle.std.proofs.Common.{◌≡◌, ℕ, ◌+◌, ◌≤◌, List, Option, Some, None, ℤ, pos, ◌-ℤ◌, ◌+ℤ◌, w64, SFits, FitsSigned, to_z, of_z, is_some, ◌∙◌, sym, ap, arith}
+use Rattle.std.proofs.Common.{◌≡◌, ℕ, ◌≤◌, List, ℤ, pos, ◌-ℤ◌, ◌+ℤ◌, w64, FitsSigned, to_z, of_z, ◌∙◌, ap, arith}
 use Rattle.std.proofs.lemmas.Int.{ints}
 use Rattle.ctt_text.specs.Problem.{Problem, IsProblem}
-use Rattle.ctt_text.specs.Timetable.{Fits, with, without}
+use Rattle.ctt_text.specs.Timetable.{Fits}
 use Rattle.ctt_text.specs.declared.placed.Placed.{Placed}
 use Rattle.ctt_rules.specs.Hard.{Lawful}
 use Rattle.ctt_rules.specs.Penalty.{penalty, total}
-use Rattle.ctt_board.specs.Changes.{room_at}
 use Rattle.ctt_board.specs.Joining.{IsMore, joining, Joins, gain_of}
 use Rattle.ctt_board.specs.Seen.{Sees, seen_joining}
 use Rattle.ctt_board.specs.declared.joining.Joining.{Joining}

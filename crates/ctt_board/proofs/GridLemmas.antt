@@ -1,5 +1,5 @@
 -- A timetable is the list of its cells, and so what a table of rooms shows.
-use Rattle.std.proofs.Common.{◌≡◌, ℕ, zero, suc, ◌<◌, ◌≤◌, Bool, true, false, cond, ◌&&◌, ◌==◌, ltb, List, [], ◌++◌, ◌+◌, Option, Some, None, is_some, add-one, append_assoc, refl, ◌∙◌, sym, ap, ap₂, subst, arith}
+use Rattle.std.proofs.Common.{◌≡◌, ℕ, zero, suc, ◌<◌, ◌≤◌, true, false, cond, ◌&&◌, ◌==◌, ltb, List, [], ◌++◌, ◌+◌, Option, Some, None, is_some, add-one, append_assoc, refl, ◌∙◌, sym, ap, ap₂, subst, arith}
 use Rattle.std.specs.List.{filter, sum_by, count_by, AllByRecursion as Each}
 use Rattle.std.proofs.lemmas.Bool.{lt-ltb, le-ltb}
 use Rattle.std.proofs.lemmas.Bool.Decides.{nat_tests}
@@ -20,7 +20,7 @@ use Rattle.ctt_board.specs.Changes.{room_at, apply_at, CellFits}
 use Rattle.ctt_board.specs.Cells.{lecture_at, row_below}
 use Rattle.ctt_board.specs.Tables.{Grid, at}
 use Rattle.ctt_board.specs.Counts.{AreCounts, HaveSizes, HasSize}
-use Rattle.ctt_board.specs.Grids.{rows_below, column_below, listed, AreRooms, AreHolders, IsGridSheet}
+use Rattle.ctt_board.specs.Grids.{rows_below, column_below, listed, AreRooms, AreHolders, AreStanding, IsGridSheet}
 use Rattle.ctt_board.specs.declared.counts.Counts.{Counts}
 use Rattle.ctt_board.proofs.PutLemmas.{Pairwise-map, filter_filter}
 use Rattle.ctt_board.proofs.RowLemmas.{split_at, one_slot, course_row_is}
@@ -68,19 +68,20 @@ rooms_after_cell i t old new c s o h rows width wrote fits = record {
     turned d e = grind (arith, nat_tests)
 
 -- tables and costs that are those of a timetable make a sheet
-pub made : (i : Problem) (u : List Placed) (rooms courses : Grid (Option ℕ)) (counts : Counts) (cost : Cost) → Lawful i u → AreRooms i u rooms → AreHolders i u courses → AreCounts i u counts → cost ≡ penalty i u → IsGridSheet i rooms courses counts cost
-made i u rooms courses counts cost lawful are_rooms are_courses are_counts costs =
+pub made : (i : Problem) (u : List Placed) (rooms courses : Grid (Option ℕ)) (standing : Grid (List ℕ)) (counts : Counts) (cost : Cost) → Lawful i u → AreRooms i u rooms → AreHolders i u courses → AreStanding i u standing → AreCounts i u counts → cost ≡ penalty i u → IsGridSheet i rooms courses standing counts cost
+made i u rooms courses standing counts cost lawful are_rooms are_courses are_standing are_counts costs =
     let e : u ≡ listed i rooms = sym (shown i u rooms lawful.timetable are_rooms) in
     record {
       lawful = subst (Lawful i) e lawful;
       rooms_are = subst (λ t. AreRooms i t rooms) e are_rooms;
       courses_are = subst (λ t. AreHolders i t courses) e are_courses;
+      standing_are = subst (λ t. AreStanding i t standing) e are_standing;
       counts_are = subst (λ t. AreCounts i t counts) e are_counts;
       cost_is = costs ∙ ap (penalty i) e;
     }
 
 pub have_sizes : (i : Problem) (t : List Placed) (c : Counts) → AreCounts i t c → HaveSizes i c
-have_sizes i t c h = record { lectures = h.lectures.size; days = h.days.size; used = h.used.size; rooms = h.rooms.size; parts = h.parts.size; taught = h.taught.size }
+have_sizes i t c h = record { lectures = h.lectures.size; days = h.days.size; used = h.used.size; rooms = h.rooms.size; parts = h.parts.size }
 
 -- a lecture more
 pub with_rooms : (i : Problem) (t : List Placed) (old new : Grid (Option ℕ)) (l : Placed) → AreRooms i t old → new.rows ≡ old.rows → new.width ≡ old.width → WroteRoom i old new l.course l.slot (Some l.room) → is_some (room_at l.course l.slot t) ≡ false → AreRooms i (with l t) new
@@ -118,9 +119,13 @@ row_goes_on xs f c n m e = rw (add-one, e) (append_assoc xs (row_below f c n) (l
 pub column_goes_on : (f : ℕ → Option ℕ) (s n m : ℕ) → m ≡ n → (column_below f s n ++ lecture_at m s (f m)) ≡ column_below f s (n + 1)
 column_goes_on f s n m e = rw (add-one, e) refl
 
+pub column_same : (s : ℕ) (f g : ℕ → Option ℕ) (n : ℕ) → ((c : ℕ) → c < n → f c ≡ g c) → column_below f s n ≡ column_below g s n
+column_same s f g zero e = refl
+column_same s f g (suc n) e = ap₂ (λ a b. a ++ lecture_at n s b) (column_same s f g n (λ c lt. e c (omega (arith, lt)))) (e n (omega arith))
+
 -- the lectures in a slot, course by course
 module _ (i : Problem) (t : List Placed) (s : ℕ) (h : IsTimetable i t) where
-  one_course : (n : ℕ) → filter (λ l. l.course == n) (slot_row s t) ≡ lecture_at n s (room_at n s t)
+  pub one_course : (n : ℕ) → filter (λ l. l.course == n) (slot_row s t) ≡ lecture_at n s (room_at n s t)
   one_course n = filter_filter (λ (l : Placed). l.course == n) (λ (l : Placed). l.slot == s) t ∙ one_slot n s (course_row n t) (Each-filter_passes (λ l. l.course == n) t) (row_by_slot n t h.ascending)
 
   column_is : (n : ℕ) → filter (λ l. ltb l.course n) (slot_row s t) ≡ column_below (λ c. room_at c s t) s n
@@ -135,11 +140,7 @@ module _ (i : Problem) (t : List Placed) (s : ℕ) (h : IsTimetable i t) where
       sym (filter_every (λ (l : Placed). ltb l.course (course_count i)) (slot_row s t) courses) ∙ column_is (course_count i)
 
   pub column_shown : (g : Grid (Option ℕ)) → AreRooms i t g → s < slot_count i → column_below (λ c. at g c s None) s (course_count i) ≡ slot_row s t
-  column_shown g rooms lt = column_same (λ c. at g c s None) (λ c. room_at c s t) (course_count i) (λ c lc. rooms.rooms c s lc lt) ∙ sym slot_row_is
-    where
-      column_same : (f f2 : ℕ → Option ℕ) (n : ℕ) → ((c : ℕ) → c < n → f c ≡ f2 c) → column_below f s n ≡ column_below f2 s n
-      column_same f f2 zero e = refl
-      column_same f f2 (suc n) e = ap₂ (λ a b. a ++ lecture_at n s b) (column_same f f2 n (λ c lt. e c (omega (arith, lt)))) (e n (omega arith))
+  column_shown g rooms lt = column_same s (λ c. at g c s None) (λ c. room_at c s t) (course_count i) (λ c lc. rooms.rooms c s lc lt) ∙ sym slot_row_is
 
 -- the empty timetable
 pub none_lawful : (i : Problem) → Lawful i []

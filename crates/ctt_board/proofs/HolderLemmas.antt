@@ -8,7 +8,6 @@ use Rattle.ctt_text.specs.Problem.{Problem, slot_count, room_count}
 use Rattle.ctt_text.specs.Timetable.{before, Ascending, with, without}
 use Rattle.ctt_text.specs.declared.placed.Placed.{Placed}
 use Rattle.ctt_text.proofs.TimetableLemmas.{Each-map}
-use Rattle.ctt_text.proofs.LectureLaws.{before_once}
 use Rattle.ctt_rules.specs.Hard.{Lawful, share_room}
 use Rattle.ctt_rules.proofs.ListLemmas.{filter_every}
 use Rattle.ctt_board.specs.Changes.{room_at, room_of, course_named, holder_at}
@@ -45,7 +44,7 @@ apart_put l (x ∷ xs) h = at (cases_Bool (before l x)) (apart_put l xs)
     at (inl y) more = (let h' : Apart (l ∷ x ∷ xs) = (rw y at h) in Each-map (λ z. share_room l z ≡ false) (λ z. share_room z l ≡ false) (λ z k. turned l z k) (x ∷ xs) h'.0)
     at (inr n) more = (let h' : Apart (x ∷ with l xs) = (rw n at h) in (put_has (λ z. share_room x z ≡ false) l xs h'.0, more h'.1))
 
-find_nowhere : {X : Type 0} (p : X → Bool) (xs : List X) → Each (λ x. p x ≡ false) xs → find p xs ≡ None
+pub find_nowhere : {X : Type 0} (p : X → Bool) (xs : List X) → Each (λ x. p x ≡ false) xs → find p xs ≡ None
 find_nowhere p [] h = refl
 find_nowhere p (x ∷ xs) h = rw h.0 (find_nowhere p xs h.1)
 
@@ -71,7 +70,7 @@ removed_back c s r (x ∷ xs) h e = elim (cases_Bool (is_at c s x)) [
       let others : without c s xs ≡ xs = filter_every (λ l. not (is_at c s l)) xs (only_one c s x xs y h.0) in
       let room : Some x.room ≡ Some r = (rw y at e) in
       let is : l ≡ x = same x y room in
-      rw (y, others) (ap (λ z. with z xs) is ∙ put_before before x xs h.0 ))
+      rw (y, others) (ap (λ z. with z xs) is ∙ put_before before x xs h.0))
   | inr n ↦ (
       let l : Placed = record { course = c; slot = s; room = r } in
       let e' : room_of (find (is_at c s) xs) ≡ Some r = (rw n at e) in

@@ -1,16 +1,16 @@
 -- What one lecture more does to the penalty.
-use Rattle.std.proofs.Common.{◌≡◌, ℕ, zero, suc, ◌+◌, ◌-◌, ◌*◌, ◌<◌, ◌≤◌, Bool, true, false, cond, ◌&&◌, ◌||◌, ◌==◌, eqb, ltb, List, [], ◌∷◌, ◌++◌, length, take, get_or, refl, ◌∙◌, sym, ap, ap₂, arith, inl, inr, ◌⊎◌}
+use Rattle.std.proofs.Common.{◌≡◌, ℕ, zero, suc, ◌+◌, ◌-◌, ◌*◌, ◌<◌, ◌≤◌, Bool, true, false, cond, ◌&&◌, ◌||◌, ◌==◌, ltb, List, [], ◌∷◌, length, take, get_or, refl, ◌∙◌, sym, ap, ap₂, arith, inl, inr}
 use Rattle.std.specs.List.{sum_by, count_by, list_any, AllByRecursion as Each}
 use Rattle.std.proofs.lemmas.Bool.{cases_Bool, cases_eq, eq-eqb, lt-ltb, ltb-true, ltb-false}
 use Rattle.std.proofs.lemmas.Bool.Decides.{nat_tests}
 use Rattle.std.proofs.lemmas.List.{take_all}
 use Rattle.std.proofs.lemmas.List.Sums.{sum_by-cons, sum_by-append, sum_by_more}
-use Rattle.ctt_text.specs.Lists.{has, below, sum_below, count_below}
+use Rattle.ctt_text.specs.Lists.{has, below, sum_below}
 use Rattle.ctt_text.specs.Problem.{Problem, course_of, course_count, room_count, slot_count, members, day_of, period_of}
 use Rattle.ctt_text.specs.Belonging.{curricula_of}
 use Rattle.ctt_text.specs.Timetable.{Fits, course_row}
 use Rattle.ctt_text.specs.declared.placed.Placed.{Placed}
-use Rattle.ctt_rules.specs.Penalty.{penalty, unseated, days_of, rooms_of, days_cost, rooms_cost, part_of, alone_cost}
+use Rattle.ctt_rules.specs.Penalty.{unseated, days_of, rooms_of, days_cost, rooms_cost, part_of, alone_cost}
 use Rattle.ctt_rules.proofs.SlotLemmas.{day_fits}
 use Rattle.ctt_text.proofs.TimetableLemmas.{Each-map}
 use Rattle.ctt_rules.proofs.ListLemmas.{Each-filter}
@@ -87,8 +87,11 @@ module _ (i : Problem) (l : Placed) (t u : List Placed) (more : IsMore l t u) (f
   same_days d e = ap (λ n. 5 * ((course_of i d).min_days - n)) (same_used d e)
 
   pub days_join : sum_below (λ c. days_cost i c (course_row c u)) (course_count i) + (joining i t l).day ≡ sum_below (λ c. days_cost i c (course_row c t)) (course_count i)
-  days_join = omega (arith, one_term (λ c. days_cost i c (course_row c u)) (λ c. days_cost i c (course_row c t)) c (course_count i) (joining i t l).day 0 same_days fits.0
-        (by (count_by (on_day i c (day_of i l.slot)) t == 0) (days_of i (course_row c t)) (days_of i (course_row c u)) (course_of i c).min_days more_days))
+  days_join = omega (
+    arith,
+    one_term (λ c. days_cost i c (course_row c u)) (λ c. days_cost i c (course_row c t)) c (course_count i) (joining i t l).day 0 same_days fits.0
+        (by (count_by (on_day i c (day_of i l.slot)) t == 0) (days_of i (course_row c t)) (days_of i (course_row c u)) (course_of i c).min_days more_days),
+  )
     where
       by : (b : Bool) (n m least : ℕ) → m ≡ n + cond b 1 0 → 5 * (least - m) + cond (b && ltb n least) 5 0 ≡ 5 * (least - n) + 0
       by true n m least e = grind (arith, nat_tests)
@@ -121,8 +124,11 @@ module _ (i : Problem) (l : Placed) (t u : List Placed) (more : IsMore l t u) (f
       one = ap (λ b. cond {A = ℕ} (b || list_any (λ y. y.room == x.room) xs) 1 0) (eq-eqb x.room x.room refl)
 
   pub stability_join : Each (λ (x : Placed). x.room < room_count i) (course_row c t) → sum_below (λ c. rooms_cost i (course_row c u)) (course_count i) ≡ sum_below (λ c. rooms_cost i (course_row c t)) (course_count i) + (joining i t l).room
-  stability_join h = omega (arith, one_term (λ c. rooms_cost i (course_row c u)) (λ c. rooms_cost i (course_row c t)) c (course_count i) 0 (joining i t l).room same_rooms fits.0
-        (by (count_by (in_room c l.room) t == 0) (ltb 0 (length (course_row c t))) (rooms_of i (course_row c t)) (rooms_of i (course_row c u)) more_rooms (some_rooms (course_row c t) h)))
+  stability_join h = omega (
+    arith,
+    one_term (λ c. rooms_cost i (course_row c u)) (λ c. rooms_cost i (course_row c t)) c (course_count i) 0 (joining i t l).room same_rooms fits.0
+        (by (count_by (in_room c l.room) t == 0) (ltb 0 (length (course_row c t))) (rooms_of i (course_row c t)) (rooms_of i (course_row c u)) more_rooms (some_rooms (course_row c t) h)),
+  )
     where
       by : (b some : Bool) (n m : ℕ) → m ≡ n + cond b 1 0 → ltb 0 n ≡ some → (m - 1) + 0 ≡ (n - 1) + cond (b && some) 1 0
       by true true n m e k = omega (arith, e, ltb-true 0 n k)

@@ -33,7 +33,7 @@ Each-from_filter Q p (x ∷ xs) h = elim (cases_Bool (p x)) [
   | inr b ↦ (let h' : Each Q (filter p xs) = rw b at h in ((λ e. let z : true ≡ false = sym e ∙ b in cc), Each-from_filter Q p xs h'))
 ]
 
-length-filter_le : {X : Type 0} (p : X → Bool) (xs : List X) → length (filter p xs) ≤ length xs
+pub length-filter_le : {X : Type 0} (p : X → Bool) (xs : List X) → length (filter p xs) ≤ length xs
 length-filter_le p [] = omega arith
 length-filter_le p (x ∷ xs) = elim (cases_Bool (p x)) [ inl b ↦ rw b (omega (arith, length-filter_le p xs)) | inr b ↦ rw b (omega (arith, length-filter_le p xs)) ]
 

@@ -19,7 +19,9 @@ pub mod SheetLemmas
 pub mod GainLemmas
 pub mod HolderLemmas
 mod AfterLemmas
-mod ClearLemmas
 mod FewLemmas
 pub mod LawfulLemmas
-mod FitLemmas
+pub mod FitLemmas
+mod MeetingLemmas
+mod ClashLemmas
+mod SameLemmas

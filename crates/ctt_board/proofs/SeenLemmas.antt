@@ -1,7 +1,7 @@
 -- Counts that are seen through a change are those of the timetable after it.
-use Rattle.std.proofs.Common.{◌≡◌, ℕ, zero, suc, ◌+◌, ◌-◌, ◌*◌, ◌<◌, ◌≤◌, Bool, true, false, cond, ◌&&◌, ◌||◌, ◌==◌, ltb, List, [], ◌∷◌, ◌++◌, length, refl, ◌∙◌, sym, ap, ap₂, subst, arith, inl, inr}
+use Rattle.std.proofs.Common.{◌≡◌, ℕ, ◌+◌, ◌-◌, ◌<◌, ◌≤◌, Bool, true, false, cond, ◌&&◌, ◌||◌, ◌==◌, ltb, List, [], ◌∷◌, ◌++◌, length, refl, ◌∙◌, sym, ap, ap₂, subst, arith, inl, inr}
 use Rattle.std.specs.List.{sum_by, count_by, AllByRecursion as Each}
-use Rattle.std.proofs.lemmas.Bool.{cases_eq, cases_lt, eq-eqb, ne_eqb, lt-ltb, le-ltb}
+use Rattle.std.proofs.lemmas.Bool.{cases_lt, eq-eqb, ne_eqb, lt-ltb, le-ltb}
 use Rattle.std.proofs.lemmas.Bool.Decides.{nat_tests}
 use Rattle.std.proofs.lemmas.List.Sums.{sum_by-cons, sum_by-append, length-filter}
 use Rattle.ctt_text.specs.Lists.{has}
@@ -10,15 +10,15 @@ use Rattle.ctt_text.specs.Problem.{Problem, course_count, room_count, curriculum
 use Rattle.ctt_text.specs.Timetable.{Fits, course_row}
 use Rattle.ctt_text.specs.declared.placed.Placed.{Placed}
 use Rattle.ctt_rules.specs.Penalty.{days_of}
-use Rattle.ctt_rules.specs.Neighbours.{is_beside}
 use Rattle.ctt_rules.proofs.SlotLemmas.{day_fits}
 use Rattle.ctt_rules.proofs.TimetableLemmas.{slots_fit}
-use Rattle.ctt_board.specs.Joining.{IsMore, on_day, in_room, in_slot, by_slot, alone_at, alone_beside, stands_alone, joining, joining_by}
+use Rattle.ctt_board.specs.Joining.{IsMore, on_day, in_room, in_slot, by_slot, alone_at, alone_beside, stands_alone, joining}
 use Rattle.ctt_board.specs.Tables.{at, one_at}
 use Rattle.ctt_board.specs.Counts.{AreCounts}
 use Rattle.ctt_board.specs.Seen.{Sees, seen, seen_day, seen_room, seen_lectures, seen_part, seen_days, seen_joining}
 use Rattle.ctt_board.specs.declared.later.Later.{Later}
-use Rattle.ctt_board.proofs.CountsLemmas.{curricula_fit, used_step}
+use Rattle.ctt_board.proofs.CountsLemmas.{used_step}
+use Rattle.ctt_text.proofs.BelongingLemmas.{curricula_fit}
 use Rattle.ctt_board.proofs.CountedLemmas.{counted_more}
 
 pub turned_and : (a b : Bool) → (a && b) ≡ (b && a)
@@ -68,7 +68,7 @@ module _ (i : Problem) (v : Later) (t : List Placed) (h : Sees i v t) where
   days_is : (c : ℕ) → c < course_count i → seen_days v c ≡ days_of i (course_row c t)
   days_is c lc = omega (arith, h.counts.used.counts 0 c (omega arith) lc, h.days c lc)
 
-  part_is : Each (Fits i) t → (q : ℕ) → q < curriculum_count i → (s : ℕ) → seen_part i v q s ≡ by_slot (members i q) t s
+  pub part_is : Each (Fits i) t → (q : ℕ) → q < curriculum_count i → (s : ℕ) → seen_part i v q s ≡ by_slot (members i q) t s
   part_is fit q lq s = elim (cases_lt s (slot_count i)) [
     | inl lt ↦ rw (lt-ltb s (slot_count i) lt) (seen_is (in_slot (members i q) s) (at v.counts.now.parts q s 0) (h.counts.parts.counts q s lq lt))
     | inr le ↦ rw (le-ltb s (slot_count i) le) (sym (none_there i (members i q) s t le (slots_fit i t fit)))
@@ -77,7 +77,7 @@ module _ (i : Problem) (v : Later) (t : List Placed) (h : Sees i v t) where
   pub joining_is : (l : Placed) → Fits i l → Each (Fits i) t → seen_joining i v l ≡ joining i t l
   joining_is l fits fit =
       let qs : List ℕ = curricula_of i l.course in
-      let known : Each (λ q. q < curriculum_count i) qs = curricula_fit i l.course (curriculum_count i) qs refl refl in
+      let known : Each (λ q. q < curriculum_count i) qs = curricula_fit i l.course qs refl in
       let alone = sum_by_each (λ q. stands_alone i (seen_part i v q) l.slot) (λ q. stands_alone i (by_slot (members i q) t) l.slot) qs (Each-each (λ q. q < curriculum_count i) (λ q. stands_alone i (seen_part i v q) l.slot ≡ stands_alone i (by_slot (members i q) t) l.slot) (λ q lt. stands_same i (seen_part i v q) (by_slot (members i q) t) (part_is fit q lt) l.slot) qs known) in
       let company = sum_by_each (λ q. alone_beside i (seen_part i v q) l.slot) (λ q. alone_beside i (by_slot (members i q) t) l.slot) qs (Each-each (λ q. q < curriculum_count i) (λ q. alone_beside i (seen_part i v q) l.slot ≡ alone_beside i (by_slot (members i q) t) l.slot) (λ q lt. beside_same i (seen_part i v q) (by_slot (members i q) t) (part_is fit q lt) l.slot) qs known) in
       rw (day_is l.course (day_of i l.slot) fits.0 (day_fits i l.slot fits.1), days_is l.course fits.0, lectures_is l.course fits.0, room_is l.course l.room fits.0 fits.2, alone, company) refl

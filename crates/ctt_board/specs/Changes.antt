@@ -1,7 +1,7 @@
 -- Cells of a timetable, and changes, which are made cell by cell.
 use Rattle.std.specs.Prelude.{ℕ, ◌≡◌, ◌+◌, ◌-◌, Bool, true, false, cond, not, ◌&&◌, ◌||◌, ◌==◌, List, [], ◌∷◌, length, count_by, nat_le, Option, Some, None, is_some, is_none, IsSome, IsNone}
 use Rattle.std.specs.Option.{option_map, option_eq}
-use Rattle.std.specs.List.{find, AllByRecursion as Each}
+use Rattle.std.specs.List.{find}
 use Rattle.ctt_text.specs.Problem.{Problem, clash}
 use Rattle.ctt_text.specs.Timetable.{course_row, slot_row, with, without}
 use Rattle.ctt_text.specs.declared.placed.Placed.{Placed}
@@ -24,9 +24,9 @@ course_named found = option_map (λ (l : Placed). l.course) found
 abbrev pub holder_at : ℕ → ℕ → List Placed → Option ℕ
 holder_at s r t = course_named (find (λ l. l.room == r) (slot_row s t))
 
--- no course that clashes with this one stands in the slot
-abbrev pub IsClear : Problem → ℕ → ℕ → List Placed → Type 0
-IsClear i c s t = Each (λ l. clash i c l.course ≡ false) (slot_row s t)
+-- the first course with a lecture in the slot that clashes with this one
+abbrev pub clash_at : Problem → ℕ → ℕ → List Placed → Option ℕ
+clash_at i c s t = course_named (find (λ l. clash i c l.course) (slot_row s t))
 
 abbrev pub cell : ℕ → ℕ → Option ℕ → Cell
 cell c s r = record { course = c; slot = s; room = r }
@@ -87,9 +87,10 @@ abbrev pub holder_by : List Cell → ℕ → ℕ → Option ℕ → Option ℕ
 holder_by [] d e h = h
 holder_by (x ∷ xs) d e h = holder_by xs d e (held_after x d e h)
 
--- a lecture comes into the slot
-abbrev pub comes_into : ℕ → Cell → Bool
-comes_into s x = x.slot == s && is_some x.room
+-- whether a course stands in a slot after these cells, where b is whether it did before them
+abbrev pub stands_by : List Cell → ℕ → ℕ → Bool → Bool
+stands_by [] c s b = b
+stands_by (x ∷ xs) c s b = stands_by xs c s (cond (x.course == c && x.slot == s) (is_some x.room) b)
 
 -- a lecture of a course that is added, and one that is removed
 abbrev pub is_added : ℕ → Cell → Bool

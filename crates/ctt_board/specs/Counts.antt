@@ -1,13 +1,12 @@
 -- The tables of a sheet, by its timetable.
-use Rattle.std.specs.Prelude.{◌≡◌, ◌<◌, ◌≤◌, ℕ, ◌+◌, Bool, true, cond, List, length, count_by, ◌==◌, ◌&&◌}
+use Rattle.std.specs.Prelude.{◌≡◌, ◌<◌, ◌≤◌, ℕ, true, List, length, count_by, ◌==◌}
 use Rattle.std.specs.List.{AllByRecursion as Each}
-use Rattle.ctt_text.specs.Lists.{has}
 use Rattle.ctt_text.specs.Belonging.{curricula_of}
 use Rattle.ctt_text.specs.Problem.{Problem, course_of, course_count, room_count, teacher_count, curriculum_count, slot_count, members, day_of}
 use Rattle.ctt_text.specs.Timetable.{course_row}
 use Rattle.ctt_text.specs.declared.placed.Placed.{Placed}
 use Rattle.ctt_rules.specs.Penalty.{days_of}
-use Rattle.ctt_board.specs.Joining.{on_day, in_room, in_slot, is_taught}
+use Rattle.ctt_board.specs.Joining.{on_day, in_room, in_slot}
 use Rattle.ctt_board.specs.Tables.{Grid, at, Adds, AreFew, one_at, in_column}
 use Rattle.ctt_board.specs.declared.counts.Counts.{Counts}
 
@@ -21,21 +20,19 @@ pub record HaveSizes (i : Problem) (c : Counts) : Type 0 where
   pub used : HasSize c.used 1 (course_count i)
   pub rooms : HasSize c.rooms (course_count i) (room_count i)
   pub parts : HasSize c.parts (curriculum_count i) (slot_count i)
-  pub taught : HasSize c.taught (teacher_count i) (slot_count i)
 
 -- the lectures that pass the test of a row and a column
 pub record Counted (g : Grid ℕ) (rows width : ℕ) (count : ℕ → ℕ → ℕ) : Type 0 where
   pub size : HasSize g rows width
   pub counts : (r k : ℕ) → r < rows → k < width → at g r k 0 ≡ count r k
 
--- of each course the lectures, those on each day, the days, and those in each room; of each curriculum and of each teacher those in each slot
+-- of each course the lectures, those on each day, the days, and those in each room; of each curriculum those in each slot
 pub record AreCounts (i : Problem) (t : List Placed) (c : Counts) : Type 0 where
   pub lectures : Counted c.lectures 1 (course_count i) (λ _ course. length (course_row course t))
   pub days : Counted c.days (course_count i) i.days (λ course day. count_by (on_day i course day) t)
   pub used : Counted c.used 1 (course_count i) (λ _ course. days_of i (course_row course t))
   pub rooms : Counted c.rooms (course_count i) (room_count i) (λ course room. count_by (in_room course room) t)
   pub parts : Counted c.parts (curriculum_count i) (slot_count i) (λ q slot. count_by (in_slot (members i q) slot) t)
-  pub taught : Counted c.taught (teacher_count i) (slot_count i) (λ h slot. count_by (is_taught i h slot) t)
 
 -- what one lecture more adds to each table
 pub record AddsLecture (i : Problem) (l : Placed) (old new : Counts) : Type 0 where
@@ -44,7 +41,6 @@ pub record AddsLecture (i : Problem) (l : Placed) (old new : Counts) : Type 0 wh
   pub used : Adds old.used new.used (one_at (at old.days l.course (day_of i l.slot) 0 == 0) 0 l.course)
   pub rooms : Adds old.rooms new.rooms (one_at true l.course l.room)
   pub parts : Adds old.parts new.parts (in_column (curricula_of i l.course) l.slot)
-  pub taught : Adds old.taught new.taught (one_at true (course_of i l.course).teacher l.slot)
 
 -- no number is large, so that one more fits
 pub record HaveRoom (c : Counts) : Type 0 where
@@ -53,7 +49,6 @@ pub record HaveRoom (c : Counts) : Type 0 where
   pub used : AreFew c.used
   pub rooms : AreFew c.rooms
   pub parts : AreFew c.parts
-  pub taught : AreFew c.taught
 
 -- a lecture is counted, so that it can be taken out
 pub record HaveLecture (i : Problem) (l : Placed) (c : Counts) : Type 0 where
@@ -62,9 +57,3 @@ pub record HaveLecture (i : Problem) (l : Placed) (c : Counts) : Type 0 where
   pub used : 1 ≤ at c.used 0 l.course 0
   pub rooms : 1 ≤ at c.rooms l.course l.room 0
   pub parts : (q : ℕ) → q < curriculum_count i → in_column (curricula_of i l.course) l.slot q l.slot ≤ at c.parts q l.slot 0
-  pub taught : 1 ≤ at c.taught (course_of i l.course).teacher l.slot 0
-
--- in a slot, the teacher of a course has at most n lectures, and each of its curricula
-pub record HaveAtMost (i : Problem) (c : Counts) (course slot n : ℕ) : Type 0 where
-  pub taught : at c.taught (course_of i course).teacher slot 0 ≤ n
-  pub parts : Each (λ q. at c.parts q slot 0 ≤ n) (curricula_of i course)

@@ -1,11 +1,10 @@
 -- Whether a change fits, as a test.
 use Rattle.std.specs.Prelude.{◌≡◌, ◌↔◌, ℕ, Bool, true, false, not, ◌&&◌, nat_lt, List, [], ◌∷◌, length, Option, Some, None, is_some, is_none}
-use Rattle.std.specs.List.{list_any}
-use Rattle.ctt_text.specs.Problem.{Problem, course_of, course_count, slot_count, room_count, clash, is_unavailable}
-use Rattle.ctt_text.specs.Timetable.{course_row, slot_row}
+use Rattle.ctt_text.specs.Problem.{Problem, course_of, course_count, slot_count, room_count, is_unavailable}
+use Rattle.ctt_text.specs.Timetable.{course_row}
 use Rattle.ctt_text.specs.declared.placed.Placed.{Placed}
 use Rattle.ctt_rules.specs.Hard.{Lawful}
-use Rattle.ctt_board.specs.Changes.{room_at, holder_at, apply_at, in_turn, ChangeFits}
+use Rattle.ctt_board.specs.Changes.{room_at, clash_at, holder_at, apply_at, in_turn, ChangeFits}
 use Rattle.ctt_board.specs.declared.cell.Cell.{Cell}
 
 -- its numbers are those of the instance
@@ -18,7 +17,7 @@ is_wanted i t l = is_none (room_at l.course l.slot t) && (nat_lt (length (course
 
 -- and nothing in the slot is against it
 abbrev pub is_unhindered : Problem → List Placed → Placed → Bool
-is_unhindered i t l = not (list_any (λ (y : Placed). clash i l.course y.course) (slot_row l.slot t)) && is_none (holder_at l.slot l.room t)
+is_unhindered i t l = is_none (clash_at i l.course l.slot t) && is_none (holder_at l.slot l.room t)
 
 -- a lecture can be added to a lawful timetable
 abbrev pub can_come : Problem → List Placed → Placed → Bool

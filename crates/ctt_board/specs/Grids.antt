@@ -1,5 +1,6 @@
 -- A sheet of tables.
-use Rattle.std.specs.Prelude.{◌≡◌, ◌<◌, ℕ, zero, suc, List, [], ◌++◌, Option, None}
+use Rattle.std.specs.Prelude.{◌≡◌, ◌<◌, ℕ, zero, suc, ◌==◌, ◌&&◌, Bool, cond, List, [], ◌++◌, Option, None, is_some}
+use Rattle.ctt_text.specs.Marks.{is_marked}
 use Rattle.ctt_text.specs.Problem.{Problem, course_count, slot_count, room_count}
 use Rattle.ctt_text.specs.declared.placed.Placed.{Placed}
 use Rattle.ctt_rules.specs.Hard.{Lawful}
@@ -35,10 +36,22 @@ pub record AreHolders (i : Problem) (t : List Placed) (g : Grid (Option ℕ)) : 
   pub size : HasSize g (slot_count i) (room_count i)
   pub courses : (s r : ℕ) → s < slot_count i → r < room_count i → at g s r None ≡ holder_at s r t
 
+-- the courses that stand in each slot, as marks in one row
+pub record AreStanding (i : Problem) (t : List Placed) (g : Grid (List ℕ)) : Type 0 where
+  pub size : HasSize g 1 (slot_count i)
+  pub courses : (s c : ℕ) → s < slot_count i → is_marked (at g 0 s []) c ≡ is_some (room_at c s t)
+
+-- one course comes into a slot, or leaves it
+pub record Stands (old new : Grid (List ℕ)) (course slot : ℕ) (here : Bool) : Type 0 where
+  pub rows : new.rows ≡ old.rows
+  pub width : new.width ≡ old.width
+  pub marks : (c s : ℕ) → s < old.width → is_marked (at new 0 s []) c ≡ cond (c == course && s == slot) here (is_marked (at old 0 s []) c)
+
 -- each table is what the timetable says, and so are the costs
-pub record IsGridSheet (i : Problem) (rooms courses : Grid (Option ℕ)) (counts : Counts) (cost : Cost) : Type 0 where
+pub record IsGridSheet (i : Problem) (rooms courses : Grid (Option ℕ)) (standing : Grid (List ℕ)) (counts : Counts) (cost : Cost) : Type 0 where
   pub lawful : Lawful i (listed i rooms)
   pub rooms_are : AreRooms i (listed i rooms) rooms
   pub courses_are : AreHolders i (listed i rooms) courses
+  pub standing_are : AreStanding i (listed i rooms) standing
   pub counts_are : AreCounts i (listed i rooms) counts
   pub cost_is : cost ≡ penalty i (listed i rooms)

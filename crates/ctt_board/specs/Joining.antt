@@ -21,10 +21,6 @@ on_day i c d l = l.course == c && day_of i l.slot == d
 abbrev pub in_room : ℕ → ℕ → Placed → Bool
 in_room c r l = l.course == c && l.room == r
 
--- a lecture of a teacher in a slot
-abbrev pub is_taught : Problem → ℕ → ℕ → Placed → Bool
-is_taught i h s l = (course_of i l.course).teacher == h && l.slot == s
-
 abbrev pub in_slot : List ℕ → ℕ → Placed → Bool
 in_slot q s l = has l.course q && l.slot == s
 
@@ -32,7 +28,14 @@ in_slot q s l = has l.course q && l.slot == s
 abbrev pub alone_at : Problem → (ℕ → ℕ) → ℕ → ℕ
 alone_at i f s = cond (is_beside i (λ k. nat_lt 0 (f k)) s) 0 (f s)
 
--- and those in the slots beside it
+-- those in the slot before one, and in the slot after it, on its day
+abbrev pub count_before : Problem → (ℕ → ℕ) → ℕ → ℕ
+count_before i f s = cond (nat_lt 0 (period_of i s)) (f (s - 1)) 0
+
+abbrev pub count_after : Problem → (ℕ → ℕ) → ℕ → ℕ
+count_after i f s = cond (nat_lt (period_of i s + 1) i.periods) (f (s + 1)) 0
+
+-- those in the slots beside one that stand alone
 abbrev pub alone_beside : Problem → (ℕ → ℕ) → ℕ → ℕ
 alone_beside i f s = cond (nat_lt 0 (period_of i s)) (alone_at i f (s - 1)) 0 + cond (nat_lt (period_of i s + 1) i.periods) (alone_at i f (s + 1)) 0
 

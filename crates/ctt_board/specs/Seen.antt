@@ -1,5 +1,7 @@
 -- Counts of a timetable, seen through lectures that leave it and lectures that come.
 use Rattle.std.specs.Prelude.{◌≡◌, ◌<◌, ◌≤◌, length, ℕ, ◌+◌, ◌-◌, Bool, cond, List, sum_by, count_by, ◌==◌, nat_lt}
+use Rattle.std.specs.List.{AllByRecursion as Each}
+use Rattle.ctt_text.specs.Belonging.{curricula_of}
 use Rattle.ctt_text.specs.Problem.{Problem, course_count, slot_count, members, day_of}
 use Rattle.ctt_text.specs.Timetable.{course_row}
 use Rattle.ctt_text.specs.declared.placed.Placed.{Placed}
@@ -33,6 +35,13 @@ seen_days v c = (at v.counts.now.used 0 c 0 + count_by (λ d. d == c) v.fresh.it
 -- what a lecture would add and take
 abbrev pub seen_joining : Problem → Later → Placed → Joining
 seen_joining i v l = joining_by i l (seen_day i v l.course (day_of i l.slot)) (seen_days v l.course) (seen_lectures v l.course) (seen_room v l.course l.room) (seen_part i v)
+
+-- the curricula of its course have no lecture in its slot, or at most one each
+abbrev pub NoneThere : Problem → Later → Placed → Type 0
+NoneThere i v l = Each (λ q. seen_part i v q l.slot ≡ 0) (curricula_of i l.course)
+
+abbrev pub OneThere : Problem → Later → Placed → Type 0
+OneThere i v l = Each (λ q. seen_part i v q l.slot ≤ 1) (curricula_of i l.course)
 
 -- what is seen is this timetable
 pub record Sees (i : Problem) (v : Later) (t : List Placed) : Type 0 where

@@ -1,15 +1,15 @@
 //! A timetable as a change would leave it. The change is not made, and no memory is taken.
 
 ghost use Rattle.std.specs.Prelude.{◌≡◌, ◌<◌, ◌≤◌, true, length, count_by};
-ghost use Rattle.std.specs.List.{list_any};
 ghost use Rattle.ctt_text.specs.Problem.{AreMembers, course_count};
 ghost use Rattle.ctt_text.specs.Timetable.{course_row};
 ghost use Rattle.ctt_rules.specs.Hard.{Lawful};
 ghost use Rattle.ctt_rules.specs.Penalty.{course_cost, total, alone_cost, part_of};
-ghost use Rattle.ctt_board.specs.Changes.{room_by, held_after, holder_by, comes_into, is_added, is_removed, is_change, apply, CellsFit};
+ghost use Rattle.ctt_board.specs.Changes.{room_by, held_after, holder_by, is_added, is_removed, is_change, apply, CellsFit};
 
 use crate::cell::Cell;
 use crate::sheet::Rooms;
+use crate::standing::standing_after;
 use arrayvec::ArrayVec;
 use ctt_rules::{count_alone, mark_slots};
 use ctt_text::{CourseNo, Instance, Marks, Placed, RoomNo, SlotNo};
@@ -35,7 +35,12 @@ impl<'a, R: Rooms> Model for After<'a, R> {
 }
 
 /// The room of a course in a slot after these cells, from the one before them.
-pub(crate) fn last_room(cells: &[Cell], course: CourseNo, slot: SlotNo, room: Option<RoomNo>) -> Option<RoomNo>
+pub(crate) fn last_room(
+    cells: &[Cell],
+    course: CourseNo,
+    slot: SlotNo,
+    room: Option<RoomNo>,
+) -> Option<RoomNo>
     ensures { result ≡ room_by cells.now course slot room }
 {
     let mut last = room;
@@ -48,12 +53,7 @@ pub(crate) fn last_room(cells: &[Cell], course: CourseNo, slot: SlotNo, room: Op
 }
 
 /// The course that has a room in a slot after a cell, from the one before it.
-fn held_after(
-    cell: &Cell,
-    slot: SlotNo,
-    room: RoomNo,
-    holder: Option<CourseNo>,
-) -> Option<CourseNo>
+fn held_after(cell: &Cell, slot: SlotNo, room: RoomNo, holder: Option<CourseNo>) -> Option<CourseNo>
     ensures { result ≡ held_after cell.now slot room holder }
 {
     if cell.slot != slot {
@@ -80,13 +80,6 @@ fn last_holder(
         last = held_after(cell, slot, room, last);
     }
     last
-}
-
-/// Whether some lecture comes into a slot.
-fn comes_into(cells: &[Cell], slot: SlotNo) -> bool
-    ensures { result ≡ list_any (comes_into slot) cells.now }
-{
-    cells.iter().any(|x| x.slot == slot && x.room.is_some())
 }
 
 /// How many lectures of a course are added.
@@ -150,7 +143,7 @@ impl<'a, R: Rooms> After<'a, R> {
     {
         self.lawful();
         let instance = self.instance();
-        instance.limits();
+        instance.limits_hold();
         let mut row = ArrayVec::new();
         for number in 0..instance.slots() {
             let slot = SlotNo::new(number);
@@ -169,7 +162,7 @@ impl<'a, R: Rooms> After<'a, R> {
     {
         self.lawful();
         let instance = self.instance();
-        instance.limits();
+        instance.limits_hold();
         let row = self.row(course);
         ctt_rules::course_cost(instance, row.as_slice(), course).total()
     }
@@ -182,7 +175,7 @@ impl<'a, R: Rooms> After<'a, R> {
     {
         self.lawful();
         let instance = self.instance();
-        instance.limits();
+        instance.limits_hold();
         let mut slots = Marks::new();
         for member in members {
             let row = self.row(*member);
@@ -215,13 +208,15 @@ impl<'a, R: Rooms> Rooms for After<'a, R> {
         last_holder(self.cells, slot, room, self.rooms.holder(slot, room))
     }
 
-    fn is_clear(&self, course: CourseNo, slot: SlotNo) -> bool {
-        !comes_into(self.cells, slot) && self.rooms.is_clear(course, slot)
+    fn standing(&self, slot: SlotNo) -> Marks {
+        self.rooms.lawful();
+        self.instance.limits_hold();
+        standing_after(self.cells, slot, self.rooms.standing(slot))
     }
 
     fn count(&self, course: CourseNo) -> u32 {
         self.rooms.lawful();
-        self.instance.limits();
+        self.instance.limits_hold();
         let count = self.rooms.count(course) + added(self.cells, course);
         count - removed(self.cells, course)
     }

@@ -3,10 +3,10 @@
 ghost use Rattle.std.specs.Prelude.{◌≡◌, ◌<◌, true, IfOk, []};
 ghost use Rattle.ctt_text.specs.Problem.{course_count, slot_count, room_count};
 ghost use Rattle.ctt_text.specs.Timetable.{Fits};
-ghost use Rattle.ctt_board.specs.Counts.{AreCounts, HaveSizes, HaveRoom, HaveLecture, AddsLecture, HaveAtMost};
+ghost use Rattle.ctt_board.specs.Counts.{AreCounts, HaveSizes, HaveRoom, HaveLecture, AddsLecture};
 
 use crate::table::Table;
-use crate::tally::{add, add_column, are_at_most, take, take_column};
+use crate::tally::{add, add_column, take, take_column};
 use ctt_text::{CourseNo, Instance, Placed, SlotNo};
 use std::alloc::{AllocError, Global};
 
@@ -23,8 +23,6 @@ pub(crate) struct Counts {
     pub(crate) rooms: Table<u16>,
     /// Those of each curriculum in each slot.
     pub(crate) parts: Table<u16>,
-    /// Those of each teacher in each slot.
-    pub(crate) taught: Table<u16>,
 }
 
 impl Counts {
@@ -33,7 +31,7 @@ impl Counts {
     pub(crate) fn new(alloc: Global, instance: &Instance) -> Result<Self, AllocError>
         ensures { IfOk result (AreCounts instance.now []) }
     {
-        instance.limits();
+        instance.limits_hold();
         let courses = instance.courses() as usize;
         let curricula = instance.curricula() as usize;
         let slots = instance.slots() as usize;
@@ -43,7 +41,6 @@ impl Counts {
             used: Table::new(alloc, 1, courses, 0)?,
             rooms: Table::new(alloc, courses, instance.rooms() as usize, 0)?,
             parts: Table::new(alloc, curricula, slots, 0)?,
-            taught: Table::new(alloc, instance.teachers() as usize, slots, 0)?,
         })
     }
 
@@ -57,7 +54,6 @@ impl Counts {
             used: self.used.copy()?,
             rooms: self.rooms.copy()?,
             parts: self.parts.copy()?,
-            taught: self.taught.copy()?,
         })
     }
 
@@ -68,7 +64,7 @@ impl Counts {
         requires room { HaveRoom self.old }
         ensures { AddsLecture instance.now lecture.now self.old self.new }
     {
-        instance.limits();
+        instance.limits_hold();
         let course = lecture.course.get() as usize;
         let day = instance.day_of(lecture.slot) as usize;
         let is_new = self.days.get(course, day) == 0;
@@ -78,29 +74,6 @@ impl Counts {
         add(&mut self.rooms, course, lecture.room.get() as usize, true);
         let curricula = instance.curricula_of(lecture.course);
         add_column(&mut self.parts, curricula, lecture.slot.get() as usize);
-        let teacher = instance.teacher(lecture.course).get() as usize;
-        add(&mut self.taught, teacher, lecture.slot.get() as usize, true);
-    }
-
-    /// Whether the teacher of a course has at most so many lectures in a slot, and each of its
-    /// curricula.
-    pub(crate) fn have_at_most(
-        &self,
-        instance: &Instance,
-        course: CourseNo,
-        slot: SlotNo,
-        most: u16,
-    ) -> bool
-        requires course { course < course_count instance.now }
-        requires slot { slot < slot_count instance.now }
-        requires sizes { HaveSizes instance.now self.now }
-        ensures { result ≡ true → HaveAtMost instance.now self.now course slot most }
-    {
-        instance.limits();
-        let teacher = instance.teacher(course).get() as usize;
-        let slot = slot.get() as usize;
-        self.taught.get(teacher, slot) <= most
-            && are_at_most(&self.parts, instance.curricula_of(course), slot, most)
     }
 
     /// Counts one lecture less.
@@ -110,7 +83,7 @@ impl Counts {
         requires there { HaveLecture instance.now lecture.now self.old }
         ensures { AddsLecture instance.now lecture.now self.new self.old }
     {
-        instance.limits();
+        instance.limits_hold();
         let course = lecture.course.get() as usize;
         let day = instance.day_of(lecture.slot) as usize;
         take(&mut self.lectures, 0, course, true);
@@ -120,7 +93,5 @@ impl Counts {
         take(&mut self.rooms, course, lecture.room.get() as usize, true);
         let curricula = instance.curricula_of(lecture.course);
         take_column(&mut self.parts, curricula, lecture.slot.get() as usize);
-        let teacher = instance.teacher(lecture.course).get() as usize;
-        take(&mut self.taught, teacher, lecture.slot.get() as usize, true);
     }
 }

@@ -1,36 +1,15 @@
 //! Whether a change fits.
 
-ghost use Rattle.std.specs.Prelude.{◌≡◌, ◌<◌, true};
-ghost use Rattle.std.specs.List.{list_any};
-ghost use Rattle.ctt_text.specs.Problem.{course_count, slot_count, clash};
-ghost use Rattle.ctt_text.specs.Timetable.{Fits, slot_row};
+ghost use Rattle.std.specs.Prelude.{◌≡◌};
+ghost use Rattle.ctt_text.specs.Timetable.{Fits};
 ghost use Rattle.ctt_board.specs.Fitting.{is_known, is_wanted, is_unhindered, can_come, cell_fits, fits};
 
 use crate::after::After;
 use crate::cell::Cell;
 use crate::change::Change;
+use crate::clashes::first_clash;
 use crate::sheet::Rooms;
-use ctt_text::{CourseNo, Instance, Placed, SlotNo};
-
-/// Whether a course that clashes with this one stands in a slot.
-fn has_clash<R: Rooms>(instance: &Instance, rooms: &R, course: CourseNo, slot: SlotNo) -> bool
-    requires same { R.problem rooms.now ≡ instance.now }
-    requires course { course < course_count instance.now }
-    requires slot { slot < slot_count instance.now }
-    ensures { result ≡ list_any (λ y. clash instance.now course y.course) (slot_row slot (R.list rooms.now)) }
-{
-    rooms.lawful();
-    if rooms.is_clear(course, slot) {
-        return false;
-    }
-    for number in 0..instance.courses() {
-        let other = CourseNo::new(number);
-        if instance.clash(course, other) && rooms.room_at(other, slot).is_some() {
-            return true;
-        }
-    }
-    false
-}
+use ctt_text::{Instance, Placed};
 
 /// Whether the numbers of a lecture are those of the instance.
 fn is_known(instance: &Instance, lecture: &Placed) -> bool
@@ -58,7 +37,7 @@ fn is_unhindered<R: Rooms>(instance: &Instance, rooms: &R, lecture: &Placed) -> 
     requires fits { Fits instance.now lecture.now }
     ensures { result ≡ is_unhindered instance.now (R.list rooms.now) lecture.now }
 {
-    !has_clash(instance, rooms, lecture.course, lecture.slot)
+    first_clash(instance, rooms, lecture.course, lecture.slot).is_none()
         && rooms.holder(lecture.slot, lecture.room).is_none()
 }
 

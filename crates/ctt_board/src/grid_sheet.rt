@@ -11,18 +11,20 @@ ghost use Rattle.ctt_board.specs.Ways.{Ready};
 ghost use Rattle.ctt_board.specs.Cells.{row_below, lecture_at};
 ghost use Rattle.ctt_board.specs.Tables.{at};
 
+use crate::after::last_room;
 use crate::cell::Cell;
 use crate::change::Change;
-use crate::fitting::fits;
 use crate::counts::Counts;
-use crate::after::last_room;
+use crate::fitting::fits;
 use crate::joining::{joining_of, with_lecture, without_lecture};
 use crate::later::Later;
 use crate::laws;
+use crate::same_rows::{same_course_row, same_slot_row};
 use crate::sheet::{Rooms, Sheet, Timetable};
+use crate::standing::{leave, stand};
 use crate::table::Table;
 use ctt_rules::Cost;
-use ctt_text::{CourseNo, Instance, NoMemory, Placed, RoomNo, SlotNo};
+use ctt_text::{CourseNo, Instance, Marks, NoMemory, Placed, RoomNo, SlotNo};
 use std::alloc::{AllocError, Global};
 use std::marker::Model;
 
@@ -35,6 +37,8 @@ pub struct GridSheet<'i> {
     rooms: Table<Option<RoomNo>>,
     /// By slot and room.
     courses: Table<Option<CourseNo>>,
+    /// The courses that stand in each slot, in one row.
+    standing: Table<Marks>,
     counts: Counts,
     cost: Cost,
     alloc: Global,
@@ -48,7 +52,7 @@ impl<'i> Model for GridSheet<'i> {
 
     ghost view = { λ s. record { problem = s.instance.now; list = listed s.instance.now s.rooms } };
 
-    ghost invariant = { λ s. IsGridSheet s.instance.now s.rooms s.courses s.counts s.cost };
+    ghost invariant = { λ s. IsGridSheet s.instance.now s.rooms s.courses s.standing s.counts s.cost };
 }
 
 impl<'i> GridSheet<'i> {
@@ -60,7 +64,7 @@ impl<'i> GridSheet<'i> {
         ensures problem { self.new.problem ≡ self.old.problem }
         ensures list { self.new.list ≡ with lecture.now self.old.list }
     {
-        self.instance.limits();
+        self.instance.limits_hold();
         let joining = joining_of(&Later::now(&self.counts), self.instance, lecture);
         self.cost = with_lecture(self.cost, &joining);
         self.counts.add(self.instance, lecture);
@@ -69,6 +73,7 @@ impl<'i> GridSheet<'i> {
         self.rooms.set(course, slot, Some(lecture.room));
         let room = lecture.room.get() as usize;
         self.courses.set(slot, room, Some(lecture.course));
+        stand(&mut self.standing, lecture.course, lecture.slot);
     }
 
     /// Removes a lecture that is there.
@@ -78,7 +83,7 @@ impl<'i> GridSheet<'i> {
         ensures problem { self.new.problem ≡ self.old.problem }
         ensures list { self.new.list ≡ without lecture.now.course lecture.now.slot self.old.list }
     {
-        self.instance.limits();
+        self.instance.limits_hold();
         self.counts.take(self.instance, lecture);
         let joining = joining_of(&Later::now(&self.counts), self.instance, lecture);
         self.cost = without_lecture(self.cost, &joining);
@@ -87,6 +92,7 @@ impl<'i> GridSheet<'i> {
         self.rooms.set(course, slot, None);
         let room = lecture.room.get() as usize;
         self.courses.set(slot, room, None);
+        leave(&mut self.standing, lecture.course, lecture.slot);
     }
 
     /// Makes a cell.
@@ -140,18 +146,11 @@ fn append_row(
     requires width { rooms.now.width ≡ slot_count instance.now }
     ensures { OnOk result (list.new.items ≡ list.old.items ++ row_below (λ s. at rooms.now course s None) course (slot_count instance.now)) }
 {
-    instance.limits();
+    instance.limits_hold();
     for number in 0..instance.slots() {
         append_lecture(list, rooms, course, SlotNo::new(number))?;
     }
     Ok(())
-}
-
-/// One, if it is so.
-fn one_if(test: bool) -> u16
-    ensures { result ≡ cond test 1 0 }
-{
-    if test { 1 } else { 0 }
 }
 
 impl<'i> Rooms for GridSheet<'i> {
@@ -171,10 +170,8 @@ impl<'i> Rooms for GridSheet<'i> {
         self.courses.get(slot.get() as usize, room.get() as usize)
     }
 
-    fn is_clear(&self, course: CourseNo, slot: SlotNo) -> bool {
-        self.instance.limits();
-        let own = one_if(self.room_at(course, slot).is_some());
-        self.counts.have_at_most(self.instance, course, slot, own)
+    fn standing(&self, slot: SlotNo) -> Marks {
+        self.standing.get(0, slot.get() as usize)
     }
 
     fn count(&self, course: CourseNo) -> u32 {
@@ -202,7 +199,7 @@ fn step(
     ensures room { HasPlaces later.new (length done.now + 1) }
     ensures value { result ≡ pos (total (penalty instance.now (apply_at cell.now.course cell.now.slot cell.now.room (apply done.now sheet.now.list)))) -ℤ pos (total (penalty instance.now (apply done.now sheet.now.list))) }
 {
-    instance.limits();
+    instance.limits_hold();
     let course = cell.course;
     let slot = cell.slot;
     match cell.room {
@@ -217,14 +214,14 @@ fn step(
 
 impl<'i> Timetable for GridSheet<'i> {
     fn cost(&self) -> Cost {
-        self.instance.limits();
+        self.instance.limits_hold();
         laws::penalty_fits();
         self.cost
     }
 
     fn delta(&self, change: &Change) -> i64 {
         self.lawful();
-        self.instance.limits();
+        self.instance.limits_hold();
         let cells = change.cells();
         let mut later = Later::now(&self.counts);
         let mut total = 0;
@@ -246,6 +243,14 @@ impl<'i> Timetable for GridSheet<'i> {
         }
     }
 
+    fn same_course_row(&self, other: &Self, course: CourseNo) -> bool {
+        same_course_row(self.instance, self, other, course)
+    }
+
+    fn same_slot_row(&self, other: &Self, slot: SlotNo) -> bool {
+        same_slot_row(self.instance, self, other, slot)
+    }
+
     fn course_row(&self, course: CourseNo) -> Result<Vec<Placed>, NoMemory> {
         let mut row = Vec::new(self.alloc);
         append_row(&mut row, &self.rooms, self.instance, course)?;
@@ -253,7 +258,7 @@ impl<'i> Timetable for GridSheet<'i> {
     }
 
     fn slot_row(&self, slot: SlotNo) -> Result<Vec<Placed>, NoMemory> {
-        self.instance.limits();
+        self.instance.limits_hold();
         let mut row = Vec::new(self.alloc);
         for number in 0..self.instance.courses() {
             append_lecture(&mut row, &self.rooms, CourseNo::new(number), slot)?;
@@ -262,7 +267,7 @@ impl<'i> Timetable for GridSheet<'i> {
     }
 
     fn list(&self) -> Result<Vec<Placed>, NoMemory> {
-        self.instance.limits();
+        self.instance.limits_hold();
         let mut list = Vec::new(self.alloc);
         for number in 0..self.instance.courses() {
             append_row(&mut list, &self.rooms, self.instance, CourseNo::new(number))?;
@@ -275,6 +280,7 @@ impl<'i> Timetable for GridSheet<'i> {
             instance: self.instance,
             rooms: self.rooms.copy()?,
             courses: self.courses.copy()?,
+            standing: self.standing.copy()?,
             counts: self.counts.copy()?,
             cost: self.cost,
             alloc: self.alloc,
@@ -284,13 +290,14 @@ impl<'i> Timetable for GridSheet<'i> {
 
 impl<'i> Sheet<'i> for GridSheet<'i> {
     fn empty(alloc: Global, instance: &'i Instance) -> Result<Self, NoMemory> {
-        instance.limits();
+        instance.limits_hold();
         let courses = instance.courses() as usize;
         let slots = instance.slots() as usize;
         Ok(GridSheet {
             instance,
             rooms: Table::new(alloc, courses, slots, None)?,
             courses: Table::new(alloc, slots, instance.rooms() as usize, None)?,
+            standing: Table::new(alloc, 1, slots, Marks::new())?,
             counts: Counts::new(alloc, instance)?,
             cost: ctt_rules::penalty(instance, &[]),
             alloc,

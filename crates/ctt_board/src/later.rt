@@ -6,7 +6,7 @@ ghost use Rattle.ctt_text.specs.Problem.{course_count, slot_count, room_count, c
 ghost use Rattle.ctt_text.specs.Timetable.{Fits};
 ghost use Rattle.ctt_board.specs.Joining.{on_day, in_room, in_slot, gain_of};
 ghost use Rattle.ctt_board.specs.Counts.{HaveSizes};
-ghost use Rattle.ctt_board.specs.Seen.{seen_day, seen_room, seen_lectures, seen_part, seen_days, seen_joining};
+ghost use Rattle.ctt_board.specs.Seen.{seen_day, seen_room, seen_lectures, seen_part, seen_days, seen_joining, NoneThere, OneThere};
 
 use crate::counts::Counts;
 use crate::joining::{gain, joining_of};
@@ -71,23 +71,25 @@ fn of_course(lectures: &[Placed], course: CourseNo) -> u64
     count
 }
 
-/// Whether a lecture is of one of these courses, in a slot.
+/// Whether a lecture is of a curriculum, in a slot.
 #[tactic(auto, using(crate::proofs::SeenLemmas::turned_and))]
-fn is_in_slot(lecture: &Placed, members: &[CourseNo], slot: SlotNo) -> bool
-    ensures { result ≡ in_slot members.now slot lecture.now }
+fn is_in_slot(instance: &Instance, lecture: &Placed, part: CurriculumNo, slot: SlotNo) -> bool
+    requires { part < curriculum_count instance.now }
+    ensures { result ≡ in_slot (members instance.now part) slot lecture.now }
 {
-    lecture.slot == slot && members.contains(&lecture.course)
+    lecture.slot == slot && instance.members(part).contains(&lecture.course)
 }
 
-/// How many of the lectures are of these courses in a slot.
-fn in_slot(lectures: &[Placed], members: &[CourseNo], slot: SlotNo) -> u64
-    requires { length lectures.now ≤ 4 }
-    ensures value { result ≡ count_by (in_slot members.now slot) lectures.now }
+/// How many of the lectures are of a curriculum in a slot.
+fn in_slot(instance: &Instance, lectures: &[Placed], part: CurriculumNo, slot: SlotNo) -> u64
+    requires few { length lectures.now ≤ 4 }
+    requires part { part < curriculum_count instance.now }
+    ensures value { result ≡ count_by (in_slot (members instance.now part) slot) lectures.now }
     ensures bound { result ≤ 4 }
 {
     let mut count = 0;
     for lecture in lectures {
-        if is_in_slot(lecture, members, slot) {
+        if is_in_slot(instance, lecture, part, slot) {
             count += 1;
         }
     }
@@ -158,7 +160,10 @@ impl<'a> Later<'a> {
         requires sizes { HaveSizes instance.now self.now.counts.now }
         ensures { result ≡ seen_room self.now course room }
     {
-        let count = self.counts.rooms.get(course.get() as usize, room.get() as usize);
+        let count = self
+            .counts
+            .rooms
+            .get(course.get() as usize, room.get() as usize);
         let more = in_room(&self.added, course, room);
         let less = in_room(&self.removed, course, room);
         (u64::from(count) + more).saturating_sub(less)
@@ -196,10 +201,12 @@ impl<'a> Later<'a> {
         ensures value { result ≡ seen_part instance.now self.now part slot }
         ensures bound { result ≤ 5000000000 }
     {
-        let count = self.counts.parts.get(part.get() as usize, slot.get() as usize);
-        let members = instance.members(part);
-        let more = in_slot(&self.added, members, slot);
-        let less = in_slot(&self.removed, members, slot);
+        let count = self
+            .counts
+            .parts
+            .get(part.get() as usize, slot.get() as usize);
+        let more = in_slot(instance, &self.added, part, slot);
+        let less = in_slot(instance, &self.removed, part, slot);
         (u64::from(count) + more).saturating_sub(less)
     }
 
@@ -209,6 +216,7 @@ impl<'a> Later<'a> {
         requires sizes { HaveSizes instance.now self.old.counts.now }
         requires room { length self.old.added.items < 4 }
         requires fresh_room { length self.old.fresh.items < 4 }
+        requires own { NoneThere instance.now self.old lecture.now }
         ensures gain { result ≡ gain_of (seen_joining instance.now self.old lecture.now) }
         ensures counts { self.new.counts.now ≡ self.old.counts.now }
         ensures removed { self.new.removed.items ≡ self.old.removed.items }
@@ -230,6 +238,7 @@ impl<'a> Later<'a> {
         requires sizes { HaveSizes instance.now self.old.counts.now }
         requires room { length self.old.removed.items < 4 }
         requires gone_room { length self.old.gone.items < 4 }
+        requires own { OneThere instance.now self.old lecture.now }
         ensures gain { result ≡ gain_of (seen_joining instance.now self.new lecture.now) }
         ensures counts { self.new.counts.now ≡ self.old.counts.now }
         ensures added { self.new.added.items ≡ self.old.added.items }

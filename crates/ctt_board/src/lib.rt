@@ -4,6 +4,7 @@
 mod after;
 mod cell;
 mod change;
+mod clashes;
 mod counts;
 mod delta;
 mod fitting;
@@ -12,13 +13,17 @@ mod joining;
 mod later;
 pub mod laws;
 mod list_sheet;
+mod meeting;
+mod same_rows;
 mod sheet;
+mod standing;
 mod table;
 mod tally;
 
 pub use after::After;
 pub use cell::Cell;
 pub use change::Change;
+pub use clashes::first_clash;
 pub use grid_sheet::GridSheet;
 pub use list_sheet::ListSheet;
 pub use sheet::{Rooms, Sheet, Timetable};

@@ -9,12 +9,14 @@ ghost use Rattle.ctt_board.specs.Changes.{holder_at, apply, in_turn};
 
 use crate::cell::Cell;
 use crate::change::Change;
-use crate::fitting::fits;
 use crate::delta::delta;
+use crate::fitting::fits;
 use crate::laws;
+use crate::same_rows::{same_course_row, same_slot_row};
 use crate::sheet::{Rooms, Sheet, Timetable};
+use crate::standing::standing_in;
 use ctt_rules::Cost;
-use ctt_text::{CourseNo, Instance, NoMemory, Placed, RoomNo, SlotNo, is_before};
+use ctt_text::{CourseNo, Instance, Marks, NoMemory, Placed, RoomNo, SlotNo, is_before};
 use std::alloc::{AllocError, Global};
 use std::marker::Model;
 
@@ -97,7 +99,7 @@ fn reserved(alloc: Global, instance: &Instance) -> Result<Vec<Placed>, AllocErro
     ensures items { IfOk result (λ v. v.items ≡ []) }
     ensures room { IfOk result (λ v. course_count instance.now * slot_count instance.now ≤ vec_capacity v) }
 {
-    instance.limits();
+    instance.limits_hold();
     let places = instance.courses() as usize * instance.slots() as usize;
     Vec::with_capacity(alloc, places)
 }
@@ -132,12 +134,13 @@ impl<'i> Rooms for ListSheet<'i> {
         holder_in(&self.lectures, slot, room)
     }
 
-    fn is_clear(&self, _course: CourseNo, _slot: SlotNo) -> bool {
-        false
+    fn standing(&self, slot: SlotNo) -> Marks {
+        self.instance.limits_hold();
+        standing_in(&self.lectures, slot)
     }
 
     fn count(&self, course: CourseNo) -> u32 {
-        self.instance.limits();
+        self.instance.limits_hold();
         ctt_rules::course_row(self.instance, &self.lectures, course).len() as u32
     }
 }
@@ -158,6 +161,14 @@ impl<'i> Timetable for ListSheet<'i> {
     fn apply(&mut self, change: &Change) {
         laws::length_is_bounded();
         make(&mut self.lectures, change.cells());
+    }
+
+    fn same_course_row(&self, other: &Self, course: CourseNo) -> bool {
+        same_course_row(self.instance, self, other, course)
+    }
+
+    fn same_slot_row(&self, other: &Self, slot: SlotNo) -> bool {
+        same_slot_row(self.instance, self, other, slot)
     }
 
     fn course_row(&self, course: CourseNo) -> Result<Vec<Placed>, NoMemory> {

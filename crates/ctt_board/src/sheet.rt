@@ -1,17 +1,18 @@
 //! What a sheet is.
 
-ghost use Rattle.std.specs.Prelude.{◌≡◌, ◌<◌, ◌^◌, true, [], length, IfOk};
+ghost use Rattle.std.specs.Prelude.{◌≡◌, ◌<◌, ◌^◌, ◌↔◌, ℕ, [], length, is_some, IfOk, IsTrue};
 ghost use Rattle.ctt_text.specs.Problem.{course_count, slot_count, room_count};
+ghost use Rattle.ctt_text.specs.Marks.{is_marked};
 ghost use Rattle.ctt_text.specs.Timetable.{course_row, slot_row};
 ghost use Rattle.ctt_rules.specs.Hard.{Lawful};
 ghost use Rattle.ctt_rules.specs.Penalty.{penalty, total};
-ghost use Rattle.ctt_board.specs.Changes.{room_at, holder_at, IsClear, apply, ChangeFits};
+ghost use Rattle.ctt_board.specs.Changes.{room_at, holder_at, apply, ChangeFits};
 ghost use Rattle.ctt_board.specs.Boards.{delta};
 ghost use Rattle.ctt_board.specs.Fitting.{fits};
 
 use crate::change::Change;
 use ctt_rules::Cost;
-use ctt_text::{CourseNo, Instance, NoMemory, Placed, RoomNo, SlotNo};
+use ctt_text::{CourseNo, Instance, Marks, NoMemory, Placed, RoomNo, SlotNo};
 use std::alloc::Global;
 
 /// A lawful timetable, of which is read what stands where: a sheet, or what a change would leave of
@@ -43,12 +44,10 @@ pub trait Rooms: Drop {
         requires room { room < room_count (problem self.now) }
         ensures { result ≡ holder_at slot room (list self.now) };
 
-    /// Whether it is seen at once that no course that clashes with this one stands in a slot. If
-    /// not, it has to be searched.
-    fn is_clear(&self, course: CourseNo, slot: SlotNo) -> bool
-        requires course { course < course_count (problem self.now) }
-        requires slot { slot < slot_count (problem self.now) }
-        ensures { result ≡ true → IsClear (problem self.now) course slot (list self.now) };
+    /// The courses that have a lecture in a slot.
+    fn standing(&self, slot: SlotNo) -> Marks
+        requires { slot < slot_count (problem self.now) }
+        ensures { (course : ℕ) → is_marked result course ≡ is_some (room_at course slot (list self.now)) };
 
     /// How many lectures of a course are placed.
     fn count(&self, course: CourseNo) -> u32
@@ -78,6 +77,18 @@ pub trait Timetable: Rooms + Send + Sync {
         requires { ChangeFits (Self.problem self.old) change.now (Self.list self.old) }
         ensures problem { Self.problem self.new ≡ Self.problem self.old }
         ensures list { Self.list self.new ≡ apply change.now (Self.list self.old) };
+
+    /// Whether another sheet of the instance has the same lectures of a course. It takes no memory.
+    fn same_course_row(&self, other: &Self, course: CourseNo) -> bool
+        requires instance { Self.problem other.now ≡ Self.problem self.now }
+        requires course { course < course_count (Self.problem self.now) }
+        ensures { IsTrue result ↔ (course_row course (Self.list self.now) ≡ course_row course (Self.list other.now)) };
+
+    /// Whether another sheet of the instance has the same lectures in a slot. It takes no memory.
+    fn same_slot_row(&self, other: &Self, slot: SlotNo) -> bool
+        requires instance { Self.problem other.now ≡ Self.problem self.now }
+        requires slot { slot < slot_count (Self.problem self.now) }
+        ensures { IsTrue result ↔ (slot_row slot (Self.list self.now) ≡ slot_row slot (Self.list other.now)) };
 
     /// The lectures of a course, by slot.
     fn course_row(&self, course: CourseNo) -> Result<Vec<Placed>, NoMemory>

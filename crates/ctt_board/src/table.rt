@@ -1,5 +1,5 @@
 //! A table of a fixed size.
-ghost use Rattle.std.specs.Prelude.{◌≡◌, ℕ, ◌<◌, ◌≤◌, ◌*◌, ◌==◌, ◌&&◌, cond, IfOk};
+ghost use Rattle.std.specs.Prelude.{◌≡◌, ℕ, ◌<◌, ◌≤◌, ◌*◌, ◌==◌, ◌&&◌, cond, length, IfOk};
 ghost use Rattle.ctt_board.specs.Tables.{at};
 
 use std::alloc::{AllocError, Global};
@@ -36,6 +36,7 @@ impl<T: Copy> Table<T> {
     ) -> Result<Self, AllocError>
         requires { rows * width ≤ 100000000 }
         ensures rows { IfOk result (λ t. (t.rows ≡ rows) × (t.width ≡ width)) }
+        ensures size { IfOk result (λ t. length t.cells ≡ rows * width) }
         ensures cells { IfOk result (λ t. (row column : ℕ) → row < rows → column < width → at t row column value ≡ value) }
     {
         let mut cells = Vec::new(alloc);

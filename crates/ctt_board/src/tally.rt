@@ -57,22 +57,3 @@ pub(crate) fn take_column(counts: &mut Table<u16>, rows: &[CurriculumNo], column
         take(counts, row.get() as usize, column, true);
     }
 }
-
-/// Whether each of these rows counts at most so many in a column.
-pub(crate) fn are_at_most(
-    counts: &Table<u16>,
-    rows: &[CurriculumNo],
-    column: usize,
-    most: u16,
-) -> bool
-    requires rows { Each (λ r. r < counts.now.rows) rows.now }
-    requires column { column < counts.now.width }
-    ensures { result ≡ true → Each (λ r. at counts.now r column 0 ≤ most) rows.now }
-{
-    for row in rows {
-        if counts.get(row.get() as usize, column) > most {
-            return false;
-        }
-    }
-    true
-}

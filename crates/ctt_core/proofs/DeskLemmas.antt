@@ -228,7 +228,12 @@ desk_is_plain v past event answer l st f a =
 pub desk_is_serial : DeskIsSerial
 desk_is_serial v past l st =
     let both : Legal v.problem v.opening (accepted_of past) × Lawful v.problem (now v.problem v.opening past) = headline v.problem v.opening (length v.drafts) past l st.fit st.right in
-    record { legal = both.0; list = st.at.list; journal = st.at.journal; lawful = subst (Lawful v.problem) (sym st.at.list) both.1 }
+    record {
+      journal = st.at.journal;
+      legal = subst (Legal v.problem v.opening) (sym st.at.journal) both.0;
+      list = st.at.list ∙ ap (after v.problem v.opening) (sym st.at.journal);
+      lawful = subst (Lawful v.problem) (sym st.at.list) both.1;
+    }
 
 pub serial_after : (v : DeskValue) (past : List Turn) (event : Event) (answer : Answer) → Lawful v.problem v.opening → Stands v past → EventFits v.problem (length v.drafts) event → Answers v event answer → Serial (goes_on v event answer) (record { event = event; answer = answer } ∷ past)
 serial_after v past event answer l st f a =

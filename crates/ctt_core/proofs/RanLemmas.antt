@@ -5,9 +5,16 @@ use Rattle.std.specs.List.{AllByRecursion as Each}
 use Rattle.ctt_text.proofs.TimetableLemmas.{Each-at}
 use Rattle.ctt_core.specs.Runs.{Turn, EventFits, onto}
 use Rattle.ctt_core.specs.Desks.{DeskValue, SameDesk}
-use Rattle.ctt_core.specs.Laws.{Stands, Ran}
+use Rattle.ctt_core.specs.Laws.{Stands}
 use Rattle.ctt_core.specs.declared.event.Event.{Event}
 use Rattle.ctt_core.specs.declared.answer.Answer.{Answer}
+
+-- the desk w is where the desk v comes by these answers to the events done; there is room for the answers to all
+pub record Ran (v w : DeskValue) (all done : List Event) (answers : List Answer) (capacity : ℕ) : Type 0 where
+  pub same : SameDesk v w
+  pub counted : length answers ≡ length done
+  pub room : length all ≤ capacity
+  pub stands : (past : List Turn) → Stands v past → Stands w (onto past done answers)
 
 onto-push : (past : List Turn) (es : List Event) (ns : List Answer) (e : Event) (a : Answer) → length ns ≡ length es → onto past (es ++ e ∷ []) (ns ++ a ∷ []) ≡ record { event = e; answer = a } ∷ onto past es ns
 onto-push past [] [] e a n = refl

@@ -20,7 +20,7 @@ use Rattle.ctt_core.specs.declared.journal.JournalEntry.{JournalEntry}
 use Rattle.ctt_draft.proofs.CallRuns.{lawful_whole, replies-push}
 use Rattle.ctt_draft.proofs.FrameLemmas.{draft_frame}
 use Rattle.ctt_core.specs.Runs.{after, Legal, Turn, OpenDraft, ask, turned, is_commit, commits, draft, entry, entered, accepted_of, now, base, open_answer, ask_answer, verdict, commit_answer, abandon_answer, plain, IsRight, Right, EventFits, RunFits}
-use Rattle.ctt_core.specs.Laws.{Headline, OntoJoins}
+use Rattle.ctt_core.specs.Laws.{Headline, OntoJoins, AfterJoins, LegalJoins}
 
 Each-join : {X : Type 0} (P : X → Type 0) (xs ys : List X) → Each P xs → Each P ys → Each P (xs ++ ys)
 Each-join P [] ys h k = k
@@ -38,14 +38,23 @@ Each-take P zero xs h = tt
 Each-take P (suc n) [] h = tt
 Each-take P (suc n) (x ∷ xs) h = (h.0, Each-take P n xs h.1)
 
+-- histories one after another
+pub after_joins : AfterJoins
+after_joins i t [] more = refl
+after_joins i t (x ∷ xs) more = after_joins i (whole i t (calls_of x.asked)) xs more
+
+pub legal_joins : LegalJoins
+legal_joins i t [] more = (λ l. (tt, l), λ l. l.1)
+legal_joins i t (x ∷ xs) more =
+    let rest = legal_joins i (whole i t (calls_of x.asked)) xs more in
+    (λ l. ((l.0, (rest.0 l.1).0), (rest.0 l.1).1), λ l. (l.0.0, rest.1 (l.0.1, l.1)))
+
 -- one more draft at the end of a history
 pub Legal-push : (i : Problem) (t : List Placed) (h : List JournalEntry) (e : JournalEntry) → Legal i t h → replies_in e.asked ≡ replies i (after i t h) (calls_of e.asked) → Legal i t (h ++ e ∷ [])
-Legal-push i t [] e l k = (k, tt)
-Legal-push i t (x ∷ xs) e l k = (l.0, Legal-push i (whole i t (calls_of x.asked)) xs e l.1 k)
+Legal-push i t h e l k = (legal_joins i t h (e ∷ [])).1 (l, (k, tt))
 
 pub after-push : (i : Problem) (t : List Placed) (h : List JournalEntry) (e : JournalEntry) → after i t (h ++ e ∷ []) ≡ whole i (after i t h) (calls_of e.asked)
-after-push i t [] e = refl
-after-push i t (x ∷ xs) e = after-push i (whole i t (calls_of x.asked)) xs e
+after-push i t h e = after_joins i t h (e ∷ [])
 
 -- an open draft was told what it is told on its base
 abbrev pub GoodDraft : Problem → List Placed → List JournalEntry → Option OpenDraft → Type 0

@@ -95,9 +95,10 @@ abbrev pub Answers : DeskValue → Event → Answer → Type 0
 Answers v event answer = (answer ≡ answer_of v event) ⊎ ((answer ≡ NoMemory) × (may_want event (answer_of v event) ≡ true))
 
 -- what a desk keeps to: its sheet and its open drafts are of its instance, and its opening is lawful
-pub record IsDesk (i j : Problem) (opening : List Placed) (drafts : List (Option DraftValue)) : Type 0 where
+pub record IsDesk (i j : Problem) (opening : List Placed) (drafts : List (Option DraftValue)) (planners : ℕ) : Type 0 where
   pub same : j ≡ i
   pub opening_lawful : Lawful i opening
+  pub counted : length drafts ≡ planners
   pub drafts_of : (p : ℕ) → IfSome (draft_at drafts p) (λ d. d.problem ≡ i)
 
 -- there is a draft, which can be settled

@@ -2,3 +2,5 @@ pub mod Runs
 pub mod Desks
 pub mod Laws
 pub mod Openings
+pub mod Entries
+pub mod Audits

@@ -31,15 +31,21 @@ pub record Turn : Type 0 where
   pub event : Event
   pub answer : Answer
 
+-- the turn in which the event was answered so
+abbrev pub answered : Event → Answer → Turn
+answered event answer = record { event = event; answer = answer }
+
 -- a draft that is open: how many commits came before it, and what was asked in it
 pub record OpenDraft : Type 0 where
   pub count : ℕ
   pub asked : List Asked
 
+-- the draft, if there is one, with one more call
 abbrev pub ask : Call → Reply → Option OpenDraft → Option OpenDraft
 ask call told None = None
 ask call told (Some d) = Some (record { count = d.count; asked = d.asked ++ record { call = call; reply = told } ∷ [] })
 
+-- a draft that is opened behind so many commits
 abbrev pub begin : ℕ → Option OpenDraft
 begin count = Some (record { count = count; asked = [] })
 
@@ -52,6 +58,7 @@ turned p count (Commit q) (Stale row) d = cond (p == q) None d
 turned p count (Abandon q) Abandoned d = cond (p == q) None d
 turned p count _ _ d = d
 
+-- 1 for an accepted commit
 abbrev pub is_commit : Answer → ℕ
 is_commit (Committed n) = 1
 is_commit _ = 0
@@ -66,6 +73,7 @@ abbrev pub draft : ℕ → List Turn → Option OpenDraft
 draft p [] = None
 draft p (turn ∷ past) = turned p (commits past) turn.event turn.answer (draft p past)
 
+-- the entry of an open draft, and what a turn enters into the history: the draft that it commits
 abbrev pub entry : ℕ → Option OpenDraft → List JournalEntry
 entry p None = []
 entry p (Some d) = record { planner = p; asked = d.asked } ∷ []
@@ -86,15 +94,17 @@ now i t0 past = after i t0 (accepted_of past)
 abbrev pub base : Problem → List Placed → List Turn → OpenDraft → List Placed
 base i t0 past d = after i t0 (take d.count (accepted_of past))
 
--- the answers of a plain desk
+-- the answers of a plain desk, by the draft that the planner has open: to an open ..
 abbrev pub open_answer : Option OpenDraft → Answer
 open_answer None = Opened
 open_answer (Some d) = AlreadyOpen
 
+-- .. to a call: what it is told at the end of the draft, on the base ..
 abbrev pub ask_answer : Problem → List Placed → List Turn → Call → Option OpenDraft → Answer
 ask_answer i t0 past call None = NoDraft
 ask_answer i t0 past call (Some d) = Replied (reply i (whole i (base i t0 past d) (calls_of d.asked)) call)
 
+-- .. to a commit: the number of accepted drafts, or the stale row ..
 abbrev pub verdict : ℕ → Option Row → Answer
 verdict n None = Committed n
 verdict n (Some row) = Stale row
@@ -103,10 +113,12 @@ abbrev pub commit_answer : Problem → List Placed → List Turn → Option Open
 commit_answer i t0 past None = NoDraft
 commit_answer i t0 past (Some d) = verdict (commits past + 1) (stale i (base i t0 past d) (now i t0 past) (calls_of d.asked))
 
+-- .. and to an abandon
 abbrev pub abandon_answer : Option OpenDraft → Answer
 abandon_answer None = NoDraft
 abandon_answer (Some d) = Abandoned
 
+-- what a plain desk answers, which keeps the past alone
 abbrev pub plain : Problem → List Placed → List Turn → Event → Answer
 plain i t0 past (Open p) = open_answer (draft p past)
 plain i t0 past (Ask p call) = ask_answer i t0 past call (draft p past)
@@ -114,16 +126,18 @@ plain i t0 past (Commit p) = commit_answer i t0 past (draft p past)
 plain i t0 past (Abandon p) = abandon_answer (draft p past)
 plain i t0 past (Show look) = Replied (shown i (now i t0 past) look)
 
--- where memory may be wanted
+-- whether memory may be wanted for an event that has this answer: never to give a draft up, nor to say that there is one already, or none
 abbrev pub may_want : Event → Answer → Bool
 may_want (Abandon p) a = false
 may_want _ AlreadyOpen = false
 may_want _ NoDraft = false
 may_want _ _ = true
 
+-- the answer is that of a plain desk, or want of memory where it may come
 abbrev pub IsRight : Problem → List Placed → List Turn → Event → Answer → Type 0
 IsRight i t0 past event answer = (answer ≡ plain i t0 past event) ⊎ ((answer ≡ NoMemory) × (may_want event (plain i t0 past event) ≡ true))
 
+-- all answers of a run are right
 abbrev pub Right : Problem → List Placed → List Turn → Type 0
 Right i t0 [] = Unit {0}
 Right i t0 (turn ∷ past) = IsRight i t0 past turn.event turn.answer × Right i t0 past
@@ -136,6 +150,7 @@ EventFits i n (Commit p) = p < n
 EventFits i n (Abandon p) = p < n
 EventFits i n (Show look) = LookFits i look
 
+-- all events of a run fit
 abbrev pub RunFits : Problem → ℕ → List Turn → Type 0
 RunFits i n past = Each (λ (turn : Turn). EventFits i n turn.event) past
 
@@ -143,4 +158,4 @@ RunFits i n past = Each (λ (turn : Turn). EventFits i n turn.event) past
 abbrev pub onto : List Turn → List Event → List Answer → List Turn
 onto past [] answers = past
 onto past (e ∷ es) [] = past
-onto past (e ∷ es) (a ∷ answers) = onto (record { event = e; answer = a } ∷ past) es answers
+onto past (e ∷ es) (a ∷ answers) = onto (answered e a ∷ past) es answers

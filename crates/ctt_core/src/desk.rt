@@ -1,31 +1,31 @@
 //! The desk.
 
-ghost use Rattle.std.specs.Prelude.{◌≡◌, ◌⊎◌, ℕ, ◌+◌, ◌<◌, List, [], ◌∷◌, length, None, Ok, Err, IfOk, IfErr, OnErr};
+ghost use Rattle.std.specs.Prelude.{◌≡◌, ◌⊎◌, ◌↔◌, ℕ, ◌+◌, ◌<◌, List, [], ◌∷◌, length, None, Ok, IfOk, IfErr, OnErr, IsTrue};
 ghost use Rattle.std.specs.List.{AllByRecursion as Each};
 ghost use Rattle.ctt_text.specs.Timetable.{Fits};
 ghost use Rattle.ctt_edits.specs.Calls.{CallFits};
 ghost use Rattle.ctt_edits.specs.Looks.{LookFits};
 ghost use Rattle.ctt_rules.specs.Hard.{Lawful};
 ghost use Rattle.ctt_rules.specs.Penalty.{penalty};
-ghost use Rattle.ctt_core.specs.Runs.{EventFits, Turn, onto};
-ghost use Rattle.ctt_core.specs.Laws.{Stands, Serial};
+ghost use Rattle.ctt_core.specs.Runs.{after, Legal, Turn, answered, accepted_of, EventFits, onto};
+ghost use Rattle.ctt_core.specs.Laws.{Stands};
 ghost use Rattle.ctt_core.specs.Desks.{Answers, goes_on, draft_at, IsFresh, SameDesk};
 ghost use Rattle.ctt_core.specs.declared.answer.Answer.TheVariants.{Committed};
 ghost use Rattle.ctt_core.specs.declared.answer.Answer.TheVariants.{NoMemory as OutOfMemory};
-ghost use Rattle.ctt_core.specs.Openings.{opening};
-ghost use Rattle.ctt_core.specs.declared.desk_fault.DeskFault.TheVariants.{NoMemory as WantsMemory};
+ghost use Rattle.ctt_edits.specs.Openings.{opening};
+ghost use Rattle.ctt_core.specs.Openings.{IsOpeningFault};
 ghost use Rattle.ctt_core.specs.declared.event.Event.TheVariants.{Open, Ask, Commit, Abandon, Show};
 
 use crate::answer::Answer;
 use crate::desk_fault::DeskFault;
-use crate::event::Event;
+use crate::event::{Event, all_fit};
 use crate::journal::JournalEntry;
 use crate::laws;
 use crate::opening::placed;
 use crate::planner::PlannerNo;
 use ctt_board::{Rooms, Sheet, Timetable};
 use ctt_draft::Draft;
-use ctt_edits::{Call, Look, look_at};
+use ctt_edits::{Call, Look};
 use ctt_rules::Cost;
 use ctt_text::{Instance, NoMemory, Placed};
 use std::alloc::{AllocError, Global};
@@ -39,6 +39,7 @@ pub struct Desk<'i, S: Timetable> {
     sheet: S,
     journal: Vec<JournalEntry>,
     drafts: Vec<Option<Draft<'i, S>>>,
+    planners: u16,
 }
 
 impl<'i, S: Timetable> Model for Desk<'i, S> {
@@ -48,7 +49,7 @@ impl<'i, S: Timetable> Model for Desk<'i, S> {
 
     ghost view = { λ d. record { problem = d.instance.now; opening = d.opening.items; list = S.list d.sheet; journal = d.journal.items; drafts = d.drafts.items } };
 
-    ghost invariant = { λ d. IsDesk d.instance.now (S.problem d.sheet) d.opening.items d.drafts.items };
+    ghost invariant = { λ d. IsDesk d.instance.now (S.problem d.sheet) d.opening.items d.drafts.items d.planners };
 }
 
 /// No draft for each of so many planners.
@@ -67,7 +68,8 @@ fn no_drafts<'i, S: Timetable>(
 }
 
 impl<'i, S: Sheet<'i>> Desk<'i, S> {
-    /// A desk whose opening timetable has these lectures, which are placed in their order.
+    /// A desk whose opening timetable has these lectures, which are placed in their order, whatever it
+    /// is, for so many planners. It is refused at the first lecture that cannot be placed.
     pub fn new(
         alloc: Global,
         instance: &'i Instance,
@@ -79,7 +81,7 @@ impl<'i, S: Sheet<'i>> Desk<'i, S> {
         ensures opening { IfOk result (λ desk. opening instance.now lectures.now ≡ Ok desk.opening) }
         ensures planners { IfOk result (λ desk. length desk.drafts ≡ planners) }
         ensures stands { IfOk result (λ desk. Stands desk []) }
-        ensures fault { IfErr result (λ fault. (fault ≡ WantsMemory) ⊎ (opening instance.now lectures.now ≡ Err fault)) }
+        ensures fault { IfErr result (IsOpeningFault instance.now lectures.now) }
     {
         let sheet: S = placed(alloc, instance, lectures)?;
         sheet.lawful();
@@ -91,7 +93,29 @@ impl<'i, S: Sheet<'i>> Desk<'i, S> {
             sheet,
             journal: Vec::new(alloc),
             drafts,
+            planners,
         })
+    }
+
+    /// The instance whose courses are timetabled.
+    pub fn instance(&self) -> &'i Instance
+        ensures { result.now ≡ self.now.problem }
+    {
+        self.instance
+    }
+
+    /// How many planners there are: their numbers are those below.
+    pub fn planners(&self) -> u16
+        ensures { result ≡ length self.now.drafts }
+    {
+        self.planners
+    }
+
+    /// Whether events have numbers of the desk's instance and of its planners, as `step` and `run` ask.
+    pub fn takes(&self, events: &[Event]) -> bool
+        ensures { IsTrue result ↔ Each (EventFits self.now.problem (length self.now.drafts)) events.now }
+    {
+        all_fit(events, self.instance(), self.planners())
     }
 
     /// The lectures, by course and slot.
@@ -172,7 +196,7 @@ impl<'i, S: Sheet<'i>> Desk<'i, S> {
         ensures answer { Answers self.now (Show look.now) result }
         ensures goes_on { self.now ≡ goes_on self.now (Show look.now) result }
     {
-        match look_at(&self.sheet, look) {
+        match ctt_edits::look(*self.journal.allocator(), &self.sheet, look) {
             Ok(told) => Answer::Replied(told),
             Err(_) => Answer::NoMemory,
         }
@@ -220,11 +244,12 @@ impl<'i, S: Sheet<'i>> Desk<'i, S> {
         }
     }
 
-    /// Computes nothing: its contract says that the opening is lawful.
+    /// Computes nothing: its contract says that the opening and the timetable are lawful.
     pub fn lawful(&self)
-        ensures { Lawful self.now.problem self.now.opening }
+        ensures opening { Lawful self.now.problem self.now.opening }
+        ensures list { Lawful self.now.problem self.now.list }
     {
-        let _opening = &self.opening;
+        self.sheet.lawful();
     }
 
     /// Answers an event by what the desk keeps.
@@ -243,29 +268,46 @@ impl<'i, S: Sheet<'i>> Desk<'i, S> {
     }
 
     /// Answers an event. Where memory is wanted nothing was done, and a draft stays open.
+    ///
+    /// Where the desk stands at a run of right answers, it then stands at the longer run, whose answers
+    /// are right too; its journal is the accepted history, each entry was told what it is told at its
+    /// place there, and the timetable is the opening after the journal. It is always lawful.
     pub fn step(&mut self, event: Event) -> Answer
         requires { EventFits self.old.problem (length self.old.drafts) event }
+        ensures answer { Answers self.old event result }
         ensures goes_on { self.new ≡ goes_on self.old event result }
+        ensures no_memory { result ≡ OutOfMemory → self.new ≡ self.old }
         ensures same { SameDesk self.old self.new }
-        ensures plain { (past : List Turn) → Stands self.old past → Stands self.new (record { event = event; answer = result } ∷ past) }
-        ensures serial { (past : List Turn) → Stands self.old past → Serial self.new (record { event = event; answer = result } ∷ past) }
+        ensures stands { (past : List Turn) → Stands self.old past → Stands self.new (answered event result ∷ past) }
+        ensures journal { (past : List Turn) → Stands self.old past → self.new.journal ≡ accepted_of (answered event result ∷ past) }
+        ensures legal { (past : List Turn) → Stands self.old past → Legal self.new.problem self.new.opening self.new.journal }
+        ensures list { (past : List Turn) → Stands self.old past → self.new.list ≡ after self.new.problem self.new.opening self.new.journal }
+        ensures lawful { Lawful self.new.problem self.new.list }
     {
         laws::desk_is_plain();
         laws::desk_is_serial();
         self.lawful();
-        self.answer(event)
+        let answer = self.answer(event);
+        self.lawful();
+        answer
     }
 
     /// Answers events one after another. Where there is no memory for the answers no event was taken.
+    ///
+    /// What `step` says of one event holds of all.
     pub fn run(&mut self, events: &[Event]) -> Result<Vec<Answer>, NoMemory>
         requires { Each (EventFits self.old.problem (length self.old.drafts)) events.now }
         ensures same { SameDesk self.old self.new }
         ensures length { IfOk result (λ answers. length answers.items ≡ length events.now) }
-        ensures plain { IfOk result (λ answers. (past : List Turn) → Stands self.old past → Stands self.new (onto past events.now answers.items)) }
-        ensures serial { IfOk result (λ answers. (past : List Turn) → Stands self.old past → Serial self.new (onto past events.now answers.items)) }
+        ensures stands { IfOk result (λ answers. (past : List Turn) → Stands self.old past → Stands self.new (onto past events.now answers.items)) }
+        ensures journal { IfOk result (λ answers. (past : List Turn) → Stands self.old past → self.new.journal ≡ accepted_of (onto past events.now answers.items)) }
+        ensures legal { IfOk result (λ answers. (past : List Turn) → Stands self.old past → Legal self.new.problem self.new.opening self.new.journal) }
+        ensures list { IfOk result (λ answers. (past : List Turn) → Stands self.old past → self.new.list ≡ after self.new.problem self.new.opening self.new.journal) }
+        ensures lawful { Lawful self.new.problem self.new.list }
         ensures err { OnErr result (self.new ≡ self.old) }
     {
         laws::desk_is_serial();
+        self.lawful();
         let mut answers = Vec::with_capacity(*self.journal.allocator(), events.len())?;
         for event in events {
             let answer = self.step(*event);

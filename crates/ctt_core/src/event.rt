@@ -1,6 +1,7 @@
 //! What planners do.
 
 ghost use Rattle.std.specs.Prelude.{◌↔◌, IsTrue};
+ghost use Rattle.std.specs.List.{AllByRecursion as Each};
 ghost use Rattle.ctt_core.specs.Runs.{EventFits};
 
 use crate::planner::PlannerNo;
@@ -35,4 +36,11 @@ impl Event {
             Event::Show(look) => look.fits(instance),
         }
     }
+}
+
+/// Whether the numbers of all events are those of the instance, and their planners are of so many.
+pub(crate) fn all_fit(events: &[Event], instance: &Instance, planners: u16) -> bool
+    ensures { IsTrue result ↔ Each (EventFits instance.now planners) events.now }
+{
+    events.iter().all(|event| event.fits(instance, planners))
 }

@@ -1,11 +1,28 @@
 //! Drafts that were accepted.
 
+ghost use Rattle.std.specs.Prelude.{◌↔◌, IsTrue};
+ghost use Rattle.ctt_core.specs.Entries.{EntryFits};
+
 use crate::planner::PlannerNo;
 use ctt_draft::AskedCalls;
+use ctt_text::Instance;
 
 /// An accepted draft: whose it was, and its calls with their replies.
 #[derive(Debug, Drop)]
 pub struct JournalEntry {
+    /// The planner whose draft it was.
     pub planner: PlannerNo,
+    /// The calls with their replies, in order.
     pub asked: AskedCalls,
+}
+
+impl JournalEntry {
+    /// Whether the planner's number is below 1,000, and each call and each reply fits: their numbers are
+    /// those of the instance, and each cost, and a price without its sign, is at most
+    /// 9,223,372,036,854,775,807.
+    pub fn fits(&self, instance: &Instance) -> bool
+        ensures { IsTrue result ↔ EntryFits instance.now self.now }
+    {
+        self.planner.get() < 1000 && self.asked.fits(instance)
+    }
 }

@@ -1,6 +1,6 @@
 //! Laws of runs and desks, for the layers above. None of these functions computes anything.
 
-ghost use Rattle.ctt_core.specs.Laws.{Headline, DeskIsPlain, DeskIsSerial, OntoJoins};
+ghost use Rattle.ctt_core.specs.Laws.{Headline, DeskIsPlain, DeskIsSerial, OntoJoins, AfterJoins, LegalJoins};
 
 /// Whatever the planners' steps: the accepted history is legal, and the timetable after it lawful.
 pub fn headline()
@@ -17,8 +17,14 @@ pub fn onto_joins()
     ensures { OntoJoins }
 {}
 
-/// Of a desk that stands at a right run: the accepted history is legal, and the timetable is the one
-/// after it, and lawful.
+/// Of a desk that stands at a right run: its journal is the accepted history, which is legal, and its
+/// timetable is the opening after the journal, and lawful.
 pub fn desk_is_serial()
     ensures { DeskIsSerial }
+{}
+
+/// What stands after two histories, one after the other, and when they are legal together.
+pub fn histories_join()
+    ensures after { AfterJoins }
+    ensures legal { LegalJoins }
 {}

@@ -1,12 +1,12 @@
 //! Opening timetables.
 
-ghost use Rattle.std.specs.Prelude.{◌≡◌, ◌⊎◌, Ok, Err, IfOk, IfErr};
+ghost use Rattle.std.specs.Prelude.{◌≡◌, Ok, IfOk, IfErr};
 ghost use Rattle.std.specs.List.{AllByRecursion as Each};
 ghost use Rattle.ctt_text.specs.Timetable.{Fits};
 ghost use Rattle.ctt_edits.specs.Edits.{EditFits, edit_fault, edited};
 ghost use Rattle.ctt_edits.specs.declared.edit.Edit.TheVariants.{Place};
-ghost use Rattle.ctt_core.specs.Openings.{opening, IsPlaced};
-ghost use Rattle.ctt_core.specs.declared.desk_fault.DeskFault.TheVariants.{NoMemory as OutOfMemory};
+ghost use Rattle.ctt_edits.specs.Openings.{opening};
+ghost use Rattle.ctt_core.specs.Openings.{IsOpeningFault, IsPlaced};
 
 use crate::desk_fault::DeskFault;
 use ctt_board::{Rooms, Sheet, Timetable};
@@ -41,7 +41,7 @@ pub(crate) fn placed<'i, S: Sheet<'i>>(
     requires { Each (Fits instance.now) lectures.now }
     ensures problem { IfOk result (λ sheet. S.problem sheet ≡ instance.now) }
     ensures list { IfOk result (λ sheet. opening instance.now lectures.now ≡ Ok (S.list sheet)) }
-    ensures fault { IfErr result (λ fault. (fault ≡ OutOfMemory) ⊎ (opening instance.now lectures.now ≡ Err fault)) }
+    ensures fault { IfErr result (IsOpeningFault instance.now lectures.now) }
 {
     let mut sheet: S = S::empty(alloc, instance)?;
     for (at, lecture) in lectures.iter().enumerate() {

@@ -3,12 +3,14 @@ use Rattle.std.proofs.Common.{◌≡◌, ℕ, ◌<◌, None, Bool, false, ◌||�
 use Rattle.std.specs.List.{list_any, AllByRecursion as Each}
 use Rattle.std.proofs.lemmas.Bool.{cases_Bool}
 use Rattle.std.proofs.lemmas.List.{map-append, append-nil}
-use Rattle.ctt_text.specs.Marks.{is_marked}
 use Rattle.ctt_text.specs.Problem.{Problem, course_count, slot_count}
 use Rattle.ctt_text.specs.declared.placed.Placed.{Placed}
 use Rattle.ctt_board.specs.Changes.{apply, ChangeFits}
 use Rattle.ctt_board.specs.declared.cell.Cell.{Cell}
 use Rattle.ctt_edits.specs.Calls.{CallFits, reply, cells_of, cells_if, reads_course, reads_slot}
+use Rattle.ctt_edits.specs.RowSets.{RowSet, is_in, AddsReads}
+use Rattle.ctt_edits.specs.declared.row.Row.{Row}
+use Rattle.ctt_edits.specs.declared.row.Row.TheVariants.{Course as CourseRow, Slot as SlotRow}
 use Rattle.ctt_edits.specs.Edits.{EditFits, edit_fault, change}
 use Rattle.ctt_edits.specs.Looks.{told_or}
 use Rattle.ctt_edits.specs.declared.call.Call.{Call}
@@ -44,11 +46,10 @@ told_more i base asked a d f told = record {
 }
 
 -- a call is kept with its reply, its change is made, and the rows that it reads are marked
-pub draft_more : (i j k l : Problem) (base here next : List Placed) (asked longer : List Asked) (a : Asked) (old new : List (List Cell)) (courses slots courses' slots' : List Bool) → IsDraft i j k base here asked old courses slots →
+pub draft_more : (i j k l : Problem) (base here next : List Placed) (asked longer : List Asked) (a : Asked) (old new : List (List Cell)) (rows rows' : RowSet) → IsDraft i j k base here asked old rows →
     longer ≡ asked ++ a ∷ [] → CallFits i a.call → a.reply ≡ reply i here a.call → l ≡ i → next ≡ after_call i here a.call → new ≡ old ++ made (cells_of i here a.call) →
-    ((n : ℕ) → n < course_count i → is_marked courses' n ≡ (is_marked courses n || reads_course i a.call n)) → ((n : ℕ) → n < slot_count i → is_marked slots' n ≡ (is_marked slots n || reads_slot a.call n)) →
-    IsDraft i j l base next longer new courses' slots'
-draft_more i j k l base here next asked longer a old new courses slots courses' slots' d same f told of is more cs ss =
+    AddsReads i a.call rows rows' → IsDraft i j l base next longer new rows'
+draft_more i j k l base here next asked longer a old new rows rows' d same f told of is more adds =
     let calls : calls_of longer ≡ calls_of asked ++ a.call ∷ [] = ap calls_of same ∙ calls-push asked a in
     record {
       base_of = d.base_of;
@@ -56,34 +57,33 @@ draft_more i j k l base here next asked longer a old new courses slots courses' 
       is_told = subst (IsTold i base) (sym same) (told_more i base asked a d.is_told f (told ∙ ap (λ t. reply i t a.call) d.present_is));
       present_is = is ∙ ap (λ t. after_call i t a.call) d.present_is ∙ sym (whole-push i base (calls_of asked) a.call) ∙ ap (whole i base) (sym calls);
       made_is = more ∙ ap₂ (λ xs t. xs ++ made (cells_of i t a.call)) d.made_is d.present_is ∙ sym (changes-push i base (calls_of asked) a.call) ∙ ap (changes i base) (sym calls);
-      courses_are = λ n lt. cs n lt ∙ ap (λ b. b || reads_course i a.call n) (d.courses_are n lt) ∙ sym (any-push (λ call. reads_course i call n) (calls_of asked) a.call) ∙ ap (λ xs. all_read_course i xs n) (sym calls);
-      slots_are = λ n lt. ss n lt ∙ ap (λ b. b || reads_slot a.call n) (d.slots_are n lt) ∙ sym (any-push (λ call. reads_slot call n) (calls_of asked) a.call) ∙ ap (λ xs. all_read_slot xs n) (sym calls);
+      courses_are = λ n lt. adds.courses n lt ∙ ap (λ b. b || reads_course i a.call n) (d.courses_are n lt) ∙ sym (any-push (λ call. reads_course i call n) (calls_of asked) a.call) ∙ ap (λ xs. all_read_course i xs n) (sym calls);
+      slots_are = λ n lt. adds.slots n lt ∙ ap (λ b. b || reads_slot a.call n) (d.slots_are n lt) ∙ sym (any-push (λ call. reads_slot call n) (calls_of asked) a.call) ∙ ap (λ xs. all_read_slot xs n) (sym calls);
     }
 
 -- nothing was asked yet
-pub draft_open : (i j k : Problem) (base here : List Placed) (courses slots : List Bool) → j ≡ i → k ≡ i → here ≡ base → ((n : ℕ) → is_marked courses n ≡ false) → ((n : ℕ) → is_marked slots n ≡ false) → IsDraft i j k base here [] [] courses slots
-draft_open i j k base here courses slots e f same cs ss = record {
+pub draft_open : (i j k : Problem) (base here : List Placed) (asked : List Asked) (old : List (List Cell)) (rows : RowSet) → j ≡ i → k ≡ i → here ≡ base → asked ≡ [] → old ≡ [] → ((row : Row) → is_in rows row ≡ false) → IsDraft i j k base here asked old rows
+draft_open i j k base here asked old rows e f same none no_changes empty = rw (none, no_changes) record {
   base_of = e;
   present_of = f;
   is_told = record { fit = tt; told = refl };
   present_is = same;
   made_is = refl;
-  courses_are = λ n lt. cs n;
-  slots_are = λ n lt. ss n;
+  courses_are = λ n lt. empty (CourseRow n);
+  slots_are = λ n lt. empty (SlotRow n);
 }
 
 -- the steps of a draft, by its value v
-module _ (i j k : Problem) (base here : List Placed) (asked : List Asked) (old : List (List Cell)) (courses slots : List Bool) (v : DraftValue) (d : IsDraft i j k base here asked old courses slots) (e : ◌≡◌ {A = DraftValue} (record { problem = i; base = base; asked = asked }) v) where
+module _ (i j k : Problem) (base here : List Placed) (asked : List Asked) (old : List (List Cell)) (rows : RowSet) (v : DraftValue) (d : IsDraft i j k base here asked old rows) (e : ◌≡◌ {A = DraftValue} (record { problem = i; base = base; asked = asked }) v) where
   -- a call that changes nothing
-  pub draft_kept : (longer : List Asked) (courses' slots' : List Bool) (call : Call) (told : Reply) → longer ≡ asked ++ record { call = call; reply = told } ∷ [] → CallFits v.problem call → told ≡ reply v.problem (present v) call → cells_of v.problem (present v) call ≡ [] →
-      ((n : ℕ) → n < course_count i → is_marked courses' n ≡ (is_marked courses n || reads_course i call n)) → ((n : ℕ) → n < slot_count i → is_marked slots' n ≡ (is_marked slots n || reads_slot call n)) →
-      IsDraft i j k base here longer old courses' slots'
-  draft_kept longer courses' slots' call told same f t still cs ss =
+  pub draft_kept : (longer : List Asked) (rows' : RowSet) (call : Call) (told : Reply) → longer ≡ asked ++ record { call = call; reply = told } ∷ [] → CallFits v.problem call → told ≡ reply v.problem (present v) call → cells_of v.problem (present v) call ≡ [] →
+      AddsReads i call rows rows' → IsDraft i j k base here longer old rows'
+  draft_kept longer rows' call told same f t still adds =
       let f' : CallFits i call = subst (λ (w : DraftValue). CallFits w.problem call) (sym e) f in
       let t' : told ≡ reply i here call = subst (λ (w : DraftValue). told ≡ reply w.problem (present w) call) (sym e) t ∙ ap (λ u. reply i u call) (sym d.present_is) in
       let still' : cells_of i here call ≡ [] = ap (λ u. cells_of i u call) d.present_is ∙ subst (λ (w : DraftValue). cells_of w.problem (present w) call ≡ []) (sym e) still in
-      draft_more i j k k base here here asked longer (record { call = call; reply = told }) old old courses slots courses' slots' d same f' t' d.present_of
-      (ap (λ cells. apply cells here) (sym still')) (sym (ap (λ cells. old ++ made cells) still' ∙ append-nil old)) cs ss
+      draft_more i j k k base here here asked longer (record { call = call; reply = told }) old old rows rows' d same f' t' d.present_of
+      (ap (λ cells. apply cells here) (sym still')) (sym (ap (λ cells. old ++ made cells) still' ∙ append-nil old)) adds
 
   -- the change of an edit fits the present timetable
   pub edit_fits_here : (x : Edit) (cells : List Cell) → Lawful k here → EditFits v.problem x → edit_fault v.problem (present v) x ≡ None → cells ≡ change (present v) x → ChangeFits k cells here
@@ -94,14 +94,13 @@ module _ (i j k : Problem) (base here : List Placed) (asked : List Asked) (old :
       subst (λ cs. ChangeFits k cs here) (sym same') (edits_fit k here x h f' free')
 
   -- an edit that is made
-  pub draft_made : (longer : List Asked) (courses' slots' : List Bool) (x : Edit) (cells : List Cell) (l : Problem) (next : List Placed) (new : List (List Cell)) → longer ≡ asked ++ record { call = Edits x; reply = Done } ∷ [] → EditFits v.problem x → edit_fault v.problem (present v) x ≡ None → cells ≡ change (present v) x →
+  pub draft_made : (longer : List Asked) (rows' : RowSet) (x : Edit) (cells : List Cell) (l : Problem) (next : List Placed) (new : List (List Cell)) → longer ≡ asked ++ record { call = Edits x; reply = Done } ∷ [] → EditFits v.problem x → edit_fault v.problem (present v) x ≡ None → cells ≡ change (present v) x →
       l ≡ k → next ≡ apply cells here → new ≡ old ++ cells ∷ [] →
-      ((n : ℕ) → n < course_count i → is_marked courses' n ≡ (is_marked courses n || reads_course i (Edits x) n)) → ((n : ℕ) → n < slot_count i → is_marked slots' n ≡ (is_marked slots n || reads_slot (Edits x) n)) →
-      IsDraft i j l base next longer new courses' slots'
-  draft_made longer courses' slots' x cells l next new same f free cells_are of is more cs ss =
+      AddsReads i (Edits x) rows rows' → IsDraft i j l base next longer new rows'
+  draft_made longer rows' x cells l next new same f free cells_are of is more adds =
       let f' : EditFits i x = subst (λ (w : DraftValue). EditFits w.problem x) (sym e) f in
       let free' : edit_fault i here x ≡ None = ap (λ u. edit_fault i u x) d.present_is ∙ subst (λ (w : DraftValue). edit_fault w.problem (present w) x ≡ None) (sym e) free in
       let cells' : cells ≡ cells_of i here (Edits x) = subst (λ (w : DraftValue). cells ≡ change (present w) x) (sym e) cells_are ∙ ap (λ u. change u x) (sym d.present_is) ∙ sym (ap (λ o. cells_if o (change here x)) free') in
       let one : made (cells_of i here (Edits x)) ≡ cells ∷ [] = ap (λ o. made (cells_if o (change here x))) free' ∙ made_edit here x ∙ ap (λ cs. cs ∷ []) (ap (λ o. cells_if o (change here x)) (sym free') ∙ sym cells') in
-      draft_more i j k l base here next asked longer (record { call = Edits x; reply = Done }) old new courses slots courses' slots' d same f' (sym (ap (λ o. told_or o Done) free')) (of ∙ d.present_of)
-      (is ∙ ap (λ cs. apply cs here) cells') (more ∙ ap (λ xs. old ++ xs) (sym one)) cs ss
+      draft_more i j k l base here next asked longer (record { call = Edits x; reply = Done }) old new rows rows' d same f' (sym (ap (λ o. told_or o Done) free')) (of ∙ d.present_of)
+      (is ∙ ap (λ cs. apply cs here) cells') (more ∙ ap (λ xs. old ++ xs) (sym one)) adds

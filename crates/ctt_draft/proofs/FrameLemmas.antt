@@ -1,7 +1,7 @@
 -- A draft that is not stale does on the present timetable what it did on its base.
-use Rattle.std.proofs.Common.{◌≡◌, ℕ, Bool, true, false, ◌&&◌, ◌==◌, List, [], ◌∷◌, ◌++◌, Some, None, refl, ◌∙◌, sym, ap, ap₂, subst, inl, inr}
+use Rattle.std.proofs.Common.{◌≡◌, ◌↔◌, IsTrue, ℕ, Bool, true, false, not, ◌&&◌, ◌==◌, List, [], ◌∷◌, ◌++◌, Some, None, refl, ◌∙◌, sym, ap, ap₂, subst, inl, inr}
 use Rattle.std.specs.List.{find, AllByRecursion as Each}
-use Rattle.std.proofs.lemmas.Bool.{cases_Bool, eqb-true, and_parts, or_left, or_right, not-false}
+use Rattle.std.proofs.lemmas.Bool.{cases_Bool, eqb-true, eq-eqb, and_parts, or_left, or_right, not-false}
 use Rattle.std.proofs.lemmas.List.Elements.{All-from_recursion}
 use Rattle.ctt_text.specs.Problem.{Problem}
 use Rattle.ctt_text.specs.Timetable.{Ascending}
@@ -61,6 +61,20 @@ same_list_true (x ∷ xs) [] h = cc
 same_list_true (x ∷ xs) (y ∷ ys) h =
     let parts = and_parts (same_lecture x y) (same_list xs ys) h in
     ap₂ (λ z zs. z ∷ zs) (same_lecture_true x y parts.0) (same_list_true xs ys parts.1)
+
+same_list_refl : (xs : List Placed) → same_list xs xs ≡ true
+same_list_refl [] = refl
+same_list_refl (x ∷ xs) = rw (eq-eqb x.course x.course refl, eq-eqb x.slot x.slot refl, eq-eqb x.room x.room refl) (same_list_refl xs)
+
+-- a test whether rows are the same tells whether they differ
+pub differs_by : (b : Bool) (t u : List Placed) (r : Row) → IsTrue b ↔ (row r t ≡ row r u) → not b ≡ differs t u r
+differs_by true t u r h =
+    let same : row r t ≡ row r u = h.0 refl in
+    sym (ap (λ xs. not (same_list (row r t) xs)) (sym same) ∙ ap not (same_list_refl (row r t)))
+differs_by false t u r h = elim (cases_Bool (same_list (row r t) (row r u))) [
+  | inl y ↦ absurd (let bad = h.1 (same_list_true (row r t) (row r u) y) in cc)
+  | inr n ↦ sym (ap not n)
+]
 
 first_none : {X : Type 0} (p : X → Bool) (xs : List X) → find p xs ≡ None → Each (λ x. p x ≡ false) xs
 first_none p [] h = tt

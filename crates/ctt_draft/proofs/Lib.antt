@@ -4,3 +4,4 @@ pub mod DraftSteps
 pub mod CheckLemmas
 pub mod FirstLemmas
 pub mod StaleLemmas
+pub mod SettleLemmas

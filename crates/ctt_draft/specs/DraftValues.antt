@@ -1,14 +1,14 @@
 -- A draft by its value.
-use Rattle.std.specs.Prelude.{ℕ, ◌≡◌, ◌<◌, Bool, List, [], ◌∷◌, ◌++◌}
+use Rattle.std.specs.Prelude.{ℕ, ◌≡◌, ◌<◌, List, [], ◌∷◌, ◌++◌}
 use Rattle.std.specs.List.{AllByRecursion as Each}
-use Rattle.ctt_text.specs.Marks.{is_marked}
 use Rattle.ctt_text.specs.Problem.{Problem, course_count, slot_count}
 use Rattle.ctt_text.specs.declared.placed.Placed.{Placed}
 use Rattle.ctt_board.specs.declared.cell.Cell.{Cell}
 use Rattle.ctt_edits.specs.Calls.{CallFits}
+use Rattle.ctt_edits.specs.RowSets.{RowSet, has_course, has_slot}
 use Rattle.ctt_edits.specs.declared.call.Call.{Call}
 use Rattle.ctt_edits.specs.declared.reply.Reply.{Reply}
-use Rattle.ctt_draft.specs.Drafts.{calls_of, replies_in, replies, whole, changes, all_read_course, all_read_slot, ChangesFit, apply_all}
+use Rattle.ctt_draft.specs.Drafts.{calls_of, replies_in, replies, whole, changes, all_read_course, all_read_slot, ChangesFit}
 use Rattle.ctt_draft.specs.Laws.{SameOn}
 use Rattle.ctt_draft.specs.declared.asked.Asked.{Asked}
 
@@ -31,23 +31,17 @@ pub record IsTold (i : Problem) (base : List Placed) (asked : List Asked) : Type
   pub fit : Each (CallFits i) (calls_of asked)
   pub told : replies_in asked ≡ replies i base (calls_of asked)
 
--- what a draft keeps: the present timetable, its changes, and marks of the rows read
-pub record IsDraft (i base_problem present_problem : Problem) (base present : List Placed) (asked : List Asked) (made : List (List Cell)) (courses slots : List Bool) : Type 0 where
+-- what a draft keeps: the present timetable, its changes, and the rows read
+pub record IsDraft (i base_problem present_problem : Problem) (base present : List Placed) (asked : List Asked) (made : List (List Cell)) (rows : RowSet) : Type 0 where
   pub base_of : base_problem ≡ i
   pub present_of : present_problem ≡ i
   pub is_told : IsTold i base asked
   pub present_is : present ≡ whole i base (calls_of asked)
   pub made_is : made ≡ changes i base (calls_of asked)
-  pub courses_are : (n : ℕ) → n < course_count i → is_marked courses n ≡ all_read_course i (calls_of asked) n
-  pub slots_are : (n : ℕ) → n < slot_count i → is_marked slots n ≡ all_read_slot (calls_of asked) n
+  pub courses_are : (n : ℕ) → n < course_count i → has_course rows n ≡ all_read_course i (calls_of asked) n
+  pub slots_are : (n : ℕ) → n < slot_count i → has_slot rows n ≡ all_read_slot (calls_of asked) n
 
 -- the draft can be settled on the timetable t: its changes fit there, and it is there what it is on its base
 pub record Settles (d : DraftValue) (t : List Placed) : Type 0 where
   pub fit : ChangesFit d.problem (changes d.problem d.base (calls_of d.asked)) t
   pub same : SameOn d.problem d.base t (calls_of d.asked)
-
--- of these changes on the timetable t the rest is still to be made, on the timetable u
-pub record Settling (i j : Problem) (t u : List Placed) (all rest : List (List Cell)) : Type 0 where
-  pub same : j ≡ i
-  pub fit : ChangesFit j rest u
-  pub ends : apply_all rest u ≡ apply_all all t

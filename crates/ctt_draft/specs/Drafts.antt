@@ -6,7 +6,8 @@ use Rattle.ctt_text.specs.Problem.{Problem}
 use Rattle.ctt_text.specs.declared.placed.Placed.{Placed}
 use Rattle.ctt_board.specs.Changes.{apply, ChangeFits}
 use Rattle.ctt_board.specs.declared.cell.Cell.{Cell}
-use Rattle.ctt_edits.specs.Calls.{reply, cells_of, reads_course, reads_slot, rows_where, row}
+use Rattle.ctt_edits.specs.Calls.{CallFits, reply, cells_of, reads_course, reads_slot, rows_where, row}
+use Rattle.ctt_edits.specs.Fitting.{ReplyFits}
 use Rattle.ctt_edits.specs.declared.call.Call.{Call}
 use Rattle.ctt_edits.specs.declared.reply.Reply.{Reply}
 use Rattle.ctt_edits.specs.declared.row.Row.{Row}
@@ -17,6 +18,10 @@ calls_of asked = map (λ (a : Asked). a.call) asked
 
 abbrev pub replies_in : List Asked → List Reply
 replies_in asked = map (λ (a : Asked). a.reply) asked
+
+-- its call and its reply have numbers of the instance, and amounts of 63 bits
+abbrev pub AskedFits : Problem → Asked → Type 0
+AskedFits i a = CallFits i a.call × ReplyFits i a.reply
 
 -- the timetable after a call
 abbrev pub after_call : Problem → List Placed → Call → List Placed

@@ -1,15 +1,30 @@
 //! Calls with what was told.
 
-ghost use Rattle.std.specs.Prelude.{◌≡◌};
+ghost use Rattle.std.specs.Prelude.{◌≡◌, ◌↔◌, IsTrue};
+ghost use Rattle.std.specs.List.{AllByRecursion as Each};
+ghost use Rattle.ctt_draft.specs.Drafts.{AskedFits};
 
 use ctt_edits::{Call, Reply};
+use ctt_text::Instance;
 use std::marker::Model;
 
 /// A call with its reply.
 #[derive(Debug, Drop)]
 pub struct Asked {
+    /// The edit or look that was asked for.
     pub call: Call,
+    /// What was told.
     pub reply: Reply,
+}
+
+impl Asked {
+    /// Whether the numbers of the call and of the reply are those of the instance, and each cost, and a
+    /// price without its sign, is at most 9,223,372,036,854,775,807.
+    pub fn fits(&self, instance: &Instance) -> bool
+        ensures { IsTrue result ↔ AskedFits instance.now self.now }
+    {
+        self.call.fits(instance) && self.reply.fits(instance)
+    }
 }
 
 /// Calls with their replies, in order.
@@ -40,5 +55,12 @@ impl AskedCalls {
         ensures { result.now ≡ self.now }
     {
         self.list.as_slice()
+    }
+
+    /// Whether each call and each reply fits.
+    pub fn fits(&self, instance: &Instance) -> bool
+        ensures { IsTrue result ↔ Each (AskedFits instance.now) self.now }
+    {
+        self.as_slice().iter().all(|asked| asked.fits(instance))
     }
 }

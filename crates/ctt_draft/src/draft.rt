@@ -14,8 +14,8 @@ use crate::comparing::{first_course, first_slot};
 use crate::laws;
 use crate::work::Work;
 use ctt_board::{Change, Rooms, Sheet, Timetable};
-use ctt_edits::{Call, Edit, Look, Reply, Row, check, look_at, mark_reads};
-use ctt_text::{Instance, Marks, NoMemory};
+use ctt_edits::{Call, Edit, Look, Reply, Row, RowsRead, check};
+use ctt_text::{Instance, NoMemory};
 use std::alloc::Global;
 use std::marker::Model;
 
@@ -28,8 +28,7 @@ pub struct Draft<'i, S: Timetable> {
     present: S,
     asked: Vec<Asked>,
     changes: Vec<Change>,
-    courses: Marks,
-    slots: Marks,
+    rows: RowsRead,
 }
 
 impl<'i, S: Timetable> Model for Draft<'i, S> {
@@ -39,7 +38,7 @@ impl<'i, S: Timetable> Model for Draft<'i, S> {
 
     ghost view = { λ d. record { problem = d.instance.now; base = S.list d.base; asked = d.asked.items } };
 
-    ghost invariant = { λ d. IsDraft d.instance.now (S.problem d.base) (S.problem d.present) (S.list d.base) (S.list d.present) d.asked.items d.changes.items d.courses d.slots };
+    ghost invariant = { λ d. IsDraft d.instance.now (S.problem d.base) (S.problem d.present) (S.list d.base) (S.list d.present) d.asked.items d.changes.items d.rows };
 }
 
 impl<'i, S: Sheet<'i>> Draft<'i, S> {
@@ -57,9 +56,15 @@ impl<'i, S: Sheet<'i>> Draft<'i, S> {
             present,
             asked: Vec::new(alloc),
             changes: Vec::new(alloc),
-            courses: Marks::new(),
-            slots: Marks::new(),
+            rows: RowsRead::new(),
         })
+    }
+
+    /// The instance.
+    pub fn instance(&self) -> &'i Instance
+        ensures { result.now ≡ self.now.problem }
+    {
+        self.instance
     }
 
     /// The calls with their replies, in order.
@@ -78,7 +83,7 @@ impl<'i, S: Sheet<'i>> Draft<'i, S> {
         ensures err { OnErr result (self.new ≡ self.old) }
     {
         self.asked.push(Asked { call, reply: told })?;
-        mark_reads(self.instance, &call, &mut self.courses, &mut self.slots);
+        self.rows.add(self.instance, &call);
         Ok(())
     }
 
@@ -97,7 +102,7 @@ impl<'i, S: Sheet<'i>> Draft<'i, S> {
             call,
             reply: Reply::Done,
         })?;
-        mark_reads(self.instance, &call, &mut self.courses, &mut self.slots);
+        self.rows.add(self.instance, &call);
         self.present.apply(&change);
         self.changes.push(change).unwrap();
         Ok(())
@@ -117,7 +122,7 @@ impl<'i, S: Sheet<'i>> Draft<'i, S> {
         ensures ok { IfOk result (λ told. (told ≡ shown self.old.problem (present self.old) look) × (self.new ≡ asked_more self.old (Looks look) told)) }
         ensures err { OnErr result (self.new ≡ self.old) }
     {
-        let told = look_at(self.present(), &look)?;
+        let told = ctt_edits::look(*self.asked.allocator(), self.present(), &look)?;
         let kept = told.copy()?;
         self.keep(Call::Look(look), kept)?;
         Ok(told)
@@ -156,23 +161,22 @@ impl<'i, S: Sheet<'i>> Draft<'i, S> {
         }
     }
 
-    /// The first row that the calls read and that is not the same on a sheet, if there is one. Where
-    /// there is none, the draft's changes fit that sheet, and the calls are told the same on it.
+    /// The least row that the calls read and that is not the same on a sheet of the instance, if there
+    /// is one. Where there is none, the draft's changes fit that sheet, and the calls are told the same
+    /// on it. It takes no memory, and so never fails.
     pub fn stale(&self, sheet: &S) -> Result<Option<Row>, NoMemory>
         requires same { S.problem sheet.now ≡ self.now.problem }
-        ensures row { IfOk result (λ row. row ≡ stale self.now.problem self.now.base (S.list sheet.now) (calls_of self.now.asked)) }
+        ensures row { result ≡ Ok (stale self.now.problem self.now.base (S.list sheet.now) (calls_of self.now.asked)) }
         ensures fresh { result ≡ Ok None → Settles self.now (S.list sheet.now) }
     {
         laws::draft_frame();
         laws::settling_fits();
         sheet.lawful();
         self.base.lawful();
-        let courses = self.instance.courses();
-        let slots = self.instance.slots();
-        if let Some(course) = first_course(&self.base, sheet, &self.courses, courses)? {
+        if let Some(course) = first_course(self.instance, &self.base, sheet, &self.rows) {
             return Ok(Some(Row::Course(course)));
         }
-        if let Some(slot) = first_slot(&self.base, sheet, &self.slots, slots)? {
+        if let Some(slot) = first_slot(self.instance, &self.base, sheet, &self.rows) {
             return Ok(Some(Row::Slot(slot)));
         }
         Ok(None)

@@ -10,3 +10,6 @@ mod work;
 pub use asked::{Asked, AskedCalls};
 pub use draft::Draft;
 pub use work::Work;
+
+#[cfg(test)]
+mod tests;

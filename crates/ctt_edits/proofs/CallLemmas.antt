@@ -24,7 +24,7 @@ use Rattle.ctt_edits.proofs.PriceFrame.{price_same}
 use Rattle.ctt_edits.proofs.ReadLemmas.{AgreeOn, agree_on, same_part}
 
 -- with all rows the same, so is the timetable
-same_whole : (i : Problem) (t u : List Placed) → IsTimetable i t → IsTimetable i u → ((c : ℕ) → course_row c t ≡ course_row c u) → t ≡ u
+pub same_whole : (i : Problem) (t u : List Placed) → IsTimetable i t → IsTimetable i u → ((c : ℕ) → course_row c t ≡ course_row c u) → t ≡ u
 same_whole i t u h k rows = sym (all t h) ∙ same_part (λ c. true) t u h.ascending k.ascending (λ c y. rows c) ∙ all u k
   where
     all : (v : List Placed) → IsTimetable i v → filter (λ l. true) v ≡ v

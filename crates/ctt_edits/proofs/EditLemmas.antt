@@ -1,14 +1,12 @@
 -- An edit without a fault keeps a timetable lawful, and its change fits.
-use Rattle.std.proofs.Common.{◌≡◌, ℕ, ◌<◌, Bool, true, false, ◌||◌, ◌==◌, List, [], ◌∷◌, Option, Some, None, is_some, is_none, refl, ◌∙◌, ap, subst, inl, inr}
-use Rattle.std.specs.List.{find, AllByRecursion as Each}
-use Rattle.std.proofs.lemmas.Bool.{cases_Bool, or_parts}
+use Rattle.std.proofs.Common.{◌≡◌, ℕ, ◌<◌, true, false, ◌||◌, ◌==◌, List, [], ◌∷◌, Option, Some, None, is_some, is_none, refl, ◌∙◌, ap}
+use Rattle.std.proofs.lemmas.Bool.{or_parts}
 use Rattle.ctt_text.specs.Problem.{Problem, course_count, room_count, slot_count}
-use Rattle.ctt_text.specs.Timetable.{Fits, course_row, without}
+use Rattle.ctt_text.specs.Timetable.{without}
 use Rattle.ctt_text.specs.declared.placed.Placed.{Placed}
-use Rattle.ctt_text.proofs.TimetableLemmas.{Each-map}
 use Rattle.ctt_rules.specs.Hard.{Lawful}
-use Rattle.ctt_rules.proofs.ListLemmas.{Each-filter}
-use Rattle.ctt_board.specs.Changes.{room_of, room_at, cell, apply_at, CellFits, CellsFit}
+use Rattle.ctt_board.specs.Changes.{room_at, cell, apply_at, CellFits, CellsFit}
+use Rattle.ctt_board.proofs.BetweenLemmas.{there_fits}
 use Rattle.ctt_board.proofs.RoomLemmas.{room_after}
 use Rattle.ctt_edits.specs.Edits.{or_else, fault_if, try_fault, try_room_of, edit_fault, change}
 use Rattle.ctt_edits.specs.Laws.{EditsKeepLawful, EditsFit}
@@ -17,29 +15,15 @@ use Rattle.ctt_edits.specs.declared.edit.Edit.TheVariants.{Place, Move, Swap, Re
 use Rattle.ctt_edits.specs.declared.fault.EditFault.{EditFault}
 use Rattle.ctt_edits.specs.declared.fault.EditFault.TheVariants.{NotPlaced, SameSlot, SameCourse}
 use Rattle.ctt_edits.proofs.FaultLemmas.{free, fault_if_none, or_else_none}
-use Rattle.ctt_edits.proofs.LawfulLemmas.{with_lawful, without_lawful}
+use Rattle.ctt_board.proofs.LawfulLemmas.{with_lawful, without_lawful}
 
 pub is_there : (o : Option ℕ) → is_none o ≡ false → is_some o ≡ true
 is_there None h = cc
 is_there (Some r) h = refl
 
-find_each : {X : Type 0} (Q : X → Type 0) (p : X → Bool) (xs : List X) (x : X) → Each Q xs → find p xs ≡ Some x → Q x
-find_each Q p [] x h e = cc
-find_each {X = X} Q p (y ∷ ys) x h e = elim (cases_Bool (p y)) [
-  | inl b ↦ (let e' : ◌≡◌ {A = Option X} (Some y) (Some x) = rw b at e in let same : y ≡ x = cc in subst Q same h.0)
-  | inr b ↦ (let e' : find p ys ≡ Some x = rw b at e in find_each Q p ys x h.1 e')
-]
-
 -- the room of a lecture is one of the instance
 pub room_fits : (i : Problem) (t : List Placed) (c s r : ℕ) → Lawful i t → room_at c s t ≡ Some r → r < room_count i
-room_fits i t c s r h e = of_found (find (λ l. l.slot == s) (course_row c t)) refl e
-  where
-    of_found : (o : Option Placed) → find (λ l. l.slot == s) (course_row c t) ≡ o → room_of o ≡ Some r → r < room_count i
-    of_found None k e = cc
-    of_found (Some l) k e =
-        let same : l.room ≡ r = cc in
-        let fit : Each (λ (l : Placed). l.room < room_count i) (course_row c t) = Each-filter (λ l. l.room < room_count i) (λ l. l.course == c) t (Each-map (Fits i) (λ l. l.room < room_count i) (λ l f. f.2) t h.timetable.fits) in
-        subst (λ x. x < room_count i) same (find_each (λ (l : Placed). l.room < room_count i) (λ l. l.slot == s) (course_row c t) l fit k)
+room_fits i t c s r h e = (there_fits i c s r t h e).2
 
 -- the lecture of another course stays
 stays : (t : List Placed) (c s d s2 : ℕ) → is_some (room_at c s t) ≡ true → (c == d) ≡ false → room_at d s2 (without c s t) ≡ room_at d s2 t

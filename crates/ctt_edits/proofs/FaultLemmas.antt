@@ -1,13 +1,15 @@
 -- What no fault says.
-use Rattle.std.proofs.Common.{◌≡◌, ℕ, ℤ, ◌<◌, Bool, true, false, leb, ◌==◌, List, [], ◌∷◌, length, Option, Some, None, is_some, Result, Ok, refl, ap, inl, inr}
-use Rattle.std.specs.List.{find, AllByRecursion as Each}
+use Rattle.std.proofs.Common.{◌≡◌, ℕ, ℤ, Bool, true, false, leb, ◌==◌, List, length, Option, Some, None, is_some, Result, Ok, refl, ap}
+use Rattle.std.specs.List.{find}
 use Rattle.std.specs.Option.{option_map}
-use Rattle.std.proofs.lemmas.Bool.{cases_Bool, leb-false}
+use Rattle.std.proofs.lemmas.Bool.{leb-false}
 use Rattle.ctt_text.specs.Problem.{Problem, course_of, clash, is_unavailable}
 use Rattle.ctt_text.specs.Timetable.{course_row, slot_row}
 use Rattle.ctt_text.specs.declared.placed.Placed.{Placed}
 use Rattle.ctt_board.specs.Changes.{room_of, room_at}
 use Rattle.ctt_board.specs.declared.cell.Cell.{Cell}
+use Rattle.ctt_board.proofs.FitLemmas.{find_none}
+use Rattle.ctt_board.proofs.LawfulLemmas.{Free}
 use Rattle.ctt_edits.specs.Edits.{or_else, fault_if, first_course, try_fault, checked_by}
 use Rattle.ctt_edits.specs.Looks.{priced_by}
 use Rattle.ctt_edits.specs.declared.fault.EditFault.{EditFault}
@@ -25,13 +27,6 @@ pub fault_if_none : (b : Bool) (f : EditFault) → fault_if b f ≡ None → b �
 fault_if_none true f h = cc
 fault_if_none false f h = refl
 
-find_none : {X : Type 0} (p : X → Bool) (xs : List X) → find p xs ≡ None → Each (λ x. p x ≡ false) xs
-find_none p [] h = tt
-find_none {X = X} p (x ∷ xs) h = elim (cases_Bool (p x)) [
-  | inl b ↦ (let h' : ◌≡◌ {A = Option X} (Some x) None = rw b at h in cc)
-  | inr b ↦ (let h' : find p xs ≡ None = rw b at h in (b, find_none p xs h'))
-]
-
 named_none : (f : ℕ → EditFault) (o : Option Placed) → option_map f (option_map (λ (l : Placed). l.course) o) ≡ None → o ≡ None
 named_none f None h = refl
 named_none f (Some l) h = cc
@@ -41,14 +36,6 @@ no_room None h = refl
 no_room (Some l) h = cc
 
 -- a lecture that can be placed
-pub record Free (i : Problem) (t : List Placed) (c s r : ℕ) : Type 0 where
-  pub empty : is_some (room_at c s t) ≡ false
-  pub absent : Each (λ (l : Placed). (l.slot == s) ≡ false) (course_row c t)
-  pub fewer : length (course_row c t) < (course_of i c).lectures
-  pub available : is_unavailable i c s ≡ false
-  pub no_clash : Each (λ (l : Placed). clash i c l.course ≡ false) (slot_row s t)
-  pub room_free : Each (λ (l : Placed). (l.room == r) ≡ false) (slot_row s t)
-
 pub free : (i : Problem) (t : List Placed) (c s r : ℕ) → try_fault i t c s r ≡ None → Free i t c s r
 free i t c s r e =
     let e1 = or_else_none there rest1 e in

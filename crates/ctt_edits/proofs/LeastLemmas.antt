@@ -3,6 +3,7 @@ use Rattle.std.proofs.Common.{◌≡◌, ℕ, ◌≤◌, Bool, true, false, leb,
 use Rattle.std.specs.List.{find, AllByRecursion as Each}
 use Rattle.std.specs.Option.{option_map}
 use Rattle.std.proofs.lemmas.Bool.{cases_Bool, eq-eqb}
+use Rattle.std.proofs.lemmas.Bool.Decides.{nat_tests}
 use Rattle.ctt_text.specs.Lists.{Pairwise}
 use Rattle.ctt_text.specs.Problem.{course_of, clash, is_unavailable}
 use Rattle.ctt_text.specs.Timetable.{before, course_row, slot_row}
@@ -14,8 +15,10 @@ use Rattle.ctt_edits.specs.Edits.{or_else, fault_if}
 use Rattle.ctt_edits.specs.Laws.{ClashIsLeast}
 use Rattle.ctt_edits.specs.declared.fault.EditFault.{EditFault}
 use Rattle.ctt_edits.specs.declared.fault.EditFault.TheVariants.{AlreadyThere, CourseFull, Unavailable, Clash, RoomTaken}
-use Rattle.ctt_edits.proofs.LawfulLemmas.{Each-from_filter}
-use Rattle.ctt_edits.proofs.SlotLemmas.{not_above}
+use Rattle.ctt_board.proofs.LawfulLemmas.{Each-from_filter}
+
+not_above : (a b : Placed) → before a b ≡ true → a.course ≤ b.course
+not_above a b lt = grind (arith, nat_tests)
 
 -- a later fault, where the first is not the one
 later : (b : Bool) (f g : EditFault) (rest : Option EditFault) → (f ≡ g → ⊥) → or_else (fault_if b f) rest ≡ Some g → rest ≡ Some g

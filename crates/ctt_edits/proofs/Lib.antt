@@ -1,11 +1,14 @@
 pub mod FaultLemmas
-pub mod LawfulLemmas
 pub mod EditLemmas
 pub mod LeastLemmas
-pub mod SlotLemmas
-pub mod LookLemmas
 pub mod MarkedRows
+pub mod MateLemmas
 pub mod ReadLemmas
 pub mod FrameLemmas
 pub mod PriceFrame
 pub mod CallLemmas
+pub mod ReplyLemmas
+pub mod SameLemmas
+pub mod TableLemmas
+pub mod OpeningLemmas
+pub mod PartLemmas

@@ -85,7 +85,7 @@ pub record AgreeOn (p q : ℕ → Bool) (t u : List Placed) : Type 0 where
   pub slots : (s : ℕ) → q s ≡ true → slot_row s t ≡ slot_row s u
 
 -- no lecture has a number past the last
-none_past : (key : Placed → ℕ) (n k : ℕ) (t : List Placed) → Each (λ l. key l < n) t → n ≤ k → filter (λ l. key l == k) t ≡ []
+pub none_past : (key : Placed → ℕ) (n k : ℕ) (t : List Placed) → Each (λ l. key l < n) t → n ≤ k → filter (λ l. key l == k) t ≡ []
 none_past key n k t h past = filter_none (λ l. key l == k) t (Each-map (λ l. key l < n) (λ l. eqb (key l) k ≡ false) (λ l lt. ne_eqb (key l) k (λ e. omega arith)) t h)
 
 at_each : (f : ℕ → Row) (p : ℕ → Bool) (n : ℕ) (t u : List Placed) → Each (λ r. row r t ≡ row r u) (map f (below p n)) → ((k : ℕ) → n ≤ k → row (f k) t ≡ row (f k) u) → (k : ℕ) → p k ≡ true → row (f k) t ≡ row (f k) u

@@ -1,18 +1,20 @@
 -- What layers above rest on.
-use Rattle.std.specs.Prelude.{ℕ, ◌≡◌, ◌≤◌, true, List, Some, None}
+use Rattle.std.specs.Prelude.{ℕ, ◌≡◌, ◌<◌, ◌≤◌, true, List, Some, None, Ok}
 use Rattle.std.specs.List.{AllByRecursion as Each}
 use Rattle.ctt_text.specs.Lists.{Pairwise}
-use Rattle.ctt_text.specs.Problem.{Problem, clash}
-use Rattle.ctt_text.specs.Timetable.{Ascending}
+use Rattle.ctt_text.specs.Problem.{Problem, IsProblem, course_count, slot_count, clash}
+use Rattle.ctt_text.specs.Timetable.{Ascending, Fits, IsTimetable}
 use Rattle.ctt_text.specs.declared.placed.Placed.{Placed}
 use Rattle.ctt_rules.specs.Hard.{Lawful}
-use Rattle.ctt_board.specs.Changes.{ChangeFits}
+use Rattle.ctt_board.specs.Changes.{room_at, ChangeFits}
 use Rattle.ctt_edits.specs.Calls.{CallFits, reply, cells_of, reads, Agree, RowBefore}
 use Rattle.ctt_edits.specs.declared.call.Call.{Call}
 use Rattle.ctt_edits.specs.declared.edit.Edit.{Edit}
-use Rattle.ctt_edits.specs.declared.edit.Edit.TheVariants.{Place}
 use Rattle.ctt_edits.specs.declared.fault.EditFault.TheVariants.{Clash}
-use Rattle.ctt_edits.specs.Edits.{EditFits, edit_fault, edited, change}
+use Rattle.ctt_edits.specs.Fitting.{IsReply}
+use Rattle.ctt_edits.specs.Edits.{EditFits, try_fault, edit_fault, edited, change}
+use Rattle.ctt_edits.specs.Openings.{opening}
+use Rattle.ctt_edits.specs.Table.{outcome, by_table}
 
 -- an edit without a fault keeps a timetable lawful
 abbrev pub EditsKeepLawful : Type 0
@@ -22,9 +24,9 @@ EditsKeepLawful = (i : Problem) (t : List Placed) (e : Edit) → Lawful i t → 
 abbrev pub EditsFit : Type 0
 EditsFit = (i : Problem) (t : List Placed) (e : Edit) → Lawful i t → EditFits i e → edit_fault i t e ≡ None → ChangeFits i (change t e) t
 
--- a clash that is named is a clash, and no course that clashes and stands in the slot comes before it
+-- wherever a lecture is placed: a clash that is named is a clash, and no course that clashes and stands in the slot comes before it
 abbrev pub ClashIsLeast : Type 0
-ClashIsLeast = (i : Problem) (t : List Placed) (c s r d : ℕ) → Ascending t → edit_fault i t (Place c s r) ≡ Some (Clash d)
+ClashIsLeast = (i : Problem) (t : List Placed) (c s r d : ℕ) → Ascending t → try_fault i t c s r ≡ Some (Clash d)
     → (clash i c d ≡ true) × Each (λ (l : Placed). l.slot ≡ s → clash i c l.course ≡ true → d ≤ l.course) t
 
 -- on two lawful timetables with equal rows where a call reads, the answer is the same, and so is what changes
@@ -35,3 +37,19 @@ CallFrame = (i : Problem) (t u : List Placed) (call : Call) → Lawful i t → L
 -- the rows that a call reads ascend, each once
 abbrev pub ReadsAscend : Type 0
 ReadsAscend = (i : Problem) (call : Call) → Pairwise RowBefore (reads i call)
+
+-- what a call is told on a lawful timetable fits, and is short
+abbrev pub RepliesFit : Type 0
+RepliesFit = (i : Problem) (t : List Placed) (call : Call) → IsProblem i → Lawful i t → CallFits i call → IsReply i (reply i t call)
+
+-- the fault and the change give what the table of edits gives
+abbrev pub EditIsTable : Type 0
+EditIsTable = (i : Problem) (t : List Placed) (e : Edit) → outcome i t e ≡ by_table i t e
+
+-- the timetable that lectures make is lawful
+abbrev pub OpeningIsLawful : Type 0
+OpeningIsLawful = (i : Problem) (ls t : List Placed) → Each (Fits i) ls → opening i ls ≡ Ok t → Lawful i t
+
+-- two timetables with the same rooms are the same
+abbrev pub RoomsDetermine : Type 0
+RoomsDetermine = (i : Problem) (t u : List Placed) → IsTimetable i t → IsTimetable i u → ((c s : ℕ) → c < course_count i → s < slot_count i → room_at c s t ≡ room_at c s u) → t ≡ u

@@ -4,7 +4,6 @@ use Rattle.ctt_text.specs.Problem.{Problem, course_of, members, course_count, sl
 use Rattle.ctt_text.specs.Timetable.{course_row, slot_row}
 use Rattle.ctt_text.specs.declared.placed.Placed.{Placed}
 use Rattle.ctt_rules.specs.Penalty.{penalty, course_cost, part_of}
-use Rattle.ctt_rules.specs.declared.cost.Cost.{Cost}
 use Rattle.ctt_board.specs.Boards.{delta}
 use Rattle.ctt_edits.specs.Edits.{EditFits, edit_fault, change}
 use Rattle.ctt_edits.specs.declared.edit.Edit.{Edit}

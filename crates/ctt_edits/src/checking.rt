@@ -1,42 +1,17 @@
 //! Whether an edit can be made.
 
 ghost use Rattle.std.specs.Prelude.{◌≡◌, ◌<◌, ◌==◌, false, Some, None, IfOk, IsSome};
-ghost use Rattle.ctt_text.specs.Problem.{course_count, slot_count, room_count, clash};
-ghost use Rattle.ctt_text.specs.Timetable.{slot_row, without};
+ghost use Rattle.ctt_text.specs.Problem.{course_count, slot_count, room_count};
+ghost use Rattle.ctt_text.specs.Timetable.{without};
 ghost use Rattle.ctt_board.specs.Changes.{ChangeFits, cell, room_at};
-ghost use Rattle.ctt_edits.specs.Edits.{EditFits, first_course, try_fault, edit_fault, change, checked};
+ghost use Rattle.ctt_edits.specs.Edits.{EditFits, try_fault, edit_fault, change, checked};
 ghost use Rattle.ctt_edits.specs.declared.edit.Edit.TheVariants.{Move, Swap, Reroom, Drop};
 
 use crate::edit::Edit;
 use crate::fault::EditFault;
 use crate::laws;
-use ctt_board::{After, Cell, Change, Rooms, Sheet};
+use ctt_board::{After, Cell, Change, Rooms, Sheet, first_clash};
 use ctt_text::{CourseNo, Instance, RoomNo, SlotNo};
-
-/// The first course with a lecture in the slot that clashes with this one.
-fn first_clash<R: Rooms>(
-    instance: &Instance,
-    rooms: &R,
-    course: CourseNo,
-    slot: SlotNo,
-) -> Option<CourseNo>
-    requires same { R.problem rooms.now ≡ instance.now }
-    requires course { course < course_count instance.now }
-    requires slot { slot < slot_count instance.now }
-    ensures { result ≡ first_course (λ l. clash instance.now course l.course) (slot_row slot (R.list rooms.now)) }
-{
-    rooms.lawful();
-    if rooms.is_clear(course, slot) {
-        return None;
-    }
-    for number in 0..instance.courses() {
-        let other = CourseNo::new(number);
-        if instance.clash(course, other) && rooms.room_at(other, slot).is_some() {
-            return Some(other);
-        }
-    }
-    None
-}
 
 /// The first fault that holds of placing a lecture.
 fn place_fault<R: Rooms>(

@@ -1,6 +1,9 @@
 //! Why an edit is refused.
 
-use ctt_text::CourseNo;
+ghost use Rattle.std.specs.Prelude.{◌↔◌, IsTrue};
+ghost use Rattle.ctt_edits.specs.Fitting.{FaultFits};
+
+use ctt_text::{CourseNo, Instance};
 
 /// What stands against an edit.
 #[derive(Clone, Copy, Debug, PartialEq, Eq)]
@@ -22,4 +25,21 @@ pub enum EditFault {
     Clash(CourseNo),
     /// A lecture of this course has the room in the slot.
     RoomTaken(CourseNo),
+}
+
+impl EditFault {
+    /// Whether the course that it names, if it names one, is one of the instance.
+    pub fn fits(&self, instance: &Instance) -> bool
+        ensures { IsTrue result ↔ FaultFits instance.now self.now }
+    {
+        match self {
+            EditFault::Clash(course) | EditFault::RoomTaken(course) => course.fits(instance),
+            EditFault::NotPlaced
+            | EditFault::SameSlot
+            | EditFault::SameCourse
+            | EditFault::AlreadyThere
+            | EditFault::CourseFull
+            | EditFault::Unavailable => true,
+        }
+    }
 }

@@ -1,6 +1,6 @@
 //! Laws of edits, for the layers above. None of these functions computes anything.
 
-ghost use Rattle.ctt_edits.specs.Laws.{EditsKeepLawful, EditsFit, ClashIsLeast, CallFrame, ReadsAscend};
+ghost use Rattle.ctt_edits.specs.Laws.{EditsKeepLawful, EditsFit, ClashIsLeast, CallFrame, ReadsAscend, RepliesFit, EditIsTable, OpeningIsLawful, RoomsDetermine};
 
 /// An edit that has no fault keeps a timetable lawful.
 pub fn edits_keep_lawful()
@@ -12,8 +12,8 @@ pub fn edits_fit()
     ensures { EditsFit }
 {}
 
-/// Of the courses that clash with the one that is to be placed, and stand in the slot, the one with
-/// the least number is named.
+/// Wherever a lecture is placed, by which edit ever: of the courses that clash with its course and
+/// stand in the slot, the one with the least number is named.
 pub fn clash_is_least()
     ensures { ClashIsLeast }
 {}
@@ -26,4 +26,27 @@ pub fn call_frame()
 /// The rows that a call reads ascend, each once.
 pub fn reads_ascend()
     ensures { ReadsAscend }
+{}
+
+/// What a call is told on a lawful timetable fits: its numbers are those of the instance, each cost,
+/// and each price without its sign, is at most 9,223,372,036,854,775,807, and there are at most
+/// 999,999,999 lectures.
+pub fn replies_fit()
+    ensures { RepliesFit }
+{}
+
+/// The fault and the change of an edit give what the table of edits gives, read literally, with trials.
+pub fn edit_is_table()
+    ensures { EditIsTable }
+{}
+
+/// The timetable that lectures make, placed in the order of their list, is lawful.
+pub fn opening_is_lawful()
+    ensures { OpeningIsLawful }
+{}
+
+/// Two timetables of one instance that have the same room, or none, for each course in each slot are
+/// the same.
+pub fn rooms_determine()
+    ensures { RoomsDetermine }
 {}

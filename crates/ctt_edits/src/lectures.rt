@@ -1,6 +1,6 @@
 //! Lectures that are told.
 
-ghost use Rattle.std.specs.Prelude.{◌≡◌, IfOk};
+ghost use Rattle.std.specs.Prelude.{◌≡◌, ◌↔◌, IfOk, IsTrue};
 
 use ctt_text::{NoMemory, Placed};
 use std::marker::Model;
@@ -48,5 +48,12 @@ impl Lectures {
     {
         let list = self.list.as_slice().to_vec(*self.list.allocator())?;
         Ok(Lectures { list })
+    }
+
+    /// Whether these are the same lectures.
+    pub fn is_same(&self, other: &Lectures) -> bool
+        ensures { IsTrue result ↔ (self.now ≡ other.now) }
+    {
+        self.list.as_slice() == other.list.as_slice()
     }
 }

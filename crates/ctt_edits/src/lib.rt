@@ -12,17 +12,23 @@ mod pricing;
 mod reading;
 mod reply;
 mod row;
+mod rows_read;
+mod showing;
 
 pub use call::Call;
 pub use checking::check;
 pub use edit::Edit;
 pub use fault::EditFault;
 pub use lectures::Lectures;
-pub use looks::{Look, look_at};
+pub use looks::Look;
 pub use pricing::price;
-pub use reading::{mark_reads, reads};
+pub use reading::reads;
 pub use reply::Reply;
 pub use row::Row;
+pub use rows_read::RowsRead;
+pub use showing::look;
 
+#[cfg(test)]
+mod sheet_tests;
 #[cfg(test)]
 mod tests;

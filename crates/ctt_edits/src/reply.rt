@@ -1,11 +1,14 @@
 //! What a planner is told.
 
-ghost use Rattle.std.specs.Prelude.{◌≡◌, IfOk};
+ghost use Rattle.std.specs.Prelude.{◌≡◌, ◌↔◌, IfOk, IsTrue};
+ghost use Rattle.std.specs.List.{AllByRecursion as Each};
+ghost use Rattle.ctt_text.specs.Timetable.{Fits};
+ghost use Rattle.ctt_edits.specs.Fitting.{CostFits, ReplyFits};
 
 use crate::fault::EditFault;
 use crate::lectures::Lectures;
 use ctt_rules::Cost;
-use ctt_text::NoMemory;
+use ctt_text::{Instance, NoMemory, Placed};
 
 /// The answer to an edit or a look.
 #[derive(Clone, Debug, Drop)]
@@ -35,4 +38,52 @@ impl Reply {
             Reply::Price(price) => Ok(Reply::Price(*price)),
         }
     }
+
+    /// Whether it is the same reply.
+    pub fn is_same(&self, other: &Reply) -> bool
+        ensures { IsTrue result ↔ (self.now ≡ other.now) }
+    {
+        match (self, other) {
+            (Reply::Done, Reply::Done) => true,
+            (Reply::Refused(fault), Reply::Refused(other_fault)) => fault == other_fault,
+            (Reply::Lectures(lectures), Reply::Lectures(others)) => lectures.is_same(others),
+            (Reply::Costs(cost), Reply::Costs(other_cost)) => cost == other_cost,
+            (Reply::Price(price), Reply::Price(other_price)) => price == other_price,
+            _ => false,
+        }
+    }
+
+    /// Whether its numbers are those of the instance, and each cost, and a price without its sign, is
+    /// at most 9,223,372,036,854,775,807.
+    pub fn fits(&self, instance: &Instance) -> bool
+        ensures { IsTrue result ↔ ReplyFits instance.now self.now }
+    {
+        match self {
+            Reply::Done => true,
+            Reply::Refused(fault) => fault.fits(instance),
+            Reply::Lectures(lectures) => all_fit(instance, lectures.as_slice()),
+            Reply::Costs(cost) => cost_fits(cost),
+            Reply::Price(price) => price.unsigned_abs() <= GREATEST,
+        }
+    }
+}
+
+/// The greatest amount that a reply may tell.
+const GREATEST: u64 = 9_223_372_036_854_775_807;
+
+/// Whether all lectures are of the instance.
+fn all_fit(instance: &Instance, lectures: &[Placed]) -> bool
+    ensures { IsTrue result ↔ Each (Fits instance.now) lectures.now }
+{
+    lectures.iter().all(|lecture| lecture.fits(instance))
+}
+
+/// Whether each of the four costs is at most the greatest amount.
+fn cost_fits(cost: &Cost) -> bool
+    ensures { IsTrue result ↔ CostFits cost.now }
+{
+    cost.capacity <= GREATEST
+        && cost.days <= GREATEST
+        && cost.compactness <= GREATEST
+        && cost.stability <= GREATEST
 }

@@ -1,13 +1,16 @@
-//! Edits, prices and looks on the small instance. The costs were computed by hand from the rules.
+//! Edits, prices and looks on the small instance, on both kinds of sheets. The costs were computed by
+//! hand from the rules.
 
+ghost use Rattle.ctt_edits.specs.Calls.{CallFits};
 ghost use Rattle.ctt_edits.specs.Edits.{EditFits};
 ghost use Rattle.ctt_edits.specs.Looks.{LookFits};
 
-use crate::{Call, Edit, EditFault, Look, Reply, Row, check, look_at, price, reads};
-use ctt_board::{ListSheet, Sheet};
+use crate::{Call, Edit, EditFault, Lectures, Look, Reply, Row, RowsRead, check, price, reads};
+use ctt_board::{Cell, GridSheet, ListSheet, Sheet};
 use ctt_rules::Cost;
 use ctt_text::{
-    CourseNo, Instance, NoMemory, Placed, RoomNo, SlotNo, TeacherNo, read_instance, read_solution,
+    CourseNo, CurriculumNo, Instance, NoMemory, Placed, RoomNo, SlotNo, TeacherNo, read_instance,
+    read_solution,
 };
 use std::alloc::Global;
 use std::process::Abort;
@@ -124,20 +127,28 @@ fn price_of<'i, S: Sheet<'i>>(rt: &impl Abort, sheet: &S, edit: &Edit) -> Result
 }
 
 /// What a look shows.
-fn shown<'i, S: Sheet<'i>>(rt: &impl Abort, sheet: &S, look: &Look) -> Result<Reply, NoMemory> {
+fn shown<'i, S: Sheet<'i>>(
+    rt: &impl Abort,
+    alloc: Global,
+    sheet: &S,
+    look: &Look,
+) -> Result<Reply, NoMemory> {
     expect_look_fits(rt, sheet, look);
-    look_at(sheet, look)
+    crate::look(alloc, sheet, look)
 }
 
+/// The same without top.
+const WITHOUT_TOP: &str = "alg A 0 0 alg B 1 0 geo A 0 1 geo A 1 2";
+
 /// A sheet with the lectures of a solution text.
-fn sheet_of<'i>(
+fn sheet_of<'i, S: Sheet<'i>>(
     rt: &impl Abort,
     alloc: Global,
     instance: &'i Instance,
     text: &str,
-) -> Result<ListSheet<'i>, Fail> {
+) -> Result<S, Fail> {
     let lectures = read_solution(alloc, instance, text.as_bytes())?;
-    let mut sheet = ListSheet::empty(alloc, instance)?;
+    let mut sheet = S::empty(alloc, instance)?;
     for lecture in &lectures {
         let edit = Edit::Place(lecture.course, lecture.slot, lecture.room);
         assert_eq!(rt; make(rt, &mut sheet, &edit), None);
@@ -152,59 +163,6 @@ fn has_prices<'i, S: Sheet<'i>>(rt: &impl Abort, sheet: &S, cases: &[(Edit, i64)
     }
 }
 
-#[test]
-fn prices(rt: HostRuntime) -> Result<(), Fail> {
-    let small = read_instance(rt.alloc(), SMALL.as_bytes())?;
-    let sheet = sheet_of(&rt, rt.alloc(), &small, SOLUTION)?;
-    let cases = [
-        (Edit::Move(geo(), at(5), at(4), room_a()), -4),
-        (Edit::Reroom(alg(), at(0), room_b()), -6),
-        (Edit::Reroom(alg(), at(0), room_a()), 0),
-        (Edit::Swap(geo(), at(1), top(), at(2)), 20),
-    ];
-    has_prices(&rt, &sheet, &cases);
-    Ok(())
-}
-
-/// The small solution after the swap of two lectures.
-fn swaps<'i, S: Sheet<'i>>(rt: &impl Abort, sheet: &mut S) -> Result<(), Fail> {
-    let swap = Edit::Swap(geo(), at(1), top(), at(2));
-    assert_eq!(rt; make(rt, sheet, &swap), None);
-    let after = [
-        placed(alg(), 0, room_a()),
-        placed(alg(), 3, room_b()),
-        placed(geo(), 2, room_b()),
-        placed(geo(), 5, room_a()),
-        placed(top(), 1, room_a()),
-    ];
-    assert_eq!(rt; sheet.cost(), cost(30, 0, 8, 2));
-    assert_eq!(rt; sheet.list()?.as_slice(), after.as_slice());
-    Ok(())
-}
-
-#[test]
-fn swap(rt: HostRuntime) -> Result<(), Fail> {
-    let small = read_instance(rt.alloc(), SMALL.as_bytes())?;
-    let mut sheet = sheet_of(&rt, rt.alloc(), &small, SOLUTION)?;
-    swaps(&rt, &mut sheet)
-}
-
-/// Two lectures in one slot take each other's room.
-fn swaps_rooms<'i, S: Sheet<'i>>(rt: &impl Abort, sheet: &mut S) -> Result<(), Fail> {
-    let swap = Edit::Swap(geo(), at(1), top(), at(1));
-    assert_eq!(rt; make(rt, sheet, &swap), None);
-    let after = [placed(geo(), 1, room_b()), placed(top(), 1, room_a())];
-    assert_eq!(rt; sheet.list()?.as_slice(), after.as_slice());
-    Ok(())
-}
-
-#[test]
-fn swap_within_a_slot(rt: HostRuntime) -> Result<(), Fail> {
-    let small = read_instance(rt.alloc(), SMALL.as_bytes())?;
-    let mut sheet = sheet_of(&rt, rt.alloc(), &small, "geo A 0 1 top B 0 1")?;
-    swaps_rooms(&rt, &mut sheet)
-}
-
 /// Edits are refused, each by its fault, and have no price.
 fn refuses<'i, S: Sheet<'i>>(rt: &impl Abort, sheet: &S, cases: &[(Edit, EditFault)]) {
     for case in cases {
@@ -213,10 +171,51 @@ fn refuses<'i, S: Sheet<'i>>(rt: &impl Abort, sheet: &S, cases: &[(Edit, EditFau
     }
 }
 
+/// An edit is made, and leaves these lectures and this cost.
+fn leaves<'i, S: Sheet<'i>>(
+    rt: &impl Abort,
+    sheet: &mut S,
+    edit: &Edit,
+    lectures: &[Placed],
+    costs: Cost,
+) -> Result<(), Fail> {
+    assert_eq!(rt; make(rt, sheet, edit), None);
+    assert_eq!(rt; sheet.list()?.as_slice(), lectures);
+    assert_eq!(rt; sheet.cost(), costs);
+    Ok(())
+}
+
+/// Prices on the small solution.
+fn priced_on<'i, S: Sheet<'i>>(
+    rt: &impl Abort,
+    alloc: Global,
+    small: &'i Instance,
+) -> Result<(), Fail> {
+    let sheet: S = sheet_of(rt, alloc, small, SOLUTION)?;
+    let cases = [
+        (Edit::Move(geo(), at(5), at(4), room_a()), -4),
+        (Edit::Reroom(alg(), at(0), room_b()), -6),
+        (Edit::Reroom(alg(), at(0), room_a()), 0),
+        (Edit::Swap(geo(), at(1), top(), at(2)), 20),
+    ];
+    has_prices(rt, &sheet, &cases);
+    Ok(())
+}
+
 #[test]
-fn edit_faults_in_order(rt: HostRuntime) -> Result<(), Fail> {
+fn prices(rt: HostRuntime) -> Result<(), Fail> {
     let small = read_instance(rt.alloc(), SMALL.as_bytes())?;
-    let sheet = sheet_of(&rt, rt.alloc(), &small, SOLUTION)?;
+    priced_on::<ListSheet>(&rt, rt.alloc(), &small)?;
+    priced_on::<GridSheet>(&rt, rt.alloc(), &small)
+}
+
+/// The first of several faults, on the small solution.
+fn refused_on<'i, S: Sheet<'i>>(
+    rt: &impl Abort,
+    alloc: Global,
+    small: &'i Instance,
+) -> Result<(), Fail> {
+    let sheet: S = sheet_of(rt, alloc, small, SOLUTION)?;
     let cases = [
         (Edit::Place(alg(), at(4), room_a()), EditFault::CourseFull),
         (Edit::Place(alg(), at(0), room_b()), EditFault::AlreadyThere),
@@ -236,82 +235,254 @@ fn edit_faults_in_order(rt: HostRuntime) -> Result<(), Fail> {
         (Edit::Swap(geo(), at(0), top(), at(2)), EditFault::NotPlaced),
         (Edit::Reroom(geo(), at(0), room_b()), EditFault::NotPlaced),
     ];
-    refuses(&rt, &sheet, &cases);
+    refuses(rt, &sheet, &cases);
+    Ok(())
+}
+
+#[test]
+fn edit_faults_in_order(rt: HostRuntime) -> Result<(), Fail> {
+    let small = read_instance(rt.alloc(), SMALL.as_bytes())?;
+    refused_on::<ListSheet>(&rt, rt.alloc(), &small)?;
+    refused_on::<GridSheet>(&rt, rt.alloc(), &small)
+}
+
+/// A course that is unavailable, on the empty sheet, and a room that is taken, without top.
+fn faults_of_placing_on<'i, S: Sheet<'i>>(
+    rt: &impl Abort,
+    alloc: Global,
+    small: &'i Instance,
+) -> Result<(), Fail> {
+    let empty: S = sheet_of(rt, alloc, small, "")?;
+    let unavailable = (Edit::Place(geo(), at(0), room_a()), EditFault::Unavailable);
+    refuses(rt, &empty, &[unavailable]);
+    let sheet: S = sheet_of(rt, alloc, small, WITHOUT_TOP)?;
+    let taken = (
+        Edit::Place(top(), at(1), room_a()),
+        EditFault::RoomTaken(geo()),
+    );
+    refuses(rt, &sheet, &[taken]);
+    Ok(())
+}
+
+/// The lecture of geo at 5 is dropped; then alg stands against another one at 3.
+fn clash_after_drop_on<'i, S: Sheet<'i>>(
+    rt: &impl Abort,
+    alloc: Global,
+    small: &'i Instance,
+) -> Result<(), Fail> {
+    let mut sheet: S = sheet_of(rt, alloc, small, SOLUTION)?;
+    let left = [
+        placed(alg(), 0, room_a()),
+        placed(alg(), 3, room_b()),
+        placed(geo(), 1, room_a()),
+        placed(top(), 2, room_b()),
+    ];
+    let drop = Edit::Drop(geo(), at(5));
+    leaves(rt, &mut sheet, &drop, &left, cost(15, 0, 2, 1))?;
+    let clash = (Edit::Place(geo(), at(3), room_a()), EditFault::Clash(alg()));
+    refuses(rt, &sheet, &[clash]);
     Ok(())
 }
 
 #[test]
 fn faults_of_placing(rt: HostRuntime) -> Result<(), Fail> {
     let small = read_instance(rt.alloc(), SMALL.as_bytes())?;
-    let sheet = sheet_of(&rt, rt.alloc(), &small, "alg B 1 0 geo A 0 1")?;
-    let cases = [
-        (Edit::Place(geo(), at(0), room_a()), EditFault::Unavailable),
-        (Edit::Place(geo(), at(3), room_a()), EditFault::Clash(alg())),
-        (
-            Edit::Place(top(), at(1), room_a()),
-            EditFault::RoomTaken(geo()),
-        ),
+    faults_of_placing_on::<ListSheet>(&rt, rt.alloc(), &small)?;
+    faults_of_placing_on::<GridSheet>(&rt, rt.alloc(), &small)?;
+    clash_after_drop_on::<ListSheet>(&rt, rt.alloc(), &small)?;
+    clash_after_drop_on::<GridSheet>(&rt, rt.alloc(), &small)
+}
+
+/// Two lectures take each other's slot and room, and two in one slot each other's room.
+fn swaps_on<'i, S: Sheet<'i>>(
+    rt: &impl Abort,
+    alloc: Global,
+    small: &'i Instance,
+) -> Result<(), Fail> {
+    let mut sheet: S = sheet_of(rt, alloc, small, SOLUTION)?;
+    let after = [
+        placed(alg(), 0, room_a()),
+        placed(alg(), 3, room_b()),
+        placed(geo(), 2, room_b()),
+        placed(geo(), 5, room_a()),
+        placed(top(), 1, room_a()),
     ];
-    refuses(&rt, &sheet, &cases);
+    let swap = Edit::Swap(geo(), at(1), top(), at(2));
+    leaves(rt, &mut sheet, &swap, &after, cost(30, 0, 8, 2))?;
+    let mut pair: S = sheet_of(rt, alloc, small, "geo A 0 1 top B 0 1")?;
+    let exchanged = [placed(geo(), 1, room_b()), placed(top(), 1, room_a())];
+    let in_slot = Edit::Swap(geo(), at(1), top(), at(1));
+    leaves(rt, &mut pair, &in_slot, &exchanged, cost(25, 10, 2, 0))
+}
+
+#[test]
+fn swaps(rt: HostRuntime) -> Result<(), Fail> {
+    let small = read_instance(rt.alloc(), SMALL.as_bytes())?;
+    swaps_on::<ListSheet>(&rt, rt.alloc(), &small)?;
+    swaps_on::<GridSheet>(&rt, rt.alloc(), &small)
+}
+
+/// The change of an edit has these cells.
+fn changes<'i, S: Sheet<'i>>(rt: &impl Abort, sheet: &S, edit: &Edit, cells: &[Cell]) {
+    expect_edit_fits(rt, sheet, edit);
+    match check(sheet, edit) {
+        Ok(change) => assert_eq!(rt; change.cells(), cells),
+        Err(_) => panic!(rt; "the edit is refused"),
+    }
+}
+
+/// One lecture is placed on the empty sheet.
+fn one_cell_on<'i, S: Sheet<'i>>(
+    rt: &impl Abort,
+    alloc: Global,
+    small: &'i Instance,
+) -> Result<(), Fail> {
+    let mut sheet: S = sheet_of(rt, alloc, small, "")?;
+    let place = Edit::Place(geo(), at(1), room_a());
+    let cell = Cell {
+        course: geo(),
+        slot: at(1),
+        room: Some(room_a()),
+    };
+    changes(rt, &sheet, &place, &[cell]);
+    has_prices(rt, &sheet, &[(place, -3)]);
+    let after = [placed(geo(), 1, room_a())];
+    leaves(rt, &mut sheet, &place, &after, cost(0, 15, 2, 0))
+}
+
+#[test]
+fn one_placement(rt: HostRuntime) -> Result<(), Fail> {
+    let small = read_instance(rt.alloc(), SMALL.as_bytes())?;
+    one_cell_on::<ListSheet>(&rt, rt.alloc(), &small)?;
+    one_cell_on::<GridSheet>(&rt, rt.alloc(), &small)
+}
+
+/// What a look shows is this reply, and it fits.
+fn shows<'i, S: Sheet<'i>>(
+    rt: &impl Abort,
+    alloc: Global,
+    sheet: &S,
+    look: Look,
+    reply: &Reply,
+) -> Result<(), Fail> {
+    let told = shown(rt, alloc, sheet, &look)?;
+    assert!(rt; told.is_same(reply));
+    assert!(rt; told.fits(sheet.instance()));
     Ok(())
 }
 
 /// The lectures that a look shows.
 fn shows_lectures<'i, S: Sheet<'i>>(
     rt: &impl Abort,
+    alloc: Global,
     sheet: &S,
-    look: &Look,
+    look: Look,
     lectures: &[Placed],
 ) -> Result<(), Fail> {
-    match shown(rt, sheet, look)? {
-        Reply::Lectures(list) => assert_eq!(rt; list.as_slice(), lectures),
-        _ => panic!(rt; "no lectures are shown"),
-    }
-    Ok(())
+    let list = Lectures::new(Vec::from_slice(alloc, lectures)?);
+    shows(rt, alloc, sheet, look, &Reply::Lectures(list))
+}
+
+/// Looks at lectures, on the small solution.
+fn shows_lectures_on<'i, S: Sheet<'i>>(
+    rt: &impl Abort,
+    alloc: Global,
+    small: &'i Instance,
+) -> Result<(), Fail> {
+    let sheet: S = sheet_of(rt, alloc, small, SOLUTION)?;
+    let alg_0 = placed(alg(), 0, room_a());
+    let alg_3 = placed(alg(), 3, room_b());
+    let geo_1 = placed(geo(), 1, room_a());
+    let geo_5 = placed(geo(), 5, room_a());
+    let top_2 = placed(top(), 2, room_b());
+    let teacher = Look::Teacher(TeacherNo::new(0));
+    let curriculum = Look::Curriculum(CurriculumNo::new(0));
+    shows_lectures(rt, alloc, &sheet, teacher, &[alg_0, alg_3, top_2])?;
+    shows_lectures(rt, alloc, &sheet, curriculum, &[alg_0, alg_3, geo_1, geo_5])?;
+    shows_lectures(rt, alloc, &sheet, Look::Course(geo()), &[geo_1, geo_5])?;
+    shows_lectures(rt, alloc, &sheet, Look::Slot(at(2)), &[top_2])
 }
 
 #[test]
 fn looks_at_lectures(rt: HostRuntime) -> Result<(), Fail> {
     let small = read_instance(rt.alloc(), SMALL.as_bytes())?;
-    let sheet = sheet_of(&rt, rt.alloc(), &small, SOLUTION)?;
-    let taught = [
-        placed(alg(), 0, room_a()),
-        placed(alg(), 3, room_b()),
-        placed(top(), 2, room_b()),
-    ];
-    shows_lectures(&rt, &sheet, &Look::Teacher(TeacherNo::new(0)), &taught)?;
-    let last = [placed(top(), 2, room_b())];
-    shows_lectures(&rt, &sheet, &Look::Slot(at(2)), &last)
+    shows_lectures_on::<ListSheet>(&rt, rt.alloc(), &small)?;
+    shows_lectures_on::<GridSheet>(&rt, rt.alloc(), &small)
 }
 
-/// The costs that a look shows.
-fn shows_costs<'i, S: Sheet<'i>>(
+/// Looks at costs and at prices.
+fn shows_costs_on<'i, S: Sheet<'i>>(
     rt: &impl Abort,
-    sheet: &S,
-    look: &Look,
-    costs: Cost,
+    alloc: Global,
+    small: &'i Instance,
 ) -> Result<(), Fail> {
-    match shown(rt, sheet, look)? {
-        Reply::Costs(cost) => assert_eq!(rt; cost, costs),
-        _ => panic!(rt; "no costs are shown"),
+    let sheet: S = sheet_of(rt, alloc, small, SOLUTION)?;
+    let cases = [
+        (Look::CourseCost(alg()), Reply::Costs(cost(5, 0, 0, 1))),
+        (Look::CourseCost(geo()), Reply::Costs(cost(0, 0, 0, 0))),
+        (Look::CourseCost(top()), Reply::Costs(cost(10, 0, 0, 0))),
+        (Look::Cost, Reply::Costs(cost(15, 0, 4, 1))),
+        (
+            Look::Price(Edit::Move(geo(), at(5), at(4), room_a())),
+            Reply::Price(-4),
+        ),
+        (
+            Look::Price(Edit::Place(alg(), at(4), room_a())),
+            Reply::Refused(EditFault::CourseFull),
+        ),
+    ];
+    for case in &cases {
+        shows(rt, alloc, &sheet, case.0, &case.1)?;
     }
     Ok(())
 }
 
-#[test]
-fn costs_of_courses(rt: HostRuntime) -> Result<(), Fail> {
-    let small = read_instance(rt.alloc(), SMALL.as_bytes())?;
-    let sheet = sheet_of(&rt, rt.alloc(), &small, SOLUTION)?;
-    shows_costs(&rt, &sheet, &Look::CourseCost(alg()), cost(5, 0, 0, 1))?;
-    shows_costs(&rt, &sheet, &Look::CourseCost(top()), cost(10, 0, 0, 0))?;
-    shows_costs(&rt, &sheet, &Look::Cost, cost(15, 0, 4, 1))
+/// What a course without lectures costs.
+fn shows_cost_of_none_on<'i, S: Sheet<'i>>(
+    rt: &impl Abort,
+    alloc: Global,
+    small: &'i Instance,
+) -> Result<(), Fail> {
+    let sheet: S = sheet_of(rt, alloc, small, "")?;
+    let costs = Reply::Costs(cost(0, 10, 0, 0));
+    shows(rt, alloc, &sheet, Look::CourseCost(alg()), &costs)
 }
 
 #[test]
-fn cost_of_a_course_that_is_not_placed(rt: HostRuntime) -> Result<(), Fail> {
+fn looks_at_costs(rt: HostRuntime) -> Result<(), Fail> {
     let small = read_instance(rt.alloc(), SMALL.as_bytes())?;
-    let empty = sheet_of(&rt, rt.alloc(), &small, "")?;
-    shows_costs(&rt, &empty, &Look::CourseCost(alg()), cost(0, 10, 0, 0))
+    shows_costs_on::<ListSheet>(&rt, rt.alloc(), &small)?;
+    shows_costs_on::<GridSheet>(&rt, rt.alloc(), &small)?;
+    shows_cost_of_none_on::<ListSheet>(&rt, rt.alloc(), &small)
+}
+
+/// Replies that do not fit: a course of no instance, and amounts beyond 63 bits.
+fn refuses_replies(rt: &impl Abort, small: &Instance) {
+    let unfit = [
+        Reply::Refused(EditFault::Clash(CourseNo::new(3))),
+        Reply::Price(i64::MIN),
+        Reply::Costs(cost(9_223_372_036_854_775_808, 0, 0, 0)),
+    ];
+    for reply in &unfit {
+        assert!(rt; !reply.fits(small));
+        assert!(rt; !reply.is_same(&Reply::Done));
+    }
+    assert!(rt; Reply::Price(-9_223_372_036_854_775_807).fits(small));
+    assert!(rt; !Reply::Price(1).is_same(&Reply::Price(-1)));
+}
+
+#[test]
+fn replies_that_fit(rt: HostRuntime) -> Result<(), Fail> {
+    let small = read_instance(rt.alloc(), SMALL.as_bytes())?;
+    refuses_replies(&rt, &small);
+    Ok(())
+}
+
+/// Stops where a call has numbers beyond those of the instance.
+fn expect_call_fits(rt: &impl Abort, instance: &Instance, call: &Call)
+    ensures { CallFits instance.now call.now }
+{
+    assert!(rt; call.fits(instance));
 }
 
 /// The rows that a call reads.
@@ -322,28 +493,48 @@ fn reads_rows(
     call: &Call,
     rows: &[Row],
 ) -> Result<(), Fail> {
-    assert!(rt; call.fits(instance));
+    expect_call_fits(rt, instance, call);
     assert_eq!(rt; reads(alloc, instance, call)?.as_slice(), rows);
     Ok(())
 }
 
-#[test]
-fn rows_of_a_price(rt: HostRuntime) -> Result<(), Fail> {
-    let small = read_instance(rt.alloc(), SMALL.as_bytes())?;
+/// The rows of a price and of a swap.
+fn reads_rows_of_each(rt: &impl Abort, alloc: Global, small: &Instance) -> Result<(), Fail> {
     let price = Call::Look(Look::Price(Edit::Place(alg(), at(0), room_b())));
-    let rows = [Row::Course(alg()), Row::Course(geo()), Row::Slot(at(0))];
-    reads_rows(&rt, rt.alloc(), &small, &price, &rows)
-}
-
-#[test]
-fn rows_of_a_swap(rt: HostRuntime) -> Result<(), Fail> {
-    let small = read_instance(rt.alloc(), SMALL.as_bytes())?;
     let swap = Call::Edit(Edit::Swap(geo(), at(1), top(), at(2)));
-    let rows = [
+    let of_price = [Row::Course(alg()), Row::Course(geo()), Row::Slot(at(0))];
+    let of_swap = [
         Row::Course(geo()),
         Row::Course(top()),
         Row::Slot(at(1)),
         Row::Slot(at(2)),
     ];
-    reads_rows(&rt, rt.alloc(), &small, &swap, &rows)
+    reads_rows(rt, alloc, small, &price, &of_price)?;
+    reads_rows(rt, alloc, small, &swap, &of_swap)
+}
+
+/// The rows of two calls together.
+fn adds_rows(rt: &impl Abort, alloc: Global, small: &Instance) -> Result<(), Fail> {
+    let look = Call::Look(Look::Slot(at(5)));
+    let drop = Call::Edit(Edit::Drop(top(), at(2)));
+    let mut read = RowsRead::new();
+    expect_call_fits(rt, small, &look);
+    read.add(small, &look);
+    expect_call_fits(rt, small, &drop);
+    read.add(small, &drop);
+    assert!(rt; read.contains(Row::Course(top())));
+    assert!(rt; !read.contains(Row::Slot(at(2))));
+    assert_eq!(rt; read.next_course(small, 0), Some(top()));
+    assert_eq!(rt; read.next_slot(small, 6), None);
+    let rows = [Row::Course(top()), Row::Slot(at(5))];
+    assert_eq!(rt; read.list(alloc, small)?.as_slice(), rows.as_slice());
+    assert!(rt; rows[0].is_before(rows[1]));
+    Ok(())
+}
+
+#[test]
+fn rows_read(rt: HostRuntime) -> Result<(), Fail> {
+    let small = read_instance(rt.alloc(), SMALL.as_bytes())?;
+    reads_rows_of_each(&rt, rt.alloc(), &small)?;
+    adds_rows(&rt, rt.alloc(), &small)
 }

@@ -13,19 +13,25 @@ use Rattle.ctt_text.specs.Timetable.{Fits}
 use Rattle.ctt_text.specs.declared.placed.Placed.{Placed}
 use Rattle.ctt_text.proofs.TimetableLemmas.{Each-at, Each-map}
 use Rattle.ctt_rules.specs.Hard.{share_room, occupancy_count}
-use Rattle.ctt_rules.specs.Cells.{crowd_in, crowd_below, is_cell}
 use Rattle.ctt_rules.proofs.NeighbourLemmas.{any_same}
 use Rattle.ctt_rules.proofs.SumLemmas.{sum_below_same, sum_below_add, sum_below_one, sum_below_zero, count_by-cons}
+
+-- the lectures beyond the first in the rooms of a slot, and in the slots below n
+abbrev crowd_in : Problem → ℕ → List Placed → ℕ
+crowd_in i s t = sum_below (λ r. count_by (λ l. l.room == r && l.slot == s) t - 1) (room_count i)
+
+abbrev crowd_below : Problem → ℕ → List Placed → ℕ
+crowd_below i n t = sum_below (λ s. crowd_in i s t) n
 
 -- sums in the other order
 sum_below_turn : (f : ℕ → ℕ → ℕ) (m n : ℕ) → sum_below (λ r. sum_below (λ s. f r s) n) m ≡ sum_below (λ s. sum_below (λ r. f r s) m) n
 sum_below_turn f zero n = sym (sum_below_zero (λ _. 0) n (λ _ _. refl))
 sum_below_turn f (suc m) n = ap (λ k. k + sum_below (λ s. f m s) n) (sum_below_turn f m n) ∙ sym (sum_below_add (λ s. sum_below (λ r. f r s) m) (λ s. f m s) n)
 
-pub crowd_is_occupancy : (i : Problem) (t : List Placed) → crowd_below i (slot_count i) t ≡ occupancy_count i t
+crowd_is_occupancy : (i : Problem) (t : List Placed) → crowd_below i (slot_count i) t ≡ occupancy_count i t
 crowd_is_occupancy i t = sym (sum_below_turn (λ r s. count_by (λ l. l.room == r && l.slot == s) t - 1) (room_count i) (slot_count i))
 
-pub crowd_none : (i : Problem) (n : ℕ) → crowd_below i n [] ≡ 0
+crowd_none : (i : Problem) (n : ℕ) → crowd_below i n [] ≡ 0
 crowd_none i n = sum_below_zero (λ s. crowd_in i s []) n (λ s lt. sum_below_zero (λ _. 0 - 1) (room_count i) (λ _ _. refl))
 
 -- of what passes, all but the first
@@ -97,104 +103,11 @@ module _ (i : Problem) (ts : List Placed) (x : Placed) (room : x.room < room_cou
       sum_below_same (λ s. crowd_in i s (ts ++ x ∷ [])) (λ s. crowd_in i s ts + cond (eqb x.slot s) more 0) n in_slot
       ∙ sum_below_add (λ s. crowd_in i s ts) (λ s. cond (eqb x.slot s) more 0) n ∙ ap (λ k. crowd_below i n ts + k) (sum_below_at more x.slot n)
 
-Each-take : {X : Type 0} (P : X → Type 0) (n : ℕ) (xs : List X) → Each P xs → Each P (take n xs)
-Each-take P zero xs h = tt
-Each-take P (suc n) [] h = tt
-Each-take P (suc n) (x ∷ xs) h = (h.0, Each-take P n xs h.1)
+-- one more lecture
+pub occupancy_push : (i : Problem) (ts : List Placed) (x : Placed) → Fits i x → occupancy_count i (ts ++ x ∷ []) ≡ occupancy_count i ts + cond (list_any (share_room x) ts) 1 0
+occupancy_push i ts x fits =
+    sym (crowd_is_occupancy i (ts ++ x ∷ [])) ∙ crowd_push i ts x fits.2 (slot_count i)
+    ∙ ap₂ (λ a b. a + cond b (cond (list_any (share_room x) ts) 1 0) 0) (crowd_is_occupancy i ts) (lt-ltb x.slot (slot_count i) fits.1)
 
-any_each : {X : Type 0} (p q : X → Bool) (xs : List X) → Each (λ x. p x ≡ q x) xs → list_any p xs ≡ list_any q xs
-any_each p q [] h = refl
-any_each p q (x ∷ xs) h = ap₂ (λ a b. a || b) h.0 (any_each p q xs h.1)
-
--- one more lecture of a list, with the cells of slots from first on below end
-module _ (i : Problem) (xs : List Placed) (fits : Each (Fits i) xs) (first end k : ℕ) (ordered : first ≤ end) (x : Placed) (within : k < length xs) (at : x ≡ get_or xs k x) where
-  abbrev ts : List Placed
-  ts = take k xs
-
-  next : take (k + 1) xs ≡ ts ++ x ∷ []
-  next = take_more xs k x within ∙ ap (λ y. ts ++ y ∷ []) (sym at)
-
-  here : Fits i x
-  here = rw (← at) at (Each-at (Fits i) xs fits k x within)
-
-  abbrev more_there : ℕ
-  more_there = cond (list_any (share_room x) ts) 1 0
-
-  pushed_below : (n : ℕ) → crowd_below i n (take (k + 1) xs) ≡ crowd_below i n ts + cond (ltb x.slot n) more_there 0
-  pushed_below n = ap (crowd_below i n) next ∙ crowd_push i ts x here.2 n
-
-  any_more : (n : ℕ) → list_any (is_cell (room_count i) first end n) (take (k + 1) xs) ≡ (list_any (is_cell (room_count i) first end n) ts || is_cell (room_count i) first end n x)
-  any_more n = list_any_more (is_cell (room_count i) first end n) xs k x within ∙ ap (λ y. list_any (is_cell (room_count i) first end n) ts || is_cell (room_count i) first end n y) (sym at)
-
-  -- a lecture in another slot
-  pub outside : (x.slot < first) ⊎ (end ≤ x.slot) → (count : ℕ) → crowd_below i first ts + count ≡ crowd_below i end ts → crowd_below i first (take (k + 1) xs) + count ≡ crowd_below i end (take (k + 1) xs)
-  outside off count so_far = omega (arith, pushed_below first, pushed_below end, so_far, ap (λ b. cond b more_there 0) (tests off))
-    where
-      tests : (x.slot < first) ⊎ (end ≤ x.slot) → ltb x.slot first ≡ ltb x.slot end
-      tests (inl lt) = lt-ltb x.slot first lt ∙ sym (lt-ltb x.slot end (omega arith))
-      tests (inr le) = le-ltb x.slot first (omega arith) ∙ sym (le-ltb x.slot end le)
-
-  pub no_cell : (x.slot < first) ⊎ (end ≤ x.slot) → (marks : ℕ → Bool) → ((n : ℕ) → marks n ≡ list_any (is_cell (room_count i) first end n) ts) → (n : ℕ) → marks n ≡ list_any (is_cell (room_count i) first end n) (take (k + 1) xs)
-  no_cell off marks so_far n = so_far n ∙ alone (list_any (is_cell (room_count i) first end n) ts) (is_cell (room_count i) first end n x) (and_left (leb first x.slot && ltb x.slot end) ((x.slot - first) * room_count i + x.room == n) (tests off)) ∙ sym (any_more n)
-    where
-      alone : (a b : Bool) → b ≡ false → a ≡ (a || b)
-      alone true b e = refl
-      alone false b e = sym e
-
-      tests : (x.slot < first) ⊎ (end ≤ x.slot) → (leb first x.slot && ltb x.slot end) ≡ false
-      tests (inl lt) = and_left (leb first x.slot) (ltb x.slot end) (lt-leb first x.slot lt)
-      tests (inr le) = and_right (leb first x.slot) (ltb x.slot end) (le-ltb x.slot end le)
-
-  module _ (low : first ≤ x.slot) (high : x.slot < end) (cell : ℕ) (is : cell ≡ (x.slot - first) * room_count i + x.room) where
-    -- who has the cell has the room and the slot
-    cell_is : (l : Placed) → Fits i l → is_cell (room_count i) first end cell l ≡ share_room x l
-    cell_is l f = same_test (is_cell (room_count i) first end cell l) (share_room x l) to from
-      where
-        to : is_cell (room_count i) first end cell l ≡ true → share_room x l ≡ true
-        to e =
-            let parts = and_parts (leb first l.slot && ltb l.slot end) ((l.slot - first) * room_count i + l.room == cell) e in
-            let after_first : first ≤ l.slot = leb-true first l.slot (and_parts (leb first l.slot) (ltb l.slot end) parts.0).0 in
-            let place : (l.slot - first) * room_count i + l.room ≡ (x.slot - first) * room_count i + x.room = eqb-true ((l.slot - first) * room_count i + l.room) cell parts.1 ∙ is in
-            let same = same_from_place (l.slot - first) l.room (x.slot - first) x.room (room_count i) f.2 here.2 place in
-            and_from (x.slot == l.slot) (x.room == l.room) (eq-eqb x.slot l.slot (omega (arith, same.0, after_first, low))) (eq-eqb x.room l.room (sym same.1))
-
-        from : share_room x l ≡ true → is_cell (room_count i) first end cell l ≡ true
-        from e =
-            let parts = and_parts (x.slot == l.slot) (x.room == l.room) e in
-            let slot : x.slot ≡ l.slot = eqb-true x.slot l.slot parts.0 in
-            let room : x.room ≡ l.room = eqb-true x.room l.room parts.1 in
-            let place : (l.slot - first) * room_count i + l.room ≡ cell = ap₂ (λ a b. (a - first) * room_count i + b) (sym slot) (sym room) ∙ sym is in
-            and_from (leb first l.slot && ltb l.slot end) ((l.slot - first) * room_count i + l.room == cell)
-            (and_from (leb first l.slot) (ltb l.slot end) (le-leb first l.slot (omega (arith, slot, low))) (lt-ltb l.slot end (omega (arith, slot, high)))) (eq-eqb ((l.slot - first) * room_count i + l.room) cell place)
-
-    any_there : list_any (is_cell (room_count i) first end cell) ts ≡ list_any (share_room x) ts
-    any_there = any_each (is_cell (room_count i) first end cell) (share_room x) ts (Each-map (Fits i) (λ l. is_cell (room_count i) first end cell l ≡ share_room x l) cell_is ts (Each-take (Fits i) k xs fits))
-
-    pub inside : (b : Bool) (count count2 : ℕ) → b ≡ list_any (is_cell (room_count i) first end cell) ts → count2 ≡ cond b (count + 1) count
-        → crowd_below i first ts + count ≡ crowd_below i end ts → crowd_below i first (take (k + 1) xs) + count2 ≡ crowd_below i end (take (k + 1) xs)
-    inside b count count2 was counted so_far =
-        let before_it : cond (ltb x.slot first) more_there 0 ≡ 0 = ap (λ b. cond b more_there 0) (le-ltb x.slot first low) in
-        let up_to_it : cond (ltb x.slot end) more_there 0 ≡ more_there = ap (λ b. cond b more_there 0) (lt-ltb x.slot end high) in
-        let more_is : cond b 1 0 ≡ more_there = ap (λ b. cond {A = ℕ} b 1 0) (was ∙ any_there) in
-        omega (arith, pushed_below first, pushed_below end, so_far, before_it, up_to_it, more_is, counted, by b)
-      where
-        by : (b : Bool) → cond b (count + 1) count ≡ count + cond b 1 0
-        by true = refl
-        by false = omega arith
-
-    pub one_cell : (old new : ℕ → Bool) → ((n : ℕ) → old n ≡ list_any (is_cell (room_count i) first end n) ts) → ((n : ℕ) → new n ≡ (n == cell || old n)) → (n : ℕ) → new n ≡ list_any (is_cell (room_count i) first end n) (take (k + 1) xs)
-    one_cell old new so_far marked n =
-        marked n ∙ ap₂ (λ a b. a || b) (own ∙ sym (ap (λ b. b && (x.slot - first) * room_count i + x.room == n) (and_from (leb first x.slot) (ltb x.slot end) (le-leb first x.slot low) (lt-ltb x.slot end high)))) (so_far n)
-        ∙ flip (is_cell (room_count i) first end n x) (list_any (is_cell (room_count i) first end n) ts) ∙ sym (any_more n)
-      where
-        turn : (a b : ℕ) → (a == b) ≡ (b == a)
-        turn a b = grind arith
-
-        own : (n == cell) ≡ ((x.slot - first) * room_count i + x.room == n)
-        own = turn n cell ∙ ap (λ m. m == n) is
-
-        flip : (a b : Bool) → (a || b) ≡ (b || a)
-        flip true true = refl
-        flip true false = refl
-        flip false true = refl
-        flip false false = refl
+pub none_shared : (i : Problem) → occupancy_count i [] ≡ 0
+none_shared i = sym (crowd_is_occupancy i []) ∙ crowd_none i (slot_count i)

@@ -1,154 +1,166 @@
--- Pairs of lectures in one slot, counted course by course.
-use Rattle.std.proofs.Common.{◌≡◌, ℕ, ◌+◌, ◌<◌, ◌≤◌, Bool, true, false, cond, not, ◌&&◌, ◌||◌, ◌==◌, eqb, ltb, List, [], ◌∷◌, refl, ◌∙◌, sym, ap, ap₂, arith, inl, inr, ◌⊎◌}
-use Rattle.std.specs.List.{count_by, AllByRecursion as Each}
+-- Conflicts and shared rooms, counted lecture by lecture against those before.
+use Rattle.std.proofs.Common.{◌≡◌, ℕ, zero, suc, ◌+◌, ◌-◌, ◌<◌, ◌≤◌, Bool, true, false, cond, not, ◌&&◌, ◌||◌, ◌==◌, eqb, ltb, leb, List, [], ◌∷◌, ◌++◌, take, length, get_or, replicate, refl, ◌∙◌, sym, ap, ap₂, arith, inl, inr, ◌⊎◌, append_assoc, append-nil}
+use Rattle.std.specs.List.{count_by, list_any, AllByRecursion as Each}
+use Rattle.std.proofs.lemmas.List.{take_more}
+use Rattle.std.proofs.lemmas.List.Sums.{sum_by_push}
+use Rattle.std.proofs.lemmas.List.Folds.{list_any_more}
 use Rattle.std.proofs.lemmas.Bool.Decides.{nat_tests}
-use Rattle.std.proofs.lemmas.Bool.{cases_eq, cases_order, eq-eqb, ne_eqb, eqb-true, ltb-true, lt-ltb, le-ltb, and_parts}
-use Rattle.ctt_text.specs.Lists.{sum_below}
-use Rattle.ctt_text.specs.Problem.{Problem, course_count, course_of, mates, clash}
-use Rattle.ctt_text.specs.Timetable.{before, Ascending, course_row}
+use Rattle.std.proofs.lemmas.Bool.{cases_Bool, cases_lt, eq-eqb, ne_eqb, eqb-true, lt-ltb, le-ltb, le-leb, lt-leb, leb-true, ltb-true, and_from, and_right, and_parts}
+use Rattle.ctt_text.specs.Lists.{Pairwise, has, count_below}
+use Rattle.ctt_text.specs.Marks.{is_marked, count_marked}
+use Rattle.ctt_text.specs.Problem.{Problem, course_count, course_of, slot_count, mates, clash}
+use Rattle.ctt_text.specs.Timetable.{IsTimetable, Fits, before, Ascending}
 use Rattle.ctt_text.specs.declared.placed.Placed.{Placed}
-use Rattle.ctt_text.proofs.TimetableLemmas.{Each-map}
-use Rattle.ctt_rules.specs.Hard.{conflicts, conflict_count}
-use Rattle.ctt_rules.specs.Neighbours.{busy}
-use Rattle.ctt_rules.specs.Pairs.{shared, conflicts_with}
-use Rattle.ctt_rules.proofs.ListLemmas.{filter_none, filter_yes, filter_no, Each-filter, Each-filter_passes, Each-both}
-use Rattle.ctt_rules.proofs.SumLemmas.{sum_below_same, sum_below_add, sum_below_one, sum_below_zero, count_by-cons, count_by-agree}
-use Rattle.ctt_rules.proofs.TimetableLemmas.{sum_by_course, row_after}
-use Rattle.ctt_rules.proofs.NeighbourLemmas.{count_by-same}
+use Rattle.ctt_text.proofs.MarkLemmas.{past_words}
+use Rattle.ctt_text.proofs.TimetableLemmas.{Each-map, Each-at}
+use Rattle.ctt_rules.specs.Hard.{conflicts, conflict_count, share_room, occupancy_count}
+use Rattle.ctt_rules.specs.Earlier.{clashes_with, tally, new_conflicts, room_taken, only_in, in_row}
+use Rattle.ctt_rules.proofs.ListLemmas.{Each-take, Pairwise-map}
+use Rattle.ctt_rules.proofs.CellLemmas.{occupancy_push, none_shared}
+use Rattle.ctt_rules.proofs.NeighbourLemmas.{any_same, count_by-same}
+use Rattle.ctt_rules.proofs.SumLemmas.{sum_below_same, count_below_le, count_by-cons}
+use Rattle.ctt_rules.proofs.WindowLemmas.{counted_apart}
 
-count_nothing : {X : Type 0} (xs : List X) → count_by (λ _. false) xs ≡ 0
-count_nothing [] = refl
-count_nothing (x ∷ xs) = count_by-cons (λ _. false) x xs ∙ ap (λ n. 0 + n) (count_nothing xs)
+-- courses clash both ways
+eqb_comm : (a b : ℕ) → (a == b) ≡ (b == a)
+eqb_comm a b = grind arith
 
--- what passes one of two tests that rule each other out
-count_either : (p q : Placed → Bool) (xs : List Placed) → ((x : Placed) → p x ≡ true → q x ≡ false) → count_by (λ x. p x || q x) xs ≡ count_by p xs + count_by q xs
-count_either p q [] apart = refl
-count_either p q (x ∷ xs) apart = omega (arith, count_either p q xs apart, count_by-cons (λ x. p x || q x) x xs, count_by-cons p x xs, count_by-cons q x xs, by (p x) (q x) (apart x))
+mates_comm : (i : Problem) (c d : ℕ) → mates i c d ≡ mates i d c
+mates_comm i c d = any_same (λ q. has c q && has d q) (λ q. has d q && has c q) i.curricula (λ q. turn (has c q) (has d q))
   where
-    by : (a b : Bool) → (a ≡ true → b ≡ false) → cond (a || b) 1 0 ≡ cond a 1 0 + cond b 1 0
-    by true b h = rw (h refl) refl
-    by false true h = refl
-    by false false h = refl
+    turn : (a b : Bool) → (a && b) ≡ (b && a)
+    turn a b = grind arith
 
-sum_where : (b : Bool) (f : ℕ → ℕ) (n : ℕ) → sum_below (λ d. cond b (f d) 0) n ≡ cond b (sum_below f n) 0
-sum_where true f n = refl
-sum_where false f n = sum_below_zero (λ _. 0) n (λ _ _. refl)
+pub clash_comm : (i : Problem) (c d : ℕ) → clash i c d ≡ clash i d c
+clash_comm i c d = ap₂ (λ a b. not a && b) (eqb_comm c d) (ap₂ (λ a b. a || b) (eqb_comm (course_of i c).teacher (course_of i d).teacher) (mates_comm i c d))
 
-not_busy : (s : ℕ) (ks : List Placed) → Each (λ (k : Placed). s < k.slot) ks → busy ks s ≡ false
-not_busy s [] h = refl
-not_busy s (k ∷ ks) h = ap₂ (λ a b. a || b) (ne_eqb k.slot s (λ e. omega (arith, e, h.0))) (not_busy s ks h.1)
+same_marked : (p q : ℕ → Bool) → ((n : ℕ) → p n ≡ q n) → count_marked p ≡ count_below q 2000
+unfolding count_marked
+same_marked p q e = sum_below_same (λ n. cond (p n) 1 0) (λ n. cond (q n) 1 0) 2000 (λ n. ap (λ b. cond b 1 0) (e n))
 
-no_clash : (i : Problem) (c : ℕ) → clash i c c ≡ false
-no_clash i c = ap (λ b. not b && ((course_of i c).teacher == (course_of i c).teacher || mates i c c)) (eq-eqb c c refl)
+pub marked_same : (p q : ℕ → Bool) → ((n : ℕ) → p n ≡ q n) → count_marked p ≡ count_marked q
+unfolding count_marked
+marked_same p q e = same_marked p q e
 
-module _ (i : Problem) (x : Placed) (xs : List Placed) (first : Each (λ y. before x y ≡ true) xs) where
-  row_first : (d : ℕ) → Each (λ y. before x y ≡ true) (course_row d xs)
-  row_first d = Each-filter (λ y. before x y ≡ true) (λ l. l.course == d) xs first
+pub few_marked : (p : ℕ → Bool) → count_marked p ≤ 2000
+unfolding count_marked
+few_marked p = count_below_le p 2000
 
-  row_none : (c : ℕ) → c < x.course → course_row c xs ≡ []
-  row_none c lt = filter_none (λ l. l.course == c) xs (Each-map (λ y. before x y ≡ true) (λ l. (l.course == c) ≡ false) each xs first)
+-- a table of rows in which nothing is marked
+pub no_rows : (marks : List ℕ) → ((n : ℕ) → is_marked marks n ≡ false) → (k row n : ℕ) → in_row (replicate k marks) row n ≡ false
+no_rows marks none zero row n = past_words [] n (omega arith)
+no_rows marks none (suc k) zero n = none n
+no_rows marks none (suc k) (suc row) n = no_rows marks none k row n
+
+-- a tally goes on by one lecture
+pub tally_push : (f : List Placed → Placed → ℕ) (before xs : List Placed) (x : Placed) → tally f before (xs ++ x ∷ []) ≡ tally f before xs + f (before ++ xs) x
+tally_push f before [] x = rw append-nil (omega arith)
+tally_push f before (y ∷ ys) x = omega (arith, tally_push f (before ++ y ∷ []) ys x, ap (λ zs. f zs x) (append_assoc before (y ∷ []) ys))
+
+pub tally_join : (f g h : List Placed → Placed → ℕ) → ((ts : List Placed) (x : Placed) → f ts x + g ts x ≡ h ts x) → (before xs : List Placed) → tally f before xs + tally g before xs ≡ tally h before xs
+tally_join f g h e before [] = refl
+tally_join f g h e before (x ∷ xs) = omega (arith, e before x, tally_join f g h e (before ++ x ∷ []) xs)
+
+pub tally_agree : (P : Placed → Type 0) (f g : List Placed → Placed → ℕ) → ((ts : List Placed) (x : Placed) → P x → f ts x ≡ g ts x) → (before xs : List Placed) → Each P xs → tally f before xs ≡ tally g before xs
+tally_agree P f g e before [] h = refl
+tally_agree P f g e before (x ∷ xs) h = ap₂ (λ a b. a + b) (e before x h.0) (tally_agree P f g e (before ++ x ∷ []) xs h.1)
+
+-- a count that each lecture adds to
+pub tallied : (P : Placed → Type 0) (g : List Placed → ℕ) (f : List Placed → Placed → ℕ) → ((ts : List Placed) (x : Placed) → P x → g (ts ++ x ∷ []) ≡ g ts + f ts x) → (before xs : List Placed) → Each P xs → g (before ++ xs) ≡ g before + tally f before xs
+tallied P g f e before [] h = rw append-nil (omega arith)
+tallied P g f e before (x ∷ xs) h = ap g (sym (append_assoc before (x ∷ []) xs)) ∙ omega (arith, tallied P g f e (before ++ x ∷ []) xs h.1, e before x h.0)
+
+from_nothing : (P : Placed → Type 0) (g : List Placed → ℕ) (f : List Placed → Placed → ℕ) → ((ts : List Placed) (x : Placed) → P x → g (ts ++ x ∷ []) ≡ g ts + f ts x) → g [] ≡ 0 → (t : List Placed) → Each P t → tally f [] t ≡ g t
+from_nothing P g f e none t h = sym (tallied P g f e [] t h ∙ ap (λ n. n + tally f [] t) none ∙ omega arith)
+
+-- conflicts
+conflicts_push : (i : Problem) (ts : List Placed) (x : Placed) → conflict_count i (ts ++ x ∷ []) ≡ conflict_count i ts + new_conflicts i ts x
+conflicts_push i [] x = refl
+conflicts_push i (y ∷ ys) x = omega (arith, conflicts_push i ys x, sum_by_push (λ l. cond (conflicts i y l) 1 0) ys x, count_by-cons (λ z. conflicts i z x) y ys)
+
+pub conflicts_tallied : (i : Problem) (t : List Placed) → Each (Fits i) t → tally (new_conflicts i) [] t ≡ conflict_count i t
+conflicts_tallied i t h = from_nothing (Fits i) (conflict_count i) (new_conflicts i) (λ ts x _. conflicts_push i ts x) refl t h
+
+pub rooms_tallied : (i : Problem) (t : List Placed) → Each (Fits i) t → tally room_taken [] t ≡ occupancy_count i t
+rooms_tallied i t h = from_nothing (Fits i) (occupancy_count i) room_taken (λ ts x f. occupancy_push i ts x f) (none_shared i) t h
+
+-- by blocks of slots
+module _ (adds : List Placed → Placed → ℕ) where
+  pub block_more : (first end : ℕ) → first ≤ end → (t : List Placed) → tally (only_in 0 first adds) [] t + tally (only_in first end adds) [] t ≡ tally (only_in 0 end adds) [] t
+  block_more first end le t = tally_join (only_in 0 first adds) (only_in first end adds) (only_in 0 end adds) (λ ts x. each x.slot (adds ts x)) [] t
     where
-      later : (y : Placed) → before x y ≡ true → x.course ≤ y.course
-      later y h = grind (arith, nat_tests)
+      each : (s n : ℕ) → cond (leb 0 s && ltb s first) n 0 + cond (leb first s && ltb s end) n 0 ≡ cond (leb 0 s && ltb s end) n 0
+      each s n = grind (arith, nat_tests)
 
-      each : (y : Placed) → before x y ≡ true → (y.course == c) ≡ false
-      each y h = ne_eqb y.course c (λ e. omega (arith, e, lt, later y h))
+  pub all_blocks : (i : Problem) (t : List Placed) (end : ℕ) → Each (Fits i) t → slot_count i ≤ end → tally (only_in 0 end adds) [] t ≡ tally adds [] t
+  all_blocks i t end fits le = tally_agree (Fits i) (only_in 0 end adds) adds (λ ts x f. ap (λ b. cond b (adds ts x) 0) (and_from (leb 0 x.slot) (ltb x.slot end) (le-leb 0 x.slot (omega arith)) (lt-ltb x.slot end (omega (arith, f.1, le))))) [] t fits
 
-  -- the first lecture conflicts with a later one by the two courses and by its slot
-  conflict_is : (d : ℕ) (l : Placed) → before x l ≡ true → l.course ≡ d → conflicts i x l ≡ ((ltb x.course d && clash i x.course d) && x.slot == l.slot)
-  conflict_is d l h same = ap (λ k. x.slot == l.slot && clash i x.course k) same ∙ by (cases_order x.course d) ∙ turn (x.slot == l.slot) (ltb x.course d && clash i x.course d)
+  pub no_block : (t before : List Placed) → tally (only_in 0 0 adds) before t ≡ 0
+  no_block [] before = refl
+  no_block (x ∷ xs) before = ap₂ (λ b n. cond b (adds before x) 0 + n) (and_right (leb 0 x.slot) (ltb x.slot 0) (le-ltb x.slot 0 (omega arith))) (no_block xs (before ++ x ∷ []))
+
+Pairwise-take : {X : Type 0} (R : X → X → Type 0) (n : ℕ) (xs : List X) → Pairwise R xs → Pairwise R (take n xs)
+Pairwise-take R zero xs h = tt
+Pairwise-take R (suc n) [] h = tt
+Pairwise-take R (suc n) (x ∷ xs) h = (Each-take (R x) n xs h.0, Pairwise-take R n xs h.1)
+
+-- one more lecture of a timetable is met, in a block of slots
+module _ (i : Problem) (t : List Placed) (h : IsTimetable i t) (courses_few : course_count i ≤ 2000) (first k : ℕ) (x : Placed) (within : k < length t) (at : x ≡ get_or t k x) where
+  abbrev ts : List Placed
+  ts = take k t
+
+  next : take (k + 1) t ≡ ts ++ x ∷ []
+  next = take_more t k x within ∙ ap (λ y. ts ++ y ∷ []) (sym at)
+
+  -- the marks on those that were met
+  pub met_more : (p : ℕ → ℕ → Placed → Bool) (old new : ℕ → ℕ → Bool) → ((r n : ℕ) → r < 64 → old r n ≡ list_any (p r n) ts) → ((r n : ℕ) → r < 64 → new r n ≡ (p r n x || old r n)) → (r n : ℕ) → r < 64 → new r n ≡ list_any (p r n) (take (k + 1) t)
+  met_more p old new so_far marked r n lt =
+      marked r n lt ∙ ap (λ b. p r n x || b) (so_far r n lt) ∙ flip (p r n x) (list_any (p r n) ts) ∙ ap (λ y. list_any (p r n) ts || p r n y) at ∙ sym (list_any_more (p r n) t k x within)
     where
-      turn : (a b : Bool) → (a && b) ≡ (b && a)
-      turn a b = grind arith
+      flip : (a b : Bool) → (a || b) ≡ (b || a)
+      flip a b = grind arith
 
-      later : before x l ≡ true → x.course ≤ l.course
-      later h = grind (arith, nat_tests)
+  tally_more : (adds : List Placed → Placed → ℕ) → tally (only_in first (first + 64) adds) [] (take (k + 1) t) ≡ tally (only_in first (first + 64) adds) [] ts + cond (leb first x.slot && ltb x.slot (first + 64)) (adds ts x) 0
+  tally_more adds = ap (tally (only_in first (first + 64) adds) []) next ∙ tally_push (only_in first (first + 64) adds) [] ts x
 
-      by : (x.course ≡ d) ⊎ ((x.course < d) ⊎ (d < x.course)) → (x.slot == l.slot && clash i x.course d) ≡ (x.slot == l.slot && (ltb x.course d && clash i x.course d))
-      by (inl e) = ap (λ b. x.slot == l.slot && b) (ap (clash i x.course) (sym e) ∙ no_clash i x.course ∙ sym (ap (λ b. b && clash i x.course d) (le-ltb x.course d (omega (arith, e)))))
-      by (inr (inl lt)) = ap (λ b. x.slot == l.slot && b) (sym (ap (λ b. b && clash i x.course d) (lt-ltb x.course d lt)))
-      by (inr (inr gt)) = absurd (omega (arith, gt, same, later h))
+  -- what is added, by the tables
+  added : (adds : List Placed → Placed → ℕ) (n : ℕ) → (first ≤ x.slot → x.slot < first + 64 → n ≡ adds ts x)
+      → tally (only_in first (first + 64) adds) [] (take (k + 1) t) ≡ tally (only_in first (first + 64) adds) [] ts + cond (leb first x.slot && ltb x.slot (first + 64)) n 0
+  added adds n is = tally_more adds ∙ ap (λ m. tally (only_in first (first + 64) adds) [] ts + m) (elim (cases_Bool (leb first x.slot && ltb x.slot (first + 64))) [
+    | inl yes' ↦ (
+        let parts = and_parts (leb first x.slot) (ltb x.slot (first + 64)) yes' in
+        ap (λ m. cond (leb first x.slot && ltb x.slot (first + 64)) m 0) (sym (is (leb-true first x.slot parts.0) (ltb-true x.slot (first + 64) parts.1))))
+    | inr no' ↦ (ap (λ b. cond b (adds ts x) 0) no' ∙ sym (ap (λ b. cond b n 0) no'))
+  ])
 
-  in_row : (d : ℕ) (b : Bool) → b ≡ (ltb x.course d && clash i x.course d) → count_by (conflicts i x) (course_row d xs) ≡ count_by (λ l. b && x.slot == l.slot) (course_row d xs)
-  in_row d b is = count_by-same (conflicts i x) (λ l. b && x.slot == l.slot) (course_row d xs)
-      (Each-both (λ y. before x y ≡ true) (λ l. (l.course == d) ≡ true) (λ l. conflicts i x l ≡ (b && x.slot == l.slot))
-      (λ l h k. conflict_is d l h (eqb-true l.course d k) ∙ ap (λ t. t && x.slot == l.slot) (sym is)) (course_row d xs) (row_first d) (Each-filter_passes (λ l. l.course == d) xs))
+  pub conflicts_more : (courses : List (List ℕ)) → ((r n : ℕ) → r < 64 → in_row courses r n ≡ list_any (λ y. y.slot == first + r && y.course == n) ts)
+      → tally (only_in first (first + 64) (new_conflicts i)) [] (take (k + 1) t)
+      ≡ tally (only_in first (first + 64) (new_conflicts i)) [] ts + cond (leb first x.slot && ltb x.slot (first + 64)) (count_marked (λ n. in_row courses (x.slot - first) n && clashes_with i x.course n)) 0
+  conflicts_more courses right = added (new_conflicts i) (count_marked (λ n. in_row courses (x.slot - first) n && clashes_with i x.course n)) by
+    where
+      apart : (a b : Placed) → before a b ≡ true → (a.slot == x.slot) ≡ true → (b.slot == x.slot) ≡ true → a.course ≡ b.course → ⊥
+      apart a b e ka kb same = absurd (grind (arith, nat_tests))
 
-  module _ (c d : ℕ) where
-    row_is : (x.course ≡ d → ⊥) → course_row d (x ∷ xs) ≡ course_row d xs
-    row_is other = filter_no (λ l. l.course == d) x xs (ne_eqb x.course d other)
+      by : first ≤ x.slot → x.slot < first + 64 → count_marked (λ n. in_row courses (x.slot - first) n && clashes_with i x.course n) ≡ new_conflicts i ts x
+      by low high =
+          same_marked (λ n. in_row courses (x.slot - first) n && clashes_with i x.course n) (λ n. list_any (λ y. y.slot == x.slot && y.course == n) ts && clashes_with i x.course n)
+          (λ n. ap (λ b. b && clashes_with i x.course n) (right (x.slot - first) n (omega (arith, high, low)) ∙ ap (λ s. list_any (λ y. y.slot == s && y.course == n) ts) (omega (arith, low))))
+          ∙ counted_apart (λ y. y.slot == x.slot) (λ y. y.course) (clashes_with i x.course) 2000 ts
+          (Pairwise-map (λ a b. before a b ≡ true) (λ a b. (a.slot == x.slot) ≡ true → (b.slot == x.slot) ≡ true → a.course ≡ b.course → ⊥) apart ts (Pairwise-take (λ a b. before a b ≡ true) k t h.ascending))
+          (Each-map (Fits i) (λ y. (y.slot == x.slot) ≡ true → y.course < 2000) (λ y f _. omega (arith, f.0, courses_few)) ts (Each-take (Fits i) k t h.fits))
+          ∙ count_by-same (λ y. y.slot == x.slot && clashes_with i x.course y.course) (λ y. conflicts i y x) ts
+          (Each-map (Fits i) (λ y. (y.slot == x.slot && clashes_with i x.course y.course) ≡ conflicts i y x)
+          (λ y f. ap (λ b. y.slot == x.slot && b) (ap (λ b. b && clash i x.course y.course) (lt-ltb y.course (course_count i) f.0) ∙ clash_comm i x.course y.course)) ts (Each-take (Fits i) k t h.fits))
 
-    after_it : (b : Bool) → b ≡ (ltb c d && clash i c d) → b ≡ true → c < d
-    after_it b is yes' = ltb-true c d (and_parts (ltb c d) (clash i c d) (sym is ∙ yes')).0
+  pub rooms_more : (rooms : List (List ℕ)) → ((r n : ℕ) → r < 64 → in_row rooms r n ≡ list_any (λ y. y.slot == first + r && y.room == n) ts)
+      → tally (only_in first (first + 64) room_taken) [] (take (k + 1) t)
+      ≡ tally (only_in first (first + 64) room_taken) [] ts + cond (leb first x.slot && ltb x.slot (first + 64)) (cond (in_row rooms (x.slot - first) x.room) 1 0) 0
+  rooms_more rooms right = added room_taken (cond (in_row rooms (x.slot - first) x.room) 1 0) (λ low high. ap (λ b. cond b 1 0) (right (x.slot - first) x.room (omega (arith, high, low))
+      ∙ any_same (λ y. y.slot == first + (x.slot - first) && y.room == x.room) (share_room x) ts (λ y. ap (λ s. y.slot == s && y.room == x.room) (omega (arith, low)) ∙ ap₂ (λ a b. a && b) (eqb_comm y.slot x.slot) (eqb_comm y.room x.room))))
 
-    -- the pairs that the first lecture adds, where it is of course c
-    adds_own : (b : Bool) → b ≡ (ltb c d && clash i c d) → x.course ≡ c
-        → cond b (count_by (λ l. busy (course_row c (x ∷ xs)) l.slot) (course_row d (x ∷ xs))) 0 ≡ cond b (count_by (λ l. busy (course_row c xs) l.slot) (course_row d xs)) 0 + count_by (conflicts i x) (course_row d xs)
-    adds_own true is same =
-        let lt : c < d = after_it true is refl in
-        let there = in_row d true (is ∙ ap (λ k. ltb k d && clash i k d) (sym same)) in
-        let busy_there : (l : Placed) → (x.slot == l.slot) ≡ true → busy (course_row c xs) l.slot ≡ false = λ l k. ap (busy (course_row c xs)) (sym (eqb-true x.slot l.slot k)) ∙ not_busy x.slot (course_row c xs) (row_after c x xs same first) in
-        ap₂ (λ u v. count_by (λ l. busy u l.slot) v) (filter_yes (λ l. l.course == c) x xs (eq-eqb x.course c same)) (row_is (λ e. omega (arith, e, same, lt)))
-        ∙ omega (arith, there, count_either (λ l. x.slot == l.slot) (λ l. busy (course_row c xs) l.slot) (course_row d xs) busy_there)
-    adds_own false is same = sym (ap (λ n. 0 + n) (in_row d false (is ∙ ap (λ k. ltb k d && clash i k d) (sym same)) ∙ count_nothing (course_row d xs)))
+pub cond_few : (b : Bool) (m n : ℕ) → m ≤ n → cond b m 0 ≤ n
+cond_few true m n le = le
+cond_few false m n le = omega arith
 
-    -- where it is of another course
-    adds_none : (b : Bool) → b ≡ (ltb c d && clash i c d) → (x.course ≡ c → ⊥)
-        → cond b (count_by (λ l. busy (course_row c (x ∷ xs)) l.slot) (course_row d (x ∷ xs))) 0 ≡ cond b (count_by (λ l. busy (course_row c xs) l.slot) (course_row d xs)) 0
-    adds_none false is other = refl
-    adds_none true is other =
-        let p : Placed → Bool = λ l. busy (course_row c xs) l.slot in
-        let row : course_row c (x ∷ xs) ≡ course_row c xs = filter_no (λ l. l.course == c) x xs (ne_eqb x.course c other) in
-        ap (λ u. count_by (λ l. busy u l.slot) (course_row d (x ∷ xs))) row ∙ elim (cases_eq x.course d) [
-          | inl same ↦ (
-              let none : busy (course_row c xs) x.slot ≡ false = ap (λ u. busy u x.slot) (row_none c (omega (arith, after_it true is refl, same))) in
-              ap (count_by p) (filter_yes (λ l. l.course == d) x xs (eq-eqb x.course d same)) ∙ count_by-cons p x (course_row d xs) ∙ ap (λ b. cond b 1 0 + count_by p (course_row d xs)) none ∙ omega arith)
-          | inr apart ↦ ap (count_by p) (row_is apart)
-        ]
-
-    adds : shared i c (x ∷ xs) d ≡ shared i c xs d + cond (eqb x.course c) (count_by (conflicts i x) (course_row d xs)) 0
-    adds = elim (cases_eq x.course c) [
-      | inl same ↦ (adds_own (ltb c d && clash i c d) refl same ∙ ap (λ b. shared i c xs d + cond b (count_by (conflicts i x) (course_row d xs)) 0) (sym (eq-eqb x.course c same)))
-      | inr other ↦ (let no' : eqb x.course c ≡ false = ne_eqb x.course c other in omega (arith, adds_none (ltb c d && clash i c d) refl other, ap (λ b. cond b (count_by (conflicts i x) (course_row d xs)) 0) no'))
-    ]
-
-  all_adds : (c : ℕ) → Each (λ (l : Placed). l.course < course_count i) xs → conflicts_with i c (x ∷ xs) ≡ conflicts_with i c xs + cond (eqb x.course c) (count_by (conflicts i x) xs) 0
-  all_adds c fits =
-      let n : ℕ = course_count i in
-      let f : ℕ → ℕ = λ d. count_by (conflicts i x) (course_row d xs) in
-      sum_below_same (shared i c (x ∷ xs)) (λ d. shared i c xs d + cond (eqb x.course c) (f d) 0) n (adds c)
-      ∙ sum_below_add (shared i c xs) (λ d. cond (eqb x.course c) (f d) 0) n
-      ∙ ap (λ k. conflicts_with i c xs + k) (sum_where (eqb x.course c) f n ∙ ap (λ k. cond (eqb x.course c) k 0) (sym (sum_by_course (λ l. cond (conflicts i x l) 1 0) n xs fits)))
-
--- the pairs, course by course
-pub conflicts_by_course : (i : Problem) (t : List Placed) → Ascending t → Each (λ (l : Placed). l.course < course_count i) t → conflict_count i t ≡ sum_below (λ c. conflicts_with i c t) (course_count i)
-conflicts_by_course i [] h fits = sym (sum_below_zero (λ c. conflicts_with i c []) (course_count i) (λ c lt. sum_below_zero (shared i c []) (course_count i) (λ d lt2. none (ltb c d && clash i c d))))
-  where
-    none : (b : Bool) → ◌≡◌ {A = ℕ} (cond b 0 0) 0
-    none true = refl
-    none false = refl
-conflicts_by_course i (x ∷ xs) h fits =
-    let n : ℕ = course_count i in
-    let here : ℕ = count_by (conflicts i x) xs in
-    let split : sum_below (λ c. conflicts_with i c (x ∷ xs)) n ≡ sum_below (λ c. conflicts_with i c xs) n + sum_below (λ c. cond (eqb x.course c) here 0) n =
-    sum_below_same (λ c. conflicts_with i c (x ∷ xs)) (λ c. conflicts_with i c xs + cond (eqb x.course c) here 0) n (λ c. all_adds i x xs h.0 c fits.1) ∙ sum_below_add (λ c. conflicts_with i c xs) (λ c. cond (eqb x.course c) here 0) n in
-    omega (arith, split, sum_below_one here x.course n fits.0, conflicts_by_course i xs h.1 fits.1)
-
--- one more later course
-pub shared_yes : (i : Problem) (c : ℕ) (t : List Placed) (d : ℕ) → c < d → clash i c d ≡ true → shared i c t d ≡ count_by (λ l. busy (course_row c t) l.slot) (course_row d t)
-shared_yes i c t d lt e = ap₂ (λ a b. cond (a && b) (count_by (λ l. busy (course_row c t) l.slot) (course_row d t)) 0) (lt-ltb c d lt) e
-
-pub shared_no : (i : Problem) (c : ℕ) (t : List Placed) (d : ℕ) → clash i c d ≡ false → shared i c t d ≡ 0
-shared_no i c t d e = ap (λ b. cond (ltb c d && b) (count_by (λ l. busy (course_row c t) l.slot) (course_row d t)) 0) e ∙ by (ltb c d)
-  where
-    by : (a : Bool) → cond (a && false) (count_by (λ l. busy (course_row c t) l.slot) (course_row d t)) 0 ≡ 0
-    by true = refl
-    by false = refl
-
--- up to the course itself there is none
-pub none_shared : (i : Problem) (c : ℕ) (t : List Placed) → sum_below (shared i c t) (c + 1) ≡ 0
-none_shared i c t = sum_below_zero (shared i c t) (c + 1) (λ d lt. ap (λ b. cond (b && clash i c d) (count_by (λ l. busy (course_row c t) l.slot) (course_row d t)) 0) (le-ltb c d (omega (arith, lt))))
-
--- the marks on the slots of a row, as they stand for it
-pub marked_there : (i : Problem) (c d : ℕ) (t : List Placed) (marks : ℕ → Bool) → ((s : ℕ) → marks s ≡ busy (course_row c t) s) → count_by (λ l. marks l.slot) (course_row d t) ≡ count_by (λ l. busy (course_row c t) l.slot) (course_row d t)
-marked_there i c d t marks same = count_by-agree (λ l. marks l.slot) (λ l. busy (course_row c t) l.slot) (λ l. same l.slot) (course_row d t)
+pub one_few : (b : Bool) → cond b 1 0 ≤ 1
+one_few b = cond_few b 1 1 (omega arith)

@@ -32,7 +32,7 @@ abbrev pub distinct : {X : Type 0} → (X → ℕ) → ℕ → List X → ℕ
 distinct f n xs = count_below (λ d. list_any (λ x. f x == d) xs) n
 
 -- one more element, whose number is marked
-module _ {X : Type 0} (f : X → ℕ) (n : ℕ) (xs : List X) (i m : ℕ) (x : X) (old new : List Bool) (within : i < length xs) (at : x ≡ get_or xs i x) (is : m ≡ f x)
+module _ {X : Type 0} (f : X → ℕ) (n : ℕ) (xs : List X) (i m : ℕ) (x : X) (old new : List ℕ) (within : i < length xs) (at : x ≡ get_or xs i x) (is : m ≡ f x)
     (marked : (d : ℕ) → is_marked old d ≡ list_any (λ y. f y == d) (take i xs)) where
   any_here : (d : ℕ) → list_any (λ y. f y == d) (take (i + 1) xs) ≡ (list_any (λ y. f y == d) (take i xs) || (f x == d))
   any_here d = list_any_more (λ y. f y == d) xs i x within ∙ ap (λ y. list_any (λ z. f z == d) (take i xs) || (f y == d)) (sym at)

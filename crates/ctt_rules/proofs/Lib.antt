@@ -1,12 +1,14 @@
 pub mod ListLemmas
 pub mod SumLemmas
 pub mod SlotLemmas
+pub mod BitLemmas
 pub mod DistinctLemmas
 pub mod NeighbourLemmas
 pub mod PartLemmas
 pub mod TimetableLemmas
 pub mod RowLemmas
 pub mod ConflictLemmas
+pub mod WindowLemmas
 pub mod CellLemmas
 pub mod CountLemmas
 pub mod WorkedCosts

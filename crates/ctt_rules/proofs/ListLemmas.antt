@@ -1,8 +1,9 @@
 -- Filters, and what holds of each element.
-use Rattle.std.proofs.Common.{◌≡◌, Bool, true, false, List, [], ◌∷◌, refl, ap, inl, inr}
+use Rattle.std.proofs.Common.{◌≡◌, ℕ, zero, suc, Bool, true, false, List, [], ◌∷◌, take, refl, ap, inl, inr}
 use Rattle.std.specs.List.{filter, AllByRecursion as Each}
 use Rattle.std.proofs.lemmas.Bool.{cases_Bool}
 use Rattle.ctt_text.specs.Lists.{Pairwise}
+use Rattle.ctt_text.proofs.TimetableLemmas.{Each-map}
 
 pub filter_yes : {X : Type 0} (p : X → Bool) (x : X) (xs : List X) → p x ≡ true → filter p (x ∷ xs) ≡ x ∷ filter p xs
 filter_yes p x xs e = rw e refl
@@ -42,3 +43,16 @@ Each-filter_passes p (x ∷ xs) = elim (cases_Bool (p x)) [ inl e ↦ rw e (e, E
 pub Each-both : {X : Type 0} (P Q R : X → Type 0) → ((x : X) → P x → Q x → R x) → (xs : List X) → Each P xs → Each Q xs → Each R xs
 Each-both P Q R f [] h k = tt
 Each-both P Q R f (x ∷ xs) h k = (f x h.0 k.0, Each-both P Q R f xs h.1 k.1)
+
+pub Each-take : {X : Type 0} (P : X → Type 0) (n : ℕ) (xs : List X) → Each P xs → Each P (take n xs)
+Each-take P zero xs h = tt
+Each-take P (suc n) [] h = tt
+Each-take P (suc n) (x ∷ xs) h = (h.0, Each-take P n xs h.1)
+
+pub Each-every : {X : Type 0} (P : X → Type 0) → ((x : X) → P x) → (xs : List X) → Each P xs
+Each-every P f [] = tt
+Each-every P f (x ∷ xs) = (f x, Each-every P f xs)
+
+pub Pairwise-map : {X : Type 0} (R S : X → X → Type 0) → ((x y : X) → R x y → S x y) → (xs : List X) → Pairwise R xs → Pairwise S xs
+Pairwise-map R S f [] h = tt
+Pairwise-map R S f (x ∷ xs) h = (Each-map (R x) (S x) (f x) xs h.0, Pairwise-map R S f xs h.1)

@@ -55,9 +55,13 @@ member_first m q (x ∷ xs) = ap₂ (λ b ls. cond (b || has x.course q) (x ∷ 
     turn : (a b : ℕ) → (a == b) ≡ (b == a)
     turn a b = grind arith
 
+-- what some lecture of the members does, some lecture of one of them does
+pub any_part : (p : Placed → Bool) (q : List ℕ) (t : List Placed) → list_any (λ m. list_any p (course_row m t)) q ≡ list_any p (part_of q t)
+any_part p [] t = sym (ap (list_any p) (none_of t))
+any_part p (m ∷ q) t = ap (λ b. list_any p (course_row m t) || b) (any_part p q t) ∙ sym (ap (list_any p) (member_first m q t) ∙ any_filter_or (λ l. l.course == m) (λ l. has l.course q) p t)
+
 pub busy_part : (q : List ℕ) (t : List Placed) (s : ℕ) → list_any (λ m. busy (course_row m t) s) q ≡ busy (part_of q t) s
-busy_part [] t s = sym (ap (λ ls. busy ls s) (none_of t))
-busy_part (m ∷ q) t s = ap (λ b. busy (course_row m t) s || b) (busy_part q t s) ∙ sym (ap (λ ls. busy ls s) (member_first m q t) ∙ any_filter_or (λ l. l.course == m) (λ l. has l.course q) (λ l. l.slot == s) t)
+busy_part q t s = any_part (λ l. l.slot == s) q t
 
 absent : (m : ℕ) (q : List ℕ) → Each (λ d. (m == d) ≡ false) q → has m q ≡ false
 absent m [] h = refl

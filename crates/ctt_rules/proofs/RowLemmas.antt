@@ -1,6 +1,6 @@
 -- The rows of a timetable, which stand one after another.
 use Rattle.std.proofs.Common.{◌≡◌, ℕ, zero, suc, ◌+◌, ◌-◌, ◌<◌, ◌≤◌, Bool, true, false, ◌==◌, leb, List, [], ◌∷◌, length, take, drop, get_or, set, refl, subst, ◌∙◌, sym, ap, arith, inl, inr, one-add, add-one}
-use Rattle.std.specs.List.{prefix_len, AllWithin, AllByRecursion as Each}
+use Rattle.std.specs.List.{filter, prefix_len, AllWithin, AllByRecursion as Each}
 use Rattle.std.specs.List.Sorted.{IsNonDecreasingBy}
 use Rattle.std.proofs.lemmas.Bool.Decides.{nat_tests}
 use Rattle.std.proofs.lemmas.Bool.{cases_eq, eq-eqb, ne_eqb, eqb-true, leb-true, le-leb, lt-leb}
@@ -9,8 +9,15 @@ use Rattle.std.proofs.lemmas.List.Sums.{prefix_len-le-length}
 use Rattle.ctt_text.specs.Timetable.{before, Ascending, course_row}
 use Rattle.ctt_text.specs.declared.placed.Placed.{Placed}
 use Rattle.ctt_text.proofs.TimetableLemmas.{Each-map, Each-at, Each-from_index}
-use Rattle.ctt_rules.specs.Rows.{from_course, IsStart}
 use Rattle.ctt_rules.proofs.ListLemmas.{filter_none, filter_every, filter_within, Pairwise-filter, Each-filter_passes}
+
+-- the lectures of this course and of the courses after it
+abbrev pub from_course : ℕ → List Placed → List Placed
+from_course c t = filter (λ l. leb c l.course) t
+
+pub record IsStart (c start : ℕ) (t : List Placed) : Type 0 where
+  pub within : start ≤ length t
+  pub rest : drop start t ≡ from_course c t
 
 -- the lectures of a course at the front, and those of the courses after it
 module _ (c : ℕ) where
@@ -47,15 +54,6 @@ module _ (c : ℕ) where
 
 -- the rows and what stands before and after them, by places
 module _ (t : List Placed) (ascending : Ascending t) where
-  pub start_at : (start : ℕ) → start ≤ 0 → IsStart 0 start t
-  start_at start le =
-      let e : start ≡ 0 = omega arith in
-      record { within = omega arith; rest = rw e (sym (filter_every (λ l. leb 0 l.course) t (every t))) }
-    where
-      every : (xs : List Placed) → Each (λ (l : Placed). leb 0 l.course ≡ true) xs
-      every [] = tt
-      every (x ∷ xs) = (le-leb 0 x.course (omega arith), every xs)
-
   module _ (c start : ℕ) (is : IsStart c start t) where
     abbrev rest : List Placed
     rest = drop start t
@@ -91,26 +89,6 @@ module _ (t : List Placed) (ascending : Ascending t) where
     row_between end next =
         let e : end - start ≡ front = omega (arith, next_is end next) in
         rw e row_is
-
-  -- the next start, by the lectures at the front
-  pub next_by_front : (c start n course : ℕ) → IsStart c start t → n ≡ prefix_len (λ (l : Placed). l.course == course) (take (length t - start) (drop start t)) → course ≡ c → IsStart (c + 1) (start + n) t
-  next_by_front c start n course is e same =
-      let e' : n ≡ prefix_len (λ (l : Placed). l.course == c) (drop start t) = e ∙ ap (prefix_len (λ (l : Placed). l.course == course)) (take_rest t start) ∙ ap (λ k. prefix_len (λ (l : Placed). l.course == k) (drop start t)) same in
-      rw e' (next_start c start is)
-
-  -- from the last course on
-  pub start_at_end : (n c : ℕ) → Each (λ (l : Placed). l.course < n) t → n ≤ c → IsStart c (length t) t
-  start_at_end n c fits le = record {
-    within = omega arith;
-    rest = drop_all (length t) t (omega arith) ∙ sym (filter_none (λ l. leb c l.course) t (Each-map (λ (l : Placed). l.course < n) (λ l. leb c l.course ≡ false) (λ l lt. lt-leb c l.course (omega arith)) t fits));
-  }
-
--- one more start in a table of them
-pub more_starts : (t : List Placed) (old new : List ℕ) (n start : ℕ) → new ≡ set old n start → n < length old → ((c : ℕ) → c < n → IsStart c (get_or old c 0) t) → IsStart n start t → (c : ℕ) → c < n + 1 → IsStart c (get_or new c 0) t
-more_starts t old new n start e within found here c lt = elim (cases_eq c n) [
-  | inl same ↦ subst (λ k. IsStart k (get_or new k 0) t) (sym same) (subst (λ s. IsStart n s t) (sym (ap (λ s. get_or s n 0) e ∙ get_or-set_same old n start 0 within)) here)
-  | inr other ↦ subst (λ s. IsStart c s t) (sym (ap (λ s. get_or s c 0) e ∙ get_or-set_other old n c start 0 other)) (found c (omega arith))
-]
 
 -- a start by what stands before it and from it on
 pub start_by_places : (c : ℕ) (t : List Placed) (start : ℕ) → start ≤ length t → AllWithin (λ (l : Placed). l.course < c) t 0 start → AllWithin (λ (l : Placed). c ≤ l.course) t start (length t) → IsStart c start t

@@ -13,6 +13,11 @@ pub sum_below_same : (f g : ℕ → ℕ) (n : ℕ) → ((x : ℕ) → f x ≡ g 
 sum_below_same f g zero e = refl
 sum_below_same f g (suc n) e = let here : f n ≡ g n = e n in omega (arith, sum_below_same f g n e)
 
+-- the same below n
+pub sum_below_agree : (f g : ℕ → ℕ) (n : ℕ) → ((x : ℕ) → x < n → f x ≡ g x) → sum_below f n ≡ sum_below g n
+sum_below_agree f g zero e = refl
+sum_below_agree f g (suc n) e = let here : f n ≡ g n = e n (omega arith) in omega (arith, here, sum_below_agree f g n (λ x lt. e x (omega (arith, lt))))
+
 pub sum_below_add : (f g : ℕ → ℕ) (n : ℕ) → sum_below (λ x. f x + g x) n ≡ sum_below f n + sum_below g n
 sum_below_add f g zero = refl
 sum_below_add f g (suc n) = omega (arith, sum_below_add f g n)
@@ -53,3 +58,20 @@ count_by-cons p x xs = sum_by-cons (λ y. cond (p y) 1 0) x xs
 pub count_by-agree : {X : Type 0} (p q : X → Bool) → ((x : X) → p x ≡ q x) → (xs : List X) → count_by p xs ≡ count_by q xs
 count_by-agree p q e [] = refl
 count_by-agree p q e (x ∷ xs) = count_by-cons p x xs ∙ ap₂ (λ b n. cond b 1 0 + n) (e x) (count_by-agree p q e xs) ∙ sym (count_by-cons q x xs)
+
+pub sum_by-agree : {X : Type 0} (f g : X → ℕ) → ((x : X) → f x ≡ g x) → (xs : List X) → sum_by f xs ≡ sum_by g xs
+sum_by-agree f g e [] = refl
+sum_by-agree f g e (x ∷ xs) = sum_by-cons f x xs ∙ ap₂ (λ a b. a + b) (e x) (sum_by-agree f g e xs) ∙ sym (sum_by-cons g x xs)
+
+-- two sums over the same elements
+pub sum_by-join : {X : Type 0} (f g h : X → ℕ) → ((x : X) → f x + g x ≡ h x) → (xs : List X) → sum_by f xs + sum_by g xs ≡ sum_by h xs
+sum_by-join f g h e [] = refl
+sum_by-join f g h e (x ∷ xs) = omega (arith, e x, sum_by-join f g h e xs, sum_by-cons f x xs, sum_by-cons g x xs, sum_by-cons h x xs)
+
+pub sum_by-zero : {X : Type 0} (f : X → ℕ) → ((x : X) → f x ≡ 0) → (xs : List X) → sum_by f xs ≡ 0
+sum_by-zero f e [] = refl
+sum_by-zero f e (x ∷ xs) = omega (arith, e x, sum_by-zero f e xs, sum_by-cons f x xs)
+
+pub sum_by-few : {X : Type 0} (f : X → ℕ) (m : ℕ) → ((x : X) → f x ≤ m) → (xs : List X) → sum_by f xs ≤ length xs * m
+sum_by-few f m e [] = omega arith
+sum_by-few f m e (x ∷ xs) = omega (arith, e x, sum_by-few f m e xs, sum_by-cons f x xs)

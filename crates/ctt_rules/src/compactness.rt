@@ -1,73 +1,141 @@
-//! The compactness of the curricula.
+//! The compactness of the curricula, by words of bits: one bit for each slot of a window.
 
-ghost use Rattle.std.specs.Prelude.{◌≡◌, ◌<◌, ◌≤◌, ◌+◌, ◌*◌, ◌||◌, not, ℕ, length, count_by};
+ghost use Rattle.std.specs.Prelude.{◌≡◌, ◌<◌, ◌≤◌, ◌+◌, ◌-◌, ◌*◌, ◌&&◌, ◌||◌, ◌==◌, not, nat_lt, ℕ, length, count_by, sum_by};
 ghost use Rattle.std.specs.List.{list_any, AllByRecursion as Each};
-ghost use Rattle.ctt_text.specs.Marks.{is_marked};
-ghost use Rattle.ctt_text.specs.Problem.{AreMembers, course_count, slot_count};
-ghost use Rattle.ctt_text.specs.Timetable.{IsTimetable, Fits, course_row};
-ghost use Rattle.ctt_rules.specs.Penalty.{penalty, alone_cost, part_of};
-ghost use Rattle.ctt_rules.specs.Neighbours.{busy, is_beside};
+ghost use Rattle.ctt_text.specs.Lists.{count_below};
+ghost use Rattle.ctt_text.specs.Problem.{AreMembers, course_count};
+ghost use Rattle.ctt_text.specs.Timetable.{IsTimetable, Fits};
+ghost use Rattle.ctt_rules.specs.Penalty.{penalty, part_of};
+ghost use Rattle.ctt_rules.specs.Windows.{has_bit, is_alone_within, stands_at, word_of};
 
-use crate::rows::Rows;
-use crate::slots::mark_slots;
-use ctt_text::{CourseNo, CurriculumNo, Instance, Marks, Placed, SlotNo};
+use ctt_text::{CourseNo, CurriculumNo, Instance, Placed};
+use std::marker::Model;
 
-/// Whether the slot before or the one after, on the same day, is marked.
-fn is_beside(instance: &Instance, slots: &Marks, slot: SlotNo) -> bool
-    requires { slot < slot_count instance.now }
-    ensures { result ≡ is_beside instance.now (is_marked slots.now) slot }
-{
-    instance.limits();
-    let period = instance.period_of(slot);
-    let number = slot.get() as usize;
-    (period > 0 && slots.is_marked(number - 1))
-        || (period + 1 < instance.periods() && slots.is_marked(number + 1))
+/// The places of a window at which lectures are counted, 1 to 62. At 0 and 63 stand their neighbours.
+const COUNTED: u64 = 0x7fff_ffff_ffff_fffe;
+
+/// A word of 64 bits for each course.
+#[derive(Drop)]
+struct Words {
+    words: [u64; 2000],
 }
 
-/// How many lectures stand where no slot beside them is marked.
-pub fn count_alone(instance: &Instance, slots: &Marks, lectures: &[Placed]) -> u64
-    requires { Each (Fits instance.now) lectures.now }
-    ensures count { result ≡ count_by (λ l. not (is_beside instance.now (is_marked slots.now) l.slot)) lectures.now }
-    ensures few { result ≤ length lectures.now }
-{
-    let mut count = 0;
-    for lecture in lectures {
-        if !is_beside(instance, slots, lecture.slot) {
-            count += 1;
+impl Model for Words {
+    ghost use Rattle.std.specs.Prelude.{List, ℕ};
+
+    ghost Value = { List ℕ };
+
+    ghost view = { λ w. w.words };
+}
+
+impl Words {
+    /// No bit is set.
+    fn new() -> Self
+        ensures { (c : ℕ) → word_of result c ≡ 0 }
+    {
+        Words { words: [0; 2000] }
+    }
+
+    /// Sets the bit of a number, if it is one of the 64 from `first` on.
+    fn set(&mut self, course: CourseNo, number: u16, first: u16)
+        requires { course < 2000 }
+        ensures { (c place : ℕ) → place < 64 → has_bit (word_of self.new c) place
+            ≡ ((course == c && number == first + place) || has_bit (word_of self.old c) place) }
+    {
+        if first <= number && number - first < 64 {
+            self.words[course.get() as usize] |= 1u64 << (number - first);
         }
     }
-    count
+
+    /// The word of a course.
+    fn of(&self, course: CourseNo) -> u64
+        requires { course < 2000 }
+        ensures { result ≡ word_of self.now course }
+    {
+        self.words[course.get() as usize]
+    }
+
+    /// The bits that some of these courses have.
+    fn union(&self, courses: &[CourseNo]) -> u64
+        requires { Each (λ c. c < 2000) courses.now }
+        ensures { (place : ℕ) → has_bit result place ≡ list_any (λ c. has_bit (word_of self.now c) place) courses.now }
+    {
+        let mut union = 0;
+        for course in courses {
+            union |= self.of(*course);
+        }
+        union
+    }
+
+    /// How many of these bits the courses have, each for itself.
+    fn count(&self, courses: &[CourseNo], bits: u64) -> u64
+        requires fit { Each (λ c. c < 2000) courses.now }
+        requires few { length courses.now ≤ 2000 }
+        ensures { result ≡ sum_by (λ c. count_below (λ place. has_bit (word_of self.now c) place && has_bit bits place) 64) courses.now }
+    {
+        let mut count = 0;
+        for course in courses {
+            count += u64::from((self.of(*course) & bits).count_ones());
+        }
+        count
+    }
 }
 
-/// Two points for each lecture of these courses that is next to none of them.
-fn alone(instance: &Instance, rows: &Rows, members: &[CourseNo]) -> u64
-    requires timetable { IsTimetable instance.now rows.now }
-    requires members { AreMembers (course_count instance.now) members.now }
-    ensures cost { result ≡ alone_cost instance.now (part_of members.now rows.now) }
-    ensures few { result ≤ 2 * length rows.now }
+/// The places that are counted and have no busy one beside them.
+fn alone(busy: u64) -> u64
+    ensures { (place : ℕ) → has_bit result place
+        ≡ ((nat_lt 0 place && nat_lt place 63) && (not (has_bit busy (place - 1)) && not (has_bit busy (place + 1)))) }
 {
-    instance.limits();
-    let mut slots = Marks::new();
-    for member in members {
-        mark_slots(instance, &mut slots, rows.row(*member));
+    !(busy << 1 | busy >> 1) & COUNTED
+}
+
+/// The lectures, course by course, in the window in which `first` has place 1.
+fn window(instance: &Instance, timetable: &[Placed], first: u16) -> Words
+    requires { Each (Fits instance.now) timetable.now }
+    ensures { (c place : ℕ) → place < 64 → has_bit (word_of result c) place
+        ≡ list_any (λ l. l.course == c && stands_at instance.now first place l) timetable.now }
+{
+    instance.limits_hold();
+    let mut words = Words::new();
+    for lecture in timetable {
+        let number = lecture.slot.get() + instance.day_of(lecture.slot) + 1;
+        words.set(lecture.course, number, first);
     }
-    let mut count = 0;
-    for member in members {
-        count += count_alone(instance, &slots, rows.row(*member));
+    words
+}
+
+/// Two points for each lecture of a curriculum that is next to none of it, in a window.
+fn alone_within(instance: &Instance, timetable: &[Placed], first: u16) -> u64
+    requires { IsTimetable instance.now timetable.now }
+    ensures value { result ≡ sum_by (λ q. 2 * count_by (is_alone_within instance.now first (part_of q timetable.now)) (part_of q timetable.now)) instance.now.curricula }
+    ensures bound { result ≤ 20000 * 8000000 }
+{
+    instance.limits_hold();
+    let words = window(instance, timetable, first);
+    let mut total = 0;
+    for number in 0..instance.curricula() {
+        let members = instance.members(CurriculumNo::new(number));
+        total += 2 * words.count(members, alone(words.union(members)));
     }
-    2 * count
+    total
 }
 
 /// Two points for each lecture of a curriculum that is next to none of it, over all curricula.
-pub(crate) fn compactness(instance: &Instance, rows: &Rows) -> u64
-    requires { IsTimetable instance.now rows.now }
-    ensures value { result ≡ (penalty instance.now rows.now).compactness }
+///
+/// Slots are numbered with a gap after each day, so that the last of a day and the first of the next are not next to each
+/// other. Windows of 62 numbers are taken in turn.
+pub(crate) fn compactness(instance: &Instance, timetable: &[Placed]) -> u64
+    requires { IsTimetable instance.now timetable.now }
+    ensures value { result ≡ (penalty instance.now timetable.now).compactness }
     ensures bound { result ≤ 20000 * 8000000 }
 {
-    instance.limits();
+    instance.limits_hold();
+    let end = instance.slots() + instance.days();
     let mut total = 0;
-    for number in 0..instance.curricula() {
-        total += alone(instance, rows, instance.members(CurriculumNo::new(number)));
+    let mut first = 0;
+    while first < end {
+        total += alone_within(instance, timetable, first);
+        first += 62;
     }
     total
 }

@@ -5,9 +5,8 @@ ghost use Rattle.std.specs.List.{AllByRecursion as Each};
 ghost use Rattle.ctt_text.specs.Timetable.{IsTimetable, Fits};
 ghost use Rattle.ctt_rules.specs.Hard.{hard_counts, missing_count, unavailable_count};
 
-use crate::conflicts::conflicts;
-use crate::occupancy::occupancy;
-use crate::rows::Rows;
+use crate::row::course_row;
+use crate::sharing::count_sharing;
 use ctt_text::{CourseNo, Instance, Placed};
 
 /// How often a timetable breaks each of the four hard constraints of the technical report of
@@ -25,22 +24,22 @@ pub struct Hard {
 }
 
 /// The lectures that courses lack, and those that they have too many.
-pub(crate) fn missing(instance: &Instance, rows: &Rows) -> u64
-    requires { IsTimetable instance.now rows.now }
-    ensures { result ≡ missing_count instance.now rows.now }
+fn missing(instance: &Instance, timetable: &[Placed]) -> u64
+    requires { IsTimetable instance.now timetable.now }
+    ensures { result ≡ missing_count instance.now timetable.now }
 {
-    instance.limits();
+    instance.limits_hold();
     let mut total = 0;
     for number in 0..instance.courses() {
         let course = CourseNo::new(number);
         let lectures = u64::from(instance.lectures(course));
-        total += lectures.abs_diff(rows.row(course).len() as u64);
+        total += lectures.abs_diff(course_row(instance, timetable, course).len() as u64);
     }
     total
 }
 
 /// The lectures in slots in which their courses are unavailable.
-pub(crate) fn unavailable(instance: &Instance, lectures: &[Placed]) -> u64
+fn unavailable(instance: &Instance, lectures: &[Placed]) -> u64
     requires { Each (Fits instance.now) lectures.now }
     ensures { result ≡ unavailable_count instance.now lectures.now }
 {
@@ -58,11 +57,11 @@ pub fn hard_counts(instance: &Instance, timetable: &[Placed]) -> Hard
     requires { IsTimetable instance.now timetable.now }
     ensures { result ≡ hard_counts instance.now timetable.now }
 {
-    let rows = Rows::new(instance, timetable);
+    let sharing = count_sharing(instance, timetable);
     Hard {
-        lectures: missing(instance, &rows),
-        conflicts: conflicts(instance, &rows),
+        lectures: missing(instance, timetable),
+        conflicts: sharing.conflicts,
         availability: unavailable(instance, timetable),
-        occupancy: occupancy(instance, timetable),
+        occupancy: sharing.occupancy,
     }
 }

@@ -1,29 +1,57 @@
-//! Which timetables are lawful, and which of those are complete.
+//! Which timetables are lawful, and which of those are complete, by what they break.
 
-ghost use Rattle.std.specs.Prelude.{◌≤◌, ◌↔◌, ℕ, IsTrue, length};
+ghost use Rattle.std.specs.Prelude.{◌≡◌, ◌≤◌, ◌↔◌, ◌==◌, ◌&&◌, ℕ, IsTrue, length};
 ghost use Rattle.ctt_text.specs.Problem.{course_of};
 ghost use Rattle.ctt_text.specs.Timetable.{IsTimetable, course_row};
-ghost use Rattle.ctt_rules.specs.Hard.{Lawful, Complete};
+ghost use Rattle.ctt_rules.specs.Hard.{Lawful, Complete, hard_counts};
 
-use crate::conflicts::conflicts;
-use crate::hard::{missing, unavailable};
-use crate::occupancy::occupancy;
-use crate::rows::Rows;
+use crate::hard::{Hard, hard_counts};
+use crate::row::course_row;
 use ctt_text::{CourseNo, Instance, Placed};
 
 /// Whether no course has more lectures than the instance says.
-fn has_no_surplus(instance: &Instance, rows: &Rows) -> bool
-    requires { IsTimetable instance.now rows.now }
-    ensures { IsTrue result ↔ ((c : ℕ) → length (course_row c rows.now) ≤ (course_of instance.now c).lectures) }
+fn has_no_surplus(instance: &Instance, timetable: &[Placed]) -> bool
+    requires { IsTimetable instance.now timetable.now }
+    ensures { IsTrue result ↔ ((c : ℕ) → length (course_row c timetable.now) ≤ (course_of instance.now c).lectures) }
 {
-    instance.limits();
     for number in 0..instance.courses() {
         let course = CourseNo::new(number);
-        if rows.row(course).len() > instance.lectures(course) as usize {
+        if course_row(instance, timetable, course).len() > instance.lectures(course) as usize {
             return false;
         }
     }
     true
+}
+
+/// Whether none of the lectures that are placed breaks a rule.
+fn breaks_none(hard: &Hard) -> bool
+    ensures { result ≡ (hard.now.conflicts == 0 && (hard.now.availability == 0 && hard.now.occupancy == 0)) }
+{
+    hard.conflicts == 0 && (hard.availability == 0 && hard.occupancy == 0)
+}
+
+/// Whether a timetable that breaks so much is lawful.
+pub(crate) fn keeps_rules(instance: &Instance, timetable: &[Placed], hard: &Hard) -> bool
+    requires timetable { IsTimetable instance.now timetable.now }
+    requires counted { hard.now ≡ hard_counts instance.now timetable.now }
+    ensures { IsTrue result ↔ Lawful instance.now timetable.now }
+{
+    breaks_none(hard) && has_no_surplus(instance, timetable)
+}
+
+/// Whether a timetable that breaks so much, and is lawful or not, is complete.
+pub(crate) fn has_all(
+    instance: &Instance,
+    timetable: &[Placed],
+    hard: &Hard,
+    lawful: bool,
+) -> bool
+    requires timetable { IsTimetable instance.now timetable.now }
+    requires counted { hard.now ≡ hard_counts instance.now timetable.now }
+    requires judged { IsTrue lawful ↔ Lawful instance.now timetable.now }
+    ensures { IsTrue result ↔ Complete instance.now timetable.now }
+{
+    lawful && hard.lectures == 0
 }
 
 /// Whether a timetable keeps the hard rules, but for lectures that are not placed: no lectures in
@@ -33,11 +61,7 @@ pub fn is_lawful(instance: &Instance, timetable: &[Placed]) -> bool
     requires { IsTimetable instance.now timetable.now }
     ensures { IsTrue result ↔ Lawful instance.now timetable.now }
 {
-    let rows = Rows::new(instance, timetable);
-    has_no_surplus(instance, &rows)
-        && unavailable(instance, timetable) == 0
-        && occupancy(instance, timetable) == 0
-        && conflicts(instance, &rows) == 0
+    keeps_rules(instance, timetable, &hard_counts(instance, timetable))
 }
 
 /// Whether a timetable is lawful and has all lectures of each course.
@@ -45,6 +69,7 @@ pub fn is_complete(instance: &Instance, timetable: &[Placed]) -> bool
     requires { IsTimetable instance.now timetable.now }
     ensures { IsTrue result ↔ Complete instance.now timetable.now }
 {
-    let rows = Rows::new(instance, timetable);
-    missing(instance, &rows) == 0 && is_lawful(instance, timetable)
+    let hard = hard_counts(instance, timetable);
+    let lawful = keeps_rules(instance, timetable, &hard);
+    has_all(instance, timetable, &hard, lawful)
 }

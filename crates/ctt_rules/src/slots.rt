@@ -1,31 +1,48 @@
-//! Marks on the slots of lectures.
+//! Marks on the slots of lectures, and the lectures that stand beside none.
 
-ghost use Rattle.std.specs.Prelude.{◌≡◌, ◌≤◌, ◌||◌, ℕ, length, count_by};
+ghost use Rattle.std.specs.Prelude.{◌≡◌, ◌<◌, ◌≤◌, ◌||◌, not, ℕ, length, count_by};
 ghost use Rattle.std.specs.List.{AllByRecursion as Each};
 ghost use Rattle.ctt_text.specs.Marks.{is_marked};
+ghost use Rattle.ctt_text.specs.Problem.{slot_count};
 ghost use Rattle.ctt_text.specs.Timetable.{Fits};
-ghost use Rattle.ctt_rules.specs.Neighbours.{busy};
+ghost use Rattle.ctt_rules.specs.Neighbours.{busy, is_beside};
 
-use ctt_text::{Instance, Marks, Placed};
+use ctt_text::{Instance, Marks, Placed, SlotNo};
 
 /// Marks the slots of lectures.
 pub fn mark_slots(instance: &Instance, slots: &mut Marks, lectures: &[Placed])
     requires { Each (Fits instance.now) lectures.now }
     ensures { (s : ℕ) → is_marked slots.new s ≡ (is_marked slots.old s || busy lectures.now s) }
 {
-    instance.limits();
+    instance.limits_hold();
     for lecture in lectures {
         slots.mark(lecture.slot.get() as usize);
     }
 }
 
-/// How many lectures stand in marked slots.
-pub(crate) fn count_marked(slots: &Marks, lectures: &[Placed]) -> u64
-    ensures count { result ≡ count_by (λ l. is_marked slots.now l.slot) lectures.now }
+/// Whether the slot before or the one after, on the same day, is marked.
+fn is_beside(instance: &Instance, slots: &Marks, slot: SlotNo) -> bool
+    requires { slot < slot_count instance.now }
+    ensures { result ≡ is_beside instance.now (is_marked slots.now) slot }
+{
+    instance.limits_hold();
+    let period = instance.period_of(slot);
+    let number = slot.get() as usize;
+    (period > 0 && slots.is_marked(number - 1))
+        || (period + 1 < instance.periods() && slots.is_marked(number + 1))
+}
+
+/// How many lectures stand where no slot beside them is marked.
+pub fn count_alone(instance: &Instance, slots: &Marks, lectures: &[Placed]) -> u64
+    requires { Each (Fits instance.now) lectures.now }
+    ensures count { result ≡ count_by (λ l. not (is_beside instance.now (is_marked slots.now) l.slot)) lectures.now }
     ensures few { result ≤ length lectures.now }
 {
-    let marked = lectures
-        .iter()
-        .filter(|l| slots.is_marked(l.slot.get() as usize));
-    marked.count() as u64
+    let mut count = 0;
+    for lecture in lectures {
+        if !is_beside(instance, slots, lecture.slot) {
+            count += 1;
+        }
+    }
+    count
 }

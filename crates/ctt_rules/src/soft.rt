@@ -10,7 +10,6 @@ ghost use Rattle.ctt_rules.specs.Penalty.{penalty, course_cost, total, unseated,
 use crate::compactness::compactness;
 use crate::cost::Cost;
 use crate::row::course_row;
-use crate::rows::Rows;
 use ctt_text::{CourseNo, Instance, Marks, Placed};
 
 /// The students above the capacities of the rooms, over all these lectures.
@@ -20,7 +19,7 @@ fn capacity(instance: &Instance, lectures: &[Placed]) -> u64
     ensures value { result ≡ sum_by (unseated instance.now) lectures.now }
     ensures bound { result ≤ 999999999 * length lectures.now }
 {
-    instance.limits();
+    instance.limits_hold();
     let mut total = 0;
     for lecture in lectures {
         let students = instance.students(lecture.course);
@@ -34,7 +33,7 @@ fn day_count(instance: &Instance, lectures: &[Placed]) -> u64
     requires { Each (Fits instance.now) lectures.now }
     ensures { result ≡ days_of instance.now lectures.now }
 {
-    instance.limits();
+    instance.limits_hold();
     let mut seen = Marks::new();
     let mut count = 0;
     for lecture in lectures {
@@ -50,7 +49,7 @@ fn room_count(instance: &Instance, lectures: &[Placed]) -> u64
     requires { Each (Fits instance.now) lectures.now }
     ensures { result ≡ rooms_of instance.now lectures.now }
 {
-    instance.limits();
+    instance.limits_hold();
     let mut seen = Marks::new();
     let mut count = 0;
     for lecture in lectures {
@@ -68,7 +67,7 @@ fn missing_days(instance: &Instance, course: CourseNo, row: &[Placed]) -> u64
     ensures value { result ≡ days_cost instance.now course row.now }
     ensures bound { result ≤ 5 * 999999999 }
 {
-    instance.limits();
+    instance.limits_hold();
     5 * u64::from(instance.min_days(course)).saturating_sub(day_count(instance, row))
 }
 
@@ -78,35 +77,36 @@ fn surplus_rooms(instance: &Instance, row: &[Placed]) -> u64
     ensures value { result ≡ rooms_cost instance.now row.now }
     ensures bound { result ≤ 1000 }
 {
-    instance.limits();
+    instance.limits_hold();
     room_count(instance, row).saturating_sub(1)
 }
 
 /// Five points for each day that the lectures of a course have too few, over all courses.
-fn days(instance: &Instance, rows: &Rows) -> u64
-    requires { IsTimetable instance.now rows.now }
-    ensures value { result ≡ (penalty instance.now rows.now).days }
+fn days(instance: &Instance, timetable: &[Placed]) -> u64
+    requires { IsTimetable instance.now timetable.now }
+    ensures value { result ≡ (penalty instance.now timetable.now).days }
     ensures bound { result ≤ 2000 * (5 * 999999999) }
 {
-    instance.limits();
+    instance.limits_hold();
     let mut total = 0;
     for number in 0..instance.courses() {
         let course = CourseNo::new(number);
-        total += missing_days(instance, course, rows.row(course));
+        total += missing_days(instance, course, course_row(instance, timetable, course));
     }
     total
 }
 
 /// One point for each room beyond the first that the lectures of a course have, over all courses.
-fn stability(instance: &Instance, rows: &Rows) -> u64
-    requires { IsTimetable instance.now rows.now }
-    ensures value { result ≡ (penalty instance.now rows.now).stability }
+fn stability(instance: &Instance, timetable: &[Placed]) -> u64
+    requires { IsTimetable instance.now timetable.now }
+    ensures value { result ≡ (penalty instance.now timetable.now).stability }
     ensures bound { result ≤ 2000 * 1000 }
 {
-    instance.limits();
+    instance.limits_hold();
     let mut total = 0;
     for number in 0..instance.courses() {
-        total += surplus_rooms(instance, rows.row(CourseNo::new(number)));
+        let row = course_row(instance, timetable, CourseNo::new(number));
+        total += surplus_rooms(instance, row);
     }
     total
 }
@@ -117,13 +117,12 @@ pub fn penalty(instance: &Instance, timetable: &[Placed]) -> Cost
     ensures value { result ≡ penalty instance.now timetable.now }
     ensures bound { total result < 2 ^ 63 }
 {
-    instance.limits();
-    let rows = Rows::new(instance, timetable);
+    instance.limits_hold();
     Cost {
         capacity: capacity(instance, timetable),
-        days: days(instance, &rows),
-        compactness: compactness(instance, &rows),
-        stability: stability(instance, &rows),
+        days: days(instance, timetable),
+        compactness: compactness(instance, timetable),
+        stability: stability(instance, timetable),
     }
 }
 
@@ -135,7 +134,7 @@ pub fn course_cost(instance: &Instance, timetable: &[Placed], course: CourseNo) 
     ensures value { result ≡ course_cost instance.now timetable.now course }
     ensures bound { total result < 2 ^ 63 }
 {
-    instance.limits();
+    instance.limits_hold();
     let row = course_row(instance, timetable, course);
     Cost {
         capacity: capacity(instance, row),

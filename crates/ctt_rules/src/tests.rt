@@ -1,6 +1,9 @@
 //! The worked example, computed by hand from the rules.
 
-use crate::{Cost, Hard, course_cost, course_row, hard_counts, is_complete, is_lawful, penalty};
+use crate::{
+    Assessment, Cost, Hard, assess, course_cost, course_row, hard_counts, is_complete, is_lawful,
+    penalty,
+};
 use ctt_text::{CourseNo, Instance, Placed, RoomNo, SlotNo, is_timetable, read_instance};
 use std::process::Abort;
 use std::test::Fail;
@@ -74,6 +77,13 @@ fn is_counted(
     assert_eq!(rt; penalty(instance, timetable), cost);
     assert_eq!(rt; is_lawful(instance, timetable), lawful);
     assert_eq!(rt; is_complete(instance, timetable), complete);
+    let all = Assessment {
+        hard,
+        cost,
+        lawful,
+        complete,
+    };
+    assert_eq!(rt; assess(instance, timetable), all);
 }
 
 #[test]
@@ -141,6 +151,33 @@ fn worked_timetables(rt: HostRuntime) -> Result<(), Fail> {
         &surplus,
         hard(5, 0, 0, 0),
         cost(20, 15, 0, 0),
+        false,
+        false,
+    );
+    Ok(())
+}
+
+#[test]
+fn lectures_in_one_slot(rt: HostRuntime) -> Result<(), Fail> {
+    let small = read_instance(rt.alloc(), SMALL.as_bytes())?;
+    // Each of two lectures of a curriculum is counted.
+    let together = [placed(0, 1, 0), placed(1, 1, 1)];
+    is_counted(
+        &rt,
+        &small,
+        &together,
+        hard(3, 1, 0, 0),
+        cost(5, 10, 4, 0),
+        false,
+        false,
+    );
+    let three_in_a_room = [placed(0, 1, 1), placed(1, 1, 1), placed(2, 1, 1)];
+    is_counted(
+        &rt,
+        &small,
+        &three_in_a_room,
+        hard(2, 2, 0, 2),
+        cost(10, 5, 4, 0),
         false,
         false,
     );

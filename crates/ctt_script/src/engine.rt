@@ -51,7 +51,7 @@ fn answer_event<'i, S: Sheet<'i>>(
     requires stands { IsAtRun desk.old }
     ensures { OnOk result (Answered desk.old desk.new (string_bytes answers.old) (string_bytes answers.new) (Some event ∷ [])) }
 {
-    instance.limits();
+    instance.limits_hold();
     desk.lawful();
     let answer = desk.step(event);
     if let Answer::NoMemory = answer {
@@ -159,7 +159,7 @@ pub fn run_script<'i, S: Sheet<'i>, R: Source, W: Sink>(
     ensures front { OnErr result ((t0 : List Lecture) → opening instance.now lectures.now ≡ Ok t0
         → IfSome (R.left reader.old) (λ text. AppendsFront (W.taken writer.old) (W.taken writer.new) (answer_text instance.now t0 text))) }
 {
-    instance.limits();
+    instance.limits_hold();
     let mut desk: Desk<'i, S> = Desk::new(alloc, instance, lectures, PLANNERS)?;
     desk.lawful();
     let text = read_all(alloc, reader, LIMIT)?;

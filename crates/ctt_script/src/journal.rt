@@ -166,7 +166,7 @@ pub fn read_journal(
     ensures not_text { ¬ IsUtf8 text.now → result ≡ Err (NotText (utf8_valid_len text.now)) }
     ensures broken { (k : ℕ) (fault : JournalFault) → IsUtf8 text.now → JournalBreaksAt instance.now (words text.now) k fault → (result ≡ Err fault) ⊎ (result ≡ Err NoMemory) }
 {
-    instance.limits();
+    instance.limits_hold();
     match str::from_utf8(text) {
         Ok(text) => read_text(alloc, instance, text),
         Err(error) => Err(JournalFault::NotText(error.valid_up_to() as u64)),

@@ -8,7 +8,7 @@ ghost use Rattle.ctt_text.specs.Timetable.{IsTimetable};
 ghost use Rattle.ctt_rules.specs.Penalty.{total};
 ghost use Rattle.ctt_script.specs.ReportText.{IsJsonReport, IsTextReport, answer_line, count_line, data_of, json_of, line, text_of};
 
-use ctt_rules::{Cost, Hard, hard_counts, is_complete, is_lawful, penalty};
+use ctt_rules::{Assessment, assess};
 use ctt_text::{Instance, NoMemory, Placed};
 use serde_json::{Map, Value};
 use std::alloc::{AllocError, Global};
@@ -35,17 +35,16 @@ fn push_answer(report: &mut String, key: &str, answer: bool) -> Result<(), Alloc
 }
 
 /// The report as text.
-fn text(
-    alloc: Global,
-    name: &str,
-    hard: &Hard,
-    cost: &Cost,
-    lawful: bool,
-    complete: bool,
-) -> Result<String, AllocError>
-    requires { total cost.now < 2 ^ 64 }
-    ensures { IfOk result (λ text. string_bytes text ≡ text_of name.now hard.now cost.now lawful complete) }
+fn text(alloc: Global, name: &str, assessment: Assessment) -> Result<String, AllocError>
+    requires { total assessment.cost < 2 ^ 64 }
+    ensures { IfOk result (λ text. string_bytes text ≡ text_of name.now assessment.hard assessment.cost assessment.lawful assessment.complete) }
 {
+    let Assessment {
+        hard,
+        cost,
+        lawful,
+        complete,
+    } = assessment;
     let mut report = String::new(alloc);
     push_line(&mut report, "instance", name)?;
     push_count(&mut report, "lectures", hard.lectures)?;
@@ -103,17 +102,16 @@ fn put_answer(
 }
 
 /// The report as JSON.
-fn json(
-    alloc: Global,
-    name: &str,
-    hard: &Hard,
-    cost: &Cost,
-    lawful: bool,
-    complete: bool,
-) -> Result<Value, AllocError>
-    requires { total cost.now < 2 ^ 64 }
-    ensures { IfOk result (λ value. view value ≡ data_of name.now hard.now cost.now lawful complete) }
+fn json(alloc: Global, name: &str, assessment: Assessment) -> Result<Value, AllocError>
+    requires { total assessment.cost < 2 ^ 64 }
+    ensures { IfOk result (λ value. view value ≡ data_of name.now assessment.hard assessment.cost assessment.lawful assessment.complete) }
 {
+    let Assessment {
+        hard,
+        cost,
+        lawful,
+        complete,
+    } = assessment;
     let mut report = Map::new(alloc);
     put_count(alloc, &mut report, "availability", hard.availability)?;
     put_count(alloc, &mut report, "capacity", cost.capacity)?;
@@ -139,14 +137,7 @@ pub fn report_text(
     requires { IsTimetable instance.now timetable.now }
     ensures { IfOk result (λ bytes. IsTextReport instance.now timetable.now bytes.items) }
 {
-    let lines = text(
-        alloc,
-        instance.name(),
-        &hard_counts(instance, timetable),
-        &penalty(instance, timetable),
-        is_lawful(instance, timetable),
-        is_complete(instance, timetable),
-    )?;
+    let lines = text(alloc, instance.name(), assess(instance, timetable))?;
     Ok(lines.into_bytes())
 }
 
@@ -159,14 +150,7 @@ pub fn report_json(
     requires { IsTimetable instance.now timetable.now }
     ensures { IfOk result (λ bytes. IsJsonReport instance.now timetable.now bytes.items) }
 {
-    let value = json(
-        alloc,
-        instance.name(),
-        &hard_counts(instance, timetable),
-        &penalty(instance, timetable),
-        is_lawful(instance, timetable),
-        is_complete(instance, timetable),
-    )?;
+    let value = json(alloc, instance.name(), assess(instance, timetable))?;
     let mut report = value.to_string(alloc)?;
     report.push_str("\n")?;
     Ok(report.into_bytes())

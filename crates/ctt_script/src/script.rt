@@ -109,7 +109,7 @@ pub fn read_line(instance: &Instance, line: &[u8]) -> Option<Event>
     ensures item { result ≡ item instance.now line.now }
     ensures fits { IfSome result (EventFits instance.now 64) }
 {
-    instance.limits();
+    instance.limits_hold();
     let Ok(text) = str::from_utf8(line) else {
         return None;
     };

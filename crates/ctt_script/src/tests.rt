@@ -1,9 +1,11 @@
 ghost use Rattle.std.specs.Prelude.{◌≡◌, ◌<◌, false, Some};
 
 use super::*;
+use ctt_text::{Instance, read_instance, read_solution};
 use std::alloc::Global;
 use std::io;
 use std::io::{ErrorKind, Read, Write};
+use std::process::Abort;
 use std::test::Fail;
 
 /// A reader over memory that tells its bytes. It gives at most `chunk` of them a read, and its read of
@@ -221,6 +223,9 @@ fn a_device_reads_and_writes(rt: HostRuntime) -> Result<(), Fail> {
     assert_eq!(rt; put_all(&mut broken, b"no"), Err(Failed));
     assert_eq!(rt; Sink::flush(&mut broken), Err(Failed));
 
+    let mut unread = Device::new(Broken);
+    assert_eq!(rt; Sink::flush(&mut unread), Err(Failed));
+
     let mut held = [0; 3];
     {
         let mut writer = Device::new(held.as_mut_slice());
@@ -230,4 +235,47 @@ fn a_device_reads_and_writes(rt: HostRuntime) -> Result<(), Fail> {
     }
     assert_eq!(rt; held.as_slice(), b"no ".as_slice());
     Ok(())
+}
+
+const SMALL: &str =
+    "Name: Small Courses: 3 Rooms: 2 Days: 2 Periods_per_day: 3 Curricula: 1 Constraints: 1 COURSES: alg t1 2 2 30 geo t2 2 1 20 top t1 1 1 50 ROOMS: A 25 B 40 CURRICULA: q1 2 alg geo UNAVAILABILITY_CONSTRAINTS: geo 0 0 END.";
+
+/// Asserts both reports on a solution of the small instance.
+fn assert_reports(
+    rt: &(impl Abort + AllocGlobal),
+    instance: &Instance,
+    solution: &str,
+    text: &str,
+    json: &str,
+) {
+    let timetable = read_solution(rt.alloc(), instance, solution.as_bytes());
+    assert!(rt; timetable.is_ok());
+    if let Ok(timetable) = &timetable {
+        let report = report_text(rt.alloc(), instance, timetable);
+        assert!(rt; report.is_ok_and(|report| report.as_slice() == text.as_bytes()));
+        let report = report_json(rt.alloc(), instance, timetable);
+        assert!(rt; report.is_ok_and(|report| report.as_slice() == json.as_bytes()));
+    }
+}
+
+#[test]
+fn reports_on_solutions(rt: HostRuntime) {
+    let instance = read_instance(rt.alloc(), SMALL.as_bytes());
+    assert!(rt; instance.is_ok());
+    if let Ok(instance) = &instance {
+        assert_reports(
+            &rt,
+            instance,
+            "alg A 0 0 alg B 1 0 geo A 0 1 geo A 1 2 top B 0 2",
+            "instance Small\nlectures 0\nconflicts 0\navailability 0\noccupancy 0\ncapacity 15\ndays 0\ncompactness 4\nstability 1\ntotal 20\nlawful yes\ncomplete yes\n",
+            "{\"availability\":0,\"capacity\":15,\"compactness\":4,\"complete\":true,\"conflicts\":0,\"days\":0,\"instance\":\"Small\",\"lawful\":true,\"lectures\":0,\"occupancy\":0,\"stability\":1,\"total\":20}\n",
+        );
+        assert_reports(
+            &rt,
+            instance,
+            "geo B 0 0 top B 0 0",
+            "instance Small\nlectures 3\nconflicts 0\navailability 1\noccupancy 1\ncapacity 10\ndays 10\ncompactness 2\nstability 0\ntotal 22\nlawful no\ncomplete no\n",
+            "{\"availability\":1,\"capacity\":10,\"compactness\":2,\"complete\":false,\"conflicts\":0,\"days\":10,\"instance\":\"Small\",\"lawful\":false,\"lectures\":3,\"occupancy\":1,\"stability\":0,\"total\":22}\n",
+        );
+    }
 }

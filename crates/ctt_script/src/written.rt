@@ -239,8 +239,8 @@ pub fn write_journal(
     ensures utf8 { IfOk result (λ text. IsUtf8 text.items) }
     ensures spelled { IfOk result (λ text. (rest : List ℕ) → JournalSpells instance.now (words (text.items ++ rest)) entries.now) }
 {
-    instance.limits();
-    instance.names();
+    instance.limits_hold();
+    instance.names_are_words();
     let mut text = String::new(alloc);
     writeln!(text, "journal {}", entries.len())?;
     for entry in entries {

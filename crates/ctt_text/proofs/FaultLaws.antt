@@ -1,10 +1,10 @@
 -- Which faults the places of a form can have.
 use Rattle.std.proofs.Common.{◌≡◌, ℕ, zero, suc, ◌+◌, List, [], ◌∷◌, Bool, true, false, cond, Option, Some, None, Result, Ok, Err, subst, ap}
 use Rattle.ctt_text.specs.Left.{Left}
-use Rattle.ctt_text.specs.Numbers.{is_number, value}
-use Rattle.ctt_text.specs.Problem.{is_among}
+use Rattle.ctt_text.specs.Numbers.{is_number, value, number_of}
+use Rattle.ctt_text.specs.Problem.{is_among, number_in}
 use Rattle.ctt_text.specs.Forms.{Rule, Form, done, place, ◌>>=◌, times, read, without_rest}
-use Rattle.ctt_text.specs.Places.{one, any, fixed, number, number_if, new_name, known_name}
+use Rattle.ctt_text.specs.Places.{one, any, known, broken_unless, exactly, fixed, number, number_if, new_name, known_name}
 use Rattle.ctt_text.proofs.FormLaws.{read_case, ok_is_err, err_same}
 
 module _ {F : Type 0} (P : F → Type 0) where
@@ -50,13 +50,22 @@ module _ {F : Type 0} (P : F → Type 0) where
   unfolding any one
   any_faults = (λ word broken e k. none_some _ broken e, λ word. tt)
 
+  unless_faults : {A : Type 0} (o : Option A) (fault broken : ℕ → F) → ((k : ℕ) → P (fault k)) → broken_unless fault o ≡ Some broken → (k : ℕ) → P (broken k)
+  unless_faults None fault broken h e k = subst (λ f. P (f k)) (some_same fault broken e) (h k)
+  unless_faults (Some a) fault broken h e k = none_some _ broken e
+
+  -- a word that means something, or nothing
+  pub known_faults : {A : Type 0} (fault : ℕ → F) (meaning : List ℕ → Option A) (otherwise : A) → ((k : ℕ) → P (fault k)) → FormFaults (known fault meaning otherwise)
+  unfolding known one
+  known_faults fault meaning otherwise h = (λ word broken e k. unless_faults (meaning word) fault broken h e k, λ word. tt)
+
   pub fixed_faults : (fault : ℕ → F) (text : List ℕ) → ((k : ℕ) → P (fault k)) → FormFaults (fixed fault text)
-  unfolding fixed one
-  fixed_faults fault text h = (λ word broken e k. test_faults _ fault broken h e k, λ word. tt)
+  unfolding fixed
+  fixed_faults fault text h = known_faults fault (exactly text) tt h
 
   pub number_faults : (bad : ℕ → F) → ((k : ℕ) → P (bad k)) → FormFaults (number bad)
-  unfolding number one
-  number_faults bad h = (λ word broken e k. test_faults (is_number word) bad broken h e k, λ word. tt)
+  unfolding number
+  number_faults bad h = known_faults bad number_of 0 h
 
   pub number_if_faults : (bad out : ℕ → F) (test : ℕ → Bool) → ((k : ℕ) → P (bad k)) → ((k : ℕ) → P (out k)) → FormFaults (number_if bad test out)
   unfolding number_if one
@@ -67,8 +76,8 @@ module _ {F : Type 0} (P : F → Type 0) where
   new_name_faults fault names h = (λ word broken e k. taken_faults (is_among names word) fault broken h e k, λ word. tt)
 
   pub known_name_faults : (fault : ℕ → F) (names : List (List ℕ)) → ((k : ℕ) → P (fault k)) → FormFaults (known_name fault names)
-  unfolding known_name one
-  known_name_faults fault names h = (λ word broken e k. test_faults (is_among names word) fault broken h e k, λ word. tt)
+  unfolding known_name
+  known_name_faults fault names h = known_faults fault (number_in names) 0 h
 
   -- so each fault that reading gives is of this kind
   pub read_faults : {A : Type 0} (missing : ℕ → F) (form : Form F A) (words : List (List ℕ)) (n : ℕ) (e : F) → ((k : ℕ) → P (missing k)) → FormFaults form → read missing form words n ≡ Err e → P e

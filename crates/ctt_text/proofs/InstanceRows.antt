@@ -8,17 +8,17 @@ use Rattle.std.proofs.lemmas.List.Folds.{fold-map}
 use Rattle.std.proofs.lemmas.Bool.{eqb-true}
 use Rattle.ctt_text.specs.declared.fault.ReadFault.{ReadFault}
 use Rattle.ctt_text.specs.declared.fault.ReadFault.TheVariants.{BadNumber, RepeatedName, UnknownCourse, DayOut, PeriodOut}
-use Rattle.ctt_text.specs.Numbers.{is_number, value}
+use Rattle.ctt_text.specs.Numbers.{value}
 use Rattle.ctt_text.specs.Lists.{each_once}
 use Rattle.ctt_text.specs.Problem.{is_among, place_of}
 use Rattle.ctt_text.specs.Forms.{done, ◌>>=◌, times, Fills}
-use Rattle.ctt_text.specs.Places.{one, any, number, number_if, new_name, known_name}
+use Rattle.ctt_text.specs.Places.{one, any, known, number, number_if, new_name, known_name}
 use Rattle.ctt_text.specs.InstancePlaces.{Courses, Rooms, Curricula, with_new, course, room, member, curriculum, day_below, period_below, unavailability}
 use Rattle.ctt_text.specs.InstanceText.{CourseWords, RoomWords, CurriculumWords, PairWords, spelled_course, spelled_room, spelled_curriculum, spelled_pair, IsCourse, IsRoom, IsCurriculum, IsPair, facts_of, members_of}
 use Rattle.ctt_text.proofs.FormLaws.{fills_both, bind_case, done_taken}
 use Rattle.ctt_text.proofs.SectionLaws.{Entry, Named, entries_fill, entries_taken, each_apart, each_together}
 use Rattle.ctt_text.proofs.ListLaws.{grown_once}
-use Rattle.ctt_text.proofs.PlaceLaws.{passed, failed, below_passes, passed_below}
+use Rattle.ctt_text.proofs.PlaceLaws.{failed, a_number, number_given, a_name, name_given, below_passes, passed_below}
 
 -- rooms
 abbrev pub add_room : Rooms → RoomWords → Rooms
@@ -29,19 +29,19 @@ FitsRoom = Named (λ s. s.names) (λ w. w.name) IsRoom
 
 -- a room whose name is new fills its two places
 pub room_fills : (s : Rooms) (w : RoomWords) → FitsRoom s w → Fills (room s) (spelled_room w) (add_room s w)
-unfolding room new_name number one ◌>>=◌
-room_fills s w fit = (rw fit.0 refl, (rw fit.1 refl, refl))
+unfolding room new_name number known one ◌>>=◌
+room_fills s w fit = (rw fit.0 refl, (rw fit.1 refl, rw fit.1 refl))
 
 -- what fills them is such a room
 pub room_taken : (s : Rooms) (words : List (List ℕ)) (t : Rooms) → Fills (room s) words t → Entry spelled_room add_room FitsRoom s words t
-unfolding room new_name number one ◌>>=◌
+unfolding room new_name number known one ◌>>=◌
 room_taken s [] t h = absurd h
 room_taken s (name ∷ []) t h = absurd h.1
 room_taken s (name ∷ capacity ∷ []) t h = record {
   given = record { name = name; capacity = capacity };
   all = refl;
-  fit = (failed (is_among s.names name) RepeatedName h.0, passed (is_number capacity) BadNumber h.1.0);
-  gives = h.1.1;
+  fit = (failed (is_among s.names name) RepeatedName h.0, a_number BadNumber capacity h.1.0);
+  gives = rw (number_given BadNumber capacity h.1.0) at h.1.1;
 }
 room_taken s (name ∷ capacity ∷ more ∷ words) t h = absurd h.1.1
 
@@ -54,12 +54,12 @@ FitsCourse = Named (λ s. s.names) (λ w. w.name) IsCourse
 
 -- a course whose name is new fills its five places
 pub course_fills : (s : Courses) (w : CourseWords) → FitsCourse s w → Fills (course s) (spelled_course w) (add_course s w)
-unfolding course new_name any number one ◌>>=◌
-course_fills s w fit = (rw fit.0 refl, (refl, (rw fit.1.0 refl, (rw fit.1.1 refl, (rw fit.1.2 refl, refl)))))
+unfolding course new_name any number known one ◌>>=◌
+course_fills s w fit = (rw fit.0 refl, (refl, (rw fit.1.0 refl, (rw fit.1.1 refl, (rw fit.1.2 refl, rw (fit.1.0, fit.1.1, fit.1.2) refl)))))
 
 -- what fills them is such a course
 pub course_taken : (s : Courses) (words : List (List ℕ)) (t : Courses) → Fills (course s) words t → Entry spelled_course add_course FitsCourse s words t
-unfolding course new_name any number one ◌>>=◌
+unfolding course new_name any number known one ◌>>=◌
 course_taken s [] t h = absurd h
 course_taken s (name ∷ []) t h = absurd h.1
 course_taken s (name ∷ teacher ∷ []) t h = absurd h.1.1
@@ -70,9 +70,9 @@ course_taken s (name ∷ teacher ∷ lectures ∷ days ∷ students ∷ []) t h 
   all = refl;
   fit = (
     failed (is_among s.names name) RepeatedName h.0,
-    (passed (is_number lectures) BadNumber h.1.1.0, passed (is_number days) BadNumber h.1.1.1.0, passed (is_number students) BadNumber h.1.1.1.1.0),
+    (a_number BadNumber lectures h.1.1.0, a_number BadNumber days h.1.1.1.0, a_number BadNumber students h.1.1.1.1.0),
   );
-  gives = h.1.1.1.1.1;
+  gives = rw (number_given BadNumber lectures h.1.1.0, number_given BadNumber days h.1.1.1.0, number_given BadNumber students h.1.1.1.1.0) at h.1.1.1.1.1;
 }
 course_taken s (name ∷ teacher ∷ lectures ∷ days ∷ students ∷ more ∷ words) t h = absurd h.1.1.1.1.1
 
@@ -91,14 +91,14 @@ module _ (names : List (List ℕ)) where
 
   -- a known course fills the place of a member
   member_fills : (s : List ℕ) (w : List ℕ) → FitsMember s w → Fills (member names s) (w ∷ []) (add_member s w)
-  unfolding member known_name one ◌>>=◌
-  member_fills s w fit = (rw fit refl, refl)
+  unfolding member known_name known one ◌>>=◌
+  member_fills s w fit = (rw fit refl, rw fit refl)
 
   -- what fills it is a known course
   member_taken : (s : List ℕ) (words : List (List ℕ)) (t : List ℕ) → Fills (member names s) words t → Entry (λ w. w ∷ []) add_member FitsMember s words t
-  unfolding member known_name one ◌>>=◌
+  unfolding member known_name known one ◌>>=◌
   member_taken s [] t h = absurd h
-  member_taken s (w ∷ []) t h = record { given = w; all = refl; fit = passed (is_among names w) UnknownCourse h.0; gives = h.1 }
+  member_taken s (w ∷ []) t h = record { given = w; all = refl; fit = a_name UnknownCourse w names h.0; gives = rw (name_given UnknownCourse w names h.0) at h.1 }
   member_taken s (w ∷ more ∷ words) t h = absurd h.1
 
   -- the numbers of the members, each once
@@ -141,30 +141,30 @@ module _ (names : List (List ℕ)) where
 
   -- a curriculum whose name is new, with as many members as it says, fills its places
   pub curriculum_fills : (s : Curricula) (w : CurriculumWords) → FitsCurriculum s w → Fills (curriculum names s) (spelled_curriculum w) (add_curriculum s w)
-  unfolding curriculum new_name number one ◌>>=◌
+  unfolding curriculum new_name number known one ◌>>=◌
   curriculum_fills s w fit =
       let members = subst (λ n. Fills (times (member names) n []) w.members (numbers w.members)) (sym fit.1.0.1) (members_fill w.members fit.1.1) in (
         rw fit.0 refl,
         (
           rw fit.1.0.0 refl,
-          subst (λ q. Fills (times (member names) (value w.count) [] >>= λ members. done (with_members s w.name members)) q (add_curriculum s w)) (append-nil w.members)
-              (fills_both (times (member names) (value w.count) []) (λ members. done (with_members s w.name members)) w.members [] (numbers w.members) (add_curriculum s w) members refl),
+          rw fit.1.0.0 (subst (λ q. Fills (times (member names) (value w.count) [] >>= λ members. done (with_members s w.name members)) q (add_curriculum s w)) (append-nil w.members)
+              (fills_both (times (member names) (value w.count) []) (λ members. done (with_members s w.name members)) w.members [] (numbers w.members) (add_curriculum s w) members refl)),
         ),
       )
 
   -- what fills them is such a curriculum
   pub curriculum_taken : (s : Curricula) (words : List (List ℕ)) (t : Curricula) → Fills (curriculum names s) words t → Entry spelled_curriculum add_curriculum FitsCurriculum s words t
-  unfolding curriculum new_name number one ◌>>=◌
+  unfolding curriculum new_name number known one ◌>>=◌
   curriculum_taken s [] t h = absurd h
   curriculum_taken s (name ∷ []) t h = absurd h.1
-  curriculum_taken s (name ∷ count ∷ ms) t h = bind_case (Entry spelled_curriculum add_curriculum FitsCurriculum s (name ∷ count ∷ ms) t) (times (member names) (value count) []) (λ members. done (with_members s name members)) ms t h.1.1 (λ us vs a p q e.
+  curriculum_taken s (name ∷ count ∷ ms) t h = bind_case (Entry spelled_curriculum add_curriculum FitsCurriculum s (name ∷ count ∷ ms) t) (times (member names) (value count) []) (λ members. done (with_members s name members)) ms t (rw (number_given BadNumber count h.1.0) at h.1.1) (λ us vs a p q e.
       let end = done_taken ReadFault (with_members s name a) t vs q in
       let members = members_taken (value count) us a p in
       let all : ms ≡ us = e ∙ ap (λ r. us ++ r) end.0 ∙ append-nil us in
       record {
         given = record { name = name; count = count; members = us };
         all = ap (λ r. name ∷ count ∷ r) all;
-        fit = (failed (is_among s.names name) RepeatedName h.0, ((passed (is_number count) BadNumber h.1.0, sym members.count), members.known));
+        fit = (failed (is_among s.names name) RepeatedName h.0, ((a_number BadNumber count h.1.0, sym members.count), members.known));
         gives = ap (λ ns. with_members s name ns) members.gives ∙ end.1;
       })
 
@@ -182,19 +182,19 @@ module _ (names : List (List ℕ)) where
 
     -- a known course with a day and a period in range fills three places
     pub pair_fills : (s : List Bool) (w : PairWords) → FitsPair s w → Fills (unavailability names days periods s) (spelled_pair w) (add_pair s w)
-    unfolding unavailability known_name day_below period_below number_if one ◌>>=◌
-    pair_fills s w fit = (rw fit.0 refl, (below_passes BadNumber DayOut w.day days fit.1, (below_passes BadNumber PeriodOut w.period periods fit.2, refl)))
+    unfolding unavailability known_name day_below period_below number_if known one ◌>>=◌
+    pair_fills s w fit = (rw fit.0 refl, (below_passes BadNumber DayOut w.day days fit.1, (below_passes BadNumber PeriodOut w.period periods fit.2, rw fit.0 refl)))
 
     -- what fills them is such a pair
     pub pair_taken : (s : List Bool) (words : List (List ℕ)) (t : List Bool) → Fills (unavailability names days periods s) words t → Entry spelled_pair add_pair FitsPair s words t
-    unfolding unavailability known_name day_below period_below number_if one ◌>>=◌
+    unfolding unavailability known_name day_below period_below number_if known one ◌>>=◌
     pair_taken s [] t h = absurd h
     pair_taken s (c ∷ []) t h = absurd h.1
     pair_taken s (c ∷ d ∷ []) t h = absurd h.1.1
     pair_taken s (c ∷ d ∷ p ∷ []) t h = record {
       given = record { course = c; day = d; period = p };
       all = refl;
-      fit = (passed (is_among names c) UnknownCourse h.0, passed_below BadNumber DayOut d days h.1.0, passed_below BadNumber PeriodOut p periods h.1.1.0);
-      gives = h.1.1.1;
+      fit = (a_name UnknownCourse c names h.0, passed_below BadNumber DayOut d days h.1.0, passed_below BadNumber PeriodOut p periods h.1.1.0);
+      gives = rw (name_given UnknownCourse c names h.0) at h.1.1.1;
     }
     pair_taken s (c ∷ d ∷ p ∷ more ∷ words) t h = absurd h.1.1.1

@@ -11,7 +11,7 @@ use Rattle.ctt_text.specs.declared.course_facts.CourseFacts.{CourseFacts}
 use Rattle.ctt_text.specs.Numbers.{is_number, value}
 use Rattle.ctt_text.specs.Problem.{place_of}
 use Rattle.ctt_text.specs.Forms.{◌>>=◌, times, Fills}
-use Rattle.ctt_text.specs.Places.{passing_number, one, any, fixed, number_if}
+use Rattle.ctt_text.specs.Places.{passing_number, one, any, fixed, number_if, known}
 use Rattle.ctt_text.specs.InstancePlaces.{Header, Courses, Rooms, Curricula, number_up_to, period_count, two_counts, calendar, header, with_new, course, room, curriculum, unavailability, no_courses, no_rooms, no_curricula}
 use Rattle.ctt_text.specs.InstanceText.{HeaderWords, CourseWords, RoomWords, CurriculumWords, PairWords, spelled_header, spelled_course, spelled_room, spelled_curriculum, spelled_pair, AreDistinct, course_names, room_names, curriculum_names, teacher_names, IsCourse, IsRoom, IsCurriculum, IsPair, HeaderObeys, facts_of, members_of, is_listed}
 use Rattle.ctt_text.proofs.SectionLaws.{Section, section_fills, section_taken, entries_fill, entries_taken, list_grown, each_apart, each_together}
@@ -156,7 +156,7 @@ header_of h = record { name = h.name; courses = value h.courses; rooms = value h
 
 -- a header within the limits fills its fourteen places
 pub header_fills : (h : HeaderWords) → HeaderObeys h → Fills header (spelled_header h) (header_of h)
-unfolding header two_counts calendar number_up_to period_count number_if fixed any one ◌>>=◌
+unfolding header two_counts calendar number_up_to period_count number_if fixed any known one ◌>>=◌
 header_fills h o =
     let periods : passing_number BadNumber (λ n. nat_le n 2000 && nat_le (value h.days * n) 2000) TooLarge h.periods ≡ None
     = rw (o.periods.0, le-leb (value h.periods) 2000 o.periods.1, le-leb (value h.days * value h.periods) 2000 o.slots) refl in
@@ -171,7 +171,7 @@ pub record HeaderTaken (words : List (List ℕ)) (x : Header) : Type 0 where
 
 -- what fills them is such a header
 pub header_taken : (words : List (List ℕ)) (x : Header) → Fills header words x → HeaderTaken words x
-unfolding header two_counts calendar number_up_to period_count number_if fixed any one ◌>>=◌
+unfolding header two_counts calendar number_up_to period_count number_if fixed any known one ◌>>=◌
 header_taken ([]) x h = absurd h
 header_taken (l1 ∷ []) x h = absurd h.1
 header_taken (l1 ∷ name ∷ []) x h = absurd h.1.1

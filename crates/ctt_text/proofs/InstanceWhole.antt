@@ -9,7 +9,7 @@ use Rattle.ctt_text.specs.declared.course_facts.CourseFacts.{CourseFacts}
 use Rattle.ctt_text.specs.Numbers.{value}
 use Rattle.ctt_text.specs.Problem.{Problem, is_unavailable}
 use Rattle.ctt_text.specs.Forms.{Form, done, ◌>>=◌, times, Fills}
-use Rattle.ctt_text.specs.Places.{one, fixed, after}
+use Rattle.ctt_text.specs.Places.{one, known, fixed, after}
 use Rattle.ctt_text.specs.InstancePlaces.{Header, Courses, Rooms, Curricula, header, course, room, curriculum, unavailability, no_courses, no_rooms, no_curricula, all_available, problem_of, instance}
 use Rattle.ctt_text.specs.InstanceText.{Given, spelled_header, spelled_course, spelled_room, spelled_curriculum, spelled_pair, spelled, course_names, facts_of, members_of, Obey, SaysInstance, Spells}
 use Rattle.ctt_text.proofs.FormLaws.{fills_both, bind_case}
@@ -89,7 +89,7 @@ says_table g o =
 
 -- what is spelled fills the form
 spelled_fills : (g : Given) → Obey g → Fills instance (spelled g) (said g (table g))
-unfolding instance fixed one ◌>>=◌
+unfolding instance fixed known one ◌>>=◌
 spelled_fills g o =
     let names = course_names g.courses in
     let i : Problem = said g (table g) in
@@ -139,7 +139,7 @@ from_courses head = after Expected (codes "COURSES:") (times course head.courses
 
 -- what fills the end is its word
 end_taken : (x i : Problem) (words : List (List ℕ)) → Fills (fixed Expected (codes "END.") >>= λ _. done x) words i → (words ≡ codes "END." ∷ []) × (x ≡ i)
-unfolding fixed one ◌>>=◌
+unfolding fixed known one ◌>>=◌
 end_taken x i [] h = absurd h
 end_taken x i (w ∷ []) h = (ap (λ q. q ∷ []) (is_fixed Expected w (codes "END.") h.0), h.1)
 end_taken x i (w ∷ more ∷ ws) h = absurd h.1

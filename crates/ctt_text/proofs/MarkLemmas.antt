@@ -1,8 +1,429 @@
--- Marks on numbers.
-use Rattle.std.proofs.Common.{◌≡◌, ℕ, zero, suc, false, get_or, refl}
-use Rattle.std.specs.Prelude.{replicate}
+-- Marks on numbers, by the words that hold them.
+use Rattle.std.proofs.Common.{◌≡◌, ℕ, zero, suc, ◌+◌, ◌-◌, ◌*◌, ◌/◌, ◌%◌, ◌^◌, ◌<◌, ◌≤◌, ◌≢◌, List, [], ◌∷◌, length, get_or, Bool, true, false, not, cond, ◌==◌, ◌&&◌, ◌||◌, nat_le, nat_lt, Option, Some, None, refl, sym, ap, ap₂, subst, ◌∙◌, arith, true≢false, w64, add-zero, zero-add, one-add, add-suc, add_assoc}
+use Rattle.std.specs.Prelude.{replicate, slice_set, bit_and, bit_or}
+use Rattle.std.specs.Int.{bit_at, bit_not, trailing_zeros}
+use Rattle.std.specs.Int.Count.{ones, ones_step}
+use Rattle.std.proofs.lemmas.List.{get_or-set_other, get_or_past, length-set}
+use Rattle.std.proofs.lemmas.Grind.{get_or-set_at}
+use Rattle.std.proofs.lemmas.Bool.{eqb-true, eqb-false, eq-eqb, and_parts}
+use Rattle.std.proofs.lemmas.Bool.Decides.{nat_tests, Decides-eqb, Decides-ltb}
+use Rattle.std.proofs.lemmas.Nat.{div-add-mod', div_below, mod_below, pow_below, pow_pos, div-mul-add, mod-mul-add}
+use Rattle.std.proofs.Math.Nat.{mod-eq_of_lt, one-mul, zero-mul, pow-suc}
+use Rattle.std.proofs.lemmas.Nat.Bits.{bit_at-zero, bit_at-lt, bit_at-suc, bit_at_lowest, bit_at_and, bit_at_or, bit_at_set_same, bit_at_set_other, bit_at_clear_same, bit_at_clear_other, shr_and_one, and_pow, bit_at-trailing_zeros, bit_at_mask_inside, bit_at_mask_below, ones_shl}
+use Rattle.ctt_text.specs.Marks.{is_marked, AreMarks, count_marked, IsLeast}
+use Rattle.ctt_text.specs.Lists.{count_below}
+use Rattle.ctt_text.proofs.TableLemmas.{bool_case}
 
-pub none_marked : (k n : ℕ) → get_or (replicate k false) n false ≡ false
-none_marked zero n = refl
-none_marked (suc k) zero = refl
-none_marked (suc k) (suc n) = none_marked k n
+-- a list of one element over and over
+pub all_alike : {X : Type 0} (x : X) (k n : ℕ) → get_or (replicate k x) n x ≡ x
+all_alike x zero n = refl
+all_alike x (suc k) zero = refl
+all_alike x (suc k) (suc n) = all_alike x k n
+
+-- words of zeros
+pub none_marked : (k n : ℕ) → is_marked (replicate k 0) n ≡ false
+unfolding is_marked
+none_marked k n = rw (all_alike zero k (n / 64), bit_at-zero (n % 64)) refl
+
+-- no number past the words is marked
+pub past_words : (words : List ℕ) (n : ℕ) → length words ≤ n / 64 → is_marked words n ≡ false
+unfolding is_marked
+past_words words n past = rw (get_or_past words (n / 64) 0 past, bit_at-zero (n % 64)) refl
+
+not_below : (n m : ℕ) → nat_lt n m ≡ false → m ≤ n
+not_below n m h = grind (arith, nat_tests)
+
+-- a marked number is below 2,000
+pub marked_small : (words : List ℕ) → AreMarks words → (n : ℕ) → is_marked words n ≡ true → n < 2000
+marked_small words m n is = bool_case _ (nat_lt n 2000)
+    (λ small. (Decides-ltb n 2000).0 small)
+    (λ large. absurd (true≢false (sym is ∙ m.within n (not_below n 2000 large))))
+
+-- two numbers are one where their words and their bits are
+pub same_number : (m n : ℕ) → n / 64 ≡ m / 64 → n % 64 ≡ m % 64 → n ≡ m
+same_number m n word bit = sym (div-add-mod' n 64) ∙ rw (word, bit) (div-add-mod' m 64)
+
+-- one word, changed in the bit of one number
+pub one_changed : (words : List ℕ) (m w : ℕ) (value : Bool) → m / 64 < length words → (bit_at w (m % 64) == 1) ≡ value
+    → ((k : ℕ) → k < 64 → k ≢ m % 64 → bit_at w k ≡ bit_at (get_or words (m / 64) 0) k)
+    → (n : ℕ) → is_marked (slice_set words (m / 64) w) n ≡ cond (n == m) value (is_marked words n)
+unfolding is_marked
+one_changed words m w value within here there n = bool_case _ (n == m)
+    (λ is.
+    let e : n ≡ m = eqb-true n m is in
+    let word : get_or (slice_set words (m / 64) w) (n / 64) 0 ≡ w = get_or-set_at words (m / 64) (n / 64) w 0 (ap (λ k. k / 64) e) within in
+    rw is (ap₂ (λ v k. bit_at v k == 1) word (ap (λ k. k % 64) e) ∙ here))
+    (λ isnt. rw isnt (bool_case _ (n / 64 == m / 64)
+    (λ is.
+    let e : n / 64 ≡ m / 64 = eqb-true (n / 64) (m / 64) is in
+    let word : get_or (slice_set words (m / 64) w) (n / 64) 0 ≡ w = get_or-set_at words (m / 64) (n / 64) w 0 e within in
+    let other : n % 64 ≢ m % 64 = λ same. eqb-false n m isnt (same_number m n e same) in
+    let bit : bit_at w (n % 64) ≡ bit_at (get_or words (m / 64) 0) (n % 64) = there (n % 64) (omega arith) other in
+    ap (λ v. bit_at v (n % 64) == 1) word ∙ ap (λ b. b == 1) bit ∙ ap (λ k. bit_at (get_or words k 0) (n % 64) == 1) (sym e))
+    (λ differ.
+    let word : get_or (slice_set words (m / 64) w) (n / 64) 0 ≡ get_or words (n / 64) 0 = get_or-set_other words (m / 64) (n / 64) w 0 (eqb-false (n / 64) (m / 64) differ) in
+    ap (λ v. bit_at v (n % 64) == 1) word)))
+
+-- a bit is 0 or 1
+bit_case : (C : Type 0) (n k : ℕ) → (bit_at n k ≡ 0 → C) → (bit_at n k ≡ 1 → C) → C
+bit_case C n k none one = bool_case C (bit_at n k == 0) (λ is. none (eqb-true (bit_at n k) 0 is)) (λ isnt. one (known (eqb-false (bit_at n k) 0 isnt)))
+  where
+    known : bit_at n k ≢ 0 → bit_at n k ≡ 1
+    known h = omega (arith, bit_at-lt n k, h)
+
+one_shl : (k : ℕ) → k < 64 → 1 * 2 ^ k % 2 ^ 64 ≡ 2 ^ k
+one_shl k lt = let below : 2 ^ k < 2 ^ 64 = pow_below k 64 lt in ap (λ n. n % 2 ^ 64) (one-mul (2 ^ k)) ∙ mod-eq_of_lt below
+
+-- the test of one bit
+pub is_bit : (w k : ℕ) → (bit_and (w / 2 ^ k) 1 == 1) ≡ (bit_at w k == 1)
+is_bit w k = ap (λ n. n == 1) (shr_and_one w k)
+
+pub is_no_bit : (w k : ℕ) → k < 64 → (bit_and w (1 * 2 ^ k % 2 ^ 64) == 0) ≡ not (bit_at w k == 1)
+is_no_bit w k lt = ap (λ n. bit_and w n == 0) (one_shl k lt) ∙ ap (λ n. n == 0) (and_pow w k) ∙ bit_case _ w k
+    (λ none. rw none (ap (λ n. n == 0) (zero-mul (2 ^ k))))
+    (λ one. rw one (ap (λ n. n == 0) (one-mul (2 ^ k)) ∙ positive (2 ^ k) (pow_pos k)))
+  where
+    positive : (n : ℕ) → 0 < n → (n == 0) ≡ false
+    positive n h = grind (arith, nat_tests)
+
+pub read_mark : (words : List ℕ) (n : ℕ) → (bit_and (get_or words (n / 64) 0 / 2 ^ (n % 64)) 1 == 1) ≡ is_marked words n
+unfolding is_marked
+read_mark words n = is_bit (get_or words (n / 64) 0) (n % 64)
+
+if_true : (b c : Bool) → cond b true c ≡ (b || c)
+if_true true c = refl
+if_true false c = refl
+
+if_false : (b c : Bool) → cond b false c ≡ (not b && c)
+if_false true c = refl
+if_false false c = refl
+
+-- one number, marked or unmarked
+module _ (words : List ℕ) (m : ℕ) (size : length words ≡ 32) (small : m < 2000) where
+  inside : m / 64 < length words
+  inside = rw size (div_below m 64 32 (omega arith) (omega arith))
+
+  low : m % 64 < 64
+  low = mod_below m 64 (omega arith)
+
+  pub no_mark : (bit_and (get_or words (m / 64) 0) (1 * 2 ^ (m % 64) % 2 ^ 64) == 0) ≡ not (is_marked words m)
+  unfolding is_marked
+  no_mark = is_no_bit (get_or words (m / 64) 0) (m % 64) low
+
+  pub with_mark : (n : ℕ) → is_marked (slice_set words (m / 64) (bit_or (get_or words (m / 64) 0) (1 * 2 ^ (m % 64) % 2 ^ 64))) n ≡ (n == m || is_marked words n)
+  with_mark n =
+      let w = get_or words (m / 64) 0 in
+      one_changed words m (bit_or w (1 * 2 ^ (m % 64) % 2 ^ 64)) true inside
+      (ap (λ b. b == 1) (bit_at_set_same w64 w (m % 64) low))
+      (λ k lt other. bit_at_set_other w64 w (m % 64) low k other) n
+      ∙ if_true (n == m) (is_marked words n)
+
+  pub without_mark : (n : ℕ) → is_marked (slice_set words (m / 64) (bit_and (get_or words (m / 64) 0) (bit_not w64 (1 * 2 ^ (m % 64) % 2 ^ 64)))) n ≡ (not (n == m) && is_marked words n)
+  without_mark n =
+      let w = get_or words (m / 64) 0 in
+      one_changed words m (bit_and w (bit_not w64 (1 * 2 ^ (m % 64) % 2 ^ 64))) false inside
+      (ap (λ b. b == 1) (bit_at_clear_same w64 w (m % 64) low))
+      (λ k lt other. bit_at_clear_other w64 w (m % 64) low k lt other) n
+      ∙ if_false (n == m) (is_marked words n)
+
+-- words after a change of one, if only numbers below 2,000 are marked after it
+pub changed_are : (words : List ℕ) (p w : ℕ) → length words ≡ 32 → ((n : ℕ) → 2000 ≤ n → is_marked (slice_set words p w) n ≡ false) → AreMarks (slice_set words p w)
+changed_are words p w size within = record { size = length-set words p w ∙ size; within = within }
+
+pub with_mark_are : (words : List ℕ) (m : ℕ) → AreMarks words → m < 2000 → AreMarks (slice_set words (m / 64) (bit_or (get_or words (m / 64) 0) (1 * 2 ^ (m % 64) % 2 ^ 64)))
+with_mark_are words m are small = changed_are words (m / 64) (bit_or (get_or words (m / 64) 0) (1 * 2 ^ (m % 64) % 2 ^ 64)) are.size
+    (λ n large. with_mark words m are.size small n ∙ ap₂ (λ a b. a || b) (other n large) (are.within n large))
+  where
+    other : (n : ℕ) → 2000 ≤ n → (n == m) ≡ false
+    other n large = grind (arith, nat_tests)
+
+pub without_mark_are : (words : List ℕ) (m : ℕ) → AreMarks words → m < 2000 → AreMarks (slice_set words (m / 64) (bit_and (get_or words (m / 64) 0) (bit_not w64 (1 * 2 ^ (m % 64) % 2 ^ 64))))
+without_mark_are words m are small = changed_are words (m / 64) (bit_and (get_or words (m / 64) 0) (bit_not w64 (1 * 2 ^ (m % 64) % 2 ^ 64))) are.size
+    (λ n large. without_mark words m are.size small n ∙ rw (are.within n large) (and_no (not (n == m))))
+  where
+    and_no : (b : Bool) → (b && false) ≡ false
+    and_no true = refl
+    and_no false = refl
+
+-- the bits of two words together, and those that are in both
+pub either_bit : (a b k : ℕ) → (bit_at (bit_or a b) k == 1) ≡ (bit_at a k == 1 || bit_at b k == 1)
+either_bit a b k = ap (λ n. n == 1) (bit_at_or a b k) ∙ bit_case _ a k
+    (λ x. rw x (bit_case _ b k (λ y. rw y refl) (λ y. rw y refl)))
+    (λ x. rw x (bit_case _ b k (λ y. rw y refl) (λ y. rw y refl)))
+
+pub both_bits : (a b k : ℕ) → (bit_at (bit_and a b) k == 1) ≡ (bit_at a k == 1 && bit_at b k == 1)
+both_bits a b k = ap (λ n. n == 1) (bit_at_and a b k) ∙ bit_case _ a k
+    (λ x. rw x (bit_case _ b k (λ y. rw y refl) (λ y. rw y refl)))
+    (λ x. rw x (bit_case _ b k (λ y. rw y refl) (λ y. rw y refl)))
+
+-- the words below p are those of both
+pub record AddedBelow (old other words : List ℕ) (p : ℕ) : Type 0 where
+  pub size : length words ≡ length old
+  pub marks : (n : ℕ) → is_marked words n ≡ (is_marked old n || (nat_lt (n / 64) p && is_marked other n))
+
+pub added_none : (old other : List ℕ) → AddedBelow old other old 0
+added_none old other = record { size = refl; marks = λ n. none (n / 64) (is_marked old n) (is_marked other n) }
+  where
+    none : (q : ℕ) (a b : Bool) → a ≡ (a || (nat_lt q 0 && b))
+    none q a b = grind (arith, nat_tests)
+
+pub added_more : (old other words : List ℕ) (p : ℕ) → p < length old → AddedBelow old other words p → AddedBelow old other (slice_set words p (bit_or (get_or words p 0) (get_or other p 0))) (p + 1)
+unfolding is_marked
+added_more old other words p within so_far = record {
+  size = length-set words p (bit_or (get_or words p 0) (get_or other p 0)) ∙ so_far.size;
+  marks = λ n. bool_case _ (n / 64 == p)
+      (λ is.
+      let e : n / 64 ≡ p = eqb-true (n / 64) p is in
+      let k = n % 64 in
+      let word : get_or (slice_set words p (bit_or (get_or words p 0) (get_or other p 0))) (n / 64) 0 ≡ bit_or (get_or words p 0) (get_or other p 0)
+      = get_or-set_at words p (n / 64) (bit_or (get_or words p 0) (get_or other p 0)) 0 e (rw so_far.size within) in
+      ap (λ w. bit_at w k == 1) word ∙ either_bit (get_or words p 0) (get_or other p 0) k
+      ∙ ap (λ q. bit_at (get_or words q 0) k == 1 || bit_at (get_or other q 0) k == 1) (sym e)
+      ∙ ap (λ b. b || bit_at (get_or other (n / 64) 0) k == 1) (so_far.marks n)
+      ∙ here (n / 64) e (bit_at (get_or old (n / 64) 0) k == 1) (bit_at (get_or other (n / 64) 0) k == 1))
+      (λ isnt.
+      let k = n % 64 in
+      let word : get_or (slice_set words p (bit_or (get_or words p 0) (get_or other p 0))) (n / 64) 0 ≡ get_or words (n / 64) 0
+      = get_or-set_other words p (n / 64) (bit_or (get_or words p 0) (get_or other p 0)) 0 (eqb-false (n / 64) p isnt) in
+      ap (λ w. bit_at w k == 1) word ∙ so_far.marks n
+      ∙ ap (λ b. bit_at (get_or old (n / 64) 0) k == 1 || (b && bit_at (get_or other (n / 64) 0) k == 1)) (there (n / 64) isnt));
+}
+  where
+    here : (q : ℕ) → q ≡ p → (a b : Bool) → ((a || (nat_lt q p && b)) || b) ≡ (a || (nat_lt q (p + 1) && b))
+    here q e a b = grind (arith, nat_tests)
+
+    there : (q : ℕ) → (q == p) ≡ false → nat_lt q p ≡ nat_lt q (p + 1)
+    there q e = grind (arith, nat_tests)
+
+pub added_all : (old other words : List ℕ) → length old ≡ 32 → length other ≡ 32 → AddedBelow old other words 32 → (n : ℕ) → is_marked words n ≡ (is_marked old n || is_marked other n)
+added_all old other words size size' added n = added.marks n ∙ bool_case _ (nat_lt (n / 64) 32)
+    (λ is. rw is refl)
+    (λ isnt. rw (isnt, past_words other n (rw size' (not_below (n / 64) 32 isnt))) refl)
+
+pub added_are : (old other words : List ℕ) → AreMarks old → AreMarks other → AddedBelow old other words 32 → AreMarks words
+added_are old other words are are' added = record {
+  size = added.size ∙ are.size;
+  within = λ n large. added_all old other words are.size are'.size added n ∙ ap₂ (λ a b. a || b) (are.within n large) (are'.within n large);
+}
+
+-- how many numbers pass: of numbers that pass the same tests
+pub count_below_same : (test other : ℕ → Bool) (n : ℕ) → ((k : ℕ) → k < n → test k ≡ other k) → count_below test n ≡ count_below other n
+count_below_same test other zero same = refl
+count_below_same test other (suc n) same = ap₂ (λ c b. c + cond b 1 0) (count_below_same test other n (λ k lt. same k (omega arith))) (same n (omega arith))
+
+-- of a + b numbers
+pub count_below_add : (test : ℕ → Bool) (a b : ℕ) → count_below test (a + b) ≡ count_below test a + count_below (λ k. test (a + k)) b
+count_below_add test a zero = rw (add-zero a, add-zero (count_below test a)) refl
+count_below_add test a (suc b) = ap (count_below test) (add-suc a b) ∙ ap (λ c. c + cond (test (a + b)) 1 0) (count_below_add test a b) ∙ add_assoc (count_below test a) (count_below (λ k. test (a + k)) b) (cond (test (a + b)) 1 0)
+
+-- none passes
+pub count_below_none : (test : ℕ → Bool) (n : ℕ) → ((k : ℕ) → k < n → test k ≡ false) → count_below test n ≡ 0
+count_below_none test zero none = refl
+count_below_none test (suc n) none = ap₂ (λ c b. c + cond b 1 0) (count_below_none test n (λ k lt. none k (omega arith))) (none n (omega arith))
+
+count_below_one : (test : ℕ → Bool) → count_below test 1 ≡ cond (test 0) 1 0
+count_below_one test = zero-add (cond (test 0) 1 0)
+
+-- the set digits of a number are its bits
+pub ones_are : (k w : ℕ) → w < 2 ^ k → ones w ≡ count_below (λ i. bit_at w i == 1) k
+unfolding ones
+ones_are zero w lt = ap ones (zero_is w lt)
+  where
+    zero_is : (w : ℕ) → w < 2 ^ zero → w ≡ 0
+    zero_is w lt = omega arith
+ones_are (suc k) w lt =
+    ones_step w ∙ ap₂ (λ a b. a + b) (lowest w) (ones_are k (w / 2) (half w k lt))
+    ∙ ap₂ (λ a b. a + b) (sym (count_below_one (λ i. bit_at w i == 1))) (count_below_same (λ i. bit_at (w / 2) i == 1) (λ i. bit_at w (1 + i) == 1) k (λ i _. higher i))
+    ∙ sym (count_below_add (λ i. bit_at w i == 1) 1 k) ∙ ap (count_below (λ i. bit_at w i == 1)) (one-add k)
+  where
+    lowest : (w : ℕ) → w % 2 ≡ cond (bit_at w 0 == 1) 1 0
+    lowest w = sym (bit_at_lowest w) ∙ bit_case _ w 0 (λ none. rw none refl) (λ one. rw one refl)
+
+    higher : (i : ℕ) → (bit_at (w / 2) i == 1) ≡ (bit_at w (1 + i) == 1)
+    higher i = ap (λ n. n == 1) (sym (bit_at-suc w i) ∙ ap (bit_at w) (sym (one-add i)))
+
+    half : (w k : ℕ) → w < 2 ^ suc k → w / 2 < 2 ^ k
+    half w k lt = div_below w 2 (2 ^ k) (omega arith) (rw pow-suc at lt)
+
+-- both marks of the numbers of one word
+abbrev pub in_both : List ℕ → List ℕ → ℕ → Bool
+in_both a b n = is_marked a n && is_marked b n
+
+pub in_both_words : (a b : List ℕ) (p i : ℕ) → i < 64 → in_both a b (p * 64 + i) ≡ (bit_at (bit_and (get_or a p 0) (get_or b p 0)) i == 1)
+unfolding is_marked
+in_both_words a b p i lt =
+    ap₂ (λ q k. bit_at (get_or a q 0) k == 1 && bit_at (get_or b q 0) k == 1) (div-mul-add p 64 i lt) (mod-mul-add p 64 i lt)
+    ∙ sym (both_bits (get_or a p 0) (get_or b p 0) i)
+
+pub marked_in_word : (a : List ℕ) (p i : ℕ) → i < 64 → is_marked a (p * 64 + i) ≡ (bit_at (get_or a p 0) i == 1)
+unfolding is_marked
+marked_in_word a p i lt = ap₂ (λ q k. bit_at (get_or a q 0) k == 1) (div-mul-add p 64 i lt) (mod-mul-add p 64 i lt)
+
+-- the count so far, with that of one more word
+pub common_more : (a b : List ℕ) (p count k : ℕ) → k ≡ 64 → bit_and (get_or a p 0) (get_or b p 0) < 2 ^ k → count ≡ count_below (in_both a b) (p * 64)
+    → count + ones (bit_and (get_or a p 0) (get_or b p 0)) ≡ count_below (in_both a b) ((p + 1) * 64)
+common_more a b p count k is fits so_far =
+    let w = bit_and (get_or a p 0) (get_or b p 0) in
+    ap₂ (λ x y. x + y) so_far (ones_are k w fits ∙ count_below_same (λ i. bit_at w i == 1) (λ i. in_both a b (p * 64 + i)) k (λ i lt. sym (in_both_words a b p i (omega (arith, lt, is)))))
+    ∙ sym (count_below_add (in_both a b) (p * 64) k) ∙ ap (count_below (in_both a b)) (more p k is)
+  where
+    more : (p k : ℕ) → k ≡ 64 → p * 64 + k ≡ (p + 1) * 64
+    more p k is = omega arith
+
+-- none passes from n on
+pub count_below_to : (test : ℕ → Bool) (n more : ℕ) → ((k : ℕ) → n ≤ k → test k ≡ false) → count_below test (n + more) ≡ count_below test n
+count_below_to test n more none =
+    count_below_add test n more ∙ ap (λ c. count_below test n + c) (count_below_none (λ k. test (n + k)) more (λ k _. none (n + k) (omega arith))) ∙ add-zero (count_below test n)
+
+-- 2,000, as a number that does not compute
+limit : ℕ
+limit = 2000
+
+limit_is : limit ≡ 2000
+unfolding limit
+limit_is = refl
+
+counted : (test : ℕ → Bool) → count_marked test ≡ count_below test limit
+unfolding count_marked limit
+counted test = refl
+
+-- the count up to any bound from which on none passes
+pub count_marked_below : (test : ℕ → Bool) (n : ℕ) → n ≤ 2000 → ((k : ℕ) → n ≤ k → test k ≡ false) → count_marked test ≡ count_below test n
+count_marked_below test n few none = counted test ∙ ap (count_below test) (sym (up n (limit) few limit_is)) ∙ count_below_to test n (limit - n) none
+  where
+    up : (n l : ℕ) → n ≤ 2000 → l ≡ 2000 → n + (l - n) ≡ l
+    up n l few is = omega arith
+
+pub count_marked_above : (test : ℕ → Bool) (n : ℕ) → 2000 ≤ n → ((k : ℕ) → 2000 ≤ k → test k ≡ false) → count_below test n ≡ count_marked test
+count_marked_above test n many none = ap (count_below test) (sym (up n limit many limit_is)) ∙ count_below_to test limit (n - limit) (λ k le. none k (omega (arith, le, limit_is))) ∙ sym (counted test)
+  where
+    up : (n l : ℕ) → 2000 ≤ n → l ≡ 2000 → l + (n - l) ≡ n
+    up n l few is = omega arith
+
+-- the least number that passes, where those of the words before one do not
+pub least_in_word : (test : ℕ → Bool) (p w : ℕ) → w < 2 ^ 64 → w ≢ 0 → ((i : ℕ) → i < 64 → test (p * 64 + i) ≡ (bit_at w i == 1))
+    → ((n : ℕ) → n / 64 < p → test n ≡ false) → IsLeast test (Some (p * 64 + trailing_zeros w64 w))
+least_in_word test p w fits some bits before =
+    let t = trailing_zeros w64 w in
+    let low : (t < 64) × (bit_at w t ≡ 1) × ((i : ℕ) → i < t → bit_at w i ≡ 0) = bit_at-trailing_zeros w64 w (omega (arith, some)) fits in (
+      bits t low.0 ∙ ap (λ n. n == 1) low.1,
+      λ m lt. bool_case _ (nat_lt (m / 64) p)
+          (λ is. before m ((Decides-ltb (m / 64) p).0 is))
+          (λ isnt.
+          let q : m / 64 ≡ p = word m t (not_below (m / 64) p isnt) lt low.0 in
+          let at : m ≡ p * 64 + m % 64 = sym (div-add-mod' m 64) ∙ ap (λ k. k * 64 + m % 64) q in
+          let early : m % 64 < t = omega (arith, at, lt) in
+          ap test at ∙ bits (m % 64) (mod_below m 64 (omega arith)) ∙ ap (λ n. n == 1) (low.2 (m % 64) early)),
+    )
+  where
+    word : (m t : ℕ) → p ≤ m / 64 → m < p * 64 + t → t < 64 → m / 64 ≡ p
+    word m t h lt small = omega (arith, div-add-mod' m 64)
+
+pub none_in_word : (test : ℕ → Bool) (p w : ℕ) → w ≡ 0 → ((i : ℕ) → i < 64 → test (p * 64 + i) ≡ (bit_at w i == 1))
+    → ((n : ℕ) → n / 64 < p → test n ≡ false) → (n : ℕ) → n / 64 < p + 1 → test n ≡ false
+none_in_word test p w none bits before n lt = bool_case _ (nat_lt (n / 64) p)
+    (λ is. before n ((Decides-ltb (n / 64) p).0 is))
+    (λ isnt.
+    let q : n / 64 ≡ p = word n (not_below (n / 64) p isnt) lt in
+    let at : n ≡ p * 64 + n % 64 = sym (div-add-mod' n 64) ∙ ap (λ k. k * 64 + n % 64) q in
+    ap test at ∙ bits (n % 64) (mod_below n 64 (omega arith)) ∙ ap (λ v. bit_at v (n % 64) == 1) none ∙ ap (λ v. v == 1) (bit_at-zero (n % 64)))
+  where
+    word : (n : ℕ) → p ≤ n / 64 → n / 64 < p + 1 → n / 64 ≡ p
+    word n a b = omega arith
+
+-- none passes at all, where none of 32 words does and none past them
+pub none_at_all : (test : ℕ → Bool) → ((n : ℕ) → n / 64 < 32 → test n ≡ false) → ((n : ℕ) → 2000 ≤ n → test n ≡ false) → (n : ℕ) → test n ≡ false
+none_at_all test inside past n = bool_case _ (nat_lt n 2000)
+    (λ is. inside n (div_below n 64 32 (omega arith) (below ((Decides-ltb n 2000).0 is))))
+    (λ isnt. past n (not_below n 2000 isnt))
+  where
+    below : n < 2000 → n < 32 * 64
+    below h = omega arith
+
+-- the marks of one word from a number on
+abbrev pub marked_from : ℕ → List ℕ → ℕ → Bool
+marked_from first a n = nat_le first n && is_marked a n
+
+pub from_word : (a : List ℕ) (first i : ℕ) → i < 64 → marked_from first a (first / 64 * 64 + i) ≡ (bit_at (bit_and (get_or a (first / 64) 0) ((2 ^ 64 - 1) * 2 ^ (first % 64) % 2 ^ 64)) i == 1)
+from_word a first i lt =
+    ap (λ b. nat_le first (first / 64 * 64 + i) && b) (marked_in_word a (first / 64) i lt)
+    ∙ bool_case _ (nat_lt i (first % 64))
+    (λ is. rw (early is) (sym (without is)))
+    (λ isnt. rw (late isnt) (sym (inside_mask isnt)))
+  where
+    w : ℕ
+    w = get_or a (first / 64) 0
+
+    mask : (2 ^ 64 - 1) * 2 ^ (first % 64) % 2 ^ 64 ≡ 2 ^ 64 - 2 ^ (first % 64)
+    mask = ones_shl 64 (first % 64) (omega (arith, mod_below first 64))
+
+    split : first / 64 * 64 + first % 64 ≡ first
+    split = div-add-mod' first 64
+
+    early : nat_lt i (first % 64) ≡ true → nat_le first (first / 64 * 64 + i) ≡ false
+    early is = let lt : i < first % 64 = (Decides-ltb i (first % 64)).0 is in grind (arith, nat_tests, split)
+
+    late : nat_lt i (first % 64) ≡ false → nat_le first (first / 64 * 64 + i) ≡ true
+    late isnt = let le : first % 64 ≤ i = not_below i (first % 64) isnt in grind (arith, nat_tests, split)
+
+    masked : (bit_at (bit_and w ((2 ^ 64 - 1) * 2 ^ (first % 64) % 2 ^ 64)) i == 1) ≡ (bit_at w i == 1 && bit_at (2 ^ 64 - 2 ^ (first % 64)) i == 1)
+    masked = ap (λ m. bit_at (bit_and w m) i == 1) mask ∙ both_bits w (2 ^ 64 - 2 ^ (first % 64)) i
+
+    and_none : (b : Bool) → (b && false) ≡ false
+    and_none true = refl
+    and_none false = refl
+
+    and_all : (b : Bool) → (b && true) ≡ b
+    and_all true = refl
+    and_all false = refl
+
+    without : nat_lt i (first % 64) ≡ true → (bit_at (bit_and (get_or a (first / 64) 0) ((2 ^ 64 - 1) * 2 ^ (first % 64) % 2 ^ 64)) i == 1) ≡ false
+    without is = masked ∙ ap (λ n. bit_at w i == 1 && n == 1) (bit_at_mask_below (first % 64) 64 i ((Decides-ltb i (first % 64)).0 is)) ∙ and_none (bit_at w i == 1)
+
+    inside_mask : nat_lt i (first % 64) ≡ false → (bit_at (bit_and (get_or a (first / 64) 0) ((2 ^ 64 - 1) * 2 ^ (first % 64) % 2 ^ 64)) i == 1) ≡ (bit_at (get_or a (first / 64) 0) i == 1)
+    inside_mask isnt = masked ∙ ap (λ n. bit_at w i == 1 && n == 1) (bit_at_mask_inside (first % 64) 64 i (not_below i (first % 64) isnt) lt) ∙ and_all (bit_at w i == 1)
+
+-- none in the words before one passes
+pub none_before : (a : List ℕ) (first n : ℕ) → n / 64 < first / 64 → marked_from first a n ≡ false
+none_before a first n lt = ap (λ b. b && is_marked a n) (before first n (div_apart first n lt))
+  where
+    div_apart : (first n : ℕ) → n / 64 < first / 64 → n < first
+    div_apart first n lt = omega (arith, div-add-mod' first 64, div-add-mod' n 64)
+
+    before : (first n : ℕ) → n < first → nat_le first n ≡ false
+    before first n lt = grind (arith, nat_tests)
+
+-- none from 2,000 on passes
+pub none_past : (a : List ℕ) → AreMarks a → (first n : ℕ) → 2000 ≤ n → marked_from first a n ≡ false
+none_past a are first n large = ap (λ b. nat_le first n && b) (are.within n large) ∙ and_none (nat_le first n)
+  where
+    and_none : (b : Bool) → (b && false) ≡ false
+    and_none true = refl
+    and_none false = refl
+
+pub none_from : (a : List ℕ) → AreMarks a → (first n : ℕ) → 2000 ≤ first → marked_from first a n ≡ false
+none_from a are first n large = bool_case _ (nat_lt n 2000)
+    (λ is. ap (λ b. b && is_marked a n) (before first n ((Decides-ltb n 2000).0 is) large))
+    (λ isnt. none_past a are first n (not_below n 2000 isnt))
+  where
+    before : (first n : ℕ) → n < 2000 → 2000 ≤ first → nat_le first n ≡ false
+    before first n lt le = grind (arith, nat_tests)
+
+-- one of the later words, which all stand from the first number on
+pub later_word : (a : List ℕ) (first p i : ℕ) → first / 64 < p → i < 64 → marked_from first a (p * 64 + i) ≡ (bit_at (get_or a p 0) i == 1)
+later_word a first p i later lt = ap (λ b. b && is_marked a (p * 64 + i)) (after first p i later) ∙ marked_in_word a p i lt
+  where
+    after : (first p i : ℕ) → first / 64 < p → nat_le first (p * 64 + i) ≡ true
+    after first p i later =
+        let split : first / 64 * 64 + first % 64 ≡ first = div-add-mod' first 64 in
+        let low : first % 64 < 64 = mod_below first 64 (omega arith) in
+        grind (arith, nat_tests, split, low)
+
+-- the least of those that pass is below 2,000, if none from there on passes
+pub least_small : (test : ℕ → Bool) (n : ℕ) → ((k : ℕ) → 2000 ≤ k → test k ≡ false) → test n ≡ true → n < 2000
+least_small test n past is = bool_case _ (nat_lt n 2000)
+    (λ small. (Decides-ltb n 2000).0 small)
+    (λ large. absurd (true≢false (sym is ∙ past n (not_below n 2000 large))))
+
+pub none_common : (a b : List ℕ) → AreMarks a → (n : ℕ) → 2000 ≤ n → in_both a b n ≡ false
+none_common a b are n large = ap (λ t. t && is_marked b n) (are.within n large)

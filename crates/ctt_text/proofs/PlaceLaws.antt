@@ -1,13 +1,14 @@
 -- The kinds of places: which words obey their rules.
-use Rattle.std.proofs.Common.{◌≡◌, ℕ, List, [], ◌∷◌, ◌++◌, Bool, true, false, cond, Some, None, refl, ap, ◌∙◌}
+use Rattle.std.proofs.Common.{◌≡◌, ℕ, List, [], ◌∷◌, ◌++◌, Bool, true, false, cond, Option, Some, None, refl, ap, ◌∙◌}
 use Rattle.std.specs.Prelude.{nat_lt, nat_le}
 use Rattle.std.specs.Str.{bytes_eq}
 use Rattle.std.proofs.lemmas.Bool.{ltb-true, lt-ltb, leb-true, le-leb}
-use Rattle.ctt_text.specs.Numbers.{is_number, value}
+use Rattle.ctt_text.specs.Numbers.{is_number, value, number_of}
+use Rattle.ctt_text.specs.Problem.{is_among, place_of, number_in}
 use Rattle.ctt_text.specs.Forms.{Form, ◌>>=◌, Fills}
-use Rattle.ctt_text.specs.Places.{passing, passing_number, one, fixed, after}
+use Rattle.ctt_text.specs.Places.{passing_number, broken_unless, meant, exactly, known, one, fixed, after}
 use Rattle.ctt_text.specs.InstanceText.{IsUpTo, IsBelow}
-use Rattle.ctt_text.proofs.FormLaws.{bind_case}
+use Rattle.ctt_text.proofs.FormLaws.{bind_case, Yields}
 use Rattle.ctt_text.proofs.ListLaws.{bytes_sound}
 
 -- what obeys a rule passed its test, or did not
@@ -22,6 +23,31 @@ failed false e h = refl
 pub passed_both : {F : Type 0} (b c : Bool) (bad out : ℕ → F) → cond b (cond c None (Some out)) (Some bad) ≡ None → (b ≡ true) × (c ≡ true)
 passed_both true c bad out h = (refl, passed c out h)
 passed_both false c bad out h = cc
+
+-- a word that means something where a test holds, and nothing else, obeys just where it holds
+module _ {F A : Type 0} (fault : ℕ → F) (otherwise a : A) where
+  obeyed : (b : Bool) → broken_unless fault (cond b (Some a) None) ≡ None → b ≡ true
+  obeyed true h = refl
+  obeyed false h = cc
+
+  is_meant : (b : Bool) → b ≡ true → meant otherwise (cond b (Some a) None) ≡ a
+  is_meant b h = rw h refl
+
+module _ {F : Type 0} (fault : ℕ → F) (word : List ℕ) where
+  -- what obeys the place of a number is one, which is given
+  pub a_number : broken_unless fault (number_of word) ≡ None → is_number word ≡ true
+  a_number h = obeyed fault 0 (value word) (is_number word) h
+
+  pub number_given : broken_unless fault (number_of word) ≡ None → meant 0 (number_of word) ≡ value word
+  number_given h = is_meant fault 0 (value word) (is_number word) (a_number h)
+
+  module _ (names : List (List ℕ)) where
+    -- what obeys the place of a known name is one, whose number is given
+    pub a_name : broken_unless fault (number_in names word) ≡ None → is_among names word ≡ true
+    a_name h = obeyed fault 0 (place_of names word) (is_among names word) h
+
+    pub name_given : broken_unless fault (number_in names word) ≡ None → meant 0 (number_in names word) ≡ place_of names word
+    name_given h = is_meant fault 0 (place_of names word) (is_among names word) (a_name h)
 
 -- numbers below a limit, and up to one
 module _ {F : Type 0} (bad out : ℕ → F) (word : List ℕ) (limit : ℕ) where
@@ -42,12 +68,31 @@ module _ {F : Type 0} (bad out : ℕ → F) (word : List ℕ) (limit : ℕ) wher
       (p.0, leb-true (value word) limit p.1)
 
 -- what stands in the place of a fixed word is that word
-pub is_fixed : {F : Type 0} (fault : ℕ → F) (word text : List ℕ) → passing (λ w. bytes_eq w text) fault word ≡ None → word ≡ text
-is_fixed fault word text h = bytes_sound word text (passed (bytes_eq word text) fault h)
+pub is_fixed : {F : Type 0} (fault : ℕ → F) (word text : List ℕ) → broken_unless fault (exactly text word) ≡ None → word ≡ text
+is_fixed fault word text h = bytes_sound word text (obeyed fault tt tt (bytes_eq word text) h)
 
 -- a fixed word and a form after it, and what follows both
 pub after_case : {F A B : Type 0} (C : Type 0) (fault : ℕ → F) (text : List ℕ) (f : Form F A) (g : A → Form F B) (words : List (List ℕ)) (b : B) → Fills (after fault text f >>= g) words b
     → ((us vs : List (List ℕ)) (a : A) → Fills f us a → Fills (g a) vs b → words ≡ text ∷ us ++ vs → C) → C
-unfolding fixed one ◌>>=◌
+unfolding fixed known one ◌>>=◌
 after_case C fault text f g [] b h then = absurd h
 after_case C fault text f g (w ∷ ws) b h then = bind_case C f g ws b h.1 (λ us vs a p q e. then us vs a p q (ap (λ x. x ∷ ws) (is_fixed fault w text h.0) ∙ ap (λ x. text ∷ x) e))
+
+-- a word that means this gives it, and the words after it fill what comes after
+pub then_fills : {F A B : Type 0} (fault : ℕ → F) (meaning : List ℕ → Option A) (otherwise : A) (g : A → Form F B) (w : List ℕ) (ws : List (List ℕ)) (a : A) (b : B) → meaning w ≡ Some a → Fills (g a) ws b → Fills (known fault meaning otherwise >>= g) (w ∷ ws) b
+unfolding known one ◌>>=◌
+then_fills fault meaning otherwise g w ws a b h k = rw h (refl, k)
+
+pub word_fills : {F A : Type 0} (fault : ℕ → F) (meaning : List ℕ → Option A) (otherwise : A) (w : List ℕ) (a : A) → meaning w ≡ Some a → Fills (known fault meaning otherwise) (w ∷ []) a
+unfolding known one
+word_fills fault meaning otherwise w a h = rw h (refl, refl)
+
+pub yields_word : {F A : Type 0} (fault : ℕ → F) (meaning : List ℕ → Option A) (otherwise : A) (P : A → Type 0) → ((w : List ℕ) (a : A) → meaning w ≡ Some a → P a) → Yields P (known fault meaning otherwise)
+unfolding known one
+yields_word fault meaning otherwise P h [] a fills = absurd fills
+yields_word {F} {A} fault meaning otherwise P h (w ∷ []) a fills = by (meaning w) refl fills.0 fills.1
+  where
+    by : (o : Option A) → meaning w ≡ o → broken_unless fault o ≡ None → meant otherwise o ≡ a → P a
+    by None e broken same = cc
+    by (Some x) e broken same = h w a (e ∙ ap (λ y. Some y) same)
+yields_word fault meaning otherwise P h (w ∷ v ∷ ws) a fills = absurd fills.1

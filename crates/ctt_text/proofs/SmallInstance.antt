@@ -6,7 +6,7 @@ use Rattle.ctt_text.specs.declared.fault.ReadFault.TheVariants.{Expected, BadNum
 use Rattle.ctt_text.specs.Words.{words, is_blank}
 use Rattle.ctt_text.specs.Forms.{read, ◌>>=◌, times}
 use Rattle.ctt_text.specs.Problem.{Problem}
-use Rattle.ctt_text.specs.Places.{one, any, fixed, number, number_if, new_name, known_name}
+use Rattle.ctt_text.specs.Places.{one, known, any, fixed, number, number_if, new_name, known_name}
 use Rattle.ctt_text.specs.InstancePlaces.{number_up_to, period_count, two_counts, calendar, day_below, period_below, header, course, room, member, curriculum, unavailability, instance}
 use Rattle.ctt_text.specs.InstanceText.{Spells}
 use Rattle.ctt_text.specs.InstanceLaws.{answer}
@@ -38,7 +38,7 @@ written courses days periods constraints count =
 
 -- it is read
 is_read : answer small ≡ Ok small_instance
-unfolding read ◌>>=◌ times words is_blank one any fixed number number_if new_name known_name number_up_to period_count two_counts calendar day_below period_below header course room member curriculum unavailability instance small small_instance
+unfolding read ◌>>=◌ times words is_blank one known any fixed number number_if new_name known_name number_up_to period_count two_counts calendar day_below period_below header course room member curriculum unavailability instance small small_instance
 is_read = refl
 
 -- so it is spelled by its words
@@ -47,81 +47,81 @@ is_spelled = (reads_what_is_spelled small small_instance).0 is_read
 
 -- cut after k words, for each k below their number, word k + 1 is missing
 cuts : map (λ k. answer (take k small)) (range_with_len 0 45) ≡ map (λ k. Err (Missing (k + 1))) (range_with_len 0 45)
-unfolding read ◌>>=◌ times words is_blank one any fixed number number_if new_name known_name number_up_to period_count two_counts calendar day_below period_below header course room member curriculum unavailability instance small
+unfolding read ◌>>=◌ times words is_blank one known any fixed number number_if new_name known_name number_up_to period_count two_counts calendar day_below period_below header course room member curriculum unavailability instance small
 cuts = refl
 
 -- so many words it has
 small_words : length small ≡ 45
-unfolding read ◌>>=◌ times words is_blank one any fixed number number_if new_name known_name number_up_to period_count two_counts calendar day_below period_below header course room member curriculum unavailability instance small
+unfolding read ◌>>=◌ times words is_blank one known any fixed number number_if new_name known_name number_up_to period_count two_counts calendar day_below period_below header course room member curriculum unavailability instance small
 small_words = refl
 
 -- the same words again
 same_again : answer (written (codes "3") (codes "2") (codes "3") (codes "1") (codes "2")) ≡ Ok small_instance
-unfolding read ◌>>=◌ times words is_blank one any fixed number number_if new_name known_name number_up_to period_count two_counts calendar day_below period_below header course room member curriculum unavailability instance written small_instance
+unfolding read ◌>>=◌ times words is_blank one known any fixed number number_if new_name known_name number_up_to period_count two_counts calendar day_below period_below header course room member curriculum unavailability instance written small_instance
 same_again = refl
 
 -- four courses are said and three given: what follows them stands in the places of the fourth
 four_courses : answer (written (codes "4") (codes "2") (codes "3") (codes "1") (codes "2")) ≡ Err (BadNumber 34)
-unfolding read ◌>>=◌ times words is_blank one any fixed number number_if new_name known_name number_up_to period_count two_counts calendar day_below period_below header course room member curriculum unavailability instance written
+unfolding read ◌>>=◌ times words is_blank one known any fixed number number_if new_name known_name number_up_to period_count two_counts calendar day_below period_below header course room member curriculum unavailability instance written
 four_courses = refl
 
 -- zeros before a number
 leading_zeros : answer (written (codes "0003") (codes "2") (codes "3") (codes "1") (codes "2")) ≡ Ok small_instance
-unfolding read ◌>>=◌ times words is_blank one any fixed number number_if new_name known_name number_up_to period_count two_counts calendar day_below period_below header course room member curriculum unavailability instance written small_instance
+unfolding read ◌>>=◌ times words is_blank one known any fixed number number_if new_name known_name number_up_to period_count two_counts calendar day_below period_below header course room member curriculum unavailability instance written small_instance
 leading_zeros = refl
 
 -- more courses than the format allows
 many_courses : answer (written (codes "2001") (codes "2") (codes "3") (codes "1") (codes "2")) ≡ Err (TooLarge 4)
-unfolding read ◌>>=◌ times words is_blank one any fixed number number_if new_name known_name number_up_to period_count two_counts calendar day_below period_below header course room member curriculum unavailability instance written
+unfolding read ◌>>=◌ times words is_blank one known any fixed number number_if new_name known_name number_up_to period_count two_counts calendar day_below period_below header course room member curriculum unavailability instance written
 many_courses = refl
 
 -- more digits than a number has
 no_number : answer (written (codes "1000000000") (codes "2") (codes "3") (codes "1") (codes "2")) ≡ Err (BadNumber 4)
-unfolding read ◌>>=◌ times words is_blank one any fixed number number_if new_name known_name number_up_to period_count two_counts calendar day_below period_below header course room member curriculum unavailability instance written
+unfolding read ◌>>=◌ times words is_blank one known any fixed number number_if new_name known_name number_up_to period_count two_counts calendar day_below period_below header course room member curriculum unavailability instance written
 no_number = refl
 
 -- days and periods that are few, but too many slots
 many_slots : answer (written (codes "3") (codes "2000") (codes "2") (codes "1") (codes "2")) ≡ Err (TooLarge 10)
-unfolding read ◌>>=◌ times words is_blank one any fixed number number_if new_name known_name number_up_to period_count two_counts calendar day_below period_below header course room member curriculum unavailability instance written
+unfolding read ◌>>=◌ times words is_blank one known any fixed number number_if new_name known_name number_up_to period_count two_counts calendar day_below period_below header course room member curriculum unavailability instance written
 many_slots = refl
 
 -- more constraints than are given
 false_constraints : answer (written (codes "3") (codes "2") (codes "3") (codes "2000000") (codes "2")) ≡ Err (UnknownCourse 45)
-unfolding read ◌>>=◌ times words is_blank one any fixed number number_if new_name known_name number_up_to period_count two_counts calendar day_below period_below header course room member curriculum unavailability instance written
+unfolding read ◌>>=◌ times words is_blank one known any fixed number number_if new_name known_name number_up_to period_count two_counts calendar day_below period_below header course room member curriculum unavailability instance written
 false_constraints = refl
 
 -- more members than are given
 false_members : answer (written (codes "3") (codes "2") (codes "3") (codes "1") (codes "999999999")) ≡ Err (UnknownCourse 41)
-unfolding read ◌>>=◌ times words is_blank one any fixed number number_if new_name known_name number_up_to period_count two_counts calendar day_below period_below header course room member curriculum unavailability instance written
+unfolding read ◌>>=◌ times words is_blank one known any fixed number number_if new_name known_name number_up_to period_count two_counts calendar day_below period_below header course room member curriculum unavailability instance written
 false_members = refl
 
 -- a day of none
 no_days : answer (written (codes "3") (codes "0") (codes "3") (codes "1") (codes "2")) ≡ Err (DayOut 43)
-unfolding read ◌>>=◌ times words is_blank one any fixed number number_if new_name known_name number_up_to period_count two_counts calendar day_below period_below header course room member curriculum unavailability instance written
+unfolding read ◌>>=◌ times words is_blank one known any fixed number number_if new_name known_name number_up_to period_count two_counts calendar day_below period_below header course room member curriculum unavailability instance written
 no_days = refl
 
 -- a period of none
 no_periods : answer (written (codes "3") (codes "2") (codes "0") (codes "1") (codes "2")) ≡ Err (PeriodOut 44)
-unfolding read ◌>>=◌ times words is_blank one any fixed number number_if new_name known_name number_up_to period_count two_counts calendar day_below period_below header course room member curriculum unavailability instance written
+unfolding read ◌>>=◌ times words is_blank one known any fixed number number_if new_name known_name number_up_to period_count two_counts calendar day_below period_below header course room member curriculum unavailability instance written
 no_periods = refl
 
 -- blanks of any kind, a member and a pair named twice, and words after the end
 otherwise_written : answer (words (codes "Name:\tSmall Courses: 0003  Rooms: 2 Days: 2 Periods_per_day: 3 Curricula: 1 Constraints: 2 COURSES: alg t1 2 2 30 geo t2 2 1 20 top t1 1 1 50 ROOMS: A 25 B 40 CURRICULA: q1 3 alg geo alg UNAVAILABILITY_CONSTRAINTS: geo 0 0 geo 0 0 END. and more")) ≡ Ok small_instance
-unfolding read ◌>>=◌ times words is_blank one any fixed number number_if new_name known_name number_up_to period_count two_counts calendar day_below period_below header course room member curriculum unavailability instance small_instance
+unfolding read ◌>>=◌ times words is_blank one known any fixed number number_if new_name known_name number_up_to period_count two_counts calendar day_below period_below header course room member curriculum unavailability instance small_instance
 otherwise_written = refl
 
 -- nothing at all
 all_zero : answer (words (codes "Name: none Courses: 0 Rooms: 0 Days: 0 Periods_per_day: 0 Curricula: 0 Constraints: 0 COURSES: ROOMS: CURRICULA: UNAVAILABILITY_CONSTRAINTS: END."))
     ≡ Ok (record { name = codes "none"; course_names = []; courses = []; teacher_names = []; room_names = []; capacities = []; curriculum_names = []; curricula = []; days = 0; periods = 0; unavailable = [] })
-unfolding read ◌>>=◌ times words is_blank one any fixed number number_if new_name known_name number_up_to period_count two_counts calendar day_below period_below header course room member curriculum unavailability instance
+unfolding read ◌>>=◌ times words is_blank one known any fixed number number_if new_name known_name number_up_to period_count two_counts calendar day_below period_below header course room member curriculum unavailability instance
 all_zero = refl
 
 -- a name given twice
 twice_named : answer (words (codes "Name: none Courses: 0 Rooms: 2 Days: 0 Periods_per_day: 0 Curricula: 0 Constraints: 0 COURSES: ROOMS: A 1 A 2")) ≡ Err (RepeatedName 19)
-unfolding read ◌>>=◌ times words is_blank one any fixed number number_if new_name known_name number_up_to period_count two_counts calendar day_below period_below header course room member curriculum unavailability instance
+unfolding read ◌>>=◌ times words is_blank one known any fixed number number_if new_name known_name number_up_to period_count two_counts calendar day_below period_below header course room member curriculum unavailability instance
 twice_named = refl
 
 -- a fixed word in the wrong case
 wrong_label : answer (words (codes "Name: none courses: 0")) ≡ Err (Expected 3)
-unfolding read ◌>>=◌ times words is_blank one any fixed number number_if new_name known_name number_up_to period_count two_counts calendar day_below period_below header course room member curriculum unavailability instance
+unfolding read ◌>>=◌ times words is_blank one known any fixed number number_if new_name known_name number_up_to period_count two_counts calendar day_below period_below header course room member curriculum unavailability instance
 wrong_label = refl

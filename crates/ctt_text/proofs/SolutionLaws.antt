@@ -11,15 +11,15 @@ use Rattle.ctt_text.specs.declared.fault.SolutionFault.TheVariants.{UnknownCours
 use Rattle.ctt_text.specs.declared.placed.Placed.{Placed}
 use Rattle.ctt_text.specs.Numbers.{is_number, value}
 use Rattle.ctt_text.specs.Forms.{◌>>=◌, times, Fills, read, without_rest}
-use Rattle.ctt_text.specs.Problem.{Problem, IsProblem, is_among}
+use Rattle.ctt_text.specs.Problem.{Problem, IsProblem}
 use Rattle.ctt_text.specs.Timetable.{before, Ascending, Fits, has_lecture, with}
-use Rattle.ctt_text.specs.Places.{one, known_name, number_if}
+use Rattle.ctt_text.specs.Places.{one, known, known_name, number_if}
 use Rattle.ctt_text.specs.SolutionPlaces.{free_slot, entry, begun, solution, cut}
 use Rattle.ctt_text.specs.SolutionText.{EntryWords, spelled_entry, IsEntry, lecture_of, AreApart, SameLectures, SolSpells, SolutionBreaksAt}
 use Rattle.ctt_text.specs.SolutionLaws.{solution_answer, ReadsSolutions, SpellsOneTimetable, SolutionFailsWhereBroken, SolutionBreaksOnce, SolutionSpellsOrBreaks, SpelledIsTimetable}
 use Rattle.ctt_text.proofs.FormLaws.{answer_fills, fills_answer, answer_breaks, breaks_answer, breaks_once, answered, ok_same, ok_is_err}
 use Rattle.ctt_text.proofs.SectionLaws.{Entry, AllFit, entries_fill, entries_taken}
-use Rattle.ctt_text.proofs.PlaceLaws.{passed, below_passes, passed_below}
+use Rattle.ctt_text.proofs.PlaceLaws.{a_name, name_given, below_passes, passed_below}
 use Rattle.ctt_text.proofs.LectureLaws.{put_any, with_ascends, one_list, Each-found}
 use Rattle.ctt_text.proofs.ListLaws.{Each-mapped, place_below}
 use Rattle.ctt_text.proofs.TimetableLemmas.{Each-map}
@@ -41,30 +41,32 @@ module _ (i : Problem) where
 
   -- such an entry fills its four places
   entry_fills : (s : List Placed) (w : EntryWords) → FitsEntry s w → Fills (entry i s) (spelled_entry w) (add_entry s w)
-  unfolding entry free_slot known_name number_if one ◌>>=◌
+  unfolding entry free_slot known_name number_if known one ◌>>=◌
   entry_fills s w fit = (
     rw fit.0.0 refl,
-    (rw fit.0.1 refl, (below_passes BadNumber DayOut w.day i.days fit.0.2, (rw (fit.0.3.0, lt-ltb (value w.period) i.periods fit.0.3.1, fit.1) refl, refl))),
+    rw fit.0.0 (rw fit.0.1 refl, rw fit.0.1 (below_passes BadNumber DayOut w.day i.days fit.0.2, (rw (fit.0.3.0, lt-ltb (value w.period) i.periods fit.0.3.1, fit.1) refl, refl))),
   )
 
   -- what fills them is such an entry
   pub entry_taken : (s : List Placed) (words : List (List ℕ)) (t : List Placed) → Fills (entry i s) words t → Entry spelled_entry add_entry FitsEntry s words t
-  unfolding entry free_slot known_name number_if one ◌>>=◌
+  unfolding entry free_slot known_name number_if known one ◌>>=◌
   entry_taken s [] t h = absurd h
   entry_taken s (c ∷ []) t h = absurd h.1
   entry_taken s (c ∷ r ∷ []) t h = absurd h.1.1
   entry_taken s (c ∷ r ∷ d ∷ []) t h = absurd h.1.1.1
   entry_taken s (c ∷ r ∷ d ∷ p ∷ []) t h =
       let w : EntryWords = record { course = c; room = r; day = d; period = p } in
-      let period = three_passed (is_number p) (nat_lt (value p) i.periods) (has_lecture (lecture_of i w).course (lecture_of i w).slot s) BadNumber PeriodOut Repeated h.1.1.1.0 in
+      let room = rw (name_given UnknownCourse c i.course_names h.0) at h.1 in
+      let day = rw (name_given UnknownRoom r i.room_names room.0) at room.1 in
+      let period = three_passed (is_number p) (nat_lt (value p) i.periods) (has_lecture (lecture_of i w).course (lecture_of i w).slot s) BadNumber PeriodOut Repeated day.1.0 in
       record {
         given = w;
         all = refl;
         fit = (
-          (passed (is_among i.course_names c) UnknownCourse h.0, passed (is_among i.room_names r) UnknownRoom h.1.0, passed_below BadNumber DayOut d i.days h.1.1.0, (period.0, ltb-true (value p) i.periods period.1)),
+          (a_name UnknownCourse c i.course_names h.0, a_name UnknownRoom r i.room_names room.0, passed_below BadNumber DayOut d i.days day.0, (period.0, ltb-true (value p) i.periods period.1)),
           period.2,
         );
-        gives = h.1.1.1.1;
+        gives = day.1.1;
       }
   entry_taken s (c ∷ r ∷ d ∷ p ∷ more ∷ words) t h = absurd h.1.1.1.1
 

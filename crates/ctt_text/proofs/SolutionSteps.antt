@@ -9,12 +9,12 @@ use Rattle.ctt_text.specs.Places.{number}
 use Rattle.ctt_text.specs.Problem.{Problem, slot_of}
 use Rattle.ctt_text.specs.Timetable.{has_lecture}
 use Rattle.ctt_text.specs.Forms.{◌>>=◌, times}
-use Rattle.ctt_text.specs.Reading.{Fails, reading, and_then, judged}
+use Rattle.ctt_text.specs.Reading.{Fails, reading}
 use Rattle.ctt_text.specs.SolutionPlaces.{free_slot, entry, begun, cut, lacks_memory}
 use Rattle.ctt_text.specs.SolutionText.{EntryWords, spelled_entry}
 use Rattle.ctt_text.proofs.FormLaws.{read_fills}
 use Rattle.ctt_text.proofs.SolutionLaws.{entry_taken}
-use Rattle.ctt_text.proofs.Steps.{read_then, read_done, fails_there, read_number_by}
+use Rattle.ctt_text.proofs.Steps.{and_then, judged, read_then, read_done, fails_there, read_number_by}
 
 -- what a period that is a number is judged by
 abbrev pub free_judged : Problem → List Placed → ℕ → ℕ → ℕ → Option (ℕ → SolutionFault)

@@ -1,114 +1,102 @@
--- Tables of marks, row by row.
-use Rattle.std.proofs.Common.{◌≡◌, ℕ, ◌+◌, ◌*◌, ◌<◌, List, [], ◌∷◌, ◌++◌, length, Bool, true, false, not, ◌==◌, ◌&&◌, ◌||◌, take, take_all, refl, sym, ap, ◌∙◌, arith, true≢false, nat_lt}
-use Rattle.std.specs.List.{slice_set, list_any}
+-- Rows of marks.
+use Rattle.std.proofs.Common.{◌≡◌, ℕ, ◌+◌, ◌*◌, ◌<◌, ◌≤◌, List, [], ◌∷◌, ◌++◌, length, get_or, Bool, true, false, not, ◌==◌, ◌&&◌, ◌||◌, take, take_all, refl, sym, ap, ◌∙◌, arith, true≢false, nat_lt}
+use Rattle.std.specs.List.{slice_set, list_any, AllByRecursion as Each}
 use Rattle.std.proofs.lemmas.List.{get_or-set_other, length-set, take-append-le}
 use Rattle.std.proofs.lemmas.Grind.{get_or-set_at}
-use Rattle.std.proofs.lemmas.Bool.{eqb-true}
+use Rattle.std.proofs.lemmas.Bool.{eqb-true, eqb-false}
 use Rattle.std.proofs.lemmas.Bool.Decides.{Decides-eqb, nat_tests}
 use Rattle.ctt_text.specs.Lists.{has}
-use Rattle.ctt_text.specs.Tables.{mark_at, in_row, AddsMarks}
+use Rattle.ctt_text.specs.Marks.{is_marked}
+use Rattle.ctt_text.specs.Tables.{mark_at, AddsMarks}
 
 -- by cases
 pub bool_case : (C : Type 0) (b : Bool) → (b ≡ true → C) → (b ≡ false → C) → C
 bool_case C true so otherwise = so refl
 bool_case C false so otherwise = otherwise refl
 
--- a place of a table is in one row and one column
-pub row_is : (c d x y w : ℕ) → d < w → y < w → c * w + d ≡ x * w + y → c ≡ x
-row_is c d x y w lt lt' h = grind (arith, nat_tests)
-
-or_true : (b : Bool) → (b || true) ≡ true
-or_true true = refl
-or_true false = refl
-
 or_false : (b : Bool) → (b || false) ≡ b
 or_false true = refl
 or_false false = refl
 
-same : (a b : ℕ) → a ≡ b → (a == b) ≡ true
-same a b e = (Decides-eqb a b).1 e
-
--- one more mark
-pub mark_at-set : (s : List Bool) (w c d x y : ℕ) → d < w → y < w → c * w + d < length s → mark_at (slice_set s (c * w + d) true) w x y ≡ (mark_at s w x y || (x == c && y == d))
-mark_at-set s w c d x y lt lt' within = bool_case _ (x == c && y == d)
-    (λ is.
-    let row : x ≡ c = grind (arith, nat_tests) in
-    let column : y ≡ d = grind (arith, nat_tests) in
-    let place : x * w + y ≡ c * w + d = rw (row, column) refl in
-    let set : mark_at (slice_set s (c * w + d) true) w x y ≡ true = get_or-set_at s (c * w + d) (x * w + y) true false place within in
-    set ∙ rw is (sym (or_true (mark_at s w x y))))
-    (λ isnt.
-    let other : mark_at (slice_set s (c * w + d) true) w x y ≡ mark_at s w x y = get_or-set_other s (c * w + d) (x * w + y) true false (λ e. differ e isnt) in
-    other ∙ rw isnt (sym (or_false (mark_at s w x y))))
-  where
-    differ : x * w + y ≡ c * w + d → (x == c && y == d) ≡ false → ⊥
-    differ e isnt =
-        let row : x ≡ c = row_is x y c d w lt' lt e in
-        let column : y ≡ d = omega (arith, ap (λ r. r * w) row) in
-        let both : (x == c && y == d) ≡ true = rw (same x c row, same y d column) refl in
-        true≢false (sym both ∙ isnt)
-
 -- nothing was marked yet
-pub none_added : (s : List Bool) (w : ℕ) (test : ℕ → ℕ → Bool) → ((c d : ℕ) → d < w → test c d ≡ false) → AddsMarks s s w test
-none_added s w test none = record { size = refl; marks = λ c d lt. sym (rw (none c d lt) (or_false (mark_at s w c d))) }
-
--- the same marks, by a test that says the same
-pub same_added : (s t : List Bool) (w : ℕ) (test other : ℕ → ℕ → Bool) → AddsMarks s t w test → ((c d : ℕ) → d < w → other c d ≡ test c d) → AddsMarks s t w other
-same_added s t w test other h alike = record { size = h.size; marks = λ c d lt. h.marks c d lt ∙ ap (λ b. mark_at s w c d || b) (sym (alike c d lt)) }
+pub none_added : (s : List (List ℕ)) (test : ℕ → ℕ → Bool) → ((r n : ℕ) → r < length s → test r n ≡ false) → AddsMarks s s test
+none_added s test none = record { size = refl; marks = λ r n lt. sym (ap (λ b. mark_at s r n || b) (none r n lt) ∙ or_false (mark_at s r n)) }
 
 or_or : (a b c : Bool) → ((a || b) || c) ≡ (a || (b || c))
 or_or true b c = refl
 or_or false b c = refl
 
 -- more marks, beside those that were added before
-pub more_added : (s t u : List Bool) (w : ℕ) (test more other : ℕ → ℕ → Bool) → AddsMarks s t w test → AddsMarks t u w more → ((c d : ℕ) → d < w → other c d ≡ (test c d || more c d)) → AddsMarks s u w other
-more_added s t u w test more other h k alike = record {
+pub more_added : (s t u : List (List ℕ)) (test more other : ℕ → ℕ → Bool) → AddsMarks s t test → AddsMarks t u more → ((r n : ℕ) → other r n ≡ (test r n || more r n)) → AddsMarks s u other
+more_added s t u test more other h k alike = record {
   size = k.size ∙ h.size;
-  marks = λ c d lt. k.marks c d lt ∙ ap (λ b. b || more c d) (h.marks c d lt) ∙ or_or (mark_at s w c d) (test c d) (more c d) ∙ ap (λ b. mark_at s w c d || b) (sym (alike c d lt));
+  marks = λ r n lt. k.marks r n (rw h.size lt) ∙ ap (λ b. b || more r n) (h.marks r n lt) ∙ or_or (mark_at s r n) (test r n) (more r n) ∙ ap (λ b. mark_at s r n || b) (sym (alike r n));
 }
 
--- one mark
-pub one_added : (s : List Bool) (w c d : ℕ) → d < w → c * w + d < length s → AddsMarks s (slice_set s (c * w + d) true) w (λ x y. true && (x == c && y == d))
-one_added s w c d lt within = record { size = length-set s (c * w + d) true; marks = λ x y lt'. mark_at-set s w c d x y lt lt' within }
-
--- one more column of a row, where it passes
-pub column_more : (r w : ℕ) (test : ℕ → Bool) (k c d : ℕ) → in_row r (λ d. nat_lt d (k + 1) && test d) c d ≡ (in_row r (λ d. nat_lt d k && test d) c d || (test k && (c == r && d == k)))
-column_more r w test k c d = bool_case _ (d == k)
+-- one row with more marks
+pub one_added : (s : List (List ℕ)) (row : ℕ) (new : List ℕ) (test : ℕ → Bool) → row < length s → ((n : ℕ) → is_marked new n ≡ (mark_at s row n || test n)) → AddsMarks s (slice_set s row new) (λ r n. r == row && test n)
+one_added s row new test within here = record {
+  size = length-set s row new;
+  marks = λ r n lt. bool_case _ (r == row)
     (λ is.
-    let e : d ≡ k = eqb-true d k is in
-    rw (e, same k k refl) (by (c == r) (test k)))
-    (λ isnt. rw isnt (grind (arith, nat_tests)))
-  where
-    by : (a b : Bool) → (a && (nat_lt k (k + 1) && b)) ≡ ((a && (nat_lt k k && b)) || (b && (a && true)))
-    by a b = grind (arith, nat_tests)
+      let e : r ≡ row = eqb-true r row is in
+      ap (λ m. is_marked m n) (get_or-set_at s row r new [] e within) ∙ here n ∙ ap (λ k. mark_at s k n || test n) (sym e) ∙ ap (λ b. mark_at s r n || (b && test n)) (sym is))
+    (λ isnt.
+      ap (λ m. is_marked m n) (get_or-set_other s row r new [] (eqb-false r row isnt)) ∙ sym (or_false (mark_at s r n)) ∙ ap (λ b. mark_at s r n || (b && test n)) (sym isnt));
+}
 
--- one more row, where it passes
-pub row_more : (test : ℕ → ℕ → Bool) (k c d : ℕ) → (nat_lt c (k + 1) && test c d) ≡ ((nat_lt c k && test c d) || in_row k (test k) c d)
-row_more test k c d = bool_case _ (c == k)
+-- a row whose own number is taken out, below a row number
+pub own_more : (s t : List (List ℕ)) (row : ℕ) (new : List ℕ) → row < length s → length t ≡ length s
+  → ((r n : ℕ) → r < length s → mark_at t r n ≡ (not (nat_lt r row && r == n) && mark_at s r n))
+  → ((n : ℕ) → is_marked new n ≡ (not (n == row) && mark_at t row n))
+  → (r n : ℕ) → r < length s → mark_at (slice_set t row new) r n ≡ (not (nat_lt r (row + 1) && r == n) && mark_at s r n)
+own_more s t row new within size before here r n lt = bool_case _ (r == row)
     (λ is.
-    let e : c ≡ k = eqb-true c k is in
-    rw (e, same k k refl) (by (test k d)))
-    (λ isnt. rw isnt (grind (arith, nat_tests)))
+      let e : r ≡ row = eqb-true r row is in
+      ap (λ m. is_marked m n) (get_or-set_at t row r new [] e (rw size within)) ∙ here n ∙ ap (λ b. not (n == row) && b) (before row n within) ∙ now r e (mark_at s row n) ∙ ap (λ k. not (nat_lt r (row + 1) && r == n) && mark_at s k n) (sym e))
+    (λ isnt.
+      ap (λ m. is_marked m n) (get_or-set_other t row r new [] (eqb-false r row isnt)) ∙ before r n lt ∙ ap (λ b. not (b && r == n) && mark_at s r n) (there r isnt))
   where
-    by : (b : Bool) → (nat_lt k (k + 1) && b) ≡ ((nat_lt k k && b) || (true && b))
-    by b = grind (arith, nat_tests)
+    now : (r : ℕ) → r ≡ row → (b : Bool) → (not (n == row) && (not (nat_lt row row && row == n) && b)) ≡ (not (nat_lt r (row + 1) && r == n) && b)
+    now r e b = grind (arith, nat_tests)
+    there : (r : ℕ) → (r == row) ≡ false → nat_lt r row ≡ nat_lt r (row + 1)
+    there r isnt = grind (arith, nat_tests)
 
--- a part of a test that is the same for all
-pub any_and : {X : Type 0} (b : Bool) (p : X → Bool) (xs : List X) → list_any (λ x. b && p x) xs ≡ (b && list_any p xs)
-any_and true p xs = refl
-any_and false p [] = refl
-any_and false p (x ∷ xs) = any_and false p xs
-
--- a table that was empty, with the marks of the teachers and then those of the curricula
-pub clash_marks : {X : Type 0} (members : X → List ℕ) (teacher : ℕ → ℕ) (n : ℕ) (s t u : List Bool) (qs : List X) → ((c d : ℕ) → mark_at s n c d ≡ false)
-    → AddsMarks s t n (λ c d. nat_lt c n && (not (d == c) && teacher d == teacher c))
-    → AddsMarks t u n (λ c d. list_any (λ q. not (c == d) && (has c (members q) && has d (members q))) qs)
-    → (c d : ℕ) → c < n → d < n → mark_at u n c d ≡ (not (c == d) && (teacher c == teacher d || list_any (λ q. has c (members q) && has d (members q)) qs))
-clash_marks members teacher n s t u qs empty h k c d lc ld =
-    k.marks c d ld ∙ rw (h.marks c d ld, empty c d, any_and (not (c == d)) (λ q. has c (members q) && has d (members q)) qs) (by (teacher c) (teacher d) (list_any (λ q. has c (members q) && has d (members q)) qs))
+-- a course that is no member
+pub no_member : (n d : ℕ) → n ≤ d → (ms : List ℕ) → Each (λ m. m < n) ms → has d ms ≡ false
+no_member n d le [] each = refl
+no_member n d le (m ∷ ms) each = ap (λ b. b || has d ms) (other m d n each.0 le) ∙ no_member n d le ms each.1
   where
-    by : (a b : ℕ) (any : Bool) → ((false || (nat_lt c n && (not (d == c) && b == a))) || (not (c == d) && any)) ≡ (not (c == d) && (a == b || any))
-    by a b any = grind (arith, nat_tests)
+    other : (a b k : ℕ) → a < k → k ≤ b → (a == b) ≡ false
+    other a b k lt le = grind (arith, nat_tests)
+
+pub no_mates : {X : Type 0} (members : X → List ℕ) (n c d : ℕ) → n ≤ d → (qs : List X) → Each (λ q. Each (λ m. m < n) (members q)) qs → list_any (λ q. has c (members q) && has d (members q)) qs ≡ false
+no_mates members n c d le [] each = refl
+no_mates members n c d le (q ∷ qs) each = rw (no_member n d le (members q) each.0, no_mates members n c d le qs each.1) (none (has c (members q)))
+  where
+    none : (b : Bool) → ((b && false) || false) ≡ false
+    none true = refl
+    none false = refl
+
+-- one mark: that of the teacher, and then those of the curricula
+pub clash_marks : {X : Type 0} (members : X → List ℕ) (teacher : ℕ → ℕ) (n : ℕ) (qs : List X) → Each (λ q. Each (λ m. m < n) (members q)) qs
+    → (c d : ℕ) (taught row mark : Bool) → taught ≡ (nat_lt d n && teacher c == teacher d) → row ≡ taught
+    → mark ≡ (not (c == d) && (row || list_any (λ q. has c (members q) && has d (members q)) qs))
+    → mark ≡ (nat_lt d n && (not (c == d) && (teacher c == teacher d || list_any (λ q. has c (members q) && has d (members q)) qs)))
+clash_marks members teacher n qs each c d taught row mark has_taught has_row has_mark =
+    has_mark ∙ ap (λ b. not (c == d) && (b || list_any (λ q. has c (members q) && has d (members q)) qs)) (has_row ∙ has_taught) ∙ bool_case _ (nat_lt d n)
+      (λ is. rw is (by (not (c == d)) (teacher c == teacher d) (list_any (λ q. has c (members q) && has d (members q)) qs)))
+      (λ isnt. rw (isnt, no_mates members n c d (not_below d n isnt) qs each) (none (not (c == d))))
+  where
+    not_below : (d n : ℕ) → nat_lt d n ≡ false → n ≤ d
+    not_below d n h = grind (arith, nat_tests)
+    by : (a b o : Bool) → (a && ((true && b) || o)) ≡ (true && (a && (b || o)))
+    by true true o = refl
+    by true false o = refl
+    by false b o = refl
+    none : (a : Bool) → (a && ((false && (teacher c == teacher d)) || false)) ≡ false
+    none true = refl
+    none false = refl
 
 -- what was written over the whole of a list
 pub written : {X : Type 0} (n : ℕ) (xs ys : List X) → length xs ≡ n → take n (xs ++ ys) ≡ xs

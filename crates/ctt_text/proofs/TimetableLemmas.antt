@@ -1,5 +1,5 @@
 -- Timetables, by their neighbours.
-use Rattle.std.proofs.Common.{◌≡◌, ℕ, zero, suc, ◌+◌, ◌<◌, List, [], ◌∷◌, length, Bool, true, get_or, arith, false, refl, IsTrue, ◌↔◌}
+use Rattle.std.proofs.Common.{◌≡◌, ℕ, zero, suc, ◌+◌, ◌<◌, List, [], ◌∷◌, ◌++◌, length, Bool, true, get_or, arith, false, refl, IsTrue, ◌↔◌}
 use Rattle.std.specs.List.{AllByRecursion as Each}
 use Rattle.std.specs.Bool.{OnTrue, OnFalse}
 use Rattle.std.proofs.lemmas.Bool.Decides.{nat_tests}
@@ -20,6 +20,10 @@ Each-at P (x ∷ xs) h (suc k) d lt = Each-at P xs h.1 k d (omega (arith, lt))
 pub Each-map : {X : Type 0} (P Q : X → Type 0) → ((x : X) → P x → Q x) → (xs : List X) → Each P xs → Each Q xs
 Each-map P Q f [] h = tt
 Each-map P Q f (x ∷ xs) h = (f x h.0, Each-map P Q f xs h.1)
+
+pub Each-append : {X : Type 0} (P : X → Type 0) (xs ys : List X) → Each P xs → Each P ys → Each P (xs ++ ys)
+Each-append P [] ys h k = k
+Each-append P (x ∷ xs) ys h k = (h.0, Each-append P xs ys h.1 k)
 
 pub before_trans : (a b c : Placed) → before a b ≡ true → before b c ≡ true → before a c ≡ true
 before_trans a b c h k = grind (arith, nat_tests)

@@ -1,8 +1,9 @@
 -- The fields of an instance, and the problem that they are.
-use Rattle.std.specs.Prelude.{◌≡◌, ◌<◌, ◌+◌, ◌*◌, ℕ, List, Bool, false, length, map, get_or}
+use Rattle.std.specs.Prelude.{◌≡◌, ◌<◌, ◌&&◌, ℕ, List, length, map, nat_lt}
 use Rattle.std.specs.String.{string_bytes}
 use Rattle.ctt_text.specs.Problem.{Problem, IsProblem, course_count, clash}
 use Rattle.ctt_text.specs.Named.{IsNamed}
+use Rattle.ctt_text.specs.Tables.{mark_at}
 use Rattle.ctt_text.specs.Belonging.{AreCurricula}
 use Rattle.ctt_text.specs.declared.instance.Instance.TheInside.{Inside}
 
@@ -21,10 +22,10 @@ problem_in i = record {
   unavailable = i.unavailable.items;
 }
 
--- the table of the clashes: for each course in turn, for each course in turn
-pub record AreClashes (p : Problem) (marks : List Bool) : Type 0 where
-  pub size : length marks ≡ course_count p * course_count p
-  pub mark : (c d : ℕ) → c < course_count p → d < course_count p → get_or marks (c * course_count p + d) false ≡ clash p c d
+-- the rows of the clashes
+pub record AreClashes (p : Problem) (rows : List (List ℕ)) : Type 0 where
+  pub size : length rows ≡ course_count p
+  pub marks : (c d : ℕ) → c < course_count p → mark_at rows c d ≡ (nat_lt d (course_count p) && clash p c d)
 
 pub record IsInstance (i : Inside) : Type 0 where
   pub problem : IsProblem (problem_in i)

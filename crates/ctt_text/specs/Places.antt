@@ -1,17 +1,23 @@
 -- The kinds of places that a text has: the rule of one word, and what the word gives.
-use Rattle.std.specs.Prelude.{ℕ, List, Bool, Some, None, if◌then◌else◌}
+use Rattle.std.specs.Prelude.{ℕ, List, Bool, Option, Some, None, if◌then◌else◌}
 use Rattle.std.specs.Str.{bytes_eq}
-use Rattle.ctt_text.specs.Numbers.{is_number, value}
-use Rattle.ctt_text.specs.Problem.{is_among, place_of}
+use Rattle.ctt_text.specs.Numbers.{is_number, value, number_of}
+use Rattle.ctt_text.specs.Problem.{is_among, number_in}
 use Rattle.ctt_text.specs.Forms.{Rule, Form, done, place, ◌>>=◌}
-
--- a word that passes the test, else this fault
-abbrev pub passing : {F : Type 0} → (List ℕ → Bool) → (ℕ → F) → Rule F
-passing test fault word = if test word then None else Some fault
 
 -- a number that passes the test: where the word is none, the first fault; else the second
 abbrev pub passing_number : {F : Type 0} → (ℕ → F) → (ℕ → Bool) → (ℕ → F) → Rule F
 passing_number bad test fault word = if is_number word then (if test (value word) then None else Some fault) else Some bad
+
+-- a word that means nothing breaks its place
+abbrev pub broken_unless : {F A : Type 0} → (ℕ → F) → Option A → Option (ℕ → F)
+broken_unless fault None = Some fault
+broken_unless fault (Some a) = None
+
+-- what is meant, and something where nothing is
+abbrev pub meant : {A : Type 0} → A → Option A → A
+meant otherwise None = otherwise
+meant otherwise (Some a) = a
 
 -- one word
 unfoldable pub one : {F A : Type 0} → Rule F → (List ℕ → A) → Form F A
@@ -20,11 +26,19 @@ one rule gives = place rule (λ word. done (gives word))
 unfoldable pub any : {F : Type 0} → Form F (List ℕ)
 any = one (λ _. None) (λ word. word)
 
+-- one word, which gives what it means (and something, where it means nothing)
+unfoldable pub known : {F A : Type 0} → (ℕ → F) → (List ℕ → Option A) → A → Form F A
+known fault meaning otherwise = one (λ word. broken_unless fault (meaning word)) (λ word. meant otherwise (meaning word))
+
+-- a word of this text means that it stands there
+abbrev pub exactly : List ℕ → List ℕ → Option Unit
+exactly text word = if bytes_eq word text then Some tt else None
+
 unfoldable pub fixed : {F : Type 0} → (ℕ → F) → List ℕ → Form F Unit
-fixed fault text = one (passing (λ word. bytes_eq word text) fault) (λ _. tt)
+fixed fault text = known fault (exactly text) tt
 
 unfoldable pub number : {F : Type 0} → (ℕ → F) → Form F ℕ
-number bad = one (passing is_number bad) value
+number bad = known bad number_of 0
 
 unfoldable pub number_if : {F : Type 0} → (ℕ → F) → (ℕ → Bool) → (ℕ → F) → Form F ℕ
 number_if bad test fault = one (passing_number bad test fault) value
@@ -33,7 +47,7 @@ unfoldable pub new_name : {F : Type 0} → (ℕ → F) → List (List ℕ) → F
 new_name fault names = one (λ word. if is_among names word then Some fault else None) (λ word. word)
 
 unfoldable pub known_name : {F : Type 0} → (ℕ → F) → List (List ℕ) → Form F ℕ
-known_name fault names = one (passing (is_among names) fault) (place_of names)
+known_name fault names = known fault (number_in names) 0
 
 -- a fixed word before the form
 abbrev pub after : {F A : Type 0} → (ℕ → F) → List ℕ → Form F A → Form F A

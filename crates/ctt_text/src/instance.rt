@@ -1,7 +1,9 @@
 //! The instance, and what it says.
 
-ghost use Rattle.std.specs.Prelude.{◌≡◌, ◌<◌, ◌≤◌, ◌*◌, [], length, slice_index_or, IfSome};
-ghost use Rattle.ctt_text.specs.Problem.{IsProblem, course_of, capacity_of, members, course_count, room_count, teacher_count, curriculum_count, slot_count, slot_of, day_of, period_of, clash, is_unavailable, number_in};
+ghost use Rattle.std.specs.Prelude.{◌≡◌, ◌<◌, ◌≤◌, ◌*◌, ◌&&◌, ℕ, [], length, nat_lt, slice_index_or, IfSome};
+ghost use Rattle.std.specs.List.{AllByRecursion as Each};
+ghost use Rattle.ctt_text.specs.Problem.{IsProblem, course_of, capacity_of, members, course_count, room_count, teacher_count, curriculum_count, slot_count, slot_of, day_of, period_of, clash, is_unavailable, number_in, IsSmall, AreMembers};
+ghost use Rattle.ctt_text.specs.Marks.{is_marked};
 ghost use Rattle.ctt_text.specs.Named.{IsNamed};
 ghost use Rattle.ctt_text.specs.Belonging.{curricula_of};
 
@@ -18,6 +20,7 @@ mod unavailability;
 
 use crate::course_facts::CourseFacts;
 use crate::ids::{CourseNo, CurriculumNo, RoomNo, SlotNo, TeacherNo};
+use crate::marks::Marks;
 use crate::names::Names;
 pub use read::read_instance;
 use std::marker::Model;
@@ -39,8 +42,8 @@ pub struct Instance {
     periods: u16,
     /// For each course in turn, for each slot in turn.
     unavailable: Vec<bool>,
-    /// For each course in turn, for each course in turn.
-    clashes: Vec<bool>,
+    /// For each course, those that it clashes with.
+    clashes: Vec<Marks>,
     /// For each course, its curricula.
     belonging: Vec<Vec<CurriculumNo>>,
 }
@@ -58,17 +61,19 @@ impl Model for Instance {
 }
 
 impl Instance {
-    /// Computes nothing: its contract says what holds of each instance.
-    pub fn limits(&self)
+    /// A statement: each instance is within the limits, and its numbers are those of its lists.
+    pub fn limits_hold(&self)
         ensures { IsProblem self.now }
     {
+        // Its contract is all that it is. What holds of an instance is known where one is read.
         let _days = &self.days;
     }
 
-    /// Computes nothing: its contract says that all names are words, distinct in their lists.
-    pub fn names(&self)
+    /// A statement: all names are words, distinct in their lists.
+    pub fn names_are_words(&self)
         ensures { IsNamed self.now }
     {
+        // Its contract is all that it is. What holds of an instance is known where one is read.
         let _days = &self.days;
     }
 
@@ -81,49 +86,56 @@ impl Instance {
 
     /// How many courses there are, at most 2,000.
     pub fn courses(&self) -> u16
-        ensures { result ≡ course_count self.now }
+        ensures exact { result ≡ course_count self.now }
+        ensures few { result ≤ 2000 }
     {
         self.courses.len() as u16
     }
 
     /// How many rooms there are, at most 1,000.
     pub fn rooms(&self) -> u16
-        ensures { result ≡ room_count self.now }
+        ensures exact { result ≡ room_count self.now }
+        ensures few { result ≤ 1000 }
     {
         self.capacities.len() as u16
     }
 
     /// How many teachers there are, at most one for each course.
     pub fn teachers(&self) -> u16
-        ensures { result ≡ teacher_count self.now }
+        ensures exact { result ≡ teacher_count self.now }
+        ensures few { result ≤ course_count self.now }
     {
         self.teacher_names.len() as u16
     }
 
     /// How many curricula there are, at most 20,000.
     pub fn curricula(&self) -> u16
-        ensures { result ≡ curriculum_count self.now }
+        ensures exact { result ≡ curriculum_count self.now }
+        ensures few { result ≤ 20000 }
     {
         self.curricula.len() as u16
     }
 
     /// How many days there are, at most 2,000.
     pub fn days(&self) -> u16
-        ensures { result ≡ self.now.days }
+        ensures exact { result ≡ self.now.days }
+        ensures few { result ≤ 2000 }
     {
         self.days
     }
 
     /// How many periods a day has, at most 2,000.
     pub fn periods(&self) -> u16
-        ensures { result ≡ self.now.periods }
+        ensures exact { result ≡ self.now.periods }
+        ensures few { result ≤ 2000 }
     {
         self.periods
     }
 
     /// How many slots there are, at most 2,000: the days times the periods of a day.
     pub fn slots(&self) -> u16
-        ensures { result ≡ slot_count self.now }
+        ensures exact { result ≡ slot_count self.now }
+        ensures few { result ≤ 2000 }
     {
         self.days * self.periods
     }
@@ -163,7 +175,8 @@ impl Instance {
     /// Who teaches a course.
     pub fn teacher(&self, course: CourseNo) -> TeacherNo
         requires { course < course_count self.now }
-        ensures { result ≡ (course_of self.now course).teacher }
+        ensures exact { result ≡ (course_of self.now course).teacher }
+        ensures within { result < teacher_count self.now }
     {
         self.courses[course.get() as usize].teacher
     }
@@ -171,7 +184,8 @@ impl Instance {
     /// How many lectures a course has, at most 999,999,999.
     pub fn lectures(&self, course: CourseNo) -> u32
         requires { course < course_count self.now }
-        ensures { result ≡ (course_of self.now course).lectures }
+        ensures exact { result ≡ (course_of self.now course).lectures }
+        ensures small { IsSmall result }
     {
         self.courses[course.get() as usize].lectures
     }
@@ -179,7 +193,8 @@ impl Instance {
     /// On how many days the lectures of a course should be spread at least, at most 999,999,999.
     pub fn min_days(&self, course: CourseNo) -> u32
         requires { course < course_count self.now }
-        ensures { result ≡ (course_of self.now course).min_days }
+        ensures exact { result ≡ (course_of self.now course).min_days }
+        ensures small { IsSmall result }
     {
         self.courses[course.get() as usize].min_days
     }
@@ -187,7 +202,8 @@ impl Instance {
     /// How many students attend a course, at most 999,999,999.
     pub fn students(&self, course: CourseNo) -> u32
         requires { course < course_count self.now }
-        ensures { result ≡ (course_of self.now course).students }
+        ensures exact { result ≡ (course_of self.now course).students }
+        ensures small { IsSmall result }
     {
         self.courses[course.get() as usize].students
     }
@@ -195,7 +211,8 @@ impl Instance {
     /// How many seats a room has, at most 999,999,999.
     pub fn capacity(&self, room: RoomNo) -> u32
         requires { room < room_count self.now }
-        ensures { result ≡ capacity_of self.now room }
+        ensures exact { result ≡ capacity_of self.now room }
+        ensures small { IsSmall result }
     {
         self.capacities[room.get() as usize]
     }
@@ -203,7 +220,8 @@ impl Instance {
     /// The courses of a curriculum, in the order in which the file first names them, each once.
     pub fn members(&self, curriculum: CurriculumNo) -> &[CourseNo]
         requires { curriculum < curriculum_count self.now }
-        ensures { result.now ≡ members self.now curriculum }
+        ensures exact { result.now ≡ members self.now curriculum }
+        ensures within { AreMembers (course_count self.now) result.now }
     {
         &self.curricula[curriculum.get() as usize]
     }
@@ -211,7 +229,9 @@ impl Instance {
     /// The curricula of which a course is a member, ascending.
     pub fn curricula_of(&self, course: CourseNo) -> &[CurriculumNo]
         requires { course < course_count self.now }
-        ensures { result.now ≡ curricula_of self.now course }
+        ensures exact { result.now ≡ curricula_of self.now course }
+        ensures within { Each (λ curriculum. curriculum < curriculum_count self.now) result.now }
+        ensures few { length result.now ≤ 20000 }
     {
         &self.belonging[course.get() as usize]
     }
@@ -222,7 +242,15 @@ impl Instance {
         requires other { other < course_count self.now }
         ensures { result ≡ clash self.now course other }
     {
-        self.clashes[course.get() as usize * self.courses.len() + other.get() as usize]
+        self.clashes[course.get() as usize].is_marked(other.get() as usize)
+    }
+
+    /// The courses that clash with a course.
+    pub fn clashing(&self, course: CourseNo) -> &Marks
+        requires { course < course_count self.now }
+        ensures { (d : ℕ) → is_marked result.now d ≡ (nat_lt d (course_count self.now) && clash self.now course d) }
+    {
+        &self.clashes[course.get() as usize]
     }
 
     /// Whether a course is unavailable in a slot.
@@ -239,7 +267,8 @@ impl Instance {
     pub fn slot_of(&self, day: u16, period: u16) -> SlotNo
         requires day { day < self.now.days }
         requires period { period < self.now.periods }
-        ensures { result ≡ slot_of self.now day period }
+        ensures exact { result ≡ slot_of self.now day period }
+        ensures within { result < slot_count self.now }
     {
         SlotNo::new(day * self.periods + period)
     }
@@ -247,7 +276,8 @@ impl Instance {
     /// The day of a slot.
     pub fn day_of(&self, slot: SlotNo) -> u16
         requires { slot < slot_count self.now }
-        ensures { result ≡ day_of self.now slot }
+        ensures exact { result ≡ day_of self.now slot }
+        ensures within { result < self.now.days }
     {
         slot.get() / self.periods
     }
@@ -255,7 +285,8 @@ impl Instance {
     /// The period of a slot in its day.
     pub fn period_of(&self, slot: SlotNo) -> u16
         requires { slot < slot_count self.now }
-        ensures { result ≡ period_of self.now slot }
+        ensures exact { result ≡ period_of self.now slot }
+        ensures within { result < self.now.periods }
     {
         slot.get() % self.periods
     }

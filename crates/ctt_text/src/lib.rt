@@ -12,6 +12,7 @@ mod names;
 mod no_memory;
 mod numbers;
 mod placed;
+mod places;
 mod reader;
 mod solution;
 mod timetable;
@@ -25,6 +26,10 @@ pub use marks::Marks;
 pub use no_memory::NoMemory;
 pub use numbers::number;
 pub use placed::Placed;
+pub use places::{
+    FixedFault, PlaceFault, RoomFault, next_course, next_day, next_fixed, next_number, next_period,
+    next_room, next_word,
+};
 pub use reader::Reader;
 pub use solution::{read_solution, write_solution};
 pub use timetable::{is_before, is_timetable};

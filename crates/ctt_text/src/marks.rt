@@ -1,22 +1,27 @@
 //! Marks on small numbers, such as those of courses, slots or rooms.
 
-ghost use Rattle.std.specs.Prelude.{◌≡◌, ℕ, ◌<◌, ◌==◌, ◌||◌, false, not};
-ghost use Rattle.ctt_text.specs.Marks.{is_marked};
+ghost use Rattle.std.specs.Prelude.{◌≡◌, ℕ, ◌<◌, ◌≤◌, ◌==◌, ◌&&◌, ◌||◌, false, not, nat_le, IfSome};
+ghost use Rattle.ctt_text.specs.Marks.{is_marked, count_marked, IsLeast};
 
 use std::marker::Model;
 
-/// Which of the numbers below 2,000 are marked. It takes no memory.
-#[derive(Drop)]
+/// Which of the numbers below 2,000 are marked, a bit each. It takes no memory.
+#[derive(Clone, Copy, Debug, PartialEq, Eq)]
 pub struct Marks {
-    marked: [bool; 2000],
+    words: [u64; 32],
 }
 
 impl Model for Marks {
-    ghost use Rattle.std.specs.Prelude.{List, Bool};
+    ghost use Rattle.std.specs.Prelude.{List, ℕ};
+    ghost use Rattle.ctt_text.specs.Marks.{AreMarks};
 
-    ghost Value = { List Bool };
+    ghost Value = { List ℕ };
 
-    ghost view = { λ m. m.marked };
+    ghost view = { λ m. m.words };
+
+    ghost invariant = { λ m. AreMarks m.words };
+
+    ghost inverse = { λ words. record { words = words } };
 }
 
 impl Marks {
@@ -24,9 +29,7 @@ impl Marks {
     pub fn new() -> Self
         ensures { (n : ℕ) → is_marked result n ≡ false }
     {
-        Marks {
-            marked: [false; 2000],
-        }
+        Marks { words: [0; 32] }
     }
 
     /// Marks a number, and answers whether it was new.
@@ -35,15 +38,85 @@ impl Marks {
         ensures fresh { result ≡ not (is_marked self.old number) }
         ensures marked { (n : ℕ) → is_marked self.new n ≡ (n == number || is_marked self.old n) }
     {
-        let is_new = !self.marked[number];
-        self.marked[number] = true;
-        is_new
+        let bit = 1u64 << (number % 64);
+        let word = self.words[number / 64];
+        self.words[number / 64] = word | bit;
+        word & bit == 0
+    }
+
+    /// Takes the mark from a number, and answers whether it had one.
+    pub fn unmark(&mut self, number: usize) -> bool
+        requires { number < 2000 }
+        ensures was { result ≡ is_marked self.old number }
+        ensures marked { (n : ℕ) → is_marked self.new n ≡ (not (n == number) && is_marked self.old n) }
+    {
+        let bit = 1u64 << (number % 64);
+        let word = self.words[number / 64];
+        self.words[number / 64] = word & !bit;
+        word & bit != 0
     }
 
     /// Whether a number is marked; none from 2,000 on is.
     pub fn is_marked(&self, number: usize) -> bool
-        ensures { result ≡ is_marked self.now number }
+        ensures marked { result ≡ is_marked self.now number }
+        ensures within { 2000 ≤ number → result ≡ false }
     {
-        number < 2000 && self.marked[number]
+        number < 2000 && (self.words[number / 64] >> (number % 64)) & 1 == 1
+    }
+
+    /// Marks what other marks have too.
+    pub fn add(&mut self, other: &Self)
+        ensures { (n : ℕ) → is_marked self.new n ≡ (is_marked self.old n || is_marked other.now n) }
+    {
+        for place in 0..32 {
+            self.words[place] |= other.words[place];
+        }
+    }
+
+    /// How many numbers are marked in both.
+    pub fn common_count(&self, other: &Self) -> u32
+        ensures { result ≡ count_marked (λ n. is_marked self.now n && is_marked other.now n) }
+    {
+        let mut count = 0;
+        for place in 0..32 {
+            count += (self.words[place] & other.words[place]).count_ones();
+        }
+        count
+    }
+
+    /// The least number that is marked in both.
+    pub fn first_common(&self, other: &Self) -> Option<usize>
+        ensures least { IsLeast (λ n. is_marked self.now n && is_marked other.now n) result }
+        ensures within { IfSome result (λ n. n < 2000) }
+    {
+        for place in 0..32 {
+            let common = self.words[place] & other.words[place];
+            if common != 0 {
+                return Some(place * 64 + common.trailing_zeros() as usize);
+            }
+        }
+        None
+    }
+
+    /// The least marked number from `first` on.
+    pub fn next_from(&self, first: usize) -> Option<usize>
+        ensures least { IsLeast (λ n. nat_le first n && is_marked self.now n) result }
+        ensures within { IfSome result (λ n. n < 2000) }
+    {
+        let words = &self.words;
+        if first >= 2000 {
+            return None;
+        }
+        let here = words[first / 64] & (u64::MAX << (first % 64));
+        if here != 0 {
+            return Some(first / 64 * 64 + here.trailing_zeros() as usize);
+        }
+        for place in first / 64 + 1..32 {
+            let word = words[place];
+            if word != 0 {
+                return Some(place * 64 + word.trailing_zeros() as usize);
+            }
+        }
+        None
     }
 }

@@ -2,6 +2,7 @@ pub mod Commands
 pub mod Matches
 pub mod Rows
 pub mod Walks
+pub mod Entered
 pub mod Taken
 pub mod Known
 pub mod Causes

@@ -1,6 +1,6 @@
 -- Where `clap` finds no fault, each row of the matches is that of an argument of the command, and its first value passes.
 use Rattle.std.proofs.Common.{◌≡◌, ◌∙◌, ◌⊎◌, ◌&&◌, ◌||◌, ◌++◌, Bool, true, false, not, refl, sym, ap, inl, inr, ⊎_elim, List, [], ◌∷◌, Option, Some, None, length, nat_lt, cond, true≢false}
-use Rattle.std.specs.List.{find, fold, list_all}
+use Rattle.std.specs.List.{find, fold, list_all, list_any}
 use Rattle.std.specs.Option.{option_map_or}
 use Rattle.std.specs.Str.{bytes_eq}
 use Rattle.clap.specs.Facts.{parser_of_value, unwrap_or_range}
@@ -26,28 +26,62 @@ pub nil_second : (a b : Kinds) → or_else a b ≡ [] → b ≡ []
 nil_second [] b e = e
 nil_second (k ∷ ks) b e = cc
 
--- ---- the arguments of a command
+-- ---- what stands in a list
 
-abbrev pub IsIn : Rule → List Rule → Type 0
+abbrev pub IsIn : {A : Type 0} → A → List A → Type 0
 IsIn a [] = ⊥
 IsIn a (b ∷ c) = (a ≡ b) ⊎ IsIn a c
 
 -- what is found is the item at hand, or is found behind it
-found_here : (t : Bool) (a b : Rule) (c : List Rule) (later : Option Rule) → cond t (Some b) later ≡ Some a → (later ≡ Some a → IsIn a c) → IsIn a (b ∷ c)
+found_here : {A : Type 0} (t : Bool) (a b : A) (c : List A) (later : Option A) → cond t (Some b) later ≡ Some a → (later ≡ Some a → IsIn a c) → IsIn a (b ∷ c)
 found_here true a b c later e behind = inl (cc)
 found_here false a b c later e behind = inr (behind e)
 
-pub found_in : (p : Rule → Bool) (c : List Rule) (a : Rule) → find p c ≡ Some a → IsIn a c
+pub found_in : {A : Type 0} (p : A → Bool) (c : List A) (a : A) → find p c ≡ Some a → IsIn a c
 found_in p [] a e = cc
 found_in p (b ∷ c) a e = found_here (p b) a b c (find p c) e (λ later. found_in p c a later)
+
+holds_here : {A : Type 0} (p : A → Bool) (t : Bool) (a b : A) (later : Option A) → p b ≡ t → cond t (Some b) later ≡ Some a → (later ≡ Some a → p a ≡ true) → p a ≡ true
+holds_here p true a b later is e behind =
+    let same : b ≡ a = cc in
+    ap p (sym same) ∙ is
+holds_here p false a b later is e behind = behind e
+
+-- and it has what was looked for
+pub found_holds : {A : Type 0} (p : A → Bool) (c : List A) (a : A) → find p c ≡ Some a → p a ≡ true
+found_holds p [] a e = cc
+found_holds p (b ∷ c) a e = holds_here p (p b) a b (find p c) refl e (λ later. found_holds p c a later)
 
 both : (a b : Bool) → (a && b) ≡ true → (a ≡ true) × (b ≡ true)
 both true b e = (refl, e)
 both false b e = absurd (true≢false (sym e))
 
-pub all_in : (p : Rule → Bool) (c : List Rule) (a : Rule) → list_all p c ≡ true → IsIn a c → p a ≡ true
+pub all_in : {A : Type 0} (p : A → Bool) (c : List A) (a : A) → list_all p c ≡ true → IsIn a c → p a ≡ true
 all_in p [] a e at = absurd at
 all_in p (b ∷ c) a e at = ⊎_elim (λ same. ap p same ∙ (both (p b) (list_all p c) e).0) (λ later. all_in p c a (both (p b) (list_all p c) e).1 later) at
+
+neither : (a b : Bool) → (a || b) ≡ false → (a ≡ false) × (b ≡ false)
+neither true b e = absurd (true≢false e)
+neither false b e = (refl, e)
+
+pub none_in : {A : Type 0} (p : A → Bool) (c : List A) (a : A) → list_any p c ≡ false → IsIn a c → p a ≡ false
+none_in p [] a e at = absurd at
+none_in p (b ∷ c) a e at = ⊎_elim (λ same. ap p same ∙ (neither (p b) (list_any p c) e).0) (λ later. none_in p c a (neither (p b) (list_any p c) e).1 later) at
+
+pub record HasOne {A : Type 0} (p : A → Bool) (c : List A) : Type 0 where
+  pub one : A
+  pub is_in : IsIn one c
+  pub holds : p one ≡ true
+
+one_here : {A : Type 0} (p : A → Bool) (t : Bool) (b : A) (c : List A) → p b ≡ t → (t || list_any p c) ≡ true → (list_any p c ≡ true → HasOne p c) → HasOne p (b ∷ c)
+one_here p true b c is e behind = record { one = b; is_in = inl refl; holds = is }
+one_here p false b c is e behind =
+    let later = behind e in
+    record { one = later.one; is_in = inr later.is_in; holds = later.holds }
+
+pub one_in : {A : Type 0} (p : A → Bool) (c : List A) → list_any p c ≡ true → HasOne p c
+one_in p [] e = absurd (true≢false (sym e))
+one_in p (b ∷ c) e = one_here p (p b) b c refl e (λ later. one_in p c later)
 
 -- ---- rows
 

@@ -1,7 +1,8 @@
--- The command line of the program, as far as `clap` reads words by it.
-use Rattle.std.specs.Prelude.{◌≡◌, ℕ, List, codes, true, false, Some}
+-- The command line of the program, as far as `clap` reads words by it, and what it finds.
+use Rattle.std.specs.Prelude.{◌≡◌, ◌⊎◌, ℕ, Bool, List, codes, true, false, Option, Some, None}
+use Rattle.std.specs.Str.{bytes_eq}
 use Rattle.clap.specs.Simple.{on_top}
-use Rattle.clap.specs.Words.{App, Rule, app_of, new_app, new_rule, with_rule, with_subcommand}
+use Rattle.clap.specs.Words.{App, Rule, Text, app_of, new_app, new_rule, with_rule, with_subcommand}
 use Rattle.clap.specs.declared.builder.Command.{Command}
 use Rattle.clap.specs.declared.builder.Command.TheViews.{out-Command}
 use Rattle.clap.specs.declared.builder.action.ArgAction.TheVariants.{SetTrue}
@@ -19,9 +20,9 @@ unfoldable pub check : App
 check = with_rule (with_rule (with_rule (new_app (codes "check"))
     (required_word (codes "instance"))) (required_word (codes "solution"))) (flag (codes "json"))
 
--- the program alone: a command has to be given
+-- the program alone: it has a version, and a command has to be given
 abbrev pub bare : App
-bare = on_top (λ s. record s { subcommand_required = true }) (new_app (codes "timedesk"))
+bare = on_top (λ s. record s { has_version = true; subcommand_required = true }) (new_app (codes "timedesk"))
 
 -- the program with its commands
 unfoldable pub timedesk : App
@@ -31,3 +32,13 @@ timedesk = with_subcommand bare check.top
 pub record IsCommand (app : App) (command : Command) : Type 0 where
   pub reads_by : app_of command ≡ app
   pub is_local : (out-Command command).has_globals ≡ false
+
+-- what is found for an option that is given or not
+abbrev pub IsOnOrOff : Option Text → Type 0
+IsOnOrOff None = Unit {0}
+IsOnOrOff (Some text) = (text ≡ codes "true") ⊎ (text ≡ codes "false")
+
+-- whether it is given
+abbrev pub is_on : Option Text → Bool
+is_on None = false
+is_on (Some text) = bytes_eq text (codes "true")

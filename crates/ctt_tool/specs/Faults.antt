@@ -1,5 +1,5 @@
 -- The faults of the program: their numbers and their statuses.
-use Rattle.std.specs.Prelude.{◌≡◌, ◌++◌, ℕ, List, Option, codes}
+use Rattle.std.specs.Prelude.{◌≡◌, ◌⊎◌, ◌++◌, ◌<◌, ℕ, List, [], ◌∷◌, Option, IfSome, codes, length}
 use Rattle.std.specs.Global.{Global}
 use Rattle.std.specs.Io.KnownBytes.{Appends}
 use Rattle.std.specs.String.{string_bytes}
@@ -84,7 +84,7 @@ IfUnwritten WordsNotText P Q = Q
 abbrev pub EndsLine : List ℕ → Type 0
 EndsLine bytes = (front : List ℕ) × (bytes ≡ front ++ codes "\n")
 
--- what is said of the fault: the text of refused words as it is, and else a text with its line's end
+-- what is said of the fault: the text of refused words as it is, of wanted memory this line, and else a text with its line's end
 abbrev pub IsLineOf : Fault → List ℕ → Type 0
 IsLineOf (Words text) bytes = bytes ≡ string_bytes text
 IsLineOf (Instance number at) bytes = EndsLine bytes
@@ -93,12 +93,23 @@ IsLineOf (CannotRead name) bytes = EndsLine bytes
 IsLineOf (TooLong name) bytes = EndsLine bytes
 IsLineOf WordsNotText bytes = EndsLine bytes
 IsLineOf CannotWrite bytes = EndsLine bytes
-IsLineOf NoMemory bytes = EndsLine bytes
+IsLineOf NoMemory bytes = bytes ≡ codes "timedesk: no memory\n"
 
 -- such a line is said
 abbrev pub SaysLineOf : Fault → Option (List ℕ) → Option (List ℕ) → Type 0
 SaysLineOf fault old new = (bytes : List ℕ) × IsLineOf fault bytes × Appends old new bytes
 
--- the line of some fault of this status is said
-abbrev pub SaysFault : ℕ → Option (List ℕ) → Option (List ℕ) → Type 0
-SaysFault status old new = (fault : Fault) × (status_of fault ≡ status) × SaysLineOf fault old new
+-- the line of a fault of this status, for which there is cause, is said
+abbrev pub SaysFault : (Fault → Type 0) → ℕ → Option (List ℕ) → Option (List ℕ) → Type 0
+SaysFault HasCause status old new = (fault : Fault) × HasCause fault × (status_of fault ≡ status) × SaysLineOf fault old new
+
+-- one of these files
+abbrev pub IsOneOf : String Global → List (String Global) → Type 0
+IsOneOf name [] = ⊥
+IsOneOf name (other ∷ others) = (name ≡ other) ⊎ IsOneOf name others
+
+-- a file that cannot be read is one of these, and so is one that is too long, which then tells no less bytes
+abbrev pub IsOfFiles : List (String Global) → (List ℕ → Option (List ℕ)) → Fault → Type 0
+IsOfFiles names held (CannotRead name) = IsOneOf name names
+IsOfFiles names held (TooLong name) = IsOneOf name names × IfSome (held (string_bytes name)) (λ text. 67108864 < length text)
+IsOfFiles names held _ = Unit {0}

@@ -1,25 +1,16 @@
 -- Which job the words of a command line ask for, and what is said where they ask for none.
-use Rattle.std.specs.Prelude.{◌≡◌, ◌≢◌, ◌⊎◌, Bool, false, List, Option, Some, None, IsSome, codes}
-use Rattle.std.specs.Str.{bytes_eq}
+use Rattle.std.specs.Prelude.{◌≡◌, ◌≢◌, ◌⊎◌, Bool, List, [], ◌∷◌, Option, Some, IsSome, codes}
+use Rattle.std.specs.Global.{Global}
 use Rattle.std.specs.String.{string_bytes}
+use Rattle.std.specs.declared.string.String.{String}
 use Rattle.clap.specs.Words.{IsAmong, Kinds, Row, Text, fault_of, first_of, one_of, subcommand_of}
 use Rattle.clap.specs.declared.error.kind.ErrorKind.{ErrorKind}
-use Rattle.clap.specs.declared.error.kind.ErrorKind.TheVariants.{DisplayHelp, OutOfMemory}
-use Rattle.ctt_tool.specs.CommandLine.{timedesk}
+use Rattle.clap.specs.declared.error.kind.ErrorKind.TheVariants.{DisplayHelp, DisplayVersion, OutOfMemory}
+use Rattle.ctt_tool.specs.CommandLine.{IsOnOrOff, is_on, timedesk}
 use Rattle.ctt_tool.specs.declared.job.Job.{Job}
 use Rattle.ctt_tool.specs.declared.job.Job.TheVariants.{Check}
 use Rattle.ctt_tool.specs.declared.job.WordsFault.{WordsFault}
 use Rattle.ctt_tool.specs.declared.job.WordsFault.TheVariants.{Help, NoMemory, Refused}
-
--- what is found for an option that is given or not
-abbrev pub IsOnOrOff : Option Text → Type 0
-IsOnOrOff None = Unit {0}
-IsOnOrOff (Some text) = (text ≡ codes "true") ⊎ (text ≡ codes "false")
-
--- whether it is given
-abbrev pub is_on : Option Text → Bool
-is_on None = false
-is_on (Some text) = bytes_eq text (codes "true")
 
 -- the matches of `check` have what it needs
 pub record NamesFiles (rows : List Row) : Type 0 where
@@ -43,6 +34,10 @@ IsJobBy matched (Check instance solution json) = (rows : List Row)
     × (matched ≡ Some (codes "check", rows))
     × HasCheck rows (string_bytes instance) (string_bytes solution) json
 
+-- the files that the job reads
+abbrev pub files_of : Job → List (String Global)
+files_of (Check instance solution json) = instance ∷ solution ∷ []
+
 -- the job is that of the command that `clap` finds in the words, with what its matches have
 abbrev pub IsJobOf : List Text → Job → Type 0
 IsJobOf words = IsJobBy (subcommand_of timedesk words)
@@ -51,18 +46,26 @@ IsJobOf words = IsJobBy (subcommand_of timedesk words)
 abbrev pub faults_of : List Text → Kinds
 faults_of words = fault_of timedesk words
 
+-- this is no fault, but help or the version
+abbrev pub IsHelp : ErrorKind → Type 0
+IsHelp kind = (kind ≡ DisplayHelp) ⊎ (kind ≡ DisplayVersion)
+
 -- a fault of this kind
 abbrev pub IsOfKind : ErrorKind → WordsFault → Type 0
-IsOfKind kind (Help text) = kind ≡ DisplayHelp
-IsOfKind kind (Refused text) = (kind ≢ DisplayHelp) × (kind ≢ OutOfMemory)
+IsOfKind kind (Help text) = IsHelp kind
+IsOfKind kind (Refused text) = (kind ≢ DisplayHelp) × (kind ≢ DisplayVersion) × (kind ≢ OutOfMemory)
 IsOfKind kind NoMemory = Unit {0}
+
+-- help or the version is among these kinds
+abbrev pub IsRequest : Kinds → Type 0
+IsRequest kinds = IsAmong DisplayHelp kinds ⊎ IsAmong DisplayVersion kinds
+
+-- a kind of fault is among these that is neither
+abbrev pub IsRefusal : Kinds → Type 0
+IsRefusal kinds = (kind : ErrorKind) × IsAmong kind kinds × (kind ≢ DisplayHelp) × (kind ≢ DisplayVersion)
 
 -- a fault of one of these kinds: help where it is asked for, and else a refusal
 abbrev pub IsOfKinds : Kinds → WordsFault → Type 0
-IsOfKinds kinds (Help text) = IsAmong DisplayHelp kinds
-IsOfKinds kinds (Refused text) = (kind : ErrorKind) × IsAmong kind kinds × (kind ≢ DisplayHelp)
+IsOfKinds kinds (Help text) = IsRequest kinds
+IsOfKinds kinds (Refused text) = IsRefusal kinds
 IsOfKinds kinds NoMemory = Unit {0}
-
--- a kind of fault is among these that is no help
-abbrev pub IsRefusal : Kinds → Type 0
-IsRefusal kinds = (kind : ErrorKind) × IsAmong kind kinds × (kind ≢ DisplayHelp)

@@ -1,10 +1,10 @@
 //! The command `check`.
 
-ghost use Rattle.std.specs.Prelude.{◌≡◌, true, OnOk, IfOk, IfErr, IfSome};
+ghost use Rattle.std.specs.Prelude.{◌≡◌, [], ◌∷◌, true, OnOk, IfOk, IfErr, IfSome};
 ghost use Rattle.std.specs.String.{string_bytes};
 ghost use Rattle.ctt_text.specs.Timetable.{IsTimetable};
 ghost use Rattle.ctt_tool.specs.Checks.{IsNoSolution, IsReport, IsReportFor, IsReportOn, OneIsRefused, PrintsReport};
-ghost use Rattle.ctt_tool.specs.Faults.{IfUnwritten, IsOfTexts, status_of};
+ghost use Rattle.ctt_tool.specs.Faults.{IfUnwritten, IsOfFiles, IsOfTexts, status_of};
 
 use crate::fault::Fault;
 use crate::files::Files;
@@ -43,6 +43,7 @@ fn report_for<F: Files>(
         IfSome (F.held files.old (string_bytes solution)) (λ text.
         IsReportFor json instance.now text bytes.items)) }
     ensures fault { IfErr result IsOfTexts }
+    ensures file { IfErr result (IsOfFiles (solution ∷ []) (F.held files.old)) }
     ensures cause { IfErr result (λ fault. status_of fault ≡ 1
         → IfSome (F.held files.old (string_bytes solution)) (IsNoSolution instance.now)) }
 {
@@ -64,6 +65,7 @@ fn report_on<F: Files>(
         IfSome (F.held files.old (string_bytes solution)) (λ solution_text.
         IsReportOn json instance_text solution_text bytes.items))) }
     ensures fault { IfErr result IsOfTexts }
+    ensures file { IfErr result (IsOfFiles (instance ∷ solution ∷ []) (F.held files.old)) }
     ensures cause { IfErr result (λ fault. status_of fault ≡ 1
         → IfSome (F.held files.old (string_bytes instance)) (λ instance_text.
         IfSome (F.held files.old (string_bytes solution)) (OneIsRefused instance_text))) }
@@ -89,6 +91,7 @@ pub fn check<F: Files, W: Sink>(
     ensures fault { IfErr result (λ fault. IfUnwritten fault
         (W.has_failed out.new ≡ true)
         (IsOfTexts fault × (out.new ≡ out.old))) }
+    ensures file { IfErr result (IsOfFiles (instance ∷ solution ∷ []) (F.held files.old)) }
     ensures cause { IfErr result (λ fault. status_of fault ≡ 1
         → IfSome (F.held files.old (string_bytes instance)) (λ instance_text.
         IfSome (F.held files.old (string_bytes solution)) (OneIsRefused instance_text))) }

@@ -9,8 +9,8 @@ use ctt_text::{ReadFault, SolutionFault};
 use std::alloc::{AllocError, Global};
 use thiserror::Error;
 
-/// Why the program did not do its job. Its text is the line that the program says on standard error,
-/// without the end of the line; that of `Words` is whole.
+/// Why the program did not do its job. Its text is the line on standard error, without the end of the
+/// line; that of `Words` is whole.
 #[derive(Debug, Drop, Error)]
 pub enum Fault {
     /// The words ask for no job. The text says why.
@@ -39,6 +39,9 @@ pub enum Fault {
     NoMemory,
 }
 
+/// The line of wanted memory, which has to be told without memory.
+pub const NO_MEMORY: &str = "timedesk: no memory\n";
+
 /// A text with the end of its line.
 fn ended(mut text: String) -> Result<String, AllocError>
     ensures { IfOk result (λ line. string_bytes line ≡ string_bytes text ++ codes "\n") }
@@ -59,12 +62,13 @@ impl Fault {
         }
     }
 
-    /// The line that the program says on standard error.
+    /// The line on standard error.
     pub fn line(&self, alloc: Global) -> Result<String, AllocError>
         ensures { IfOk result (λ line. IsLineOf self.now (string_bytes line)) }
     {
         match self {
             Fault::Words(text) => text.clone(),
+            Fault::NoMemory => String::from_str(alloc, NO_MEMORY),
             _ => ended(self.to_string(alloc)?),
         }
     }

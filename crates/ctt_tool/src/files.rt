@@ -6,7 +6,8 @@ ghost use Rattle.ctt_tool.specs.Faults.{IsOfFile};
 ghost use Rattle.ctt_tool.specs.declared.fault.Fault.TheVariants.{TooLong};
 
 use crate::fault::Fault;
-use ctt_script::{Device, Failed, InputFault, Sink, Source, put_all, read_all};
+use crate::output::put_whole;
+use ctt_script::{Device, Failed, InputFault, Source, read_all};
 use std::alloc::Global;
 use std::{fs, rt};
 
@@ -66,16 +67,14 @@ impl<'r, R: rt::Files> Files for SystemFiles<'r, R> {
         let Ok(file) = fs::create(self.rt, name) else {
             return Err(Failed);
         };
-        let mut device = Device::new(file);
-        put_all(&mut device, bytes)?;
-        device.flush()
+        put_whole(&mut Device::new(file), bytes)
     }
 }
 
 /// The most bytes that an input may have: 64 MiB.
 pub const INPUT_LIMIT: usize = 67_108_864;
 
-/// All bytes of a file.
+/// All bytes of a file, of which no read is tried again.
 pub fn read_file<F: Files>(alloc: Global, files: &mut F, name: String) -> Result<Vec<u8>, Fault>
     ensures all { IfOk result (λ bytes.
         IfSome (F.held files.old (string_bytes name)) (λ held. bytes.items ≡ held)) }

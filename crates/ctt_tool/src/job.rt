@@ -11,7 +11,7 @@ use clap::{Arg, ArgAction, ArgMatches, Command};
 use std::alloc::{AllocError, Global};
 
 /// What the program is asked to do. Files are given by their names.
-#[derive(Debug, Drop)]
+#[derive(Clone, Debug, Drop, PartialEq)]
 pub enum Job {
     /// To report on a solution of an instance.
     Check {
@@ -26,7 +26,7 @@ pub enum Job {
 pub enum WordsFault {
     /// The words form no command of the program. The text says why.
     Refused(String),
-    /// The words ask for this help.
+    /// The words ask for this help, or for the version.
     Help(String),
     /// No memory was left.
     NoMemory,
@@ -79,12 +79,22 @@ fn check_command<'a>(alloc: Global) -> Result<Command<'a>, AllocError>
         .arg(json)
 }
 
+/// What stands below the help.
+const STATUSES: &str = "\
+Status: 0 where it is done, also where a report says that a solution is unlawful;
+1 where the content of a file is refused, 2 where the words are;
+3 where a file cannot be read, is too long, or output or memory fails.
+A refused file is one line, as in 'timedesk: instance I2 14': docs/FORMATS.md has
+each fault by its number, and how to see the word that it names.";
+
 /// The command line of the program.
 fn command_line<'a>(alloc: Global) -> Result<Command<'a>, AllocError>
     ensures { IfOk result (IsCommand timedesk) }
 {
     Command::new(alloc, "timedesk")
         .about("A shared desk for curriculum-based course timetabling")
+        .version("0.1.0")
+        .after_help(STATUSES)
         .subcommand_required(true)
         .subcommand(check_command(alloc)?)
 }
@@ -98,7 +108,7 @@ fn fault_of_words(alloc: Global, error: clap::Error) -> WordsFault
         return WordsFault::NoMemory;
     };
     match kind {
-        ErrorKind::DisplayHelp => WordsFault::Help(text),
+        ErrorKind::DisplayHelp | ErrorKind::DisplayVersion => WordsFault::Help(text),
         ErrorKind::OutOfMemory => WordsFault::NoMemory,
         _ => WordsFault::Refused(text),
     }

@@ -9,17 +9,23 @@ mod output;
 mod program;
 mod texts;
 
-ghost use Rattle.std.specs.Prelude.{◌≡◌, ◌≤◌, false, IfOk};
+ghost use Rattle.std.specs.Prelude.{◌≡◌, ◌≢◌, ◌≤◌, ◌⊎◌, ℕ, List, true, false, IfErr};
+ghost use Rattle.ctt_tool.specs.Faults.{SaysFault};
+ghost use Rattle.ctt_tool.specs.Work.{AsksForRefusedText, DoesAsAsked};
+ghost use Rattle.ctt_tool.specs.declared.fault.Fault.TheVariants.{NoMemory, WordsNotText};
 
 use ctt_script::{Device, Sink};
 use fault::Fault;
-use files::SystemFiles;
-use program::{program, tell};
+use files::{Files, SystemFiles};
+use program::{fail_with, program};
+use std::alloc::AllocError;
 use std::process::ExitCode;
 use std::{env, io};
 
 /// The words of the command line, of which the first is the program's name.
-fn owned_words(rt: &HostRuntime) -> Result<Vec<String>, Fault> {
+fn owned_words(rt: &HostRuntime) -> Result<Vec<String>, Fault>
+    ensures { IfErr result (λ fault. (fault ≡ WordsNotText) ⊎ (fault ≡ NoMemory)) }
+{
     match env::args(rt) {
         Ok(words) => Ok(words.collect(rt.alloc())?),
         Err(error) if error.kind() == io::ErrorKind::OutOfMemory => Err(Fault::NoMemory),
@@ -27,25 +33,42 @@ fn owned_words(rt: &HostRuntime) -> Result<Vec<String>, Fault> {
     }
 }
 
-/// Hands the program its words, the files and the standard streams.
-fn run<V: Sink>(rt: &HostRuntime, err: &mut V) -> Result<u8, Fault>
-    requires { V.has_failed err.old ≡ false }
-    ensures known { IfOk result (λ status. status ≤ 3) }
-    ensures unsaid { IfOk result (λ status. status ≡ 0 → err.new ≡ err.old) }
+/// Does what the words of the command line ask for, as `program` does.
+fn run<F: Files, W: Sink, V: Sink>(rt: &HostRuntime, files: &mut F, out: &mut W, err: &mut V) -> u8
+    requires out { W.has_failed out.old ≡ false }
+    requires err { V.has_failed err.old ≡ false }
+
+    ensures known { result ≤ 3 }
+    ensures done { result ≡ 0 → (words : List (List ℕ)) × DoesAsAsked words (F.held files.old)
+        (W.taken out.old) (W.taken out.new) }
+    ensures unmarked { result ≡ 0 → W.has_failed out.new ≡ false }
+    ensures unsaid { result ≡ 0 → err.new ≡ err.old }
+    ensures cause { result ≡ 1 → (words : List (List ℕ)) × AsksForRefusedText words (F.held files.old) }
+    ensures rejected { result ≡ 1 → out.new ≡ out.old }
+    ensures unprinted { result ≡ 2 → out.new ≡ out.old }
+    ensures unwritten { W.has_failed out.new ≡ true → result ≡ 3 }
+    ensures said { result ≢ 0 → (V.has_failed err.new ≡ true)
+        ⊎ SaysFault (λ _. Unit {0}) result (V.taken err.old) (V.taken err.new) }
 {
-    let owned = owned_words(rt)?;
-    let words: Vec<&str> = owned.iter().map(|word| word.as_str()).collect(rt.alloc())?;
-    let mut files = SystemFiles::new(rt);
-    let mut out = Device::new(rt.stdout());
-    Ok(program(rt, &words, &mut files, &mut out, err))
+    let owned = match owned_words(rt) {
+        Ok(owned) => owned,
+        Err(fault) => return fail_with(rt.alloc(), &fault, err),
+    };
+    let words: Result<Vec<&str>, AllocError> = owned
+        .iter()
+        .map(|word| word.as_str())
+        .collect(rt.alloc());
+    let Ok(words) = words else {
+        return fail_with(rt.alloc(), &Fault::NoMemory, err);
+    };
+    program(rt, &words, files, out, err)
 }
 
 fn main(rt: HostRuntime) -> ExitCode {
+    let mut files = SystemFiles::new(&rt);
+    let mut out = Device::new(rt.stdout());
     let mut err = Device::new(rt.stderr());
-    match run(&rt, &mut err) {
-        Ok(status) => ExitCode::from(status),
-        Err(fault) => ExitCode::from(tell(rt.alloc(), &fault, &mut err)),
-    }
+    ExitCode::from(run(&rt, &mut files, &mut out, &mut err))
 }
 
 #[cfg(test)]

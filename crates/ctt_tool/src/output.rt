@@ -1,32 +1,42 @@
-//! What the program prints and says.
+//! What the program prints, and what it says on standard error.
 
 ghost use Rattle.std.specs.Prelude.{◌≡◌, ◌⊎◌, true, false, OnOk, OnErr, IfErr};
 ghost use Rattle.std.specs.Io.KnownBytes.{Appends};
 ghost use Rattle.ctt_tool.specs.declared.fault.Fault.TheVariants.{CannotWrite};
 
 use crate::fault::Fault;
-use ctt_script::{Sink, put_all};
+use ctt_script::{Failed, Sink, put_all};
 
-/// Prints a whole text, and passes it on.
+/// Writes a whole text, and passes it on.
+pub fn put_whole<W: Sink>(writer: &mut W, text: &[u8]) -> Result<(), Failed>
+    ensures all { OnOk result (Appends (W.taken writer.old) (W.taken writer.new) text.now) }
+    ensures unmarked { OnOk result (W.has_failed writer.new ≡ W.has_failed writer.old) }
+    ensures marked { OnErr result (W.has_failed writer.new ≡ true) }
+{
+    put_all(writer, text)?;
+    writer.flush()
+}
+
+/// Prints a whole text on standard output.
 pub fn print<W: Sink>(out: &mut W, text: &[u8]) -> Result<(), Fault>
     ensures printed { OnOk result (Appends (W.taken out.old) (W.taken out.new) text.now) }
     ensures unmarked { OnOk result (W.has_failed out.new ≡ W.has_failed out.old) }
     ensures marked { OnErr result (W.has_failed out.new ≡ true) }
     ensures fault { IfErr result (λ fault. fault ≡ CannotWrite) }
 {
-    if put_all(out, text).is_err() || out.flush().is_err() {
-        return Err(Fault::CannotWrite);
+    match put_whole(out, text) {
+        Ok(()) => Ok(()),
+        Err(_) => Err(Fault::CannotWrite),
     }
-    Ok(())
 }
 
-/// Says a whole text, where that can be done.
-pub fn say<V: Sink>(err: &mut V, text: &[u8])
+/// Writes a whole text on standard error, where that can be done.
+pub fn complain<V: Sink>(err: &mut V, text: &[u8])
     ensures { (V.has_failed err.new ≡ true)
         ⊎ ((V.has_failed err.new ≡ V.has_failed err.old)
         × Appends (V.taken err.old) (V.taken err.new) text.now) }
 {
-    match print(err, text) {
+    match put_whole(err, text) {
         Ok(()) => {}
         Err(_) => {}
     }

@@ -1,15 +1,16 @@
 //! What the program does.
 
 ghost use Rattle.std.specs.Prelude.{◌≡◌, ◌≢◌, ◌≤◌, ◌⊎◌, [], true, false, map, OnOk, IfErr};
-ghost use Rattle.ctt_tool.specs.Faults.{IfUnwritten, IsOfTexts, SaysFault, SaysLineOf, status_of};
-ghost use Rattle.ctt_tool.specs.Jobs.{IsRefusal, faults_of};
-ghost use Rattle.ctt_tool.specs.Work.{AsksForRefusedText, DoesAsAsked, DoesJob, HasRefusedText};
+ghost use Rattle.ctt_tool.specs.Faults.{IfUnwritten, IsOfFiles, IsOfTexts, SaysFault, status_of};
+ghost use Rattle.ctt_tool.specs.Jobs.{IsRefusal, faults_of, files_of};
+ghost use Rattle.ctt_tool.specs.Work.{AsksForRefusedText, DoesAsAsked, DoesJob, HasCause, HasRefusedText};
+ghost use Rattle.ctt_tool.specs.declared.fault.Fault.TheVariants.{NoMemory};
 
 use crate::check::check;
-use crate::fault::Fault;
+use crate::fault::{Fault, NO_MEMORY};
 use crate::files::Files;
 use crate::job::{Job, WordsFault, read_words};
-use crate::output::{print, say};
+use crate::output::{complain, print};
 use ctt_script::Sink;
 use std::alloc::Global;
 
@@ -25,6 +26,7 @@ fn do_job<F: Files, W: Sink>(
     ensures fault { IfErr result (λ fault. IfUnwritten fault
         (W.has_failed out.new ≡ true)
         (IsOfTexts fault × (out.new ≡ out.old))) }
+    ensures file { IfErr result (IsOfFiles (files_of job) (F.held files.old)) }
     ensures cause { IfErr result (λ fault. status_of fault ≡ 1 → HasRefusedText job (F.held files.old)) }
 {
     match job {
@@ -36,8 +38,8 @@ fn do_job<F: Files, W: Sink>(
     }
 }
 
-/// Does the job that the words ask for.
-fn work<F: Files, W: Sink>(
+/// Does the job that the words ask for, or gives help.
+fn do_as_asked<F: Files, W: Sink>(
     alloc: Global,
     words: &[&str],
     files: &mut F,
@@ -55,6 +57,8 @@ fn work<F: Files, W: Sink>(
         → AsksForRefusedText (map (λ word. word.now) words.now) (F.held files.old)) }
     ensures taken { IfErr result (λ fault. status_of fault ≡ 1
         → faults_of (map (λ word. word.now) words.now) ≡ []) }
+    ensures machine { IfErr result (HasCause (map (λ word. word.now) words.now) (F.held files.old)
+        (W.has_failed out.new)) }
 {
     match read_words(alloc, words) {
         Ok(job) => do_job(alloc, job, files, out),
@@ -64,21 +68,22 @@ fn work<F: Files, W: Sink>(
     }
 }
 
-/// Says why a job was not done, and answers the status.
-pub fn tell<V: Sink>(alloc: Global, fault: &Fault, err: &mut V) -> u8
+/// Says on standard error why a job was not done, and answers the status.
+///
+/// Where no memory is left for the line, that is said instead.
+pub fn fail_with<V: Sink>(alloc: Global, fault: &Fault, err: &mut V) -> u8
     ensures status { (result ≡ status_of fault.now) ⊎ (result ≡ 3) }
-    ensures said { result ≡ status_of fault.now → (V.has_failed err.new ≡ true)
-        ⊎ SaysLineOf fault.now (V.taken err.old) (V.taken err.new) }
-    ensures some { (V.has_failed err.new ≡ true)
-        ⊎ SaysFault result (V.taken err.old) (V.taken err.new) }
+    ensures said { (V.has_failed err.new ≡ true)
+        ⊎ SaysFault (λ told. (told ≡ fault.now) ⊎ (told ≡ NoMemory)) result
+        (V.taken err.old) (V.taken err.new) }
 {
     match fault.line(alloc) {
         Ok(line) => {
-            say(err, line.as_bytes());
+            complain(err, line.as_bytes());
             fault.status()
         }
         Err(_) => {
-            say(err, b"timedesk: no memory\n");
+            complain(err, NO_MEMORY.as_bytes());
             3
         }
     }
@@ -108,13 +113,14 @@ pub fn program<R: AllocGlobal, F: Files, W: Sink, V: Sink>(
     ensures rejected { result ≡ 1 → out.new ≡ out.old }
     ensures refused { result ≡ 2 → IsRefusal (faults_of (map (λ word. word.now) words.now)) }
     ensures said { result ≢ 0 → (V.has_failed err.new ≡ true)
-        ⊎ SaysFault result (V.taken err.old) (V.taken err.new) }
+        ⊎ SaysFault (HasCause (map (λ word. word.now) words.now) (F.held files.old) (W.has_failed out.new))
+        result (V.taken err.old) (V.taken err.new) }
     ensures unprinted { result ≡ 2 → out.new ≡ out.old }
     ensures unwritten { W.has_failed out.new ≡ true → result ≡ 3 }
 {
     let alloc = rt.alloc();
-    match work(alloc, words, files, out) {
+    match do_as_asked(alloc, words, files, out) {
         Ok(()) => 0,
-        Err(fault) => tell(alloc, &fault, err),
+        Err(fault) => fail_with(alloc, &fault, err),
     }
 }

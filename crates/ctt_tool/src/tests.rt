@@ -1,20 +1,27 @@
 ghost use Rattle.std.specs.Prelude.{◌≡◌, false, Some, None, option_map};
 
-use crate::files::Files;
+use crate::files::{Files, SystemFiles, read_file};
+use crate::job::{Job, WordsFault, read_words};
+use crate::output::put_whole;
 use crate::program::program;
 use ctt_script::{Failed, Sink, Source};
+use std::alloc::AllocError;
+use std::fs;
 use std::process::Abort;
 use std::test::Fail;
 
-/// A file in memory that tells its bytes, or one of zeros without an end.
+/// A file in memory that tells its bytes, or one of zeros without an end, which may fail at its second
+/// read.
 #[derive(Drop)]
 struct MemoryFile<'a> {
     bytes: Option<&'a [u8]>,
+    breaks: bool,
+    failed: bool,
     pulls: u64,
 }
 
 impl<'a> Source for MemoryFile<'a> {
-    ghost has_failed = { λ _. false };
+    ghost has_failed = { λ file. file.failed };
 
     ghost pulls = { λ file. file.pulls };
 
@@ -22,6 +29,10 @@ impl<'a> Source for MemoryFile<'a> {
 
     fn pull(&mut self, buffer: &mut [u8]) -> Result<usize, Failed> {
         self.pulls = self.pulls.saturating_add(1);
+        if self.breaks && self.pulls == 2 {
+            self.failed = true;
+            return Err(Failed);
+        }
         let Some(bytes) = self.bytes else {
             buffer.fill(0);
             return Ok(buffer.len());
@@ -36,7 +47,10 @@ impl<'a> Source for MemoryFile<'a> {
 /// The file of zeros without an end.
 const ENDLESS: &str = "endless";
 
-/// Files in memory by their names, and the endless one.
+/// The file of zeros whose second read fails.
+const BREAKING: &str = "breaking";
+
+/// Files in memory by their names, and the two of zeros.
 #[derive(Drop)]
 struct MemoryFiles<'a> {
     files: &'a [(&'a str, &'a [u8])],
@@ -48,9 +62,11 @@ impl<'a> Files for MemoryFiles<'a> {
     ghost held = { λ _ _. None };
 
     fn fetch(&mut self, name: &str) -> Result<MemoryFile<'a>, Failed> {
-        if name == ENDLESS {
+        if name == ENDLESS || name == BREAKING {
             return Ok(MemoryFile {
                 bytes: None,
+                breaks: name == BREAKING,
+                failed: false,
                 pulls: 0,
             });
         }
@@ -58,6 +74,8 @@ impl<'a> Files for MemoryFiles<'a> {
             if *known == name {
                 return Ok(MemoryFile {
                     bytes: Some(bytes),
+                    breaks: false,
+                    failed: false,
                     pulls: 0,
                 });
             }
@@ -253,6 +271,8 @@ fn says_which_file_cannot_be_read(rt: HostRuntime) {
         ("i", "no", "timedesk: cannot read no\n", 3),
         (ENDLESS, "no", "timedesk: too long endless\n", 3),
         ("i", ENDLESS, "timedesk: too long endless\n", 3),
+        (BREAKING, "no", "timedesk: cannot read breaking\n", 3),
+        ("i", BREAKING, "timedesk: cannot read breaking\n", 3),
         ("bad", "no", "timedesk: instance I2 2\n", 1),
     ] {
         let words = ["timedesk", "check", instance, solution];
@@ -297,9 +317,13 @@ fn assert_words(rt: &(impl Abort + AllocGlobal), words: &[&str], status: u8) {
     assert_eq!(rt; err.held.is_empty(), status == 0);
 }
 
+const NO_COMMAND: &str =
+    "error: 'timedesk' requires a subcommand but one was not provided\n  [subcommands: check, help]\n\nUsage: timedesk <COMMAND>\n\nFor more information, try '--help'.\n";
+
 #[test]
 fn refuses_words_and_gives_help(rt: HostRuntime) {
-    assert_words(&rt, &["timedesk"], 2);
+    assert_ends(&rt, &["timedesk"], &[], "", NO_COMMAND, 2);
+    assert_ends(&rt, &["timedesk", "-V"], &[], "timedesk 0.1.0\n", "", 0);
     assert_words(&rt, &["timedesk", "run", "i", "s"], 2);
     assert_words(&rt, &["timedesk", "check", "i"], 2);
     assert_words(&rt, &["timedesk", "check", "i", "s", "t"], 2);
@@ -307,4 +331,74 @@ fn refuses_words_and_gives_help(rt: HostRuntime) {
     assert_words(&rt, &["timedesk", "--help"], 0);
     assert_words(&rt, &["timedesk", "help"], 0);
     assert_words(&rt, &["timedesk", "check", "--help"], 0);
+}
+
+/// Asserts that words ask to check the files `i` and `s`.
+fn assert_asks(
+    rt: &(impl Abort + AllocGlobal),
+    words: &[&str],
+    json: bool,
+) -> Result<(), AllocError> {
+    let wanted = Job::Check {
+        instance: String::from_str(rt.alloc(), "i")?,
+        solution: String::from_str(rt.alloc(), "s")?,
+        json,
+    };
+    let copy = wanted.clone()?;
+    assert!(rt; copy == wanted);
+    let job = read_words(rt.alloc(), words);
+    assert!(rt; job.is_ok_and(|job| job == wanted));
+    Ok(())
+}
+
+#[test]
+fn reads_the_words_of_a_check(rt: HostRuntime) -> Result<(), Fail> {
+    assert_asks(&rt, &["timedesk", "check", "i", "s"], false)?;
+    assert_asks(&rt, &["timedesk", "check", "i", "s", "--json"], true)?;
+    Ok(())
+}
+
+#[test]
+fn tells_refused_words_from_help(rt: HostRuntime) {
+    for words in [
+        ["timedesk", "run"],
+        ["timedesk", "check"],
+        ["timedesk", "--xml"],
+    ] {
+        let refused = read_words(rt.alloc(), &words);
+        assert!(rt; matches!(&refused, Err(WordsFault::Refused(text)) if !text.is_empty()));
+    }
+    for words in [
+        ["timedesk", "help"],
+        ["timedesk", "-h"],
+        ["timedesk", "--version"],
+    ] {
+        let help = read_words(rt.alloc(), &words);
+        assert!(rt; matches!(&help, Err(WordsFault::Help(text)) if !text.is_empty()));
+    }
+}
+
+#[test]
+fn stores_a_whole_file(rt: HostRuntime) -> Result<(), Fail> {
+    let mut files = SystemFiles::new(&rt);
+    let name = "stored";
+    for text in ["a longer text\n", "text\n", ""] {
+        assert_eq!(rt; files.store(name, text.as_bytes()), Ok(()));
+        let held = read_file(rt.alloc(), &mut files, String::from_str(rt.alloc(), name)?);
+        assert!(rt; held.is_ok_and(|held| held.as_slice() == text.as_bytes()));
+    }
+    fs::remove_file(&rt, name)?;
+    assert_eq!(rt; files.store("no/folder", b"text"), Err(Failed));
+    assert_eq!(rt; files.store("/dev/full", b"text"), Err(Failed));
+    Ok(())
+}
+
+#[test]
+fn writes_a_front_where_it_fails_half_way(rt: HostRuntime) {
+    let mut shelf = make_shelf(&rt, 4, true);
+    assert_eq!(rt; put_whole(&mut shelf, b"journal"), Err(Failed));
+    assert_eq!(rt; shelf.held.as_slice(), b"jour".as_slice());
+    let mut unflushed = make_shelf(&rt, 100, false);
+    assert_eq!(rt; put_whole(&mut unflushed, b"journal"), Err(Failed));
+    assert_eq!(rt; unflushed.held.as_slice(), b"journal".as_slice());
 }

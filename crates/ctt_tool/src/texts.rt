@@ -1,10 +1,10 @@
 //! Instances and solutions by the names of their files.
 
-ghost use Rattle.std.specs.Prelude.{◌≡◌, IfOk, IfErr, IfSome};
+ghost use Rattle.std.specs.Prelude.{◌≡◌, [], ◌∷◌, IfOk, IfErr, IfSome};
 ghost use Rattle.std.specs.String.{string_bytes};
 ghost use Rattle.ctt_text.specs.Timetable.{IsTimetable};
 ghost use Rattle.ctt_tool.specs.Checks.{IsInstanceText, IsNoInstance, IsNoSolution, IsSolutionText};
-ghost use Rattle.ctt_tool.specs.Faults.{IsOfTexts, status_of};
+ghost use Rattle.ctt_tool.specs.Faults.{IsOfFiles, IsOfTexts, status_of};
 
 use crate::fault::Fault;
 use crate::files::{Files, read_file};
@@ -21,6 +21,7 @@ pub fn fetch_instance<F: Files>(
         IfSome (F.held files.old (string_bytes name)) (λ text. IsInstanceText text instance)) }
     ensures kept { F.held files.new ≡ F.held files.old }
     ensures fault { IfErr result IsOfTexts }
+    ensures file { IfErr result (IsOfFiles (name ∷ []) (F.held files.old)) }
     ensures cause { IfErr result (λ fault. status_of fault ≡ 1
         → IfSome (F.held files.old (string_bytes name)) IsNoInstance) }
 {
@@ -40,6 +41,7 @@ pub fn fetch_solution<F: Files>(
     ensures timetable { IfOk result (λ timetable. IsTimetable instance.now timetable.items) }
     ensures kept { F.held files.new ≡ F.held files.old }
     ensures fault { IfErr result IsOfTexts }
+    ensures file { IfErr result (IsOfFiles (name ∷ []) (F.held files.old)) }
     ensures cause { IfErr result (λ fault. status_of fault ≡ 1
         → IfSome (F.held files.old (string_bytes name)) (IsNoSolution instance.now)) }
 {

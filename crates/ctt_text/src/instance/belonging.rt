@@ -38,10 +38,7 @@ fn add_to_members(
 }
 
 /// Adds each curriculum to the lists of its members.
-fn add_all(
-    lists: &mut [Vec<CurriculumNo>],
-    curricula: &[Vec<CourseNo>],
-) -> Result<(), AllocError>
+fn add_all(lists: &mut [Vec<CurriculumNo>], curricula: &[Vec<CourseNo>]) -> Result<(), AllocError>
     requires few { length curricula.now ≤ 20000 }
     requires members { (k : ℕ) → k < length curricula.now → AreMembers (length lists.old) (get_or (map (λ v. v.items) curricula.now) k []) }
     requires empty { (c : ℕ) → get_or (map (λ v. v.items) lists.old) c [] ≡ [] }

@@ -1,113 +1,149 @@
-//! Which courses clash, as a table.
+//! Which courses clash: a row of marks a course.
 
-ghost use Rattle.std.specs.Prelude.{◌≡◌, ℕ, ◌<◌, ◌≤◌, ◌*◌, ◌+◌, ◌==◌, ◌&&◌, ◌||◌, not, nat_lt, length, IfOk};
+ghost use Rattle.std.specs.Prelude.{◌≡◌, ℕ, ◌<◌, ◌≤◌, ◌==◌, ◌&&◌, ◌||◌, not, nat_lt, length, IfOk};
 ghost use Rattle.std.specs.List.{list_any, AllByRecursion as Each};
 ghost use Rattle.ctt_text.specs.Lists.{has};
-ghost use Rattle.ctt_text.specs.Tables.{mark_at, teacher_at, in_row, AddsMarks};
+ghost use Rattle.ctt_text.specs.Marks.{is_marked};
+ghost use Rattle.ctt_text.specs.Tables.{mark_at, teacher_at, AddsMarks};
 
 use crate::course_facts::CourseFacts;
 use crate::ids::CourseNo;
+use crate::marks::Marks;
 use std::alloc::{AllocError, Global};
 
-/// Marks a place of the table, where it is wanted.
-fn mark_if(table: &mut [bool], width: usize, row: usize, column: usize, wanted: bool)
-    requires few { width ≤ 2000 }
-    requires row { row < width }
-    requires column { column < width }
-    requires size { length table.old ≡ width * width }
-    ensures { AddsMarks table.old table.new width (λ r c. wanted && (r == row && c == column)) }
+/// Marks a number in a row.
+fn mark_in(rows: &mut [Marks], row: usize, number: usize)
+    requires row { row < length rows.old }
+    requires number { number < 2000 }
+    ensures { AddsMarks rows.old rows.new (λ r n. r == row && n == number) }
 {
-    if wanted {
-        table[row * width + column] = true;
-    }
+    rows[row].mark(number);
 }
 
-/// Whether another course has the same teacher.
-fn are_colleagues(courses: &[CourseFacts], course: usize, other: usize) -> bool
-    requires course { course < length courses.now }
-    requires other { other < length courses.now }
-    ensures { result ≡ (not (other == course) && teacher_at courses.now other == teacher_at courses.now course) }
+/// Adds marks to a row.
+fn add_to_row(rows: &mut [Marks], row: usize, marks: &Marks)
+    requires { row < length rows.old }
+    ensures { AddsMarks rows.old rows.new (λ r n. r == row && is_marked marks.now n) }
 {
-    other != course && courses[other].teacher.get() == courses[course].teacher.get()
+    rows[row].add(marks);
 }
 
-/// Marks, in the row of a course, the other courses with its teacher.
-fn mark_colleagues(table: &mut [bool], courses: &[CourseFacts], course: usize)
+/// Marks each course in the row of its teacher.
+fn mark_taught(rows: &mut [Marks], courses: &[CourseFacts])
     requires few { length courses.now ≤ 2000 }
-    requires course { course < length courses.now }
-    requires size { length table.old ≡ length courses.now * length courses.now }
-    ensures { AddsMarks table.old table.new (length courses.now) (in_row course (λ d. not (d == course) && teacher_at courses.now d == teacher_at courses.now course)) }
+    requires teachers { Each (λ f. f.teacher < length rows.old) courses.now }
+    ensures { AddsMarks rows.old rows.new (λ t c. nat_lt c (length courses.now) && t == teacher_at courses.now c) }
 {
-    for other in 0..courses.len() {
-        let colleagues = are_colleagues(courses, course, other);
-        mark_if(table, courses.len(), course, other, colleagues);
+    for (number, course) in courses.iter().enumerate() {
+        mark_in(rows, course.teacher.get() as usize, number);
     }
 }
 
-/// Marks, in the row of a course, the other members.
-fn mark_mates(table: &mut [bool], count: usize, course: CourseNo, members: &[CourseNo])
-    requires few { count ≤ 2000 }
-    requires course { course < count }
-    requires members { Each (λ d. d < count) members.now }
-    requires size { length table.old ≡ count * count }
-    ensures { AddsMarks table.old table.new count (in_row course (λ d. not (d == course) && has d members.now)) }
-{
-    let course = course.get() as usize;
-    for member in members {
-        let other = member.get() as usize;
-        mark_if(table, count, course, other, other != course);
-    }
-}
-
-/// Marks all pairs of different members.
-fn mark_members(table: &mut [bool], count: usize, members: &[CourseNo])
-    requires few { count ≤ 2000 }
-    requires members { Each (λ d. d < count) members.now }
-    requires size { length table.old ≡ count * count }
-    ensures { AddsMarks table.old table.new count (λ c d. not (c == d) && (has c members.now && has d members.now)) }
-{
-    for member in members {
-        mark_mates(table, count, *member, members);
-    }
-}
-
-/// Marks all pairs of different courses that have the same teacher.
-fn mark_teachers(table: &mut [bool], courses: &[CourseFacts])
-    requires few { length courses.now ≤ 2000 }
-    requires size { length table.old ≡ length courses.now * length courses.now }
-    ensures { AddsMarks table.old table.new (length courses.now) (λ c d. nat_lt c (length courses.now) && (not (d == c) && teacher_at courses.now d == teacher_at courses.now c)) }
-{
-    for course in 0..courses.len() {
-        mark_colleagues(table, courses, course);
-    }
-}
-
-/// Marks all pairs of different courses that are members of one curriculum.
-fn mark_curricula(table: &mut [bool], count: usize, curricula: &[Vec<CourseNo>])
-    requires few { count ≤ 2000 }
-    requires members { Each (λ q. Each (λ d. d < count) q.items) curricula.now }
-    requires size { length table.old ≡ count * count }
-    ensures { AddsMarks table.old table.new count (λ c d. list_any (λ q. not (c == d) && (has c q.items && has d q.items)) curricula.now) }
-{
-    for members in curricula {
-        mark_members(table, count, members);
-    }
-}
-
-/// For each course in turn, for each course in turn, whether they clash.
-pub(crate) fn clash_table(
+/// For each teacher, a row of the courses that he has.
+fn taught(
     alloc: Global,
     courses: &[CourseFacts],
-    curricula: &[Vec<CourseNo>],
-) -> Result<Vec<bool>, AllocError>
+    teachers: usize,
+) -> Result<Vec<Marks>, AllocError>
     requires few { length courses.now ≤ 2000 }
-    requires members { Each (λ q. Each (λ d. d < length courses.now) q.items) curricula.now }
-    ensures size { IfOk result (λ t. length t.items ≡ length courses.now * length courses.now) }
-    ensures marks { IfOk result (λ t. (c d : ℕ) → c < length courses.now → d < length courses.now → mark_at t.items (length courses.now) c d ≡ (not (c == d) && (teacher_at courses.now c == teacher_at courses.now d || list_any (λ q. has c q.items && has d q.items) curricula.now))) }
+    requires teachers { Each (λ f. f.teacher < teachers) courses.now }
+    ensures size { IfOk result (λ v. length v.items ≡ teachers) }
+    ensures marks { IfOk result (λ v. (t c : ℕ) → t < teachers → mark_at v.items t c ≡ (nat_lt c (length courses.now) && t == teacher_at courses.now c)) }
 {
-    let count = courses.len();
-    let mut table = vec![in alloc; false; count * count]?;
-    mark_teachers(&mut table, courses);
-    mark_curricula(&mut table, count, curricula);
-    Ok(table)
+    let mut rows = vec![in alloc; Marks::new(); teachers]?;
+    mark_taught(&mut rows, courses);
+    Ok(rows)
+}
+
+/// For each course, a row of the courses that its teacher has.
+fn colleagues(
+    alloc: Global,
+    courses: &[CourseFacts],
+    taught: &[Marks],
+) -> Result<Vec<Marks>, AllocError>
+    requires { Each (λ f. f.teacher < length taught.now) courses.now }
+    ensures size { IfOk result (λ v. length v.items ≡ length courses.now) }
+    ensures marks { IfOk result (λ v. (c d : ℕ) → c < length courses.now → mark_at v.items c d ≡ mark_at taught.now (teacher_at courses.now c) d) }
+{
+    let mut rows = Vec::with_capacity(alloc, courses.len())?;
+    for course in courses {
+        rows.push(taught[course.teacher.get() as usize])?;
+    }
+    Ok(rows)
+}
+
+/// Marks of some courses.
+fn marks_of(members: &[CourseNo]) -> Marks
+    requires { Each (λ c. c < 2000) members.now }
+    ensures { (n : ℕ) → is_marked result n ≡ has n members.now }
+{
+    let mut marks = Marks::new();
+    for member in members {
+        marks.mark(member.get() as usize);
+    }
+    marks
+}
+
+/// Marks all members in the row of each member.
+fn add_members(rows: &mut [Marks], members: &[CourseNo])
+    requires few { length rows.old ≤ 2000 }
+    requires members { Each (λ d. d < length rows.old) members.now }
+    ensures { AddsMarks rows.old rows.new (λ c d. has c members.now && has d members.now) }
+{
+    let marks = marks_of(members);
+    for member in members {
+        add_to_row(rows, member.get() as usize, &marks);
+    }
+}
+
+/// Marks the members of each curriculum in the rows of its members.
+fn add_curricula(rows: &mut [Marks], curricula: &[Vec<CourseNo>])
+    requires few { length rows.old ≤ 2000 }
+    requires members { Each (λ q. Each (λ d. d < length rows.old) q.items) curricula.now }
+    ensures { AddsMarks rows.old rows.new (λ c d. list_any (λ q. has c q.items && has d q.items) curricula.now) }
+{
+    for members in curricula {
+        add_members(rows, members);
+    }
+}
+
+/// Takes the mark of its own number out of each row.
+fn unmark_own(rows: &mut [Marks])
+    requires { length rows.old ≤ 2000 }
+    ensures size { length rows.new ≡ length rows.old }
+    ensures marks { (r n : ℕ) → r < length rows.old → mark_at rows.new r n ≡ (not (r == n) && mark_at rows.old r n) }
+{
+    for row in 0..rows.len() {
+        rows[row].unmark(row);
+    }
+}
+
+/// Adds the curriculum mates of each course to its row, and takes the course itself out.
+fn add_mates(rows: &mut [Marks], curricula: &[Vec<CourseNo>])
+    requires few { length rows.old ≤ 2000 }
+    requires members { Each (λ q. Each (λ d. d < length rows.old) q.items) curricula.now }
+    ensures size { length rows.new ≡ length rows.old }
+    ensures marks { (c d : ℕ) → c < length rows.old → mark_at rows.new c d ≡ (not (c == d) && (mark_at rows.old c d || list_any (λ q. has c q.items && has d q.items) curricula.now)) }
+{
+    add_curricula(rows, curricula);
+    unmark_own(rows);
+}
+
+/// For each course, a row of the courses that it clashes with.
+pub(crate) fn clash_rows(
+    alloc: Global,
+    courses: &[CourseFacts],
+    teachers: usize,
+    curricula: &[Vec<CourseNo>],
+) -> Result<Vec<Marks>, AllocError>
+    requires few { length courses.now ≤ 2000 }
+    requires teachers { Each (λ f. f.teacher < teachers) courses.now }
+    requires members { Each (λ q. Each (λ d. d < length courses.now) q.items) curricula.now }
+    ensures size { IfOk result (λ v. length v.items ≡ length courses.now) }
+    ensures marks { IfOk result (λ v. (c d : ℕ) → c < length courses.now → mark_at v.items c d ≡ (nat_lt d (length courses.now) && (not (c == d) && (teacher_at courses.now c == teacher_at courses.now d || list_any (λ q. has c q.items && has d q.items) curricula.now)))) }
+{
+    let taught = taught(alloc, courses, teachers)?;
+    let mut rows = colleagues(alloc, courses, &taught)?;
+    add_mates(&mut rows, curricula);
+    Ok(rows)
 }

@@ -1,54 +1,37 @@
-//! One place of the text of an instance: one word, by the rule of its place.
+//! One place of the text of an instance: one word, by the rule of its place, with the faults of
+//! that text.
 
 ghost use Rattle.std.specs.Prelude.{◌≡◌, ◌<◌, ◌≤◌, ◌*◌, length, IfOk, false};
-ghost use Rattle.ctt_text.specs.Reading.{word_at};
 ghost use Rattle.ctt_text.specs.Places.{any, fixed, number, new_name, known_name, after};
 ghost use Rattle.ctt_text.specs.Problem.{is_among};
-ghost use Rattle.ctt_text.specs.InstancePlaces.{GivesRead, reads, missing, number_up_to, day_below, period_below, period_count};
+ghost use Rattle.ctt_text.specs.InstancePlaces.{GivesRead, reads, number_up_to, day_below, period_below, period_count};
 ghost use Rattle.ctt_text.specs.declared.fault.ReadFault.TheVariants.{Expected, BadNumber, RepeatedName, UnknownCourse};
 
 use crate::fault::ReadFault;
 use crate::names::Names;
-use crate::numbers::number;
+use crate::places::{next_day_below, next_fixed, next_number, next_period_below, next_word};
 use crate::reader::Reader;
-
-/// The next word, whatever it is.
-pub(crate) fn read_word<'a>(reader: &mut Reader<'a>) -> Result<&'a str, ReadFault>
-    ensures { GivesRead (λ word. (word.now, reader.new)) result (word_at missing reader.old) }
-{
-    let at = reader.next();
-    reader.word().ok_or(ReadFault::Missing(at))
-}
 
 /// Any word.
 #[tactic(auto, using(crate::proofs::Steps::read_one), unfolding(crate::specs::Places::any))]
 pub(crate) fn read_any<'a>(reader: &mut Reader<'a>) -> Result<&'a str, ReadFault>
     ensures { GivesRead (λ word. (word.now, reader.new)) result (reads any reader.old) }
 {
-    read_word(reader)
+    next_word(reader)
 }
 
 /// The fixed word of this place.
-#[tactic(auto, using(crate::proofs::Steps::read_one), unfolding(crate::specs::Places::fixed))]
 pub(crate) fn read_fixed(reader: &mut Reader, text: &str) -> Result<(), ReadFault>
     ensures { GivesRead (λ _. (tt, reader.new)) result (reads (fixed Expected text.now) reader.old) }
 {
-    let at = reader.next();
-    if read_word(reader)? == text {
-        Ok(())
-    } else {
-        Err(ReadFault::Expected(at))
-    }
+    next_fixed(reader, text)
 }
 
 /// A number.
-#[tactic(auto, using(crate::proofs::Steps::read_one), unfolding(crate::specs::Places::number))]
 pub(crate) fn read_number(reader: &mut Reader) -> Result<u32, ReadFault>
     ensures { GivesRead (λ number. (number, reader.new)) result (reads (number BadNumber) reader.old) }
 {
-    let at = reader.next();
-    let word = read_word(reader)?;
-    number(word.as_bytes()).ok_or(ReadFault::BadNumber(at))
+    next_number(reader)
 }
 
 /// A name that was not given before.
@@ -61,7 +44,7 @@ pub(crate) fn read_new_name<'a>(
     ensures exact { GivesRead (λ name. (name.now, reader.new)) result (reads (new_name RepeatedName names.now) reader.old) }
 {
     let at = reader.next();
-    let name = read_word(reader)?;
+    let name = next_word::<ReadFault>(reader)?;
     if names.contains(name) {
         return Err(ReadFault::RepeatedName(at));
     }
@@ -69,13 +52,13 @@ pub(crate) fn read_new_name<'a>(
 }
 
 /// The number of a course that was named.
-#[tactic(auto, using(crate::proofs::Steps::read_one), unfolding(crate::specs::Places::known_name))]
+#[tactic(auto, using(crate::proofs::Steps::read_known), unfolding(crate::specs::Places::known_name))]
 pub(crate) fn read_course(reader: &mut Reader, courses: &Names) -> Result<usize, ReadFault>
     ensures known { IfOk result (λ course. course < length courses.now) }
     ensures exact { GivesRead (λ course. (course, reader.new)) result (reads (known_name UnknownCourse courses.now) reader.old) }
 {
     let at = reader.next();
-    let name = read_word(reader)?;
+    let name = next_word::<ReadFault>(reader)?;
     courses.number(name).ok_or(ReadFault::UnknownCourse(at))
 }
 
@@ -112,33 +95,21 @@ pub(crate) fn read_period_count(reader: &mut Reader, days: u32) -> Result<u32, R
 }
 
 /// A day, which is below the number of days.
-#[tactic(auto, using(crate::proofs::Steps::read_number_if), unfolding(crate::specs::InstancePlaces::day_below))]
+#[tactic(auto, unfolding(crate::specs::InstancePlaces::day_below))]
 pub(crate) fn read_day(reader: &mut Reader, days: u32) -> Result<u32, ReadFault>
     ensures limit { IfOk result (λ number. number < days) }
     ensures exact { GivesRead (λ number. (number, reader.new)) result (reads (day_below days) reader.old) }
 {
-    let at = reader.next();
-    let number = read_number(reader)?;
-    if number < days {
-        Ok(number)
-    } else {
-        Err(ReadFault::DayOut(at))
-    }
+    next_day_below(reader, days)
 }
 
 /// A period in the day, which is below the number of periods.
-#[tactic(auto, using(crate::proofs::Steps::read_number_if), unfolding(crate::specs::InstancePlaces::period_below))]
+#[tactic(auto, unfolding(crate::specs::InstancePlaces::period_below))]
 pub(crate) fn read_period(reader: &mut Reader, periods: u32) -> Result<u32, ReadFault>
     ensures limit { IfOk result (λ number. number < periods) }
     ensures exact { GivesRead (λ number. (number, reader.new)) result (reads (period_below periods) reader.old) }
 {
-    let at = reader.next();
-    let number = read_number(reader)?;
-    if number < periods {
-        Ok(number)
-    } else {
-        Err(ReadFault::PeriodOut(at))
-    }
+    next_period_below(reader, periods)
 }
 
 /// A fixed word, and then a number of at most `greatest`.

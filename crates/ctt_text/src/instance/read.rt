@@ -16,7 +16,7 @@ ghost use Rattle.ctt_text.specs.declared.fault.ReadFault.TheVariants.{NoMemory, 
 use crate::fault::ReadFault;
 use crate::instance::Instance;
 use crate::instance::belonging::belonging;
-use crate::instance::clashes::clash_table;
+use crate::instance::clashes::clash_rows;
 use crate::instance::courses::{CourseSection, read_course_section};
 use crate::instance::curricula::{CurriculumSection, read_curriculum_section};
 use crate::instance::header::{Header, read_header};
@@ -67,7 +67,7 @@ fn read_sections<'a>(alloc: Global, reader: &mut Reader<'a>) -> Result<Sections<
 }
 
 impl<'a> Sections<'a> {
-    /// The instance, with the table of its clashes.
+    /// The instance, with the rows of its clashes.
     fn into_instance(self, alloc: Global) -> Result<Instance, AllocError>
         requires problem { IsProblem self }
         requires named { IsNamed self }
@@ -89,7 +89,7 @@ impl<'a> Sections<'a> {
             names: curriculum_names,
             members: curricula,
         } = curricula;
-        let clashes = clash_table(alloc, &courses, &curricula)?;
+        let clashes = clash_rows(alloc, &courses, teacher_names.len(), &curricula)?;
         let belonging = belonging(alloc, &courses, &curricula)?;
         Ok(Instance {
             name: String::from_str(alloc, header.name)?,

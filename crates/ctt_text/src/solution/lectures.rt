@@ -18,7 +18,7 @@ fn cell(instance: &Instance, course: CourseNo, slot: SlotNo) -> usize
     ensures cell { result ≡ course * slot_count instance.now + slot }
     ensures within { result < course_count instance.now * slot_count instance.now }
 {
-    instance.limits();
+    instance.limits_hold();
     course.get() as usize * instance.slots() as usize + slot.get() as usize
 }
 
@@ -27,7 +27,7 @@ fn lecture(instance: &Instance, cell: usize, room: RoomNo) -> Placed
     requires { cell < course_count instance.now * slot_count instance.now }
     ensures { result ≡ lecture_in (slot_count instance.now) cell room }
 {
-    instance.limits();
+    instance.limits_hold();
     let slots = instance.slots() as usize;
     Placed {
         course: CourseNo::new((cell / slots) as u16),
@@ -62,7 +62,7 @@ impl<'i> Lectures<'i> {
     pub(crate) fn new(alloc: Global, instance: &'i Instance) -> Result<Self, AllocError>
         ensures { IfOk result (λ l. l ≡ record { problem = instance.now; lectures = [] }) }
     {
-        instance.limits();
+        instance.limits_hold();
         let cells = instance.courses() as usize * instance.slots() as usize;
         Ok(Lectures {
             instance,

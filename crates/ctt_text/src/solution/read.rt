@@ -16,9 +16,10 @@ ghost use Rattle.ctt_text.specs.declared.fault.SolutionFault.TheVariants.{NotTex
 use crate::fault::SolutionFault;
 use crate::instance::Instance;
 use crate::placed::Placed;
+use crate::places::{next_course, next_day, next_room};
 use crate::reader::Reader;
 use crate::solution::lectures::Lectures;
-use crate::solution::places::{read_course, read_day, read_room, read_slot};
+use crate::solution::places::read_slot;
 use std::alloc::Global;
 
 /// Reads one entry, and adds its lecture to those before it.
@@ -28,9 +29,9 @@ fn read_entry(reader: &mut Reader, lectures: &mut Lectures) -> Result<(), Soluti
     ensures exact { GivesLectures (λ _. (lectures.new.lectures, reader.new)) result (reads_lectures (entry lectures.old.problem lectures.old.lectures) reader.old) }
 {
     let instance = lectures.instance();
-    let course = read_course(reader, instance)?;
-    let room = read_room(reader, instance)?;
-    let day = read_day(reader, instance)?;
+    let course = next_course::<SolutionFault>(reader, instance)?;
+    let room = next_room::<SolutionFault>(reader, instance)?;
+    let day = next_day::<SolutionFault>(reader, instance)?;
     let slot = read_slot(reader, lectures, course, day)?;
     lectures.add(Placed { course, slot, room });
     Ok(())
@@ -77,7 +78,7 @@ pub fn read_solution(
     ensures not_text { ¬ IsUtf8 text.now → result ≡ Err (NotText (utf8_valid_len text.now)) }
     ensures broken { (k : ℕ) (fault : SolutionFault) → IsUtf8 text.now → SolutionBreaksAt instance.now (words text.now) k fault → (result ≡ Err fault) ⊎ (result ≡ Err NoMemory) }
 {
-    instance.limits();
+    instance.limits_hold();
     match str::from_utf8(text) {
         Ok(text) => read_text(alloc, instance, text),
         Err(error) => Err(SolutionFault::NotText(error.valid_up_to() as u64)),

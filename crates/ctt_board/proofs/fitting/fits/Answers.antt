@@ -1,6 +1,6 @@
-use Rattle.std.proofs.Common.{◌≡◌, ◌∙◌, true, false, take, length, add-one, take_all, sym, ap, subst, arith}
+use Rattle.std.proofs.Common.{◌≡◌, ◌∙◌, true, false, take, add-one, sym, ap, subst}
 use Rattle.ctt_rules.specs.Hard.{Lawful}
-use Rattle.ctt_board.specs.Changes.{is_change, apply, ChangeFits}
+use Rattle.ctt_board.specs.Changes.{is_change, apply}
 use Rattle.ctt_board.specs.Fitting.{cell_fits, fits}
 use Rattle.ctt_board.proofs.FitLemmas.{change_take, fits_to, refused, passed}
 use Rattle.ctt_board.proofs.fitting.fits.Goals as goal

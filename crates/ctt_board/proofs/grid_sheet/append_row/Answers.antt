@@ -1,6 +1,6 @@
-use Rattle.std.proofs.Common.{rules, ℕ, Option, ◌≡◌, ◌++◌, ◌∙◌, None, ap, ap₂}
+use Rattle.std.proofs.Common.{rules, ℕ, Option, ◌≡◌, ◌++◌, ◌∙◌, None, ap}
 use Rattle.ctt_board.specs.Tables.{at}
-use Rattle.ctt_board.specs.Cells.{row_below, lecture_at}
+use Rattle.ctt_board.specs.Cells.{lecture_at}
 use Rattle.ctt_board.proofs.GridLemmas.{row_goes_on}
 use Rattle.ctt_board.proofs.grid_sheet.append_row.Goals as goal
 

@@ -1,4 +1,4 @@
-use Rattle.std.proofs.Common.{rules, ◌≡◌, ◌∙◌, List, Some, None, is_some, sym, ap, subst, pos, ◌-ℤ◌}
+use Rattle.std.proofs.Common.{rules, ◌≡◌, ◌∙◌, List, Some, sym, ap, subst, pos, ◌-ℤ◌}
 use Rattle.ctt_text.specs.Problem.{Problem}
 use Rattle.ctt_text.specs.Timetable.{Fits, with, without}
 use Rattle.ctt_text.specs.declared.placed.Placed.{Placed}
@@ -8,7 +8,9 @@ use Rattle.ctt_board.specs.Changes.{CellFits, room_at, room_by, apply, apply_at}
 use Rattle.ctt_board.specs.Seen.{Sees}
 use Rattle.ctt_board.proofs.MoreLemmas.{more_with, more_without}
 use Rattle.ctt_board.proofs.RoomLemmas.{rooms_after}
-use Rattle.ctt_board.proofs.BetweenLemmas.{without_lawful, there_fits, comes_fits, left_there}
+use Rattle.ctt_board.proofs.BetweenLemmas.{there_fits, comes_fits, left_there}
+use Rattle.ctt_board.proofs.LawfulLemmas.{without_lawful}
+use Rattle.ctt_board.proofs.MeetingLemmas.{none_yet, one_seen}
 use Rattle.ctt_board.proofs.SeenLemmas.{sees_come, sees_leave}
 use Rattle.ctt_board.proofs.GainLemmas.{gained, small, same_back, turned_fits, turned_is}
 use Rattle.ctt_board.proofs.grid_sheet.step.Goals as goal
@@ -26,6 +28,11 @@ leave-requires-clause-fits c =
     let some : c.last_room.result ≡ Some c.unwrap-room.result = search rules in
     there_fits c.args.instance.now x.course x.slot c.unwrap-room.result (apply c.args.done.now c.args.sheet.now.list) c.requires.lawful
     (left_there c.args.done.now c.args.sheet.now.list x.course x.slot c.unwrap-room.result c.room_at-before.result c.last_room.result c.last_room.ensures c.room_at-before.ensures c.requires.done some)
+
+pub leave-requires-clause-own : goal.leave-requires-clause-own
+leave-requires-clause-own c =
+    let x = c.args.cell.now in
+    one_seen c.args.instance.now (record { course = x.course; slot = x.slot; room = c.unwrap-room.result }) (apply c.args.done.now c.args.sheet.now.list) c.args.later.now c.requires.lawful c.requires.sees
 
 module _ (c : goal.After-leave) where
   abbrev i : Problem
@@ -62,19 +69,26 @@ module _ (c : goal.After-leave) where
       gained i l u t c.leave.new.self c.leave.result more fits lawful c.requires.lawful sees c.leave.ensures.gain
 
 pub overflow_sub-result : goal.overflow_sub-result
-overflow_sub-result c = turned_fits c.leave.result (total (penalty (i c) (t c))) (total (penalty (i c) (u c))) (value c) (small (i c) (t c) c.limits.ensures c.requires.lawful) (small (i c) (u c) c.limits.ensures (lawful c))
+overflow_sub-result c = turned_fits c.leave.result (total (penalty (i c) (t c))) (total (penalty (i c) (u c))) (value c) (small (i c) (t c) c.limits_hold.ensures c.requires.lawful) (small (i c) (u c) c.limits_hold.ensures (lawful c))
 
 pub returns-in-None-clause-sees : goal.returns-in-None-clause-sees
 returns-in-None-clause-sees c = rw c.in-None.is (sees c)
 
 pub returns-in-None-clause-value : goal.returns-in-None-clause-value
-returns-in-None-clause-value c = rw c.in-None.is (turned_is c.leave.result (total (penalty (i c) (t c))) (total (penalty (i c) (u c))) (value c) (small (i c) (t c) c.limits.ensures c.requires.lawful) (small (i c) (u c) c.limits.ensures (lawful c)))
+returns-in-None-clause-value c = rw c.in-None.is (turned_is c.leave.result (total (penalty (i c) (t c))) (total (penalty (i c) (u c))) (value c) (small (i c) (t c) c.limits_hold.ensures c.requires.lawful) (small (i c) (u c) c.limits_hold.ensures (lawful c)))
 
 pub come-requires-clause-fits : goal.come-requires-clause-fits
 come-requires-clause-fits c =
     let x = c.args.cell.now in
     let t : List Placed = apply c.args.done.now c.args.sheet.now.list in
     comes_fits c.args.instance.now (record { course = x.course; slot = x.slot; room = c.in-Some.room }) t (subst (λ o. Lawful c.args.instance.now (apply_at x.course x.slot o t)) c.in-Some.is c.requires.ready.lawful)
+
+pub come-requires-clause-own : goal.come-requires-clause-own
+come-requires-clause-own c =
+    let x = c.args.cell.now in
+    let t : List Placed = apply c.args.done.now c.args.sheet.now.list in
+    let l : Placed = record { course = x.course; slot = x.slot; room = c.in-Some.room } in
+    none_yet c.args.instance.now l t (with l t) c.args.later.now (more_with l t) c.requires.lawful (subst (λ o. Lawful c.args.instance.now (apply_at x.course x.slot o t)) c.in-Some.is c.requires.ready.lawful) c.requires.sees
 
 module _ (c : goal.After-come) where
   abbrev j : Problem
@@ -101,4 +115,4 @@ returns-in-Some-clause-sees c = rw c.in-Some.is (come_sees c)
 pub returns-in-Some-clause-value : goal.returns-in-Some-clause-value
 returns-in-Some-clause-value c =
     let value = gained (j c) (m c) (before c) (with (m c) (before c)) c.args.later.now c.come.result (more_with (m c) (before c)) (m_fits c) c.requires.lawful (after_lawful c) c.requires.sees c.come.ensures.gain in
-    rw c.in-Some.is (same_back c.come.result (total (penalty (j c) (with (m c) (before c)))) (total (penalty (j c) (before c))) value (small (j c) (with (m c) (before c)) c.limits.ensures (after_lawful c)) (small (j c) (before c) c.limits.ensures c.requires.lawful))
+    rw c.in-Some.is (same_back c.come.result (total (penalty (j c) (with (m c) (before c)))) (total (penalty (j c) (before c))) value (small (j c) (with (m c) (before c)) c.limits_hold.ensures (after_lawful c)) (small (j c) (before c) c.limits_hold.ensures c.requires.lawful))

@@ -1,4 +1,4 @@
-use Rattle.std.proofs.Common.{◌≡◌, ◌≤◌, ◌==◌, take, count_by}
+use Rattle.std.proofs.Common.{◌≡◌, ◌≤◌, take, count_by}
 use Rattle.ctt_board.specs.Joining.{in_room}
 use Rattle.ctt_board.proofs.later.in_room.Given as goal
 

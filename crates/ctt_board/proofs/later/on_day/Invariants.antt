@@ -1,4 +1,4 @@
-use Rattle.std.proofs.Common.{◌≡◌, ◌≤◌, ◌==◌, take, count_by}
+use Rattle.std.proofs.Common.{◌≡◌, ◌≤◌, take, count_by}
 use Rattle.ctt_board.specs.Joining.{on_day}
 use Rattle.ctt_board.proofs.later.on_day.Given as goal
 

@@ -1,5 +1,4 @@
 use Rattle.std.proofs.Common.{◌≡◌, ◌≤◌, ◌==◌, take, count_by}
-
 use Rattle.ctt_board.proofs.later.times.Given as goal
 
 abbrev pub invariant-loop-other : goal.invariant-loop-other

@@ -1,4 +1,4 @@
-use Rattle.ctt_core.specs.Openings.{Placing}
+use Rattle.ctt_core.proofs.OpeningLemmas.{Placing}
 use Rattle.ctt_core.proofs.opening.placed.Given as goal
 
 abbrev pub invariant-loop-at : goal.invariant-loop-at

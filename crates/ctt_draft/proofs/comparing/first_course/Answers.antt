@@ -1,9 +1,23 @@
-use Rattle.std.proofs.Common.{rules}
-use Rattle.ctt_text.specs.Marks.{is_marked}
+use Rattle.std.proofs.Common.{◌≡◌, ◌≤◌, ◌+◌, ◌∙◌, None, sym, subst, arith}
+use Rattle.std.specs.List.{find}
+use Rattle.ctt_text.specs.Lists.{below}
+use Rattle.ctt_text.specs.Problem.{course_count}
+use Rattle.ctt_edits.specs.RowSets.{has_course}
 use Rattle.ctt_edits.specs.declared.row.Row.TheVariants.{Course}
 use Rattle.ctt_draft.specs.Drafts.{differs}
-use Rattle.ctt_draft.proofs.FirstLemmas.{first_is}
+use Rattle.ctt_draft.proofs.FirstLemmas.{found_next, past_next, next_within, found_none}
 use Rattle.ctt_draft.proofs.comparing.first_course.Goals as goal
 
-pub returns-then-branch : goal.returns-then-branch
-returns-then-branch g c = first_is (λ n. differs (g.S.Rooms.list c.args.base.now) (g.S.Rooms.list c.args.now.now) (Course n)) (is_marked c.args.marks.now) c.loop-number.number c.args.count c.new-course.result c.new-course.ensures (search rules) (search rules) c.loop-number.invariant (search rules)
+pub returns-then-course_differs : goal.returns-then-course_differs
+returns-then-course_differs g c = found_next (λ n. differs (g.S.Rooms.list c.args.base.now) (g.S.Rooms.list c.args.now.now) (Course n)) (has_course c.args.rows.now) c.loop-course.from (course_count c.args.instance.now) c.in-Some.course c.next_course.result c.next_course.ensures c.in-Some.is c.loop-course.invariant.none c.loop-course.invariant.within (sym c.course_differs.ensures ∙ c.if-course_differs.true)
+
+pub loop-course-preserved : goal.loop-course-preserved
+loop-course-preserved g c =
+    let behind = next_within (has_course c.args.rows.now) c.loop-course.from (course_count c.args.instance.now) c.in-Some.course c.next_course.result c.next_course.ensures c.in-Some.is in
+    record {
+      none = subst (λ n. find (λ n. differs (g.S.Rooms.list c.args.base.now) (g.S.Rooms.list c.args.now.now) (Course n)) (below (has_course c.args.rows.now) (n + 1)) ≡ None) (sym c.get-from.ensures) (past_next (λ n. differs (g.S.Rooms.list c.args.base.now) (g.S.Rooms.list c.args.now.now) (Course n)) (has_course c.args.rows.now) c.loop-course.from (course_count c.args.instance.now) c.in-Some.course c.next_course.result c.next_course.ensures c.in-Some.is c.loop-course.invariant.none c.loop-course.invariant.within (sym c.course_differs.ensures ∙ c.if-course_differs.false));
+      within = omega (arith, behind.1, c.get-from.ensures);
+    }
+
+pub returns : goal.returns
+returns g c = found_none (λ n. differs (g.S.Rooms.list c.args.base.now) (g.S.Rooms.list c.args.now.now) (Course n)) (has_course c.args.rows.now) c.loop-course.from (course_count c.args.instance.now) c.next_course.result c.next_course.ensures c.in_default.is c.loop-course.invariant.none c.loop-course.invariant.within

@@ -1,10 +1,17 @@
-use Rattle.std.proofs.Common.{◌≡◌, None}
+use Rattle.std.proofs.Common.{◌≡◌, ◌≤◌, ◌-◌, None}
 use Rattle.std.specs.List.{find}
 use Rattle.ctt_text.specs.Lists.{below}
-use Rattle.ctt_text.specs.Marks.{is_marked}
+use Rattle.ctt_text.specs.Problem.{course_count}
+use Rattle.ctt_edits.specs.RowSets.{has_course}
 use Rattle.ctt_edits.specs.declared.row.Row.TheVariants.{Course}
 use Rattle.ctt_draft.specs.Drafts.{differs}
 use Rattle.ctt_draft.proofs.comparing.first_course.Given as goal
 
-abbrev pub invariant-loop-number : goal.invariant-loop-number
-invariant-loop-number g l = find (λ c. differs (g.S.Rooms.list l.base) (g.S.Rooms.list l.now) (Course c)) (below (is_marked l.marks) l.number) ≡ None
+abbrev pub invariant-loop-course : goal.invariant-loop-course
+invariant-loop-course g l = record {
+  none : find (λ n. differs (g.S.Rooms.list l.base) (g.S.Rooms.list l.now) (Course n)) (below (has_course l.rows) l.from) ≡ None;
+  within : l.from ≤ course_count l.instance;
+}
+
+abbrev pub decreases-loop-course : goal.decreases-loop-course
+decreases-loop-course g l = course_count l.instance - l.from

@@ -1,5 +1,5 @@
 use Rattle.std.proofs.Common.{drop}
-use Rattle.ctt_draft.specs.DraftValues.{Settling}
+use Rattle.ctt_draft.proofs.SettleLemmas.{Settling}
 use Rattle.ctt_draft.proofs.work.settle.Given as goal
 
 abbrev pub invariant-loop-change : goal.invariant-loop-change

@@ -5,7 +5,7 @@ use Rattle.ctt_text.specs.declared.placed.Placed.{Placed}
 use Rattle.ctt_rules.specs.Hard.{Lawful}
 use Rattle.ctt_edits.specs.Edits.{try_fault}
 use Rattle.ctt_edits.proofs.FaultLemmas.{free, no_fault}
-use Rattle.ctt_edits.proofs.LawfulLemmas.{with_lawful, without_lawful}
+use Rattle.ctt_board.proofs.LawfulLemmas.{with_lawful, without_lawful}
 use Rattle.ctt_edits.proofs.EditLemmas.{removals_fit, room_fits}
 use Rattle.ctt_edits.proofs.checking.exchange_fault.Goals as goal
 

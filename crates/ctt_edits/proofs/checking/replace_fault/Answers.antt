@@ -1,4 +1,4 @@
-use Rattle.ctt_edits.proofs.LawfulLemmas.{without_lawful}
+use Rattle.ctt_board.proofs.LawfulLemmas.{without_lawful}
 use Rattle.ctt_edits.proofs.checking.replace_fault.Goals as goal
 
 pub new-after-requires-clause-lawful : goal.new-after-requires-clause-lawful

@@ -1,63 +1,6 @@
-use Rattle.std.proofs.Common.{◌≡◌, ◌*◌, ◌≤◌, ◌∙◌, ℕ, Bool, not, sym, ap, arith, count_by, sum_by, length, get_or, List}
-use Rattle.ctt_text.specs.Lists.{has}
-use Rattle.std.specs.List.{list_any}
-use Rattle.std.proofs.lemmas.List.{take_all}
-use Rattle.std.proofs.lemmas.List.Sums.{sum_by_more_le}
-use Rattle.ctt_text.specs.Marks.{is_marked}
-use Rattle.ctt_text.specs.Timetable.{Fits, course_row}
-use Rattle.ctt_text.specs.declared.placed.Placed.{Placed}
-use Rattle.ctt_rules.specs.Penalty.{part_of}
-use Rattle.ctt_rules.specs.Neighbours.{busy, is_beside}
-use Rattle.ctt_rules.proofs.TimetableLemmas.{row_fits, few_lectures, slots_fit}
-use Rattle.ctt_rules.proofs.ListLemmas.{Each-filter}
-use Rattle.ctt_rules.proofs.NeighbourLemmas.{alone_is}
-use Rattle.ctt_rules.proofs.PartLemmas.{busy_part, count_part, count_part_le}
+use Rattle.std.proofs.Common.{arith}
+use Rattle.ctt_rules.proofs.BitLemmas.{free_of_neighbours}
 use Rattle.ctt_rules.proofs.compactness.alone.Goals as goal
 
-pub mark_slots-requires : goal.mark_slots-requires
-mark_slots-requires c = rw c.row.ensures (row_fits c.args.instance.now c.args.rows.now c.member-item.result c.requires.timetable)
-
-pub count_alone-count-requires : goal.count_alone-count-requires
-count_alone-count-requires c = rw c.row-in-loop-member-2.ensures (row_fits c.args.instance.now c.args.rows.now c.member-item-in-loop-member-2.result c.requires.timetable)
-
-pub overflow_add-count : goal.overflow_add-count
-overflow_add-count c =
-    let t = c.args.rows.now in
-    let q = c.args.members.now in
-    let m = c.member-item-in-loop-member-2.result in
-    let p : Placed → Bool = λ x. not (is_beside c.args.instance.now (is_marked c.loop-member.slots) x.slot) in
-    let f : ℕ → ℕ = λ m. count_by p (course_row m t) in
-    let here : c.count_alone-count.result ≡ f (get_or q c.loop-member-2.member-index m) = c.count_alone-count.ensures.count ∙ ap (count_by p) c.row-in-loop-member-2.ensures ∙ ap f c.member-item-in-loop-member-2.is in
-    let within = sum_by_more_le f q c.loop-member-2.member-index m c.loop-member-2-test.true in
-    omega (arith, c.loop-member-2.invariant, here, within, count_part p q t c.requires.members.1, count_part_le p q t, few_lectures c.args.instance.now t c.requires.timetable c.limits.ensures)
-
--- the members' lectures that stand alone, at the end of the loop
-module _ (c : goal.After-loop-member-2) where
-  abbrev alone_there : Placed → Bool
-  alone_there x = not (is_beside c.args.instance.now (is_marked c.loop-member.slots) x.slot)
-
-  counted : c.loop-member-2.count ≡ count_by alone_there (part_of c.args.members.now c.args.rows.now)
-  counted =
-      c.loop-member-2.invariant ∙ ap (sum_by (λ m. count_by alone_there (course_row m c.args.rows.now))) (take_all c.loop-member-2.member-index c.args.members.now c.loop-member-2-test.false)
-      ∙ count_part alone_there c.args.members.now c.args.rows.now c.requires.members.1
-
-  marked : (s : ℕ) → is_marked c.loop-member.slots s ≡ busy (part_of c.args.members.now c.args.rows.now) s
-  marked s =
-      c.loop-member.invariant s ∙ ap (list_any (λ m. busy (course_row m c.args.rows.now) s)) (take_all c.loop-member.member-index c.args.members.now c.loop-member-test.false)
-      ∙ busy_part c.args.members.now c.args.rows.now s
-
-  short : c.loop-member-2.count ≤ length c.args.rows.now
-  short = omega (arith, counted, count_part_le alone_there c.args.members.now c.args.rows.now)
-
-pub overflow_mul-result : goal.overflow_mul-result
-overflow_mul-result c = omega (arith, short c, few_lectures c.args.instance.now c.args.rows.now c.requires.timetable c.limits.ensures)
-
-pub returns-clause-cost : goal.returns-clause-cost
-returns-clause-cost c =
-    let i = c.args.instance.now in
-    let part : List Placed = part_of c.args.members.now c.args.rows.now in
-    let fits = slots_fit i part (Each-filter (Fits i) (λ l. has l.course c.args.members.now) c.args.rows.now c.requires.timetable.fits) in
-    ap (λ n. 2 * n) (counted c ∙ sym (alone_is i part (is_marked c.loop-member.slots) fits (marked c)))
-
-pub returns-clause-few : goal.returns-clause-few
-returns-clause-few c = omega (arith, short c)
+pub returns : goal.returns
+returns c = λ place. free_of_neighbours c.args.busy (omega arith) place

@@ -1,23 +1,27 @@
-use Rattle.std.proofs.Common.{◌≡◌, ◌+◌, ◌∙◌, ℕ, ap, arith, take, sum_by, List, []}
-use Rattle.std.proofs.lemmas.List.Sums.{sum_by_more}
-use Rattle.ctt_text.specs.Problem.{members}
-use Rattle.ctt_rules.specs.Penalty.{alone_cost, part_of}
-use Rattle.ctt_rules.proofs.TimetableLemmas.{few_lectures}
+use Rattle.std.proofs.Common.{◌≡◌, ◌≤◌, ◌∙◌, sym, ap, arith}
+use Rattle.ctt_rules.specs.Penalty.{is_alone, part_of}
+use Rattle.ctt_rules.proofs.WindowLemmas.{none_before, window_more, all_before, alone_few}
 use Rattle.ctt_rules.proofs.compactness.compactness.Goals as goal
 
-pub overflow_add-total : goal.overflow_add-total
-overflow_add-total c = omega (arith, c.alone-total.ensures.few, few_lectures c.args.instance.now c.args.rows.now c.requires c.limits.ensures)
+pub loop-first-init : goal.loop-first-init
+loop-first-init c = record {
+  so_far = none_before c.args.instance.now c.args.timetable.now c.requires;
+  small = omega arith;
+  near = omega arith;
+}
 
-pub loop-number-preserved : goal.loop-number-preserved
-loop-number-preserved c =
+pub loop-first-preserved : goal.loop-first-preserved
+loop-first-preserved c = record {
+  so_far = omega (arith, c.loop-first.invariant.so_far, c.alone_within-total.ensures.value, window_more c.args.instance.now c.args.timetable.now c.requires c.loop-first.first);
+  small = omega (arith, c.loop-first.invariant.small, c.alone_within-total.ensures.bound);
+  near = omega (arith, c.limits_hold.ensures.slots_few, c.limits_hold.ensures.days_few);
+}
+
+pub returns-clause-value : goal.returns-clause-value
+returns-clause-value c = c.loop-first.invariant.so_far ∙ all_before c.args.instance.now c.args.timetable.now c.requires c.loop-first.first (omega arith)
+
+pub returns-clause-bound : goal.returns-clause-bound
+returns-clause-bound c =
     let i = c.args.instance.now in
-    let t = c.args.rows.now in
-    let inv = c.loop-number.invariant in
-    let n = c.loop-number.number in
-    let f : List ℕ → ℕ = λ q. alone_cost i (part_of q t) in
-    let more : sum_by f (take (n + 1) i.curricula) ≡ sum_by f (take n i.curricula) + f (members i n) = sum_by_more f i.curricula n [] (omega arith) in
-    let here : c.alone-total.result ≡ f (members i n) = c.alone-total.ensures.cost ∙ ap f (c.members.ensures ∙ ap (members i) c.new.ensures) in
-    record {
-      so_far = omega (arith, inv.so_far, more, here);
-      small = omega (arith, inv.small, c.alone-total.ensures.few, few_lectures i t c.requires c.limits.ensures);
-    }
+    let t = c.args.timetable.now in
+    omega (arith, c.loop-first.invariant.so_far, all_before i t c.requires c.loop-first.first (omega arith), alone_few i t c.requires (λ q. is_alone i (part_of q t)) c.limits_hold.ensures)

@@ -1,9 +1,14 @@
-use Rattle.std.proofs.Common.{◌≡◌, ◌*◌, ◌≤◌, take, sum_by}
-use Rattle.ctt_rules.specs.Penalty.{alone_cost, part_of}
+use Rattle.std.proofs.Common.{◌≡◌, ◌+◌, ◌-◌, ◌*◌, ◌≤◌, ◌&&◌, ltb, sum_by, count_by}
+use Rattle.ctt_rules.specs.Penalty.{is_alone, part_of}
+use Rattle.ctt_rules.specs.Windows.{spaced}
 use Rattle.ctt_rules.proofs.compactness.compactness.Given as goal
 
-abbrev pub invariant-loop-number : goal.invariant-loop-number
-invariant-loop-number l = record {
-  so_far : l.total ≡ sum_by (λ q. alone_cost l.instance (part_of q l.rows)) (take l.number l.instance.curricula);
-  small : l.total ≤ 8000000 * l.number;
+abbrev pub invariant-loop-first : goal.invariant-loop-first
+invariant-loop-first l = record {
+  so_far : l.total ≡ sum_by (λ q. 2 * count_by (λ x. ltb (spaced l.instance x.slot) l.first && is_alone l.instance (part_of q l.timetable) x) (part_of q l.timetable)) l.instance.curricula;
+  small : l.total ≤ l.first * (20000 * 8000000);
+  near : l.first ≤ 4062;
 }
+
+abbrev pub decreases-loop-first : goal.decreases-loop-first
+decreases-loop-first l = l.end + 62 - l.first

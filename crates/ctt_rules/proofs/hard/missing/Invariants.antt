@@ -6,6 +6,6 @@ use Rattle.ctt_rules.proofs.hard.missing.Given as goal
 
 abbrev pub invariant-loop-number : goal.invariant-loop-number
 invariant-loop-number l = record {
-  so_far : l.total ≡ sum_below (λ c. ((course_of l.instance c).lectures - length (course_row c l.rows)) + (length (course_row c l.rows) - (course_of l.instance c).lectures)) l.number;
+  so_far : l.total ≡ sum_below (λ c. ((course_of l.instance c).lectures - length (course_row c l.timetable)) + (length (course_row c l.timetable) - (course_of l.instance c).lectures)) l.number;
   small : l.total ≤ l.number * 1000002000;
 }

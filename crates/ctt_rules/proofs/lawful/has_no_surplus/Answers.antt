@@ -7,7 +7,7 @@ pub returns : goal.returns
 returns c = (
   λ _ k. elim (cases_lt k c.loop-number.number) [
     | inl lt ↦ c.loop-number.invariant k lt
-    | inr le ↦ omega (arith, none_past c.args.instance.now c.args.rows.now c.requires k (omega arith))
+    | inr le ↦ omega (arith, none_past c.args.instance.now c.args.timetable.now c.requires k (omega arith))
   ],
   λ _. refl,
 )

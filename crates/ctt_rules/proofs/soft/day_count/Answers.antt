@@ -26,7 +26,7 @@ loop-lecture-preserved c =
     let inv = c.loop-lecture.invariant in
     let x = c.lecture-item.result in
     let i = c.loop-lecture.lecture-index in
-    let is : n ≡ number x = c.day_of.ensures in
+    let is : n ≡ number x = c.day_of.ensures.exact in
     let counted : c.if-mark.count ≡ cond (not (is_marked c.loop-lecture.seen n)) (c.loop-lecture.count + 1) c.loop-lecture.count = rw (← c.mark.ensures.fresh) (elim c.if-mark.branch [
       | then-mark w ↦ rw w.if-mark.true w.count-is
       | else-mark w ↦ rw w.if-mark.false w.count-is

@@ -5,13 +5,10 @@ use Rattle.ctt_rules.proofs.SumLemmas.{sum_below_more}
 use Rattle.ctt_rules.proofs.TimetableLemmas.{row_fits}
 use Rattle.ctt_rules.proofs.soft.days.Goals as goal
 
-pub missing_days-total-requires-clause-fits : goal.missing_days-total-requires-clause-fits
-missing_days-total-requires-clause-fits c = rw c.row.ensures (row_fits c.args.instance.now c.args.rows.now c.new-course.result c.requires)
-
 pub loop-number-preserved : goal.loop-number-preserved
 loop-number-preserved c =
-    let f : ℕ → ℕ = λ k. days_cost c.args.instance.now k (course_row k c.args.rows.now) in
-    let here : c.missing_days-total.result ≡ f c.loop-number.number = c.missing_days-total.ensures.value ∙ ap (days_cost c.args.instance.now c.new-course.result) c.row.ensures ∙ ap f c.new-course.ensures in
+    let f : ℕ → ℕ = λ k. days_cost c.args.instance.now k (course_row k c.args.timetable.now) in
+    let here : c.missing_days-total.result ≡ f c.loop-number.number = c.missing_days-total.ensures.value ∙ ap (days_cost c.args.instance.now c.new-course.result) c.course_row.ensures.row ∙ ap f c.new-course.ensures in
     record {
       so_far = omega (arith, c.loop-number.invariant.so_far, here, sum_below_more f c.loop-number.number);
       small = omega (arith, c.loop-number.invariant.small, c.missing_days-total.ensures.bound);

@@ -6,6 +6,6 @@ use Rattle.ctt_rules.proofs.soft.days.Given as goal
 
 abbrev pub invariant-loop-number : goal.invariant-loop-number
 invariant-loop-number l = record {
-  so_far : l.total ≡ sum_below (λ c. days_cost l.instance c (course_row c l.rows)) l.number;
+  so_far : l.total ≡ sum_below (λ c. days_cost l.instance c (course_row c l.timetable)) l.number;
   small : l.total ≤ l.number * (5 * 999999999);
 }

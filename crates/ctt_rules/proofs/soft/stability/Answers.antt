@@ -5,13 +5,10 @@ use Rattle.ctt_rules.proofs.SumLemmas.{sum_below_more}
 use Rattle.ctt_rules.proofs.TimetableLemmas.{row_fits}
 use Rattle.ctt_rules.proofs.soft.stability.Goals as goal
 
-pub surplus_rooms-total-requires : goal.surplus_rooms-total-requires
-surplus_rooms-total-requires c = rw c.row.ensures (row_fits c.args.instance.now c.args.rows.now c.new.result c.requires)
-
 pub loop-number-preserved : goal.loop-number-preserved
 loop-number-preserved c =
-    let f : ℕ → ℕ = λ k. rooms_cost c.args.instance.now (course_row k c.args.rows.now) in
-    let here : c.surplus_rooms-total.result ≡ f c.loop-number.number = c.surplus_rooms-total.ensures.value ∙ ap (rooms_cost c.args.instance.now) c.row.ensures ∙ ap f c.new.ensures in
+    let f : ℕ → ℕ = λ k. rooms_cost c.args.instance.now (course_row k c.args.timetable.now) in
+    let here : c.surplus_rooms-total.result ≡ f c.loop-number.number = c.surplus_rooms-total.ensures.value ∙ ap (rooms_cost c.args.instance.now) c.course_row-row.ensures.row ∙ ap f c.new.ensures in
     record {
       so_far = omega (arith, c.loop-number.invariant.so_far, here, sum_below_more f c.loop-number.number);
       small = omega (arith, c.loop-number.invariant.small, c.surplus_rooms-total.ensures.bound);

@@ -6,6 +6,6 @@ use Rattle.ctt_rules.proofs.soft.stability.Given as goal
 
 abbrev pub invariant-loop-number : goal.invariant-loop-number
 invariant-loop-number l = record {
-  so_far : l.total ≡ sum_below (λ c. rooms_cost l.instance (course_row c l.rows)) l.number;
+  so_far : l.total ≡ sum_below (λ c. rooms_cost l.instance (course_row c l.timetable)) l.number;
   small : l.total ≤ l.number * (1000);
 }

@@ -17,7 +17,7 @@ write_answer-requires g c =
     let v : DeskValue = c.args.desk.now in
     subst (λ i. AnswerFits i c.step-answer.result) c.requires.same
     (answer_can v c.step-answer.new.self c.args.event c.step-answer.result c.step-answer.ensures.same c.step-answer.ensures.plain c.in_default.not-NoMemory 64
-    (rw c.requires.same c.limits.ensures) c.lawful.ensures c.requires.stands (sym c.requires.planners) (rw c.requires.same c.requires.fits))
+    (rw c.requires.same c.limits_hold.ensures) c.lawful.ensures c.requires.stands (sym c.requires.planners) (rw c.requires.same c.requires.fits))
 
 pub returns : goal.returns
 returns g c =

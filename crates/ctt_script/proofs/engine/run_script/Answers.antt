@@ -30,4 +30,4 @@ returns-in_err-answer_lines-clause-front g c = on_err c.from_residual-in_err-ans
 pub returns-clause-entries : goal.returns-clause-entries
 returns-clause-entries g c =
     journal_can c.in_ok-desk.desk c.answer_lines.new.desk c.args.instance.now c.in_ok-text.text.items c.deref.result.now (g.W.Sink.taken c.args.writer.now) (g.W.Sink.taken c.answer_lines.new.writer)
-    c.limits.ensures c.in_ok-desk.ensures.problem c.lawful.ensures c.in_ok-desk.ensures.planners c.in_ok-desk.ensures.stands c.deref.ensures.value c.in_ok-answer_lines.ensures.written (search rules)
+    c.limits_hold.ensures c.in_ok-desk.ensures.problem c.lawful.ensures c.in_ok-desk.ensures.planners c.in_ok-desk.ensures.stands c.deref.ensures.value c.in_ok-answer_lines.ensures.written (search rules)

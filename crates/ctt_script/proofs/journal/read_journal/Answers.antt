@@ -5,13 +5,13 @@ pub returns-in-Ok-clause-spelled : goal.returns-in-Ok-clause-spelled
 returns-in-Ok-clause-spelled c = gives_spelled c.args.instance.now c.args.text.now c.read_text.result (rw c.in-Ok.ensures.cases.0 at c.read_text.ensures)
 
 pub returns-in-Ok-clause-fits : goal.returns-in-Ok-clause-fits
-returns-in-Ok-clause-fits c = gives_fits c.args.instance.now c.args.text.now c.limits.ensures c.read_text.result (rw c.in-Ok.ensures.cases.0 at c.read_text.ensures)
+returns-in-Ok-clause-fits c = gives_fits c.args.instance.now c.args.text.now c.limits_hold.ensures c.read_text.result (rw c.in-Ok.ensures.cases.0 at c.read_text.ensures)
 
 pub returns-in-Ok-clause-few : goal.returns-in-Ok-clause-few
-returns-in-Ok-clause-few c = gives_few c.args.instance.now c.args.text.now c.limits.ensures c.read_text.result (rw c.in-Ok.ensures.cases.0 at c.read_text.ensures)
+returns-in-Ok-clause-few c = gives_few c.args.instance.now c.args.text.now c.limits_hold.ensures c.read_text.result (rw c.in-Ok.ensures.cases.0 at c.read_text.ensures)
 
 pub returns-in-Ok-clause-short : goal.returns-in-Ok-clause-short
-returns-in-Ok-clause-short c = gives_short c.args.instance.now c.args.text.now c.limits.ensures c.read_text.result (rw c.in-Ok.ensures.cases.0 at c.read_text.ensures)
+returns-in-Ok-clause-short c = gives_short c.args.instance.now c.args.text.now c.limits_hold.ensures c.read_text.result (rw c.in-Ok.ensures.cases.0 at c.read_text.ensures)
 
 pub returns-in-Ok-clause-accepted : goal.returns-in-Ok-clause-accepted
 returns-in-Ok-clause-accepted c = λ t utf8 s. gives_accepted c.args.instance.now c.args.text.now c.read_text.result (rw c.in-Ok.ensures.cases.0 at c.read_text.ensures) t s

@@ -16,12 +16,12 @@ returns c =
     let value_is = c.in_ok-value.ensures in
     let text : string_bytes c.in_ok-report.report ≡ compact_text (view c.in_ok-value.value) =
     c.in_ok-report.ensures.text (ap has_float value_is ∙ no_float _ _ _ _ _) in
-    let written : string_bytes c.push_str.new.self ≡ json_of c.name.result.now c.hard_counts.result c.penalty.result c.is_lawful.result c.is_complete.result =
+    let written : string_bytes c.push_str.new.self ≡ json_of c.name.result.now c.assess.result.hard c.assess.result.cost c.assess.result.lawful c.assess.result.complete =
     c.in_ok-push_str.ensures.bytes ∙ ap (λ t. t ++ codes "\n") (text ∙ ap compact_text value_is) in
     record {
-      lawful = c.is_lawful.result;
-      complete = c.is_complete.result;
-      is_lawful = c.is_lawful.ensures;
-      is_complete = c.is_complete.ensures;
+      lawful = c.assess.result.lawful;
+      complete = c.assess.result.complete;
+      is_lawful = c.assess.ensures.lawful;
+      is_complete = c.assess.ensures.complete;
       shown = search (rules, written);
     }

@@ -11,10 +11,10 @@ adds more e was = e ∙ ap (λ (s : List ℕ). s ++ more) was
 pub returns : goal.returns
 unfolding text_of
 returns c =
-    let hard = c.args.hard.now in
-    let cost = c.args.cost.now in
-    adds (answer_line (codes "complete") c.args.complete) c.in_ok-push_answer-2.ensures
-    (adds (answer_line (codes "lawful") c.args.lawful) c.in_ok-push_answer.ensures
+    let hard = c.args.assessment.hard in
+    let cost = c.args.assessment.cost in
+    adds (answer_line (codes "complete") c.args.assessment.complete) c.in_ok-push_answer-2.ensures
+    (adds (answer_line (codes "lawful") c.args.assessment.lawful) c.in_ok-push_answer.ensures
     (adds (count_line (codes "total") (total cost)) (c.in_ok-push_count-9.ensures ∙ ap (λ n. string_bytes c.push_count-8.new.report ++ count_line (codes "total") n) c.total.ensures)
     (adds (count_line (codes "stability") cost.stability) c.in_ok-push_count-8.ensures
     (adds (count_line (codes "compactness") cost.compactness) c.in_ok-push_count-7.ensures

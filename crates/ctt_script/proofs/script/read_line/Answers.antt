@@ -14,4 +14,4 @@ returns-then-is_at_end-clause-item c =
 pub returns-then-is_at_end-clause-fits : goal.returns-then-is_at_end-clause-fits
 returns-then-is_at_end-clause-fits c =
     let read = rw (c.new-reader.ensures, c.in-Ok.ensures.cases.0) at c.in-Ok-read_event.ensures in
-    item_fits c.args.instance.now c.limits.ensures c.args.line.now c.in-Ok-read_event.event (sym (good_line c.args.instance.now c.args.line.now c.in-Ok-read_event.event c.read_event.new.reader c.in-Ok.ensures.cases.1 read (c.is_at_end.ensures.0 c.if-is_at_end.true)))
+    item_fits c.args.instance.now c.limits_hold.ensures c.args.line.now c.in-Ok-read_event.event (sym (good_line c.args.instance.now c.args.line.now c.in-Ok-read_event.event c.read_event.new.reader c.in-Ok.ensures.cases.1 read (c.is_at_end.ensures.0 c.if-is_at_end.true)))

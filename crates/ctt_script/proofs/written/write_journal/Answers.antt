@@ -15,4 +15,4 @@ returns-clause-spelled c =
     let i = c.args.instance.now in
     let es = c.args.entries.now in
     let text : c.into_bytes.result.items ≡ journal_text i es = grind (arith, common_steps) in
-    λ rest. subst (λ bytes. JournalSpells i (words (bytes ++ rest)) es) (sym text) (written_spells i c.limits.ensures c.names.ensures es c.requires.few c.requires.fits c.requires.short rest)
+    λ rest. subst (λ bytes. JournalSpells i (words (bytes ++ rest)) es) (sym text) (written_spells i c.limits_hold.ensures c.names_are_words.ensures es c.requires.few c.requires.fits c.requires.short rest)

@@ -1,9 +1,10 @@
-use Rattle.std.proofs.Common.{inr, subst, IfSome}
+use Rattle.std.proofs.Common.{[], ◌∷◌, inr, subst, IfErr, IfSome}
 use Rattle.std.proofs.lemmas.Result.{IfErr-weaker, IfOk-weaker}
 use Rattle.std.specs.String.{string_bytes}
 use Rattle.ctt_text.specs.Problem.{Problem}
 use Rattle.ctt_tool.specs.Checks.{IsInstanceText, IsNoSolution, IsReportFor, IsReportOn, OneIsRefused}
-use Rattle.ctt_tool.proofs.Known.{both_told}
+use Rattle.ctt_tool.specs.Faults.{IsOfFiles}
+use Rattle.ctt_tool.proofs.Known.{both_told, of_more_files}
 use Rattle.ctt_tool.proofs.check.report_on.Goals as goal
 
 pub returns-clause-reports : goal.returns-clause-reports
@@ -21,3 +22,8 @@ returns-clause-cause g c =
     (λ instance_text solution_text is_instance is_no_solution. inr (problem, is_instance, is_no_solution))
     c.in_ok-instance.ensures.spelled
     (subst (λ held. IfSome (held (string_bytes c.args.solution)) (IsNoSolution problem)) c.in_ok-instance.ensures.kept (caused one))) c.report_for.ensures.cause
+
+pub returns-clause-file : goal.returns-clause-file
+returns-clause-file g c =
+    IfErr-weaker c.report_for.result _ _ (λ fault is. of_more_files (c.args.solution ∷ []) (c.args.instance ∷ c.args.solution ∷ []) (g.F.Files.held c.args.files.now) fault (λ name one. inr one) is)
+    (subst (λ held. IfErr c.report_for.result (IsOfFiles (c.args.solution ∷ []) held)) c.in_ok-instance.ensures.kept c.report_for.ensures.file)

@@ -34,6 +34,6 @@ returns g c =
     let i = c.args.self.now.problem in
     let t = c.args.self.now.list in
     let f : ℕ → Option ℕ = λ s. room_at c.args.course s t in
-    let all : c.slots-number-end.result ≡ slot_count i = c.slots-number-end.ensures ∙ ap slot_count c.instance-instance.ensures in
+    let all : c.slots-number-end.result ≡ slot_count i = c.slots-number-end.ensures.exact ∙ ap slot_count c.instance-instance.ensures in
     let end : c.loop-number.number ≡ slot_count i = omega (arith, all, c.loop-number-test.false, c.loop-number.auto.number-end) in
     c.loop-number.invariant.so_far ∙ ap (row_below f c.args.course) end ∙ sym (course_row_is i t c.args.course c.lawful.ensures.timetable)

@@ -1,8 +1,8 @@
-use Rattle.std.proofs.Common.{◌≡◌, ◌+◌, ◌∙◌, sym, ap, subst, length, leb, count_by, false, arith}
+use Rattle.std.proofs.Common.{◌≡◌, ◌+◌, subst, length, leb, false, arith}
 use Rattle.std.proofs.lemmas.Bool.{and_parts}
 use Rattle.ctt_text.specs.Timetable.{course_row}
 use Rattle.ctt_rules.specs.Hard.{Lawful}
-use Rattle.ctt_board.specs.Changes.{in_turn, apply, is_added, is_removed}
+use Rattle.ctt_board.specs.Changes.{in_turn, apply}
 use Rattle.ctt_board.proofs.AfterLemmas.{rows_after, few_in_row}
 use Rattle.ctt_board.proofs.after.AfterRooms.count.Goals as goal
 
@@ -10,7 +10,7 @@ pub overflow_add-count : goal.overflow_add-count
 overflow_add-count g c =
     let t = g.R.Rooms.list c.self.inside.rooms.now in
     let lawful : Lawful c.self.inside.instance.now t = subst (λ p. Lawful p t) c.self.invariant.same c.lawful.ensures in
-    omega (arith, few_in_row c.self.inside.instance.now t c.args.course c.limits.ensures lawful, c.count.ensures, c.added.ensures.bound)
+    omega (arith, few_in_row c.self.inside.instance.now t c.args.course c.limits_hold.ensures lawful, c.count.ensures, c.added.ensures.bound)
 
 module _ (g : _) (c : goal.After-removed g) where
   balance : length (course_row c.args.course (apply c.self.inside.cells.now (g.R.Rooms.list c.self.inside.rooms.now))) + c.removed.result ≡ c.count.result + c.added.result

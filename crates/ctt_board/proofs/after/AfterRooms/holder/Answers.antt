@@ -1,4 +1,4 @@
-use Rattle.std.proofs.Common.{◌≡◌, ◌∙◌, sym, ap, subst, length, leb, false}
+use Rattle.std.proofs.Common.{◌∙◌, sym, ap, subst, length, leb, false}
 use Rattle.std.proofs.lemmas.Bool.{and_parts}
 use Rattle.ctt_rules.specs.Hard.{Lawful}
 use Rattle.ctt_board.specs.Changes.{in_turn, holder_by}

@@ -1,32 +1,29 @@
-use Rattle.std.proofs.Common.{◌≡◌, ◌*◌, ◌∙◌, arith}
-use Rattle.ctt_text.specs.Problem.{course_count, room_count, curriculum_count, slot_count}
+use Rattle.std.proofs.Common.{◌≡◌, ◌∙◌, arith}
+use Rattle.ctt_text.specs.Problem.{course_count, curriculum_count, slot_count}
 use Rattle.ctt_board.proofs.CountsLemmas.{none_counted}
 use Rattle.ctt_board.proofs.counts.Counts.new.Goals as goal
 
 pub returns : goal.returns
 returns c =
     let i = c.args.instance.now in
-    let courses : c.courses-courses.result ≡ course_count i = c.courses-courses.ensures in
-    let slots : c.slots-slots.result ≡ slot_count i = c.slots-slots.ensures in
-    let curricula : c.curricula-curricula.result ≡ curriculum_count i = c.curricula-curricula.ensures in
+    let courses : c.courses-courses.result ≡ course_count i = c.courses-courses.ensures.exact in
+    let slots : c.slots-slots.result ≡ slot_count i = c.slots-slots.ensures.exact in
+    let curricula : c.curricula-curricula.result ≡ curriculum_count i = c.curricula-curricula.ensures.exact in
     let a = c.in_ok-new.ensures in
     let b = c.in_ok-new-2.ensures in
     let d = c.in_ok-new-3.ensures in
     let e = c.in_ok-new-4.ensures in
     let f = c.in_ok-new-5.ensures in
-    let h = c.in_ok-new-6.ensures in
     none_counted i _
     (record {
       lectures = (a.rows.0, a.rows.1 ∙ courses);
-      days = (b.rows.0 ∙ courses, b.rows.1 ∙ c.days.ensures);
+      days = (b.rows.0 ∙ courses, b.rows.1 ∙ c.days.ensures.exact);
       used = (d.rows.0, d.rows.1 ∙ courses);
-      rooms = (e.rows.0 ∙ courses, e.rows.1 ∙ c.rooms.ensures);
+      rooms = (e.rows.0 ∙ courses, e.rows.1 ∙ c.rooms.ensures.exact);
       parts = (f.rows.0 ∙ curricula, f.rows.1 ∙ slots);
-      taught = (h.rows.0 ∙ c.teachers.ensures, h.rows.1 ∙ slots);
     })
     (λ r k lr lk. a.cells r k lr (omega (arith, lk, courses)))
-    (λ r k lr lk. b.cells r k (omega (arith, lr, courses)) (omega (arith, lk, c.days.ensures)))
+    (λ r k lr lk. b.cells r k (omega (arith, lr, courses)) (omega (arith, lk, c.days.ensures.exact)))
     (λ r k lr lk. d.cells r k lr (omega (arith, lk, courses)))
-    (λ r k lr lk. e.cells r k (omega (arith, lr, courses)) (omega (arith, lk, c.rooms.ensures)))
+    (λ r k lr lk. e.cells r k (omega (arith, lr, courses)) (omega (arith, lk, c.rooms.ensures.exact)))
     (λ r k lr lk. f.cells r k (omega (arith, lr, curricula)) (omega (arith, lk, slots)))
-    (λ r k lr lk. h.cells r k (omega (arith, lr, c.teachers.ensures)) (omega (arith, lk, slots)))

@@ -1,5 +1,6 @@
-use Rattle.ctt_board.proofs.CountsLemmas.{curricula_fit}
+use Rattle.std.proofs.Common.{sym, subst, ◌<◌}
+use Rattle.std.specs.List.{AllByRecursion as Each}
 use Rattle.ctt_board.proofs.counts.Counts.take.Goals as goal
 
 pub take_column-requires-clause-rows : goal.take_column-requires-clause-rows
-take_column-requires-clause-rows c = curricula_fit c.args.instance.now c.args.lecture.now.course _ _ c.curricula_of-curricula.ensures c.requires.sizes.parts.0
+take_column-requires-clause-rows c = subst (λ n. Each (λ r. r < n) c.curricula_of-curricula.result.now) (sym c.requires.sizes.parts.0) c.curricula_of-curricula.ensures.within

@@ -1,4 +1,4 @@
-use Rattle.std.proofs.Common.{rules, ◌≡◌, ◌<◌, ◌==◌, ◌&&◌, cond, false, Some, None, is_some, ◌∙◌, sym, ap, ap₂, subst, arith}
+use Rattle.std.proofs.Common.{rules, ◌≡◌, ◌==◌, ◌&&◌, cond, false, Some, None, is_some, ◌∙◌, sym, ap, ap₂, subst, arith}
 use Rattle.ctt_text.specs.Timetable.{Fits, with}
 use Rattle.ctt_rules.specs.Hard.{Lawful}
 use Rattle.ctt_board.specs.Changes.{room_at}
@@ -8,17 +8,27 @@ use Rattle.ctt_board.specs.Seen.{Sees}
 use Rattle.ctt_board.proofs.FewLemmas.{have_room}
 use Rattle.ctt_board.proofs.GridLemmas.{WroteRoom, sees_now}
 use Rattle.ctt_board.proofs.HolderLemmas.{WroteCourse}
+use Rattle.ctt_board.proofs.MeetingLemmas.{none_yet}
+use Rattle.ctt_board.proofs.MoreLemmas.{more_with}
 use Rattle.ctt_board.proofs.SheetLemmas.{cost_small, added}
 use Rattle.ctt_board.proofs.grid_sheet.GridSheet.add.Goals as goal
 
 pub with_lecture-self-inside-requires-clause-small : goal.with_lecture-self-inside-requires-clause-small
-with_lecture-self-inside-requires-clause-small c = cost_small c.self.inside.instance.now c.self.inside.rooms c.self.inside.courses c.self.inside.counts c.self.inside.cost c.self.invariant c.limits.ensures
+with_lecture-self-inside-requires-clause-small c = cost_small c.self.inside.instance.now c.self.inside.rooms c.self.inside.courses c.self.inside.standing c.self.inside.counts c.self.inside.cost c.self.invariant c.limits_hold.ensures
 
 pub add-requires-clause-room : goal.add-requires-clause-room
-add-requires-clause-room c = have_room c.self.inside.instance.now (listed c.self.inside.instance.now c.self.inside.rooms) c.self.inside.counts c.self.invariant.counts_are c.self.invariant.lawful.timetable c.limits.ensures
+add-requires-clause-room c = have_room c.self.inside.instance.now (listed c.self.inside.instance.now c.self.inside.rooms) c.self.inside.counts c.self.invariant.counts_are c.self.invariant.lawful.timetable c.limits_hold.ensures
 
-module _ (c : goal.After-set-2) where
-  whole : IsGridSheet c.self.inside.instance.now c.set.new.self c.set-2.new.self c.add.new.self c.with_lecture-self-inside.result × (listed c.self.inside.instance.now c.set.new.self ≡ with c.args.lecture.now (listed c.self.inside.instance.now c.self.inside.rooms))
+pub joining_of-joining-requires-clause-own : goal.joining_of-joining-requires-clause-own
+joining_of-joining-requires-clause-own c =
+    let i = c.self.inside.instance.now in
+    let l = c.args.lecture.now in
+    let t = listed i c.self.inside.rooms in
+    let lawful : Lawful i (with l t) = subst (λ b. Lawful b.problem (with l b.list)) (sym c.self.view_is) c.requires.lawful in
+    none_yet i l t (with l t) c.now.result (more_with l t) c.self.invariant.lawful lawful (sees_now i t c.now.result c.self.inside.counts c.self.invariant.counts_are c.now.ensures.counts c.now.ensures.removed c.now.ensures.added c.now.ensures.gone c.now.ensures.fresh)
+
+module _ (c : goal.After-stand) where
+  whole : IsGridSheet c.self.inside.instance.now c.set.new.self c.set-2.new.self c.stand.new.standing c.add.new.self c.with_lecture-self-inside.result × (listed c.self.inside.instance.now c.set.new.self ≡ with c.args.lecture.now (listed c.self.inside.instance.now c.self.inside.rooms))
   whole =
       let i = c.self.inside.instance.now in
       let l = c.args.lecture.now in
@@ -34,8 +44,8 @@ module _ (c : goal.After-set-2) where
       let room : c.get-room.result ≡ l.room = search rules in
       let wrote' : WroteCourse i c.self.inside.courses c.set-2.new.self l.slot l.room (Some l.course) =
       λ d e lt. c.set-2.ensures.cells d e None (omega (arith, lt, c.self.invariant.courses_are.size.1)) ∙ ap₂ (λ a b. cond (d == a && e == b) (Some l.course) (at c.self.inside.courses d e None)) slot room in
-      added i rooms c.set.new.self c.self.inside.courses c.set-2.new.self c.self.inside.counts c.add.new.self c.self.inside.cost c.with_lecture-self-inside.result l c.now.result c.joining_of-joining.result c.self.invariant fits c.set.ensures.rows c.set.ensures.width c.set-2.ensures.rows c.set-2.ensures.width
-      empty lawful sees c.joining_of-joining.ensures.value c.with_lecture-self-inside.ensures c.add.ensures wrote wrote'
+      added i rooms c.set.new.self c.self.inside.courses c.set-2.new.self c.self.inside.standing c.stand.new.standing c.self.inside.counts c.add.new.self c.self.inside.cost c.with_lecture-self-inside.result l c.now.result c.joining_of-joining.result c.self.invariant fits c.set.ensures.rows c.set.ensures.width c.set-2.ensures.rows c.set-2.ensures.width
+      empty lawful sees c.joining_of-joining.ensures.value c.with_lecture-self-inside.ensures c.add.ensures wrote wrote' c.stand.ensures
 
 pub invariant_of-self : goal.invariant_of-self
 invariant_of-self c = (whole c).0

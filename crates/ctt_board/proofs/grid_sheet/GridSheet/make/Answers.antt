@@ -1,4 +1,4 @@
-use Rattle.std.proofs.Common.{rules, ◌≡◌, Some, subst, sym}
+use Rattle.std.proofs.Common.{rules, ◌≡◌, Some, subst}
 use Rattle.ctt_rules.specs.Hard.{Lawful}
 use Rattle.ctt_board.specs.Changes.{apply_at, room_at}
 use Rattle.ctt_board.proofs.BetweenLemmas.{comes_fits, there_fits}

@@ -16,5 +16,5 @@ pub returns : goal.returns
 returns c =
     let i = c.self.inside.instance.now in
     let slot : c.args.slot < slot_count i = subst (λ b. c.args.slot < slot_count b.problem) (sym c.self.view_is) c.requires in
-    let end : c.loop-number.number ≡ course_count i = omega (arith, c.loop-number-test.false, c.loop-number.auto.number-end, c.courses-number-end.ensures) in
+    let end : c.loop-number.number ≡ course_count i = omega (arith, c.loop-number-test.false, c.loop-number.auto.number-end, c.courses-number-end.ensures.exact) in
     rw (← c.self.view_is) (c.loop-number.invariant ∙ ap (column_below (λ k. at c.self.inside.rooms k c.args.slot None) c.args.slot) end ∙ column_shown i (listed i c.self.inside.rooms) c.args.slot c.self.invariant.lawful.timetable c.self.inside.rooms c.self.invariant.rooms_are slot)

@@ -12,4 +12,4 @@ step-answer-requires g c κs =
 pub loop-event-preserved : goal.loop-event-preserved
 loop-event-preserved g c =
     let longer : c.push.new.self.items ≡ c.loop-event.answers.items ++ c.step-answer.result ∷ [] = search rules in
-    ran_more c.args.self.now c.loop-event.self c.step-answer.new.self c.args.events.now c.loop-event.event-index c.loop-event.answers.items c.push.new.self.items (vec_capacity c.loop-event.answers) (vec_capacity c.push.new.self) c.event-item.result c.step-answer.result c.loop-event.invariant (search rules) (search rules) c.step-answer.ensures.same c.step-answer.ensures.plain longer (search rules)
+    ran_more c.args.self.now c.loop-event.self c.step-answer.new.self c.args.events.now c.loop-event.event-index c.loop-event.answers.items c.push.new.self.items (vec_capacity c.loop-event.answers) (vec_capacity c.push.new.self) c.event-item.result c.step-answer.result c.loop-event.invariant (search rules) (search rules) c.step-answer.ensures.same c.step-answer.ensures.stands longer (search rules)

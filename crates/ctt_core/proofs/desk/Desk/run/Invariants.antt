@@ -1,6 +1,6 @@
 use Rattle.std.proofs.Common.{take}
 use Rattle.std.specs.Vec.{vec_capacity}
-use Rattle.ctt_core.specs.Laws.{Ran}
+use Rattle.ctt_core.proofs.RanLemmas.{Ran}
 use Rattle.ctt_core.proofs.desk.Desk.run.Given as goal
 
 abbrev pub invariant-loop-event : goal.invariant-loop-event

@@ -1,4 +1,4 @@
-use Rattle.std.proofs.Common.{rules, ◌≡◌, ◌∙◌, ℕ, List, [], ◌∷◌, ◌++◌, length, map, get_or, cond, sym, ap, ap₂, subst, arith}
+use Rattle.std.proofs.Common.{rules, ◌≡◌, ◌∙◌, ℕ, [], ◌∷◌, ◌++◌, map, get_or, cond, sym, ap, ap₂, subst, arith}
 use Rattle.std.proofs.lemmas.List.{get_or-map, length-map}
 use Rattle.ctt_text.specs.Lists.{below, has}
 use Rattle.ctt_text.specs.Problem.{AreMembers}
@@ -21,7 +21,7 @@ loop-number-preserved c =
     record {
       size = omega (arith, adds.size, c.loop-number.invariant.size, length-map c.loop-number.lists (λ v. v.items), length-map c.add_to_members.new.lists (λ v. v.items));
       lists = λ d lt. adds.lists d (omega (arith, lt, c.loop-number.invariant.size, length-map c.loop-number.lists (λ v. v.items)))
-        ∙ ap (λ xs. xs ++ cond (has d c.deref.result.now) (c.new.result ∷ []) []) (c.loop-number.invariant.lists d lt)
-        ∙ ap₂ (λ q ms. below (λ q. has d (get_or (map (λ v. v.items) c.args.curricula.now) q [])) n ++ cond (has d ms) (q ∷ []) []) number these
-        ∙ sym (below_more (λ q. has d (get_or (map (λ v. v.items) c.args.curricula.now) q [])) n);
+          ∙ ap (λ xs. xs ++ cond (has d c.deref.result.now) (c.new.result ∷ []) []) (c.loop-number.invariant.lists d lt)
+          ∙ ap₂ (λ q ms. below (λ q. has d (get_or (map (λ v. v.items) c.args.curricula.now) q [])) n ++ cond (has d ms) (q ∷ []) []) number these
+          ∙ sym (below_more (λ q. has d (get_or (map (λ v. v.items) c.args.curricula.now) q [])) n);
     }

@@ -11,10 +11,10 @@ unfolding entry
 returns-clause-exact c =
     let i = c.args.lectures.now.problem in
     let s = c.args.lectures.now.lectures in
-    read_then cut (known_name UnknownCourse i.course_names) _ c.args.reader.now c.read_course.new.reader c.in_ok-course.course (rw c.instance-instance.ensures at c.in_ok-course.ensures.exact)
-    ∙ read_then cut (known_name UnknownRoom i.room_names) _ c.read_course.new.reader c.read_room.new.reader c.in_ok-room.room (rw c.instance-instance.ensures at c.in_ok-room.ensures.exact)
-    ∙ read_then cut (number_if BadNumber (λ n. nat_lt n i.days) DayOut) _ c.read_room.new.reader c.read_day.new.reader c.in_ok-day.day (rw c.instance-instance.ensures at c.in_ok-day.ensures.exact)
-    ∙ read_then cut (free_slot i s c.in_ok-course.course c.in_ok-day.day) _ c.read_day.new.reader c.read_slot.new.reader c.in_ok-slot.slot c.in_ok-slot.ensures.exact
+    read_then cut (known_name UnknownCourse i.course_names) _ c.args.reader.now c.next_course.new.reader c.in_ok-course.course (rw c.instance-instance.ensures at c.in_ok-course.ensures.exact)
+    ∙ read_then cut (known_name UnknownRoom i.room_names) _ c.next_course.new.reader c.next_room.new.reader c.in_ok-room.room (rw c.instance-instance.ensures at c.in_ok-room.ensures.exact)
+    ∙ read_then cut (number_if BadNumber (λ n. nat_lt n i.days) DayOut) _ c.next_room.new.reader c.next_day.new.reader c.in_ok-day.day (rw c.instance-instance.ensures at c.in_ok-day.ensures.exact)
+    ∙ read_then cut (free_slot i s c.in_ok-course.course c.in_ok-day.day) _ c.next_day.new.reader c.read_slot.new.reader c.in_ok-slot.slot c.in_ok-slot.ensures.exact
     ∙ read_done cut _ c.read_slot.new.reader
     ∙ ap (λ h. Ok (h.lectures, c.read_slot.new.reader)) (sym c.add.ensures)
 
@@ -25,8 +25,8 @@ returns-in_err-slot-clause-exact c =
     let i = c.args.lectures.now.problem in
     let s = c.args.lectures.now.lectures in
     rw (p.1, p.2)
-    (fails_there cut lacks_memory c.in_err-slot.field-0.0 (free_slot i s c.in_ok-course.course c.in_ok-day.day) _ c.read_day.new.reader _
-    (read_then cut (known_name UnknownCourse i.course_names) _ c.args.reader.now c.read_course.new.reader c.in_ok-course.course (rw c.instance-instance.ensures at c.in_ok-course.ensures.exact)
-    ∙ read_then cut (known_name UnknownRoom i.room_names) _ c.read_course.new.reader c.read_room.new.reader c.in_ok-room.room (rw c.instance-instance.ensures at c.in_ok-room.ensures.exact)
-    ∙ read_then cut (number_if BadNumber (λ n. nat_lt n i.days) DayOut) _ c.read_room.new.reader c.read_day.new.reader c.in_ok-day.day (rw c.instance-instance.ensures at c.in_ok-day.ensures.exact))
+    (fails_there cut lacks_memory c.in_err-slot.field-0.0 (free_slot i s c.in_ok-course.course c.in_ok-day.day) _ c.next_day.new.reader _
+    (read_then cut (known_name UnknownCourse i.course_names) _ c.args.reader.now c.next_course.new.reader c.in_ok-course.course (rw c.instance-instance.ensures at c.in_ok-course.ensures.exact)
+    ∙ read_then cut (known_name UnknownRoom i.room_names) _ c.next_course.new.reader c.next_room.new.reader c.in_ok-room.room (rw c.instance-instance.ensures at c.in_ok-room.ensures.exact)
+    ∙ read_then cut (number_if BadNumber (λ n. nat_lt n i.days) DayOut) _ c.next_room.new.reader c.next_day.new.reader c.in_ok-day.day (rw c.instance-instance.ensures at c.in_ok-day.ensures.exact))
     c.in_err-slot.ensures.exact)

@@ -1,0 +1,20 @@
+use Rattle.std.proofs.Common.{ℕ, ap, arith}
+use Rattle.std.proofs.lemmas.List.Sums.{sum_by_more}
+use Rattle.ctt_board.specs.Joining.{stands_alone, alone_beside}
+use Rattle.ctt_board.specs.Seen.{seen_part}
+use Rattle.ctt_board.proofs.meeting.meetings.Goals as goal
+
+pub loop-part-preserved : goal.loop-part-preserved
+loop-part-preserved c =
+    let i = c.args.instance.now in
+    let f : ℕ → ℕ = λ q. stands_alone i (seen_part i c.args.later.now q) c.args.slot in
+    let g : ℕ → ℕ = λ q. alone_beside i (seen_part i c.args.later.now q) c.args.slot in
+    let k = c.loop-part.part-index in
+    let q = c.part-item.result in
+    let was = c.loop-part.invariant in
+    record {
+      alone = omega (arith, was.alone, sum_by_more f c.args.parts.now k q c.loop-part-test.true, ap f c.part-item.is, c.meeting_of-met.ensures.alone);
+      company = omega (arith, was.company, sum_by_more g c.args.parts.now k q c.loop-part-test.true, ap g c.part-item.is, c.meeting_of-met.ensures.company);
+      few = omega (arith, was.few, c.meeting_of-met.ensures.few);
+      bound = omega (arith, was.bound, c.meeting_of-met.ensures.bound);
+    }

@@ -1,0 +1,84 @@
+//! Which courses stand in a slot.
+
+ghost use Rattle.std.specs.Prelude.{◌≡◌, ◌<◌, ◌==◌, ◌&&◌, ◌||◌, ℕ, cond, is_some, true, false};
+ghost use Rattle.std.specs.List.{AllByRecursion as Each};
+ghost use Rattle.ctt_text.specs.Marks.{is_marked};
+ghost use Rattle.ctt_text.specs.Timetable.{has_lecture};
+ghost use Rattle.ctt_board.specs.Changes.{stands_by};
+ghost use Rattle.ctt_board.specs.Grids.{Stands};
+
+use crate::cell::Cell;
+use crate::table::Table;
+use ctt_text::{CourseNo, Marks, Placed, SlotNo};
+
+/// Marks the course of a lecture, if it is in the slot.
+fn mark_if_there(standing: &mut Marks, lecture: &Placed, slot: SlotNo)
+    requires { lecture.now.course < 2000 }
+    ensures { (course : ℕ) → is_marked standing.new course ≡ (is_marked standing.old course || (lecture.now.course == course && lecture.now.slot == slot)) }
+{
+    if lecture.slot == slot {
+        standing.mark(lecture.course.get() as usize);
+    }
+}
+
+/// The courses of which some of these lectures are in a slot.
+pub(crate) fn standing_in(lectures: &[Placed], slot: SlotNo) -> Marks
+    requires { Each (λ l. l.course < 2000) lectures.now }
+    ensures { (course : ℕ) → is_marked result course ≡ has_lecture course slot lectures.now }
+{
+    let mut standing = Marks::new();
+    for lecture in lectures {
+        mark_if_there(&mut standing, lecture, slot);
+    }
+    standing
+}
+
+/// Lets the course of a cell come or leave, if the cell is in the slot.
+fn change_if_there(standing: &mut Marks, cell: &Cell, slot: SlotNo)
+    requires { cell.now.course < 2000 }
+    ensures { (course : ℕ) → is_marked standing.new course ≡ cond (cell.now.course == course && cell.now.slot == slot) (is_some cell.now.room) (is_marked standing.old course) }
+{
+    if cell.slot == slot {
+        let course = cell.course.get() as usize;
+        match cell.room {
+            None => standing.unmark(course),
+            Some(_) => standing.mark(course),
+        };
+    }
+}
+
+/// The courses that stand in a slot after these cells, from those before them.
+pub(crate) fn standing_after(cells: &[Cell], slot: SlotNo, before: Marks) -> Marks
+    requires { Each (λ x. x.course < 2000) cells.now }
+    ensures { (course : ℕ) → is_marked result course ≡ stands_by cells.now course slot (is_marked before course) }
+{
+    let mut standing = before;
+    for cell in cells {
+        change_if_there(&mut standing, cell, slot);
+    }
+    standing
+}
+
+/// Lets a course stand in a slot.
+pub(crate) fn stand(standing: &mut Table<Marks>, course: CourseNo, slot: SlotNo)
+    requires some { 0 < standing.old.rows }
+    requires slot { slot < standing.old.width }
+    requires course { course < 2000 }
+    ensures { Stands standing.old standing.new course slot true }
+{
+    let mut here = standing.get(0, slot.get() as usize);
+    here.mark(course.get() as usize);
+    standing.set(0, slot.get() as usize, here);
+}
+
+/// Lets it leave.
+pub(crate) fn leave(standing: &mut Table<Marks>, course: CourseNo, slot: SlotNo)
+    requires some { 0 < standing.old.rows }
+    requires slot { slot < standing.old.width }
+    requires course { course < 2000 }
+    ensures { Stands standing.old standing.new course slot false }
+{
+    let mut here = standing.get(0, slot.get() as usize);
+    here.unmark(course.get() as usize);
+    standing.set(0, slot.get() as usize, here);
+}

@@ -1,0 +1,10 @@
+-- Which entries of a journal fit.
+use Rattle.std.specs.Prelude.{◌<◌}
+use Rattle.std.specs.List.{AllByRecursion as Each}
+use Rattle.ctt_text.specs.Problem.{Problem}
+use Rattle.ctt_draft.specs.Drafts.{AskedFits}
+use Rattle.ctt_core.specs.declared.journal.JournalEntry.{JournalEntry}
+
+-- its planner is one of 1,000, and its calls and replies fit
+abbrev pub EntryFits : Problem → JournalEntry → Type 0
+EntryFits i e = (e.planner < 1000) × Each (AskedFits i) e.asked

@@ -1,0 +1,12 @@
+-- Changes that are being made, each in its turn.
+use Rattle.std.proofs.Common.{◌≡◌, List}
+use Rattle.ctt_text.specs.Problem.{Problem}
+use Rattle.ctt_text.specs.declared.placed.Placed.{Placed}
+use Rattle.ctt_board.specs.declared.cell.Cell.{Cell}
+use Rattle.ctt_draft.specs.Drafts.{ChangesFit, apply_all}
+
+-- of these changes on the timetable t the rest is still to be made, on the timetable u
+pub record Settling (i j : Problem) (t u : List Placed) (all rest : List (List Cell)) : Type 0 where
+  pub same : j ≡ i
+  pub fit : ChangesFit j rest u
+  pub ends : apply_all rest u ≡ apply_all all t

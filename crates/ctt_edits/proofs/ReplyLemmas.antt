@@ -1,0 +1,137 @@
+-- What a call is told on a lawful timetable fits, and is short.
+use Rattle.std.proofs.Common.{◌≡◌, ℕ, pos, ◌-ℤ◌, ◌<◌, ◌≤◌, Bool, true, false, List, [], ◌∷◌, length, Option, Some, None, refl, arith, inl, inr}
+use Rattle.std.proofs.lemmas.Int.{ints}
+use Rattle.std.specs.Prelude.{unsigned_abs, IfSome, filter, ◌==◌}
+use Rattle.std.specs.List.{AllByRecursion as Each}
+use Rattle.std.specs.Option.{option_map}
+use Rattle.std.proofs.lemmas.Bool.{cases_Bool}
+use Rattle.ctt_text.specs.Problem.{Problem, IsProblem, course_count, slot_count, room_count, clash}
+use Rattle.ctt_text.specs.Timetable.{Fits, slot_row, without, before}
+use Rattle.ctt_text.specs.declared.placed.Placed.{Placed}
+use Rattle.ctt_text.proofs.LectureLaws.{Each-put}
+use Rattle.ctt_rules.specs.Hard.{Lawful}
+use Rattle.ctt_rules.specs.Penalty.{penalty, course_cost, total}
+use Rattle.ctt_rules.specs.declared.cost.Cost.{Cost}
+use Rattle.ctt_rules.proofs.ListLemmas.{Each-filter}
+use Rattle.ctt_rules.proofs.TimetableLemmas.{few_lectures}
+use Rattle.ctt_board.specs.Changes.{room_at, apply_at}
+use Rattle.ctt_board.proofs.CostLemmas.{course_cost_small, penalty_small}
+use Rattle.ctt_edits.specs.declared.edit.Edit.{Edit}
+use Rattle.ctt_edits.specs.declared.edit.Edit.TheVariants.{Place, Move, Swap, Reroom, Drop}
+use Rattle.ctt_edits.specs.declared.looks.Look.{Look}
+use Rattle.ctt_edits.specs.declared.looks.Look.TheVariants.{Course, Slot, Teacher, Curriculum, CourseCost, Price}
+use Rattle.ctt_edits.specs.declared.looks.Look.TheVariants.{Cost as WholeCost}
+use Rattle.ctt_edits.specs.declared.call.Call.{Call}
+use Rattle.ctt_edits.specs.declared.call.Call.TheVariants.{Look as Looks, Edit as Edits}
+use Rattle.ctt_edits.specs.declared.fault.EditFault.{EditFault}
+use Rattle.ctt_edits.specs.declared.fault.EditFault.TheVariants.{NotPlaced, SameSlot, SameCourse, AlreadyThere, CourseFull, Unavailable, Clash, RoomTaken}
+use Rattle.ctt_edits.specs.declared.reply.Reply.{Reply}
+use Rattle.ctt_edits.specs.declared.reply.Reply.TheVariants.{Done, Price as Priced}
+use Rattle.ctt_edits.specs.Edits.{EditFits, or_else, fault_if, first_course, try_fault, try_room_of, edit_fault, edited}
+use Rattle.ctt_edits.specs.Looks.{LookFits, told_or, price, shown}
+use Rattle.ctt_edits.specs.Calls.{CallFits, reply}
+use Rattle.ctt_edits.proofs.EditLemmas.{room_fits, edits_keep_lawful}
+use Rattle.ctt_edits.specs.Fitting.{FaultFits, IsAmount, CostFits, AreFew, IsReply}
+use Rattle.ctt_edits.specs.Laws.{RepliesFit}
+
+length-filter : {X : Type 0} (p : X → Bool) (xs : List X) → length (filter p xs) ≤ length xs
+length-filter p [] = omega arith
+length-filter p (x ∷ xs) = elim (cases_Bool (p x)) [ inl b ↦ rw b (omega (arith, length-filter p xs)) | inr b ↦ rw b (omega (arith, length-filter p xs)) ]
+
+-- the difference of two amounts
+difference_small : (a b n : ℕ) → a ≤ n → b ≤ n → unsigned_abs (pos a -ℤ pos b) ≤ n
+difference_small a b n h k = grind (arith, ints)
+
+-- a fault, if there is one, that fits
+pub record MayFit (i : Problem) (o : Option EditFault) : Type 0 where
+  pub fits : IfSome o (FaultFits i)
+
+module _ (i : Problem) where
+  else_fits : (f g : Option EditFault) → MayFit i f → MayFit i g → MayFit i (or_else f g)
+  else_fits None g h k = k
+  else_fits (Some f) g h k = h
+
+  if_fits : (b : Bool) (f : EditFault) → FaultFits i f → MayFit i (fault_if b f)
+  if_fits true f h = record { fits = h }
+  if_fits false f h = record { fits = tt }
+
+  -- the course of a lecture that was found
+  module _ (fault : ℕ → EditFault) (fits : (c : ℕ) → c < course_count i → FaultFits i (fault c)) (p : Placed → Bool) where
+    named_fits : (ls : List Placed) → Each (Fits i) ls → MayFit i (option_map fault (first_course p ls))
+    named_fits [] h = record { fits = tt }
+    named_fits (l ∷ ls) h = elim (cases_Bool (p l)) [ inl b ↦ rw b (record { fits = fits l.course h.0.0 }) | inr b ↦ rw b (named_fits ls h.1) ]
+
+  try_fits : (t : List Placed) → Each (Fits i) t → (c s r : ℕ) → MayFit i (try_fault i t c s r)
+  try_fits t h c s r =
+      let slot : Each (Fits i) (slot_row s t) = Each-filter (Fits i) (λ l. l.slot == s) t h in
+      else_fits _ _ (if_fits _ AlreadyThere tt)
+      (else_fits _ _ (if_fits _ CourseFull tt)
+      (else_fits _ _ (if_fits _ Unavailable tt)
+      (else_fits _ _ (named_fits Clash (λ d lt. lt) (λ l. clash i c l.course) (slot_row s t) slot)
+      (named_fits RoomTaken (λ d lt. lt) (λ l. l.room == r) (slot_row s t) slot))))
+
+  try_room_fits : (t : List Placed) → Each (Fits i) t → (c s : ℕ) (o : Option ℕ) → MayFit i (try_room_of i t c s o)
+  try_room_fits t h c s None = record { fits = tt }
+  try_room_fits t h c s (Some r) = try_fits t h c s r
+
+  fits_without : (t : List Placed) (c s : ℕ) → Each (Fits i) t → Each (Fits i) (without c s t)
+  fits_without t c s h = Each-filter (Fits i) _ t h
+
+  fits_at : (t : List Placed) (c s : ℕ) (o : Option ℕ) → Each (Fits i) t → c < course_count i → s < slot_count i → ((r : ℕ) → o ≡ Some r → r < room_count i) → Each (Fits i) (apply_at c s o t)
+  fits_at t c s None h cf sf rf = fits_without t c s h
+  fits_at t c s (Some r) h cf sf rf = Each-put (Fits i) before _ t (cf, sf, rf r refl) h
+
+  -- the fault of an edit names a course of the instance
+  pub edit_fits : (t : List Placed) (e : Edit) → Lawful i t → EditFits i e → MayFit i (edit_fault i t e)
+  edit_fits t (Place c s r) l f = try_fits t l.timetable.fits c s r
+  edit_fits t (Move c s s2 r) l f =
+      else_fits _ _ (if_fits _ NotPlaced tt)
+      (else_fits _ _ (if_fits _ SameSlot tt)
+      (try_fits (without c s t) (fits_without t c s l.timetable.fits) c s2 r))
+  edit_fits t (Swap c s d s2) l f =
+      let left : List Placed = without d s2 (without c s t) in
+      let fit : Each (Fits i) left = fits_without (without c s t) d s2 (fits_without t c s l.timetable.fits) in
+      else_fits _ _ (if_fits _ NotPlaced tt)
+      (else_fits _ _ (if_fits _ SameCourse tt)
+      (else_fits _ _ (try_room_fits left fit c s2 (room_at d s2 t))
+      (try_room_fits (apply_at c s2 (room_at d s2 t) left) (fits_at left c s2 (room_at d s2 t) fit f.0 f.3 (λ r e. room_fits i t d s2 r l e)) d s (room_at c s t))))
+  edit_fits t (Reroom c s r) l f =
+      else_fits _ _ (if_fits _ NotPlaced tt)
+      (try_fits (without c s t) (fits_without t c s l.timetable.fits) c s r)
+  edit_fits t (Drop c s) l f = if_fits _ NotPlaced tt
+
+  told_fits : (o : Option EditFault) (answer : Reply) → MayFit i o → (o ≡ None → IsReply i answer) → IsReply i (told_or o answer)
+  told_fits None answer h k = k refl
+  told_fits (Some f) answer h k = (h.fits, tt)
+
+  module _ (is : IsProblem i) (t : List Placed) (lawful : Lawful i t) where
+    part_fits : (p : Placed → Bool) → Each (Fits i) (filter p t) × AreFew (filter p t)
+    part_fits p =
+        let few : length t ≤ 4000000 = few_lectures i t lawful.timetable is in
+        (Each-filter (Fits i) p t lawful.timetable.fits, omega (arith, length-filter p t, few))
+
+    cost_fits : (c : Cost) → total c ≤ 9223372036854775807 → CostFits c
+    cost_fits c h = (omega (arith, h), omega (arith, h), omega (arith, h), omega (arith, h))
+
+    price_fits : (e : Edit) → EditFits i e → edit_fault i t e ≡ None → IsAmount (unsigned_abs (price i t e))
+    price_fits e f none =
+        let after : Lawful i (edited t e) = edits_keep_lawful i t e lawful f none in
+        let small : total (penalty i t) ≤ 9223372036854775807 = omega (arith, penalty_small i is t lawful.timetable) in
+        let small_after : total (penalty i (edited t e)) ≤ 9223372036854775807 = omega (arith, penalty_small i is (edited t e) after.timetable) in
+        difference_small (total (penalty i (edited t e))) (total (penalty i t)) 9223372036854775807 small_after small
+
+    look_fits : (look : Look) → LookFits i look → IsReply i (shown i t look)
+    look_fits (Course c) f = part_fits _
+    look_fits (Slot s) f = part_fits _
+    look_fits (Teacher h) f = part_fits _
+    look_fits (Curriculum q) f = part_fits _
+    look_fits (CourseCost c) f = (cost_fits (course_cost i t c) (omega (arith, course_cost_small i is t lawful.timetable c)), tt)
+    look_fits (Price e) f = told_fits (edit_fault i t e) (Priced (price i t e)) (edit_fits t e lawful f) (λ none. (price_fits e f none, tt))
+    look_fits WholeCost f = (cost_fits (penalty i t) (omega (arith, penalty_small i is t lawful.timetable)), tt)
+
+    reply_fits : (call : Call) → CallFits i call → IsReply i (reply i t call)
+    reply_fits (Looks look) f = look_fits look f
+    reply_fits (Edits e) f = told_fits (edit_fault i t e) Done (edit_fits t e lawful f) (λ none. (tt, tt))
+
+pub replies_fit : RepliesFit
+replies_fit i t call is lawful f = reply_fits i is t lawful call f

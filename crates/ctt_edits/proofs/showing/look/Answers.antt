@@ -1,0 +1,14 @@
+use Rattle.std.proofs.Common.{rules, ◌<◌}
+use Rattle.ctt_text.specs.Problem.{course_count}
+use Rattle.ctt_edits.specs.Edits.{EditFits}
+use Rattle.ctt_edits.proofs.showing.look.Goals as goal
+
+pub own_cost-requires : goal.own_cost-requires
+own_cost-requires g c κs =
+    let fits : c.in-CourseCost.course < course_count (g.S.Rooms.problem c.args.sheet.now) = rw c.in-CourseCost.is at c.requires in
+    search rules
+
+pub price_reply-requires : goal.price_reply-requires
+price_reply-requires g c κs =
+    let fits : EditFits (g.S.Rooms.problem c.args.sheet.now) c.in-Price.edit = rw c.in-Price.is at c.requires in
+    search rules

@@ -1,0 +1,44 @@
+-- Which faults and replies fit an instance, and can be written.
+use Rattle.std.specs.Prelude.{ℕ, ◌<◌, ◌≤◌, List, length, unsigned_abs}
+use Rattle.std.specs.List.{AllByRecursion as Each}
+use Rattle.ctt_text.specs.Problem.{Problem, course_count}
+use Rattle.ctt_text.specs.Timetable.{Fits}
+use Rattle.ctt_rules.specs.declared.cost.Cost.{Cost}
+use Rattle.ctt_edits.specs.declared.fault.EditFault.{EditFault}
+use Rattle.ctt_edits.specs.declared.fault.EditFault.TheVariants.{Clash, RoomTaken}
+use Rattle.ctt_edits.specs.declared.reply.Reply.{Reply}
+use Rattle.ctt_edits.specs.declared.reply.Reply.TheVariants.{Done, Refused, Lectures, Costs, Price}
+
+-- the course that it names, if it names one, is one of the instance
+abbrev pub FaultFits : Problem → EditFault → Type 0
+FaultFits i (Clash c) = c < course_count i
+FaultFits i (RoomTaken c) = c < course_count i
+FaultFits i fault = Unit {0}
+
+-- a number of 63 bits
+abbrev pub IsAmount : ℕ → Type 0
+IsAmount n = n ≤ 9223372036854775807
+
+-- each of the four costs is such a number
+abbrev pub CostFits : Cost → Type 0
+CostFits c = IsAmount c.capacity × IsAmount c.days × IsAmount c.compactness × IsAmount c.stability
+
+-- its numbers are those of the instance, and its amounts have 63 bits, a price without its sign
+abbrev pub ReplyFits : Problem → Reply → Type 0
+ReplyFits i Done = Unit {0}
+ReplyFits i (Refused f) = FaultFits i f
+ReplyFits i (Lectures ls) = Each (Fits i) ls
+ReplyFits i (Costs c) = CostFits c
+ReplyFits i (Price p) = IsAmount (unsigned_abs p)
+
+-- so few that a file can give their number
+abbrev pub AreFew : {A : Type 0} → List A → Type 0
+AreFew list = length list ≤ 999999999
+
+abbrev pub IsShortReply : Reply → Type 0
+IsShortReply (Lectures ls) = AreFew ls
+IsShortReply reply = Unit {0}
+
+-- a reply that fits and is short
+abbrev pub IsReply : Problem → Reply → Type 0
+IsReply i r = ReplyFits i r × IsShortReply r

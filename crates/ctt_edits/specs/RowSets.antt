@@ -1,0 +1,37 @@
+-- Sets of rows.
+use Rattle.std.specs.Prelude.{ℕ, ◌≡◌, ◌<◌, ◌||◌, ◌&&◌, Bool, true, false, nat_le, nat_lt, List, Option, Some, None}
+use Rattle.ctt_text.specs.Marks.{is_marked}
+use Rattle.ctt_text.specs.Problem.{Problem, course_count, slot_count}
+use Rattle.ctt_edits.specs.Calls.{reads_course, reads_slot, rows_where}
+use Rattle.ctt_edits.specs.declared.call.Call.{Call}
+use Rattle.ctt_edits.specs.declared.row.Row.{Row}
+use Rattle.ctt_edits.specs.declared.row.Row.TheVariants.{Course as CourseRow, Slot as SlotRow}
+
+-- the courses and the slots whose rows are in the set, each by marks
+pub record RowSet : Type 0 where
+  pub courses : List ℕ
+  pub slots : List ℕ
+
+abbrev pub has_course : RowSet → ℕ → Bool
+has_course rows c = is_marked rows.courses c
+
+abbrev pub has_slot : RowSet → ℕ → Bool
+has_slot rows s = is_marked rows.slots s
+
+-- the row is in the set
+abbrev pub is_in : RowSet → Row → Bool
+is_in rows (CourseRow c) = has_course rows c
+is_in rows (SlotRow s) = has_slot rows s
+
+-- the rows of the instance that are in the set, in order
+abbrev pub rows_of : Problem → RowSet → List Row
+rows_of i rows = rows_where i (has_course rows) (has_slot rows)
+
+-- of the rows of the instance, beside those that were in the set, those that the call reads
+pub record AddsReads (i : Problem) (call : Call) (old new : RowSet) : Type 0 where
+  pub courses : (c : ℕ) → c < course_count i → has_course new c ≡ (has_course old c || reads_course i call c)
+  pub slots : (s : ℕ) → s < slot_count i → has_slot new s ≡ (has_slot old s || reads_slot call s)
+
+-- numbers from here to there that pass
+abbrev pub between : ℕ → ℕ → (ℕ → Bool) → ℕ → Bool
+between from end test n = nat_le from n && nat_lt n end && test n

@@ -1,0 +1,124 @@
+//! The rows that some calls read, as one value.
+
+ghost use Rattle.std.specs.Prelude.{◌≡◌, ◌++◌, map, false, IfOk, OnOk};
+ghost use Rattle.ctt_text.specs.Lists.{below};
+ghost use Rattle.ctt_text.specs.Marks.{is_marked, IsLeast};
+ghost use Rattle.ctt_text.specs.Problem.{course_count, slot_count};
+ghost use Rattle.ctt_edits.specs.Calls.{CallFits};
+ghost use Rattle.ctt_edits.specs.declared.row.Row.TheVariants.{Course as CourseRow, Slot as SlotRow};
+ghost use Rattle.ctt_edits.specs.RowSets.{has_course, has_slot, is_in, rows_of, AddsReads, between};
+
+use crate::call::Call;
+use crate::reading::mark_reads;
+use crate::row::Row;
+use ctt_text::{CourseNo, Instance, Marks, NoMemory, SlotNo};
+use std::alloc::Global;
+use std::marker::Model;
+
+/// A set of rows: those that the calls read which were added to it. It takes no memory.
+#[derive(Drop)]
+pub struct RowsRead {
+    courses: Marks,
+    slots: Marks,
+}
+
+impl Model for RowsRead {
+    ghost use Rattle.ctt_edits.specs.RowSets.{RowSet};
+
+    ghost Value = { RowSet };
+
+    ghost view = { λ r. record { courses = r.courses; slots = r.slots } };
+}
+
+impl RowsRead {
+    /// No rows.
+    pub fn new() -> Self
+        ensures { (row : _) → is_in result row ≡ false }
+    {
+        RowsRead {
+            courses: Marks::new(),
+            slots: Marks::new(),
+        }
+    }
+
+    /// Adds the rows that a call reads.
+    pub fn add(&mut self, instance: &Instance, call: &Call)
+        requires { CallFits instance.now call.now }
+        ensures { AddsReads instance.now call.now self.old self.new }
+    {
+        mark_reads(instance, call, &mut self.courses, &mut self.slots);
+    }
+
+    /// Whether a row is one of them.
+    pub fn contains(&self, row: Row) -> bool
+        ensures { result ≡ is_in self.now row }
+    {
+        match row {
+            Row::Course(course) => self.courses.is_marked(course.get() as usize),
+            Row::Slot(slot) => self.slots.is_marked(slot.get() as usize),
+        }
+    }
+
+    /// The first course of the instance from a number on whose row is one of them.
+    pub fn next_course(&self, instance: &Instance, from: u16) -> Option<CourseNo>
+        ensures { IsLeast (between from (course_count instance.now) (has_course self.now)) result }
+    {
+        let number = next_marked(&self.courses, from, instance.courses())?;
+        Some(CourseNo::new(number))
+    }
+
+    /// The first slot of the instance from a number on whose row is one of them.
+    pub fn next_slot(&self, instance: &Instance, from: u16) -> Option<SlotNo>
+        ensures { IsLeast (between from (slot_count instance.now) (has_slot self.now)) result }
+    {
+        let number = next_marked(&self.slots, from, instance.slots())?;
+        Some(SlotNo::new(number))
+    }
+
+    /// The rows, ascending, each once. The instance is the one of the calls.
+    pub fn list(&self, alloc: Global, instance: &Instance) -> Result<Vec<Row>, NoMemory>
+        ensures { IfOk result (λ rows. rows.items ≡ rows_of instance.now self.now) }
+    {
+        let mut rows = Vec::new(alloc);
+        self.list_courses(instance, &mut rows)?;
+        self.list_slots(instance, &mut rows)?;
+        Ok(rows)
+    }
+
+    /// Adds the rows of courses to a list.
+    fn list_courses(&self, instance: &Instance, rows: &mut Vec<Row>) -> Result<(), NoMemory>
+        ensures { OnOk result (rows.new.items ≡ rows.old.items ++ map CourseRow (below (has_course self.now) (course_count instance.now))) }
+    {
+        instance.limits_hold();
+        let mut from = 0;
+        while let Some(course) = self.next_course(instance, from) {
+            rows.push(Row::Course(course))?;
+            from = course.get() + 1;
+        }
+        Ok(())
+    }
+
+    /// Adds the rows of slots to a list.
+    fn list_slots(&self, instance: &Instance, rows: &mut Vec<Row>) -> Result<(), NoMemory>
+        ensures { OnOk result (rows.new.items ≡ rows.old.items ++ map SlotRow (below (has_slot self.now) (slot_count instance.now))) }
+    {
+        instance.limits_hold();
+        let mut from = 0;
+        while let Some(slot) = self.next_slot(instance, from) {
+            rows.push(Row::Slot(slot))?;
+            from = slot.get() + 1;
+        }
+        Ok(())
+    }
+}
+
+/// The first marked number from a number on, and below another one.
+fn next_marked(marks: &Marks, from: u16, end: u16) -> Option<u16>
+    ensures { IsLeast (between from end (is_marked marks.now)) result }
+{
+    let number = marks.next_from(from as usize)?;
+    if number < end as usize {
+        return Some(number as u16);
+    }
+    None
+}

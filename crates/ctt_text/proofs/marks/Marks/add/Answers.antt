@@ -1,0 +1,6 @@
+use Rattle.ctt_text.proofs.MarkLemmas.{added_none, added_more, added_all, added_are}
+use Rattle.std.proofs.Common.{arith, ◌<◌, length}
+use Rattle.ctt_text.proofs.marks.Marks.add.Goals as goal
+
+pub loop-place-preserved : goal.loop-place-preserved
+loop-place-preserved c = added_more c.self.inside.words c.other.inside.words c.loop-place.self-inside.words c.loop-place.place (rw c.self.invariant.size c.loop-place-test.true) c.loop-place.invariant

@@ -1,0 +1,194 @@
+//! One place of any text: one word, by the rule of its place, with the faults of that text.
+
+ghost use Rattle.std.specs.Prelude.{◌≡◌, ◌<◌, nat_lt, IfOk};
+ghost use Rattle.ctt_text.specs.Places.{fixed, number, number_if, known_name};
+ghost use Rattle.ctt_text.specs.Problem.{course_count, room_count};
+ghost use Rattle.ctt_text.specs.Reading.{Reads, reading, word_at};
+
+use crate::ids::{CourseNo, RoomNo};
+use crate::instance::Instance;
+use crate::numbers::number;
+use crate::reader::Reader;
+
+/// The faults that the places of each text have. A fault is told the number of its word, from 1.
+pub trait PlaceFault: Sized {
+    ghost use Rattle.std.specs.Prelude.{ℕ};
+
+    /// The fault of a word that is not there.
+    ghost missing: { ℕ → Self };
+
+    /// The fault of a word that is no number.
+    ghost bad_number: { ℕ → Self };
+
+    /// The fault of a word that is no course's name.
+    ghost unknown_course: { ℕ → Self };
+
+    /// The fault of a day that is not below the number of days.
+    ghost day_out: { ℕ → Self };
+
+    /// The fault of a period that is not below the number of periods of a day.
+    ghost period_out: { ℕ → Self };
+
+    /// No word is there.
+    fn missing(at: u64) -> Self
+        ensures { result ≡ missing at };
+
+    /// The word is no number.
+    fn bad_number(at: u64) -> Self
+        ensures { result ≡ bad_number at };
+
+    /// The word is no course's name.
+    fn unknown_course(at: u64) -> Self
+        ensures { result ≡ unknown_course at };
+
+    /// The day is not below the number of days.
+    fn day_out(at: u64) -> Self
+        ensures { result ≡ day_out at };
+
+    /// The period is not below the number of periods of a day.
+    fn period_out(at: u64) -> Self
+        ensures { result ≡ period_out at };
+}
+
+/// The faults of a text that has fixed words.
+pub trait FixedFault: PlaceFault {
+    ghost use Rattle.std.specs.Prelude.{ℕ};
+
+    /// The fault of a word that is not the fixed one.
+    ghost other_word: { ℕ → Self };
+
+    /// The word is not the fixed one.
+    fn other_word(at: u64) -> Self
+        ensures { result ≡ other_word at };
+}
+
+/// The faults of a text that names rooms of an instance.
+pub trait RoomFault: PlaceFault {
+    ghost use Rattle.std.specs.Prelude.{ℕ};
+
+    /// The fault of a word that is no room's name.
+    ghost unknown_room: { ℕ → Self };
+
+    /// The word is no room's name.
+    fn unknown_room(at: u64) -> Self
+        ensures { result ≡ unknown_room at };
+}
+
+/// The next word, whatever it is.
+pub fn next_word<'a, F: PlaceFault + Drop>(reader: &mut Reader<'a>) -> Result<&'a str, F>
+    ensures { Reads (λ word. (word.now, reader.new)) result (word_at F.missing reader.old) }
+{
+    let at = reader.next();
+    match reader.word() {
+        Some(word) => Ok(word),
+        None => Err(F::missing(at)),
+    }
+}
+
+/// The fixed word of this place.
+#[tactic(auto, using(crate::proofs::Steps::read_known), unfolding(crate::specs::Places::fixed))]
+pub fn next_fixed<F: FixedFault + Drop>(reader: &mut Reader, text: &str) -> Result<(), F>
+    ensures { Reads (λ _. (tt, reader.new)) result (reading F.missing (fixed F.other_word text.now) reader.old) }
+{
+    let at = reader.next();
+    if next_word::<F>(reader)? == text {
+        Ok(())
+    } else {
+        Err(F::other_word(at))
+    }
+}
+
+/// A number, at most 999,999,999.
+#[tactic(auto, using(crate::proofs::Steps::read_known), unfolding(crate::specs::Places::number))]
+pub fn next_number<F: PlaceFault + Drop>(reader: &mut Reader) -> Result<u32, F>
+    ensures { Reads (λ number. (number, reader.new)) result (reading F.missing (number F.bad_number) reader.old) }
+{
+    let at = reader.next();
+    let word = next_word::<F>(reader)?;
+    match number(word.as_bytes()) {
+        Some(number) => Ok(number),
+        None => Err(F::bad_number(at)),
+    }
+}
+
+/// A course by its name.
+#[tactic(auto, using(crate::proofs::Steps::read_known), unfolding(crate::specs::Places::known_name))]
+pub fn next_course<F: PlaceFault + Drop>(
+    reader: &mut Reader,
+    instance: &Instance,
+) -> Result<CourseNo, F>
+    ensures within { IfOk result (λ course. course < course_count instance.now) }
+    ensures exact { Reads (λ course. (course, reader.new)) result (reading F.missing (known_name F.unknown_course instance.now.course_names) reader.old) }
+{
+    let at = reader.next();
+    let name = next_word::<F>(reader)?;
+    match instance.find_course(name) {
+        Some(course) => Ok(course),
+        None => Err(F::unknown_course(at)),
+    }
+}
+
+/// A room by its name.
+#[tactic(auto, using(crate::proofs::Steps::read_known), unfolding(crate::specs::Places::known_name))]
+pub fn next_room<F: RoomFault + Drop>(reader: &mut Reader, instance: &Instance) -> Result<RoomNo, F>
+    ensures within { IfOk result (λ room. room < room_count instance.now) }
+    ensures exact { Reads (λ room. (room, reader.new)) result (reading F.missing (known_name F.unknown_room instance.now.room_names) reader.old) }
+{
+    let at = reader.next();
+    let name = next_word::<F>(reader)?;
+    match instance.find_room(name) {
+        Some(room) => Ok(room),
+        None => Err(F::unknown_room(at)),
+    }
+}
+
+/// A day below the number of days.
+#[tactic(auto, using(crate::proofs::Steps::read_number_if))]
+pub(crate) fn next_day_below<F: PlaceFault + Drop>(reader: &mut Reader, days: u32) -> Result<u32, F>
+    ensures within { IfOk result (λ day. day < days) }
+    ensures exact { Reads (λ day. (day, reader.new)) result (reading F.missing (number_if F.bad_number (λ n. nat_lt n days) F.day_out) reader.old) }
+{
+    let at = reader.next();
+    let day = next_number::<F>(reader)?;
+    if day < days {
+        Ok(day)
+    } else {
+        Err(F::day_out(at))
+    }
+}
+
+/// A period below the number of periods of a day.
+#[tactic(auto, using(crate::proofs::Steps::read_number_if))]
+pub(crate) fn next_period_below<F: PlaceFault + Drop>(
+    reader: &mut Reader,
+    periods: u32,
+) -> Result<u32, F>
+    ensures within { IfOk result (λ period. period < periods) }
+    ensures exact { Reads (λ period. (period, reader.new)) result (reading F.missing (number_if F.bad_number (λ n. nat_lt n periods) F.period_out) reader.old) }
+{
+    let at = reader.next();
+    let period = next_number::<F>(reader)?;
+    if period < periods {
+        Ok(period)
+    } else {
+        Err(F::period_out(at))
+    }
+}
+
+/// A day of the instance.
+pub fn next_day<F: PlaceFault + Drop>(reader: &mut Reader, instance: &Instance) -> Result<u16, F>
+    ensures within { IfOk result (λ day. day < instance.now.days) }
+    ensures exact { Reads (λ day. (day, reader.new)) result (reading F.missing (number_if F.bad_number (λ n. nat_lt n instance.now.days) F.day_out) reader.old) }
+{
+    let day = next_day_below::<F>(reader, u32::from(instance.days()))?;
+    Ok(day as u16)
+}
+
+/// A period of a day of the instance.
+pub fn next_period<F: PlaceFault + Drop>(reader: &mut Reader, instance: &Instance) -> Result<u16, F>
+    ensures within { IfOk result (λ period. period < instance.now.periods) }
+    ensures exact { Reads (λ period. (period, reader.new)) result (reading F.missing (number_if F.bad_number (λ n. nat_lt n instance.now.periods) F.period_out) reader.old) }
+{
+    let period = next_period_below::<F>(reader, u32::from(instance.periods()))?;
+    Ok(period as u16)
+}

@@ -1,0 +1,13 @@
+use Rattle.std.proofs.Common.{inr}
+use Rattle.std.proofs.lemmas.Result.{IfErr-weaker}
+use Rattle.ctt_tool.proofs.Known.{if_err_both, job_caused, on_ok_weaker}
+use Rattle.ctt_tool.proofs.program.do_as_asked.Goals as goal
+
+pub returns-in-Ok-clause-done : goal.returns-in-Ok-clause-done
+returns-in-Ok-clause-done g c = on_ok_weaker c.do_job.result _ _ (λ does. inr (c.in-Ok.job, c.in-Ok.ensures.job, does)) c.do_job.ensures.done
+
+pub returns-in-Ok-clause-cause : goal.returns-in-Ok-clause-cause
+returns-in-Ok-clause-cause g c = IfErr-weaker c.do_job.result _ _ (λ fault caused one. (c.in-Ok.job, c.in-Ok.ensures.job, caused one)) c.do_job.ensures.cause
+
+pub returns-in-Ok-clause-machine : goal.returns-in-Ok-clause-machine
+returns-in-Ok-clause-machine g c = if_err_both c.do_job.result _ _ _ (λ fault file unwritten. job_caused _ (g.F.Files.held c.args.files.now) _ c.in-Ok.job _ fault c.in-Ok.ensures.job file unwritten) c.do_job.ensures.file c.do_job.ensures.fault

@@ -1,0 +1,73 @@
+#!/usr/bin/env bash
+# Refuses each request for memory of some runs of the program as it was built, alone and with all after it, by a `malloc` in
+# front of the C library's. Each such run has to end with status 3 and 'timedesk: no memory', or as it does with memory, where
+# the request only gives memory back. Run by hand, since it needs a C compiler. The last line is 'N passed, M failed'.
+set -u
+here=$(CDPATH='' cd -- "$(dirname -- "${BASH_SOURCE[0]}")/.." && pwd) || exit 1
+program=${PROGRAM:-$here/crates/ctt_tool/out/ctt_tool}
+room=$(mktemp -d) || exit 1
+trap 'rm -rf -- "$room"' EXIT
+cat >"$room/refuse.c" <<'C'
+#define _GNU_SOURCE
+#include <dlfcn.h>
+#include <stdio.h>
+#include <stdlib.h>
+
+static long asked, number;
+static int later;
+static void *(*next_malloc)(size_t);
+static void *(*next_realloc)(void *, size_t);
+
+__attribute__((constructor)) static void begin(void) {
+    next_malloc = dlsym(RTLD_NEXT, "malloc");
+    next_realloc = dlsym(RTLD_NEXT, "realloc");
+    number = getenv("REFUSE") ? atol(getenv("REFUSE")) : 0;
+    later = getenv("REFUSE_LATER") != 0;
+    asked = 0;
+}
+
+static int refused(void) {
+    asked++;
+    return number > 0 && (later ? asked >= number : asked == number);
+}
+
+void *malloc(size_t size) { return next_malloc && refused() ? 0 : next_malloc ? next_malloc(size) : 0; }
+void *realloc(void *old, size_t size) { return refused() ? 0 : next_realloc(old, size); }
+
+__attribute__((destructor)) static void end(void) {
+    const char *name = getenv("ASKED");
+    long all = asked;
+    number = 0;
+    FILE *file = name ? fopen(name, "w") : 0;
+    if (file) {
+        fprintf(file, "%ld\n", all);
+        fclose(file);
+    }
+}
+C
+cc -O1 -shared -fPIC -o "$room/refuse.so" "$room/refuse.c" -ldl || exit 1
+cp -- "$here"/examples/*.ctt "$here"/examples/*.sol "$room"
+cd -- "$room" || exit 1
+
+passed=0
+failed=0
+for words in 'check small.ctt s.sol' 'check small.ctt s.sol --json' 'check comp07.ctt comp07.sol' 'check small.ctt small.ctt' \
+    'check nowhere s.sol' --help frobnicate; do
+    LD_PRELOAD=$room/refuse.so ASKED=$room/asked "$program" $words >out 2>err
+    wanted=$?
+    for later in '' REFUSE_LATER=1; do
+        for ((number = 1; number <= $(<asked); number++)); do
+            env LD_PRELOAD="$room/refuse.so" REFUSE=$number $later "$program" $words >out.now 2>err.now
+            status=$?
+            if { [ "$status" = 3 ] && [ ! -s out.now ] && [ "$(<err.now)" = 'timedesk: no memory' ]; } \
+                || { [ "$status" = "$wanted" ] && cmp -s out out.now && cmp -s err err.now; }; then
+                passed=$((passed + 1))
+            else
+                failed=$((failed + 1))
+                echo "FAILED: $words, request $number $later: status $status"
+            fi
+        done
+    done
+done
+echo "$passed passed, $failed failed"
+[ "$failed" = 0 ]
