@@ -26,8 +26,15 @@ use Rattle.ctt_core.specs.declared.journal.JournalEntry.{JournalEntry}
 use Rattle.ctt_core.specs.Runs.{after, Legal, Turn, OpenDraft, ask, begin, turned, is_commit, commits, draft, entry, entered, accepted_of, now, base, open_answer, ask_answer, verdict, commit_answer, abandon_answer, plain, IsRight, Right, EventFits, RunFits}
 use Rattle.ctt_core.proofs.RunLemmas.{GoodDraft, Good, right_is_good, lawful_after, Each-take}
 use Rattle.ctt_core.proofs.RunLemmas.{EntryFits as CallsFit}
-use Rattle.ctt_script.specs.Entries.{IsReply, IsAsked, EntryFits, AskedFits, IsShortReply, AreFew, IsShort, IsEntry, RowFits, AnswerFits}
-use Rattle.ctt_script.proofs.RepliesFit.{reply_fits}
+use Rattle.ctt_edits.specs.Fitting.{IsReply, IsShortReply, AreFew}
+use Rattle.ctt_draft.specs.Drafts.{AskedFits}
+use Rattle.ctt_core.specs.Entries.{EntryFits}
+use Rattle.ctt_script.specs.Entries.{IsAsked, IsShort, IsEntry, RowFits, AnswerFits}
+use Rattle.ctt_edits.proofs.ReplyLemmas.{replies_fit}
+
+-- what a call is told on a lawful timetable can be written
+reply_fits : (i : Problem) → IsProblem i → (t : List Placed) → Lawful i t → (call : Call) → CallFits i call → IsReply i (reply i t call)
+reply_fits i is t lawful call f = replies_fit i t call is lawful f
 
 -- what is found is an element
 found : {X : Type 0} (P : X → Type 0) (p : X → Bool) (xs : List X) → Each P xs → IfSome (find p xs) P

@@ -17,7 +17,9 @@ use Rattle.ctt_script.specs.declared.kinds.FaultKind.TheVariants as fault
 use Rattle.ctt_script.specs.Amounts.{is_amount, amount_of, price_of, negated}
 use Rattle.ctt_draft.specs.declared.asked.Asked.{Asked}
 use Rattle.ctt_core.specs.declared.journal.JournalEntry.{JournalEntry}
-use Rattle.ctt_script.specs.Entries.{FaultFits, IsAmount, AskedFits, AreFew, IsShortReply, IsReply, IsAsked, IsEntry}
+use Rattle.ctt_edits.specs.Fitting.{FaultFits, IsAmount, AreFew, IsShortReply, IsReply}
+use Rattle.ctt_draft.specs.Drafts.{AskedFits}
+use Rattle.ctt_script.specs.Entries.{IsAsked, IsEntry}
 use Rattle.ctt_script.specs.Known.{label}
 use Rattle.ctt_script.specs.ReplyPlaces.{fault_after, fault_form, lecture, lectures, count, amount, costs, reply_after, reply_form}
 use Rattle.ctt_script.specs.JournalPlaces.{asked_form, entry_form, journal_form}

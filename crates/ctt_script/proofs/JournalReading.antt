@@ -23,7 +23,9 @@ use Rattle.ctt_script.specs.declared.kinds.ReplyKind.TheVariants as reply
 use Rattle.ctt_script.specs.declared.kinds.FaultKind.{FaultKind}
 use Rattle.ctt_script.specs.declared.kinds.FaultKind.TheVariants as fault
 use Rattle.ctt_core.specs.declared.journal.JournalEntry.{JournalEntry}
-use Rattle.ctt_script.specs.Entries.{EntryFits, AreFew, IsShort, IsEntry}
+use Rattle.ctt_edits.specs.Fitting.{AreFew}
+use Rattle.ctt_core.specs.Entries.{EntryFits}
+use Rattle.ctt_script.specs.Entries.{IsShort, IsEntry}
 use Rattle.ctt_script.specs.Known.{known, word, label, one_more, list_of, broken_unless, missing, wants_memory}
 use Rattle.ctt_script.specs.CallPlaces.{course, room, teacher, curriculum, slot, edit_after, edit_form, look_after, call_after, call_form}
 use Rattle.ctt_script.specs.ReplyPlaces.{fault_after, fault_form, lecture, lectures, count, amount, costs, reply_after, reply_form}

@@ -3,7 +3,8 @@ use Rattle.std.proofs.Common.{◌≡◌, ℕ, ◌+◌, List, [], ◌∷◌, Opti
 use Rattle.ctt_text.specs.Left.{Left}
 use Rattle.ctt_text.specs.Forms.{Form, done, ◌>>=◌, read}
 use Rattle.ctt_text.specs.Places.{one}
-use Rattle.ctt_text.specs.Reading.{reading, and_then, word_of, word_at}
+use Rattle.ctt_text.specs.Reading.{reading, word_of, word_at}
+use Rattle.ctt_text.proofs.Steps.{and_then}
 use Rattle.ctt_text.proofs.Steps as steps
 use Rattle.ctt_script.specs.declared.journal_fault.JournalFault.{JournalFault}
 use Rattle.ctt_script.specs.declared.journal_fault.JournalFault.TheVariants.{BadWord}

@@ -16,10 +16,12 @@ use Rattle.ctt_core.specs.Desks.{DeskValue, SameDesk}
 use Rattle.ctt_core.specs.Laws.{Stands}
 use Rattle.ctt_script.specs.AnswerText.{answered, answers_after, run_after, answer_text}
 use Rattle.ctt_script.specs.Answering.{AppendsFront, Wrote, WroteFront}
-use Rattle.ctt_script.specs.Entries.{EntryFits, AreFew, IsShort, IsEntry, IsWritable}
+use Rattle.ctt_edits.specs.Fitting.{AreFew}
+use Rattle.ctt_core.specs.Entries.{EntryFits}
+use Rattle.ctt_script.specs.Entries.{IsShort, IsEntry, IsWritable}
 use Rattle.ctt_script.specs.ScriptText.{script, lines_of, item, has_words}
 use Rattle.ctt_script.proofs.AnswersFit.{journal_is}
-use Rattle.ctt_script.proofs.RepliesFit.{length-filter}
+use Rattle.ctt_board.proofs.LawfulLemmas.{length-filter_le}
 
 -- a run is no longer than its items
 run_length : (i : Problem) (t0 : List Placed) (past : List Turn) (items : List (Option Event)) → length (run_after i t0 past items) ≤ length past + length items
@@ -31,7 +33,7 @@ run_length i t0 past (Some e ∷ items) = omega (arith, run_length i t0 (answere
 few_items : (i : Problem) (text : List ℕ) → length (script i text) ≤ length text + 1
 few_items i text =
     let items : length (script i text) ≡ length (filter has_words (lines_of text)) = length-map (filter has_words (lines_of text)) (item i) in
-    omega (arith, items, length-filter has_words (lines_of text), length-slice_split (λ b. b == 10) text, filtered (λ b. b == 10) text, length-filter (λ b. b == 10) text)
+    omega (arith, items, length-filter_le has_words (lines_of text), length-slice_split (λ b. b == 10) text, filtered (λ b. b == 10) text, length-filter_le (λ b. b == 10) text)
 
 -- a front of the answers was written
 pub front_said : (v : DeskValue) (i : Problem) (t0 : List Placed) (left : Option (List ℕ)) (read text : List ℕ) (before after : Option (List ℕ)) → v.problem ≡ i → v.opening ≡ t0 → Stands v [] → text ≡ read → IfSome left (λ bytes. read ≡ bytes) → WroteFront v (script i text) before after

@@ -26,7 +26,10 @@ use Rattle.ctt_edits.specs.declared.reply.Reply.TheVariants.{Done, Refused, Lect
 use Rattle.ctt_edits.specs.Calls.{CallFits}
 use Rattle.ctt_draft.specs.declared.asked.Asked.{Asked}
 use Rattle.ctt_core.specs.declared.journal.JournalEntry.{JournalEntry}
-use Rattle.ctt_script.specs.Entries.{FaultFits, IsAmount, ReplyFits, AskedFits, EntryFits, AreFew, IsShortReply, IsShort, IsAsked, IsEntry}
+use Rattle.ctt_edits.specs.Fitting.{FaultFits, IsAmount, ReplyFits, AreFew, IsShortReply}
+use Rattle.ctt_draft.specs.Drafts.{AskedFits}
+use Rattle.ctt_core.specs.Entries.{EntryFits}
+use Rattle.ctt_script.specs.Entries.{IsShort, IsAsked, IsEntry}
 use Rattle.ctt_script.specs.JournalText.{JournalSpells}
 use Rattle.ctt_script.specs.WrittenWords.{course_word, room_word, day_word, period_word, edit_words, look_words, call_words, fault_words, lecture_words, reply_words, asked_words, entry_words, journal_words}
 use Rattle.ctt_script.specs.WrittenText.{line, rest_of_line, lecture_part, asked_text, entry_text, journal_text}

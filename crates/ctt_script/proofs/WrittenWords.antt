@@ -44,7 +44,10 @@ use Rattle.ctt_script.specs.Amounts.{amount_of, price_of, negated, number_below}
 use Rattle.ctt_script.specs.Kinds.{edit_kind, look_kind, call_kind, reply_kind, fault_kind}
 use Rattle.ctt_draft.specs.declared.asked.Asked.{Asked}
 use Rattle.ctt_core.specs.declared.journal.JournalEntry.{JournalEntry}
-use Rattle.ctt_script.specs.Entries.{FaultFits, IsAmount, ReplyFits, AskedFits, EntryFits, AreFew, IsShortReply, IsShort, IsAsked, IsEntry}
+use Rattle.ctt_edits.specs.Fitting.{FaultFits, IsAmount, ReplyFits, AreFew, IsShortReply}
+use Rattle.ctt_draft.specs.Drafts.{AskedFits}
+use Rattle.ctt_core.specs.Entries.{EntryFits}
+use Rattle.ctt_script.specs.Entries.{IsShort, IsAsked, IsEntry}
 use Rattle.ctt_script.specs.Known.{known, word, label, list_of, exactly}
 use Rattle.ctt_script.specs.CallPlaces.{course, room, teacher, curriculum, slot, edit_after, edit_form, look_after, look_form, call_after, call_form}
 use Rattle.ctt_script.specs.ReplyPlaces.{fault_after, fault_form, lecture, lectures, count, amount, costs, reply_after, reply_form}

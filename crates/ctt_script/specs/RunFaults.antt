@@ -2,7 +2,7 @@
 use Rattle.std.specs.Prelude.{◌≡◌, ◌<◌, ℕ, List, length, Option, IfSome, Err}
 use Rattle.ctt_text.specs.Problem.{Problem}
 use Rattle.ctt_text.specs.declared.placed.Placed.{Placed}
-use Rattle.ctt_core.specs.Openings.{opening}
+use Rattle.ctt_edits.specs.Openings.{opening}
 use Rattle.ctt_core.specs.declared.desk_fault.DeskFault.{DeskFault}
 use Rattle.ctt_core.specs.declared.desk_fault.DeskFault.TheVariants as desk_fault
 use Rattle.ctt_script.specs.declared.input.InputFault.{InputFault}
@@ -21,7 +21,7 @@ of_input input_fault.NoMemory = script_fault.NoMemory
 
 -- the cause of a fault: the opening cannot be placed, or a reader that tells its bytes has too many
 abbrev pub IsCauseOf : Problem → List Placed → Option (List ℕ) → ScriptFault → Type 0
-IsCauseOf i lectures left (script_fault.Unlawful at fault) = opening i lectures ≡ Err (desk_fault.Unlawful at fault)
+IsCauseOf i lectures left (script_fault.Unlawful at fault) = opening i lectures ≡ Err (at, fault)
 IsCauseOf i lectures left script_fault.TooLong = IfSome left (λ text. 67108864 < length text)
 IsCauseOf i lectures left fault = Unit {0}
 

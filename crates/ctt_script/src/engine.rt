@@ -8,7 +8,7 @@ ghost use Rattle.ctt_text.specs.declared.placed.Placed.{Placed as Lecture};
 ghost use Rattle.ctt_edits.specs.declared.fault.EditFault.{EditFault};
 ghost use Rattle.ctt_core.specs.Runs.{EventFits};
 ghost use Rattle.ctt_core.specs.Laws.{Stands};
-ghost use Rattle.ctt_core.specs.Openings.{opening};
+ghost use Rattle.ctt_edits.specs.Openings.{opening};
 ghost use Rattle.ctt_core.specs.declared.desk_fault.DeskFault.TheVariants as desk_fault;
 ghost use Rattle.ctt_script.specs.AnswerText.{answer_text, script_run};
 ghost use Rattle.ctt_script.specs.Answering.{Answered, AppendsFront, IsAtRun, WritesOut, Wrote, WroteFront};
@@ -148,9 +148,9 @@ pub fn run_script<'i, S: Sheet<'i>, R: Source, W: Sink>(
     ensures entries { IfOk result (λ desk. IsWritable instance.now desk.journal) }
 
     ensures cause { IfErr result (λ fault. IsCauseOf instance.now lectures.now (R.left reader.old) fault) }
-    ensures refused { (at : ℕ) (fault : EditFault) → opening instance.now lectures.now ≡ Err (desk_fault.Unlawful at fault)
+    ensures refused { (at : ℕ) (fault : EditFault) → opening instance.now lectures.now ≡ Err (at, fault)
         → (result ≡ Err (script_fault.Unlawful at fault)) ⊎ (result ≡ Err script_fault.NoMemory) }
-    ensures unread { (at : ℕ) (fault : EditFault) → opening instance.now lectures.now ≡ Err (desk_fault.Unlawful at fault)
+    ensures unread { (at : ℕ) (fault : EditFault) → opening instance.now lectures.now ≡ Err (at, fault)
         → (reader.new ≡ reader.old) × (writer.new ≡ writer.old) }
     ensures read { (result ≡ Err script_fault.Read) ↔ (R.has_failed reader.new ≡ true) }
     ensures unwritten { IfErr result (λ fault. MayHaveWritten fault ⊎ (writer.new ≡ writer.old)) }

@@ -16,11 +16,11 @@ pub write_answer-requires : goal.write_answer-requires
 write_answer-requires g c =
     let v : DeskValue = c.args.desk.now in
     subst (λ i. AnswerFits i c.step-answer.result) c.requires.same
-    (answer_can v c.step-answer.new.self c.args.event c.step-answer.result c.step-answer.ensures.same c.step-answer.ensures.plain c.in_default.not-NoMemory 64
-    (rw c.requires.same c.limits_hold.ensures) c.lawful.ensures c.requires.stands (sym c.requires.planners) (rw c.requires.same c.requires.fits))
+    (answer_can v c.step-answer.new.self c.args.event c.step-answer.result c.step-answer.ensures.same c.step-answer.ensures.stands c.in_default.not-NoMemory 64
+    (rw c.requires.same c.limits_hold.ensures) c.lawful.ensures.opening c.requires.stands (sym c.requires.planners) (rw c.requires.same c.requires.fits))
 
 pub returns : goal.returns
 returns g c =
     let v : DeskValue = c.args.desk.now in
     let grown : string_bytes c.write_answer.new.text ≡ string_bytes c.args.answers.now ++ line (answer_words v.problem c.step-answer.result) = subst (λ i. string_bytes c.write_answer.new.text ≡ string_bytes c.args.answers.now ++ line (answer_words i c.step-answer.result)) (sym c.requires.same) c.in_ok-write_answer.ensures in
-    event_answered v c.step-answer.new.self c.args.event c.step-answer.result c.step-answer.ensures.same c.step-answer.ensures.plain c.in_default.not-NoMemory (string_bytes c.args.answers.now) (string_bytes c.write_answer.new.text) grown
+    event_answered v c.step-answer.new.self c.args.event c.step-answer.result c.step-answer.ensures.same c.step-answer.ensures.stands c.in_default.not-NoMemory (string_bytes c.args.answers.now) (string_bytes c.write_answer.new.text) grown
