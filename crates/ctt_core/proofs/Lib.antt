@@ -3,4 +3,3 @@ pub mod DeskLemmas
 pub mod StepLemmas
 pub mod RanLemmas
 pub mod OpeningLemmas
-pub mod AuditLemmas

@@ -2,7 +2,6 @@
 #![tactic(auto)]
 
 mod answer;
-mod auditing;
 mod desk;
 mod desk_fault;
 mod event;
@@ -12,7 +11,6 @@ mod opening;
 mod planner;
 
 pub use answer::Answer;
-pub use auditing::{Verdict, audit};
 pub use desk::Desk;
 pub use desk_fault::DeskFault;
 pub use event::Event;

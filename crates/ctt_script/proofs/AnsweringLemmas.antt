@@ -145,9 +145,9 @@ module _ (v : DeskValue) (all : List (List ℕ)) (before : Option (List ℕ)) wh
         let said : h.written ++ kept ≡ answers past h.done = h.answered.grown past stands in
         let split : h.written ++ kept ≡ front ++ drop k.0 kept = ap (λ bs. h.written ++ bs) (sym (take-append-drop k.0 kept)) ∙ sym (append_assoc h.written some (drop k.0 kept)) in
         let whole : answers past (items_of v.problem all) ≡ front ++ rest =
-            ap (answers past) h.lines ∙ answers_join v.problem v.opening past h.done (items_of v.problem left)
-            ∙ ap (λ bs. bs ++ answers (run_after v.problem v.opening past h.done) (items_of v.problem left)) (sym said ∙ split)
-            ∙ append_assoc front (drop k.0 kept) (answers (run_after v.problem v.opening past h.done) (items_of v.problem left)) in
+        ap (answers past) h.lines ∙ answers_join v.problem v.opening past h.done (items_of v.problem left)
+        ∙ ap (λ bs. bs ++ answers (run_after v.problem v.opening past h.done) (items_of v.problem left)) (sym said ∙ split)
+        ∙ append_assoc front (drop k.0 kept) (answers (run_after v.problem v.opening past h.done) (items_of v.problem left)) in
         let cut : take (length front) (answers past (items_of v.problem all)) ≡ front = ap (take (length front)) whole ∙ take-append_seam front rest in
         (length front, subst (Appends before later) (sym cut) (Appends-trans before taken later h.written some h.taken k.1))
 

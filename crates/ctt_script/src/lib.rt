@@ -24,6 +24,7 @@ mod written;
 pub use answers::write_answer;
 pub use calls::{read_call, read_look};
 pub use device::Device;
+pub use engine::run_script;
 pub use input::{InputFault, read_all};
 pub use journal::read_journal;
 pub use journal_fault::JournalFault;
