@@ -5,7 +5,7 @@ use Rattle.std.proofs.lemmas.List.{take_all}
 use Rattle.std.proofs.lemmas.List.Folds.{list_any_more, list_any-append}
 use Rattle.ctt_text.specs.Belonging.{curricula_of}
 use Rattle.ctt_text.specs.Lists.{below, has}
-use Rattle.ctt_text.specs.Problem.{Problem, IsProblem, AreMembers, course_count, curriculum_count, members, mates}
+use Rattle.ctt_text.specs.Problem.{Problem, curriculum_count, members, mates}
 use Rattle.ctt_text.proofs.TimetableLemmas.{Each-at}
 
 -- an element passes both tests: of those that pass the first, one passes the second

@@ -103,10 +103,10 @@ impl Block {
             ≡ ((lecture.now.slot == self.old.first + row && lecture.now.room == n) || in_row self.old.rooms row n) }
         ensures conflicts { self.new.sharing.conflicts ≡ self.old.sharing.conflicts
             + cond (nat_le self.old.first lecture.now.slot && nat_lt lecture.now.slot (self.old.first + 64))
-                (count_marked (λ n. in_row self.old.courses (lecture.now.slot - self.old.first) n && clashes_with instance.now lecture.now.course n)) 0 }
+            (count_marked (λ n. in_row self.old.courses (lecture.now.slot - self.old.first) n && clashes_with instance.now lecture.now.course n)) 0 }
         ensures occupancy { self.new.sharing.occupancy ≡ self.old.sharing.occupancy
             + cond (nat_le self.old.first lecture.now.slot && nat_lt lecture.now.slot (self.old.first + 64))
-                (cond (in_row self.old.rooms (lecture.now.slot - self.old.first) lecture.now.room) 1 0) 0 }
+            (cond (in_row self.old.rooms (lecture.now.slot - self.old.first) lecture.now.room) 1 0) 0 }
     {
         instance.limits_hold();
         let slot = lecture.slot.get();

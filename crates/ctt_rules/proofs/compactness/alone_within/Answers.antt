@@ -1,14 +1,13 @@
 use Rattle.std.proofs.Common.{◌≡◌, ◌+◌, ◌*◌, ◌<◌, ◌≤◌, ◌&&◌, ◌==◌, ◌∙◌, ℕ, ap, arith, take, sum_by, count_by, List, []}
-use Rattle.std.specs.List.{list_any, AllByRecursion as Each}
 use Rattle.std.proofs.lemmas.List.Sums.{sum_by_more}
 use Rattle.ctt_text.specs.Problem.{AreMembers, course_count, members}
 use Rattle.ctt_text.specs.declared.placed.Placed.{Placed}
 use Rattle.ctt_text.proofs.TimetableLemmas.{Each-at}
 use Rattle.ctt_rules.specs.Penalty.{part_of}
-use Rattle.ctt_rules.specs.Windows.{has_bit, is_alone_within, word_of}
+use Rattle.ctt_rules.specs.Windows.{is_alone_within}
 use Rattle.ctt_rules.proofs.PartLemmas.{count_part_le}
 use Rattle.ctt_rules.proofs.TimetableLemmas.{few_lectures}
-use Rattle.ctt_rules.proofs.WindowLemmas.{alone_counted, alone_few, few_members}
+use Rattle.ctt_rules.proofs.WindowLemmas.{alone_counted, few_members}
 use Rattle.ctt_rules.proofs.compactness.alone_within.Goals as goal
 
 pub count-requires-clause-few : goal.count-requires-clause-few
