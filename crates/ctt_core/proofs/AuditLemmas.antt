@@ -1,11 +1,13 @@
 -- Drafts that are run anew, call by call and entry by entry.
-use Rattle.std.proofs.Common.{◌≡◌, ℕ, ◌+◌, ◌<◌, ◌≤◌, List, [], ◌∷◌, ◌++◌, take, drop, get_or, length, refl, add-one, Ok, Err, zero, suc, ◌∙◌, sym, ap, ap₂, subst, arith, take_all}
+use Rattle.std.proofs.Common.{◌≡◌, ℕ, ◌+◌, ◌<◌, ◌≤◌, List, [], ◌∷◌, ◌++◌, take, drop, get_or, length, refl, add-one, Result, Ok, Err, IsTrue, ◌↔◌, false, true, zero, suc, ◌∙◌, sym, ap, ap₂, subst, arith, take_all}
+use Rattle.std.specs.Prelude.{IfOk}
 use Rattle.std.proofs.Math.Seq.{take-suc}
 use Rattle.std.specs.List.{AllByRecursion as Each}
 use Rattle.ctt_text.specs.Problem.{Problem}
 use Rattle.ctt_text.specs.declared.placed.Placed.{Placed}
 use Rattle.ctt_edits.specs.Calls.{CallFits, reply}
 use Rattle.ctt_edits.specs.Openings.{opening}
+use Rattle.ctt_edits.specs.declared.fault.EditFault.{EditFault}
 use Rattle.ctt_edits.specs.declared.reply.Reply.{Reply}
 use Rattle.ctt_draft.specs.Drafts.{calls_of, replies_in, replies, whole, after_call, AskedFits}
 use Rattle.ctt_draft.specs.DraftValues.{IsTold}
@@ -28,10 +30,13 @@ pub record Replaying (i j : Problem) (t u : List Placed) (asked : List Asked) (k
 one_longer : {X : Type 0} (xs : List X) (k : ℕ) (x : X) → k < length xs → x ≡ get_or xs k x → take (k + 1) xs ≡ take k xs ++ x ∷ []
 one_longer xs k x lt is = ap (λ n. take n xs) (add-one k) ∙ take-suc xs k x lt ∙ ap (λ y. take k xs ++ y ∷ []) (sym is)
 
+behind : (k : ℕ) → suc k + 1 ≡ suc (k + 1)
+behind k = omega arith
+
 split_at : {X : Type 0} (xs : List X) (k : ℕ) (x : X) → k < length xs → x ≡ get_or xs k x → xs ≡ take k xs ++ x ∷ drop (k + 1) xs
 split_at [] k x lt is = absurd (omega (arith, lt))
 split_at (y ∷ ys) zero x lt is = ap (λ z. z ∷ ys) (sym is)
-split_at (y ∷ ys) (suc k) x lt is = ap (λ zs. y ∷ zs) (split_at ys k x (omega (arith, lt)) is)
+split_at (y ∷ ys) (suc k) x lt is = rw (behind k) (ap (λ zs. y ∷ zs) (split_at ys k x (omega (arith, lt)) is))
 
 length_taken : {X : Type 0} (xs : List X) (k : ℕ) → k ≤ length xs → length (take k xs) ≡ k
 length_taken xs zero le = refl
@@ -111,11 +116,11 @@ legal_same i t h e c legal d =
     d.differs.other (head_told i (after i t d.earlier) d.differs.earlier d.differs.later d.differs.this (subst (λ xs. replies_in xs ≡ replies i (after i t d.earlier) (calls_of xs)) d.differs.split told))
 
 same_opening : (i : Problem) (ls t u : List Placed) → opening i ls ≡ Ok t → opening i ls ≡ Ok u → t ≡ u
-same_opening i ls t u e f = (let both : Ok t ≡ Ok u = sym e ∙ f in cc)
+same_opening i ls t u e f = (let both : ◌≡◌ {A = Result (List Placed) (ℕ × EditFault)} (Ok t) (Ok u) = sym e ∙ f in cc)
 
 pub agrees : (i : Problem) (ls : List Placed) (h : List JournalEntry) (v : Verdict) → IsVerdict i ls h v → (t : List Placed) → opening i ls ≡ Ok t → Legal i t h → v ≡ Agrees
 agrees i ls h Agrees is t e legal = refl
-agrees i ls h (BadOpening at f) is t e legal = (let both : Ok t ≡ Err (at, f) = sym e ∙ is in cc)
+agrees i ls h (BadOpening at f) is t e legal = (let both : ◌≡◌ {A = Result (List Placed) (ℕ × EditFault)} (Ok t) (Err (at, f)) = sym e ∙ is in cc)
 agrees i ls h (Differs n c) is t e legal = absurd (legal_same i is.t0 h n c (subst (λ u. Legal i u h) (same_opening i ls t is.t0 e is.opens) legal) is.finds)
 
 -- what is found of the timetable that the lectures make
@@ -123,3 +128,11 @@ pub opened : (i j : Problem) (ls t : List Placed) (h : List JournalEntry) (v : V
 opened i j ls t h Agrees same e f = record { t0 = t; opens = e; finds = subst (λ p. Legal p t h) same f }
 opened i j ls t h (BadOpening at x) same e f = absurd f
 opened i j ls t h (Differs n c) same e f = record { t0 = t; opens = e; finds = subst (λ p. DiffersAt p t h n c) same f }
+
+-- a test that fails
+pub fails : (P : Type 0) → (IsTrue false ↔ P) → P → ⊥
+fails P h p = (let bad : false ≡ true = h.1 p in cc)
+
+pub agrees_if : {E : Type 0} (i : Problem) (ls : List Placed) (h : List JournalEntry) (r : Result Verdict E) → IfOk r (IsVerdict i ls h) → IfOk r (λ v. (t : List Placed) → opening i ls ≡ Ok t → Legal i t h → v ≡ Agrees)
+agrees_if i ls h (Ok v) is = agrees i ls h v is
+agrees_if i ls h (Err e) is = is
