@@ -17,7 +17,7 @@ ghost use Rattle.ctt_core.specs.declared.auditing.Verdict.TheVariants.{Agrees};
 use crate::desk_fault::DeskFault;
 use crate::journal::JournalEntry;
 use crate::opening::placed;
-use ctt_board::{GridSheet, Rooms, Sheet, Timetable};
+use ctt_board::{Rooms, Sheet, Timetable};
 use ctt_draft::Asked;
 use ctt_edits::{Call, Edit, EditFault, Reply, check};
 use ctt_text::{Instance, NoMemory, Placed};
@@ -101,8 +101,8 @@ fn replay_all<'i, S: Sheet<'i>>(
     Ok(Verdict::Agrees)
 }
 
-/// The audit on a sheet of this kind.
-fn audit_on<'i, S: Sheet<'i>>(
+/// What is found, on a sheet of this kind.
+fn found_on<'i, S: Sheet<'i>>(
     alloc: Global,
     instance: &'i Instance,
     lectures: &[Placed],
@@ -121,9 +121,11 @@ fn audit_on<'i, S: Sheet<'i>>(
 
 /// Whether a journal tells what its drafts are told when they are run whole, one after another, on the
 /// opening with these lectures, which are placed in their order; and if not, where it differs first.
-pub fn audit(
+///
+/// The kind of sheet on which they are run is the caller's choice, as `audit::<GridSheet>`.
+pub fn audit<'i, S: Sheet<'i>>(
     alloc: Global,
-    instance: &Instance,
+    instance: &'i Instance,
     lectures: &[Placed],
     entries: &[JournalEntry],
 ) -> Result<Verdict, NoMemory>
@@ -132,5 +134,5 @@ pub fn audit(
     ensures found { IfOk result (IsVerdict instance.now lectures.now entries.now) }
     ensures agrees { IfOk result (λ verdict. (t : List Placed) → opening instance.now lectures.now ≡ Ok t → Legal instance.now t entries.now → verdict ≡ Agrees) }
 {
-    audit_on::<GridSheet>(alloc, instance, lectures, entries)
+    found_on::<S>(alloc, instance, lectures, entries)
 }

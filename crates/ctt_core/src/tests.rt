@@ -184,16 +184,16 @@ fn expect_entries_fit(rt: &impl Abort, instance: &Instance, entries: &[JournalEn
 }
 
 /// What an audit finds of these entries.
-fn audited(
+fn audited<'i, S: Sheet<'i>>(
     rt: &impl Abort,
     alloc: Global,
-    small: &Instance,
+    small: &'i Instance,
     opening: &[Placed],
     entries: &[JournalEntry],
 ) -> Result<Verdict, NoMemory> {
     expect_lectures_fit(rt, small, opening);
     expect_entries_fit(rt, small, entries);
-    audit(alloc, small, opening, entries)
+    audit::<S>(alloc, small, opening, entries)
 }
 
 /// A desk of two planners.
@@ -241,7 +241,7 @@ fn agrees<'i, S: Sheet<'i>>(
     desk: &Desk<'i, S>,
     case: &Case,
 ) -> Result<(), Fail> {
-    let found = audited(rt, alloc, desk.instance(), case.opening, desk.journal())?;
+    let found = audited::<S>(rt, alloc, desk.instance(), case.opening, desk.journal())?;
     assert_eq!(rt; found, Verdict::Agrees);
     Ok(())
 }
@@ -519,7 +519,7 @@ fn told_otherwise(rt: HostRuntime) -> Result<(), Fail> {
     let taken = Call::Edit(Edit::Place(top(), at(1), room_a()));
     let mut entries = Vec::new(rt.alloc());
     entries.push(entry_done(rt.alloc(), taken)?)?;
-    let found = audited(&rt, rt.alloc(), &small, &opening, &entries)?;
+    let found = audited::<ListSheet>(&rt, rt.alloc(), &small, &opening, &entries)?;
     assert_eq!(rt; found, Verdict::Differs(1, 1));
     Ok(())
 }
@@ -536,7 +536,7 @@ fn refuses_clash<'i, S: Sheet<'i>>(rt: &impl Abort, alloc: Global, small: &'i In
 /// And its audit finds the same.
 fn finds_clash(rt: &impl Abort, alloc: Global, small: &Instance) -> Result<(), Fail> {
     let opening = [placed(alg(), 0, room_a()), placed(top(), 0, room_b())];
-    let found = audited(rt, alloc, small, &opening, &[])?;
+    let found = audited::<GridSheet>(rt, alloc, small, &opening, &[])?;
     let clash = EditFault::Clash(alg());
     assert_eq!(rt; found, Verdict::BadOpening(2, clash));
     Ok(())

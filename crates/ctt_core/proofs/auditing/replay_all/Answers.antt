@@ -1,4 +1,4 @@
-use Rattle.std.proofs.Common.{rules, ◌≡◌, ◌∙◌, sym, subst}
+use Rattle.std.proofs.Common.{rules, Some, None, sym, subst}
 use Rattle.std.specs.List.{AllByRecursion as Each}
 use Rattle.ctt_text.proofs.TimetableLemmas.{Each-at}
 use Rattle.ctt_draft.specs.Drafts.{AskedFits}
@@ -15,11 +15,11 @@ replay-requires g c κs =
 
 pub returns-in-Some : goal.returns-in-Some
 returns-in-Some g c =
-    audited_other _ _ _ _ c.args.entries.now c.loop-at.at _ c.index-entries-at.result c.loop-at.invariant c.loop-at-test.true c.index-entries-at.is
-    (subst (λ asked. Replayed (g.S.Rooms.problem c.loop-at.sheet) (g.S.Rooms.list c.loop-at.sheet) (g.S.Rooms.list c.replay.new.sheet) asked _) c.as_slice.ensures (subst (Replayed (g.S.Rooms.problem c.loop-at.sheet) (g.S.Rooms.list c.loop-at.sheet) (g.S.Rooms.list c.replay.new.sheet) c.as_slice.result.now) c.in-Some.is c.in_ok-call.ensures.found))
+    audited_other _ _ _ _ c.args.entries.now c.loop-at.at c.in-Some.call c.index-entries-at.result c.loop-at.invariant c.loop-at-test.true c.index-entries-at.is
+    (subst (λ asked. Replayed (g.S.Rooms.problem c.loop-at.sheet) (g.S.Rooms.list c.loop-at.sheet) (g.S.Rooms.list c.replay.new.sheet) asked (Some c.in-Some.call)) c.as_slice.ensures (subst (Replayed (g.S.Rooms.problem c.loop-at.sheet) (g.S.Rooms.list c.loop-at.sheet) (g.S.Rooms.list c.replay.new.sheet) c.as_slice.result.now) c.in-Some.is c.in_ok-call.ensures.found))
 
 pub loop-at-preserved : goal.loop-at-preserved
 loop-at-preserved g c =
     audited_more _ _ _ _ _ _ c.args.entries.now c.loop-at.at c.index-entries-at.result c.loop-at.invariant c.loop-at-test.true c.index-entries-at.is
-    (subst (λ asked. Replayed (g.S.Rooms.problem c.loop-at.sheet) (g.S.Rooms.list c.loop-at.sheet) (g.S.Rooms.list c.replay.new.sheet) asked _) c.as_slice.ensures (subst (Replayed (g.S.Rooms.problem c.loop-at.sheet) (g.S.Rooms.list c.loop-at.sheet) (g.S.Rooms.list c.replay.new.sheet) c.as_slice.result.now) c.in_default.is c.in_ok-call.ensures.found))
+    (subst (λ asked. Replayed (g.S.Rooms.problem c.loop-at.sheet) (g.S.Rooms.list c.loop-at.sheet) (g.S.Rooms.list c.replay.new.sheet) asked None) c.as_slice.ensures (subst (Replayed (g.S.Rooms.problem c.loop-at.sheet) (g.S.Rooms.list c.loop-at.sheet) (g.S.Rooms.list c.replay.new.sheet) c.as_slice.result.now) c.in_default.is c.in_ok-call.ensures.found))
     c.in_ok-call.ensures.problem

@@ -1,7 +1,7 @@
 use Rattle.std.proofs.Common.{rules, sym, subst}
 use Rattle.std.specs.List.{AllByRecursion as Each}
 use Rattle.ctt_core.specs.Entries.{EntryFits}
-use Rattle.ctt_core.proofs.auditing.audit_on.Goals as goal
+use Rattle.ctt_core.proofs.auditing.found_on.Goals as goal
 
 pub replay_all-requires : goal.replay_all-requires
 replay_all-requires g c κs =
