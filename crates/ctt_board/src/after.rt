@@ -143,7 +143,7 @@ impl<'a, R: Rooms> After<'a, R> {
     {
         self.lawful();
         let instance = self.instance();
-        instance.limits();
+        instance.limits_hold();
         let mut row = ArrayVec::new();
         for number in 0..instance.slots() {
             let slot = SlotNo::new(number);
@@ -162,7 +162,7 @@ impl<'a, R: Rooms> After<'a, R> {
     {
         self.lawful();
         let instance = self.instance();
-        instance.limits();
+        instance.limits_hold();
         let row = self.row(course);
         ctt_rules::course_cost(instance, row.as_slice(), course).total()
     }
@@ -175,7 +175,7 @@ impl<'a, R: Rooms> After<'a, R> {
     {
         self.lawful();
         let instance = self.instance();
-        instance.limits();
+        instance.limits_hold();
         let mut slots = Marks::new();
         for member in members {
             let row = self.row(*member);
@@ -210,13 +210,13 @@ impl<'a, R: Rooms> Rooms for After<'a, R> {
 
     fn standing(&self, slot: SlotNo) -> Marks {
         self.rooms.lawful();
-        self.instance.limits();
+        self.instance.limits_hold();
         standing_after(self.cells, slot, self.rooms.standing(slot))
     }
 
     fn count(&self, course: CourseNo) -> u32 {
         self.rooms.lawful();
-        self.instance.limits();
+        self.instance.limits_hold();
         let count = self.rooms.count(course) + added(self.cells, course);
         count - removed(self.cells, course)
     }

@@ -31,7 +31,7 @@ impl Counts {
     pub(crate) fn new(alloc: Global, instance: &Instance) -> Result<Self, AllocError>
         ensures { IfOk result (AreCounts instance.now []) }
     {
-        instance.limits();
+        instance.limits_hold();
         let courses = instance.courses() as usize;
         let curricula = instance.curricula() as usize;
         let slots = instance.slots() as usize;
@@ -64,7 +64,7 @@ impl Counts {
         requires room { HaveRoom self.old }
         ensures { AddsLecture instance.now lecture.now self.old self.new }
     {
-        instance.limits();
+        instance.limits_hold();
         let course = lecture.course.get() as usize;
         let day = instance.day_of(lecture.slot) as usize;
         let is_new = self.days.get(course, day) == 0;
@@ -83,7 +83,7 @@ impl Counts {
         requires there { HaveLecture instance.now lecture.now self.old }
         ensures { AddsLecture instance.now lecture.now self.new self.old }
     {
-        instance.limits();
+        instance.limits_hold();
         let course = lecture.course.get() as usize;
         let day = instance.day_of(lecture.slot) as usize;
         take(&mut self.lectures, 0, course, true);

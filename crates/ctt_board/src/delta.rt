@@ -32,7 +32,7 @@ fn courses_cost<R: Rooms>(after: &After<R>, cells: &[Cell]) -> u64
     ensures bound { result ≤ 2000 * 3000000000000 }
 {
     let instance = after.instance();
-    instance.limits();
+    instance.limits_hold();
     let mut total = 0;
     for number in 0..instance.courses() {
         let course = CourseNo::new(number);
@@ -49,7 +49,7 @@ fn curricula_cost<R: Rooms>(after: &After<R>, cells: &[Cell]) -> u64
     ensures bound { result ≤ 20000 * 8000000 }
 {
     let instance = after.instance();
-    instance.limits();
+    instance.limits_hold();
     let mut total = 0;
     for number in 0..instance.curricula() {
         let members = instance.members(CurriculumNo::new(number));

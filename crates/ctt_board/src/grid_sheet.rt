@@ -64,7 +64,7 @@ impl<'i> GridSheet<'i> {
         ensures problem { self.new.problem ≡ self.old.problem }
         ensures list { self.new.list ≡ with lecture.now self.old.list }
     {
-        self.instance.limits();
+        self.instance.limits_hold();
         let joining = joining_of(&Later::now(&self.counts), self.instance, lecture);
         self.cost = with_lecture(self.cost, &joining);
         self.counts.add(self.instance, lecture);
@@ -83,7 +83,7 @@ impl<'i> GridSheet<'i> {
         ensures problem { self.new.problem ≡ self.old.problem }
         ensures list { self.new.list ≡ without lecture.now.course lecture.now.slot self.old.list }
     {
-        self.instance.limits();
+        self.instance.limits_hold();
         self.counts.take(self.instance, lecture);
         let joining = joining_of(&Later::now(&self.counts), self.instance, lecture);
         self.cost = without_lecture(self.cost, &joining);
@@ -146,7 +146,7 @@ fn append_row(
     requires width { rooms.now.width ≡ slot_count instance.now }
     ensures { OnOk result (list.new.items ≡ list.old.items ++ row_below (λ s. at rooms.now course s None) course (slot_count instance.now)) }
 {
-    instance.limits();
+    instance.limits_hold();
     for number in 0..instance.slots() {
         append_lecture(list, rooms, course, SlotNo::new(number))?;
     }
@@ -199,7 +199,7 @@ fn step(
     ensures room { HasPlaces later.new (length done.now + 1) }
     ensures value { result ≡ pos (total (penalty instance.now (apply_at cell.now.course cell.now.slot cell.now.room (apply done.now sheet.now.list)))) -ℤ pos (total (penalty instance.now (apply done.now sheet.now.list))) }
 {
-    instance.limits();
+    instance.limits_hold();
     let course = cell.course;
     let slot = cell.slot;
     match cell.room {
@@ -214,14 +214,14 @@ fn step(
 
 impl<'i> Timetable for GridSheet<'i> {
     fn cost(&self) -> Cost {
-        self.instance.limits();
+        self.instance.limits_hold();
         laws::penalty_fits();
         self.cost
     }
 
     fn delta(&self, change: &Change) -> i64 {
         self.lawful();
-        self.instance.limits();
+        self.instance.limits_hold();
         let cells = change.cells();
         let mut later = Later::now(&self.counts);
         let mut total = 0;
@@ -258,7 +258,7 @@ impl<'i> Timetable for GridSheet<'i> {
     }
 
     fn slot_row(&self, slot: SlotNo) -> Result<Vec<Placed>, NoMemory> {
-        self.instance.limits();
+        self.instance.limits_hold();
         let mut row = Vec::new(self.alloc);
         for number in 0..self.instance.courses() {
             append_lecture(&mut row, &self.rooms, CourseNo::new(number), slot)?;
@@ -267,7 +267,7 @@ impl<'i> Timetable for GridSheet<'i> {
     }
 
     fn list(&self) -> Result<Vec<Placed>, NoMemory> {
-        self.instance.limits();
+        self.instance.limits_hold();
         let mut list = Vec::new(self.alloc);
         for number in 0..self.instance.courses() {
             append_row(&mut list, &self.rooms, self.instance, CourseNo::new(number))?;
@@ -290,7 +290,7 @@ impl<'i> Timetable for GridSheet<'i> {
 
 impl<'i> Sheet<'i> for GridSheet<'i> {
     fn empty(alloc: Global, instance: &'i Instance) -> Result<Self, NoMemory> {
-        instance.limits();
+        instance.limits_hold();
         let courses = instance.courses() as usize;
         let slots = instance.slots() as usize;
         Ok(GridSheet {

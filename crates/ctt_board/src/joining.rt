@@ -68,7 +68,7 @@ pub(crate) fn joining_of(later: &Later, instance: &Instance, lecture: &Placed) -
     ensures value { result ≡ seen_joining instance.now later.now lecture.now }
     ensures bound { IsSmallJoining result }
 {
-    instance.limits();
+    instance.limits_hold();
     let parts = instance.curricula_of(lecture.course);
     let students = instance.students(lecture.course);
     let period = instance.period_of(lecture.slot);

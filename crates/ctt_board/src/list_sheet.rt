@@ -99,7 +99,7 @@ fn reserved(alloc: Global, instance: &Instance) -> Result<Vec<Placed>, AllocErro
     ensures items { IfOk result (λ v. v.items ≡ []) }
     ensures room { IfOk result (λ v. course_count instance.now * slot_count instance.now ≤ vec_capacity v) }
 {
-    instance.limits();
+    instance.limits_hold();
     let places = instance.courses() as usize * instance.slots() as usize;
     Vec::with_capacity(alloc, places)
 }
@@ -135,12 +135,12 @@ impl<'i> Rooms for ListSheet<'i> {
     }
 
     fn standing(&self, slot: SlotNo) -> Marks {
-        self.instance.limits();
+        self.instance.limits_hold();
         standing_in(&self.lectures, slot)
     }
 
     fn count(&self, course: CourseNo) -> u32 {
-        self.instance.limits();
+        self.instance.limits_hold();
         ctt_rules::course_row(self.instance, &self.lectures, course).len() as u32
     }
 }

@@ -47,7 +47,7 @@ fn after(later: &Later, instance: &Instance, part: CurriculumNo, slot: SlotNo, p
     ensures value { result ≡ count_after instance.now (seen_part instance.now later.now part) slot }
     ensures bound { result ≤ 5000000000 }
 {
-    instance.limits();
+    instance.limits_hold();
     if period + 1 < instance.periods() {
         later.in_slot(instance, part, SlotNo::new(slot.get() + 1))
     } else {
@@ -105,7 +105,7 @@ fn alone_after(
     if count == 0 {
         return 0;
     }
-    instance.limits();
+    instance.limits_hold();
     let next = SlotNo::new(slot.get() + 1);
     if after(later, instance, part, next, period + 1) > 0 {
         0

@@ -1,7 +1,7 @@
-//! One placement on a sheet, with every reader; and which cells make a change. The costs were
+//! One placement on a sheet, with every reader, and rows compared; and which cells make a change. The costs were
 //! computed by hand from the rules.
 
-ghost use Rattle.std.specs.Prelude.{◌<◌};
+ghost use Rattle.std.specs.Prelude.{◌≡◌, ◌<◌};
 ghost use Rattle.ctt_text.specs.Problem.{course_count, slot_count};
 
 use crate::{Cell, Change, GridSheet, ListSheet, Rooms, Sheet, Timetable};
@@ -74,6 +74,18 @@ fn has_geo<S: Timetable>(rt: &impl Abort, sheet: &S, geo: Placed) -> Result<(), 
     Ok(())
 }
 
+/// A sheet on which geo stands, and an empty one have other rows there.
+fn has_other_rows<S: Timetable>(rt: &impl Abort, sheet: &S, empty: &S, geo: Placed)
+    requires instance { S.problem empty.now ≡ S.problem sheet.now }
+    requires course { geo.course < course_count (S.problem sheet.now) }
+    requires slot { geo.slot < slot_count (S.problem sheet.now) }
+{
+    assert!(rt; sheet.same_course_row(sheet, geo.course));
+    assert!(rt; sheet.same_slot_row(sheet, geo.slot));
+    assert!(rt; !sheet.same_course_row(empty, geo.course));
+    assert!(rt; !sheet.same_slot_row(empty, geo.slot));
+}
+
 /// Places geo on the empty sheet of the small instance.
 fn one_placement<'i, S: Sheet<'i>>(
     rt: &impl Abort,
@@ -83,6 +95,7 @@ fn one_placement<'i, S: Sheet<'i>>(
     let mut sheet = S::empty(alloc, small)?;
     assert_eq!(rt; sheet.instance().name(), "Small");
     assert_eq!(rt; sheet.cost(), cost(0, 20, 0, 0));
+    let empty = sheet.copy()?;
     let geo = Placed {
         course: CourseNo::new(1),
         slot: SlotNo::new(1),
@@ -100,6 +113,7 @@ fn one_placement<'i, S: Sheet<'i>>(
     assert_eq!(rt; sheet.delta(&place), -3);
     sheet.apply(&place);
     has_geo(rt, &sheet, geo)?;
+    has_other_rows(rt, &sheet, &empty, geo);
     has_geo(rt, &sheet.copy()?, geo)
 }
 

@@ -41,7 +41,7 @@ pub(crate) fn first_course<S: Timetable>(
     requires now { S.problem now.now ≡ instance.now }
     ensures { result ≡ find (λ c. differs (S.list base.now) (S.list now.now) (CourseRow c)) (below (has_course rows.now) (course_count instance.now)) }
 {
-    instance.limits();
+    instance.limits_hold();
     let mut from = 0;
     while let Some(course) = rows.next_course(instance, from) {
         if course_differs(base, now, course) {
@@ -63,7 +63,7 @@ pub(crate) fn first_slot<S: Timetable>(
     requires now { S.problem now.now ≡ instance.now }
     ensures { result ≡ find (λ s. differs (S.list base.now) (S.list now.now) (SlotRow s)) (below (has_slot rows.now) (slot_count instance.now)) }
 {
-    instance.limits();
+    instance.limits_hold();
     let mut from = 0;
     while let Some(slot) = rows.next_slot(instance, from) {
         if slot_differs(base, now, slot) {

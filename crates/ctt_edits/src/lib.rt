@@ -29,6 +29,8 @@ pub use rows_read::RowsRead;
 pub use showing::look;
 
 #[cfg(test)]
+mod drawn_tests;
+#[cfg(test)]
 mod sheet_tests;
 #[cfg(test)]
 mod tests;

@@ -22,7 +22,7 @@ fn mark_course(instance: &Instance, course: CourseNo, marks: &mut Marks)
     requires { course < course_count instance.now }
     ensures { (n : ℕ) → is_marked marks.new n ≡ (is_marked marks.old n || has n (course ∷ [])) }
 {
-    instance.limits();
+    instance.limits_hold();
     marks.mark(course.get() as usize);
 }
 
@@ -31,7 +31,7 @@ fn mark_slot(instance: &Instance, slot: SlotNo, marks: &mut Marks)
     requires { slot < slot_count instance.now }
     ensures { (n : ℕ) → is_marked marks.new n ≡ (is_marked marks.old n || has n (slot ∷ [])) }
 {
-    instance.limits();
+    instance.limits_hold();
     marks.mark(slot.get() as usize);
 }
 
@@ -40,7 +40,7 @@ fn mark_courses(instance: &Instance, courses: &[CourseNo], marks: &mut Marks)
     requires { Each (λ c. c < course_count instance.now) courses.now }
     ensures { (n : ℕ) → is_marked marks.new n ≡ (is_marked marks.old n || has n courses.now) }
 {
-    instance.limits();
+    instance.limits_hold();
     for course in courses {
         marks.mark(course.get() as usize);
     }

@@ -89,7 +89,7 @@ impl RowsRead {
     fn list_courses(&self, instance: &Instance, rows: &mut Vec<Row>) -> Result<(), NoMemory>
         ensures { OnOk result (rows.new.items ≡ rows.old.items ++ map CourseRow (below (has_course self.now) (course_count instance.now))) }
     {
-        instance.limits();
+        instance.limits_hold();
         let mut from = 0;
         while let Some(course) = self.next_course(instance, from) {
             rows.push(Row::Course(course))?;
@@ -102,7 +102,7 @@ impl RowsRead {
     fn list_slots(&self, instance: &Instance, rows: &mut Vec<Row>) -> Result<(), NoMemory>
         ensures { OnOk result (rows.new.items ≡ rows.old.items ++ map SlotRow (below (has_slot self.now) (slot_count instance.now))) }
     {
-        instance.limits();
+        instance.limits_hold();
         let mut from = 0;
         while let Some(slot) = self.next_slot(instance, from) {
             rows.push(Row::Slot(slot))?;

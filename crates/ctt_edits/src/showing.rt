@@ -31,7 +31,7 @@ fn gather<'i, S: Sheet<'i>>(
 {
     sheet.lawful();
     let instance = sheet.instance();
-    instance.limits();
+    instance.limits_hold();
     let mut lectures = Vec::new(alloc);
     let mut from = 0;
     while let Some(course) = rows.next_course(instance, from) {

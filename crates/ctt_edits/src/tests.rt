@@ -1,5 +1,5 @@
-//! Edits, prices and looks on the small instance, on both kinds of sheets. The costs were computed by
-//! hand from the rules.
+//! Edits, prices and looks on the small instance, on both kinds of sheets, beside the cases of
+//! `sheet_tests`. The costs were computed by hand from the rules.
 
 ghost use Rattle.ctt_edits.specs.Calls.{CallFits};
 ghost use Rattle.ctt_edits.specs.Edits.{EditFits};
@@ -185,67 +185,6 @@ fn leaves<'i, S: Sheet<'i>>(
     Ok(())
 }
 
-/// Prices on the small solution.
-fn priced_on<'i, S: Sheet<'i>>(
-    rt: &impl Abort,
-    alloc: Global,
-    small: &'i Instance,
-) -> Result<(), Fail> {
-    let sheet: S = sheet_of(rt, alloc, small, SOLUTION)?;
-    let cases = [
-        (Edit::Move(geo(), at(5), at(4), room_a()), -4),
-        (Edit::Reroom(alg(), at(0), room_b()), -6),
-        (Edit::Reroom(alg(), at(0), room_a()), 0),
-        (Edit::Swap(geo(), at(1), top(), at(2)), 20),
-    ];
-    has_prices(rt, &sheet, &cases);
-    Ok(())
-}
-
-#[test]
-fn prices(rt: HostRuntime) -> Result<(), Fail> {
-    let small = read_instance(rt.alloc(), SMALL.as_bytes())?;
-    priced_on::<ListSheet>(&rt, rt.alloc(), &small)?;
-    priced_on::<GridSheet>(&rt, rt.alloc(), &small)
-}
-
-/// The first of several faults, on the small solution.
-fn refused_on<'i, S: Sheet<'i>>(
-    rt: &impl Abort,
-    alloc: Global,
-    small: &'i Instance,
-) -> Result<(), Fail> {
-    let sheet: S = sheet_of(rt, alloc, small, SOLUTION)?;
-    let cases = [
-        (Edit::Place(alg(), at(4), room_a()), EditFault::CourseFull),
-        (Edit::Place(alg(), at(0), room_b()), EditFault::AlreadyThere),
-        (Edit::Drop(geo(), at(0)), EditFault::NotPlaced),
-        (
-            Edit::Move(geo(), at(1), at(1), room_b()),
-            EditFault::SameSlot,
-        ),
-        (
-            Edit::Move(geo(), at(0), at(0), room_b()),
-            EditFault::NotPlaced,
-        ),
-        (
-            Edit::Swap(alg(), at(0), alg(), at(3)),
-            EditFault::SameCourse,
-        ),
-        (Edit::Swap(geo(), at(0), top(), at(2)), EditFault::NotPlaced),
-        (Edit::Reroom(geo(), at(0), room_b()), EditFault::NotPlaced),
-    ];
-    refuses(rt, &sheet, &cases);
-    Ok(())
-}
-
-#[test]
-fn edit_faults_in_order(rt: HostRuntime) -> Result<(), Fail> {
-    let small = read_instance(rt.alloc(), SMALL.as_bytes())?;
-    refused_on::<ListSheet>(&rt, rt.alloc(), &small)?;
-    refused_on::<GridSheet>(&rt, rt.alloc(), &small)
-}
-
 /// A course that is unavailable, on the empty sheet, and a room that is taken, without top.
 fn faults_of_placing_on<'i, S: Sheet<'i>>(
     rt: &impl Abort,
@@ -264,7 +203,8 @@ fn faults_of_placing_on<'i, S: Sheet<'i>>(
     Ok(())
 }
 
-/// The lecture of geo at 5 is dropped; then alg stands against another one at 3.
+/// The lecture of geo at 5 is dropped; then alg stands against another one at 3, and it cannot be
+/// dropped or moved to another room once more.
 fn clash_after_drop_on<'i, S: Sheet<'i>>(
     rt: &impl Abort,
     alloc: Global,
@@ -279,8 +219,12 @@ fn clash_after_drop_on<'i, S: Sheet<'i>>(
     ];
     let drop = Edit::Drop(geo(), at(5));
     leaves(rt, &mut sheet, &drop, &left, cost(15, 0, 2, 1))?;
-    let clash = (Edit::Place(geo(), at(3), room_a()), EditFault::Clash(alg()));
-    refuses(rt, &sheet, &[clash]);
+    let cases = [
+        (Edit::Place(geo(), at(3), room_a()), EditFault::Clash(alg())),
+        (Edit::Drop(geo(), at(5)), EditFault::NotPlaced),
+        (Edit::Reroom(geo(), at(5), room_b()), EditFault::NotPlaced),
+    ];
+    refuses(rt, &sheet, &cases);
     Ok(())
 }
 
@@ -293,33 +237,23 @@ fn faults_of_placing(rt: HostRuntime) -> Result<(), Fail> {
     clash_after_drop_on::<GridSheet>(&rt, rt.alloc(), &small)
 }
 
-/// Two lectures take each other's slot and room, and two in one slot each other's room.
-fn swaps_on<'i, S: Sheet<'i>>(
+/// Two lectures in one slot take each other's room.
+fn swaps_rooms_on<'i, S: Sheet<'i>>(
     rt: &impl Abort,
     alloc: Global,
     small: &'i Instance,
 ) -> Result<(), Fail> {
-    let mut sheet: S = sheet_of(rt, alloc, small, SOLUTION)?;
-    let after = [
-        placed(alg(), 0, room_a()),
-        placed(alg(), 3, room_b()),
-        placed(geo(), 2, room_b()),
-        placed(geo(), 5, room_a()),
-        placed(top(), 1, room_a()),
-    ];
-    let swap = Edit::Swap(geo(), at(1), top(), at(2));
-    leaves(rt, &mut sheet, &swap, &after, cost(30, 0, 8, 2))?;
-    let mut pair: S = sheet_of(rt, alloc, small, "geo A 0 1 top B 0 1")?;
+    let mut sheet: S = sheet_of(rt, alloc, small, "geo A 0 1 top B 0 1")?;
     let exchanged = [placed(geo(), 1, room_b()), placed(top(), 1, room_a())];
-    let in_slot = Edit::Swap(geo(), at(1), top(), at(1));
-    leaves(rt, &mut pair, &in_slot, &exchanged, cost(25, 10, 2, 0))
+    let swap = Edit::Swap(geo(), at(1), top(), at(1));
+    leaves(rt, &mut sheet, &swap, &exchanged, cost(25, 10, 2, 0))
 }
 
 #[test]
-fn swaps(rt: HostRuntime) -> Result<(), Fail> {
+fn swap_within_a_slot(rt: HostRuntime) -> Result<(), Fail> {
     let small = read_instance(rt.alloc(), SMALL.as_bytes())?;
-    swaps_on::<ListSheet>(&rt, rt.alloc(), &small)?;
-    swaps_on::<GridSheet>(&rt, rt.alloc(), &small)
+    swaps_rooms_on::<ListSheet>(&rt, rt.alloc(), &small)?;
+    swaps_rooms_on::<GridSheet>(&rt, rt.alloc(), &small)
 }
 
 /// The change of an edit has these cells.
@@ -390,17 +324,30 @@ fn shows_lectures_on<'i, S: Sheet<'i>>(
     small: &'i Instance,
 ) -> Result<(), Fail> {
     let sheet: S = sheet_of(rt, alloc, small, SOLUTION)?;
-    let alg_0 = placed(alg(), 0, room_a());
-    let alg_3 = placed(alg(), 3, room_b());
-    let geo_1 = placed(geo(), 1, room_a());
-    let geo_5 = placed(geo(), 5, room_a());
-    let top_2 = placed(top(), 2, room_b());
+    let taught = [
+        placed(alg(), 0, room_a()),
+        placed(alg(), 3, room_b()),
+        placed(top(), 2, room_b()),
+    ];
+    let of_members = [
+        placed(alg(), 0, room_a()),
+        placed(alg(), 3, room_b()),
+        placed(geo(), 1, room_a()),
+        placed(geo(), 5, room_a()),
+    ];
     let teacher = Look::Teacher(TeacherNo::new(0));
     let curriculum = Look::Curriculum(CurriculumNo::new(0));
-    shows_lectures(rt, alloc, &sheet, teacher, &[alg_0, alg_3, top_2])?;
-    shows_lectures(rt, alloc, &sheet, curriculum, &[alg_0, alg_3, geo_1, geo_5])?;
-    shows_lectures(rt, alloc, &sheet, Look::Course(geo()), &[geo_1, geo_5])?;
-    shows_lectures(rt, alloc, &sheet, Look::Slot(at(2)), &[top_2])
+    shows_lectures(rt, alloc, &sheet, teacher, &taught)?;
+    shows_lectures(rt, alloc, &sheet, curriculum, &of_members)?;
+    shows_rows(rt, alloc, &sheet)
+}
+
+/// Looks at one course and at one slot.
+fn shows_rows<'i, S: Sheet<'i>>(rt: &impl Abort, alloc: Global, sheet: &S) -> Result<(), Fail> {
+    let of_geo = [placed(geo(), 1, room_a()), placed(geo(), 5, room_a())];
+    let last = [placed(top(), 2, room_b())];
+    shows_lectures(rt, alloc, sheet, Look::Course(geo()), &of_geo)?;
+    shows_lectures(rt, alloc, sheet, Look::Slot(at(2)), &last)
 }
 
 #[test]

@@ -1,18 +1,18 @@
 -- Conflicts and shared rooms, counted lecture by lecture against those before.
-use Rattle.std.proofs.Common.{◌≡◌, ℕ, zero, suc, ◌+◌, ◌-◌, ◌<◌, ◌≤◌, Bool, true, false, cond, not, ◌&&◌, ◌||◌, ◌==◌, eqb, ltb, leb, List, [], ◌∷◌, ◌++◌, take, length, get_or, replicate, refl, ◌∙◌, sym, ap, ap₂, arith, inl, inr, ◌⊎◌, append_assoc, append-nil}
-use Rattle.std.specs.List.{count_by, list_any, AllByRecursion as Each}
+use Rattle.std.proofs.Common.{◌≡◌, ℕ, zero, suc, ◌+◌, ◌-◌, ◌<◌, ◌≤◌, Bool, true, false, cond, not, ◌&&◌, ◌||◌, ◌==◌, ltb, leb, List, [], ◌∷◌, ◌++◌, take, length, get_or, replicate, refl, ◌∙◌, sym, ap, ap₂, arith, inl, inr, ◌⊎◌, append_assoc, append-nil}
+use Rattle.std.specs.List.{list_any, AllByRecursion as Each}
 use Rattle.std.proofs.lemmas.List.{take_more}
 use Rattle.std.proofs.lemmas.List.Sums.{sum_by_push}
 use Rattle.std.proofs.lemmas.List.Folds.{list_any_more}
 use Rattle.std.proofs.lemmas.Bool.Decides.{nat_tests}
-use Rattle.std.proofs.lemmas.Bool.{cases_Bool, cases_lt, eq-eqb, ne_eqb, eqb-true, lt-ltb, le-ltb, le-leb, lt-leb, leb-true, ltb-true, and_from, and_right, and_parts}
+use Rattle.std.proofs.lemmas.Bool.{cases_Bool, lt-ltb, le-ltb, le-leb, leb-true, ltb-true, and_from, and_right, and_parts}
 use Rattle.ctt_text.specs.Lists.{Pairwise, has, count_below}
 use Rattle.ctt_text.specs.Marks.{is_marked, count_marked}
 use Rattle.ctt_text.specs.Problem.{Problem, course_count, course_of, slot_count, mates, clash}
-use Rattle.ctt_text.specs.Timetable.{IsTimetable, Fits, before, Ascending}
+use Rattle.ctt_text.specs.Timetable.{IsTimetable, Fits, before}
 use Rattle.ctt_text.specs.declared.placed.Placed.{Placed}
 use Rattle.ctt_text.proofs.MarkLemmas.{past_words}
-use Rattle.ctt_text.proofs.TimetableLemmas.{Each-map, Each-at}
+use Rattle.ctt_text.proofs.TimetableLemmas.{Each-map}
 use Rattle.ctt_rules.specs.Hard.{conflicts, conflict_count, share_room, occupancy_count}
 use Rattle.ctt_rules.specs.Earlier.{clashes_with, tally, new_conflicts, room_taken, only_in, in_row}
 use Rattle.ctt_rules.proofs.ListLemmas.{Each-take, Pairwise-map}

@@ -1,10 +1,10 @@
 -- The rows of a timetable, which stand one after another.
-use Rattle.std.proofs.Common.{◌≡◌, ℕ, zero, suc, ◌+◌, ◌-◌, ◌<◌, ◌≤◌, Bool, true, false, ◌==◌, leb, List, [], ◌∷◌, length, take, drop, get_or, set, refl, subst, ◌∙◌, sym, ap, arith, inl, inr, one-add, add-one}
+use Rattle.std.proofs.Common.{◌≡◌, ℕ, zero, suc, ◌+◌, ◌-◌, ◌<◌, ◌≤◌, Bool, true, false, ◌==◌, leb, List, [], ◌∷◌, length, take, drop, get_or, refl, ◌∙◌, sym, ap, arith, inl, inr, one-add, add-one}
 use Rattle.std.specs.List.{filter, prefix_len, AllWithin, AllByRecursion as Each}
 use Rattle.std.specs.List.Sorted.{IsNonDecreasingBy}
 use Rattle.std.proofs.lemmas.Bool.Decides.{nat_tests}
 use Rattle.std.proofs.lemmas.Bool.{cases_eq, eq-eqb, ne_eqb, eqb-true, leb-true, le-leb, lt-leb}
-use Rattle.std.proofs.lemmas.List.{take_rest, get_or-set_same, get_or-set_other, drop-drop, get_or-drop, length-drop, drop_all}
+use Rattle.std.proofs.lemmas.List.{drop-drop, get_or-drop, length-drop}
 use Rattle.std.proofs.lemmas.List.Sums.{prefix_len-le-length}
 use Rattle.ctt_text.specs.Timetable.{before, Ascending, course_row}
 use Rattle.ctt_text.specs.declared.placed.Placed.{Placed}
@@ -21,9 +21,6 @@ pub record IsStart (c start : ℕ) (t : List Placed) : Type 0 where
 
 -- the lectures of a course at the front, and those of the courses after it
 module _ (c : ℕ) where
-  is_of : Placed → Bool
-  is_of l = l.course == c
-
   all_after : (x : Placed) (xs : List Placed) → c < x.course → Each (λ y. before x y ≡ true) xs → Each (λ (y : Placed). c < y.course) xs
   all_after x xs lt h = Each-map (λ y. before x y ≡ true) (λ (y : Placed). c < y.course) (λ y k. by y k) xs h
     where
@@ -80,9 +77,6 @@ module _ (t : List Placed) (ascending : Ascending t) where
         let same : length (drop end t) ≡ length (drop (start + front) t) = ap length (next.rest ∙ sym next_start.rest) in
         let more : start + front ≤ length t = next_start.within in
         omega (arith, same, more, next.within, length-drop end t, length-drop (start + front) t)
-
-    pub starts_rise : (end : ℕ) → IsStart (c + 1) end t → start ≤ end
-    starts_rise end next = omega (arith, next_is end next)
 
     -- a row by its start and the next one's
     pub row_between : (end : ℕ) → IsStart (c + 1) end t → take (end - start) (drop start t) ≡ course_row c t

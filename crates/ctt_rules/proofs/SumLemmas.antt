@@ -55,10 +55,6 @@ length_is (x ∷ xs) = omega (arith, length_is xs, sum_by-cons (λ _. 1) x xs)
 pub count_by-cons : {X : Type 0} (p : X → Bool) (x : X) (xs : List X) → count_by p (x ∷ xs) ≡ cond (p x) 1 0 + count_by p xs
 count_by-cons p x xs = sum_by-cons (λ y. cond (p y) 1 0) x xs
 
-pub count_by-agree : {X : Type 0} (p q : X → Bool) → ((x : X) → p x ≡ q x) → (xs : List X) → count_by p xs ≡ count_by q xs
-count_by-agree p q e [] = refl
-count_by-agree p q e (x ∷ xs) = count_by-cons p x xs ∙ ap₂ (λ b n. cond b 1 0 + n) (e x) (count_by-agree p q e xs) ∙ sym (count_by-cons q x xs)
-
 pub sum_by-agree : {X : Type 0} (f g : X → ℕ) → ((x : X) → f x ≡ g x) → (xs : List X) → sum_by f xs ≡ sum_by g xs
 sum_by-agree f g e [] = refl
 sum_by-agree f g e (x ∷ xs) = sum_by-cons f x xs ∙ ap₂ (λ a b. a + b) (e x) (sum_by-agree f g e xs) ∙ sym (sum_by-cons g x xs)

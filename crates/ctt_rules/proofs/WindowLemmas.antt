@@ -1,10 +1,9 @@
 -- Lectures that stand alone, by the words of a window.
-use Rattle.std.proofs.Common.{◌≡◌, ℕ, zero, suc, ◌+◌, ◌-◌, ◌*◌, ◌/◌, ◌%◌, ◌^◌, ◌<◌, ◌≤◌, Bool, true, false, cond, not, ◌&&◌, ◌||◌, ◌==◌, eqb, ltb, leb, List, [], ◌∷◌, length, get_or, set, refl, ◌∙◌, sym, ap, ap₂, arith, inl, inr, ◌⊎◌}
+use Rattle.std.proofs.Common.{◌≡◌, ℕ, ◌+◌, ◌-◌, ◌*◌, ◌/◌, ◌%◌, ◌^◌, ◌<◌, ◌≤◌, Bool, true, false, cond, not, ◌&&◌, ◌||◌, ◌==◌, eqb, ltb, leb, List, [], ◌∷◌, length, get_or, set, refl, ◌∙◌, sym, ap, ap₂, arith, inl, inr, ◌⊎◌}
 use Rattle.std.specs.Prelude.{bit_or}
 use Rattle.std.specs.List.{count_by, sum_by, list_any, AllByRecursion as Each}
 use Rattle.std.proofs.Math.Nat.{div-mul-le_self, div-zero}
 use Rattle.std.proofs.lemmas.Nat.{le-div}
-use Rattle.std.proofs.lemmas.Bool.Decides.{nat_tests}
 use Rattle.std.proofs.lemmas.Bool.{cases_Bool, cases_eq, cases_lt, eq-eqb, ne_eqb, leb-true, ltb-true, lt-ltb, le-ltb, le-leb, lt-leb, and_from, and_left, and_right, and_parts, both_ways}
 use Rattle.std.proofs.lemmas.List.{get_or-set_same, get_or-set_other}
 use Rattle.ctt_text.specs.Lists.{Pairwise, has, count_below}
@@ -158,8 +157,8 @@ module _ (i : Problem) (t : List Placed) (h : IsTimetable i t) (first : ℕ) (wo
           omega (arith, lt, e, wa.0, wb.0, days_rise i a.slot b.slot (omega arith))
 
   module _ (q : List ℕ) (different : Pairwise (λ c d. (c == d) ≡ false) q) (busy bits : ℕ)
-    (busy_is : (place : ℕ) → has_bit busy place ≡ list_any (λ c. has_bit (word_of words c) place) q)
-    (bits_are : (place : ℕ) → has_bit bits place ≡ ((ltb 0 place && ltb place 63) && (not (has_bit busy (place - 1)) && not (has_bit busy (place + 1))))) where
+      (busy_is : (place : ℕ) → has_bit busy place ≡ list_any (λ c. has_bit (word_of words c) place) q)
+      (bits_are : (place : ℕ) → has_bit bits place ≡ ((ltb 0 place && ltb place 63) && (not (has_bit busy (place - 1)) && not (has_bit busy (place + 1))))) where
     abbrev part : List Placed
     part = part_of q t
 
@@ -223,8 +222,12 @@ bit_set_in words course number first within low high c place = elim (cases_eq co
 
 -- different numbers below n are at most n
 pub few_members : (n : ℕ) (q : List ℕ) → AreMembers n q → length q ≤ n
-few_members n q h = omega (arith, all q, counted_apart (λ _. true) (λ c. c) (λ _. true) n q (Pairwise-map (λ c d. (c == d) ≡ false) (λ c d. true ≡ true → true ≡ true → c ≡ d → ⊥) (λ c d k _ _ e. both_ways (c == d) k (eq-eqb c d e)) q h.1) (Each-map (λ c. c < n) (λ c. true ≡ true → c < n) (λ c k _. k) q h.0),
-    count_below_le (λ d. list_any (λ c. true && c == d) q && true) n)
+few_members n q h = omega (
+  arith,
+  all q,
+  counted_apart (λ _. true) (λ c. c) (λ _. true) n q (Pairwise-map (λ c d. (c == d) ≡ false) (λ c d. true ≡ true → true ≡ true → c ≡ d → ⊥) (λ c d k _ _ e. both_ways (c == d) k (eq-eqb c d e)) q h.1) (Each-map (λ c. c < n) (λ c. true ≡ true → c < n) (λ c k _. k) q h.0),
+  count_below_le (λ d. list_any (λ c. true && c == d) q && true) n,
+)
   where
     all : (xs : List ℕ) → count_by (λ _. true && true) xs ≡ length xs
     all [] = refl

@@ -95,7 +95,7 @@ fn window(instance: &Instance, timetable: &[Placed], first: u16) -> Words
     ensures { (c place : ℕ) → place < 64 → has_bit (word_of result c) place
         ≡ list_any (λ l. l.course == c && stands_at instance.now first place l) timetable.now }
 {
-    instance.limits();
+    instance.limits_hold();
     let mut words = Words::new();
     for lecture in timetable {
         let number = lecture.slot.get() + instance.day_of(lecture.slot) + 1;
@@ -110,7 +110,7 @@ fn alone_within(instance: &Instance, timetable: &[Placed], first: u16) -> u64
     ensures value { result ≡ sum_by (λ q. 2 * count_by (is_alone_within instance.now first (part_of q timetable.now)) (part_of q timetable.now)) instance.now.curricula }
     ensures bound { result ≤ 20000 * 8000000 }
 {
-    instance.limits();
+    instance.limits_hold();
     let words = window(instance, timetable, first);
     let mut total = 0;
     for number in 0..instance.curricula() {
@@ -129,7 +129,7 @@ pub(crate) fn compactness(instance: &Instance, timetable: &[Placed]) -> u64
     ensures value { result ≡ (penalty instance.now timetable.now).compactness }
     ensures bound { result ≤ 20000 * 8000000 }
 {
-    instance.limits();
+    instance.limits_hold();
     let end = instance.slots() + instance.days();
     let mut total = 0;
     let mut first = 0;

@@ -28,7 +28,7 @@ fn missing(instance: &Instance, timetable: &[Placed]) -> u64
     requires { IsTimetable instance.now timetable.now }
     ensures { result ≡ missing_count instance.now timetable.now }
 {
-    instance.limits();
+    instance.limits_hold();
     let mut total = 0;
     for number in 0..instance.courses() {
         let course = CourseNo::new(number);

@@ -40,12 +40,7 @@ pub(crate) fn keeps_rules(instance: &Instance, timetable: &[Placed], hard: &Hard
 }
 
 /// Whether a timetable that breaks so much, and is lawful or not, is complete.
-pub(crate) fn has_all(
-    instance: &Instance,
-    timetable: &[Placed],
-    hard: &Hard,
-    lawful: bool,
-) -> bool
+pub(crate) fn has_all(instance: &Instance, timetable: &[Placed], hard: &Hard, lawful: bool) -> bool
     requires timetable { IsTimetable instance.now timetable.now }
     requires counted { hard.now ≡ hard_counts instance.now timetable.now }
     requires judged { IsTrue lawful ↔ Lawful instance.now timetable.now }

@@ -103,12 +103,12 @@ impl Block {
             ≡ ((lecture.now.slot == self.old.first + row && lecture.now.room == n) || in_row self.old.rooms row n) }
         ensures conflicts { self.new.sharing.conflicts ≡ self.old.sharing.conflicts
             + cond (nat_le self.old.first lecture.now.slot && nat_lt lecture.now.slot (self.old.first + 64))
-                (count_marked (λ n. in_row self.old.courses (lecture.now.slot - self.old.first) n && clashes_with instance.now lecture.now.course n)) 0 }
+            (count_marked (λ n. in_row self.old.courses (lecture.now.slot - self.old.first) n && clashes_with instance.now lecture.now.course n)) 0 }
         ensures occupancy { self.new.sharing.occupancy ≡ self.old.sharing.occupancy
             + cond (nat_le self.old.first lecture.now.slot && nat_lt lecture.now.slot (self.old.first + 64))
-                (cond (in_row self.old.rooms (lecture.now.slot - self.old.first) lecture.now.room) 1 0) 0 }
+            (cond (in_row self.old.rooms (lecture.now.slot - self.old.first) lecture.now.room) 1 0) 0 }
     {
-        instance.limits();
+        instance.limits_hold();
         let slot = lecture.slot.get();
         if self.first <= slot && slot - self.first < 64 {
             let row = (slot - self.first) as usize;
@@ -129,7 +129,7 @@ fn count_block(instance: &Instance, timetable: &[Placed], first: u16) -> Sharing
     ensures small { result.conflicts ≤ 2000 * 4000000 }
     ensures few { result.occupancy ≤ 4000000 }
 {
-    instance.limits();
+    instance.limits_hold();
     let mut block = Block::new(first);
     for lecture in timetable {
         block.meet(instance, lecture);
@@ -143,7 +143,7 @@ pub(crate) fn count_sharing(instance: &Instance, timetable: &[Placed]) -> Sharin
     ensures conflicts { result.conflicts ≡ conflict_count instance.now timetable.now }
     ensures occupancy { result.occupancy ≡ occupancy_count instance.now timetable.now }
 {
-    instance.limits();
+    instance.limits_hold();
     let slots = instance.slots();
     let mut sharing = Sharing {
         conflicts: 0,

@@ -14,7 +14,7 @@ pub fn mark_slots(instance: &Instance, slots: &mut Marks, lectures: &[Placed])
     requires { Each (Fits instance.now) lectures.now }
     ensures { (s : ℕ) → is_marked slots.new s ≡ (is_marked slots.old s || busy lectures.now s) }
 {
-    instance.limits();
+    instance.limits_hold();
     for lecture in lectures {
         slots.mark(lecture.slot.get() as usize);
     }
@@ -25,7 +25,7 @@ fn is_beside(instance: &Instance, slots: &Marks, slot: SlotNo) -> bool
     requires { slot < slot_count instance.now }
     ensures { result ≡ is_beside instance.now (is_marked slots.now) slot }
 {
-    instance.limits();
+    instance.limits_hold();
     let period = instance.period_of(slot);
     let number = slot.get() as usize;
     (period > 0 && slots.is_marked(number - 1))

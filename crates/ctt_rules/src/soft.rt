@@ -19,7 +19,7 @@ fn capacity(instance: &Instance, lectures: &[Placed]) -> u64
     ensures value { result ≡ sum_by (unseated instance.now) lectures.now }
     ensures bound { result ≤ 999999999 * length lectures.now }
 {
-    instance.limits();
+    instance.limits_hold();
     let mut total = 0;
     for lecture in lectures {
         let students = instance.students(lecture.course);
@@ -33,7 +33,7 @@ fn day_count(instance: &Instance, lectures: &[Placed]) -> u64
     requires { Each (Fits instance.now) lectures.now }
     ensures { result ≡ days_of instance.now lectures.now }
 {
-    instance.limits();
+    instance.limits_hold();
     let mut seen = Marks::new();
     let mut count = 0;
     for lecture in lectures {
@@ -49,7 +49,7 @@ fn room_count(instance: &Instance, lectures: &[Placed]) -> u64
     requires { Each (Fits instance.now) lectures.now }
     ensures { result ≡ rooms_of instance.now lectures.now }
 {
-    instance.limits();
+    instance.limits_hold();
     let mut seen = Marks::new();
     let mut count = 0;
     for lecture in lectures {
@@ -67,7 +67,7 @@ fn missing_days(instance: &Instance, course: CourseNo, row: &[Placed]) -> u64
     ensures value { result ≡ days_cost instance.now course row.now }
     ensures bound { result ≤ 5 * 999999999 }
 {
-    instance.limits();
+    instance.limits_hold();
     5 * u64::from(instance.min_days(course)).saturating_sub(day_count(instance, row))
 }
 
@@ -77,7 +77,7 @@ fn surplus_rooms(instance: &Instance, row: &[Placed]) -> u64
     ensures value { result ≡ rooms_cost instance.now row.now }
     ensures bound { result ≤ 1000 }
 {
-    instance.limits();
+    instance.limits_hold();
     room_count(instance, row).saturating_sub(1)
 }
 
@@ -87,7 +87,7 @@ fn days(instance: &Instance, timetable: &[Placed]) -> u64
     ensures value { result ≡ (penalty instance.now timetable.now).days }
     ensures bound { result ≤ 2000 * (5 * 999999999) }
 {
-    instance.limits();
+    instance.limits_hold();
     let mut total = 0;
     for number in 0..instance.courses() {
         let course = CourseNo::new(number);
@@ -102,7 +102,7 @@ fn stability(instance: &Instance, timetable: &[Placed]) -> u64
     ensures value { result ≡ (penalty instance.now timetable.now).stability }
     ensures bound { result ≤ 2000 * 1000 }
 {
-    instance.limits();
+    instance.limits_hold();
     let mut total = 0;
     for number in 0..instance.courses() {
         let row = course_row(instance, timetable, CourseNo::new(number));
@@ -117,7 +117,7 @@ pub fn penalty(instance: &Instance, timetable: &[Placed]) -> Cost
     ensures value { result ≡ penalty instance.now timetable.now }
     ensures bound { total result < 2 ^ 63 }
 {
-    instance.limits();
+    instance.limits_hold();
     Cost {
         capacity: capacity(instance, timetable),
         days: days(instance, timetable),
@@ -134,7 +134,7 @@ pub fn course_cost(instance: &Instance, timetable: &[Placed], course: CourseNo) 
     ensures value { result ≡ course_cost instance.now timetable.now course }
     ensures bound { total result < 2 ^ 63 }
 {
-    instance.limits();
+    instance.limits_hold();
     let row = course_row(instance, timetable, course);
     Cost {
         capacity: capacity(instance, row),

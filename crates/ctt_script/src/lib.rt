@@ -1,17 +1,43 @@
-//! Reading and writing whole texts, and the reports on a timetable.
+//! Reading and writing whole texts: scripts and their answers, journals, and the reports on a timetable.
 #![tactic(auto)]
 
+mod amounts;
+mod answers;
+mod calls;
 mod device;
+mod engine;
 mod input;
+mod journal;
+mod journal_fault;
+mod kinds;
+mod lines;
+mod places;
+mod replies;
 mod report;
+mod script;
+mod script_fault;
 mod sink;
 mod source;
+mod text_places;
+mod written;
 
+pub use answers::write_answer;
+pub use calls::{read_call, read_look};
 pub use device::Device;
+pub use engine::run_script;
 pub use input::{InputFault, read_all};
+pub use journal::read_journal;
+pub use journal_fault::JournalFault;
+pub use lines::Lines;
+pub use replies::read_reply;
 pub use report::{report_json, report_text};
+pub use script::{Item, read_line, read_script};
+pub use script_fault::ScriptFault;
 pub use sink::{Sink, put_all};
 pub use source::{Failed, Source};
+pub use written::{write_call, write_journal, write_reply};
 
+#[cfg(test)]
+mod journal_tests;
 #[cfg(test)]
 mod tests;

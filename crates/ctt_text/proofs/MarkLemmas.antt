@@ -1,12 +1,12 @@
 -- Marks on numbers, by the words that hold them.
-use Rattle.std.proofs.Common.{◌≡◌, ℕ, zero, suc, ◌+◌, ◌-◌, ◌*◌, ◌/◌, ◌%◌, ◌^◌, ◌<◌, ◌≤◌, ◌≢◌, List, [], ◌∷◌, length, get_or, Bool, true, false, not, cond, ◌==◌, ◌&&◌, ◌||◌, nat_le, nat_lt, Option, Some, None, refl, sym, ap, ap₂, subst, ◌∙◌, arith, true≢false, w64, add-zero, zero-add, one-add, add-suc, add_assoc}
+use Rattle.std.proofs.Common.{◌≡◌, ℕ, zero, suc, ◌+◌, ◌-◌, ◌*◌, ◌/◌, ◌%◌, ◌^◌, ◌<◌, ◌≤◌, ◌≢◌, List, length, get_or, Bool, true, false, not, cond, ◌==◌, ◌&&◌, ◌||◌, nat_le, nat_lt, Some, refl, sym, ap, ap₂, ◌∙◌, arith, true≢false, w64, add-zero, zero-add, one-add, add-suc, add_assoc}
 use Rattle.std.specs.Prelude.{replicate, slice_set, bit_and, bit_or}
 use Rattle.std.specs.Int.{bit_at, bit_not, trailing_zeros}
 use Rattle.std.specs.Int.Count.{ones, ones_step}
 use Rattle.std.proofs.lemmas.List.{get_or-set_other, get_or_past, length-set}
 use Rattle.std.proofs.lemmas.Grind.{get_or-set_at}
-use Rattle.std.proofs.lemmas.Bool.{eqb-true, eqb-false, eq-eqb, and_parts}
-use Rattle.std.proofs.lemmas.Bool.Decides.{nat_tests, Decides-eqb, Decides-ltb}
+use Rattle.std.proofs.lemmas.Bool.{eqb-true, eqb-false}
+use Rattle.std.proofs.lemmas.Bool.Decides.{nat_tests, Decides-ltb}
 use Rattle.std.proofs.lemmas.Nat.{div-add-mod', div_below, mod_below, pow_below, pow_pos, div-mul-add, mod-mul-add}
 use Rattle.std.proofs.Math.Nat.{mod-eq_of_lt, one-mul, zero-mul, pow-suc}
 use Rattle.std.proofs.lemmas.Nat.Bits.{bit_at-zero, bit_at-lt, bit_at-suc, bit_at_lowest, bit_at_and, bit_at_or, bit_at_set_same, bit_at_set_other, bit_at_clear_same, bit_at_clear_other, shr_and_one, and_pow, bit_at-trailing_zeros, bit_at_mask_inside, bit_at_mask_below, ones_shl}
@@ -161,12 +161,6 @@ pub record AddedBelow (old other words : List ℕ) (p : ℕ) : Type 0 where
   pub size : length words ≡ length old
   pub marks : (n : ℕ) → is_marked words n ≡ (is_marked old n || (nat_lt (n / 64) p && is_marked other n))
 
-pub added_none : (old other : List ℕ) → AddedBelow old other old 0
-added_none old other = record { size = refl; marks = λ n. none (n / 64) (is_marked old n) (is_marked other n) }
-  where
-    none : (q : ℕ) (a b : Bool) → a ≡ (a || (nat_lt q 0 && b))
-    none q a b = grind (arith, nat_tests)
-
 pub added_more : (old other words : List ℕ) (p : ℕ) → p < length old → AddedBelow old other words p → AddedBelow old other (slice_set words p (bit_or (get_or words p 0) (get_or other p 0))) (p + 1)
 unfolding is_marked
 added_more old other words p within so_far = record {
@@ -194,17 +188,6 @@ added_more old other words p within so_far = record {
 
     there : (q : ℕ) → (q == p) ≡ false → nat_lt q p ≡ nat_lt q (p + 1)
     there q e = grind (arith, nat_tests)
-
-pub added_all : (old other words : List ℕ) → length old ≡ 32 → length other ≡ 32 → AddedBelow old other words 32 → (n : ℕ) → is_marked words n ≡ (is_marked old n || is_marked other n)
-added_all old other words size size' added n = added.marks n ∙ bool_case _ (nat_lt (n / 64) 32)
-    (λ is. rw is refl)
-    (λ isnt. rw (isnt, past_words other n (rw size' (not_below (n / 64) 32 isnt))) refl)
-
-pub added_are : (old other words : List ℕ) → AreMarks old → AreMarks other → AddedBelow old other words 32 → AreMarks words
-added_are old other words are are' added = record {
-  size = added.size ∙ are.size;
-  within = λ n large. added_all old other words are.size are'.size added n ∙ ap₂ (λ a b. a || b) (are.within n large) (are'.within n large);
-}
 
 -- how many numbers pass: of numbers that pass the same tests
 pub count_below_same : (test other : ℕ → Bool) (n : ℕ) → ((k : ℕ) → k < n → test k ≡ other k) → count_below test n ≡ count_below other n
@@ -330,15 +313,6 @@ none_in_word test p w none bits before n lt = bool_case _ (nat_lt (n / 64) p)
   where
     word : (n : ℕ) → p ≤ n / 64 → n / 64 < p + 1 → n / 64 ≡ p
     word n a b = omega arith
-
--- none passes at all, where none of 32 words does and none past them
-pub none_at_all : (test : ℕ → Bool) → ((n : ℕ) → n / 64 < 32 → test n ≡ false) → ((n : ℕ) → 2000 ≤ n → test n ≡ false) → (n : ℕ) → test n ≡ false
-none_at_all test inside past n = bool_case _ (nat_lt n 2000)
-    (λ is. inside n (div_below n 64 32 (omega arith) (below ((Decides-ltb n 2000).0 is))))
-    (λ isnt. past n (not_below n 2000 isnt))
-  where
-    below : n < 2000 → n < 32 * 64
-    below h = omega arith
 
 -- the marks of one word from a number on
 abbrev pub marked_from : ℕ → List ℕ → ℕ → Bool

@@ -1,9 +1,9 @@
 -- The fields of an instance, and the problem that they are.
 use Rattle.std.specs.Prelude.{◌≡◌, ◌<◌, ◌&&◌, ℕ, List, length, map, nat_lt}
 use Rattle.std.specs.String.{string_bytes}
-use Rattle.ctt_text.specs.Problem.{Problem, IsProblem, course_count, clash}
+use Rattle.ctt_text.specs.Problem.{Problem, IsProblem, course_count, slot_count, clash}
 use Rattle.ctt_text.specs.Named.{IsNamed}
-use Rattle.ctt_text.specs.Tables.{mark_at}
+use Rattle.ctt_text.specs.Tables.{mark_at, IsTableOf}
 use Rattle.ctt_text.specs.Belonging.{AreCurricula}
 use Rattle.ctt_text.specs.declared.instance.Instance.TheInside.{Inside}
 
@@ -19,7 +19,7 @@ problem_in i = record {
   curricula = map (λ q. q.items) i.curricula.items;
   days = i.days;
   periods = i.periods;
-  unavailable = i.unavailable.items;
+  unavailable = i.unavailable.marks;
 }
 
 -- the rows of the clashes
@@ -31,4 +31,5 @@ pub record IsInstance (i : Inside) : Type 0 where
   pub problem : IsProblem (problem_in i)
   pub named : IsNamed (problem_in i)
   pub clashes : AreClashes (problem_in i) i.clashes.items
+  pub available : IsTableOf (course_count (problem_in i)) (slot_count (problem_in i)) i.unavailable
   pub belonging : AreCurricula (problem_in i) (map (λ q. q.items) i.belonging.items)

@@ -1,5 +1,6 @@
 -- Rows of marks.
-use Rattle.std.specs.Prelude.{◌≡◌, ◌<◌, ℕ, List, [], Bool, ◌||◌, get_or, length}
+use Rattle.std.specs.Prelude.{◌≡◌, ◌<◌, ◌≤◌, ◌*◌, ◌/◌, ◌%◌, ℕ, List, [], Bool, false, ◌||◌, get_or, length, map}
+use Rattle.std.specs.List.{range_with_len}
 use Rattle.ctt_text.specs.Marks.{is_marked}
 use Rattle.ctt_text.specs.declared.course_facts.CourseFacts.{CourseFacts}
 
@@ -14,3 +15,22 @@ pub record AddsMarks (old new : List (List ℕ)) (test : ℕ → ℕ → Bool) :
 
 abbrev pub teacher_at : List CourseFacts → ℕ → ℕ
 teacher_at courses c = (get_or courses c (record { teacher = 0; lectures = 0; min_days = 0; students = 0 })).teacher
+
+-- a table of marks: how many rows and columns it has, and its marks, row by row
+pub record MarkTable : Type 0 where
+  pub rows : ℕ
+  pub width : ℕ
+  pub marks : List Bool
+
+-- the marks below a width, row by row
+unfoldable pub table_of : ℕ → List (List ℕ) → List Bool
+table_of width rows = map (λ k. mark_at rows (k / width) (k % width)) (range_with_len 0 (length rows * width))
+
+-- no row has a mark from a width on
+abbrev pub AreBelow : ℕ → List (List ℕ) → Type 0
+AreBelow width rows = (r n : ℕ) → width ≤ n → mark_at rows r n ≡ false
+
+-- the table has so many rows and columns
+pub record IsTableOf (rows width : ℕ) (table : MarkTable) : Type 0 where
+  pub rows_are : table.rows ≡ rows
+  pub width_is : table.width ≡ width

@@ -17,6 +17,7 @@ mod places;
 mod read;
 mod rooms;
 mod unavailability;
+mod unavailable;
 
 use crate::course_facts::CourseFacts;
 use crate::ids::{CourseNo, CurriculumNo, RoomNo, SlotNo, TeacherNo};
@@ -24,6 +25,7 @@ use crate::marks::Marks;
 use crate::names::Names;
 pub use read::read_instance;
 use std::marker::Model;
+use unavailable::Unavailable;
 
 /// An instance of curriculum-based course timetabling, as it was read from its file.
 ///
@@ -40,8 +42,7 @@ pub struct Instance {
     curricula: Vec<Vec<CourseNo>>,
     days: u16,
     periods: u16,
-    /// For each course in turn, for each slot in turn.
-    unavailable: Vec<bool>,
+    unavailable: Unavailable,
     /// For each course, those that it clashes with.
     clashes: Vec<Marks>,
     /// For each course, its curricula.
@@ -62,7 +63,7 @@ impl Model for Instance {
 
 impl Instance {
     /// A statement: each instance is within the limits, and its numbers are those of its lists.
-    pub fn limits(&self)
+    pub fn limits_hold(&self)
         ensures { IsProblem self.now }
     {
         // Its contract is all that it is. What holds of an instance is known where one is read.
@@ -70,7 +71,7 @@ impl Instance {
     }
 
     /// A statement: all names are words, distinct in their lists.
-    pub fn names(&self)
+    pub fn names_are_words(&self)
         ensures { IsNamed self.now }
     {
         // Its contract is all that it is. What holds of an instance is known where one is read.
@@ -259,8 +260,16 @@ impl Instance {
         requires slot { slot < slot_count self.now }
         ensures { result ≡ is_unavailable self.now course slot }
     {
-        let slots = self.days as usize * self.periods as usize;
-        self.unavailable[course.get() as usize * slots + slot.get() as usize]
+        self.unavailable_slots(course)
+            .is_marked(slot.get() as usize)
+    }
+
+    /// The slots in which a course is unavailable.
+    pub fn unavailable_slots(&self, course: CourseNo) -> &Marks
+        requires { course < course_count self.now }
+        ensures { (s : ℕ) → is_marked result.now s ≡ is_unavailable self.now course s }
+    {
+        self.unavailable.slots_of(course.get() as usize)
     }
 
     /// The slot of a period in a day.

@@ -40,11 +40,7 @@ fn mark_taught(rows: &mut [Marks], courses: &[CourseFacts])
 }
 
 /// For each teacher, a row of the courses that he has.
-fn taught(
-    alloc: Global,
-    courses: &[CourseFacts],
-    teachers: usize,
-) -> Result<Vec<Marks>, AllocError>
+fn taught(alloc: Global, courses: &[CourseFacts], teachers: usize) -> Result<Vec<Marks>, AllocError>
     requires few { length courses.now ≤ 2000 }
     requires teachers { Each (λ f. f.teacher < teachers) courses.now }
     ensures size { IfOk result (λ v. length v.items ≡ teachers) }

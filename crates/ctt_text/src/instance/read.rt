@@ -23,6 +23,7 @@ use crate::instance::header::{Header, read_header};
 use crate::instance::places::read_fixed;
 use crate::instance::rooms::{RoomSection, read_room_section};
 use crate::instance::unavailability::read_unavailability_section;
+use crate::instance::unavailable::Unavailable;
 use crate::reader::Reader;
 use std::alloc::{AllocError, Global};
 use std::marker::Model;
@@ -34,16 +35,20 @@ struct Sections<'a> {
     courses: CourseSection,
     rooms: RoomSection,
     curricula: CurriculumSection,
-    unavailable: Vec<bool>,
+    unavailable: Unavailable,
 }
 
 impl<'a> Model for Sections<'a> {
     ghost use Rattle.ctt_text.specs.Problem.{Problem};
+    ghost use Rattle.std.specs.Prelude.{◌*◌, length};
     ghost use Rattle.ctt_text.specs.InstancePlaces.{problem_of};
+    ghost use Rattle.ctt_text.specs.Tables.{IsTableOf};
 
     ghost Value = { Problem };
 
-    ghost view = { λ s. problem_of s.header s.courses s.rooms s.curricula s.unavailable.items };
+    ghost view = { λ s. problem_of s.header s.courses s.rooms s.curricula s.unavailable.marks };
+
+    ghost invariant = { λ s. IsTableOf (length s.courses.names) (s.header.days * s.header.periods) s.unavailable };
 }
 
 /// Reads all sections, up to the word at the end.

@@ -1,38 +1,57 @@
 //! The section of the unavailable periods.
 
-ghost use Rattle.std.specs.Prelude.{◌≡◌, ◌≤◌, ◌*◌, length, codes};
-ghost use Rattle.ctt_text.specs.Places.{after};
-ghost use Rattle.ctt_text.specs.declared.fault.ReadFault.TheVariants.{Expected};
+ghost use Rattle.std.specs.Prelude.{◌≡◌, ◌<◌, ◌≤◌, ◌*◌, length, codes, IfOk};
+ghost use Rattle.ctt_text.specs.Places.{after, known_name};
+ghost use Rattle.ctt_text.specs.declared.fault.ReadFault.TheVariants.{Expected, UnknownCourse};
 ghost use Rattle.ctt_text.specs.Forms.{times};
 ghost use Rattle.ctt_text.specs.InstancePlaces.{GivesRead, reads, unavailability, all_available};
 
 use crate::fault::ReadFault;
 use crate::instance::courses::CourseSection;
 use crate::instance::header::Header;
-use crate::instance::places::{read_course, read_day, read_fixed, read_period};
-use crate::names::Names;
+use crate::instance::places::{read_day, read_fixed, read_period};
+use crate::instance::unavailable::Unavailable;
+use crate::names::{Lookup, Names};
+use crate::places::next_word;
 use crate::reader::Reader;
 use std::alloc::Global;
 
+/// The number of a course that was named.
+#[tactic(auto, using(crate::proofs::Steps::read_known), unfolding(crate::specs::Places::known_name))]
+fn read_course<'a>(
+    reader: &mut Reader<'a>,
+    courses: &mut Lookup<'_, 'a>,
+) -> Result<usize, ReadFault>
+    ensures known { IfOk result (λ course. course < length courses.old) }
+    ensures names { courses.new ≡ courses.old }
+    ensures exact { GivesRead (λ course. (course, reader.new)) result (reads (known_name UnknownCourse courses.old) reader.old) }
+{
+    let at = reader.next();
+    let name = next_word::<ReadFault>(reader)?;
+    courses.number(name).ok_or(ReadFault::UnknownCourse(at))
+}
+
 /// Reads one period in which a course is unavailable, and marks it.
 #[tactic(auto, using(crate::proofs::Steps::read_bind, crate::proofs::Steps::read_done), unfolding(crate::specs::InstancePlaces::unavailability))]
-fn read_one_period(
-    reader: &mut Reader,
-    courses: &Names,
+fn read_one_period<'a>(
+    reader: &mut Reader<'a>,
+    courses: &mut Lookup<'_, 'a>,
     days: u32,
     periods: u32,
-    marks: &mut [bool],
+    table: &mut Unavailable,
 ) -> Result<(), ReadFault>
-    requires courses { length courses.now ≤ 2000 }
     requires slots { days * periods ≤ 2000 }
-    requires marks { length marks.old ≡ length courses.now * (days * periods) }
-    ensures { GivesRead (λ _. (marks.new, reader.new)) result (reads (unavailability courses.now days periods marks.old) reader.old) }
+    requires rows { table.old.rows ≡ length courses.old }
+    requires width { table.old.width ≡ days * periods }
+    ensures names { courses.new ≡ courses.old }
+    ensures rows { table.new.rows ≡ table.old.rows }
+    ensures width { table.new.width ≡ table.old.width }
+    ensures exact { GivesRead (λ _. (table.new.marks, reader.new)) result (reads (unavailability courses.old days periods table.old.marks) reader.old) }
 {
     let course = read_course(reader, courses)?;
     let day = read_day(reader, days)?;
     let period = read_period(reader, periods)?;
-    let slots = (days * periods) as usize;
-    marks[course * slots + (day * periods + period) as usize] = true;
+    table.mark(course, (day * periods + period) as usize);
     Ok(())
 }
 
@@ -43,44 +62,47 @@ fn read_periods(
     days: u32,
     periods: u32,
     count: u32,
-    marks: &mut [bool],
+    table: &mut Unavailable,
 ) -> Result<(), ReadFault>
-    requires courses { length courses.now ≤ 2000 }
     requires slots { days * periods ≤ 2000 }
-    requires marks { length marks.old ≡ length courses.now * (days * periods) }
-    ensures { GivesRead (λ _. (marks.new, reader.new)) result (reads (times (unavailability courses.now days periods) count marks.old) reader.old) }
+    requires rows { table.old.rows ≡ length courses.now }
+    requires width { table.old.width ≡ days * periods }
+    ensures rows { table.new.rows ≡ table.old.rows }
+    ensures width { table.new.width ≡ table.old.width }
+    ensures exact { GivesRead (λ _. (table.new.marks, reader.new)) result (reads (times (unavailability courses.now days periods) count table.old.marks) reader.old) }
 {
+    let mut courses = Lookup::new(courses);
     for _ in 0..count {
-        read_one_period(reader, courses, days, periods, marks)?;
+        read_one_period(reader, &mut courses, days, periods, table)?;
     }
     Ok(())
 }
 
 /// Reads the section: its heading, and as many periods in which a course is
-/// unavailable as the header says. What it
-/// gives has a mark for each course in turn, for each slot in turn.
+/// unavailable as the header says.
 #[tactic(auto, using(crate::proofs::Steps::read_bind))]
 pub(crate) fn read_unavailability_section(
     alloc: Global,
     reader: &mut Reader,
     header: &Header,
     courses: &CourseSection,
-) -> Result<Vec<bool>, ReadFault>
-    requires few { header.now.courses ≤ 2000 }
+) -> Result<Unavailable, ReadFault>
     requires slots { header.now.days * header.now.periods ≤ 2000 }
     requires courses { length courses.now.names ≡ header.now.courses }
-    ensures { GivesRead (λ marks. (marks.items, reader.new)) result (reads (after Expected (codes "UNAVAILABILITY_CONSTRAINTS:") (times (unavailability courses.now.names header.now.days header.now.periods) header.now.constraints (all_available header.now))) reader.old) }
+    ensures rows { IfOk result (λ table. table.rows ≡ header.now.courses) }
+    ensures width { IfOk result (λ table. table.width ≡ header.now.days * header.now.periods) }
+    ensures exact { GivesRead (λ table. (table.marks, reader.new)) result (reads (after Expected (codes "UNAVAILABILITY_CONSTRAINTS:") (times (unavailability courses.now.names header.now.days header.now.periods) header.now.constraints (all_available header.now))) reader.old) }
 {
     read_fixed(reader, "UNAVAILABILITY_CONSTRAINTS:")?;
-    let slots = header.days * header.periods;
-    let mut marks = vec![in alloc; false; header.courses as usize * slots as usize]?;
+    let slots = (header.days * header.periods) as usize;
+    let mut table = Unavailable::new(alloc, header.courses as usize, slots)?;
     read_periods(
         reader,
         &courses.names,
         header.days,
         header.periods,
         header.constraints,
-        &mut marks,
+        &mut table,
     )?;
-    Ok(marks)
+    Ok(table)
 }

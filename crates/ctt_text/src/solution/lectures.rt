@@ -1,7 +1,7 @@
 //! The lectures of a solution, as they are read.
 
 ghost use Rattle.std.specs.Prelude.{◌≡◌, ◌<◌, ◌+◌, ◌*◌, [], false, IfOk};
-ghost use Rattle.ctt_text.specs.Problem.{course_count, slot_count};
+ghost use Rattle.ctt_text.specs.Problem.{course_count, room_count, slot_count};
 ghost use Rattle.ctt_text.specs.Timetable.{has_lecture, with};
 ghost use Rattle.ctt_text.specs.RoomTable.{lecture_in};
 
@@ -18,7 +18,7 @@ fn cell(instance: &Instance, course: CourseNo, slot: SlotNo) -> usize
     ensures cell { result ≡ course * slot_count instance.now + slot }
     ensures within { result < course_count instance.now * slot_count instance.now }
 {
-    instance.limits();
+    instance.limits_hold();
     course.get() as usize * instance.slots() as usize + slot.get() as usize
 }
 
@@ -27,7 +27,7 @@ fn lecture(instance: &Instance, cell: usize, room: RoomNo) -> Placed
     requires { cell < course_count instance.now * slot_count instance.now }
     ensures { result ≡ lecture_in (slot_count instance.now) cell room }
 {
-    instance.limits();
+    instance.limits_hold();
     let slots = instance.slots() as usize;
     Placed {
         course: CourseNo::new((cell / slots) as u16),
@@ -36,12 +36,61 @@ fn lecture(instance: &Instance, cell: usize, room: RoomNo) -> Placed
     }
 }
 
+/// A room, or none, in two bytes.
+#[derive(Clone, Copy)]
+struct HeldRoom {
+    /// 0 for none, and else the number after the room's.
+    code: u16,
+}
+
+impl Model for HeldRoom {
+    ghost use Rattle.std.specs.Prelude.{ℕ, Option};
+    ghost use Rattle.ctt_text.specs.RoomTable.{room_by_code, code_of_room, code_again};
+    ghost use Rattle.std.proofs.Common.{ap};
+
+    ghost Value = { Option ℕ };
+
+    ghost view = { λ h. room_by_code h.code };
+
+    ghost inverse = { λ room. record { code = code_of_room room } };
+
+    ghost inverse_ok = { λ h _. ap (λ code. record { code = code }) (code_again h.code) };
+}
+
+impl HeldRoom {
+    /// No room.
+    fn none() -> Self
+        ensures { result ≡ None }
+    {
+        HeldRoom { code: 0 }
+    }
+
+    fn of(room: RoomNo) -> Self
+        requires { room < 1000 }
+        ensures { result ≡ Some room }
+    {
+        HeldRoom {
+            code: room.get() + 1,
+        }
+    }
+
+    fn room(self) -> Option<RoomNo>
+        ensures { result ≡ self }
+    {
+        if self.code == 0 {
+            None
+        } else {
+            Some(RoomNo::new(self.code - 1))
+        }
+    }
+}
+
 /// Lectures of an instance: a room for each course and slot that has one.
 #[derive(Drop)]
 pub(crate) struct Lectures<'i> {
     instance: &'i Instance,
     /// For each course in turn, for each slot in turn.
-    rooms: Vec<Option<RoomNo>>,
+    rooms: Vec<HeldRoom>,
 }
 
 impl<'i> Model for Lectures<'i> {
@@ -62,11 +111,11 @@ impl<'i> Lectures<'i> {
     pub(crate) fn new(alloc: Global, instance: &'i Instance) -> Result<Self, AllocError>
         ensures { IfOk result (λ l. l ≡ record { problem = instance.now; lectures = [] }) }
     {
-        instance.limits();
+        instance.limits_hold();
         let cells = instance.courses() as usize * instance.slots() as usize;
         Ok(Lectures {
             instance,
-            rooms: vec![in alloc; None; cells]?,
+            rooms: vec![in alloc; HeldRoom::none(); cells]?,
         })
     }
 
@@ -84,7 +133,9 @@ impl<'i> Lectures<'i> {
         requires slot { slot < slot_count self.now.problem }
         ensures { result ≡ has_lecture course slot self.now.lectures }
     {
-        self.rooms[cell(self.instance, course, slot)].is_some()
+        self.rooms[cell(self.instance, course, slot)]
+            .room()
+            .is_some()
     }
 
     /// Adds a lecture, where its course has none in its slot.
@@ -92,11 +143,13 @@ impl<'i> Lectures<'i> {
     pub(crate) fn add(&mut self, lecture: Placed)
         requires course { lecture.course < course_count self.old.problem }
         requires slot { lecture.slot < slot_count self.old.problem }
+        requires room { lecture.room < room_count self.old.problem }
         requires free { has_lecture lecture.course lecture.slot self.old.lectures ≡ false }
         ensures { self.new ≡ record { problem = self.old.problem; lectures = with lecture self.old.lectures } }
     {
+        self.instance.limits_hold();
         let cell = cell(self.instance, lecture.course, lecture.slot);
-        self.rooms[cell] = Some(lecture.room);
+        self.rooms[cell] = HeldRoom::of(lecture.room);
     }
 
     /// All lectures, by course and then by slot.
@@ -106,7 +159,7 @@ impl<'i> Lectures<'i> {
     {
         let mut list = Vec::new(alloc);
         for (cell, room) in self.rooms.iter().enumerate() {
-            if let Some(room) = *room {
+            if let Some(room) = room.room() {
                 list.push(lecture(self.instance, cell, room))?;
             }
         }

@@ -78,7 +78,7 @@ pub fn read_solution(
     ensures not_text { ¬ IsUtf8 text.now → result ≡ Err (NotText (utf8_valid_len text.now)) }
     ensures broken { (k : ℕ) (fault : SolutionFault) → IsUtf8 text.now → SolutionBreaksAt instance.now (words text.now) k fault → (result ≡ Err fault) ⊎ (result ≡ Err NoMemory) }
 {
-    instance.limits();
+    instance.limits_hold();
     match str::from_utf8(text) {
         Ok(text) => read_text(alloc, instance, text),
         Err(error) => Err(SolutionFault::NotText(error.valid_up_to() as u64)),

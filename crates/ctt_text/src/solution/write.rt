@@ -38,8 +38,8 @@ pub fn write_solution(
     ensures utf8 { IfOk result (λ text. IsUtf8 text.items) }
     ensures spelled { IfOk result (λ text. SolSpells instance.now (words text.items) lectures.now) }
 {
-    instance.limits();
-    instance.names();
+    instance.limits_hold();
+    instance.names_are_words();
     let mut text = String::new(alloc);
     for lecture in lectures {
         write_line(&mut text, instance, lecture)?;

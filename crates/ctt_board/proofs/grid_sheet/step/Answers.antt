@@ -69,13 +69,13 @@ module _ (c : goal.After-leave) where
       gained i l u t c.leave.new.self c.leave.result more fits lawful c.requires.lawful sees c.leave.ensures.gain
 
 pub overflow_sub-result : goal.overflow_sub-result
-overflow_sub-result c = turned_fits c.leave.result (total (penalty (i c) (t c))) (total (penalty (i c) (u c))) (value c) (small (i c) (t c) c.limits.ensures c.requires.lawful) (small (i c) (u c) c.limits.ensures (lawful c))
+overflow_sub-result c = turned_fits c.leave.result (total (penalty (i c) (t c))) (total (penalty (i c) (u c))) (value c) (small (i c) (t c) c.limits_hold.ensures c.requires.lawful) (small (i c) (u c) c.limits_hold.ensures (lawful c))
 
 pub returns-in-None-clause-sees : goal.returns-in-None-clause-sees
 returns-in-None-clause-sees c = rw c.in-None.is (sees c)
 
 pub returns-in-None-clause-value : goal.returns-in-None-clause-value
-returns-in-None-clause-value c = rw c.in-None.is (turned_is c.leave.result (total (penalty (i c) (t c))) (total (penalty (i c) (u c))) (value c) (small (i c) (t c) c.limits.ensures c.requires.lawful) (small (i c) (u c) c.limits.ensures (lawful c)))
+returns-in-None-clause-value c = rw c.in-None.is (turned_is c.leave.result (total (penalty (i c) (t c))) (total (penalty (i c) (u c))) (value c) (small (i c) (t c) c.limits_hold.ensures c.requires.lawful) (small (i c) (u c) c.limits_hold.ensures (lawful c)))
 
 pub come-requires-clause-fits : goal.come-requires-clause-fits
 come-requires-clause-fits c =
@@ -115,4 +115,4 @@ returns-in-Some-clause-sees c = rw c.in-Some.is (come_sees c)
 pub returns-in-Some-clause-value : goal.returns-in-Some-clause-value
 returns-in-Some-clause-value c =
     let value = gained (j c) (m c) (before c) (with (m c) (before c)) c.args.later.now c.come.result (more_with (m c) (before c)) (m_fits c) c.requires.lawful (after_lawful c) c.requires.sees c.come.ensures.gain in
-    rw c.in-Some.is (same_back c.come.result (total (penalty (j c) (with (m c) (before c)))) (total (penalty (j c) (before c))) value (small (j c) (with (m c) (before c)) c.limits.ensures (after_lawful c)) (small (j c) (before c) c.limits.ensures c.requires.lawful))
+    rw c.in-Some.is (same_back c.come.result (total (penalty (j c) (with (m c) (before c)))) (total (penalty (j c) (before c))) value (small (j c) (with (m c) (before c)) c.limits_hold.ensures (after_lawful c)) (small (j c) (before c) c.limits_hold.ensures c.requires.lawful))

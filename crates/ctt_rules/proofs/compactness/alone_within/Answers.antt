@@ -1,21 +1,20 @@
 use Rattle.std.proofs.Common.{◌≡◌, ◌+◌, ◌*◌, ◌<◌, ◌≤◌, ◌&&◌, ◌==◌, ◌∙◌, ℕ, ap, arith, take, sum_by, count_by, List, []}
-use Rattle.std.specs.List.{list_any, AllByRecursion as Each}
 use Rattle.std.proofs.lemmas.List.Sums.{sum_by_more}
 use Rattle.ctt_text.specs.Problem.{AreMembers, course_count, members}
 use Rattle.ctt_text.specs.declared.placed.Placed.{Placed}
 use Rattle.ctt_text.proofs.TimetableLemmas.{Each-at}
 use Rattle.ctt_rules.specs.Penalty.{part_of}
-use Rattle.ctt_rules.specs.Windows.{has_bit, is_alone_within, word_of}
+use Rattle.ctt_rules.specs.Windows.{is_alone_within}
 use Rattle.ctt_rules.proofs.PartLemmas.{count_part_le}
 use Rattle.ctt_rules.proofs.TimetableLemmas.{few_lectures}
-use Rattle.ctt_rules.proofs.WindowLemmas.{alone_counted, alone_few, few_members}
+use Rattle.ctt_rules.proofs.WindowLemmas.{alone_counted, few_members}
 use Rattle.ctt_rules.proofs.compactness.alone_within.Goals as goal
 
 pub count-requires-clause-few : goal.count-requires-clause-few
 count-requires-clause-few c =
     let i = c.args.instance.now in
-    let known : AreMembers (course_count i) (members i c.new.result) = Each-at (AreMembers (course_count i)) i.curricula c.limits.ensures.curricula c.new.result [] (omega arith) in
-    omega (arith, few_members (course_count i) c.members-members.result.now (rw c.members-members.ensures.exact known), c.limits.ensures.courses_few)
+    let known : AreMembers (course_count i) (members i c.new.result) = Each-at (AreMembers (course_count i)) i.curricula c.limits_hold.ensures.curricula c.new.result [] (omega arith) in
+    omega (arith, few_members (course_count i) c.members-members.result.now (rw c.members-members.ensures.exact known), c.limits_hold.ensures.courses_few)
 
 -- the members' lectures that stand alone in the window
 module _ (c : goal.After-count) where
@@ -23,14 +22,14 @@ module _ (c : goal.After-count) where
   part = part_of c.members-members.result.now c.args.timetable.now
 
   known : AreMembers (course_count c.args.instance.now) c.members-members.result.now
-  known = rw c.members-members.ensures.exact (Each-at (AreMembers (course_count c.args.instance.now)) c.args.instance.now.curricula c.limits.ensures.curricula c.new.result [] (omega arith))
+  known = rw c.members-members.ensures.exact (Each-at (AreMembers (course_count c.args.instance.now)) c.args.instance.now.curricula c.limits_hold.ensures.curricula c.new.result [] (omega arith))
 
   counted : c.count.result ≡ count_by (is_alone_within c.args.instance.now c.args.first part) part
   counted = c.count.ensures
       ∙ alone_counted c.args.instance.now c.args.timetable.now c.requires c.args.first c.window-words.result c.window-words.ensures c.members-members.result.now known.1 c.union.result c.alone.result c.union.ensures c.alone.ensures
 
   few : 2 * c.count.result ≤ 8000000
-  few = omega (arith, counted, count_part_le (is_alone_within c.args.instance.now c.args.first part) c.members-members.result.now c.args.timetable.now, few_lectures c.args.instance.now c.args.timetable.now c.requires c.limits.ensures)
+  few = omega (arith, counted, count_part_le (is_alone_within c.args.instance.now c.args.first part) c.members-members.result.now c.args.timetable.now, few_lectures c.args.instance.now c.args.timetable.now c.requires c.limits_hold.ensures)
 
 pub overflow_mul-total : goal.overflow_mul-total
 overflow_mul-total c = omega (arith, few c)

@@ -16,5 +16,5 @@ loop-number-preserved c =
     let here : c.abs_diff-total.result ≡ f n = c.abs_diff-total.ensures ∙ ap₂ (λ a b. (a - b) + (b - a)) wanted there in
     record {
       so_far = omega (arith, c.loop-number.invariant.so_far, here, sum_below_more f n);
-      small = omega (arith, c.loop-number.invariant.small, here, row_is_short i t c.requires n, c.limits.ensures.slots_few, lectures_small i c.limits.ensures n);
+      small = omega (arith, c.loop-number.invariant.small, here, row_is_short i t c.requires n, c.limits_hold.ensures.slots_few, lectures_small i c.limits_hold.ensures n);
     }

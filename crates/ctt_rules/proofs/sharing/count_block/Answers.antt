@@ -1,8 +1,7 @@
-use Rattle.std.proofs.Common.{◌≡◌, ◌+◌, ◌-◌, ◌*◌, ◌<◌, ◌≤◌, ◌==◌, ◌&&◌, ◌∙◌, ℕ, cond, leb, ltb, [], take, ap, arith}
+use Rattle.std.proofs.Common.{◌≡◌, ◌+◌, ◌-◌, ◌*◌, ◌<◌, ◌≤◌, ◌==◌, ◌&&◌, ◌∙◌, ℕ, cond, leb, ltb, [], ap, arith}
 use Rattle.std.proofs.lemmas.List.{take_all}
 use Rattle.ctt_text.specs.Marks.{count_marked}
 use Rattle.ctt_text.specs.Timetable.{Fits}
-use Rattle.ctt_text.specs.declared.placed.Placed.{Placed}
 use Rattle.ctt_text.proofs.TimetableLemmas.{Each-at}
 use Rattle.ctt_rules.specs.Earlier.{clashes_with, in_row, new_conflicts, only_in, room_taken, tally}
 use Rattle.ctt_rules.proofs.TimetableLemmas.{few_lectures}
@@ -13,7 +12,7 @@ pub meet-requires-clause-fits : goal.meet-requires-clause-fits
 meet-requires-clause-fits c = rw (← c.lecture-item.is) at (Each-at (Fits c.args.instance.now) c.args.timetable.now c.requires.fits c.loop-lecture.lecture-index c.lecture-item.result c.loop-lecture-test.true)
 
 pub meet-requires-clause-small : goal.meet-requires-clause-small
-meet-requires-clause-small c = omega (arith, c.loop-lecture.invariant.small, few_lectures c.args.instance.now c.args.timetable.now c.requires c.limits.ensures)
+meet-requires-clause-small c = omega (arith, c.loop-lecture.invariant.small, few_lectures c.args.instance.now c.args.timetable.now c.requires c.limits_hold.ensures)
 
 pub loop-lecture-preserved : goal.loop-lecture-preserved
 loop-lecture-preserved c =
@@ -25,7 +24,7 @@ loop-lecture-preserved c =
     let old = c.loop-lecture.block in
     let new = c.meet.new.self in
     let inv = c.loop-lecture.invariant in
-    let few = c.limits.ensures.courses_few in
+    let few = c.limits_hold.ensures.courses_few in
     let clashing : ℕ = count_marked (λ n. in_row old.courses (x.slot - first) n && clashes_with i x.course n) in
     let here : new.sharing.conflicts ≡ old.sharing.conflicts + cond (leb first x.slot && ltb x.slot (first + 64)) clashing 0 = rw inv.first at c.meet.ensures.conflicts in
     let taken : new.sharing.occupancy ≡ old.sharing.occupancy + cond (leb first x.slot && ltb x.slot (first + 64)) (cond (in_row old.rooms (x.slot - first) x.room) 1 0) 0 = rw inv.first at c.meet.ensures.occupancy in
@@ -46,7 +45,7 @@ pub returns-clause-occupancy : goal.returns-clause-occupancy
 returns-clause-occupancy c = c.loop-lecture.invariant.occupancy ∙ ap (tally (only_in c.args.first (c.args.first + 64) room_taken) []) (take_all c.loop-lecture.lecture-index c.args.timetable.now (omega arith))
 
 pub returns-clause-small : goal.returns-clause-small
-returns-clause-small c = omega (arith, few_lectures c.args.instance.now c.args.timetable.now c.requires c.limits.ensures)
+returns-clause-small c = omega (arith, few_lectures c.args.instance.now c.args.timetable.now c.requires c.limits_hold.ensures)
 
 pub returns-clause-few : goal.returns-clause-few
-returns-clause-few c = omega (arith, few_lectures c.args.instance.now c.args.timetable.now c.requires c.limits.ensures)
+returns-clause-few c = omega (arith, few_lectures c.args.instance.now c.args.timetable.now c.requires c.limits_hold.ensures)

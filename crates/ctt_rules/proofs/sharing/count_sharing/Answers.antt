@@ -1,4 +1,4 @@
-use Rattle.std.proofs.Common.{◌≤◌, ◌+◌, ◌∙◌, [], sym, ap, arith}
+use Rattle.std.proofs.Common.{◌≤◌, ◌+◌, ◌∙◌, [], sym, arith}
 use Rattle.ctt_rules.specs.Earlier.{new_conflicts, room_taken}
 use Rattle.ctt_rules.proofs.ConflictLemmas.{all_blocks, block_more, no_block, conflicts_tallied, rooms_tallied}
 use Rattle.ctt_rules.proofs.sharing.count_sharing.Goals as goal
@@ -20,7 +20,7 @@ loop-first-preserved c =
       occupancy = omega (arith, c.loop-first.invariant.occupancy, c.count_block-block.ensures.occupancy, block_more room_taken n (n + 64) (omega arith) c.args.timetable.now);
       small = omega (arith, c.loop-first.invariant.small, c.count_block-block.ensures.small);
       few = omega (arith, c.loop-first.invariant.few, c.count_block-block.ensures.few);
-      near = omega (arith, c.limits.ensures.slots_few);
+      near = omega (arith, c.limits_hold.ensures.slots_few);
     }
 
 pub returns-clause-conflicts : goal.returns-clause-conflicts

@@ -6,4 +6,4 @@ use Rattle.ctt_rules.proofs.slots.is_beside.Goals as goal
 pub overflow_add-period : goal.overflow_add-period
 overflow_add-period c =
     let i = c.args.instance.now in
-    omega (arith, c.period_of-period.ensures.exact, mod_below c.args.slot i.periods (periods_above i c.args.slot c.requires), c.limits.ensures.periods_few)
+    omega (arith, c.period_of-period.ensures.exact, mod_below c.args.slot i.periods (periods_above i c.args.slot c.requires), c.limits_hold.ensures.periods_few)

@@ -2,7 +2,6 @@ use Rattle.std.proofs.Common.{◌≡◌, ◌∙◌, ℕ, ap, arith}
 use Rattle.ctt_text.specs.Timetable.{course_row}
 use Rattle.ctt_rules.specs.Penalty.{rooms_cost}
 use Rattle.ctt_rules.proofs.SumLemmas.{sum_below_more}
-use Rattle.ctt_rules.proofs.TimetableLemmas.{row_fits}
 use Rattle.ctt_rules.proofs.soft.stability.Goals as goal
 
 pub loop-number-preserved : goal.loop-number-preserved

@@ -18,4 +18,4 @@ returns-clause-bound g c =
     let t = c.args.self.now.list in
     let value : c.total.result ≡ total (course_cost i t c.args.course) = c.total.ensures
     ∙ ap total (c.course_cost.ensures.value ∙ cost_of_row i c.instance-instance.result.now t c.as_slice.result.now c.args.course c.instance-instance.ensures (c.as_slice.ensures.value ∙ c.row-row.ensures)) in
-    omega (arith, value, course_cost_small i (rw c.instance-instance.ensures at c.limits.ensures) t c.lawful.ensures.timetable c.args.course)
+    omega (arith, value, course_cost_small i (rw c.instance-instance.ensures at c.limits_hold.ensures) t c.lawful.ensures.timetable c.args.course)

@@ -32,7 +32,7 @@ overflow_add-count g c =
     let here : c.count_alone-count.result ≡ f (get_or q c.loop-member-2.member-index m) = c.count_alone-count.ensures.count
     ∙ ap₂ (λ j ls. count_by (λ x. not (is_beside j (is_marked c.loop-member.slots) x.slot)) ls) c.instance-instance.ensures (c.as_slice-in-loop-member-2.ensures.value ∙ c.row-row-in-loop-member-2.ensures) ∙ ap f c.member-item-in-loop-member-2.is in
     let within = sum_by_more_le f q c.loop-member-2.member-index m c.loop-member-2-test.true in
-    let is : IsProblem i = rw c.instance-instance.ensures at c.limits.ensures in
+    let is : IsProblem i = rw c.instance-instance.ensures at c.limits_hold.ensures in
     omega (arith, c.loop-member-2.invariant, here, within, count_part p q t c.requires.1, count_part_le p q t, few_lectures i t c.lawful.ensures.timetable is)
 
 -- the members' lectures that stand alone, at the end of the loop
@@ -52,7 +52,7 @@ module _ (g : _) (c : goal.After-loop-member-2 g) where
 
   short : c.loop-member-2.count ≤ 4000000
   short =
-      let is : IsProblem c.args.self.now.problem = rw c.instance-instance.ensures at c.limits.ensures in
+      let is : IsProblem c.args.self.now.problem = rw c.instance-instance.ensures at c.limits_hold.ensures in
       omega (arith, counted, count_part_le alone_there c.args.members.now c.args.self.now.list, few_lectures c.args.self.now.problem c.args.self.now.list c.lawful.ensures.timetable is)
 
 pub overflow_mul-result : goal.overflow_mul-result

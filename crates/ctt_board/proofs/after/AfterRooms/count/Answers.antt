@@ -10,7 +10,7 @@ pub overflow_add-count : goal.overflow_add-count
 overflow_add-count g c =
     let t = g.R.Rooms.list c.self.inside.rooms.now in
     let lawful : Lawful c.self.inside.instance.now t = subst (λ p. Lawful p t) c.self.invariant.same c.lawful.ensures in
-    omega (arith, few_in_row c.self.inside.instance.now t c.args.course c.limits.ensures lawful, c.count.ensures, c.added.ensures.bound)
+    omega (arith, few_in_row c.self.inside.instance.now t c.args.course c.limits_hold.ensures lawful, c.count.ensures, c.added.ensures.bound)
 
 module _ (g : _) (c : goal.After-removed g) where
   balance : length (course_row c.args.course (apply c.self.inside.cells.now (g.R.Rooms.list c.self.inside.rooms.now))) + c.removed.result ≡ c.count.result + c.added.result

@@ -15,7 +15,7 @@ standing_after-requires g c =
     let i = c.self.inside.instance.now in
     let lawful : Lawful i t = subst (λ p. Lawful p t) c.self.invariant.same c.lawful.ensures in
     let turn = (and_parts (leb (length cells) 4) (in_turn false cells) c.self.invariant.change).1 in
-    courses_few i cells t lawful turn c.self.invariant.fit c.self.invariant.lawful c.limits.ensures
+    courses_few i cells t lawful turn c.self.invariant.fit c.self.invariant.lawful c.limits_hold.ensures
 
 pub returns : goal.returns
 returns g c = λ course.

@@ -14,10 +14,10 @@ use Rattle.ctt_board.proofs.SheetLemmas.{cost_small, added}
 use Rattle.ctt_board.proofs.grid_sheet.GridSheet.add.Goals as goal
 
 pub with_lecture-self-inside-requires-clause-small : goal.with_lecture-self-inside-requires-clause-small
-with_lecture-self-inside-requires-clause-small c = cost_small c.self.inside.instance.now c.self.inside.rooms c.self.inside.courses c.self.inside.standing c.self.inside.counts c.self.inside.cost c.self.invariant c.limits.ensures
+with_lecture-self-inside-requires-clause-small c = cost_small c.self.inside.instance.now c.self.inside.rooms c.self.inside.courses c.self.inside.standing c.self.inside.counts c.self.inside.cost c.self.invariant c.limits_hold.ensures
 
 pub add-requires-clause-room : goal.add-requires-clause-room
-add-requires-clause-room c = have_room c.self.inside.instance.now (listed c.self.inside.instance.now c.self.inside.rooms) c.self.inside.counts c.self.invariant.counts_are c.self.invariant.lawful.timetable c.limits.ensures
+add-requires-clause-room c = have_room c.self.inside.instance.now (listed c.self.inside.instance.now c.self.inside.rooms) c.self.inside.counts c.self.invariant.counts_are c.self.invariant.lawful.timetable c.limits_hold.ensures
 
 pub joining_of-joining-requires-clause-own : goal.joining_of-joining-requires-clause-own
 joining_of-joining-requires-clause-own c =

@@ -20,10 +20,10 @@ take-requires-clause-there c =
     let rooms = c.self.inside.rooms in
     let fits : Fits i l = subst (λ b. Fits b.problem l) (sym c.self.view_is) c.requires.fits in
     let there : room_at l.course l.slot (listed i rooms) ≡ Some l.room = subst (λ b. room_at l.course l.slot b.list ≡ Some l.room) (sym c.self.view_is) c.requires.there in
-    has_lecture i rooms c.self.inside.courses c.self.inside.standing c.self.inside.counts c.self.inside.cost l c.limits.ensures c.self.invariant fits there
+    has_lecture i rooms c.self.inside.courses c.self.inside.standing c.self.inside.counts c.self.inside.cost l c.limits_hold.ensures c.self.invariant fits there
 
 pub without_lecture-self-inside-requires-clause-small : goal.without_lecture-self-inside-requires-clause-small
-without_lecture-self-inside-requires-clause-small c = cost_small c.self.inside.instance.now c.self.inside.rooms c.self.inside.courses c.self.inside.standing c.self.inside.counts c.self.inside.cost c.self.invariant c.limits.ensures
+without_lecture-self-inside-requires-clause-small c = cost_small c.self.inside.instance.now c.self.inside.rooms c.self.inside.courses c.self.inside.standing c.self.inside.counts c.self.inside.cost c.self.invariant c.limits_hold.ensures
 
 pub joining_of-joining-requires-clause-own : goal.joining_of-joining-requires-clause-own
 joining_of-joining-requires-clause-own c =

@@ -33,12 +33,12 @@ module _ (c : goal.After-step-total) where
   way = way_of i c.args.self.now.problem c.cells-cells.result.now c.args.change.now c.args.self.now.list c.loop-number.number x (ap (λ (b : Board). b.problem) c.self.view_is) c.cells-cells.ensures.value c.cells-cells.ensures.in_turn c.lawful.ensures c.requires c.loop-number-test.true c.index-cells-number.is
 
   first_small : total (penalty i c.args.self.now.list) ≤ 7000000000000000
-  first_small = small i c.args.self.now.list c.limits.ensures (subst (λ p. Lawful p c.args.self.now.list) (sym (ap (λ (b : Board). b.problem) c.self.view_is)) c.lawful.ensures)
+  first_small = small i c.args.self.now.list c.limits_hold.ensures (subst (λ p. Lawful p c.args.self.now.list) (sym (ap (λ (b : Board). b.problem) c.self.view_is)) c.lawful.ensures)
 
 pub overflow_add-total : goal.overflow_add-total
 overflow_add-total c =
     sum_fits (to_z w64 c.loop-number.total-bits) c.step-total.result (total (penalty (i c) (t c))) (total (penalty (i c) (apply_at (x c).course (x c).slot (x c).room (t c)))) (total (penalty (i c) c.args.self.now.list))
-    c.loop-number.invariant.so_far c.step-total.ensures.value (small (i c) (t c) c.limits.ensures (way c).now) (small (i c) (apply_at (x c).course (x c).slot (x c).room (t c)) c.limits.ensures (way c).ready.lawful) (first_small c)
+    c.loop-number.invariant.so_far c.step-total.ensures.value (small (i c) (t c) c.limits_hold.ensures (way c).now) (small (i c) (apply_at (x c).course (x c).slot (x c).room (t c)) c.limits_hold.ensures (way c).ready.lawful) (first_small c)
 
 pub loop-number-preserved : goal.loop-number-preserved
 loop-number-preserved c =
@@ -47,7 +47,7 @@ loop-number-preserved c =
       sees = c.step-total.ensures.sees;
       room = search rules;
       so_far = sum_is (to_z w64 c.loop-number.total-bits) c.step-total.result (total (penalty (i c) (t c))) (total (penalty (i c) (apply_at (x c).course (x c).slot (x c).room (t c)))) (total (penalty (i c) c.args.self.now.list))
-          c.loop-number.invariant.so_far c.step-total.ensures.value (small (i c) (t c) c.limits.ensures (way c).now) (small (i c) (apply_at (x c).course (x c).slot (x c).room (t c)) c.limits.ensures (way c).ready.lawful) (first_small c);
+          c.loop-number.invariant.so_far c.step-total.ensures.value (small (i c) (t c) c.limits_hold.ensures (way c).now) (small (i c) (apply_at (x c).course (x c).slot (x c).room (t c)) c.limits_hold.ensures (way c).ready.lawful) (first_small c);
     })
 
 pub returns : goal.returns

@@ -1,4 +1,4 @@
-use Rattle.std.proofs.Common.{◌≡◌, ◌+◌, ◌-◌, ◌≤◌, ◌<◌, ◌&&◌, ◌∙◌, ℕ, Bool, true, cond, leb, ltb, ap, ap₂, sym, arith}
+use Rattle.std.proofs.Common.{◌≡◌, ◌+◌, ◌-◌, ◌≤◌, ◌<◌, ◌&&◌, ◌∙◌, ℕ, true, cond, leb, ltb, ap, ap₂, sym, arith}
 use Rattle.std.proofs.lemmas.Bool.{le-leb, lt-ltb, and_from}
 use Rattle.ctt_text.specs.Marks.{is_marked, count_marked}
 use Rattle.ctt_rules.specs.Earlier.{clashes_with, in_row}

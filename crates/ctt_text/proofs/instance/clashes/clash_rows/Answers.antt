@@ -13,7 +13,7 @@ returns-clause-marks c =
     let size = c.in_ok-rows.ensures.size in
     rw (written c.in_ok-rows.rows.len c.add_mates.new.rows (drop (length c.add_mates.new.rows) c.in_ok-rows.rows.items) all)
     (λ a b la.
-        let teacher : teacher_at courses a < c.args.teachers = Each-at (λ f. f.teacher < c.args.teachers) courses c.requires.teachers a _ la in
-        clash_marks (λ q. q.items) (teacher_at courses) (length courses) c.args.curricula.now c.requires.members a b
-        (mark_at c.in_ok-taught.taught.items (teacher_at courses a) b) (mark_at c.in_ok-rows.rows.items a b) (mark_at c.add_mates.new.rows a b)
-        (c.in_ok-taught.ensures.marks (teacher_at courses a) b teacher) (rows a b la) (marks a b (rw size la)))
+    let teacher : teacher_at courses a < c.args.teachers = Each-at (λ f. f.teacher < c.args.teachers) courses c.requires.teachers a _ la in
+    clash_marks (λ q. q.items) (teacher_at courses) (length courses) c.args.curricula.now c.requires.members a b
+    (mark_at c.in_ok-taught.taught.items (teacher_at courses a) b) (mark_at c.in_ok-rows.rows.items a b) (mark_at c.add_mates.new.rows a b)
+    (c.in_ok-taught.ensures.marks (teacher_at courses a) b teacher) (rows a b la) (marks a b (rw size la)))

@@ -19,7 +19,7 @@ returns-in_err-unavailable c =
     ∙ read_then missing (after Expected (codes "COURSES:") (times course c.in_ok-header.header.courses no_courses)) _ c.read_header.new.reader c.read_course_section.new.reader c.in_ok-courses.courses c.in_ok-courses.ensures.exact
     ∙ read_then missing (after Expected (codes "ROOMS:") (times room c.in_ok-header.header.rooms no_rooms)) _ c.read_course_section.new.reader c.read_room_section.new.reader c.in_ok-rooms.rooms c.in_ok-rooms.ensures
     ∙ read_then missing (after Expected (codes "CURRICULA:") (times (curriculum c.in_ok-courses.courses.names) c.in_ok-header.header.curricula no_curricula)) _ c.read_room_section.new.reader c.read_curriculum_section.new.reader c.in_ok-curricula.curricula c.in_ok-curricula.ensures)
-    c.in_err-unavailable.ensures)
+    c.in_err-unavailable.ensures.exact)
 
 pub returns-in_err-read_fixed : goal.returns-in_err-read_fixed
 unfolding instance
@@ -31,5 +31,5 @@ returns-in_err-read_fixed c =
     ∙ read_then missing (after Expected (codes "COURSES:") (times course c.in_ok-header.header.courses no_courses)) _ c.read_header.new.reader c.read_course_section.new.reader c.in_ok-courses.courses c.in_ok-courses.ensures.exact
     ∙ read_then missing (after Expected (codes "ROOMS:") (times room c.in_ok-header.header.rooms no_rooms)) _ c.read_course_section.new.reader c.read_room_section.new.reader c.in_ok-rooms.rooms c.in_ok-rooms.ensures
     ∙ read_then missing (after Expected (codes "CURRICULA:") (times (curriculum c.in_ok-courses.courses.names) c.in_ok-header.header.curricula no_curricula)) _ c.read_room_section.new.reader c.read_curriculum_section.new.reader c.in_ok-curricula.curricula c.in_ok-curricula.ensures
-    ∙ read_then missing (after Expected (codes "UNAVAILABILITY_CONSTRAINTS:") (times (unavailability c.in_ok-courses.courses.names c.in_ok-header.header.days c.in_ok-header.header.periods) c.in_ok-header.header.constraints (all_available c.in_ok-header.header))) _ c.read_curriculum_section.new.reader c.read_unavailability_section.new.reader c.in_ok-unavailable.unavailable.items c.in_ok-unavailable.ensures)
+    ∙ read_then missing (after Expected (codes "UNAVAILABILITY_CONSTRAINTS:") (times (unavailability c.in_ok-courses.courses.names c.in_ok-header.header.days c.in_ok-header.header.periods) c.in_ok-header.header.constraints (all_available c.in_ok-header.header))) _ c.read_curriculum_section.new.reader c.read_unavailability_section.new.reader c.in_ok-unavailable.unavailable.marks c.in_ok-unavailable.ensures.exact)
     c.in_err-read_fixed.ensures)

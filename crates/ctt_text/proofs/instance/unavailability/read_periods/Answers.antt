@@ -1,16 +1,25 @@
+use Rattle.std.proofs.Common.{◌∙◌}
 use Rattle.std.proofs.lemmas.Result.{err_from_is_err_and}
 use Rattle.ctt_text.specs.Forms.{times}
 use Rattle.ctt_text.specs.InstancePlaces.{reads, missing, wants_memory, unavailability}
 use Rattle.ctt_text.proofs.Steps.{goes_on, ends, is_done}
 use Rattle.ctt_text.proofs.instance.unavailability.read_periods.Goals as goal
 
-pub returns-in_err-read_one_period : goal.returns-in_err-read_one_period
-returns-in_err-read_one_period c =
+pub returns-in_err-read_one_period-clause-exact : goal.returns-in_err-read_one_period-clause-exact
+returns-in_err-read_one_period-clause-exact c =
     let p = err_from_is_err_and c.from_residual.result c.from_residual.ensures.1 in
-    rw (p.1, p.2) (ends missing (unavailability c.args.courses.now c.args.days c.args.periods) c.args.count c.loop.counter c.loop.marks c.loop.reader (reads (times (unavailability c.args.courses.now c.args.days c.args.periods) c.args.count c.args.marks.now) c.args.reader.now) c.loop.invariant wants_memory c.in_err-read_one_period.field-0.0 c.loop-test.true c.in_err-read_one_period.ensures)
+    let part = rw c.loop.invariant.names at c.in_err-read_one_period.ensures.exact in
+    rw (p.1, p.2) (ends missing (unavailability c.args.courses.now c.args.days c.args.periods) c.args.count c.loop.counter c.loop.table.marks c.loop.reader (reads (times (unavailability c.args.courses.now c.args.days c.args.periods) c.args.count c.args.table.now.marks) c.args.reader.now) c.loop.invariant.exact wants_memory c.in_err-read_one_period.field-0.0 c.loop-test.true part)
 
 pub loop-preserved : goal.loop-preserved
-loop-preserved c = goes_on missing (unavailability c.args.courses.now c.args.days c.args.periods) c.args.count c.loop.counter c.loop.marks c.loop.reader (reads (times (unavailability c.args.courses.now c.args.days c.args.periods) c.args.count c.args.marks.now) c.args.reader.now) c.loop.invariant c.read_one_period.new.marks c.read_one_period.new.reader c.loop-test.true c.in_ok-read_one_period.ensures
+loop-preserved c =
+    let part = rw c.loop.invariant.names at c.in_ok-read_one_period.ensures.exact in
+    record {
+      names = c.in_ok-read_one_period.ensures.names ∙ c.loop.invariant.names;
+      rows = c.in_ok-read_one_period.ensures.rows ∙ c.loop.invariant.rows;
+      width = c.in_ok-read_one_period.ensures.width ∙ c.loop.invariant.width;
+      exact = goes_on missing (unavailability c.args.courses.now c.args.days c.args.periods) c.args.count c.loop.counter c.loop.table.marks c.loop.reader (reads (times (unavailability c.args.courses.now c.args.days c.args.periods) c.args.count c.args.table.now.marks) c.args.reader.now) c.loop.invariant.exact c.read_one_period.new.table.marks c.read_one_period.new.reader c.loop-test.true part;
+    }
 
-pub returns : goal.returns
-returns c = is_done missing (unavailability c.args.courses.now c.args.days c.args.periods) c.args.count c.loop.counter c.loop.marks c.loop.reader (reads (times (unavailability c.args.courses.now c.args.days c.args.periods) c.args.count c.args.marks.now) c.args.reader.now) c.loop.invariant c.loop-test.false
+pub returns-clause-exact : goal.returns-clause-exact
+returns-clause-exact c = is_done missing (unavailability c.args.courses.now c.args.days c.args.periods) c.args.count c.loop.counter c.loop.table.marks c.loop.reader (reads (times (unavailability c.args.courses.now c.args.days c.args.periods) c.args.count c.args.table.now.marks) c.args.reader.now) c.loop.invariant.exact c.loop-test.false

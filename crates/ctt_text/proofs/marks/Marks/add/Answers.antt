@@ -1,5 +1,4 @@
-use Rattle.ctt_text.proofs.MarkLemmas.{added_none, added_more, added_all, added_are}
-use Rattle.std.proofs.Common.{arith, ◌<◌, length}
+use Rattle.ctt_text.proofs.MarkLemmas.{added_more}
 use Rattle.ctt_text.proofs.marks.Marks.add.Goals as goal
 
 pub loop-place-preserved : goal.loop-place-preserved

@@ -1,4 +1,4 @@
-use Rattle.std.proofs.Common.{rules, refl, ◌≡◌, ◌<◌, ◌≤◌, ◌^◌, ◌*◌, get_or, sym, ◌∙◌, ap, arith, bit_and}
+use Rattle.std.proofs.Common.{rules, refl, ◌<◌, ◌≤◌, ◌^◌, ◌*◌, get_or, ◌∙◌, arith, bit_and}
 use Rattle.std.specs.Int.Count.{ones}
 use Rattle.std.proofs.lemmas.Nat.{and_le_l, ones-le}
 use Rattle.ctt_text.proofs.MarkLemmas.{common_more, count_marked_above, none_common, in_both}

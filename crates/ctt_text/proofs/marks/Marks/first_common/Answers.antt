@@ -1,8 +1,8 @@
-use Rattle.std.proofs.Common.{rules, ◌≡◌, ◌<◌, ◌^◌, ◌+◌, ◌*◌, get_or, bit_and, arith, Some, w64}
+use Rattle.std.proofs.Common.{rules, ◌<◌, ◌^◌, ◌+◌, ◌*◌, get_or, bit_and, arith, Some, w64}
 use Rattle.std.specs.Int.{trailing_zeros}
 use Rattle.std.proofs.lemmas.Nat.{and_le_l}
 use Rattle.ctt_text.specs.Marks.{IsLeast}
-use Rattle.ctt_text.proofs.MarkLemmas.{least_in_word, none_in_word, none_at_all, in_both, in_both_words, least_small, none_common}
+use Rattle.ctt_text.proofs.MarkLemmas.{least_in_word, none_in_word, in_both, in_both_words, least_small, none_common}
 use Rattle.ctt_text.proofs.marks.Marks.first_common.Goals as goal
 
 pub returns-then-common-ne0-clause-least : goal.returns-then-common-ne0-clause-least

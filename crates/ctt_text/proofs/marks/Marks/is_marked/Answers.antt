@@ -1,5 +1,3 @@
-use Rattle.std.proofs.Common.{ap, ◌∙◌}
-use Rattle.ctt_text.specs.Marks.{is_marked}
 use Rattle.ctt_text.proofs.MarkLemmas.{read_mark}
 use Rattle.ctt_text.proofs.marks.Marks.is_marked.Goals as goal
 

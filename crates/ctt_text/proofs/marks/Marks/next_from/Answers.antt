@@ -1,8 +1,8 @@
-use Rattle.std.proofs.Common.{rules, ◌≡◌, ◌<◌, ◌^◌, ◌+◌, ◌*◌, ◌/◌, ◌%◌, ◌-◌, get_or, bit_and, arith, Some, w64, length}
+use Rattle.std.proofs.Common.{rules, ◌<◌, ◌^◌, ◌+◌, ◌*◌, ◌/◌, ◌%◌, ◌-◌, get_or, bit_and, arith, Some, w64}
 use Rattle.std.specs.Int.{trailing_zeros}
-use Rattle.std.proofs.lemmas.Nat.{and_le_l, div_below}
+use Rattle.std.proofs.lemmas.Nat.{and_le_l}
 use Rattle.ctt_text.specs.Marks.{IsLeast}
-use Rattle.ctt_text.proofs.MarkLemmas.{least_in_word, none_in_word, none_at_all, marked_from, from_word, later_word, none_before, none_past, none_from, least_small}
+use Rattle.ctt_text.proofs.MarkLemmas.{least_in_word, none_in_word, marked_from, from_word, later_word, none_before, none_past, none_from, least_small}
 use Rattle.ctt_text.proofs.marks.Marks.next_from.Goals as goal
 
 pub returns-then-first-ge2000-clause-least : goal.returns-then-first-ge2000-clause-least

@@ -5,7 +5,7 @@ pub returns-in-Ok-clause-spelled : goal.returns-in-Ok-clause-spelled
 returns-in-Ok-clause-spelled c = gives_spelled c.args.instance.now c.args.text.now c.read_text.result (rw c.in-Ok.ensures.cases.0 at c.read_text.ensures)
 
 pub returns-in-Ok-clause-timetable : goal.returns-in-Ok-clause-timetable
-returns-in-Ok-clause-timetable c = gives_timetable c.args.instance.now c.args.text.now c.limits.ensures c.read_text.result (rw c.in-Ok.ensures.cases.0 at c.read_text.ensures)
+returns-in-Ok-clause-timetable c = gives_timetable c.args.instance.now c.args.text.now c.limits_hold.ensures c.read_text.result (rw c.in-Ok.ensures.cases.0 at c.read_text.ensures)
 
 pub returns-in-Ok-clause-accepted : goal.returns-in-Ok-clause-accepted
 returns-in-Ok-clause-accepted c = λ t utf8 s. gives_accepted c.args.instance.now c.args.text.now c.read_text.result (rw c.in-Ok.ensures.cases.0 at c.read_text.ensures) t s

@@ -13,4 +13,4 @@ returns-clause-utf8 c = rw c.into_bytes.ensures.value (IsUtf8-string_bytes c.loo
 pub returns-clause-spelled : goal.returns-clause-spelled
 returns-clause-spelled c =
     let text : c.into_bytes.result.items ≡ soltext c.args.instance.now c.args.lectures.now = grind (arith, common_steps) in
-    subst (λ bytes. SolSpells c.args.instance.now (words bytes) c.args.lectures.now) (sym text) (written_spells c.args.instance.now c.args.lectures.now c.limits.ensures c.names.ensures c.requires).0
+    subst (λ bytes. SolSpells c.args.instance.now (words bytes) c.args.lectures.now) (sym text) (written_spells c.args.instance.now c.args.lectures.now c.limits_hold.ensures c.names_are_words.ensures c.requires).0

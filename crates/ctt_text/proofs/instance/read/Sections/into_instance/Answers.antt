@@ -23,6 +23,8 @@ clash_rows-requires-clause-members c =
 pub invariant_of-result : goal.invariant_of-result
 invariant_of-result c =
     let same = rw (← c.header.view_is, ← c.courses.view_is, ← c.rooms.view_is, ← c.curricula.view_is) at c.self.view_is in
+    let table = rw (← c.header.view_is, ← c.courses.view_is) at c.self.invariant in
+    let problem = subst IsProblem (sym same) c.requires.problem in
     let marks = rw (c.deref.ensures.value, c.deref-2.ensures.value) at c.in_ok-clashes.ensures.marks in
     let size = rw c.deref.ensures.value at c.in_ok-clashes.ensures.size in
     let numbers = rw (c.deref-3.ensures.value, c.deref-4.ensures.value) at c.in_ok-belonging.ensures.lists in
@@ -35,6 +37,7 @@ invariant_of-result c =
         marks = λ a b la. marks a b la
             ∙ ap (λ any. nat_lt b (length c.courses.inside.facts.items) && (not (a == b) && (teacher_at c.courses.inside.facts.items a == teacher_at c.courses.inside.facts.items b || any))) (sym (any_mapped (λ q. has a q && has b q) (λ q. q.items) c.curricula.inside.members.items));
       };
+      available = record { rows_are = table.rows_are ∙ problem.courses_named; width_is = table.width_is };
       belonging = record {
         size = length-map c.in_ok-belonging.belonging.items (λ q. q.items) ∙ lists;
         list = λ k lt. numbers k lt ∙ ap (below (λ q. has k (get_or (map (λ q. q.items) c.curricula.inside.members.items) q []))) (sym (length-map c.curricula.inside.members.items (λ q. q.items)));

@@ -1,0 +1,250 @@
+-- What is written of a call, a reply or a journal fills the form with it.
+use Rattle.std.proofs.Common.{◌≡◌, ℕ, suc, ◌^◌, ◌<◌, ◌≤◌, List, [], ◌∷◌, length, flat_map, true, false, Option, Some, ℤ, pos, negsuc, refl, sym, ap, subst, arith}
+use Rattle.std.specs.Prelude.{codes, nat_lt, nat_le, nat_eq, slice_index_or, unsigned_abs}
+use Rattle.std.specs.List.{list_all, AllByRecursion as Each}
+use Rattle.std.specs.Option.{option_map}
+use Rattle.std.specs.Fmt.{decimal, signed_decimal}
+use Rattle.std.proofs.lemmas.Bool.{lt-ltb, le-leb, and_parts}
+use Rattle.std.proofs.lemmas.Bool.Decides.{nat_tests}
+use Rattle.std.proofs.lemmas.List.{append-nil}
+use Rattle.std.proofs.lemmas.Fmt.{decimal_nonempty}
+use Rattle.std.proofs.lemmas.Nat.{div-add-mod'}
+use Rattle.ctt_text.specs.Numbers.{is_digit, value, number_of}
+use Rattle.ctt_text.specs.Problem.{Problem, IsProblem, number_in, day_of, period_of, course_count, room_count, slot_count, teacher_count, curriculum_count}
+use Rattle.ctt_text.specs.Named.{IsNamed}
+use Rattle.ctt_text.specs.InstanceText.{AreDistinct}
+use Rattle.ctt_text.specs.Timetable.{Fits}
+use Rattle.ctt_text.specs.declared.placed.Placed.{Placed}
+use Rattle.ctt_text.specs.Forms.{Form, done, ◌>>=◌, Fills}
+use Rattle.ctt_text.specs.Places.{one}
+use Rattle.ctt_text.proofs.FormLaws.{fills_both}
+use Rattle.ctt_text.proofs.WrittenLaws.{decimal_digits, decimal_value, decimal_number, place_at, among_at, split}
+use Rattle.ctt_rules.specs.declared.cost.Cost.{Cost as Cost_}
+use Rattle.ctt_edits.specs.declared.edit.Edit.{Edit}
+use Rattle.ctt_edits.specs.declared.edit.Edit.TheVariants.{Place, Move, Swap, Reroom, Drop}
+use Rattle.ctt_edits.specs.declared.looks.Look.{Look}
+use Rattle.ctt_edits.specs.declared.looks.Look.TheVariants.{Course, Slot, Teacher, Curriculum, CourseCost, Cost, Price}
+use Rattle.ctt_edits.specs.declared.call.Call.{Call}
+use Rattle.ctt_edits.specs.declared.call.Call.TheVariants.{Look as Looks, Edit as Edits}
+use Rattle.ctt_edits.specs.declared.fault.EditFault.{EditFault}
+use Rattle.ctt_edits.specs.declared.fault.EditFault.TheVariants.{NotPlaced, SameSlot, SameCourse, AlreadyThere, CourseFull, Unavailable, Clash, RoomTaken}
+use Rattle.ctt_edits.specs.Edits.{EditFits}
+use Rattle.ctt_edits.specs.Looks.{LookFits}
+use Rattle.ctt_edits.specs.declared.reply.Reply.{Reply}
+use Rattle.ctt_edits.specs.declared.reply.Reply.TheVariants.{Done, Refused, Lectures, Costs, Price as Priced}
+use Rattle.ctt_edits.specs.Calls.{CallFits}
+use Rattle.ctt_script.specs.declared.journal_fault.JournalFault.{JournalFault}
+use Rattle.ctt_script.specs.declared.journal_fault.JournalFault.TheVariants.{BadWord}
+use Rattle.ctt_script.specs.declared.kinds.EditKind.{EditKind}
+use Rattle.ctt_script.specs.declared.kinds.LookKind.{LookKind}
+use Rattle.ctt_script.specs.declared.kinds.CallKind.TheVariants as kind
+use Rattle.ctt_script.specs.declared.kinds.EditKind.TheVariants as edit
+use Rattle.ctt_script.specs.declared.kinds.LookKind.TheVariants as look
+use Rattle.ctt_script.specs.Amounts.{amount_of, price_of, negated, number_below}
+use Rattle.ctt_script.specs.Kinds.{edit_kind, look_kind, call_kind, reply_kind, fault_kind}
+use Rattle.ctt_draft.specs.declared.asked.Asked.{Asked}
+use Rattle.ctt_core.specs.declared.journal.JournalEntry.{JournalEntry}
+use Rattle.ctt_edits.specs.Fitting.{FaultFits, IsAmount, ReplyFits, AreFew, IsShortReply}
+use Rattle.ctt_draft.specs.Drafts.{AskedFits}
+use Rattle.ctt_core.specs.Entries.{EntryFits}
+use Rattle.ctt_script.specs.Entries.{IsShort, IsAsked, IsEntry}
+use Rattle.ctt_script.specs.Known.{known, word, label, list_of, exactly}
+use Rattle.ctt_script.specs.CallPlaces.{course, room, teacher, curriculum, slot, edit_after, edit_form, look_after, look_form, call_after, call_form}
+use Rattle.ctt_script.specs.ReplyPlaces.{fault_after, fault_form, lecture, lectures, count, amount, costs, reply_after, reply_form}
+use Rattle.ctt_script.specs.JournalPlaces.{asked_form, entry_form, journal_form}
+use Rattle.ctt_script.specs.WrittenWords.{course_word, room_word, day_word, period_word, edit_words, look_words, call_words, fault_words, lecture_words, reply_words, asked_words, entry_words, journal_words}
+use Rattle.ctt_script.proofs.KnownForms.{then_fills, list_fills}
+
+-- numbers in decimal
+pub count_says : (n : ℕ) → n ≤ 999999999 → number_of (decimal n) ≡ Some n
+count_says n h =
+    let small : n < 2 ^ 64 = omega arith in
+    rw (decimal_number n h) (ap (λ v. Some v) (decimal_value n small))
+
+pub below_says : (limit n : ℕ) → n < limit → n ≤ 999999999 → number_below limit (decimal n) ≡ Some n
+below_says limit n lt h =
+    let small : n < 2 ^ 64 = omega arith in
+    let test : nat_lt (value (decimal n)) limit ≡ true = lt-ltb (value (decimal n)) limit (subst (λ v. v < limit) (sym (decimal_value n small)) lt) in
+    rw (decimal_number n h, test) (ap (λ v. Some v) (decimal_value n small))
+
+pub amount_says : (n : ℕ) → IsAmount n → amount_of (decimal n) ≡ Some n
+amount_says n h =
+    let small : n < 2 ^ 64 = omega arith in
+    let least : nat_le (value (decimal n)) 9223372036854775807 ≡ true = le-leb (value (decimal n)) 9223372036854775807 (subst (λ v. v ≤ 9223372036854775807) (sym (decimal_value n small)) h) in
+    rw (lt-ltb 0 (length (decimal n)) (decimal_nonempty n small), decimal_digits n small, least) (ap (λ v. Some v) (decimal_value n small))
+
+-- digits do not begin with a sign
+no_sign : (ds : List ℕ) (n : ℕ) → list_all is_digit ds ≡ true → amount_of ds ≡ Some n → price_of ds ≡ Some (pos n)
+no_sign [] n digits h = cc
+no_sign (b ∷ bs) n digits h =
+    let digit : is_digit b ≡ true = (and_parts (is_digit b) (list_all is_digit bs) digits).0 in
+    let other : nat_eq b 45 ≡ false = grind (arith, nat_tests) in
+    rw other (ap (λ o. option_map pos o) h)
+
+pub price_says : (p : ℤ) → IsAmount (unsigned_abs p) → price_of (signed_decimal p) ≡ Some p
+price_says (pos n) h = no_sign (decimal n) n (decimal_digits n (omega arith)) (amount_says n h)
+price_says (negsuc n) h = ap (λ o. option_map negated o) (amount_says (suc n) h)
+
+-- names by their numbers
+name_says : (names : List (List ℕ)) (n : ℕ) → AreDistinct names → n < length names → number_in names (slice_index_or names n []) ≡ Some n
+name_says names n distinct lt = rw (among_at names n lt) (ap (λ k. Some k) (place_at names n distinct lt))
+
+-- a word of a journal, and what comes after it
+word_then : {A B : Type 0} (meaning : List ℕ → Option A) (otherwise : A) (g : A → Form JournalFault B) (w : List ℕ) (ws : List (List ℕ)) (a : A) (b : B) → meaning w ≡ Some a → Fills (g a) ws b → Fills (word meaning otherwise >>= g) (w ∷ ws) b
+unfolding word
+word_then meaning otherwise g w ws a b h k = then_fills BadWord meaning otherwise g w ws a b h k
+
+label_then : {B : Type 0} (text : List ℕ) (g : Unit {0} → Form JournalFault B) (ws : List (List ℕ)) (b : B) → exactly text text ≡ Some tt → Fills (g tt) ws b → Fills (label text >>= g) (text ∷ ws) b
+unfolding label
+label_then text g ws b h k = word_then (exactly text) tt g text ws tt b h k
+
+count_then : {B : Type 0} (g : ℕ → Form JournalFault B) (n : ℕ) (ws : List (List ℕ)) (b : B) → n ≤ 999999999 → Fills (g n) ws b → Fills (count >>= g) (decimal n ∷ ws) b
+unfolding count
+count_then g n ws b h k = word_then number_of 0 g (decimal n) ws n b (count_says n h) k
+
+amount_then : {B : Type 0} (g : ℕ → Form JournalFault B) (n : ℕ) (ws : List (List ℕ)) (b : B) → IsAmount n → Fills (g n) ws b → Fills (amount >>= g) (decimal n ∷ ws) b
+unfolding amount
+amount_then g n ws b h k = word_then amount_of 0 g (decimal n) ws n b (amount_says n h) k
+
+-- a form, and what is made of its value
+fills_map : {A B : Type 0} (form : Form JournalFault A) (h : A → B) (ws : List (List ℕ)) (a : A) → Fills form ws a → Fills (form >>= λ x. done (h x)) ws (h a)
+fills_map form h ws a fills = subst (λ us. Fills (form >>= λ x. done (h x)) us (h a)) (append-nil ws) (fills_both form (λ x. done (h x)) ws [] a (h a) fills refl)
+
+-- what stands behind a word that means this
+after_word : {A B : Type 0} (meaning : List ℕ → Option A) (otherwise : A) (g : A → Form JournalFault B) (w : List ℕ) (ws : List (List ℕ)) (a : A) (b : B) → meaning w ≡ Some a → Fills (word meaning otherwise >>= g) (w ∷ ws) b → Fills (g a) ws b
+unfolding word known one ◌>>=◌
+after_word meaning otherwise g w ws a b h fills = (rw h at fills).1
+
+module _ (i : Problem) (is : IsProblem i) (named : IsNamed i) where
+  module _ {B : Type 0} where
+    course_then : (g : ℕ → Form JournalFault B) (c : ℕ) (ws : List (List ℕ)) (b : B) → c < course_count i → Fills (g c) ws b → Fills (course i >>= g) (course_word i c ∷ ws) b
+    unfolding course
+    course_then g c ws b lt k = word_then (number_in i.course_names) 0 g (course_word i c) ws c b (name_says i.course_names c named.courses.0 (subst (λ n. c < n) (sym is.courses_named) lt)) k
+
+    room_then : (g : ℕ → Form JournalFault B) (r : ℕ) (ws : List (List ℕ)) (b : B) → r < room_count i → Fills (g r) ws b → Fills (room i >>= g) (room_word i r ∷ ws) b
+    unfolding room
+    room_then g r ws b lt k = word_then (number_in i.room_names) 0 g (room_word i r) ws r b (name_says i.room_names r named.rooms.0 (subst (λ n. r < n) (sym is.rooms_named) lt)) k
+
+    teacher_then : (g : ℕ → Form JournalFault B) (h : ℕ) (ws : List (List ℕ)) (b : B) → h < teacher_count i → Fills (g h) ws b → Fills (teacher i >>= g) (slice_index_or i.teacher_names h [] ∷ ws) b
+    unfolding teacher
+    teacher_then g h ws b lt k = word_then (number_in i.teacher_names) 0 g (slice_index_or i.teacher_names h []) ws h b (name_says i.teacher_names h named.teachers.0 lt) k
+
+    curriculum_then : (g : ℕ → Form JournalFault B) (q : ℕ) (ws : List (List ℕ)) (b : B) → q < curriculum_count i → Fills (g q) ws b → Fills (curriculum i >>= g) (slice_index_or i.curriculum_names q [] ∷ ws) b
+    unfolding curriculum
+    curriculum_then g q ws b lt k = word_then (number_in i.curriculum_names) 0 g (slice_index_or i.curriculum_names q []) ws q b (name_says i.curriculum_names q named.curricula.0 (subst (λ n. q < n) (sym is.curricula_named) lt)) k
+
+  slot_fills : (s : ℕ) → s < slot_count i → Fills (slot i) (day_word i s ∷ period_word i s ∷ []) s
+  unfolding slot
+  slot_fills s lt =
+      let at = split i is named s lt in
+      word_then (number_below i.days) 0 _ (day_word i s) _ (day_of i s) s (below_says i.days (day_of i s) at.day at.small_day)
+      (word_then (number_below i.periods) 0 _ (period_word i s) [] (period_of i s) s (below_says i.periods (period_of i s) at.period at.small_period)
+      (div-add-mod' s i.periods))
+
+  slot_then : {B : Type 0} (g : ℕ → Form JournalFault B) (s : ℕ) (ws : List (List ℕ)) (b : B) → s < slot_count i → Fills (g s) ws b → Fills (slot i >>= g) (day_word i s ∷ period_word i s ∷ ws) b
+  slot_then g s ws b lt k = fills_both (slot i) g (day_word i s ∷ period_word i s ∷ []) ws s b (slot_fills s lt) k
+
+  pub edit_fills : (e : Edit) → EditFits i e → Fills (edit_form i) (edit_words i e) e
+  unfolding edit_form edit_after edit_kind
+  edit_fills (Place c s r) f = word_then edit_kind _ _ _ _ _ _ refl (course_then _ c _ _ f.0 (room_then _ r _ _ f.2 (slot_then _ s _ _ f.1 refl)))
+  edit_fills (Move c s s2 r) f = word_then edit_kind _ _ _ _ _ _ refl (course_then _ c _ _ f.0 (slot_then _ s _ _ f.1 (room_then _ r _ _ f.3 (slot_then _ s2 _ _ f.2 refl))))
+  edit_fills (Swap c s d s2) f = word_then edit_kind _ _ _ _ _ _ refl (course_then _ c _ _ f.0 (slot_then _ s _ _ f.1 (course_then _ d _ _ f.2 (slot_then _ s2 _ _ f.3 refl))))
+  edit_fills (Reroom c s r) f = word_then edit_kind _ _ _ _ _ _ refl (course_then _ c _ _ f.0 (room_then _ r _ _ f.2 (slot_then _ s _ _ f.1 refl)))
+  edit_fills (Drop c s) f = word_then edit_kind _ _ _ _ _ _ refl (course_then _ c _ _ f.0 (slot_then _ s _ _ f.1 refl))
+
+  pub look_fills : (l : Look) → LookFits i l → Fills (look_form i) (look_words i l) l
+  unfolding look_form look_after look_kind
+  look_fills (Course c) f = word_then look_kind _ _ _ _ _ _ refl (course_then _ c _ _ f refl)
+  look_fills (Slot s) f = word_then look_kind _ _ _ _ _ _ refl (slot_then _ s _ _ f refl)
+  look_fills (Teacher h) f = word_then look_kind _ _ _ _ _ _ refl (teacher_then _ h _ _ f refl)
+  look_fills (Curriculum q) f = word_then look_kind _ _ _ _ _ _ refl (curriculum_then _ q _ _ f refl)
+  look_fills (CourseCost c) f = word_then look_kind _ _ _ _ _ _ refl (course_then _ c _ _ f refl)
+  look_fills Cost f = word_then look_kind _ _ _ _ _ _ refl refl
+  look_fills (Price e) f = word_then look_kind _ _ _ _ _ _ refl (fills_map (edit_form i) Price (edit_words i e) e (edit_fills e f))
+
+  -- an edit or a look, as a call
+  call_edit : (k : EditKind) (w : List ℕ) (ws : List (List ℕ)) (e : Edit) → edit_kind w ≡ Some k → call_kind w ≡ Some (kind.Edit k) → Fills (edit_form i) (w ∷ ws) e → Fills (call_form i) (w ∷ ws) (Edits e)
+  unfolding call_form call_after edit_form
+  call_edit k w ws e h j fills = word_then call_kind _ _ w ws (kind.Edit k) (Edits e) j (fills_map (edit_after i k) Edits ws e (after_word edit_kind edit.Place (edit_after i) w ws k e h fills))
+
+  call_look : (k : LookKind) (w : List ℕ) (ws : List (List ℕ)) (l : Look) → look_kind w ≡ Some k → call_kind w ≡ Some (kind.Look k) → Fills (look_form i) (w ∷ ws) l → Fills (call_form i) (w ∷ ws) (Looks l)
+  unfolding call_form call_after look_form
+  call_look k w ws l h j fills = word_then call_kind _ _ w ws (kind.Look k) (Looks l) j (fills_map (look_after i k) Looks ws l (after_word look_kind look.Cost (look_after i) w ws k l h fills))
+
+  pub call_fills : (c : Call) → CallFits i c → Fills (call_form i) (call_words i c) c
+  unfolding call_kind edit_kind look_kind
+  call_fills (Edits (Place c s r)) f = call_edit edit.Place _ _ _ refl refl (edit_fills (Place c s r) f)
+  call_fills (Edits (Move c s s2 r)) f = call_edit edit.Move _ _ _ refl refl (edit_fills (Move c s s2 r) f)
+  call_fills (Edits (Swap c s d s2)) f = call_edit edit.Swap _ _ _ refl refl (edit_fills (Swap c s d s2) f)
+  call_fills (Edits (Reroom c s r)) f = call_edit edit.Reroom _ _ _ refl refl (edit_fills (Reroom c s r) f)
+  call_fills (Edits (Drop c s)) f = call_edit edit.Drop _ _ _ refl refl (edit_fills (Drop c s) f)
+  call_fills (Looks (Course c)) f = call_look look.Course _ _ _ refl refl (look_fills (Course c) f)
+  call_fills (Looks (Slot s)) f = call_look look.Slot _ _ _ refl refl (look_fills (Slot s) f)
+  call_fills (Looks (Teacher h)) f = call_look look.Teacher _ _ _ refl refl (look_fills (Teacher h) f)
+  call_fills (Looks (Curriculum q)) f = call_look look.Curriculum _ _ _ refl refl (look_fills (Curriculum q) f)
+  call_fills (Looks (CourseCost c)) f = call_look look.CourseCost _ _ _ refl refl (look_fills (CourseCost c) f)
+  call_fills (Looks Cost) f = call_look look.Cost _ _ _ refl refl (look_fills Cost f)
+  call_fills (Looks (Price e)) f = call_look look.Price _ _ _ refl refl (look_fills (Price e) f)
+
+  fault_fills : (x : EditFault) → FaultFits i x → Fills (fault_form i) (fault_words i x) x
+  unfolding fault_form fault_after fault_kind
+  fault_fills NotPlaced f = word_then fault_kind _ _ _ _ _ _ refl refl
+  fault_fills SameSlot f = word_then fault_kind _ _ _ _ _ _ refl refl
+  fault_fills SameCourse f = word_then fault_kind _ _ _ _ _ _ refl refl
+  fault_fills AlreadyThere f = word_then fault_kind _ _ _ _ _ _ refl refl
+  fault_fills CourseFull f = word_then fault_kind _ _ _ _ _ _ refl refl
+  fault_fills Unavailable f = word_then fault_kind _ _ _ _ _ _ refl refl
+  fault_fills (Clash c) f = word_then fault_kind _ _ _ _ _ _ refl (course_then _ c _ _ f refl)
+  fault_fills (RoomTaken c) f = word_then fault_kind _ _ _ _ _ _ refl (course_then _ c _ _ f refl)
+
+  lecture_fills : (l : Placed) → Fits i l → Fills (lecture i) (lecture_words i l) l
+  unfolding lecture
+  lecture_fills l f = course_then _ l.course _ _ f.0 (room_then _ l.room _ _ f.2 (slot_then _ l.slot _ _ f.1 refl))
+
+  lectures_fills : (ls : List Placed) → AreFew ls → Each (Fits i) ls → Fills (lectures i) (decimal (length ls) ∷ flat_map (lecture_words i) ls) ls
+  unfolding lectures
+  lectures_fills ls few f = count_then _ (length ls) _ ls few (list_fills (lecture i) (Fits i) (lecture_words i) lecture_fills ls f)
+
+  costs_fills : (c : Cost_) → ReplyFits i (Costs c) → Fills costs (decimal c.capacity ∷ decimal c.days ∷ decimal c.compactness ∷ decimal c.stability ∷ []) c
+  unfolding costs
+  costs_fills c f = amount_then _ c.capacity _ _ f.0 (amount_then _ c.days _ _ f.1 (amount_then _ c.compactness _ _ f.2 (amount_then _ c.stability _ _ f.3 refl)))
+
+  pub reply_fills : (t : Reply) → IsShortReply t → ReplyFits i t → Fills (reply_form i) (reply_words i t) t
+  unfolding reply_form reply_after reply_kind
+  reply_fills Done short f = word_then reply_kind _ _ _ _ _ _ refl refl
+  reply_fills (Refused x) short f = word_then reply_kind _ _ _ _ _ _ refl (fills_map (fault_form i) Refused (fault_words i x) x (fault_fills x f))
+  reply_fills (Lectures ls) short f = word_then reply_kind _ _ _ _ _ _ refl (fills_map (lectures i) Lectures _ ls (lectures_fills ls short f))
+  reply_fills (Costs c) short f = word_then reply_kind _ _ _ _ _ _ refl (fills_map costs Costs _ c (costs_fills c f))
+  reply_fills (Priced p) short f = word_then reply_kind _ _ _ _ _ _ refl (word_then price_of _ _ (signed_decimal p) [] p _ (price_says p f) refl)
+
+  asked_fills : (s : Asked) → IsAsked i s → Fills (asked_form i) (asked_words i s) s
+  unfolding asked_form
+  asked_fills s f = fills_both (call_form i) _ (call_words i s.call) (reply_words i s.reply) s.call s (call_fills s.call f.0.0)
+      (fills_map (reply_form i) (λ t. record { call = s.call; reply = t }) (reply_words i s.reply) s.reply (reply_fills s.reply f.1 f.0.1))
+
+  asked_are : (ss : List Asked) → Each (AskedFits i) ss → Each (λ s. IsShortReply s.reply) ss → Each (IsAsked i) ss
+  asked_are [] f short = tt
+  asked_are (s ∷ ss) f short = ((f.0, short.0), asked_are ss f.1 short.1)
+
+  entry_fills : (e : JournalEntry) → IsEntry i e → Fills (entry_form i) (entry_words i e) e
+  unfolding entry_form
+  entry_fills e f =
+      label_then (codes "entry") _ _ e refl
+      (word_then (number_below 1000) 0 _ (decimal e.planner) _ e.planner e (below_says 1000 e.planner f.0.0 (omega (arith, f.0.0)))
+      (count_then _ (length e.asked) _ e f.1.0
+      (fills_map (list_of (asked_form i) (length e.asked)) (λ asked. record { planner = e.planner; asked = asked }) _ e.asked
+      (list_fills (asked_form i) (IsAsked i) (asked_words i) asked_fills e.asked (asked_are e.asked f.0.1 f.1.1)))))
+
+  entries_are : (es : List JournalEntry) → Each (EntryFits i) es → Each IsShort es → Each (IsEntry i) es
+  entries_are [] f short = tt
+  entries_are (e ∷ es) f short = ((f.0, short.0), entries_are es f.1 short.1)
+
+  -- the words of a journal fill the form with it
+  pub journal_fills : (es : List JournalEntry) → AreFew es → Each (EntryFits i) es → Each IsShort es → Fills (journal_form i) (journal_words i es) es
+  unfolding journal_form
+  journal_fills es few f short =
+      label_then (codes "journal") _ _ es refl
+      (count_then _ (length es) _ es few
+      (fills_both (list_of (entry_form i) (length es)) _ (flat_map (entry_words i) es) (codes "END." ∷ []) es es
+      (list_fills (entry_form i) (IsEntry i) (entry_words i) entry_fills es (entries_are es f short))
+      (label_then (codes "END.") _ [] es refl refl)))

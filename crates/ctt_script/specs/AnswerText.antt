@@ -1,0 +1,54 @@
+-- The answers to a script, a line for each of its items.
+use Rattle.std.specs.Prelude.{ℕ, List, [], ◌∷◌, ◌++◌, Option, Some, None, codes}
+use Rattle.std.specs.Fmt.{decimal}
+use Rattle.ctt_text.specs.Problem.{Problem}
+use Rattle.ctt_text.specs.declared.placed.Placed.{Placed}
+use Rattle.ctt_edits.specs.declared.row.Row.{Row}
+use Rattle.ctt_edits.specs.declared.row.Row.TheVariants.{Course as CourseRow, Slot as SlotRow}
+use Rattle.ctt_core.specs.Runs.{Turn, plain}
+use Rattle.ctt_core.specs.declared.answer.Answer.{Answer}
+use Rattle.ctt_core.specs.declared.answer.Answer.TheVariants.{Opened, AlreadyOpen, NoDraft, Replied, Committed, Stale, Abandoned, NoMemory}
+use Rattle.ctt_core.specs.declared.event.Event.{Event}
+use Rattle.ctt_script.specs.ScriptText.{script}
+use Rattle.ctt_script.specs.WrittenText.{line}
+use Rattle.ctt_script.specs.WrittenWords.{course_word, day_word, period_word, reply_words}
+
+abbrev pub row_words : Problem → Row → List (List ℕ)
+row_words i (CourseRow c) = codes "course" ∷ course_word i c ∷ []
+row_words i (SlotRow s) = codes "slot" ∷ day_word i s ∷ period_word i s ∷ []
+
+abbrev pub answer_words : Problem → Answer → List (List ℕ)
+answer_words i Opened = codes "opened" ∷ []
+answer_words i AlreadyOpen = codes "already" ∷ codes "open" ∷ []
+answer_words i NoDraft = codes "no" ∷ codes "draft" ∷ []
+answer_words i (Replied r) = reply_words i r
+answer_words i (Committed n) = codes "committed" ∷ decimal n ∷ []
+answer_words i (Stale row) = codes "stale" ∷ row_words i row
+answer_words i Abandoned = codes "abandoned" ∷ []
+answer_words i NoMemory = codes "no" ∷ codes "memory" ∷ []
+
+-- the answer to a line that is no event
+abbrev pub bad_line : List ℕ
+bad_line = line (codes "bad" ∷ codes "line" ∷ [])
+
+-- an event, as a plain desk answers it
+abbrev pub answered : Problem → List Placed → List Turn → Event → Turn
+answered i t0 past event = record { event = event; answer = plain i t0 past event }
+
+-- the answers to items after a run, and the run that they go on to
+abbrev pub answers_after : Problem → List Placed → List Turn → List (Option Event) → List ℕ
+answers_after i t0 past [] = []
+answers_after i t0 past (None ∷ items) = bad_line ++ answers_after i t0 past items
+answers_after i t0 past (Some event ∷ items) = line (answer_words i (plain i t0 past event)) ++ answers_after i t0 (answered i t0 past event ∷ past) items
+
+abbrev pub run_after : Problem → List Placed → List Turn → List (Option Event) → List Turn
+run_after i t0 past [] = past
+run_after i t0 past (None ∷ items) = run_after i t0 past items
+run_after i t0 past (Some event ∷ items) = run_after i t0 (answered i t0 past event ∷ past) items
+
+-- the answers to a script, and its events as they are answered
+abbrev pub answer_text : Problem → List Placed → List ℕ → List ℕ
+answer_text i t0 text = answers_after i t0 [] (script i text)
+
+abbrev pub script_run : Problem → List Placed → List ℕ → List Turn
+script_run i t0 text = run_after i t0 [] (script i text)

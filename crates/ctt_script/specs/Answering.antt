@@ -1,0 +1,47 @@
+-- A desk that answers items one after another, and what is written of its answers.
+use Rattle.std.specs.Prelude.{ℕ, ◌≡◌, ◌<◌, List, [], ◌++◌, take, Option, length}
+use Rattle.std.specs.Io.KnownBytes.{Appends}
+use Rattle.ctt_core.specs.Runs.{Turn}
+use Rattle.ctt_core.specs.Desks.{DeskValue, SameDesk}
+use Rattle.ctt_core.specs.Laws.{Stands}
+use Rattle.ctt_core.specs.declared.event.Event.{Event}
+use Rattle.ctt_script.specs.AnswerText.{answers_after, run_after}
+use Rattle.ctt_script.specs.ScriptText.{items_of}
+
+-- known bytes grow by a front of bs, which may be all of bs or nothing
+abbrev pub AppendsFront : Option (List ℕ) → Option (List ℕ) → List ℕ → Type 0
+AppendsFront old new bs = (k : ℕ) × Appends old new (take k bs)
+
+-- the desk stands at some run
+abbrev pub IsAtRun : DeskValue → Type 0
+IsAtRun v = (past : List Turn) × Stands v past
+
+-- the desk v has answered these items and is the desk w; the text has grown by the answers
+pub record Answered (v w : DeskValue) (old new : List ℕ) (items : List (Option Event)) : Type 0 where
+  pub same : SameDesk v w
+  pub goes_on : (past : List Turn) → Stands v past → Stands w (run_after v.problem v.opening past items)
+  pub grown : (past : List Turn) → Stands v past → new ≡ old ++ answers_after v.problem v.opening past items
+
+-- of all lines these are left; the answers to the others were written, but for the text that is kept back
+pub record Answering (v w : DeskValue) (all left : List (List ℕ)) (before after : Option (List ℕ)) (kept : List ℕ) : Type 0 where
+  pub done : List (Option Event)
+  pub written : List ℕ
+  pub lines : items_of v.problem all ≡ done ++ items_of v.problem left
+  pub answered : Answered v w [] (written ++ kept) done
+  pub taken : Appends before after written
+
+-- a front of the text was written out, and what follows it is kept
+pub record WritesOut (before after : Option (List ℕ)) (text kept : List ℕ) : Type 0 where
+  pub front : List ℕ
+  pub taken : Appends before after front
+  pub all : text ≡ front ++ kept
+
+-- the desk v has answered these items and is the desk w; the answers were written
+pub record Wrote (v w : DeskValue) (items : List (Option Event)) (before after : Option (List ℕ)) : Type 0 where
+  pub text : List ℕ
+  pub taken : Appends before after text
+  pub answered : Answered v w [] text items
+
+-- of the answers to items a front was written
+abbrev pub WroteFront : DeskValue → List (Option Event) → Option (List ℕ) → Option (List ℕ) → Type 0
+WroteFront v items before after = (past : List Turn) → Stands v past → AppendsFront before after (answers_after v.problem v.opening past items)

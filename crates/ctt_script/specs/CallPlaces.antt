@@ -1,0 +1,116 @@
+-- The places of the words of a call.
+use Rattle.std.specs.Prelude.{ℕ}
+use Rattle.ctt_text.specs.Problem.{Problem, slot_of}
+use Rattle.ctt_text.specs.Problem.{number_in}
+use Rattle.ctt_text.specs.Forms.{Form, done, ◌>>=◌}
+use Rattle.ctt_edits.specs.declared.edit.Edit.{Edit}
+use Rattle.ctt_edits.specs.declared.edit.Edit.TheVariants.{Place, Move, Swap, Reroom, Drop}
+use Rattle.ctt_edits.specs.declared.looks.Look.{Look}
+use Rattle.ctt_edits.specs.declared.looks.Look.TheVariants.{Course, Slot, Teacher, Curriculum, CourseCost, Cost, Price}
+use Rattle.ctt_edits.specs.declared.call.Call.{Call}
+use Rattle.ctt_edits.specs.declared.call.Call.TheVariants.{Look as Looks, Edit as Edits}
+use Rattle.ctt_script.specs.declared.journal_fault.JournalFault.{JournalFault}
+use Rattle.ctt_script.specs.declared.kinds.EditKind.{EditKind}
+use Rattle.ctt_script.specs.declared.kinds.EditKind.TheVariants as edit
+use Rattle.ctt_script.specs.declared.kinds.LookKind.{LookKind}
+use Rattle.ctt_script.specs.declared.kinds.LookKind.TheVariants as look
+use Rattle.ctt_script.specs.declared.kinds.CallKind.{CallKind}
+use Rattle.ctt_script.specs.declared.kinds.CallKind.TheVariants as kind
+use Rattle.ctt_script.specs.Amounts.{number_below}
+use Rattle.ctt_script.specs.Kinds.{edit_kind, look_kind, call_kind}
+use Rattle.ctt_script.specs.Known.{word}
+
+-- names of the instance
+unfoldable pub course : Problem → Form JournalFault ℕ
+course i = word (number_in i.course_names) 0
+
+unfoldable pub room : Problem → Form JournalFault ℕ
+room i = word (number_in i.room_names) 0
+
+unfoldable pub teacher : Problem → Form JournalFault ℕ
+teacher i = word (number_in i.teacher_names) 0
+
+unfoldable pub curriculum : Problem → Form JournalFault ℕ
+curriculum i = word (number_in i.curriculum_names) 0
+
+-- a day, and a period in the day
+unfoldable pub slot : Problem → Form JournalFault ℕ
+slot i = do
+  day ← word (number_below i.days) 0
+  period ← word (number_below i.periods) 0
+  done (slot_of i day period)
+
+-- what stands behind the word of an edit
+unfoldable pub edit_after : Problem → EditKind → Form JournalFault Edit
+edit_after i edit.Place = do
+  c ← course i
+  r ← room i
+  s ← slot i
+  done (Place c s r)
+edit_after i edit.Move = do
+  c ← course i
+  s ← slot i
+  r ← room i
+  s2 ← slot i
+  done (Move c s s2 r)
+edit_after i edit.Swap = do
+  c ← course i
+  s ← slot i
+  c2 ← course i
+  s2 ← slot i
+  done (Swap c s c2 s2)
+edit_after i edit.Reroom = do
+  c ← course i
+  r ← room i
+  s ← slot i
+  done (Reroom c s r)
+edit_after i edit.Drop = do
+  c ← course i
+  s ← slot i
+  done (Drop c s)
+
+unfoldable pub edit_form : Problem → Form JournalFault Edit
+edit_form i = do
+  kind ← word edit_kind edit.Place
+  edit_after i kind
+
+-- what stands behind the word of a look
+unfoldable pub look_after : Problem → LookKind → Form JournalFault Look
+look_after i look.Course = do
+  c ← course i
+  done (Course c)
+look_after i look.Slot = do
+  s ← slot i
+  done (Slot s)
+look_after i look.Teacher = do
+  h ← teacher i
+  done (Teacher h)
+look_after i look.Curriculum = do
+  q ← curriculum i
+  done (Curriculum q)
+look_after i look.CourseCost = do
+  c ← course i
+  done (CourseCost c)
+look_after i look.Cost = done Cost
+look_after i look.Price = do
+  e ← edit_form i
+  done (Price e)
+
+unfoldable pub look_form : Problem → Form JournalFault Look
+look_form i = do
+  kind ← word look_kind look.Cost
+  look_after i kind
+
+-- what stands behind the word of a call
+unfoldable pub call_after : Problem → CallKind → Form JournalFault Call
+call_after i (kind.Edit k) = do
+  e ← edit_after i k
+  done (Edits e)
+call_after i (kind.Look k) = do
+  l ← look_after i k
+  done (Looks l)
+
+unfoldable pub call_form : Problem → Form JournalFault Call
+call_form i = do
+  kind ← word call_kind (kind.Look look.Cost)
+  call_after i kind

@@ -1,0 +1,34 @@
+-- The places of the words of a journal.
+use Rattle.std.specs.Prelude.{List, codes}
+use Rattle.ctt_text.specs.Problem.{Problem}
+use Rattle.ctt_text.specs.Forms.{Form, done, ◌>>=◌}
+use Rattle.ctt_script.specs.declared.journal_fault.JournalFault.{JournalFault}
+use Rattle.ctt_script.specs.Amounts.{number_below}
+use Rattle.ctt_draft.specs.declared.asked.Asked.{Asked}
+use Rattle.ctt_core.specs.declared.journal.JournalEntry.{JournalEntry}
+use Rattle.ctt_script.specs.Known.{word, label, list_of}
+use Rattle.ctt_script.specs.CallPlaces.{call_form}
+use Rattle.ctt_script.specs.ReplyPlaces.{reply_form, count}
+
+-- a call and its reply
+unfoldable pub asked_form : Problem → Form JournalFault Asked
+asked_form i = do
+  c ← call_form i
+  r ← reply_form i
+  done (record { call = c; reply = r })
+
+unfoldable pub entry_form : Problem → Form JournalFault JournalEntry
+entry_form i = do
+  start ← label (codes "entry")
+  p ← word (number_below 1000) 0
+  n ← count
+  calls ← list_of (asked_form i) n
+  done (record { planner = p; asked = calls })
+
+unfoldable pub journal_form : Problem → Form JournalFault (List JournalEntry)
+journal_form i = do
+  start ← label (codes "journal")
+  n ← count
+  entries ← list_of (entry_form i) n
+  end ← label (codes "END.")
+  done entries

@@ -1,0 +1,33 @@
+-- How a journal is spelled, and where words break its form.
+use Rattle.std.specs.Prelude.{◌≡◌, ℕ, List, ◌++◌, Result}
+use Rattle.std.specs.Str.{IsUtf8}
+use Rattle.std.specs.Str.Lossy.{utf8_valid_len}
+use Rattle.ctt_text.specs.Words.{words}
+use Rattle.ctt_text.specs.Problem.{Problem}
+use Rattle.ctt_text.specs.Forms.{Fills, BreaksAt, read, without_rest}
+use Rattle.ctt_script.specs.declared.journal_fault.JournalFault.{JournalFault}
+use Rattle.ctt_script.specs.declared.journal_fault.JournalFault.TheVariants.{NotText, NoMemory}
+use Rattle.ctt_core.specs.declared.journal.JournalEntry.{JournalEntry}
+use Rattle.ctt_script.specs.Known.{missing}
+use Rattle.ctt_script.specs.JournalPlaces.{journal_form}
+
+-- The words begin with words that fill the form, and these give the entries; what follows them is ignored.
+pub record JournalSpells (i : Problem) (words : List (List ℕ)) (entries : List JournalEntry) : Type 0 where
+  pub front : List (List ℕ)
+  pub rest : List (List ℕ)
+  pub all : words ≡ front ++ rest
+  pub fills : Fills (journal_form i) front entries
+
+-- The words before word k obey their places, and word k breaks the rule of its place, or is missing there, by this fault.
+abbrev pub JournalBreaksAt : Problem → List (List ℕ) → ℕ → JournalFault → Type 0
+JournalBreaksAt i words k fault = BreaksAt missing (journal_form i) words k fault
+
+-- what reading the words from the first on answers
+abbrev pub journal_answer : Problem → List (List ℕ) → Result (List JournalEntry) JournalFault
+journal_answer i words = without_rest (read missing (journal_form i) words 1)
+
+-- The cause of a fault in a text: NotText names the length of its longest valid beginning, NoMemory comes at any time, and each other fault is that of the place where the words break the form.
+abbrev pub IsJournalCauseOf : Problem → List ℕ → JournalFault → Type 0
+IsJournalCauseOf i text (NotText byte) = ¬ IsUtf8 text × (byte ≡ utf8_valid_len text)
+IsJournalCauseOf i text NoMemory = Unit {0}
+IsJournalCauseOf i text fault = IsUtf8 text × ((k : ℕ) × JournalBreaksAt i (words text) k fault)

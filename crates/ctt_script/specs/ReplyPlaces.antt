@@ -1,0 +1,87 @@
+-- The places of the words of a reply.
+use Rattle.std.specs.Prelude.{ℕ, List, pos}
+use Rattle.ctt_text.specs.Numbers.{number_of}
+use Rattle.ctt_text.specs.Problem.{Problem}
+use Rattle.ctt_text.specs.declared.placed.Placed.{Placed}
+use Rattle.ctt_text.specs.Forms.{Form, done, ◌>>=◌}
+use Rattle.ctt_rules.specs.declared.cost.Cost.{Cost}
+use Rattle.ctt_edits.specs.declared.fault.EditFault.{EditFault}
+use Rattle.ctt_edits.specs.declared.fault.EditFault.TheVariants.{NotPlaced, SameSlot, SameCourse, AlreadyThere, CourseFull, Unavailable, Clash, RoomTaken}
+use Rattle.ctt_edits.specs.declared.reply.Reply.{Reply}
+use Rattle.ctt_edits.specs.declared.reply.Reply.TheVariants.{Done, Refused, Lectures, Costs, Price as Priced}
+use Rattle.ctt_script.specs.declared.journal_fault.JournalFault.{JournalFault}
+use Rattle.ctt_script.specs.declared.kinds.ReplyKind.{ReplyKind}
+use Rattle.ctt_script.specs.declared.kinds.ReplyKind.TheVariants as reply
+use Rattle.ctt_script.specs.declared.kinds.FaultKind.{FaultKind}
+use Rattle.ctt_script.specs.declared.kinds.FaultKind.TheVariants as fault
+use Rattle.ctt_script.specs.Amounts.{amount_of, price_of}
+use Rattle.ctt_script.specs.Kinds.{reply_kind, fault_kind}
+use Rattle.ctt_script.specs.Known.{word, list_of}
+use Rattle.ctt_script.specs.CallPlaces.{course, room, slot}
+
+-- what stands behind the word of a fault
+unfoldable pub fault_after : Problem → FaultKind → Form JournalFault EditFault
+fault_after i fault.NotPlaced = done NotPlaced
+fault_after i fault.SameSlot = done SameSlot
+fault_after i fault.SameCourse = done SameCourse
+fault_after i fault.AlreadyThere = done AlreadyThere
+fault_after i fault.CourseFull = done CourseFull
+fault_after i fault.Unavailable = done Unavailable
+fault_after i fault.Clash = do
+  c ← course i
+  done (Clash c)
+fault_after i fault.RoomTaken = do
+  c ← course i
+  done (RoomTaken c)
+
+unfoldable pub fault_form : Problem → Form JournalFault EditFault
+fault_form i = do
+  kind ← word fault_kind fault.NotPlaced
+  fault_after i kind
+
+unfoldable pub lecture : Problem → Form JournalFault Placed
+lecture i = do
+  c ← course i
+  r ← room i
+  s ← slot i
+  done (record { course = c; slot = s; room = r })
+
+unfoldable pub count : Form JournalFault ℕ
+count = word number_of 0
+
+unfoldable pub lectures : Problem → Form JournalFault (List Placed)
+lectures i = do
+  n ← count
+  list_of (lecture i) n
+
+unfoldable pub amount : Form JournalFault ℕ
+amount = word amount_of 0
+
+unfoldable pub costs : Form JournalFault Cost
+costs = do
+  capacity ← amount
+  days ← amount
+  compactness ← amount
+  stability ← amount
+  done (record { capacity = capacity; days = days; compactness = compactness; stability = stability })
+
+-- what stands behind the word of a reply
+unfoldable pub reply_after : Problem → ReplyKind → Form JournalFault Reply
+reply_after i reply.Done = done Done
+reply_after i reply.Refused = do
+  f ← fault_form i
+  done (Refused f)
+reply_after i reply.Lectures = do
+  ls ← lectures i
+  done (Lectures ls)
+reply_after i reply.Costs = do
+  c ← costs
+  done (Costs c)
+reply_after i reply.Price = do
+  p ← word price_of (pos 0)
+  done (Priced p)
+
+unfoldable pub reply_form : Problem → Form JournalFault Reply
+reply_form i = do
+  kind ← word reply_kind reply.Done
+  reply_after i kind

@@ -1,0 +1,32 @@
+-- The faults of a script's run.
+use Rattle.std.specs.Prelude.{◌≡◌, ◌<◌, ℕ, List, length, Option, IfSome, Err}
+use Rattle.ctt_text.specs.Problem.{Problem}
+use Rattle.ctt_text.specs.declared.placed.Placed.{Placed}
+use Rattle.ctt_edits.specs.Openings.{opening}
+use Rattle.ctt_core.specs.declared.desk_fault.DeskFault.{DeskFault}
+use Rattle.ctt_core.specs.declared.desk_fault.DeskFault.TheVariants as desk_fault
+use Rattle.ctt_script.specs.declared.input.InputFault.{InputFault}
+use Rattle.ctt_script.specs.declared.input.InputFault.TheVariants as input_fault
+use Rattle.ctt_script.specs.declared.script_fault.ScriptFault.{ScriptFault}
+use Rattle.ctt_script.specs.declared.script_fault.ScriptFault.TheVariants as script_fault
+
+abbrev pub of_desk : DeskFault → ScriptFault
+of_desk (desk_fault.Unlawful at fault) = script_fault.Unlawful at fault
+of_desk desk_fault.NoMemory = script_fault.NoMemory
+
+abbrev pub of_input : InputFault → ScriptFault
+of_input input_fault.Read = script_fault.Read
+of_input input_fault.TooLong = script_fault.TooLong
+of_input input_fault.NoMemory = script_fault.NoMemory
+
+-- the cause of a fault: the opening cannot be placed, or a reader that tells its bytes has too many
+abbrev pub IsCauseOf : Problem → List Placed → Option (List ℕ) → ScriptFault → Type 0
+IsCauseOf i lectures left (script_fault.Unlawful at fault) = opening i lectures ≡ Err (at, fault)
+IsCauseOf i lectures left script_fault.TooLong = IfSome left (λ text. 67108864 < length text)
+IsCauseOf i lectures left fault = Unit {0}
+
+-- answers may have been written before
+abbrev pub MayHaveWritten : ScriptFault → Type 0
+MayHaveWritten script_fault.Write = Unit {0}
+MayHaveWritten script_fault.NoMemory = Unit {0}
+MayHaveWritten fault = ⊥

@@ -1,0 +1,79 @@
+-- The words that are written of calls, replies and journals.
+use Rattle.std.specs.Prelude.{ℕ, List, [], ◌∷◌, ◌++◌, flat_map, length, codes, slice_index_or}
+use Rattle.std.specs.Fmt.{decimal, signed_decimal}
+use Rattle.ctt_text.specs.Problem.{Problem, day_of, period_of}
+use Rattle.ctt_text.specs.declared.placed.Placed.{Placed}
+use Rattle.ctt_edits.specs.declared.edit.Edit.{Edit}
+use Rattle.ctt_edits.specs.declared.edit.Edit.TheVariants.{Place, Move, Swap, Reroom, Drop}
+use Rattle.ctt_edits.specs.declared.looks.Look.{Look}
+use Rattle.ctt_edits.specs.declared.looks.Look.TheVariants.{Course, Slot, Teacher, Curriculum, CourseCost, Cost, Price}
+use Rattle.ctt_edits.specs.declared.call.Call.{Call}
+use Rattle.ctt_edits.specs.declared.call.Call.TheVariants.{Look as Looks, Edit as Edits}
+use Rattle.ctt_edits.specs.declared.fault.EditFault.{EditFault}
+use Rattle.ctt_edits.specs.declared.fault.EditFault.TheVariants.{NotPlaced, SameSlot, SameCourse, AlreadyThere, CourseFull, Unavailable, Clash, RoomTaken}
+use Rattle.ctt_edits.specs.declared.reply.Reply.{Reply}
+use Rattle.ctt_edits.specs.declared.reply.Reply.TheVariants.{Done, Refused, Lectures, Costs, Price as Priced}
+use Rattle.ctt_draft.specs.declared.asked.Asked.{Asked}
+use Rattle.ctt_core.specs.declared.journal.JournalEntry.{JournalEntry}
+
+-- names, days and periods
+abbrev pub course_word : Problem → ℕ → List ℕ
+course_word i c = slice_index_or i.course_names c []
+
+abbrev pub room_word : Problem → ℕ → List ℕ
+room_word i r = slice_index_or i.room_names r []
+
+abbrev pub day_word : Problem → ℕ → List ℕ
+day_word i s = decimal (day_of i s)
+
+abbrev pub period_word : Problem → ℕ → List ℕ
+period_word i s = decimal (period_of i s)
+
+abbrev pub edit_words : Problem → Edit → List (List ℕ)
+edit_words i (Place c s r) = codes "place" ∷ course_word i c ∷ room_word i r ∷ day_word i s ∷ period_word i s ∷ []
+edit_words i (Move c s s2 r) = codes "move" ∷ course_word i c ∷ day_word i s ∷ period_word i s ∷ room_word i r ∷ day_word i s2 ∷ period_word i s2 ∷ []
+edit_words i (Swap c s c2 s2) = codes "swap" ∷ course_word i c ∷ day_word i s ∷ period_word i s ∷ course_word i c2 ∷ day_word i s2 ∷ period_word i s2 ∷ []
+edit_words i (Reroom c s r) = codes "reroom" ∷ course_word i c ∷ room_word i r ∷ day_word i s ∷ period_word i s ∷ []
+edit_words i (Drop c s) = codes "drop" ∷ course_word i c ∷ day_word i s ∷ period_word i s ∷ []
+
+abbrev pub look_words : Problem → Look → List (List ℕ)
+look_words i (Course c) = codes "course" ∷ course_word i c ∷ []
+look_words i (Slot s) = codes "slot" ∷ day_word i s ∷ period_word i s ∷ []
+look_words i (Teacher h) = codes "teacher" ∷ slice_index_or i.teacher_names h [] ∷ []
+look_words i (Curriculum q) = codes "curriculum" ∷ slice_index_or i.curriculum_names q [] ∷ []
+look_words i (CourseCost c) = codes "coursecost" ∷ course_word i c ∷ []
+look_words i Cost = codes "cost" ∷ []
+look_words i (Price e) = codes "price" ∷ edit_words i e
+
+abbrev pub call_words : Problem → Call → List (List ℕ)
+call_words i (Looks l) = look_words i l
+call_words i (Edits e) = edit_words i e
+
+abbrev pub fault_words : Problem → EditFault → List (List ℕ)
+fault_words i NotPlaced = codes "notplaced" ∷ []
+fault_words i SameSlot = codes "sameslot" ∷ []
+fault_words i SameCourse = codes "samecourse" ∷ []
+fault_words i AlreadyThere = codes "already" ∷ []
+fault_words i CourseFull = codes "full" ∷ []
+fault_words i Unavailable = codes "unavailable" ∷ []
+fault_words i (Clash c) = codes "clash" ∷ course_word i c ∷ []
+fault_words i (RoomTaken c) = codes "roomtaken" ∷ course_word i c ∷ []
+
+abbrev pub lecture_words : Problem → Placed → List (List ℕ)
+lecture_words i l = course_word i l.course ∷ room_word i l.room ∷ day_word i l.slot ∷ period_word i l.slot ∷ []
+
+abbrev pub reply_words : Problem → Reply → List (List ℕ)
+reply_words i Done = codes "done" ∷ []
+reply_words i (Refused f) = codes "refused" ∷ fault_words i f
+reply_words i (Lectures ls) = codes "lectures" ∷ decimal (length ls) ∷ flat_map (lecture_words i) ls
+reply_words i (Costs c) = codes "costs" ∷ decimal c.capacity ∷ decimal c.days ∷ decimal c.compactness ∷ decimal c.stability ∷ []
+reply_words i (Priced p) = codes "price" ∷ signed_decimal p ∷ []
+
+abbrev pub asked_words : Problem → Asked → List (List ℕ)
+asked_words i s = call_words i s.call ++ reply_words i s.reply
+
+abbrev pub entry_words : Problem → JournalEntry → List (List ℕ)
+entry_words i e = codes "entry" ∷ decimal e.planner ∷ decimal (length e.asked) ∷ flat_map (asked_words i) e.asked
+
+abbrev pub journal_words : Problem → List JournalEntry → List (List ℕ)
+journal_words i es = codes "journal" ∷ decimal (length es) ∷ (flat_map (entry_words i) es ++ (codes "END." ∷ []))

@@ -1,0 +1,150 @@
+//! Reading the words of a call.
+
+ghost use Rattle.std.specs.Prelude.{◌≡◌};
+ghost use Rattle.ctt_script.specs.Known.{reads, IsRead};
+ghost use Rattle.ctt_script.specs.CallPlaces.{edit_after, edit_form, look_after, look_form, call_after, call_form};
+ghost use Rattle.ctt_script.specs.declared.kinds.EditKind.TheVariants as edit;
+
+use crate::journal_fault::JournalFault;
+use crate::kinds::{CallKind, EditKind, LookKind};
+use crate::places::{
+    read_call_kind, read_course, read_curriculum, read_edit_kind, read_look_kind, read_room,
+    read_slot, read_teacher,
+};
+use ctt_edits::{Call, Edit, Look};
+use ctt_text::{Instance, Reader};
+
+/// What stands behind `place`.
+#[tactic(auto, using(crate::proofs::KnownLaws::read_bind, crate::proofs::KnownLaws::read_done), unfolding(crate::specs::CallPlaces::edit_after))]
+fn read_place(reader: &mut Reader, instance: &Instance) -> Result<Edit, JournalFault>
+    ensures { IsRead (λ edit. (edit, reader.new)) result (reads (edit_after instance.now edit.Place) reader.old) }
+{
+    let course = read_course(reader, instance)?;
+    let room = read_room(reader, instance)?;
+    let slot = read_slot(reader, instance)?;
+    Ok(Edit::Place(course, slot, room))
+}
+
+/// What stands behind `move`.
+#[tactic(auto, using(crate::proofs::KnownLaws::read_bind, crate::proofs::KnownLaws::read_done), unfolding(crate::specs::CallPlaces::edit_after))]
+fn read_move(reader: &mut Reader, instance: &Instance) -> Result<Edit, JournalFault>
+    ensures { IsRead (λ edit. (edit, reader.new)) result (reads (edit_after instance.now edit.Move) reader.old) }
+{
+    let course = read_course(reader, instance)?;
+    let slot = read_slot(reader, instance)?;
+    let room = read_room(reader, instance)?;
+    let target = read_slot(reader, instance)?;
+    Ok(Edit::Move(course, slot, target, room))
+}
+
+/// What stands behind `swap`.
+#[tactic(auto, using(crate::proofs::KnownLaws::read_bind, crate::proofs::KnownLaws::read_done), unfolding(crate::specs::CallPlaces::edit_after))]
+fn read_swap(reader: &mut Reader, instance: &Instance) -> Result<Edit, JournalFault>
+    ensures { IsRead (λ edit. (edit, reader.new)) result (reads (edit_after instance.now edit.Swap) reader.old) }
+{
+    let course = read_course(reader, instance)?;
+    let slot = read_slot(reader, instance)?;
+    let other = read_course(reader, instance)?;
+    let other_slot = read_slot(reader, instance)?;
+    Ok(Edit::Swap(course, slot, other, other_slot))
+}
+
+/// What stands behind `reroom`.
+#[tactic(auto, using(crate::proofs::KnownLaws::read_bind, crate::proofs::KnownLaws::read_done), unfolding(crate::specs::CallPlaces::edit_after))]
+fn read_reroom(reader: &mut Reader, instance: &Instance) -> Result<Edit, JournalFault>
+    ensures { IsRead (λ edit. (edit, reader.new)) result (reads (edit_after instance.now edit.Reroom) reader.old) }
+{
+    let course = read_course(reader, instance)?;
+    let room = read_room(reader, instance)?;
+    let slot = read_slot(reader, instance)?;
+    Ok(Edit::Reroom(course, slot, room))
+}
+
+/// What stands behind `drop`.
+#[tactic(auto, using(crate::proofs::KnownLaws::read_bind, crate::proofs::KnownLaws::read_done), unfolding(crate::specs::CallPlaces::edit_after))]
+fn read_drop(reader: &mut Reader, instance: &Instance) -> Result<Edit, JournalFault>
+    ensures { IsRead (λ edit. (edit, reader.new)) result (reads (edit_after instance.now edit.Drop) reader.old) }
+{
+    let course = read_course(reader, instance)?;
+    let slot = read_slot(reader, instance)?;
+    Ok(Edit::Drop(course, slot))
+}
+
+/// What stands behind the word of an edit.
+fn read_edit_after(
+    reader: &mut Reader,
+    instance: &Instance,
+    kind: EditKind,
+) -> Result<Edit, JournalFault>
+    ensures { IsRead (λ edit. (edit, reader.new)) result (reads (edit_after instance.now kind) reader.old) }
+{
+    match kind {
+        EditKind::Place => read_place(reader, instance),
+        EditKind::Move => read_move(reader, instance),
+        EditKind::Swap => read_swap(reader, instance),
+        EditKind::Reroom => read_reroom(reader, instance),
+        EditKind::Drop => read_drop(reader, instance),
+    }
+}
+
+/// The words of an edit.
+#[tactic(auto, using(crate::proofs::KnownLaws::read_bind), unfolding(crate::specs::CallPlaces::edit_form))]
+pub(crate) fn read_edit(reader: &mut Reader, instance: &Instance) -> Result<Edit, JournalFault>
+    ensures { IsRead (λ edit. (edit, reader.new)) result (reads (edit_form instance.now) reader.old) }
+{
+    let kind = read_edit_kind(reader)?;
+    read_edit_after(reader, instance, kind)
+}
+
+/// What stands behind the word of a look.
+#[tactic(auto, using(crate::proofs::KnownLaws::read_bind, crate::proofs::KnownLaws::read_done), unfolding(crate::specs::CallPlaces::look_after))]
+fn read_look_after(
+    reader: &mut Reader,
+    instance: &Instance,
+    kind: LookKind,
+) -> Result<Look, JournalFault>
+    ensures { IsRead (λ look. (look, reader.new)) result (reads (look_after instance.now kind) reader.old) }
+{
+    Ok(match kind {
+        LookKind::Course => Look::Course(read_course(reader, instance)?),
+        LookKind::Slot => Look::Slot(read_slot(reader, instance)?),
+        LookKind::Teacher => Look::Teacher(read_teacher(reader, instance)?),
+        LookKind::Curriculum => Look::Curriculum(read_curriculum(reader, instance)?),
+        LookKind::CourseCost => Look::CourseCost(read_course(reader, instance)?),
+        LookKind::Cost => Look::Cost,
+        LookKind::Price => Look::Price(read_edit(reader, instance)?),
+    })
+}
+
+/// The words of a look.
+#[tactic(auto, using(crate::proofs::KnownLaws::read_bind), unfolding(crate::specs::CallPlaces::look_form))]
+pub fn read_look(reader: &mut Reader, instance: &Instance) -> Result<Look, JournalFault>
+    ensures { IsRead (λ look. (look, reader.new)) result (reads (look_form instance.now) reader.old) }
+{
+    let kind = read_look_kind(reader)?;
+    read_look_after(reader, instance, kind)
+}
+
+/// What stands behind the word of a call.
+#[tactic(auto, using(crate::proofs::KnownLaws::read_bind, crate::proofs::KnownLaws::read_done), unfolding(crate::specs::CallPlaces::call_after))]
+pub(crate) fn read_call_after(
+    reader: &mut Reader,
+    instance: &Instance,
+    kind: CallKind,
+) -> Result<Call, JournalFault>
+    ensures { IsRead (λ call. (call, reader.new)) result (reads (call_after instance.now kind) reader.old) }
+{
+    match kind {
+        CallKind::Edit(kind) => Ok(Call::Edit(read_edit_after(reader, instance, kind)?)),
+        CallKind::Look(kind) => Ok(Call::Look(read_look_after(reader, instance, kind)?)),
+    }
+}
+
+/// The words of a call.
+#[tactic(auto, using(crate::proofs::KnownLaws::read_bind), unfolding(crate::specs::CallPlaces::call_form))]
+pub fn read_call(reader: &mut Reader, instance: &Instance) -> Result<Call, JournalFault>
+    ensures { IsRead (λ call. (call, reader.new)) result (reads (call_form instance.now) reader.old) }
+{
+    let kind = read_call_kind(reader)?;
+    read_call_after(reader, instance, kind)
+}

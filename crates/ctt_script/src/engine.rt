@@ -1,0 +1,168 @@
+//! Running a script.
+
+ghost use Rattle.std.specs.Prelude.{◌≡◌, ◌⊎◌, ◌↔◌, ℕ, ◌++◌, ◌∷◌, [], ◌<◌, List, length, true, false, Ok, Err, IfOk, IfErr, OnOk, OnErr, IfSome, Some, string_bytes};
+ghost use Rattle.std.specs.List.{AllByRecursion as Each};
+ghost use Rattle.std.specs.Io.KnownBytes.{Appends, Keeps};
+ghost use Rattle.ctt_text.specs.Timetable.{Fits};
+ghost use Rattle.ctt_text.specs.declared.placed.Placed.{Placed as Lecture};
+ghost use Rattle.ctt_edits.specs.declared.fault.EditFault.{EditFault};
+ghost use Rattle.ctt_core.specs.Runs.{EventFits};
+ghost use Rattle.ctt_core.specs.Laws.{Stands};
+ghost use Rattle.ctt_edits.specs.Openings.{opening};
+ghost use Rattle.ctt_core.specs.declared.desk_fault.DeskFault.TheVariants as desk_fault;
+ghost use Rattle.ctt_script.specs.AnswerText.{answer_text, script_run};
+ghost use Rattle.ctt_script.specs.Answering.{Answered, AppendsFront, IsAtRun, WritesOut, Wrote, WroteFront};
+ghost use Rattle.ctt_script.specs.Entries.{IsWritable};
+ghost use Rattle.ctt_script.specs.RunFaults.{IsCauseOf, MayHaveWritten};
+ghost use Rattle.ctt_script.specs.ScriptText.{items_of, script};
+ghost use Rattle.ctt_script.specs.declared.script_fault.ScriptFault.TheVariants as script_fault;
+
+use crate::answers::{write_answer, write_bad_line};
+use crate::input::read_all;
+use crate::lines::Lines;
+use crate::script::{has_words, read_line};
+use crate::script_fault::ScriptFault;
+use crate::sink::{Sink, put_all};
+use crate::source::{Failed, Source};
+use ctt_board::Sheet;
+use ctt_core::{Answer, Desk, Event};
+use ctt_text::{Instance, NoMemory, Placed};
+use std::alloc::{AllocError, Global};
+
+/// How many planners a script has.
+const PLANNERS: u16 = 64;
+
+/// How many bytes a script has at most.
+const LIMIT: usize = 67_108_864;
+
+/// From how many bytes on answers are written out: few writes, and little room.
+const PIECE: usize = 32_768;
+
+/// Answers an event, and adds the line of the answer.
+fn answer_event<'i, S: Sheet<'i>>(
+    desk: &mut Desk<'i, S>,
+    instance: &Instance,
+    event: Event,
+    answers: &mut String,
+) -> Result<(), NoMemory>
+    requires same { desk.old.problem ≡ instance.now }
+    requires planners { length desk.old.drafts ≡ 64 }
+    requires fits { EventFits instance.now 64 event }
+    requires stands { IsAtRun desk.old }
+    ensures { OnOk result (Answered desk.old desk.new (string_bytes answers.old) (string_bytes answers.new) (Some event ∷ [])) }
+{
+    instance.limits_hold();
+    desk.lawful();
+    let answer = desk.step(event);
+    if let Answer::NoMemory = answer {
+        return Err(NoMemory);
+    }
+    write_answer(answers, instance, &answer)?;
+    Ok(())
+}
+
+/// Adds the answer to a line, if the line has words.
+fn answer_line<'i, S: Sheet<'i>>(
+    desk: &mut Desk<'i, S>,
+    instance: &Instance,
+    line: &[u8],
+    answers: &mut String,
+) -> Result<(), NoMemory>
+    requires same { desk.old.problem ≡ instance.now }
+    requires planners { length desk.old.drafts ≡ 64 }
+    requires stands { IsAtRun desk.old }
+    ensures { OnOk result (Answered desk.old desk.new (string_bytes answers.old) (string_bytes answers.new) (items_of instance.now (line.now ∷ []))) }
+{
+    if !has_words(line) {
+        return Ok(());
+    }
+    match read_line(instance, line) {
+        Some(event) => answer_event(desk, instance, event, answers),
+        None => Ok(write_bad_line(answers)?),
+    }
+}
+
+/// Writes answers out where they are many.
+fn write_full<W: Sink>(writer: &mut W, answers: &mut String) -> Result<(), Failed>
+    ensures written { OnOk result (WritesOut (W.taken writer.old) (W.taken writer.new) (string_bytes answers.old) (string_bytes answers.new)) }
+    ensures part { OnErr result (AppendsFront (W.taken writer.old) (W.taken writer.new) (string_bytes answers.old)) }
+    ensures marked { OnErr result (W.has_failed writer.new ≡ true) }
+    ensures unmarked { OnOk result (W.has_failed writer.new ≡ W.has_failed writer.old) }
+{
+    if answers.len() < PIECE {
+        return Ok(());
+    }
+    put_all(writer, answers.as_bytes())?;
+    answers.clear();
+    Ok(())
+}
+
+/// Answers the lines of a script, and writes the answers.
+fn answer_lines<'i, S: Sheet<'i>, W: Sink>(
+    alloc: Global,
+    desk: &mut Desk<'i, S>,
+    instance: &Instance,
+    text: &[u8],
+    writer: &mut W,
+) -> Result<(), ScriptFault>
+    requires same { desk.old.problem ≡ instance.now }
+    requires planners { length desk.old.drafts ≡ 64 }
+    requires stands { IsAtRun desk.old }
+    ensures written { OnOk result (Wrote desk.old desk.new (script instance.now text.now) (W.taken writer.old) (W.taken writer.new)) }
+    ensures part { OnErr result (WroteFront desk.old (script instance.now text.now) (W.taken writer.old) (W.taken writer.new)) }
+    ensures fault { IfErr result (λ fault. (fault ≡ script_fault.Write) ⊎ (fault ≡ script_fault.NoMemory)) }
+    ensures failed { (result ≡ Err script_fault.Write) → W.has_failed writer.new ≡ true }
+    ensures unmarked { (result ≡ Err script_fault.Write) ⊎ (W.has_failed writer.new ≡ W.has_failed writer.old) }
+{
+    let mut answers = String::new(alloc);
+    for line in Lines::new(text) {
+        answer_line(desk, instance, line, &mut answers)?;
+        write_full(writer, &mut answers)?;
+    }
+    put_all(writer, answers.as_bytes())?;
+    Ok(())
+}
+
+/// Runs a script of 64 planners on a desk whose opening timetable has these lectures, placed in their
+/// order, and writes the answers: a line for each line that has words. The desk is handed back as the
+/// script leaves it.
+///
+/// The script is read whole before anything is written, and it is not read where the opening is
+/// refused. Where a write fails, or memory is wanted, a front of the answers may have been written.
+pub fn run_script<'i, S: Sheet<'i>, R: Source, W: Sink>(
+    alloc: Global,
+    instance: &'i Instance,
+    lectures: &[Placed],
+    reader: &mut R,
+    writer: &mut W,
+) -> Result<Desk<'i, S>, ScriptFault>
+    requires fit { Each (Fits instance.now) lectures.now }
+    requires unmarked { R.has_failed reader.old ≡ false }
+
+    ensures problem { IfOk result (λ desk. desk.problem ≡ instance.now) }
+    ensures opening { IfOk result (λ desk. opening instance.now lectures.now ≡ Ok desk.opening) }
+    ensures answers { IfOk result (λ desk. IfSome (R.left reader.old) (λ text.
+        Appends (W.taken writer.old) (W.taken writer.new) (answer_text instance.now desk.opening text))) }
+    ensures stands { IfOk result (λ desk. IfSome (R.left reader.old) (λ text.
+        Stands desk (script_run instance.now desk.opening text))) }
+    ensures entries { IfOk result (λ desk. IsWritable instance.now desk.journal) }
+
+    ensures cause { IfErr result (λ fault. IsCauseOf instance.now lectures.now (R.left reader.old) fault) }
+    ensures refused { (at : ℕ) (fault : EditFault) → opening instance.now lectures.now ≡ Err (at, fault)
+        → (result ≡ Err (script_fault.Unlawful at fault)) ⊎ (result ≡ Err script_fault.NoMemory) }
+    ensures unread { (at : ℕ) (fault : EditFault) → opening instance.now lectures.now ≡ Err (at, fault)
+        → (reader.new ≡ reader.old) × (writer.new ≡ writer.old) }
+    ensures read { (result ≡ Err script_fault.Read) ↔ (R.has_failed reader.new ≡ true) }
+    ensures unwritten { IfErr result (λ fault. MayHaveWritten fault ⊎ (writer.new ≡ writer.old)) }
+    ensures failed { (result ≡ Err script_fault.Write) → W.has_failed writer.new ≡ true }
+    ensures unmarked { (result ≡ Err script_fault.Write) ⊎ (W.has_failed writer.new ≡ W.has_failed writer.old) }
+    ensures front { OnErr result ((t0 : List Lecture) → opening instance.now lectures.now ≡ Ok t0
+        → IfSome (R.left reader.old) (λ text. AppendsFront (W.taken writer.old) (W.taken writer.new) (answer_text instance.now t0 text))) }
+{
+    instance.limits_hold();
+    let mut desk: Desk<'i, S> = Desk::new(alloc, instance, lectures, PLANNERS)?;
+    desk.lawful();
+    let text = read_all(alloc, reader, LIMIT)?;
+    answer_lines(alloc, &mut desk, instance, &text, writer)?;
+    Ok(desk)
+}

@@ -1,0 +1,35 @@
+//! Why a journal could not be read.
+
+ghost use Rattle.std.specs.Prelude.{◌≡◌};
+ghost use Rattle.ctt_script.specs.declared.journal_fault.JournalFault.TheVariants as journal_fault;
+
+use std::alloc::{AllocError, AllocFailed};
+
+/// Why a journal could not be read. A fault names a word, counted from 1, or `NotText` a byte.
+#[derive(Clone, Copy, Debug, PartialEq, Eq)]
+pub enum JournalFault {
+    /// The text is not UTF-8; so many bytes at its beginning are.
+    NotText(u64),
+    /// The words end where this word belongs.
+    Missing(u64),
+    /// This word cannot stand in its place.
+    BadWord(u64),
+    /// There is not enough memory.
+    NoMemory,
+}
+
+impl From<AllocError> for JournalFault {
+    ghost from_gives = { λ _ e. e ≡ journal_fault.NoMemory };
+
+    fn from(_e: AllocError) -> JournalFault {
+        JournalFault::NoMemory
+    }
+}
+
+impl<T: Drop> From<AllocFailed<T>> for JournalFault {
+    ghost from_gives = { λ _ e. e ≡ journal_fault.NoMemory };
+
+    fn from(_e: AllocFailed<T>) -> JournalFault {
+        JournalFault::NoMemory
+    }
+}

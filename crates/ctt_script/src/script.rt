@@ -1,0 +1,180 @@
+//! Reading the lines of a script.
+
+ghost use Rattle.std.specs.Prelude.{◌≡◌, IfOk, IfSome};
+ghost use Rattle.ctt_core.specs.Runs.{EventFits};
+ghost use Rattle.ctt_script.specs.Known.{word, reads, IsRead};
+ghost use Rattle.ctt_script.specs.Kinds.{step_kind};
+ghost use Rattle.ctt_script.specs.ScriptPlaces.{first_of, step_after, event_after, event_form};
+ghost use Rattle.ctt_script.specs.ScriptText.{item, has_words, script};
+ghost use Rattle.ctt_script.specs.declared.kinds.StepKind.TheVariants as step;
+ghost use Rattle.ctt_script.specs.declared.script.Start.TheVariants as begin;
+
+use crate::amounts::number_below;
+use crate::calls::{read_call_after, read_look};
+use crate::journal_fault::JournalFault;
+use crate::kinds::{StepKind, step_kind};
+use crate::lines::Lines;
+use crate::places::read_word;
+use ctt_core::{Event, PlannerNo};
+use ctt_text::{Instance, NoMemory, Reader, Words};
+use std::alloc::Global;
+use std::marker::Model;
+
+/// How a line begins.
+#[derive(Clone, Copy)]
+pub(crate) enum Start {
+    Show,
+    Planner(PlannerNo),
+}
+
+/// What the first word of a line says.
+#[tactic(auto, unfolding(crate::specs::ScriptPlaces::first_of))]
+fn first_of(word: &str) -> Option<Start>
+    ensures { result ≡ first_of word.now }
+{
+    if word == "show" {
+        Some(Start::Show)
+    } else {
+        Some(Start::Planner(PlannerNo::new(number_below(word.as_bytes(), 64)?)))
+    }
+}
+
+/// The first word of a line.
+#[tactic(auto, using(crate::proofs::KnownLaws::read_word))]
+fn read_start(reader: &mut Reader) -> Result<Start, JournalFault>
+    ensures { IsRead (λ start. (start, reader.new)) result (reads (word first_of begin.Show) reader.old) }
+{
+    let at = reader.next();
+    let word = read_word(reader)?;
+    first_of(word).ok_or(JournalFault::BadWord(at))
+}
+
+/// The word of a step.
+#[tactic(auto, using(crate::proofs::KnownLaws::read_word))]
+fn read_step_kind(reader: &mut Reader) -> Result<StepKind, JournalFault>
+    ensures { IsRead (λ kind. (kind, reader.new)) result (reads (word step_kind step.Open) reader.old) }
+{
+    let at = reader.next();
+    let word = read_word(reader)?;
+    step_kind(word).ok_or(JournalFault::BadWord(at))
+}
+
+/// What stands behind a planner's number and the word of a step.
+#[tactic(auto, using(crate::proofs::KnownLaws::read_bind, crate::proofs::KnownLaws::read_done), unfolding(crate::specs::ScriptPlaces::step_after))]
+fn read_step_after(
+    reader: &mut Reader,
+    instance: &Instance,
+    planner: PlannerNo,
+    kind: StepKind,
+) -> Result<Event, JournalFault>
+    ensures { IsRead (λ event. (event, reader.new)) result (reads (step_after instance.now planner kind) reader.old) }
+{
+    match kind {
+        StepKind::Open => Ok(Event::Open(planner)),
+        StepKind::Commit => Ok(Event::Commit(planner)),
+        StepKind::Abandon => Ok(Event::Abandon(planner)),
+        StepKind::Ask(kind) => Ok(Event::Ask(planner, read_call_after(reader, instance, kind)?)),
+    }
+}
+
+/// What stands behind the first word.
+#[tactic(auto, using(crate::proofs::KnownLaws::read_bind, crate::proofs::KnownLaws::read_done), unfolding(crate::specs::ScriptPlaces::event_after))]
+fn read_event_after(
+    reader: &mut Reader,
+    instance: &Instance,
+    start: Start,
+) -> Result<Event, JournalFault>
+    ensures { IsRead (λ event. (event, reader.new)) result (reads (event_after instance.now start) reader.old) }
+{
+    match start {
+        Start::Show => Ok(Event::Show(read_look(reader, instance)?)),
+        Start::Planner(planner) => {
+            let kind = read_step_kind(reader)?;
+            read_step_after(reader, instance, planner, kind)
+        }
+    }
+}
+
+/// The words of an event.
+#[tactic(auto, using(crate::proofs::KnownLaws::read_bind), unfolding(crate::specs::ScriptPlaces::event_form))]
+fn read_event(reader: &mut Reader, instance: &Instance) -> Result<Event, JournalFault>
+    ensures { IsRead (λ event. (event, reader.new)) result (reads (event_form instance.now) reader.old) }
+{
+    let start = read_start(reader)?;
+    read_event_after(reader, instance, start)
+}
+
+/// The event that a line asks for; none for a line of any other form.
+pub fn read_line(instance: &Instance, line: &[u8]) -> Option<Event>
+    ensures item { result ≡ item instance.now line.now }
+    ensures fits { IfSome result (EventFits instance.now 64) }
+{
+    instance.limits_hold();
+    let Ok(text) = str::from_utf8(line) else {
+        return None;
+    };
+    let mut reader = Reader::new(text);
+    match read_event(&mut reader, instance) {
+        Ok(event) => {
+            if reader.is_at_end() {
+                Some(event)
+            } else {
+                None
+            }
+        }
+        Err(_) => None,
+    }
+}
+
+/// Whether a line has words.
+pub(crate) fn has_words(line: &[u8]) -> bool
+    ensures { result ≡ has_words line.now }
+{
+    Words::new(line).next().is_some()
+}
+
+/// What a line asks for: an event, or nothing that is known.
+#[derive(Drop)]
+pub struct Item {
+    event: Option<Event>,
+}
+
+impl Model for Item {
+    ghost use Rattle.std.specs.Prelude.{Option};
+    ghost use Rattle.ctt_core.specs.declared.event.Event.{Event};
+
+    ghost Value = { Option Event };
+
+    ghost view = { λ x. x.event };
+}
+
+impl Item {
+    /// The item of a line.
+    pub fn of(instance: &Instance, line: &[u8]) -> Self
+        ensures { result ≡ item instance.now line.now }
+    {
+        Item {
+            event: read_line(instance, line),
+        }
+    }
+
+    /// The event; none for a bad line.
+    pub fn event(&self) -> Option<Event>
+        ensures { result ≡ self.now }
+    {
+        self.event
+    }
+}
+
+/// The items of a script: one for each line that has words.
+pub fn read_script(alloc: Global, instance: &Instance, text: &[u8]) -> Result<Vec<Item>, NoMemory>
+    ensures { IfOk result (λ items. items.items ≡ script instance.now text.now) }
+{
+    let mut items = Vec::new(alloc);
+    for line in Lines::new(text) {
+        if has_words(line) {
+            items.push(Item::of(instance, line))?;
+        }
+    }
+    Ok(items)
+}
