@@ -3,3 +3,4 @@ pub mod DeskLemmas
 pub mod StepLemmas
 pub mod RanLemmas
 pub mod OpeningLemmas
+pub mod AuditLemmas

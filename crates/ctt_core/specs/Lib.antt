@@ -3,3 +3,4 @@ pub mod Desks
 pub mod Laws
 pub mod Openings
 pub mod Entries
+pub mod Audits

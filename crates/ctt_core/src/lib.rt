@@ -2,6 +2,7 @@
 #![tactic(auto)]
 
 mod answer;
+mod auditing;
 mod desk;
 mod desk_fault;
 mod event;
@@ -11,6 +12,7 @@ mod opening;
 mod planner;
 
 pub use answer::Answer;
+pub use auditing::{Verdict, audit};
 pub use desk::Desk;
 pub use desk_fault::DeskFault;
 pub use event::Event;

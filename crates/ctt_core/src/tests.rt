@@ -1,16 +1,18 @@
 //! Runs of two planners on the small instance, on both kinds of sheets: each event by `step`, and all
 //! of them by `run`. The costs were computed by hand from the rules.
 
-ghost use Rattle.std.specs.Prelude.{length};
+ghost use Rattle.std.specs.Prelude.{◌↔◌, IsTrue, length};
 ghost use Rattle.std.specs.List.{AllByRecursion as Each};
 ghost use Rattle.ctt_text.specs.Timetable.{Fits};
+ghost use Rattle.ctt_core.specs.Entries.{EntryFits};
 ghost use Rattle.ctt_core.specs.Runs.{EventFits};
 
-use crate::{Answer, Desk, DeskFault, Event, PlannerNo};
+use crate::{Answer, Desk, DeskFault, Event, JournalEntry, PlannerNo, Verdict, audit};
 use ctt_board::{GridSheet, ListSheet, Sheet};
+use ctt_draft::{Asked, AskedCalls};
 use ctt_edits::{Call, Edit, EditFault, Look, Reply, Row};
 use ctt_rules::Cost;
-use ctt_text::{CourseNo, Instance, Placed, RoomNo, SlotNo, read_instance};
+use ctt_text::{CourseNo, Instance, NoMemory, Placed, RoomNo, SlotNo, read_instance};
 use std::alloc::Global;
 use std::process::Abort;
 use std::test::Fail;
@@ -153,13 +155,45 @@ struct Case<'t> {
     journal: &'t [(u16, usize)],
 }
 
+/// Whether lectures have numbers of the instance.
+fn lectures_fit(instance: &Instance, lectures: &[Placed]) -> bool
+    ensures { IsTrue result ↔ Each (Fits instance.now) lectures.now }
+{
+    lectures.iter().all(|lecture| lecture.fits(instance))
+}
+
 /// Stops where a lecture has numbers beyond those of the instance.
 fn expect_lectures_fit(rt: &impl Abort, instance: &Instance, lectures: &[Placed])
     ensures { Each (Fits instance.now) lectures.now }
 {
-    for lecture in lectures {
-        assert!(rt; lecture.fits(instance));
-    }
+    assert!(rt; lectures_fit(instance, lectures));
+}
+
+/// Whether entries have numbers of the instance.
+fn entries_fit(instance: &Instance, entries: &[JournalEntry]) -> bool
+    ensures { IsTrue result ↔ Each (EntryFits instance.now) entries.now }
+{
+    entries.iter().all(|entry| entry.fits(instance))
+}
+
+/// Stops where an entry has numbers beyond those of the instance.
+fn expect_entries_fit(rt: &impl Abort, instance: &Instance, entries: &[JournalEntry])
+    ensures { Each (EntryFits instance.now) entries.now }
+{
+    assert!(rt; entries_fit(instance, entries));
+}
+
+/// What an audit finds of these entries.
+fn audited<'i, S: Sheet<'i>>(
+    rt: &impl Abort,
+    alloc: Global,
+    small: &'i Instance,
+    opening: &[Placed],
+    entries: &[JournalEntry],
+) -> Result<Verdict, NoMemory> {
+    expect_lectures_fit(rt, small, opening);
+    expect_entries_fit(rt, small, entries);
+    audit::<S>(alloc, small, opening, entries)
 }
 
 /// A desk of two planners.
@@ -200,9 +234,22 @@ fn ends<'i, S: Sheet<'i>>(rt: &impl Abort, desk: &Desk<'i, S>, case: &Case) -> R
     Ok(())
 }
 
+/// The audit of the desk's own journal agrees.
+fn agrees<'i, S: Sheet<'i>>(
+    rt: &impl Abort,
+    alloc: Global,
+    desk: &Desk<'i, S>,
+    case: &Case,
+) -> Result<(), Fail> {
+    let found = audited::<S>(rt, alloc, desk.instance(), case.opening, desk.journal())?;
+    assert_eq!(rt; found, Verdict::Agrees);
+    Ok(())
+}
+
 /// The events one by one.
 fn steps<'i, S: Sheet<'i>>(
     rt: &impl Abort,
+    alloc: Global,
     mut desk: Desk<'i, S>,
     case: &Case,
 ) -> Result<(), Fail> {
@@ -211,7 +258,8 @@ fn steps<'i, S: Sheet<'i>>(
         let answer = desk.step(turn.0);
         assert!(rt; answers(&answer, &turn.1), "event {at} by step: {answer:?}");
     }
-    ends(rt, &desk, case)
+    ends(rt, &desk, case)?;
+    agrees(rt, alloc, &desk, case)
 }
 
 /// The events all at once.
@@ -248,7 +296,7 @@ fn holds_on<'i, S: Sheet<'i>>(
     events: &[Event],
     case: &Case,
 ) -> Result<(), Fail> {
-    steps::<S>(rt, desk_of(rt, alloc, small, case.opening), case)?;
+    steps::<S>(rt, alloc, desk_of(rt, alloc, small, case.opening), case)?;
     runs::<S>(rt, desk_of(rt, alloc, small, case.opening), events, case)
 }
 
@@ -452,6 +500,33 @@ fn abandoned(rt: HostRuntime) -> Result<(), Fail> {
     holds(&rt, rt.alloc(), &case)
 }
 
+/// An entry with one call, which was told that it is done.
+fn entry_done(alloc: Global, call: Call) -> Result<JournalEntry, Fail> {
+    let mut list = Vec::new(alloc);
+    let reply = Reply::Done;
+    list.push(Asked { call, reply })?;
+    Ok(JournalEntry {
+        planner: PlannerNo::new(0),
+        asked: AskedCalls::new(list),
+    })
+}
+
+/// An edit was refused, and the journal says that it is done.
+fn finds_other_reply(rt: &impl Abort, alloc: Global, small: &Instance) -> Result<(), Fail> {
+    let opening = [placed(geo(), 1, room_a())];
+    let taken = Call::Edit(Edit::Place(top(), at(1), room_a()));
+    let entries = [entry_done(alloc, taken)?];
+    let found = audited::<ListSheet>(rt, alloc, small, &opening, &entries)?;
+    assert_eq!(rt; found, Verdict::Differs(1, 1));
+    Ok(())
+}
+
+#[test]
+fn told_otherwise(rt: HostRuntime) -> Result<(), Fail> {
+    let small = read_instance(rt.alloc(), SMALL.as_bytes())?;
+    finds_other_reply(&rt, rt.alloc(), &small)
+}
+
 /// An opening in which two courses with one teacher stand in one slot is refused.
 fn refuses_clash<'i, S: Sheet<'i>>(rt: &impl Abort, alloc: Global, small: &'i Instance) {
     let opening = [placed(alg(), 0, room_a()), placed(top(), 0, room_b())];
@@ -461,10 +536,19 @@ fn refuses_clash<'i, S: Sheet<'i>>(rt: &impl Abort, alloc: Global, small: &'i In
     assert_eq!(rt; fault, Some(DeskFault::Unlawful(2, clash)));
 }
 
+/// And its audit finds the same.
+fn finds_clash(rt: &impl Abort, alloc: Global, small: &Instance) -> Result<(), Fail> {
+    let opening = [placed(alg(), 0, room_a()), placed(top(), 0, room_b())];
+    let found = audited::<GridSheet>(rt, alloc, small, &opening, &[])?;
+    let clash = EditFault::Clash(alg());
+    assert_eq!(rt; found, Verdict::BadOpening(2, clash));
+    Ok(())
+}
+
 #[test]
 fn unlawful_opening(rt: HostRuntime) -> Result<(), Fail> {
     let small = read_instance(rt.alloc(), SMALL.as_bytes())?;
     refuses_clash::<ListSheet>(&rt, rt.alloc(), &small);
     refuses_clash::<GridSheet>(&rt, rt.alloc(), &small);
-    Ok(())
+    finds_clash(&rt, rt.alloc(), &small)
 }

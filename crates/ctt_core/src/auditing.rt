@@ -1,0 +1,138 @@
+//! The audit of a journal: its drafts are run whole, one after another, and told anew.
+
+ghost use Rattle.std.specs.Prelude.{◌≡◌, IfOk, OnOk, Ok, List};
+ghost use Rattle.std.specs.List.{AllByRecursion as Each};
+ghost use Rattle.ctt_text.specs.Timetable.{Fits};
+ghost use Rattle.ctt_text.specs.declared.placed.Placed.{Placed};
+ghost use Rattle.ctt_edits.specs.Calls.{CallFits, reply};
+ghost use Rattle.ctt_edits.specs.Edits.{EditFits};
+ghost use Rattle.ctt_edits.specs.Openings.{opening};
+ghost use Rattle.ctt_edits.specs.declared.call.Call.TheVariants.{Edit as Edits};
+ghost use Rattle.ctt_draft.specs.Drafts.{AskedFits, after_call};
+ghost use Rattle.ctt_core.specs.Entries.{EntryFits};
+ghost use Rattle.ctt_core.specs.Runs.{Legal};
+ghost use Rattle.ctt_core.specs.Audits.{Replayed, Finds, IsVerdict};
+ghost use Rattle.ctt_core.specs.declared.auditing.Verdict.TheVariants.{Agrees};
+
+use crate::desk_fault::DeskFault;
+use crate::journal::JournalEntry;
+use crate::opening::placed;
+use ctt_board::{Rooms, Sheet, Timetable};
+use ctt_draft::Asked;
+use ctt_edits::{Call, Edit, EditFault, Reply, check};
+use ctt_text::{Instance, NoMemory, Placed};
+use std::alloc::Global;
+
+/// What an audit finds.
+#[derive(Clone, Copy, Debug, PartialEq, Eq)]
+pub enum Verdict {
+    /// Each entry was told what it is told at its place.
+    Agrees,
+    /// The first lecture of the opening that cannot be placed, counted from 1, and what stands against
+    /// it.
+    BadOpening(u64, EditFault),
+    /// The first reply that is another one: its entry, and its call within the entry, counted from 1.
+    Differs(u64, u64),
+}
+
+/// Makes an edit, if nothing stands against it, and answers as a planner is told.
+fn make<'i, S: Sheet<'i>>(sheet: &mut S, edit: &Edit) -> Reply
+    requires { EditFits (S.problem sheet.old) edit.now }
+    ensures told { result ≡ reply (S.problem sheet.old) (S.list sheet.old) (Edits edit.now) }
+    ensures problem { S.problem sheet.new ≡ S.problem sheet.old }
+    ensures list { S.list sheet.new ≡ after_call (S.problem sheet.old) (S.list sheet.old) (Edits edit.now) }
+{
+    let checked = check(sheet, edit);
+    match checked {
+        Ok(change) => {
+            sheet.apply(&change);
+            Reply::Done
+        }
+        Err(fault) => Reply::Refused(fault),
+    }
+}
+
+/// Makes a call, and answers as a planner is told.
+fn answer<'i, S: Sheet<'i>>(alloc: Global, sheet: &mut S, call: &Call) -> Result<Reply, NoMemory>
+    requires { CallFits (S.problem sheet.old) call.now }
+    ensures told { IfOk result (λ told. told ≡ reply (S.problem sheet.old) (S.list sheet.old) call.now) }
+    ensures problem { S.problem sheet.new ≡ S.problem sheet.old }
+    ensures list { OnOk result (S.list sheet.new ≡ after_call (S.problem sheet.old) (S.list sheet.old) call.now) }
+{
+    match call {
+        Call::Look(look) => ctt_edits::look(alloc, sheet, look),
+        Call::Edit(edit) => Ok(make(sheet, edit)),
+    }
+}
+
+/// Makes calls on a sheet, up to the first that was told something else: its number, from 1.
+fn replay<'i, S: Sheet<'i>>(
+    alloc: Global,
+    sheet: &mut S,
+    asked: &[Asked],
+) -> Result<Option<u64>, NoMemory>
+    requires { Each (AskedFits (S.problem sheet.old)) asked.now }
+    ensures problem { S.problem sheet.new ≡ S.problem sheet.old }
+    ensures found { IfOk result (Replayed (S.problem sheet.old) (S.list sheet.old) (S.list sheet.new) asked.now) }
+{
+    for (at, one) in asked.iter().enumerate() {
+        let told = answer(alloc, sheet, &one.call)?;
+        if !told.is_same(&one.reply) {
+            return Ok(Some(at as u64 + 1));
+        }
+    }
+    Ok(None)
+}
+
+/// Makes the calls of all entries on a sheet, up to the first that was told something else.
+fn replay_all<'i, S: Sheet<'i>>(
+    alloc: Global,
+    sheet: &mut S,
+    entries: &[JournalEntry],
+) -> Result<Verdict, NoMemory>
+    requires { Each (EntryFits (S.problem sheet.old)) entries.now }
+    ensures { IfOk result (Finds (S.problem sheet.old) (S.list sheet.old) entries.now) }
+{
+    for (at, entry) in entries.iter().enumerate() {
+        if let Some(call) = replay(alloc, sheet, entry.asked.as_slice())? {
+            return Ok(Verdict::Differs(at as u64 + 1, call));
+        }
+    }
+    Ok(Verdict::Agrees)
+}
+
+/// What is found, on a sheet of this kind.
+fn found_on<'i, S: Sheet<'i>>(
+    alloc: Global,
+    instance: &'i Instance,
+    lectures: &[Placed],
+    entries: &[JournalEntry],
+) -> Result<Verdict, NoMemory>
+    requires lectures { Each (Fits instance.now) lectures.now }
+    requires entries { Each (EntryFits instance.now) entries.now }
+    ensures { IfOk result (IsVerdict instance.now lectures.now entries.now) }
+{
+    match placed::<S>(alloc, instance, lectures) {
+        Ok(mut sheet) => replay_all(alloc, &mut sheet, entries),
+        Err(DeskFault::Unlawful(at, fault)) => Ok(Verdict::BadOpening(at, fault)),
+        Err(DeskFault::NoMemory) => Err(NoMemory),
+    }
+}
+
+/// Whether a journal tells what its drafts are told when they are run whole, one after another, on the
+/// opening with these lectures, which are placed in their order; and if not, where it differs first.
+///
+/// The kind of sheet on which they are run is the caller's choice, as `audit::<GridSheet>`.
+pub fn audit<'i, S: Sheet<'i>>(
+    alloc: Global,
+    instance: &'i Instance,
+    lectures: &[Placed],
+    entries: &[JournalEntry],
+) -> Result<Verdict, NoMemory>
+    requires lectures { Each (Fits instance.now) lectures.now }
+    requires entries { Each (EntryFits instance.now) entries.now }
+    ensures found { IfOk result (IsVerdict instance.now lectures.now entries.now) }
+    ensures agrees { IfOk result (λ verdict. (t : List Placed) → opening instance.now lectures.now ≡ Ok t → Legal instance.now t entries.now → verdict ≡ Agrees) }
+{
+    found_on::<S>(alloc, instance, lectures, entries)
+}
