@@ -50,21 +50,27 @@ fn words_with(alloc: Global, count: u64, at: u64, changed: &str) -> Result<Vec<u
     Ok(text)
 }
 
-/// What the small instance says, however its text is laid out.
-fn is_small(rt: &impl Abort, instance: &Instance) {
-    assert_eq!(rt; instance.name(), "Small");
+/// The names of the small instance, and how many there are of each.
+fn names_are_small(rt: &impl Abort, instance: &Instance) {
     assert_eq!(rt; instance.courses(), 3);
     assert_eq!(rt; instance.rooms(), 2);
     assert_eq!(rt; instance.teachers(), 2);
     assert_eq!(rt; instance.curricula(), 1);
-    assert_eq!(rt; instance.days(), 2);
-    assert_eq!(rt; instance.periods(), 3);
-    assert_eq!(rt; instance.slots(), 6);
+    assert_eq!(rt; instance.name(), "Small");
+    assert_eq!(rt; instance.course_name(CourseNo::new(2)), "top");
+    assert_eq!(rt; instance.room_name(RoomNo::new(1)), "B");
+    assert_eq!(rt; instance.teacher_name(TeacherNo::new(1)), "t2");
+    assert_eq!(rt; instance.curriculum_name(CurriculumNo::new(0)), "q1");
+}
+
+/// What is known of its courses and rooms.
+fn facts_are_small(rt: &impl Abort, instance: &Instance) {
+    assert_eq!(rt; instance.courses(), 3);
+    assert_eq!(rt; instance.rooms(), 2);
+    assert_eq!(rt; instance.curricula(), 1);
+    let alg = CourseNo::new(0);
     let geo = CourseNo::new(1);
     let top = CourseNo::new(2);
-    let alg = CourseNo::new(0);
-    assert_eq!(rt; instance.course_name(top), "top");
-    assert_eq!(rt; instance.room_name(RoomNo::new(1)), "B");
     assert_eq!(rt; instance.teacher(alg), instance.teacher(top));
     assert_eq!(rt; instance.lectures(geo), 2);
     assert_eq!(rt; instance.min_days(geo), 1);
@@ -74,23 +80,50 @@ fn is_small(rt: &impl Abort, instance: &Instance) {
         instance.members(CurriculumNo::new(0)),
         [alg, geo].as_slice()
     );
+}
+
+/// Which of its courses clash.
+fn clashes_are_small(rt: &impl Abort, instance: &Instance) {
+    assert_eq!(rt; instance.courses(), 3);
+    let alg = CourseNo::new(0);
+    let geo = CourseNo::new(1);
+    let top = CourseNo::new(2);
     assert_eq!(rt; instance.clash(alg, geo), true);
     assert_eq!(rt; instance.clash(top, alg), true);
     assert_eq!(rt; instance.clash(geo, top), false);
     assert_eq!(rt; instance.clash(alg, alg), false);
+}
+
+/// Its slots, and where courses are unavailable.
+fn slots_are_small(rt: &impl Abort, instance: &Instance) {
+    assert_eq!(rt; instance.courses(), 3);
+    assert_eq!(rt; instance.days(), 2);
+    assert_eq!(rt; instance.periods(), 3);
+    assert_eq!(rt; instance.slots(), 6);
     let first = instance.slot_of(0, 0);
-    let second = instance.slot_of(1, 2);
-    assert_eq!(rt; instance.unavailable(geo, first), true);
-    assert_eq!(rt; instance.unavailable(alg, first), false);
-    assert_eq!(rt; instance.day_of(second), 1);
-    assert_eq!(rt; instance.period_of(second), 2);
-    assert_eq!(rt; instance.find_course("geo"), Some(geo));
+    let last = instance.slot_of(1, 2);
+    assert_eq!(rt; instance.unavailable(CourseNo::new(1), first), true);
+    assert_eq!(rt; instance.unavailable(CourseNo::new(0), first), false);
+    assert_eq!(rt; instance.day_of(last), 1);
+    assert_eq!(rt; instance.period_of(last), 2);
+}
+
+/// What is found by its name.
+fn finds_are_small(rt: &impl Abort, instance: &Instance) {
+    assert_eq!(rt; instance.find_course("geo"), Some(CourseNo::new(1)));
     assert_eq!(rt; instance.find_course("A"), None);
     assert_eq!(rt; instance.find_room("A"), Some(RoomNo::new(0)));
     assert_eq!(rt; instance.find_teacher("t2"), Some(TeacherNo::new(1)));
     assert_eq!(rt; instance.find_curriculum("q1"), Some(CurriculumNo::new(0)));
-    assert_eq!(rt; instance.teacher_name(TeacherNo::new(1)), "t2");
-    assert_eq!(rt; instance.curriculum_name(CurriculumNo::new(0)), "q1");
+}
+
+/// What the small instance says, however its text is laid out.
+fn is_small(rt: &impl Abort, instance: &Instance) {
+    names_are_small(rt, instance);
+    facts_are_small(rt, instance);
+    clashes_are_small(rt, instance);
+    slots_are_small(rt, instance);
+    finds_are_small(rt, instance);
 }
 
 #[test]
@@ -187,14 +220,17 @@ fn text_is_looked_at_first(rt: HostRuntime) -> Result<(), Fail> {
     Ok(())
 }
 
+/// An instance that has nothing but a name.
+fn is_empty(rt: &impl Abort, instance: &Instance) {
+    assert_eq!(rt; instance.name(), "END.");
+    assert_eq!(rt; [instance.courses(), instance.slots()], [0, 0]);
+}
+
 #[test]
 fn nothing_at_all_is_an_instance(rt: HostRuntime) -> Result<(), Fail> {
     let text =
         "Name: END. Courses: 0 Rooms: 0 Days: 0 Periods_per_day: 0 Curricula: 0 Constraints: 0 \
         COURSES: ROOMS: CURRICULA: UNAVAILABILITY_CONSTRAINTS: END.";
-    let instance = read_instance(rt.alloc(), text.as_bytes())?;
-    assert_eq!(rt; instance.name(), "END.");
-    assert_eq!(rt; instance.courses(), 0);
-    assert_eq!(rt; instance.slots(), 0);
+    is_empty(&rt, &read_instance(rt.alloc(), text.as_bytes())?);
     Ok(())
 }

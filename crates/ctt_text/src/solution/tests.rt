@@ -6,6 +6,7 @@ use crate::{
     read_solution, write_solution,
 };
 use std::alloc::{AllocError, Global};
+use std::process::Abort;
 use std::test::Fail;
 
 /// A solution of the small instance, in order.
@@ -46,33 +47,62 @@ fn lecture(instance: &Instance, course: u16, slot: (u16, u16), room: u16) -> Opt
     }
 }
 
+/// The lectures are those of the solution, in order.
+fn is_the_solution(rt: &impl Abort, instance: &Instance, lectures: &[Placed]) {
+    let wanted = [
+        lecture(instance, 0, (0, 0), 0),
+        lecture(instance, 0, (1, 0), 1),
+        lecture(instance, 1, (0, 1), 0),
+        lecture(instance, 1, (1, 2), 0),
+        lecture(instance, 2, (0, 2), 1),
+    ];
+    assert_eq!(rt; lectures.len(), wanted.len());
+    for (lecture, wanted) in lectures.iter().zip(&wanted) {
+        assert_eq!(rt; Some(*lecture), *wanted);
+    }
+}
+
+/// Lectures are written as this text, which is read as the same lectures.
+fn are_written(
+    rt: &impl Abort,
+    alloc: Global,
+    instance: &Instance,
+    lectures: &[Placed],
+    text: &str,
+) -> Result<(), Fail> {
+    assert!(rt; is_timetable(instance, lectures));
+    let written = write_solution(alloc, instance, lectures)?;
+    assert_eq!(rt; written.as_slice(), text.as_bytes());
+    let again = read_solution(alloc, instance, &written)?;
+    assert_eq!(rt; again.as_slice(), lectures);
+    Ok(())
+}
+
+/// The solution in another order and layout.
+fn reads_in_order(rt: &impl Abort, alloc: Global, instance: &Instance) -> Result<(), Fail> {
+    let text = "top\tB 0 2 geo A 1 02\r\nalg A 0 0\n\ngeo A 0 1 alg B 0001 0";
+    let lectures = read_solution(alloc, instance, text.as_bytes())?;
+    is_the_solution(rt, instance, &lectures);
+    are_written(rt, alloc, instance, &lectures, SOLUTION)
+}
+
 #[test]
 fn solution_is_read_in_order_and_written(rt: HostRuntime) -> Result<(), Fail> {
     let instance = read_instance(rt.alloc(), SMALL.as_bytes())?;
-    let text = "top\tB 0 2 geo A 1 02\r\nalg A 0 0\n\ngeo A 0 1 alg B 0001 0";
-    let lectures = read_solution(rt.alloc(), &instance, text.as_bytes())?;
-    assert_eq!(rt; lectures.len(), 5);
-    assert_eq!(rt; Some(lectures[0]), lecture(&instance, 0, (0, 0), 0));
-    assert_eq!(rt; Some(lectures[1]), lecture(&instance, 0, (1, 0), 1));
-    assert_eq!(rt; Some(lectures[2]), lecture(&instance, 1, (0, 1), 0));
-    assert_eq!(rt; Some(lectures[3]), lecture(&instance, 1, (1, 2), 0));
-    assert_eq!(rt; Some(lectures[4]), lecture(&instance, 2, (0, 2), 1));
-    let written = write_solution(rt.alloc(), &instance, &lectures)?;
-    assert_eq!(rt; written.as_slice(), SOLUTION.as_bytes());
-    let again = read_solution(rt.alloc(), &instance, &written)?;
-    assert_eq!(rt; again.as_slice(), lectures.as_slice());
-    Ok(())
+    reads_in_order(&rt, rt.alloc(), &instance)
+}
+
+/// A text without words.
+fn reads_nothing(rt: &impl Abort, alloc: Global, instance: &Instance) -> Result<(), Fail> {
+    let lectures = read_solution(alloc, instance, b" \r\n")?;
+    assert_eq!(rt; lectures.len(), 0);
+    are_written(rt, alloc, instance, &lectures, "")
 }
 
 #[test]
 fn no_entry_is_the_empty_solution(rt: HostRuntime) -> Result<(), Fail> {
     let instance = read_instance(rt.alloc(), SMALL.as_bytes())?;
-    let lectures = read_solution(rt.alloc(), &instance, b" \r\n")?;
-    assert_eq!(rt; lectures.len(), 0);
-    assert_eq!(rt; is_timetable(&instance, &lectures), true);
-    let written = write_solution(rt.alloc(), &instance, &lectures)?;
-    assert_eq!(rt; written.len(), 0);
-    Ok(())
+    reads_nothing(&rt, rt.alloc(), &instance)
 }
 
 #[test]
