@@ -1,7 +1,7 @@
 -- What the words of a script's line give fits the instance.
 use Rattle.std.proofs.Common.{◌≡◌, ℕ, ◌<◌, List, Bool, true, false, cond, Option, Some, None, refl, sym, subst}
 use Rattle.std.specs.Prelude.{codes, IfSome}
-use Rattle.std.specs.Str.{bytes_eq, is_utf8}
+use Rattle.std.specs.Str.{bytes_eq}
 use Rattle.std.specs.Option.{option_map}
 use Rattle.ctt_text.specs.Words.{words}
 use Rattle.ctt_text.specs.Problem.{Problem, IsProblem}
@@ -20,7 +20,7 @@ use Rattle.ctt_script.specs.Amounts.{number_below}
 use Rattle.ctt_script.specs.CallPlaces.{look_form}
 use Rattle.ctt_script.specs.ScriptPlaces.{first_of, step_after, event_after, event_form, own_after, own_form}
 use Rattle.ctt_script.specs.ScriptText.{item_by, item, own_item}
-use Rattle.ctt_script.proofs.KnownForms.{Yields, yields_done, yields_bind}
+use Rattle.ctt_text.proofs.FormLaws.{Yields, yields_done, yields_bind}
 use Rattle.ctt_script.proofs.CallFits.{is_below, yields_meaning, yields_any, yields_call_after, yields_look}
 use Rattle.ctt_script.proofs.ScriptLaws.{item_fills}
 

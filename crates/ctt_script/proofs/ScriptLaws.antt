@@ -14,7 +14,7 @@ use Rattle.ctt_text.specs.Forms.{Form, Fills, read}
 use Rattle.ctt_text.proofs.FormLaws.{read_fills}
 use Rattle.ctt_script.specs.declared.journal_fault.JournalFault.{JournalFault}
 use Rattle.ctt_core.specs.declared.event.Event.{Event}
-use Rattle.ctt_script.specs.Known.{missing, reads}
+use Rattle.ctt_script.specs.JournalWords.{missing, reads}
 use Rattle.ctt_script.specs.ScriptText.{whole, if_none_left, asked_by, item_by, item, has_words, lines_of, items_of}
 
 -- what was read whole has nothing left

@@ -15,7 +15,7 @@ use Rattle.ctt_script.specs.declared.script.OwnStart.{OwnStart}
 use Rattle.ctt_script.specs.declared.script.OwnStart.TheVariants as own
 use Rattle.ctt_script.specs.Amounts.{number_below}
 use Rattle.ctt_script.specs.Kinds.{step_kind}
-use Rattle.ctt_script.specs.Known.{word}
+use Rattle.ctt_script.specs.JournalWords.{word}
 use Rattle.ctt_script.specs.CallPlaces.{look_form, call_after}
 
 -- a look at what is published, or one of 64 planners

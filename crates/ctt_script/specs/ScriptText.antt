@@ -8,7 +8,7 @@ use Rattle.ctt_text.specs.Problem.{Problem}
 use Rattle.ctt_text.specs.Forms.{Form, read}
 use Rattle.ctt_script.specs.declared.journal_fault.JournalFault.{JournalFault}
 use Rattle.ctt_core.specs.declared.event.Event.{Event}
-use Rattle.ctt_script.specs.Known.{missing}
+use Rattle.ctt_script.specs.JournalWords.{missing}
 use Rattle.ctt_script.specs.ScriptPlaces.{event_form, own_form}
 
 -- a value, if no word is left behind it

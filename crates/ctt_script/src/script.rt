@@ -4,7 +4,7 @@ ghost use Rattle.std.specs.Prelude.{◌≡◌, ℕ, ◌<◌, Result, IfOk, IfSom
 ghost use Rattle.ctt_text.specs.Left.{Left};
 ghost use Rattle.ctt_core.specs.Runs.{EventFits};
 ghost use Rattle.ctt_core.specs.declared.event.Event.{Event};
-ghost use Rattle.ctt_script.specs.Known.{word, reads, IsRead};
+ghost use Rattle.ctt_script.specs.JournalWords.{word, reads, IsRead};
 ghost use Rattle.ctt_script.specs.Kinds.{step_kind};
 ghost use Rattle.ctt_script.specs.ScriptPlaces.{first_of, step_after, event_after, event_form, own_first_of, own_after, own_form};
 ghost use Rattle.ctt_script.specs.ScriptText.{whole, item, own_item, has_words, script};
@@ -44,7 +44,7 @@ fn first_of(word: &str) -> Option<Start>
 }
 
 /// The first word of a line.
-#[tactic(auto, using(crate::proofs::KnownLaws::read_word))]
+#[tactic(auto, using(crate::proofs::JournalSteps::read_word))]
 fn read_start(reader: &mut Reader) -> Result<Start, JournalFault>
     ensures { IsRead (λ start. (start, reader.new)) result (reads (word first_of begin.Show) reader.old) }
 {
@@ -54,7 +54,7 @@ fn read_start(reader: &mut Reader) -> Result<Start, JournalFault>
 }
 
 /// The word of a step.
-#[tactic(auto, using(crate::proofs::KnownLaws::read_word))]
+#[tactic(auto, using(crate::proofs::JournalSteps::read_word))]
 fn read_step_kind(reader: &mut Reader) -> Result<StepKind, JournalFault>
     ensures { IsRead (λ kind. (kind, reader.new)) result (reads (word step_kind step.Open) reader.old) }
 {
@@ -64,7 +64,7 @@ fn read_step_kind(reader: &mut Reader) -> Result<StepKind, JournalFault>
 }
 
 /// What stands behind a planner's number and the word of a step.
-#[tactic(auto, using(crate::proofs::KnownLaws::read_bind, crate::proofs::KnownLaws::read_done), unfolding(crate::specs::ScriptPlaces::step_after))]
+#[tactic(auto, using(crate::proofs::JournalSteps::read_bind, crate::proofs::JournalSteps::read_done), unfolding(crate::specs::ScriptPlaces::step_after))]
 fn read_step_after(
     reader: &mut Reader,
     instance: &Instance,
@@ -82,7 +82,7 @@ fn read_step_after(
 }
 
 /// What stands behind the first word.
-#[tactic(auto, using(crate::proofs::KnownLaws::read_bind, crate::proofs::KnownLaws::read_done), unfolding(crate::specs::ScriptPlaces::event_after))]
+#[tactic(auto, using(crate::proofs::JournalSteps::read_bind, crate::proofs::JournalSteps::read_done), unfolding(crate::specs::ScriptPlaces::event_after))]
 fn read_event_after(
     reader: &mut Reader,
     instance: &Instance,
@@ -100,7 +100,7 @@ fn read_event_after(
 }
 
 /// The words of an event.
-#[tactic(auto, using(crate::proofs::KnownLaws::read_bind), unfolding(crate::specs::ScriptPlaces::event_form))]
+#[tactic(auto, using(crate::proofs::JournalSteps::read_bind), unfolding(crate::specs::ScriptPlaces::event_form))]
 fn read_event(reader: &mut Reader, instance: &Instance) -> Result<Event, JournalFault>
     ensures { IsRead (λ event. (event, reader.new)) result (reads (event_form instance.now) reader.old) }
 {
@@ -128,7 +128,7 @@ fn own_first_of(word: &str) -> Option<OwnStart>
 }
 
 /// The first word of a line of one planner's own script.
-#[tactic(auto, using(crate::proofs::KnownLaws::read_word))]
+#[tactic(auto, using(crate::proofs::JournalSteps::read_word))]
 fn read_own_start(reader: &mut Reader) -> Result<OwnStart, JournalFault>
     ensures { IsRead (λ start. (start, reader.new)) result (reads (word own_first_of own.Show) reader.old) }
 {
@@ -138,7 +138,7 @@ fn read_own_start(reader: &mut Reader) -> Result<OwnStart, JournalFault>
 }
 
 /// What stands behind the first word of a line of a planner's own script.
-#[tactic(auto, using(crate::proofs::KnownLaws::read_bind, crate::proofs::KnownLaws::read_done), unfolding(crate::specs::ScriptPlaces::own_after))]
+#[tactic(auto, using(crate::proofs::JournalSteps::read_bind, crate::proofs::JournalSteps::read_done), unfolding(crate::specs::ScriptPlaces::own_after))]
 fn read_own_after(
     reader: &mut Reader,
     instance: &Instance,
@@ -154,7 +154,7 @@ fn read_own_after(
 }
 
 /// The words of an event in a planner's own script.
-#[tactic(auto, using(crate::proofs::KnownLaws::read_bind), unfolding(crate::specs::ScriptPlaces::own_form))]
+#[tactic(auto, using(crate::proofs::JournalSteps::read_bind), unfolding(crate::specs::ScriptPlaces::own_form))]
 fn read_own_event(
     reader: &mut Reader,
     instance: &Instance,

@@ -1,5 +1,5 @@
 use Rattle.std.proofs.Common.{◌≡◌}
-use Rattle.ctt_script.specs.Known.{reads}
+use Rattle.ctt_script.specs.JournalWords.{reads}
 use Rattle.ctt_script.specs.ScriptPlaces.{event_form}
 use Rattle.ctt_script.specs.ScriptText.{item}
 use Rattle.ctt_script.proofs.EventFits.{item_fits}

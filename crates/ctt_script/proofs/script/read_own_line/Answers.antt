@@ -1,5 +1,5 @@
 use Rattle.std.proofs.Common.{◌≡◌}
-use Rattle.ctt_script.specs.Known.{reads}
+use Rattle.ctt_script.specs.JournalWords.{reads}
 use Rattle.ctt_script.specs.ScriptPlaces.{own_form}
 use Rattle.ctt_script.specs.ScriptText.{own_item}
 use Rattle.ctt_script.proofs.EventFits.{own_item_fits}
