@@ -14,13 +14,13 @@ use std::marker::{Model, PhantomData};
 
 /// What a desk left: its journal and its timetable. Contracts see the journal.
 #[derive(Drop)]
-pub struct Closed<J: Naming, S: Timetable> {
+pub struct Closed<S: Timetable, J: Naming> {
     pub(crate) journal: Vec<JournalEntry>,
     pub(crate) sheet: S,
     pub(crate) desk: PhantomData<J>,
 }
 
-impl<J: Naming, S: Timetable> Model for Closed<J, S> {
+impl<S: Timetable, J: Naming> Model for Closed<S, J> {
     ghost use Rattle.std.specs.Prelude.{List};
     ghost use Rattle.ctt_core.specs.declared.journal.JournalEntry.{JournalEntry};
     ghost use Rattle.ctt_desk.specs.Histories.{Standing};
@@ -32,7 +32,7 @@ impl<J: Naming, S: Timetable> Model for Closed<J, S> {
     ghost invariant = { λ c. Standing J.problem (S.problem c.sheet) J.opening (S.list c.sheet) c.journal.items };
 }
 
-impl<J: Naming, S: Timetable> Closed<J, S> {
+impl<S: Timetable, J: Naming> Closed<S, J> {
     /// The lectures, by course and slot: the opening after the journal.
     pub fn list(&self) -> Result<Vec<Placed>, NoMemory>
         ensures list { IfOk result (λ list. list.items ≡ after J.problem J.opening self.now) }

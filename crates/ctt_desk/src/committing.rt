@@ -14,14 +14,14 @@ use crate::shared_desk::SharedDesk;
 use ctt_board::{Sheet, Timetable};
 use std::sync::{MutexGuard, Wait};
 
-impl<'i, J: Naming, S: Sheet<'i>> Drafting<'i, J, S> {
+impl<'i, S: Sheet<'i>, J: Naming> Drafting<'i, S, J> {
     /// Commits the draft: it is accepted where no row that it read has changed since it was opened.
     /// What was drafted is dropped when the lock is free again.
     pub fn commit<R: Wait>(
         self,
         rt: &R,
-        desk: &SharedDesk<J, S>,
-    ) -> Result<(Planner<J, S>, Receipt<J>), Refusal<'i, J, S>>
+        desk: &SharedDesk<S, J>,
+    ) -> Result<(Planner<S, J>, Receipt<J>), Refusal<'i, S, J>>
         ensures ok { IfOk result (λ done. IsAccepted J.problem J.opening self.entry done.0 done.1) }
         ensures err { IfErr result (IsRefused J.problem J.opening self.entry) }
     {

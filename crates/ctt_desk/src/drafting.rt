@@ -16,12 +16,12 @@ use std::marker::Model;
 /// A planner with an open draft. Contracts see the planner, the timetable on which the draft was
 /// opened, and its calls with their replies. Whoever drops it abandons the draft.
 #[derive(Drop)]
-pub struct Drafting<'i, J: Naming, S: Timetable> {
-    pub(crate) planner: Planner<J, S>,
+pub struct Drafting<'i, S: Timetable, J: Naming> {
+    pub(crate) planner: Planner<S, J>,
     pub(crate) draft: Draft<'i, S>,
 }
 
-impl<'i, J: Naming, S: Timetable> Model for Drafting<'i, J, S> {
+impl<'i, S: Timetable, J: Naming> Model for Drafting<'i, S, J> {
     ghost use Rattle.std.specs.Prelude.{◌≡◌};
     ghost use Rattle.ctt_desk.specs.Planners.{DraftingValue};
 
@@ -32,7 +32,7 @@ impl<'i, J: Naming, S: Timetable> Model for Drafting<'i, J, S> {
     ghost invariant = { λ d. d.draft.problem ≡ J.problem };
 }
 
-impl<'i, J: Naming, S: Sheet<'i>> Drafting<'i, J, S> {
+impl<'i, S: Sheet<'i>, J: Naming> Drafting<'i, S, J> {
     /// The instance whose courses are timetabled.
     pub fn instance(&self) -> &'i Instance
         ensures { result.now ≡ J.problem }
@@ -55,7 +55,7 @@ impl<'i, J: Naming, S: Sheet<'i>> Drafting<'i, J, S> {
     }
 
     /// Gives the draft up.
-    pub fn abandon(self) -> Planner<J, S>
+    pub fn abandon(self) -> Planner<S, J>
         ensures { result ≡ self.entry.planner }
     {
         let Drafting { planner, draft: _ } = self;

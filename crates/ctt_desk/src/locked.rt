@@ -32,7 +32,7 @@ pub(crate) enum Cause {
 }
 
 /// The desk's opening, its journal and its timetable. Contracts see the journal.
-pub(crate) struct Locked<J: Naming, S: Timetable> {
+pub(crate) struct Locked<S: Timetable, J: Naming> {
     opening: Vec<Placed>,
     journal: Vec<JournalEntry>,
     /// How many drafts each planner has in the journal.
@@ -41,7 +41,7 @@ pub(crate) struct Locked<J: Naming, S: Timetable> {
     desk: PhantomData<J>,
 }
 
-impl<J: Naming, S: Timetable> Model for Locked<J, S> {
+impl<S: Timetable, J: Naming> Model for Locked<S, J> {
     ghost use Rattle.std.specs.Prelude.{List};
     ghost use Rattle.ctt_core.specs.declared.journal.JournalEntry.{JournalEntry};
     ghost use Rattle.ctt_desk.specs.Histories.{IsLocked};
@@ -64,7 +64,7 @@ fn no_counts(alloc: Global, planners: u16) -> Result<Vec<u64>, AllocError>
     Ok(counts)
 }
 
-impl<J: Naming, S: Timetable> Locked<J, S> {
+impl<S: Timetable, J: Naming> Locked<S, J> {
     /// A desk that opens so, with an empty journal.
     pub(crate) fn new(opened: Opened<S>, planners: u16) -> Result<Self, NoMemory>
         requires { IsNamed J.problem J.opening J.planners opened planners }
@@ -87,7 +87,7 @@ impl<J: Naming, S: Timetable> Locked<J, S> {
     }
 
     /// The journal with its timetable.
-    pub(crate) fn close(self) -> Closed<J, S>
+    pub(crate) fn close(self) -> Closed<S, J>
         ensures { result ≡ self }
     {
         let Locked {
@@ -105,7 +105,7 @@ impl<J: Naming, S: Timetable> Locked<J, S> {
     }
 }
 
-impl<'i, J: Naming, S: Sheet<'i>> Locked<J, S> {
+impl<'i, S: Sheet<'i>, J: Naming> Locked<S, J> {
     /// A draft on the timetable as it stands.
     pub(crate) fn open(&self) -> Result<Draft<'i, S>, NoMemory>
         ensures problem { IfOk result (λ draft. draft.problem ≡ J.problem) }
@@ -182,7 +182,10 @@ impl<'i, J: Naming, S: Sheet<'i>> Locked<J, S> {
                 asked,
             })
             .unwrap();
-        self.counts[number.get() as usize] += 1;
-        Ok((self.journal.len() as u64, remains))
+        let place = self.journal.len() as u64;
+        let count = self.counts[number.get() as usize];
+        prove!(count < place);
+        self.counts[number.get() as usize] = count + 1;
+        Ok((place, remains))
     }
 }

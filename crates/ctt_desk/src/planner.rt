@@ -18,13 +18,13 @@ use std::sync::{MutexGuard, Wait};
 
 /// One who drafts. Contracts see the number, and how many drafts were committed.
 #[derive(Drop)]
-pub struct Planner<J: Naming, S: Timetable> {
+pub struct Planner<S: Timetable, J: Naming> {
     pub(crate) number: PlannerNo,
     pub(crate) committed: u64,
-    pub(crate) desk: PhantomData<(J, S)>,
+    pub(crate) desk: PhantomData<(S, J)>,
 }
 
-impl<J: Naming, S: Timetable> Model for Planner<J, S> {
+impl<S: Timetable, J: Naming> Model for Planner<S, J> {
     ghost use Rattle.std.specs.Prelude.{◌<◌};
     ghost use Rattle.ctt_desk.specs.Planners.{PlannerValue};
 
@@ -35,7 +35,7 @@ impl<J: Naming, S: Timetable> Model for Planner<J, S> {
     ghost invariant = { λ p. p.number < J.planners };
 }
 
-impl<J: Naming, S: Timetable> Planner<J, S> {
+impl<S: Timetable, J: Naming> Planner<S, J> {
     /// A planner of the desk who has committed nothing.
     pub(crate) fn new(number: u16) -> Self
         requires { number < J.planners }
@@ -64,13 +64,13 @@ impl<J: Naming, S: Timetable> Planner<J, S> {
     }
 }
 
-impl<'i, J: Naming, S: Sheet<'i>> Planner<J, S> {
+impl<'i, S: Sheet<'i>, J: Naming> Planner<S, J> {
     /// Opens a draft on the timetable as it stands. Where memory is wanted the planner is as before.
     pub fn open<R: Wait>(
         self,
         rt: &R,
-        desk: &SharedDesk<J, S>,
-    ) -> Result<Drafting<'i, J, S>, (Self, SharedFault)>
+        desk: &SharedDesk<S, J>,
+    ) -> Result<Drafting<'i, S, J>, (Self, SharedFault)>
         ensures ok { IfOk result (IsOpen J.problem J.opening self) }
         ensures err { IfErr result (λ refused. (refused.0 ≡ self) × (refused.1 ≡ OutOfMemory)) }
     {
@@ -90,7 +90,7 @@ impl<'i, J: Naming, S: Sheet<'i>> Planner<J, S> {
     pub fn view<R: Wait>(
         &mut self,
         rt: &R,
-        desk: &SharedDesk<J, S>,
+        desk: &SharedDesk<S, J>,
         look: &Look,
     ) -> Result<Reply, SharedFault>
         requires { LookFits J.problem look.now }

@@ -16,15 +16,15 @@ use std::alloc::{AllocError, Global};
 use std::sync::{Mutex, Wait};
 
 /// A timetable on which planners work in threads. It is ended by `close`.
-pub struct SharedDesk<J: Naming, S: Timetable> {
-    pub(crate) locked: Mutex<Locked<J, S>>,
+pub struct SharedDesk<S: Timetable, J: Naming> {
+    pub(crate) locked: Mutex<Locked<S, J>>,
 }
 
 /// The planners with the numbers below this one, in order.
-fn planners<J: Naming, S: Timetable>(
+fn planners<S: Timetable, J: Naming>(
     alloc: Global,
     count: u16,
-) -> Result<Vec<Planner<J, S>>, AllocError>
+) -> Result<Vec<Planner<S, J>>, AllocError>
     requires { count ≡ J.planners }
     ensures { IfOk result (λ planners. planners.items ≡ new_planners count) }
 {
@@ -35,14 +35,14 @@ fn planners<J: Naming, S: Timetable>(
     Ok(planners)
 }
 
-impl<J: Naming, S: Timetable> SharedDesk<J, S> {
+impl<S: Timetable, J: Naming> SharedDesk<S, J> {
     /// The desk that opens so, with so many planners, who are numbered from 0 and have committed
     /// nothing.
     pub fn new<R: Wait>(
         _rt: &R,
         opened: Opened<S>,
         count: u16,
-    ) -> Result<(Self, Vec<Planner<J, S>>), SharedFault>
+    ) -> Result<(Self, Vec<Planner<S, J>>), SharedFault>
         requires { IsNamed J.problem J.opening J.planners opened count }
         ensures planners { IfOk result (λ made. made.1.items ≡ new_planners count) }
         ensures fault { IfErr result (λ fault. fault ≡ OutOfMemory) }
@@ -56,7 +56,7 @@ impl<J: Naming, S: Timetable> SharedDesk<J, S> {
     }
 
     /// Ends the desk, and gives its journal with its timetable.
-    pub fn close<R: Wait>(self, _rt: &R) -> Closed<J, S> {
+    pub fn close<R: Wait>(self, _rt: &R) -> Closed<S, J> {
         let SharedDesk { locked } = self;
         locked.into_inner().close()
     }
