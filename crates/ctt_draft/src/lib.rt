@@ -5,10 +5,12 @@ mod asked;
 mod comparing;
 mod draft;
 pub mod laws;
+mod remains;
 mod work;
 
 pub use asked::{Asked, AskedCalls};
 pub use draft::Draft;
+pub use remains::Remains;
 pub use work::Work;
 
 #[cfg(test)]
