@@ -7,7 +7,6 @@ ghost use Rattle.ctt_text.specs.Reading.{Reads, reading, word_at};
 
 use crate::ids::{CourseNo, RoomNo};
 use crate::instance::Instance;
-use crate::numbers::number;
 use crate::reader::Reader;
 
 /// The faults that the places of each text have. A fault is told the number of its word, from 1.
@@ -104,9 +103,9 @@ pub fn next_number<F: PlaceFault + Drop>(reader: &mut Reader) -> Result<u32, F>
     ensures { Reads (λ number. (number, reader.new)) result (reading F.missing (number F.bad_number) reader.old) }
 {
     let at = reader.next();
-    let word = next_word::<F>(reader)?;
-    match number(word.as_bytes()) {
+    match reader.number() {
         Some(number) => Ok(number),
+        None if reader.is_at_end() => Err(F::missing(at)),
         None => Err(F::bad_number(at)),
     }
 }
