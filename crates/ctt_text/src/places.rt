@@ -4,6 +4,7 @@ ghost use Rattle.std.specs.Prelude.{◌≡◌, ◌<◌, nat_lt, IfOk};
 ghost use Rattle.ctt_text.specs.Places.{fixed, number, number_if, known_name};
 ghost use Rattle.ctt_text.specs.Problem.{course_count, room_count};
 ghost use Rattle.ctt_text.specs.Reading.{Reads, reading, word_at};
+ghost use Rattle.ctt_text.specs.Named.{IsWord};
 
 use crate::ids::{CourseNo, RoomNo};
 use crate::instance::Instance;
@@ -75,7 +76,8 @@ pub trait RoomFault: PlaceFault {
 
 /// The next word, whatever it is.
 pub fn next_word<'a, F: PlaceFault + Drop>(reader: &mut Reader<'a>) -> Result<&'a str, F>
-    ensures { Reads (λ word. (word.now, reader.new)) result (word_at F.missing reader.old) }
+    ensures word { IfOk result (λ word. IsWord word.now) }
+    ensures exact { Reads (λ word. (word.now, reader.new)) result (word_at F.missing reader.old) }
 {
     let at = reader.next();
     match reader.word() {

@@ -1,7 +1,7 @@
-use Rattle.std.proofs.Common.{sym, ap, ◌∙◌, ◌+◌, drop, length}
+use Rattle.std.proofs.Common.{sym, ap, ◌∙◌}
 use Rattle.std.proofs.lemmas.List.{take_rest}
 use Rattle.ctt_text.specs.Numbers.{first_number}
-use Rattle.ctt_text.proofs.WordLemmas.{words_of_blanks, first_word_at}
+use Rattle.ctt_text.proofs.WordLemmas.{words_of_blanks}
 use Rattle.ctt_text.proofs.NumberLemmas.{first_number_at, first_number_ends}
 use Rattle.ctt_text.proofs.numbers.first_number.Goals as goal
 

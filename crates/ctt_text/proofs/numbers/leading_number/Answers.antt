@@ -1,8 +1,7 @@
-use Rattle.std.proofs.Common.{◌≡◌, ◌<◌, ◌≤◌, ◌+◌, true, false, take, length, get_or, arith, rules, sym, ◌∙◌, ap, Some}
+use Rattle.std.proofs.Common.{◌≡◌, ◌<◌, ◌+◌, true, take, arith, sym, ◌∙◌, ap, Some}
 use Rattle.std.proofs.lemmas.Bool.{both_ways}
 use Rattle.std.proofs.lemmas.Grind.{common_steps}
 use Rattle.std.specs.List.{list_all}
-use Rattle.ctt_text.specs.Words.{is_blank}
 use Rattle.ctt_text.specs.Numbers.{is_digit, value}
 use Rattle.ctt_text.proofs.NumberLemmas.{is_front_number, too_large_front, no_front_number, digits_end}
 use Rattle.ctt_text.proofs.numbers.leading_number.Goals as goal
