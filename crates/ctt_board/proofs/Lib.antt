@@ -24,4 +24,4 @@ pub mod LawfulLemmas
 pub mod FitLemmas
 mod MeetingLemmas
 mod ClashLemmas
-mod SameLemmas
+pub mod SameLemmas

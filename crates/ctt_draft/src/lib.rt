@@ -5,6 +5,7 @@ mod asked;
 mod comparing;
 mod draft;
 pub mod laws;
+mod undo;
 mod work;
 
 pub use asked::{Asked, AskedCalls};
