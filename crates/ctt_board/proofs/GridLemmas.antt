@@ -43,7 +43,7 @@ pub row_same : (f g : ℕ → Option ℕ) (c n : ℕ) → ((s : ℕ) → s < n �
 row_same f g c zero e = refl
 row_same f g c (suc n) e = ap₂ (λ a b. a ++ lecture_at c n b) (row_same f g c n (λ s lt. e s (omega (arith, lt)))) (e n (omega arith))
 
-rows_same : (f g : ℕ → ℕ → Option ℕ) (m n : ℕ) → ((c s : ℕ) → c < n → s < m → f c s ≡ g c s) → rows_below f m n ≡ rows_below g m n
+pub rows_same : (f g : ℕ → ℕ → Option ℕ) (m n : ℕ) → ((c s : ℕ) → c < n → s < m → f c s ≡ g c s) → rows_below f m n ≡ rows_below g m n
 rows_same f g m zero e = refl
 rows_same f g m (suc n) e = ap₂ (λ a b. a ++ b) (rows_same f g m n (λ c s lt k. e c s (omega (arith, lt)) k)) (row_same (f n) (g n) n m (λ s lt. e n s (omega arith) lt))
 

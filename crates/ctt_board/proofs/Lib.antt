@@ -25,4 +25,4 @@ pub mod LawfulLemmas
 pub mod FitLemmas
 mod MeetingLemmas
 mod ClashLemmas
-mod SameLemmas
+pub mod SameLemmas

@@ -28,6 +28,7 @@ pub use clashes::first_clash;
 pub use grid_sheet::GridSheet;
 pub use list_sheet::ListSheet;
 pub use sheet::{Rooms, Sheet, Timetable};
+pub use table::Table;
 
 #[cfg(test)]
 mod tests;

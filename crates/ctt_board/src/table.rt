@@ -7,7 +7,7 @@ use std::marker::Model;
 
 /// A value for each row and column.
 #[derive(Debug, Drop)]
-pub(crate) struct Table<T> {
+pub struct Table<T> {
     rows: usize,
     width: usize,
     cells: Vec<T>,
@@ -28,7 +28,7 @@ impl<T> Model for Table<T> {
 
 impl<T: Copy> Table<T> {
     /// The same value everywhere.
-    pub(crate) fn new(
+    pub fn new(
         alloc: Global,
         rows: usize,
         width: usize,
@@ -44,7 +44,8 @@ impl<T: Copy> Table<T> {
         Ok(Table { rows, width, cells })
     }
 
-    pub(crate) fn get(&self, row: usize, column: usize) -> T
+    /// What stands in a row and a column.
+    pub fn get(&self, row: usize, column: usize) -> T
         requires row { row < self.now.rows }
         requires column { column < self.now.width }
         ensures { (d : T) → result ≡ at self.now row column d }
@@ -52,7 +53,8 @@ impl<T: Copy> Table<T> {
         self.cells[row * self.width + column]
     }
 
-    pub(crate) fn set(&mut self, row: usize, column: usize, value: T)
+    /// Lets a value stand in a row and a column.
+    pub fn set(&mut self, row: usize, column: usize, value: T)
         requires row { row < self.old.rows }
         requires column { column < self.old.width }
         ensures rows { self.new.rows ≡ self.old.rows }
@@ -62,7 +64,8 @@ impl<T: Copy> Table<T> {
         self.cells[row * self.width + column] = value;
     }
 
-    pub(crate) fn copy(&self) -> Result<Self, AllocError>
+    /// An equal table.
+    pub fn copy(&self) -> Result<Self, AllocError>
         ensures { IfOk result (λ t. t ≡ self.now) }
     {
         Ok(Table {

@@ -5,3 +5,5 @@ pub mod CheckLemmas
 pub mod FirstLemmas
 pub mod StaleLemmas
 pub mod SettleLemmas
+pub mod UndoLemmas
+pub mod CompareLemmas

@@ -3,6 +3,7 @@ use Rattle.std.specs.Prelude.{ℕ, ◌≡◌, ◌<◌, List, [], ◌∷◌, ◌+
 use Rattle.std.specs.List.{AllByRecursion as Each}
 use Rattle.ctt_text.specs.Problem.{Problem, course_count, slot_count}
 use Rattle.ctt_text.specs.declared.placed.Placed.{Placed}
+use Rattle.ctt_rules.specs.Hard.{Lawful}
 use Rattle.ctt_board.specs.declared.cell.Cell.{Cell}
 use Rattle.ctt_edits.specs.Calls.{CallFits}
 use Rattle.ctt_edits.specs.RowSets.{RowSet, has_course, has_slot}
@@ -10,6 +11,7 @@ use Rattle.ctt_edits.specs.declared.call.Call.{Call}
 use Rattle.ctt_edits.specs.declared.reply.Reply.{Reply}
 use Rattle.ctt_draft.specs.Drafts.{calls_of, replies_in, replies, whole, changes, all_read_course, all_read_slot, ChangesFit}
 use Rattle.ctt_draft.specs.Laws.{SameOn}
+use Rattle.ctt_draft.specs.Undo.{undo_of, UndoValue}
 use Rattle.ctt_draft.specs.declared.asked.Asked.{Asked}
 
 -- the timetable at the opening, and the calls since then with their replies
@@ -31,13 +33,14 @@ pub record IsTold (i : Problem) (base : List Placed) (asked : List Asked) : Type
   pub fit : Each (CallFits i) (calls_of asked)
   pub told : replies_in asked ≡ replies i base (calls_of asked)
 
--- what a draft keeps: the present timetable, its changes, and the rows read
-pub record IsDraft (i base_problem present_problem : Problem) (base present : List Placed) (asked : List Asked) (made : List (List Cell)) (rows : RowSet) : Type 0 where
-  pub base_of : base_problem ≡ i
+-- what a draft keeps: the present timetable, its changes and the cells that they name, and the rows read
+pub record IsDraft (i present_problem : Problem) (base present : List Placed) (asked : List Asked) (made : List (List Cell)) (undo : UndoValue) (rows : RowSet) : Type 0 where
+  pub lawful_base : Lawful i base
   pub present_of : present_problem ≡ i
   pub is_told : IsTold i base asked
   pub present_is : present ≡ whole i base (calls_of asked)
   pub made_is : made ≡ changes i base (calls_of asked)
+  pub undo_is : undo ≡ record { courses = course_count i; slots = slot_count i; cells = undo_of base (changes i base (calls_of asked)) }
   pub courses_are : (n : ℕ) → n < course_count i → has_course rows n ≡ all_read_course i (calls_of asked) n
   pub slots_are : (n : ℕ) → n < slot_count i → has_slot rows n ≡ all_read_slot (calls_of asked) n
 

@@ -2,11 +2,14 @@
 use Rattle.std.specs.Prelude.{◌≡◌, List, None}
 use Rattle.std.specs.List.{AllByRecursion as Each}
 use Rattle.ctt_text.specs.Problem.{Problem}
+use Rattle.ctt_text.specs.Timetable.{IsTimetable}
 use Rattle.ctt_text.specs.declared.placed.Placed.{Placed}
+use Rattle.ctt_board.specs.declared.cell.Cell.{Cell}
 use Rattle.ctt_rules.specs.Hard.{Lawful}
 use Rattle.ctt_edits.specs.Calls.{CallFits}
 use Rattle.ctt_edits.specs.declared.call.Call.{Call}
 use Rattle.ctt_draft.specs.Drafts.{replies, whole, changes, apply_all, ChangesFit, stale}
+use Rattle.ctt_draft.specs.Undo.{undo_of, put_back}
 
 -- what a draft is on its base, it is on the timetable t: its replies, its changes, and what they leave
 pub record SameOn (i : Problem) (base t : List Placed) (calls : List Call) : Type 0 where
@@ -21,3 +24,7 @@ DraftFrame = (i : Problem) (base now : List Placed) (calls : List Call) → Lawf
 -- and its changes fit there
 abbrev pub SettlingFits : Type 0
 SettlingFits = (i : Problem) (base now : List Placed) (calls : List Call) → Lawful i base → Lawful i now → Each (CallFits i) calls → stale i base now calls ≡ None → ChangesFit i (changes i base calls) now
+
+-- the cells of the undo record, put back on what changes leave, give the timetable before them
+abbrev pub UndoPutsBack : Type 0
+UndoPutsBack = (i : Problem) (base : List Placed) (changes : List (List Cell)) → IsTimetable i base → ChangesFit i changes base → put_back i (undo_of base changes) (apply_all changes base) ≡ base

@@ -1,3 +1,5 @@
 pub mod Drafts
 pub mod Laws
 pub mod DraftValues
+pub mod Undo
+pub mod Comparisons

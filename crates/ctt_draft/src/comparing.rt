@@ -1,75 +1,227 @@
-//! Whether rows that were read are the same on two sheets.
+//! Whether rows that were read are the same on the base of a draft and on a sheet.
 
-ghost use Rattle.std.specs.Prelude.{◌≡◌, ◌<◌};
-ghost use Rattle.std.specs.List.{find};
+ghost use Rattle.std.specs.Prelude.{ℕ, ◌≡◌, ◌<◌, ◌≤◌, ◌↔◌, ◌==◌, ◌&&◌, ◌||◌, IsTrue};
+ghost use Rattle.std.specs.List.{find, list_any};
+ghost use Rattle.std.specs.Option.{option_eq};
 ghost use Rattle.ctt_text.specs.Lists.{below};
+ghost use Rattle.ctt_text.specs.Marks.{is_marked};
 ghost use Rattle.ctt_text.specs.Problem.{course_count, slot_count};
+ghost use Rattle.ctt_text.specs.Timetable.{IsTimetable, course_row, slot_row};
+ghost use Rattle.ctt_board.specs.Changes.{room_at};
 ghost use Rattle.ctt_edits.specs.RowSets.{has_course, has_slot};
 ghost use Rattle.ctt_edits.specs.declared.row.Row.TheVariants.{Course as CourseRow, Slot as SlotRow};
 ghost use Rattle.ctt_draft.specs.Drafts.{differs};
+ghost use Rattle.ctt_draft.specs.Undo.{is_named, put_back, AreWithin, Records};
+ghost use Rattle.ctt_draft.specs.Comparisons.{base_of, has_other_in_course, has_other_in_slot, is_other, IsComparable};
 
-use ctt_board::Timetable;
+use crate::undo::Undo;
+use ctt_board::{Cell, Rooms};
 use ctt_edits::RowsRead;
-use ctt_text::{CourseNo, Instance, SlotNo};
+use ctt_text::{CourseNo, Instance, Marks, SlotNo};
+use std::marker::Model;
 
-/// Whether the lectures of a course differ.
-fn course_differs<S: Timetable>(base: &S, now: &S, course: CourseNo) -> bool
-    requires same { S.problem now.now ≡ S.problem base.now }
-    requires course { course < course_count (S.problem base.now) }
-    ensures { result ≡ differs (S.list base.now) (S.list now.now) (CourseRow course) }
-{
-    !base.same_course_row(now, course)
+/// The base of a draft beside a sheet. The base is there as the draft's present sheet, on which the
+/// recorded cells are put back. It takes no memory.
+#[derive(Drop)]
+pub(crate) struct Comparison<'a, R: Rooms> {
+    instance: &'a Instance,
+    present: &'a R,
+    undo: &'a Undo,
+    sheet: &'a R,
+    /// The courses of recorded cells that the sheet has otherwise.
+    courses: Marks,
+    /// Their slots.
+    slots: Marks,
 }
 
-/// Whether the lectures in a slot differ.
-fn slot_differs<S: Timetable>(base: &S, now: &S, slot: SlotNo) -> bool
-    requires same { S.problem now.now ≡ S.problem base.now }
-    requires slot { slot < slot_count (S.problem base.now) }
-    ensures { result ≡ differs (S.list base.now) (S.list now.now) (SlotRow slot) }
-{
-    !base.same_slot_row(now, slot)
+impl<'a, R: Rooms> Model for Comparison<'a, R> {
+    ghost use Rattle.ctt_draft.specs.Comparisons.{Compared, IsComparison};
+
+    ghost Value = { Compared };
+
+    ghost view = { λ c. record { problem = c.instance.now; present = R.list c.present.now; undo = c.undo.now.cells; sheet = R.list c.sheet.now } };
+
+    ghost invariant = { λ c. IsComparison c.instance.now (R.problem c.present.now) (R.problem c.sheet.now) (R.list c.present.now) (R.list c.sheet.now) c.undo.now c.courses c.slots };
 }
 
-/// The first course whose row was read and is not the same on two sheets of the instance.
-pub(crate) fn first_course<S: Timetable>(
-    instance: &Instance,
-    base: &S,
-    now: &S,
-    rows: &RowsRead,
-) -> Option<CourseNo>
-    requires base { S.problem base.now ≡ instance.now }
-    requires now { S.problem now.now ≡ instance.now }
-    ensures { result ≡ find (λ c. differs (S.list base.now) (S.list now.now) (CourseRow c)) (below (has_course rows.now) (course_count instance.now)) }
+/// Marks the course and the slot of a cell, if a timetable has another room there.
+fn mark_if_other<R: Rooms>(cell: &Cell, sheet: &R, courses: &mut Marks, slots: &mut Marks)
+    requires course { cell.now.course < course_count (R.problem sheet.now) }
+    requires slot { cell.now.slot < slot_count (R.problem sheet.now) }
+    requires few_courses { course_count (R.problem sheet.now) ≤ 2000 }
+    requires few_slots { slot_count (R.problem sheet.now) ≤ 2000 }
+    ensures courses { (n : ℕ) → is_marked courses.new n ≡ (is_marked courses.old n || (cell.now.course == n && is_other (R.list sheet.now) cell.now)) }
+    ensures slots { (n : ℕ) → is_marked slots.new n ≡ (is_marked slots.old n || (cell.now.slot == n && is_other (R.list sheet.now) cell.now)) }
 {
-    instance.limits_hold();
-    let mut from = 0;
-    while let Some(course) = rows.next_course(instance, from) {
-        if course_differs(base, now, course) {
-            return Some(course);
-        }
-        from = course.get() + 1;
+    if cell.room != sheet.room_at(cell.course, cell.slot) {
+        courses.mark(cell.course.get() as usize);
+        slots.mark(cell.slot.get() as usize);
     }
-    None
 }
 
-/// The first slot whose row was read and is not the same on two sheets of the instance.
-pub(crate) fn first_slot<S: Timetable>(
-    instance: &Instance,
-    base: &S,
-    now: &S,
-    rows: &RowsRead,
-) -> Option<SlotNo>
-    requires base { S.problem base.now ≡ instance.now }
-    requires now { S.problem now.now ≡ instance.now }
-    ensures { result ≡ find (λ s. differs (S.list base.now) (S.list now.now) (SlotRow s)) (below (has_slot rows.now) (slot_count instance.now)) }
+/// Marks the courses and the slots of those cells where a timetable has another room.
+fn mark_others<R: Rooms>(cells: &[Cell], sheet: &R, courses: &mut Marks, slots: &mut Marks)
+    requires within { AreWithin (course_count (R.problem sheet.now)) (slot_count (R.problem sheet.now)) cells.now }
+    requires few_courses { course_count (R.problem sheet.now) ≤ 2000 }
+    requires few_slots { slot_count (R.problem sheet.now) ≤ 2000 }
+    ensures courses { (n : ℕ) → is_marked courses.new n ≡ (is_marked courses.old n || has_other_in_course n (R.list sheet.now) cells.now) }
+    ensures slots { (n : ℕ) → is_marked slots.new n ≡ (is_marked slots.old n || has_other_in_slot n (R.list sheet.now) cells.now) }
 {
-    instance.limits_hold();
-    let mut from = 0;
-    while let Some(slot) = rows.next_slot(instance, from) {
-        if slot_differs(base, now, slot) {
-            return Some(slot);
-        }
-        from = slot.get() + 1;
+    for cell in cells {
+        mark_if_other(cell, sheet, courses, slots);
     }
-    None
+}
+
+impl<'a, R: Rooms> Comparison<'a, R> {
+    /// The base to which an undo record leads back from the present timetable, beside a sheet.
+    pub(crate) fn new(
+        instance: &'a Instance,
+        present: &'a R,
+        undo: &'a Undo,
+        sheet: &'a R,
+    ) -> Self
+        requires present { R.problem present.now ≡ instance.now }
+        requires sheet { R.problem sheet.now ≡ instance.now }
+        requires courses { undo.now.courses ≡ course_count instance.now }
+        requires slots { undo.now.slots ≡ slot_count instance.now }
+        requires base { IsTimetable instance.now (put_back instance.now undo.now.cells (R.list present.now)) }
+        requires records { Records (put_back instance.now undo.now.cells (R.list present.now)) (R.list present.now) undo.now.cells }
+        ensures { result ≡ record { problem = instance.now; present = R.list present.now; undo = undo.now.cells; sheet = R.list sheet.now } }
+    {
+        sheet.lawful();
+        instance.limits_hold();
+        let mut courses = Marks::new();
+        let mut slots = Marks::new();
+        mark_others(undo.cells(), sheet, &mut courses, &mut slots);
+        Comparison {
+            instance,
+            present,
+            undo,
+            sheet,
+            courses,
+            slots,
+        }
+    }
+
+    /// Computes nothing: its contract says that the rows of two timetables are compared.
+    fn are_timetables(&self)
+        ensures { IsComparable self.now }
+    {
+        let _courses = &self.courses;
+    }
+
+    /// The instance.
+    fn instance(&self) -> &'a Instance
+        ensures { result.now ≡ self.now.problem }
+    {
+        self.instance
+    }
+
+    /// Whether the sheet has some recorded cell of a course otherwise.
+    fn has_other_in_course(&self, course: CourseNo) -> bool
+        ensures { result ≡ has_other_in_course course self.now.sheet self.now.undo }
+    {
+        self.courses.is_marked(course.get() as usize)
+    }
+
+    /// Whether the sheet has some recorded cell of a slot otherwise.
+    fn has_other_in_slot(&self, slot: SlotNo) -> bool
+        ensures { result ≡ has_other_in_slot slot self.now.sheet self.now.undo }
+    {
+        self.slots.is_marked(slot.get() as usize)
+    }
+
+    /// Whether the sheet has the room that is there at present, or the cell is recorded.
+    fn is_same_or_recorded(&self, course: CourseNo, slot: SlotNo) -> bool
+        requires course { course < course_count self.now.problem }
+        requires slot { slot < slot_count self.now.problem }
+        ensures { result ≡ (option_eq (λ (a b : ℕ). a == b) (room_at course slot self.now.present) (room_at course slot self.now.sheet) || is_named course slot self.now.undo) }
+    {
+        self.present.room_at(course, slot) == self.sheet.room_at(course, slot)
+            || self.undo.has(course, slot)
+    }
+
+    /// Whether the lectures of a course are the same.
+    fn same_course_row(&self, course: CourseNo) -> bool
+        requires { course < course_count self.now.problem }
+        ensures { IsTrue result ↔ (course_row course (base_of self.now) ≡ course_row course self.now.sheet) }
+    {
+        self.are_timetables();
+        let instance = self.instance();
+        if self.has_other_in_course(course) {
+            return false;
+        }
+        for number in 0..instance.slots() {
+            if !self.is_same_or_recorded(course, SlotNo::new(number)) {
+                return false;
+            }
+        }
+        true
+    }
+
+    /// Whether the lectures in a slot are the same.
+    fn same_slot_row(&self, slot: SlotNo) -> bool
+        requires { slot < slot_count self.now.problem }
+        ensures { IsTrue result ↔ (slot_row slot (base_of self.now) ≡ slot_row slot self.now.sheet) }
+    {
+        self.are_timetables();
+        let instance = self.instance();
+        if self.has_other_in_slot(slot) {
+            return false;
+        }
+        for number in 0..instance.courses() {
+            if !self.is_same_or_recorded(CourseNo::new(number), slot) {
+                return false;
+            }
+        }
+        true
+    }
+
+    /// Whether the lectures of a course differ.
+    fn course_differs(&self, course: CourseNo) -> bool
+        requires { course < course_count self.now.problem }
+        ensures { result ≡ differs (base_of self.now) self.now.sheet (CourseRow course) }
+    {
+        !self.same_course_row(course)
+    }
+
+    /// Whether the lectures in a slot differ.
+    fn slot_differs(&self, slot: SlotNo) -> bool
+        requires { slot < slot_count self.now.problem }
+        ensures { result ≡ differs (base_of self.now) self.now.sheet (SlotRow slot) }
+    {
+        !self.same_slot_row(slot)
+    }
+
+    /// The first course whose row was read and is not the same.
+    pub(crate) fn first_course(&self, rows: &RowsRead) -> Option<CourseNo>
+        ensures { result ≡ find (λ c. differs (base_of self.now) self.now.sheet (CourseRow c)) (below (has_course rows.now) (course_count self.now.problem)) }
+    {
+        let instance = self.instance();
+        instance.limits_hold();
+        let mut from = 0;
+        while let Some(course) = rows.next_course(instance, from) {
+            if self.course_differs(course) {
+                return Some(course);
+            }
+            from = course.get() + 1;
+        }
+        None
+    }
+
+    /// The first slot whose row was read and is not the same.
+    pub(crate) fn first_slot(&self, rows: &RowsRead) -> Option<SlotNo>
+        ensures { result ≡ find (λ s. differs (base_of self.now) self.now.sheet (SlotRow s)) (below (has_slot rows.now) (slot_count self.now.problem)) }
+    {
+        let instance = self.instance();
+        instance.limits_hold();
+        let mut from = 0;
+        while let Some(slot) = rows.next_slot(instance, from) {
+            if self.slot_differs(slot) {
+                return Some(slot);
+            }
+            from = slot.get() + 1;
+        }
+        None
+    }
 }

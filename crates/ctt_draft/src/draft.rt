@@ -9,25 +9,28 @@ ghost use Rattle.ctt_edits.specs.Looks.{LookFits, shown};
 ghost use Rattle.ctt_rules.specs.Hard.{Lawful};
 ghost use Rattle.ctt_draft.specs.Drafts.{calls_of, changes, stale};
 ghost use Rattle.ctt_draft.specs.DraftValues.{present, asked_more, IsTold, Settles};
+ghost use Rattle.ctt_draft.specs.Undo.{undo_of};
 
 use crate::asked::{Asked, AskedCalls};
-use crate::comparing::{first_course, first_slot};
+use crate::comparing::Comparison;
 use crate::laws;
 use crate::remains::Remains;
+use crate::undo::Undo;
 use crate::work::Work;
-use ctt_board::{Change, Rooms, Sheet, Timetable};
+use ctt_board::{Cell, Change, Rooms, Sheet, Timetable};
 use ctt_edits::{Call, Edit, Look, Reply, Row, RowsRead, check};
 use ctt_text::{Instance, NoMemory};
 use std::alloc::Global;
 use std::marker::Model;
 
 /// The timetable at the opening, the calls since then with their replies, and the timetable as these
-/// leave it. Nobody else's work is seen in it.
+/// leave it. Nobody else's work is seen in it. Only the last of these timetables is kept; the undo
+/// record leads from it back to the first, the base.
 #[derive(Drop)]
 pub struct Draft<'i, S: Timetable> {
     instance: &'i Instance,
-    base: S,
     present: S,
+    undo: Undo,
     asked: Vec<Asked>,
     changes: Vec<Change>,
     rows: RowsRead,
@@ -35,12 +38,13 @@ pub struct Draft<'i, S: Timetable> {
 
 impl<'i, S: Timetable> Model for Draft<'i, S> {
     ghost use Rattle.ctt_draft.specs.DraftValues.{DraftValue, IsDraft};
+    ghost use Rattle.ctt_draft.specs.Undo.{put_back};
 
     ghost Value = { DraftValue };
 
-    ghost view = { λ d. record { problem = d.instance.now; base = S.list d.base; asked = d.asked.items } };
+    ghost view = { λ d. record { problem = d.instance.now; base = put_back d.instance.now d.undo.cells (S.list d.present); asked = d.asked.items } };
 
-    ghost invariant = { λ d. IsDraft d.instance.now (S.problem d.base) (S.problem d.present) (S.list d.base) (S.list d.present) d.asked.items d.changes.items d.rows };
+    ghost invariant = { λ d. IsDraft d.instance.now (S.problem d.present) (put_back d.instance.now d.undo.cells (S.list d.present)) (S.list d.present) d.asked.items d.changes.items d.undo d.rows };
 }
 
 impl<'i, S: Sheet<'i>> Draft<'i, S> {
@@ -50,12 +54,14 @@ impl<'i, S: Sheet<'i>> Draft<'i, S> {
         ensures base { IfOk result (λ draft. draft.base ≡ S.list sheet.now) }
         ensures asked { IfOk result (λ draft. draft.asked ≡ []) }
     {
-        let base = sheet.copy()?;
+        sheet.lawful();
+        let instance = sheet.instance();
         let present = sheet.copy()?;
+        let undo = Undo::new(alloc, instance)?;
         Ok(Draft {
-            instance: sheet.instance(),
-            base,
+            instance,
             present,
+            undo,
             asked: Vec::new(alloc),
             changes: Vec::new(alloc),
             rows: RowsRead::new(),
@@ -74,6 +80,14 @@ impl<'i, S: Sheet<'i>> Draft<'i, S> {
         ensures { result.now ≡ self.now.asked }
     {
         self.asked.as_slice()
+    }
+
+    /// The cells that the changes name, each once, in the order in which they are named first, with the
+    /// room that the base has there, or none.
+    pub fn undo(&self) -> &[Cell]
+        ensures { result.now ≡ undo_of self.now.base (changes self.now.problem self.now.base (calls_of self.now.asked)) }
+    {
+        self.undo.cells()
     }
 
     /// Keeps a call that changes nothing, with its reply.
@@ -100,12 +114,12 @@ impl<'i, S: Sheet<'i>> Draft<'i, S> {
         let call = Call::Edit(edit);
         self.present.lawful();
         self.changes.reserve(1)?;
-        self.asked.push(Asked {
-            call,
-            reply: Reply::Done,
-        })?;
-        self.rows.add(self.instance, &call);
+        self.asked.reserve(1)?;
+        self.undo.record(&self.present, change.cells())?;
         self.present.apply(&change);
+        self.rows.add(self.instance, &call);
+        let reply = Reply::Done;
+        self.asked.push(Asked { call, reply }).unwrap();
         self.changes.push(change).unwrap();
         Ok(())
     }
@@ -174,11 +188,11 @@ impl<'i, S: Sheet<'i>> Draft<'i, S> {
         laws::draft_frame();
         laws::settling_fits();
         sheet.lawful();
-        self.base.lawful();
-        if let Some(course) = first_course(self.instance, &self.base, sheet, &self.rows) {
+        let comparison = Comparison::new(self.instance, &self.present, &self.undo, sheet);
+        if let Some(course) = comparison.first_course(&self.rows) {
             return Ok(Some(Row::Course(course)));
         }
-        if let Some(slot) = first_slot(self.instance, &self.base, sheet, &self.rows) {
+        if let Some(slot) = comparison.first_slot(&self.rows) {
             return Ok(Some(Row::Slot(slot)));
         }
         Ok(None)
@@ -190,7 +204,6 @@ impl<'i, S: Sheet<'i>> Draft<'i, S> {
         ensures base { Lawful self.now.problem self.now.base }
         ensures present { Lawful self.now.problem (present self.now) }
     {
-        self.base.lawful();
         self.present.lawful();
     }
 
@@ -216,8 +229,8 @@ impl<'i, S: Sheet<'i>> Draft<'i, S> {
             changes: self.changes,
         };
         let remains = Remains {
-            _base: self.base,
             _present: self.present,
+            _undo: self.undo,
         };
         (work, remains)
     }

@@ -1,6 +1,6 @@
 //! Laws of drafts, for the layers above. None of these functions computes anything.
 
-ghost use Rattle.ctt_draft.specs.Laws.{DraftFrame, SettlingFits};
+ghost use Rattle.ctt_draft.specs.Laws.{DraftFrame, SettlingFits, UndoPutsBack};
 
 /// A draft that is not stale is told on the present timetable what it was told on its base, and
 /// changes the same there.
@@ -11,4 +11,9 @@ pub fn draft_frame()
 /// The changes of a draft that is not stale fit the present timetable, each when its turn comes.
 pub fn settling_fits()
     ensures { SettlingFits }
+{}
+
+/// The cells of the undo record, put back on the timetable that a draft's changes leave, give its base.
+pub fn undo_puts_back()
+    ensures { UndoPutsBack }
 {}

@@ -6,6 +6,7 @@ mod comparing;
 mod draft;
 pub mod laws;
 mod remains;
+mod undo;
 mod work;
 
 pub use asked::{Asked, AskedCalls};

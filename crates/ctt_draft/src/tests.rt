@@ -5,7 +5,7 @@ ghost use Rattle.ctt_edits.specs.Calls.{CallFits};
 ghost use Rattle.ctt_edits.specs.Edits.{EditFits};
 
 use crate::Draft;
-use ctt_board::{GridSheet, ListSheet, Rooms, Sheet, Timetable};
+use ctt_board::{Cell, GridSheet, ListSheet, Rooms, Sheet, Timetable};
 use ctt_edits::{Call, Edit, Look, Reply, Row, check};
 use ctt_text::{CourseNo, Instance, NoMemory, Placed, RoomNo, SlotNo, read_instance};
 use std::alloc::Global;
@@ -135,15 +135,27 @@ fn stale_row<'i, S: Sheet<'i>>(
     draft.stale(sheet)
 }
 
-/// Settles a draft that is not stale.
-fn settle<'i, S: Sheet<'i>>(rt: &impl Abort, small: &Instance, draft: Draft<'i, S>, sheet: &mut S)
+/// Ends a draft that is not stale, of so many calls and changes, and settles it.
+fn settle<'i, S: Sheet<'i>>(
+    rt: &impl Abort,
+    small: &Instance,
+    draft: Draft<'i, S>,
+    sheet: &mut S,
+    calls: usize,
+    changes: usize,
+)
     requires sheet { S.problem sheet.old ≡ small.now }
     requires draft { draft.problem ≡ small.now }
 {
     let _small = small;
     let found = draft.stale(sheet);
     match found {
-        Ok(None) => draft.finish().settle(sheet),
+        Ok(None) => {
+            let work = draft.finish();
+            work.settle(sheet);
+            assert_eq!(rt; work.asked.as_slice().len(), calls);
+            assert_eq!(rt; work.changes.len(), changes);
+        }
         _ => panic!(rt; "the draft is stale"),
     }
 }
@@ -169,7 +181,7 @@ fn slot_is_read<'i, S: Sheet<'i>>(
     assert_eq!(rt; stale_row(small, &draft, &sheet)?, Some(Row::Slot(at(2))));
     make(rt, small, &mut sheet, &Edit::Drop(top(), at(2)));
     assert_eq!(rt; stale_row(small, &draft, &sheet)?, None);
-    settle(rt, small, draft, &mut sheet);
+    settle(rt, small, draft, &mut sheet, 2, 1);
     let after = [Placed {
         course: geo(),
         slot: at(1),
@@ -206,4 +218,64 @@ fn price_reads_curriculum_mates(rt: HostRuntime) -> Result<(), Fail> {
     let small = read_instance(rt.alloc(), SMALL.as_bytes())?;
     mate_is_read::<ListSheet>(&rt, rt.alloc(), &small)?;
     mate_is_read::<GridSheet>(&rt, rt.alloc(), &small)
+}
+
+/// Makes an edit in a draft, which is told that it is done.
+fn do_edit<'i, S: Sheet<'i>>(
+    rt: &impl Abort,
+    small: &Instance,
+    draft: &mut Draft<'i, S>,
+    edit: Edit,
+) -> Result<(), NoMemory>
+    requires { draft.old.problem ≡ small.now }
+    ensures { draft.new.problem ≡ small.now }
+{
+    let told = ask(rt, small, draft, Call::Edit(edit))?;
+    assert!(rt; told.is_same(&Reply::Done));
+    Ok(())
+}
+
+/// Places and drops a lecture of geo, by turns.
+fn place_and_drop<'i, S: Sheet<'i>>(
+    rt: &impl Abort,
+    small: &Instance,
+    draft: &mut Draft<'i, S>,
+    turns: u32,
+) -> Result<(), NoMemory>
+    requires { draft.old.problem ≡ small.now }
+    ensures { draft.new.problem ≡ small.now }
+{
+    for _ in 0..turns {
+        do_edit(rt, small, draft, Edit::Place(geo(), at(1), room_a()))?;
+        do_edit(rt, small, draft, Edit::Drop(geo(), at(1)))?;
+    }
+    Ok(())
+}
+
+/// A thousand calls change one cell, and leave it as it was.
+fn one_cell_is_recorded<'i, S: Sheet<'i>>(
+    rt: &impl Abort,
+    alloc: Global,
+    small: &'i Instance,
+) -> Result<(), Fail> {
+    let mut sheet: S = empty(alloc, small)?;
+    let mut draft = open(alloc, small, &sheet)?;
+    place_and_drop(rt, small, &mut draft, 500)?;
+    assert_eq!(rt; stale_row(small, &draft, &sheet)?, None);
+    let undo = [Cell {
+        course: geo(),
+        slot: at(1),
+        room: None,
+    }];
+    assert_eq!(rt; draft.undo(), undo.as_slice());
+    settle(rt, small, draft, &mut sheet, 1000, 1000);
+    assert!(rt; sheet.list()?.is_empty());
+    Ok(())
+}
+
+#[test]
+fn a_thousand_calls_on_one_cell(rt: HostRuntime) -> Result<(), Fail> {
+    let small = read_instance(rt.alloc(), SMALL.as_bytes())?;
+    one_cell_is_recorded::<ListSheet>(&rt, rt.alloc(), &small)?;
+    one_cell_is_recorded::<GridSheet>(&rt, rt.alloc(), &small)
 }

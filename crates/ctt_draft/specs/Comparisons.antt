@@ -1,0 +1,47 @@
+-- The base of a draft beside a sheet.
+use Rattle.std.specs.Prelude.{ℕ, ◌≡◌, Bool, not, ◌&&◌, ◌==◌, List}
+use Rattle.std.specs.List.{list_any}
+use Rattle.std.specs.Option.{option_eq}
+use Rattle.ctt_text.specs.Marks.{is_marked}
+use Rattle.ctt_text.specs.Problem.{Problem, course_count, slot_count}
+use Rattle.ctt_text.specs.Timetable.{IsTimetable}
+use Rattle.ctt_text.specs.declared.placed.Placed.{Placed}
+use Rattle.ctt_board.specs.Changes.{room_at}
+use Rattle.ctt_board.specs.declared.cell.Cell.{Cell}
+use Rattle.ctt_draft.specs.Undo.{put_back, Records, UndoValue}
+
+-- a timetable does not have the room of a cell there
+abbrev pub is_other : List Placed → Cell → Bool
+is_other t x = not (option_eq (λ (a b : ℕ). a == b) x.room (room_at x.course x.slot t))
+
+-- some of these cells is of the course, or of the slot, and a timetable has it otherwise
+abbrev pub has_other_in_course : ℕ → List Placed → List Cell → Bool
+has_other_in_course c t cells = list_any (λ (x : Cell). x.course == c && is_other t x) cells
+
+abbrev pub has_other_in_slot : ℕ → List Placed → List Cell → Bool
+has_other_in_slot s t cells = list_any (λ (x : Cell). x.slot == s && is_other t x) cells
+
+-- the present timetable with the recorded cells, which lead back to the base, and a sheet
+pub record Compared : Type 0 where
+  pub problem : Problem
+  pub present : List Placed
+  pub undo : List Cell
+  pub sheet : List Placed
+
+abbrev pub base_of : Compared → List Placed
+base_of v = put_back v.problem v.undo v.present
+
+pub record IsComparable (v : Compared) : Type 0 where
+  pub base : IsTimetable v.problem (base_of v)
+  pub sheet : IsTimetable v.problem v.sheet
+  pub records : Records (base_of v) v.present v.undo
+
+-- what a comparison keeps: marks on the courses and the slots of cells that the sheet has otherwise
+pub record IsComparison (i p q : Problem) (present sheet : List Placed) (undo : UndoValue) (courses slots : List ℕ) : Type 0 where
+  pub present_of : p ≡ i
+  pub sheet_of : q ≡ i
+  pub courses_of : undo.courses ≡ course_count i
+  pub slots_of : undo.slots ≡ slot_count i
+  pub are : IsComparable (record { problem = i; present = present; undo = undo.cells; sheet = sheet })
+  pub courses_are : (n : ℕ) → is_marked courses n ≡ has_other_in_course n sheet undo.cells
+  pub slots_are : (n : ℕ) → is_marked slots n ≡ has_other_in_slot n sheet undo.cells
