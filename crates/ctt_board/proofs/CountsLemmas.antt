@@ -15,7 +15,7 @@ use Rattle.ctt_rules.proofs.SlotLemmas.{day_fits}
 use Rattle.ctt_rules.proofs.SumLemmas.{sum_below_zero}
 use Rattle.ctt_board.specs.Joining.{IsMore, on_day, in_room, in_slot}
 use Rattle.ctt_board.specs.Tables.{Grid, at, Adds, one_at, in_column}
-use Rattle.ctt_board.specs.Counts.{HaveSizes, Counted, AreCounts, AddsLecture, HaveLecture}
+use Rattle.ctt_board.specs.Counts.{HaveSizes, Counted, AreCounts, AddsLecture, HaveNone, HaveLecture}
 use Rattle.ctt_board.specs.declared.counts.Counts.{Counts}
 use Rattle.ctt_board.proofs.CountedLemmas.{counted_more, days_counted}
 use Rattle.ctt_board.proofs.JoiningLemmas.{more_days, same_used, at_least}
@@ -135,6 +135,10 @@ module _ (i : Problem) (l : Placed) (t u : List Placed) (more : IsMore l t u) (f
           rooms = counted_down a.rooms b.rooms _ _ _ _ _ adds.rooms (λ r k lr lk. rooms_step r k) h.rooms;
           parts = counted_down a.parts b.parts _ _ _ _ _ adds.parts (λ r k lr lk. parts_step r k lr) h.parts;
         }
+
+  -- a lecture that can come finds none of its curricula in its slot
+  pub have_none : (a : Counts) → AreCounts i t a → ((q : ℕ) → q < curriculum_count i → count_by (in_slot (members i q) l.slot) u ≤ 1) → HaveNone i l a
+  have_none a h few = λ q lt. omega (arith, h.parts.counts q l.slot lt fits.1, parts_step q l.slot lt, few q lt)
 
   -- a lecture that is there is counted
   pub have_lecture : (b : Counts) → IsProblem i → AreCounts i u b → HaveLecture i l b

@@ -49,14 +49,8 @@ module _ (i : Problem) (t : List Placed) (is : IsTimetable i t) (p : IsProblem i
   course_short : (c : ℕ) → length (course_row c t) ≤ 2000
   course_short c = omega (arith, ap length (course_row_is i t c is), row_short (λ s. room_at c s t) c (slot_count i), p.slots_few)
 
-  slot_short : (s : ℕ) → length (slot_row s t) ≤ 2000
-  slot_short s = omega (arith, ap length (slot_row_is i t s is), column_short (λ c. room_at c s t) s (course_count i), p.courses_few)
-
   of_course : (q : Placed → Bool) (c : ℕ) → ((l : Placed) → q l ≡ true → (l.course == c) ≡ true) → count_by q t ≤ 2000
   of_course q c h = omega (arith, count_le q (λ l. l.course == c) t h, length-filter (λ l. l.course == c) t, course_short c)
-
-  of_slot : (q : Placed → Bool) (s : ℕ) → ((l : Placed) → q l ≡ true → (l.slot == s) ≡ true) → count_by q t ≤ 2000
-  of_slot q s h = omega (arith, count_le q (λ l. l.slot == s) t h, length-filter (λ l. l.slot == s) t, slot_short s)
 
 -- so one more fits
 pub have_room : (i : Problem) (t : List Placed) (c : Counts) → AreCounts i t c → IsTimetable i t → IsProblem i → HaveRoom c
@@ -65,5 +59,4 @@ have_room i t c h is p = record {
   days = λ r k lr lk. omega (arith, h.days.counts r k (omega (arith, lr, h.days.size.0)) (omega (arith, lk, h.days.size.1)), of_course i t is p (on_day i r k) r (λ l e. (and_parts (l.course == r) (day_of i l.slot == k) e).0));
   used = λ r k lr lk. omega (arith, h.used.counts r k (omega (arith, lr, h.used.size.0)) (omega (arith, lk, h.used.size.1)), count_below_le (λ d. list_any (λ (l : Placed). day_of i l.slot == d) (course_row k t)) i.days, p.days_few);
   rooms = λ r k lr lk. omega (arith, h.rooms.counts r k (omega (arith, lr, h.rooms.size.0)) (omega (arith, lk, h.rooms.size.1)), of_course i t is p (in_room r k) r (λ l e. (and_parts (l.course == r) (l.room == k) e).0));
-  parts = λ r k lr lk. omega (arith, h.parts.counts r k (omega (arith, lr, h.parts.size.0)) (omega (arith, lk, h.parts.size.1)), of_slot i t is p (in_slot (members i r) k) k (λ l e. (and_parts (has l.course (members i r)) (l.slot == k) e).1));
 }

@@ -1,5 +1,5 @@
 -- The tables of a sheet, by its timetable.
-use Rattle.std.specs.Prelude.{◌≡◌, ◌<◌, ◌≤◌, ℕ, true, List, length, count_by, ◌==◌}
+use Rattle.std.specs.Prelude.{◌≡◌, ◌<◌, ◌≤◌, ◌+◌, ℕ, true, List, length, count_by, ◌==◌}
 use Rattle.std.specs.List.{AllByRecursion as Each}
 use Rattle.ctt_text.specs.Belonging.{curricula_of}
 use Rattle.ctt_text.specs.Problem.{Problem, course_of, course_count, room_count, teacher_count, curriculum_count, slot_count, members, day_of}
@@ -48,7 +48,10 @@ pub record HaveRoom (c : Counts) : Type 0 where
   pub days : AreFew c.days
   pub used : AreFew c.used
   pub rooms : AreFew c.rooms
-  pub parts : AreFew c.parts
+
+-- no curriculum of a lecture's course has one in its slot, so that it can have this one
+abbrev pub HaveNone : Problem → Placed → Counts → Type 0
+HaveNone i l c = (q : ℕ) → q < curriculum_count i → in_column (curricula_of i l.course) l.slot q l.slot + at c.parts q l.slot 0 ≤ 1
 
 -- a lecture is counted, so that it can be taken out
 pub record HaveLecture (i : Problem) (l : Placed) (c : Counts) : Type 0 where

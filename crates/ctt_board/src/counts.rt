@@ -3,8 +3,9 @@
 ghost use Rattle.std.specs.Prelude.{◌≡◌, ◌<◌, true, IfOk, []};
 ghost use Rattle.ctt_text.specs.Problem.{course_count, slot_count, room_count};
 ghost use Rattle.ctt_text.specs.Timetable.{Fits};
-ghost use Rattle.ctt_board.specs.Counts.{AreCounts, HaveSizes, HaveRoom, HaveLecture, AddsLecture};
+ghost use Rattle.ctt_board.specs.Counts.{AreCounts, HaveSizes, HaveRoom, HaveNone, HaveLecture, AddsLecture};
 
+use crate::bits::Bits;
 use crate::table::Table;
 use crate::tally::{add, add_column, take, take_column};
 use ctt_text::{CourseNo, Instance, Placed, SlotNo};
@@ -21,8 +22,8 @@ pub(crate) struct Counts {
     pub(crate) used: Table<u16>,
     /// The lectures of each course in each room.
     pub(crate) rooms: Table<u16>,
-    /// Those of each curriculum in each slot.
-    pub(crate) parts: Table<u16>,
+    /// Those of each curriculum in each slot, of which there is one at most.
+    pub(crate) parts: Bits,
 }
 
 impl Counts {
@@ -40,7 +41,7 @@ impl Counts {
             days: Table::new(alloc, courses, instance.days() as usize, 0)?,
             used: Table::new(alloc, 1, courses, 0)?,
             rooms: Table::new(alloc, courses, instance.rooms() as usize, 0)?,
-            parts: Table::new(alloc, curricula, slots, 0)?,
+            parts: Bits::new(alloc, curricula, slots)?,
         })
     }
 
@@ -62,6 +63,7 @@ impl Counts {
         requires fits { Fits instance.now lecture.now }
         requires sizes { HaveSizes instance.now self.old }
         requires room { HaveRoom self.old }
+        requires own { HaveNone instance.now lecture.now self.old }
         ensures { AddsLecture instance.now lecture.now self.old self.new }
     {
         instance.limits_hold();

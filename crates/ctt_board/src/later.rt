@@ -207,7 +207,7 @@ impl<'a> Later<'a> {
             .get(part.get() as usize, slot.get() as usize);
         let more = in_slot(instance, &self.added, part, slot);
         let less = in_slot(instance, &self.removed, part, slot);
-        (u64::from(count) + more).saturating_sub(less)
+        (count + more).saturating_sub(less)
     }
 
     /// Lets a lecture come. Answers what it adds to the penalty.

@@ -2,6 +2,7 @@
 #![tactic(auto)]
 
 mod after;
+mod bits;
 mod cell;
 mod change;
 mod clashes;

@@ -4,3 +4,4 @@ pub mod StepLemmas
 pub mod RanLemmas
 pub mod OpeningLemmas
 pub mod AuditLemmas
+pub mod JournalLemmas

@@ -22,7 +22,7 @@ use Rattle.ctt_draft.proofs.FrameLemmas.{draft_frame}
 use Rattle.ctt_core.specs.Runs.{after, Legal, Turn, OpenDraft, ask, turned, is_commit, commits, draft, entry, entered, accepted_of, now, base, open_answer, ask_answer, verdict, commit_answer, abandon_answer, plain, IsRight, Right, EventFits, RunFits}
 use Rattle.ctt_core.specs.Laws.{Headline, OntoJoins, AfterJoins, LegalJoins}
 
-Each-join : {X : Type 0} (P : X → Type 0) (xs ys : List X) → Each P xs → Each P ys → Each P (xs ++ ys)
+pub Each-join : {X : Type 0} (P : X → Type 0) (xs ys : List X) → Each P xs → Each P ys → Each P (xs ++ ys)
 Each-join P [] ys h k = k
 Each-join P (x ∷ xs) ys h k = (h.0, Each-join P xs ys h.1 k)
 

@@ -1,12 +1,18 @@
 -- What layers above rest on.
-use Rattle.std.specs.Prelude.{ℕ, ◌≡◌, ◌↔◌, List, ◌∷◌, ◌++◌, length}
-use Rattle.ctt_text.specs.Problem.{Problem}
+use Rattle.std.specs.Prelude.{ℕ, ◌≡◌, ◌≤◌, ◌↔◌, List, ◌∷◌, ◌++◌, length, Ok}
+use Rattle.std.specs.List.{AllByRecursion as Each}
+use Rattle.ctt_text.specs.Problem.{Problem, IsProblem}
 use Rattle.ctt_text.specs.declared.placed.Placed.{Placed}
 use Rattle.ctt_rules.specs.Hard.{Lawful}
+use Rattle.ctt_edits.specs.Openings.{opening}
 use Rattle.ctt_core.specs.Runs.{after, Legal, Turn, answered, accepted_of, now, Right, EventFits, RunFits, onto}
 use Rattle.ctt_core.specs.Desks.{DeskValue, StandsAt, goes_on, Answers}
+use Rattle.ctt_core.specs.Entries.{EntryFits}
+use Rattle.ctt_core.specs.Audits.{IsVerdict}
 use Rattle.ctt_core.specs.declared.event.Event.{Event}
 use Rattle.ctt_core.specs.declared.answer.Answer.{Answer}
+use Rattle.ctt_core.specs.declared.auditing.Verdict.{Verdict}
+use Rattle.ctt_core.specs.declared.auditing.Verdict.TheVariants.{Agrees}
 use Rattle.ctt_core.specs.declared.journal.JournalEntry.{JournalEntry}
 
 -- whatever the planners' steps: the accepted history is legal, and the timetable after it is lawful
@@ -32,6 +38,15 @@ pub record Serial (v : DeskValue) (past : List Turn) : Type 0 where
 
 abbrev pub DeskIsSerial : Type 0
 DeskIsSerial = (v : DeskValue) (past : List Turn) → Lawful v.problem v.opening → Stands v past → Serial v past
+
+-- the journal of a desk can be audited on lectures that make its opening, and what is found of it is that it agrees
+pub record IsVouched (v : DeskValue) : Type 0 where
+  pub fits : Each (EntryFits v.problem) v.journal
+  pub agrees : (lectures : List Placed) (verdict : Verdict) → opening v.problem lectures ≡ Ok v.opening → IsVerdict v.problem lectures v.journal verdict ↔ (verdict ≡ Agrees)
+
+-- of a desk that stands at a right run of at most 1,000 planners: its own journal fits and agrees
+abbrev pub JournalAgrees : Type 0
+JournalAgrees = (v : DeskValue) (past : List Turn) → IsProblem v.problem → Lawful v.problem v.opening → length v.drafts ≤ 1000 → Stands v past → IsVouched v
 
 -- a run of events after events is the run of all
 abbrev pub OntoJoins : Type 0

@@ -1,6 +1,6 @@
 //! Laws of runs and desks, for the layers above. None of these functions computes anything.
 
-ghost use Rattle.ctt_core.specs.Laws.{Headline, DeskIsPlain, DeskIsSerial, OntoJoins, AfterJoins, LegalJoins};
+ghost use Rattle.ctt_core.specs.Laws.{Headline, DeskIsPlain, DeskIsSerial, JournalAgrees, OntoJoins, AfterJoins, LegalJoins};
 
 /// Whatever the planners' steps: the accepted history is legal, and the timetable after it lawful.
 pub fn headline()
@@ -21,6 +21,12 @@ pub fn onto_joins()
 /// timetable is the opening after the journal, and lawful.
 pub fn desk_is_serial()
     ensures { DeskIsSerial }
+{}
+
+/// Of a desk for at most 1,000 planners that stands at a right run: the entries of its journal fit, and
+/// an audit of it on lectures that make the desk's opening finds that it agrees, and nothing else.
+pub fn journal_agrees()
+    ensures { JournalAgrees }
 {}
 
 /// What stands after two histories, one after the other, and when they are legal together.

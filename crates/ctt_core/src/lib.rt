@@ -17,6 +17,7 @@ pub use desk::Desk;
 pub use desk_fault::DeskFault;
 pub use event::Event;
 pub use journal::JournalEntry;
+pub use opening::placed;
 pub use planner::PlannerNo;
 
 #[cfg(test)]

@@ -32,8 +32,9 @@ fn place<'i, S: Sheet<'i>>(sheet: &mut S, lecture: &Placed) -> Option<EditFault>
     }
 }
 
-/// A sheet on which the lectures were placed in their order.
-pub(crate) fn placed<'i, S: Sheet<'i>>(
+/// A sheet on which the lectures were placed in their order, whatever it is. It is refused at the first
+/// lecture that cannot be placed.
+pub fn placed<'i, S: Sheet<'i>>(
     alloc: Global,
     instance: &'i Instance,
     lectures: &[Placed],

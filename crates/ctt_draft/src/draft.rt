@@ -6,6 +6,7 @@ ghost use Rattle.ctt_edits.specs.declared.call.Call.TheVariants.{Look as Looks, 
 ghost use Rattle.ctt_edits.specs.declared.reply.Reply.TheVariants.{Done};
 ghost use Rattle.ctt_edits.specs.Edits.{EditFits, edit_fault, change as change_of};
 ghost use Rattle.ctt_edits.specs.Looks.{LookFits, shown};
+ghost use Rattle.ctt_rules.specs.Hard.{Lawful};
 ghost use Rattle.ctt_draft.specs.Drafts.{calls_of, changes, stale};
 ghost use Rattle.ctt_draft.specs.DraftValues.{present, asked_more, IsTold, Settles};
 ghost use Rattle.ctt_draft.specs.Undo.{undo_of};
@@ -13,6 +14,7 @@ ghost use Rattle.ctt_draft.specs.Undo.{undo_of};
 use crate::asked::{Asked, AskedCalls};
 use crate::comparing::Comparison;
 use crate::laws;
+use crate::remains::Remains;
 use crate::undo::Undo;
 use crate::work::Work;
 use ctt_board::{Cell, Change, Rooms, Sheet, Timetable};
@@ -196,15 +198,40 @@ impl<'i, S: Sheet<'i>> Draft<'i, S> {
         Ok(None)
     }
 
+    /// Computes nothing: its contract says that the timetable at the opening, and the one that the calls
+    /// leave, are lawful.
+    pub fn lawful(&self)
+        ensures base { Lawful self.now.problem self.now.base }
+        ensures present { Lawful self.now.problem (present self.now) }
+    {
+        self.present.lawful();
+    }
+
     /// Ends the draft: its calls with their replies, and the changes that they made.
     pub fn finish(self) -> Work
         ensures asked { result.asked ≡ self.entry.asked }
         ensures changes { result.changes.items ≡ changes self.entry.problem self.entry.base (calls_of self.entry.asked) }
         ensures told { IsTold self.entry.problem self.entry.base self.entry.asked }
     {
-        Work {
+        let (work, _remains) = self.end();
+        work
+    }
+
+    /// Ends the draft, as `finish` does, and gives what remains of it beside its work, for who would
+    /// not drop it here.
+    pub fn end(self) -> (Work, Remains<S>)
+        ensures asked { result.0.asked ≡ self.entry.asked }
+        ensures changes { result.0.changes.items ≡ changes self.entry.problem self.entry.base (calls_of self.entry.asked) }
+        ensures told { IsTold self.entry.problem self.entry.base self.entry.asked }
+    {
+        let work = Work {
             asked: AskedCalls::new(self.asked),
             changes: self.changes,
-        }
+        };
+        let remains = Remains {
+            _present: self.present,
+            _undo: self.undo,
+        };
+        (work, remains)
     }
 }

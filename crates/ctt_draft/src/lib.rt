@@ -5,11 +5,13 @@ mod asked;
 mod comparing;
 mod draft;
 pub mod laws;
+mod remains;
 mod undo;
 mod work;
 
 pub use asked::{Asked, AskedCalls};
 pub use draft::Draft;
+pub use remains::Remains;
 pub use work::Work;
 
 #[cfg(test)]

@@ -103,13 +103,24 @@ fn one_cell(rt: &impl Abort, course: u16, slot: u16, room: Option<RoomNo>) -> Ch
     Change::of(&[cell]).expect(rt, "one cell")
 }
 
+/// Whether a sheet accepts the change of one cell.
+fn accepts<'i, S: Sheet<'i>>(
+    rt: &impl Abort,
+    sheet: &S,
+    course: u16,
+    slot: u16,
+    room: Option<RoomNo>,
+) -> bool {
+    sheet.accepts(&one_cell(rt, course, slot, room))
+}
+
 /// Which changes the small solution accepts.
 fn accepted_changes<'i, S: Sheet<'i>>(rt: &impl Abort, sheet: &S) {
-    assert!(rt; !sheet.accepts(&one_cell(rt, 2, 1, Some(room_a()))));
-    assert!(rt; sheet.accepts(&one_cell(rt, 1, 5, None)));
-    assert!(rt; !sheet.accepts(&one_cell(rt, 1, 4, None)));
-    assert!(rt; !sheet.accepts(&one_cell(rt, 3, 1, None)));
-    assert!(rt; !sheet.accepts(&one_cell(rt, 3, 1, Some(room_a()))));
+    assert!(rt; !accepts(rt, sheet, 2, 1, Some(room_a())));
+    assert!(rt; accepts(rt, sheet, 1, 5, None));
+    assert!(rt; !accepts(rt, sheet, 1, 4, None));
+    assert!(rt; !accepts(rt, sheet, 3, 1, None));
+    assert!(rt; !accepts(rt, sheet, 3, 1, Some(room_a())));
 }
 
 /// The last period of a day is not beside the first of the next; and changes on the small solution.

@@ -403,25 +403,43 @@ fn looks_at_costs(rt: HostRuntime) -> Result<(), Fail> {
     shows_cost_of_none_on::<ListSheet>(&rt, rt.alloc(), &small)
 }
 
+/// A reply does not fit, and says another thing than that an edit was made.
+fn is_unfit(rt: &impl Abort, small: &Instance, reply: &Reply) {
+    assert!(rt; !reply.fits(small));
+    assert!(rt; !reply.is_same(&Reply::Done));
+}
+
 /// Replies that do not fit: a course of no instance, and amounts beyond 63 bits.
 fn refuses_replies(rt: &impl Abort, small: &Instance) {
-    let unfit = [
-        Reply::Refused(EditFault::Clash(CourseNo::new(3))),
-        Reply::Price(i64::MIN),
-        Reply::Costs(cost(9_223_372_036_854_775_808, 0, 0, 0)),
-    ];
-    for reply in &unfit {
-        assert!(rt; !reply.fits(small));
-        assert!(rt; !reply.is_same(&Reply::Done));
-    }
-    assert!(rt; Reply::Price(-9_223_372_036_854_775_807).fits(small));
-    assert!(rt; !Reply::Price(1).is_same(&Reply::Price(-1)));
+    is_unfit(
+        rt,
+        small,
+        &Reply::Refused(EditFault::Clash(CourseNo::new(3))),
+    );
+    is_unfit(rt, small, &Reply::Price(i64::MIN));
+    is_unfit(
+        rt,
+        small,
+        &Reply::Costs(cost(9_223_372_036_854_775_808, 0, 0, 0)),
+    );
+}
+
+/// A price.
+fn priced(amount: i64) -> Reply {
+    Reply::Price(amount)
+}
+
+/// A price at the limit fits, and one differs from another.
+fn takes_prices(rt: &impl Abort, small: &Instance) {
+    assert!(rt; priced(-9_223_372_036_854_775_807).fits(small));
+    assert!(rt; !priced(1).is_same(&priced(-1)));
 }
 
 #[test]
 fn replies_that_fit(rt: HostRuntime) -> Result<(), Fail> {
     let small = read_instance(rt.alloc(), SMALL.as_bytes())?;
     refuses_replies(&rt, &small);
+    takes_prices(&rt, &small);
     Ok(())
 }
 
@@ -445,34 +463,45 @@ fn reads_rows(
     Ok(())
 }
 
-/// The rows of a price and of a swap.
-fn reads_rows_of_each(rt: &impl Abort, alloc: Global, small: &Instance) -> Result<(), Fail> {
+/// The rows of a price.
+fn reads_rows_of_price(rt: &impl Abort, alloc: Global, small: &Instance) -> Result<(), Fail> {
     let price = Call::Look(Look::Price(Edit::Place(alg(), at(0), room_b())));
+    let rows = [Row::Course(alg()), Row::Course(geo()), Row::Slot(at(0))];
+    reads_rows(rt, alloc, small, &price, &rows)
+}
+
+/// The rows of a swap.
+fn reads_rows_of_swap(rt: &impl Abort, alloc: Global, small: &Instance) -> Result<(), Fail> {
     let swap = Call::Edit(Edit::Swap(geo(), at(1), top(), at(2)));
-    let of_price = [Row::Course(alg()), Row::Course(geo()), Row::Slot(at(0))];
-    let of_swap = [
+    let rows = [
         Row::Course(geo()),
         Row::Course(top()),
         Row::Slot(at(1)),
         Row::Slot(at(2)),
     ];
-    reads_rows(rt, alloc, small, &price, &of_price)?;
-    reads_rows(rt, alloc, small, &swap, &of_swap)
+    reads_rows(rt, alloc, small, &swap, &rows)
 }
 
-/// The rows of two calls together.
-fn adds_rows(rt: &impl Abort, alloc: Global, small: &Instance) -> Result<(), Fail> {
-    let look = Call::Look(Look::Slot(at(5)));
-    let drop = Call::Edit(Edit::Drop(top(), at(2)));
-    let mut read = RowsRead::new();
-    expect_call_fits(rt, small, &look);
-    read.add(small, &look);
-    expect_call_fits(rt, small, &drop);
-    read.add(small, &drop);
+/// Adds the rows that a call reads.
+fn add(rt: &impl Abort, small: &Instance, read: &mut RowsRead, call: Call) {
+    expect_call_fits(rt, small, &call);
+    read.add(small, &call);
+}
+
+/// Which rows are read, and which come next.
+fn has_rows(rt: &impl Abort, small: &Instance, read: &RowsRead) {
     assert!(rt; read.contains(Row::Course(top())));
     assert!(rt; !read.contains(Row::Slot(at(2))));
     assert_eq!(rt; read.next_course(small, 0), Some(top()));
     assert_eq!(rt; read.next_slot(small, 6), None);
+}
+
+/// The rows of two calls together.
+fn adds_rows(rt: &impl Abort, alloc: Global, small: &Instance) -> Result<(), Fail> {
+    let mut read = RowsRead::new();
+    add(rt, small, &mut read, Call::Look(Look::Slot(at(5))));
+    add(rt, small, &mut read, Call::Edit(Edit::Drop(top(), at(2))));
+    has_rows(rt, small, &read);
     let rows = [Row::Course(top()), Row::Slot(at(5))];
     assert_eq!(rt; read.list(alloc, small)?.as_slice(), rows.as_slice());
     assert!(rt; rows[0].is_before(rows[1]));
@@ -482,6 +511,7 @@ fn adds_rows(rt: &impl Abort, alloc: Global, small: &Instance) -> Result<(), Fai
 #[test]
 fn rows_read(rt: HostRuntime) -> Result<(), Fail> {
     let small = read_instance(rt.alloc(), SMALL.as_bytes())?;
-    reads_rows_of_each(&rt, rt.alloc(), &small)?;
+    reads_rows_of_price(&rt, rt.alloc(), &small)?;
+    reads_rows_of_swap(&rt, rt.alloc(), &small)?;
     adds_rows(&rt, rt.alloc(), &small)
 }

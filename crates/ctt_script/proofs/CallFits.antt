@@ -5,6 +5,7 @@ use Rattle.std.specs.Str.{bytes_eq}
 use Rattle.std.proofs.lemmas.Bool.{ltb-true, and_parts}
 use Rattle.std.proofs.lemmas.Nat.{mul-add-lt}
 use Rattle.ctt_text.specs.Numbers.{is_number, value}
+use Rattle.ctt_text.specs.Places.{known_name}
 use Rattle.ctt_text.specs.Problem.{Problem, IsProblem, is_among, place_of, number_in, slot_of, course_count, room_count, slot_count, teacher_count, curriculum_count}
 use Rattle.ctt_text.proofs.ListLaws.{place_below}
 use Rattle.ctt_edits.specs.Edits.{EditFits}
@@ -19,9 +20,10 @@ use Rattle.ctt_script.specs.declared.kinds.LookKind.TheVariants as look
 use Rattle.ctt_script.specs.declared.kinds.CallKind.{CallKind}
 use Rattle.ctt_script.specs.declared.kinds.CallKind.TheVariants as kind
 use Rattle.ctt_script.specs.Amounts.{number_below}
-use Rattle.ctt_script.specs.Known.{word}
+use Rattle.ctt_script.specs.JournalWords.{word}
 use Rattle.ctt_script.specs.CallPlaces.{course, room, teacher, curriculum, slot, edit_after, edit_form, look_after, look_form, call_after, call_form}
-use Rattle.ctt_script.proofs.KnownForms.{Yields, yields_done, yields_bind, yields_word}
+use Rattle.ctt_text.proofs.FormLaws.{Yields, yields_done, yields_bind}
+use Rattle.ctt_text.proofs.PlaceLaws.{yields_word}
 
 -- a value that a test lets through
 pub when : {A : Type 0} (b : Bool) (x a : A) → cond b (Some x) None ≡ Some a → (b ≡ true) × (x ≡ a)
@@ -43,7 +45,6 @@ is_below limit w n h =
 -- a place of a word
 module _ {A : Type 0} (P : A → Type 0) (meaning : List ℕ → Option A) (otherwise : A) where
   pub yields_meaning : ((w : List ℕ) (a : A) → meaning w ≡ Some a → P a) → Yields P (word meaning otherwise)
-  unfolding word
   yields_meaning h = yields_word BadWord meaning otherwise P h
 
 -- a word of which nothing needs to be known
@@ -52,19 +53,19 @@ yields_any meaning otherwise = yields_meaning (λ _. Unit {0}) meaning otherwise
 
 module _ (i : Problem) (is : IsProblem i) where
   pub yields_course : Yields (λ c. c < course_count i) (course i)
-  unfolding course
+  unfolding course known_name
   yields_course = yields_meaning _ _ 0 (λ w c h. subst (λ n. c < n) is.courses_named (name_below i.course_names w c h))
 
   pub yields_room : Yields (λ r. r < room_count i) (room i)
-  unfolding room
+  unfolding room known_name
   yields_room = yields_meaning _ _ 0 (λ w r h. subst (λ n. r < n) is.rooms_named (name_below i.room_names w r h))
 
   pub yields_teacher : Yields (λ h. h < teacher_count i) (teacher i)
-  unfolding teacher
+  unfolding teacher known_name
   yields_teacher = yields_meaning _ _ 0 (λ w n h. name_below i.teacher_names w n h)
 
   pub yields_curriculum : Yields (λ q. q < curriculum_count i) (curriculum i)
-  unfolding curriculum
+  unfolding curriculum known_name
   yields_curriculum = yields_meaning _ _ 0 (λ w q h. subst (λ n. q < n) is.curricula_named (name_below i.curriculum_names w q h))
 
   pub yields_below : (limit : ℕ) → Yields (λ n. n < limit) (word (number_below limit) 0)

@@ -6,6 +6,7 @@ use Rattle.std.specs.List.{list_all, AllByRecursion as Each}
 use Rattle.std.proofs.lemmas.Bool.{leb-true, and_parts}
 use Rattle.ctt_text.specs.Numbers.{is_digit, is_number, value, number_of}
 use Rattle.ctt_text.proofs.TimetableLemmas.{Each-map}
+use Rattle.ctt_text.specs.Places.{fixed, number}
 use Rattle.ctt_text.specs.Problem.{Problem, IsProblem}
 use Rattle.ctt_text.specs.Timetable.{Fits}
 use Rattle.ctt_rules.specs.declared.cost.Cost.{Cost}
@@ -20,10 +21,10 @@ use Rattle.ctt_core.specs.declared.journal.JournalEntry.{JournalEntry}
 use Rattle.ctt_edits.specs.Fitting.{FaultFits, IsAmount, AreFew, IsShortReply, IsReply}
 use Rattle.ctt_draft.specs.Drafts.{AskedFits}
 use Rattle.ctt_script.specs.Entries.{IsAsked, IsEntry}
-use Rattle.ctt_script.specs.Known.{label}
+use Rattle.ctt_script.specs.JournalWords.{label}
 use Rattle.ctt_script.specs.ReplyPlaces.{fault_after, fault_form, lecture, lectures, count, amount, costs, reply_after, reply_form}
 use Rattle.ctt_script.specs.JournalPlaces.{asked_form, entry_form, journal_form}
-use Rattle.ctt_script.proofs.KnownForms.{Yields, yields_done, yields_bind, yields_list}
+use Rattle.ctt_text.proofs.FormLaws.{Yields, yields_done, yields_bind, yields_list}
 use Rattle.ctt_script.proofs.CallFits.{when, yields_meaning, yields_any, yields_course, yields_room, yields_slot, yields_below, yields_call}
 
 amount_small : (w : List ℕ) (n : ℕ) → amount_of w ≡ Some n → IsAmount n
@@ -60,13 +61,13 @@ unfolding amount
 yields_amount = yields_meaning IsAmount amount_of 0 (λ w n h. amount_small w n h)
 
 yields_count : Yields (λ n. n ≤ 999999999) count
-unfolding count
+unfolding count number
 yields_count = yields_meaning (λ n. n ≤ 999999999) number_of 0 (λ w n h.
     let known = when (is_number w) (value w) n h in
     subst (λ k. k ≤ 999999999) known.1 (leb-true (value w) 999999999 (and_parts (nat_lt 0 (length w) && list_all is_digit w) (nat_le (value w) 999999999) known.0).1))
 
 yields_label : (text : List ℕ) → Yields (λ _. Unit {0}) (label text)
-unfolding label
+unfolding fixed
 yields_label text = yields_any _ _
 
 abbrev CostFits : Cost → Type 0

@@ -5,8 +5,8 @@ use Rattle.std.specs.Str.{IsUtf8}
 use Rattle.ctt_text.specs.Words.{words}
 use Rattle.ctt_text.proofs.TimetableLemmas.{Each-map}
 use Rattle.ctt_text.specs.Problem.{Problem, IsProblem}
-use Rattle.ctt_text.specs.Forms.{Form, ◌>>=◌}
-use Rattle.ctt_text.specs.Places.{one}
+use Rattle.ctt_text.specs.Forms.{Form, ◌>>=◌, one_more, list_of}
+use Rattle.ctt_text.specs.Places.{one, known, broken_unless, known_name, fixed, number}
 use Rattle.ctt_text.specs.Reading.{Gives, Fails}
 use Rattle.ctt_text.proofs.FormLaws.{answer_fills, fills_answer, answer_breaks, breaks_answer, ok_same, ok_is_err, err_same}
 use Rattle.ctt_text.proofs.FaultLaws.{FormFaults, bind_faults, times_faults, answer_faults}
@@ -26,7 +26,7 @@ use Rattle.ctt_core.specs.declared.journal.JournalEntry.{JournalEntry}
 use Rattle.ctt_edits.specs.Fitting.{AreFew}
 use Rattle.ctt_core.specs.Entries.{EntryFits}
 use Rattle.ctt_script.specs.Entries.{IsShort, IsEntry}
-use Rattle.ctt_script.specs.Known.{known, word, label, one_more, list_of, broken_unless, missing, wants_memory}
+use Rattle.ctt_script.specs.JournalWords.{word, missing, wants_memory}
 use Rattle.ctt_script.specs.CallPlaces.{course, room, teacher, curriculum, slot, edit_after, edit_form, look_after, call_after, call_form}
 use Rattle.ctt_script.specs.ReplyPlaces.{fault_after, fault_form, lecture, lectures, count, amount, costs, reply_after, reply_form}
 use Rattle.ctt_script.specs.JournalPlaces.{asked_form, entry_form, journal_form}
@@ -44,7 +44,7 @@ abbrev Names : {A : Type 0} → Form JournalFault A → Type 0
 Names form = FormFaults IsOfWord form
 
 names_word : {A : Type 0} (meaning : List ℕ → Option A) (otherwise : A) → Names (word meaning otherwise)
-unfolding word known one
+unfolding known one
 names_word {A} meaning otherwise = (λ w broken e k. by (meaning w) broken e k, λ w. tt)
   where
     by : (o : Option A) (broken : ℕ → JournalFault) → broken_unless BadWord o ≡ Some broken → (k : ℕ) → IsOfWord (broken k)
@@ -59,11 +59,11 @@ unfolding list_of one_more
 names_list form n h = times_faults IsOfWord (one_more form) (λ so_far. names_bind form _ h (λ a. tt)) n []
 
 names_course : (i : Problem) → Names (course i)
-unfolding course
+unfolding course known_name
 names_course i = names_word _ _
 
 names_room : (i : Problem) → Names (room i)
-unfolding room
+unfolding room known_name
 names_room i = names_word _ _
 
 names_slot : (i : Problem) → Names (slot i)
@@ -79,7 +79,7 @@ names_edit_after i edit.Reroom = names_bind _ _ (names_course i) (λ c. names_bi
 names_edit_after i edit.Drop = names_bind _ _ (names_course i) (λ c. names_bind _ _ (names_slot i) (λ s. tt))
 
 names_look_after : (i : Problem) (k : LookKind) → Names (look_after i k)
-unfolding look_after edit_form teacher curriculum
+unfolding look_after edit_form teacher curriculum known_name
 names_look_after i look.Course = names_bind _ _ (names_course i) (λ c. tt)
 names_look_after i look.Slot = names_bind _ _ (names_slot i) (λ s. tt)
 names_look_after i look.Teacher = names_bind _ _ (names_word _ _) (λ h. tt)
@@ -108,7 +108,7 @@ names_fault_after i fault.Clash = names_bind _ _ (names_course i) (λ c. tt)
 names_fault_after i fault.RoomTaken = names_bind _ _ (names_course i) (λ c. tt)
 
 names_reply_after : (i : Problem) (k : ReplyKind) → Names (reply_after i k)
-unfolding reply_after fault_form lectures count lecture costs amount
+unfolding reply_after fault_form lectures count number lecture costs amount
 names_reply_after i reply.Done = tt
 names_reply_after i reply.Refused = names_bind _ _ (names_bind _ _ (names_word _ _) (λ k. names_fault_after i k)) (λ f. tt)
 names_reply_after i reply.Lectures = names_bind _ _ (names_bind _ _ (names_word _ _) (λ n. names_list (lecture i) n (names_bind _ _ (names_course i) (λ c. names_bind _ _ (names_room i) (λ r. names_bind _ _ (names_slot i) (λ s. tt)))))) (λ ls. tt)
@@ -120,11 +120,11 @@ unfolding asked_form reply_form
 names_asked i = names_bind _ _ (names_call i) (λ c. names_bind _ _ (names_bind _ _ (names_word _ _) (λ k. names_reply_after i k)) (λ r. tt))
 
 names_entry : (i : Problem) → Names (entry_form i)
-unfolding entry_form label count
+unfolding entry_form fixed count number
 names_entry i = names_bind _ _ (names_word _ _) (λ start. names_bind _ _ (names_word _ _) (λ p. names_bind _ _ (names_word _ _) (λ n. names_bind _ _ (names_list (asked_form i) n (names_asked i)) (λ asked. tt))))
 
 names_journal : (i : Problem) → Names (journal_form i)
-unfolding journal_form label count
+unfolding journal_form fixed count number
 names_journal i = names_bind _ _ (names_word _ _) (λ start. names_bind _ _ (names_word _ _) (λ n. names_bind _ _ (names_list (entry_form i) n (names_entry i)) (λ es. names_bind _ _ (names_word _ _) (λ end. tt))))
 
 -- reading words gives no fault but those of places

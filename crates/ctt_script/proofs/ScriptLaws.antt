@@ -1,5 +1,5 @@
 -- Lines of a script, as their events.
-use Rattle.std.proofs.Common.{◌≡◌, ℕ, ◌+◌, ◌-◌, ◌<◌, map, filter, ◌==◌, List, [], ◌∷◌, ◌++◌, length, take, drop, position, arith, Bool, true, false, cond, Some, None, Result, Ok, Err, refl, sym, ap, subst, ◌∙◌}
+use Rattle.std.proofs.Common.{◌≡◌, ℕ, ◌+◌, ◌-◌, ◌<◌, map, filter, ◌==◌, List, [], ◌∷◌, ◌++◌, length, take, drop, position, arith, Bool, true, false, cond, Option, Some, None, Result, Ok, Err, refl, sym, ap, subst, ◌∙◌}
 use Rattle.std.specs.Str.{IsUtf8, is_utf8}
 use Rattle.std.proofs.lemmas.List.{append-nil}
 use Rattle.std.proofs.lemmas.Str.{IsUtf8-from_is_utf8, is_utf8-from_IsUtf8}
@@ -10,13 +10,12 @@ use Rattle.ctt_text.proofs.WordLemmas.{position_is, position_none}
 use Rattle.ctt_text.specs.Words.{words}
 use Rattle.ctt_text.specs.Left.{Left}
 use Rattle.ctt_text.specs.Problem.{Problem}
-use Rattle.ctt_text.specs.Forms.{Fills, read}
-use Rattle.ctt_text.proofs.FormLaws.{read_fills, fills_read}
+use Rattle.ctt_text.specs.Forms.{Form, Fills, read}
+use Rattle.ctt_text.proofs.FormLaws.{read_fills}
 use Rattle.ctt_script.specs.declared.journal_fault.JournalFault.{JournalFault}
 use Rattle.ctt_core.specs.declared.event.Event.{Event}
-use Rattle.ctt_script.specs.Known.{missing}
-use Rattle.ctt_script.specs.ScriptPlaces.{event_form}
-use Rattle.ctt_script.specs.ScriptText.{whole, if_none_left, event_of, item, has_words, lines_of, items_of, ItemsFill}
+use Rattle.ctt_script.specs.JournalWords.{missing, reads}
+use Rattle.ctt_script.specs.ScriptText.{whole, if_none_left, asked_by, item_by, item, has_words, lines_of, items_of}
 
 -- what was read whole has nothing left
 abbrev IsWhole : {A : Type 0} → A → Result (A × Left) JournalFault → Type 0
@@ -32,28 +31,34 @@ whole_is : {A : Type 0} (a : A) (r : Result (A × Left) JournalFault) → whole 
 whole_is a (Ok x) h = whole_by a x.0 x.1 x.1.words refl h
 whole_is a (Err e) h = cc
 
-pub items_fill : ItemsFill
-items_fill i ws e = (
-  λ h.
-      let w = whole_is e (read missing (event_form i) ws 1) h in
-      let r = read_fills missing (event_form i) ws 1 (e, w.0) w.1 in
-      subst (λ q. Fills (event_form i) q e) (sym (r.all ∙ ap (λ q. r.front ++ q) w.2 ∙ append-nil r.front)) r.fills,
-  λ fills. ap (λ q. event_of i q) (sym (append-nil ws)) ∙ ap (λ q. whole q) (fills_read missing (event_form i) ws [] 1 e fills),
-)
+-- an event is asked for exactly by the words that fill the form with it
+pub asked_fills : (form : Form JournalFault Event) (ws : List (List ℕ)) (e : Event) → asked_by form ws ≡ Some e → Fills form ws e
+asked_fills form ws e h =
+    let w = whole_is e (read missing form ws 1) h in
+    let r = read_fills missing form ws 1 (e, w.0) w.1 in
+    subst (λ q. Fills form q e) (sym (r.all ∙ ap (λ q. r.front ++ q) w.2 ∙ append-nil r.front)) r.fills
+
+-- the event of a line fills the form
+pub item_fills : (form : Form JournalFault Event) (line : List ℕ) (e : Event) → item_by form line ≡ Some e → Fills form (words line) e
+item_fills form line e h = by (is_utf8 line) h
+  where
+    by : (b : Bool) → cond b (asked_by form (words line)) None ≡ Some e → Fills form (words line) e
+    by true k = asked_fills form (words line) e k
+    by false k = cc
 
 -- a line that is no text is bad
-pub bad_text : (i : Problem) (line : List ℕ) → ¬ IsUtf8 line → None ≡ item i line
-bad_text i line not = by (is_utf8 line) refl
+pub bad_text : (form : Form JournalFault Event) (line : List ℕ) → ¬ IsUtf8 line → None ≡ item_by form line
+bad_text form line not = by (is_utf8 line) refl
   where
-    by : (b : Bool) → is_utf8 line ≡ b → None ≡ cond b (event_of i (words line)) None
+    by : (b : Bool) → is_utf8 line ≡ b → None ≡ cond b (asked_by form (words line)) None
     by true e = absurd (not (IsUtf8-from_is_utf8 line e))
     by false e = refl
 
--- a line whose words were read whole is the event that was read
-pub good_line : (i : Problem) (line : List ℕ) (e : Event) (left : Left) → IsUtf8 line → read missing (event_form i) (words line) 1 ≡ Ok (e, left) → left.words ≡ [] → Some e ≡ item i line
-good_line i line e left utf8 h none =
-    let read_whole : event_of i (words line) ≡ Some e = ap (λ r. whole r) h ∙ ap (λ ws. if_none_left e ws) none in
-    rw (is_utf8-from_IsUtf8 line utf8) (sym read_whole)
+-- a line that is a text is what its words ask for
+pub text_asks : (form : Form JournalFault Event) (line text : List ℕ) (left : Left) (o : Option Event) → IsUtf8 line → text ≡ line → left ≡ record { words = words text; next = 1 } → o ≡ whole (reads form left) → o ≡ item_by form line
+text_asks form line text left o utf8 same all is =
+    let start : left ≡ record { words = words line; next = 1 } = all ∙ ap (λ bs. record { words = words bs; next = 1 }) same in
+    rw (is_utf8-from_IsUtf8 line utf8) (is ∙ ap (λ l. whole (reads form l)) start)
 
 -- the lines of a text, by the place of the first byte that ends a line
 abbrev ends_line : ℕ → Bool

@@ -1,8 +1,7 @@
 -- What was written of a script's answers, and the journal of the desk that gave them.
-use Rattle.std.proofs.Common.{◌≡◌, ℕ, ◌+◌, ◌≤◌, List, [], ◌∷◌, ◌++◌, map, filter, ◌==◌, length, Option, Some, None, Result, Ok, refl, sym, subst, ap, ◌∙◌, arith}
+use Rattle.std.proofs.Common.{◌≡◌, ℕ, ◌+◌, ◌≤◌, List, [], ◌∷◌, filter, ◌==◌, length, Option, Some, None, sym, subst, ap, ◌∙◌, arith}
 use Rattle.std.specs.Prelude.{IfSome}
-use Rattle.std.specs.Io.KnownBytes.{Appends}
-use Rattle.std.specs.List.{slice_split, AllByRecursion as Each}
+use Rattle.std.specs.List.{AllByRecursion as Each}
 use Rattle.std.proofs.lemmas.List.{length-map}
 use Rattle.std.proofs.lemmas.List.Splits.{length-slice_split}
 use Rattle.std.proofs.lemmas.List.Sums.{length-filter as filtered}
@@ -12,7 +11,7 @@ use Rattle.ctt_text.proofs.TimetableLemmas.{Each-map}
 use Rattle.ctt_rules.specs.Hard.{Lawful}
 use Rattle.ctt_core.specs.declared.event.Event.{Event}
 use Rattle.ctt_core.specs.Runs.{Turn, RunFits, Right, accepted_of}
-use Rattle.ctt_core.specs.Desks.{DeskValue, SameDesk}
+use Rattle.ctt_core.specs.Desks.{DeskValue}
 use Rattle.ctt_core.specs.Laws.{Stands}
 use Rattle.ctt_script.specs.AnswerText.{answered, answers_after, run_after, answer_text}
 use Rattle.ctt_script.specs.Answering.{AppendsFront, Wrote, WroteFront}

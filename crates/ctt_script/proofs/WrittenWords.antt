@@ -15,9 +15,9 @@ use Rattle.ctt_text.specs.Named.{IsNamed}
 use Rattle.ctt_text.specs.InstanceText.{AreDistinct}
 use Rattle.ctt_text.specs.Timetable.{Fits}
 use Rattle.ctt_text.specs.declared.placed.Placed.{Placed}
-use Rattle.ctt_text.specs.Forms.{Form, done, ◌>>=◌, Fills}
-use Rattle.ctt_text.specs.Places.{one}
-use Rattle.ctt_text.proofs.FormLaws.{fills_both}
+use Rattle.ctt_text.specs.Forms.{Form, done, ◌>>=◌, Fills, list_of}
+use Rattle.ctt_text.specs.Places.{one, known, exactly, known_name, fixed, number}
+use Rattle.ctt_text.proofs.FormLaws.{fills_both, list_fills}
 use Rattle.ctt_text.proofs.WrittenLaws.{decimal_digits, decimal_value, decimal_number, place_at, among_at, split}
 use Rattle.ctt_rules.specs.declared.cost.Cost.{Cost as Cost_}
 use Rattle.ctt_edits.specs.declared.edit.Edit.{Edit}
@@ -48,12 +48,12 @@ use Rattle.ctt_edits.specs.Fitting.{FaultFits, IsAmount, ReplyFits, AreFew, IsSh
 use Rattle.ctt_draft.specs.Drafts.{AskedFits}
 use Rattle.ctt_core.specs.Entries.{EntryFits}
 use Rattle.ctt_script.specs.Entries.{IsShort, IsAsked, IsEntry}
-use Rattle.ctt_script.specs.Known.{known, word, label, list_of, exactly}
+use Rattle.ctt_script.specs.JournalWords.{word, label}
 use Rattle.ctt_script.specs.CallPlaces.{course, room, teacher, curriculum, slot, edit_after, edit_form, look_after, look_form, call_after, call_form}
 use Rattle.ctt_script.specs.ReplyPlaces.{fault_after, fault_form, lecture, lectures, count, amount, costs, reply_after, reply_form}
 use Rattle.ctt_script.specs.JournalPlaces.{asked_form, entry_form, journal_form}
 use Rattle.ctt_script.specs.WrittenWords.{course_word, room_word, day_word, period_word, edit_words, look_words, call_words, fault_words, lecture_words, reply_words, asked_words, entry_words, journal_words}
-use Rattle.ctt_script.proofs.KnownForms.{then_fills, list_fills}
+use Rattle.ctt_text.proofs.PlaceLaws.{then_fills}
 
 -- numbers in decimal
 pub count_says : (n : ℕ) → n ≤ 999999999 → number_of (decimal n) ≡ Some n
@@ -91,15 +91,14 @@ name_says names n distinct lt = rw (among_at names n lt) (ap (λ k. Some k) (pla
 
 -- a word of a journal, and what comes after it
 word_then : {A B : Type 0} (meaning : List ℕ → Option A) (otherwise : A) (g : A → Form JournalFault B) (w : List ℕ) (ws : List (List ℕ)) (a : A) (b : B) → meaning w ≡ Some a → Fills (g a) ws b → Fills (word meaning otherwise >>= g) (w ∷ ws) b
-unfolding word
 word_then meaning otherwise g w ws a b h k = then_fills BadWord meaning otherwise g w ws a b h k
 
 label_then : {B : Type 0} (text : List ℕ) (g : Unit {0} → Form JournalFault B) (ws : List (List ℕ)) (b : B) → exactly text text ≡ Some tt → Fills (g tt) ws b → Fills (label text >>= g) (text ∷ ws) b
-unfolding label
+unfolding fixed
 label_then text g ws b h k = word_then (exactly text) tt g text ws tt b h k
 
 count_then : {B : Type 0} (g : ℕ → Form JournalFault B) (n : ℕ) (ws : List (List ℕ)) (b : B) → n ≤ 999999999 → Fills (g n) ws b → Fills (count >>= g) (decimal n ∷ ws) b
-unfolding count
+unfolding count number
 count_then g n ws b h k = word_then number_of 0 g (decimal n) ws n b (count_says n h) k
 
 amount_then : {B : Type 0} (g : ℕ → Form JournalFault B) (n : ℕ) (ws : List (List ℕ)) (b : B) → IsAmount n → Fills (g n) ws b → Fills (amount >>= g) (decimal n ∷ ws) b
@@ -112,25 +111,25 @@ fills_map form h ws a fills = subst (λ us. Fills (form >>= λ x. done (h x)) us
 
 -- what stands behind a word that means this
 after_word : {A B : Type 0} (meaning : List ℕ → Option A) (otherwise : A) (g : A → Form JournalFault B) (w : List ℕ) (ws : List (List ℕ)) (a : A) (b : B) → meaning w ≡ Some a → Fills (word meaning otherwise >>= g) (w ∷ ws) b → Fills (g a) ws b
-unfolding word known one ◌>>=◌
+unfolding known one ◌>>=◌
 after_word meaning otherwise g w ws a b h fills = (rw h at fills).1
 
 module _ (i : Problem) (is : IsProblem i) (named : IsNamed i) where
   module _ {B : Type 0} where
     course_then : (g : ℕ → Form JournalFault B) (c : ℕ) (ws : List (List ℕ)) (b : B) → c < course_count i → Fills (g c) ws b → Fills (course i >>= g) (course_word i c ∷ ws) b
-    unfolding course
+    unfolding course known_name
     course_then g c ws b lt k = word_then (number_in i.course_names) 0 g (course_word i c) ws c b (name_says i.course_names c named.courses.0 (subst (λ n. c < n) (sym is.courses_named) lt)) k
 
     room_then : (g : ℕ → Form JournalFault B) (r : ℕ) (ws : List (List ℕ)) (b : B) → r < room_count i → Fills (g r) ws b → Fills (room i >>= g) (room_word i r ∷ ws) b
-    unfolding room
+    unfolding room known_name
     room_then g r ws b lt k = word_then (number_in i.room_names) 0 g (room_word i r) ws r b (name_says i.room_names r named.rooms.0 (subst (λ n. r < n) (sym is.rooms_named) lt)) k
 
     teacher_then : (g : ℕ → Form JournalFault B) (h : ℕ) (ws : List (List ℕ)) (b : B) → h < teacher_count i → Fills (g h) ws b → Fills (teacher i >>= g) (slice_index_or i.teacher_names h [] ∷ ws) b
-    unfolding teacher
+    unfolding teacher known_name
     teacher_then g h ws b lt k = word_then (number_in i.teacher_names) 0 g (slice_index_or i.teacher_names h []) ws h b (name_says i.teacher_names h named.teachers.0 lt) k
 
     curriculum_then : (g : ℕ → Form JournalFault B) (q : ℕ) (ws : List (List ℕ)) (b : B) → q < curriculum_count i → Fills (g q) ws b → Fills (curriculum i >>= g) (slice_index_or i.curriculum_names q [] ∷ ws) b
-    unfolding curriculum
+    unfolding curriculum known_name
     curriculum_then g q ws b lt k = word_then (number_in i.curriculum_names) 0 g (slice_index_or i.curriculum_names q []) ws q b (name_says i.curriculum_names q named.curricula.0 (subst (λ n. q < n) (sym is.curricula_named) lt)) k
 
   slot_fills : (s : ℕ) → s < slot_count i → Fills (slot i) (day_word i s ∷ period_word i s ∷ []) s

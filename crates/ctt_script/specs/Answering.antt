@@ -1,5 +1,5 @@
 -- A desk that answers items one after another, and what is written of its answers.
-use Rattle.std.specs.Prelude.{ℕ, ◌≡◌, ◌<◌, List, [], ◌++◌, take, Option, length}
+use Rattle.std.specs.Prelude.{ℕ, ◌≡◌, List, [], ◌++◌, take, Option}
 use Rattle.std.specs.Io.KnownBytes.{Appends}
 use Rattle.ctt_core.specs.Runs.{Turn}
 use Rattle.ctt_core.specs.Desks.{DeskValue, SameDesk}

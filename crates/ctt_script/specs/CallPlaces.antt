@@ -1,7 +1,6 @@
 -- The places of the words of a call.
 use Rattle.std.specs.Prelude.{ℕ}
 use Rattle.ctt_text.specs.Problem.{Problem, slot_of}
-use Rattle.ctt_text.specs.Problem.{number_in}
 use Rattle.ctt_text.specs.Forms.{Form, done, ◌>>=◌}
 use Rattle.ctt_edits.specs.declared.edit.Edit.{Edit}
 use Rattle.ctt_edits.specs.declared.edit.Edit.TheVariants.{Place, Move, Swap, Reroom, Drop}
@@ -18,20 +17,20 @@ use Rattle.ctt_script.specs.declared.kinds.CallKind.{CallKind}
 use Rattle.ctt_script.specs.declared.kinds.CallKind.TheVariants as kind
 use Rattle.ctt_script.specs.Amounts.{number_below}
 use Rattle.ctt_script.specs.Kinds.{edit_kind, look_kind, call_kind}
-use Rattle.ctt_script.specs.Known.{word}
+use Rattle.ctt_script.specs.JournalWords.{word, name}
 
 -- names of the instance
 unfoldable pub course : Problem → Form JournalFault ℕ
-course i = word (number_in i.course_names) 0
+course i = name i.course_names
 
 unfoldable pub room : Problem → Form JournalFault ℕ
-room i = word (number_in i.room_names) 0
+room i = name i.room_names
 
 unfoldable pub teacher : Problem → Form JournalFault ℕ
-teacher i = word (number_in i.teacher_names) 0
+teacher i = name i.teacher_names
 
 unfoldable pub curriculum : Problem → Form JournalFault ℕ
-curriculum i = word (number_in i.curriculum_names) 0
+curriculum i = name i.curriculum_names
 
 -- a day, and a period in the day
 unfoldable pub slot : Problem → Form JournalFault ℕ

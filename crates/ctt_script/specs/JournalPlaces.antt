@@ -1,12 +1,12 @@
 -- The places of the words of a journal.
 use Rattle.std.specs.Prelude.{List, codes}
 use Rattle.ctt_text.specs.Problem.{Problem}
-use Rattle.ctt_text.specs.Forms.{Form, done, ◌>>=◌}
+use Rattle.ctt_text.specs.Forms.{Form, done, ◌>>=◌, list_of}
 use Rattle.ctt_script.specs.declared.journal_fault.JournalFault.{JournalFault}
 use Rattle.ctt_script.specs.Amounts.{number_below}
 use Rattle.ctt_draft.specs.declared.asked.Asked.{Asked}
 use Rattle.ctt_core.specs.declared.journal.JournalEntry.{JournalEntry}
-use Rattle.ctt_script.specs.Known.{word, label, list_of}
+use Rattle.ctt_script.specs.JournalWords.{word, label}
 use Rattle.ctt_script.specs.CallPlaces.{call_form}
 use Rattle.ctt_script.specs.ReplyPlaces.{reply_form, count}
 

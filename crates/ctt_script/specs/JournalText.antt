@@ -8,7 +8,7 @@ use Rattle.ctt_text.specs.Forms.{Fills, BreaksAt, read, without_rest}
 use Rattle.ctt_script.specs.declared.journal_fault.JournalFault.{JournalFault}
 use Rattle.ctt_script.specs.declared.journal_fault.JournalFault.TheVariants.{NotText, NoMemory}
 use Rattle.ctt_core.specs.declared.journal.JournalEntry.{JournalEntry}
-use Rattle.ctt_script.specs.Known.{missing}
+use Rattle.ctt_script.specs.JournalWords.{missing}
 use Rattle.ctt_script.specs.JournalPlaces.{journal_form}
 
 -- The words begin with words that fill the form, and these give the entries; what follows them is ignored.

@@ -6,8 +6,8 @@ pub mod Device
 pub mod Entries
 pub mod JournalPlaces
 pub mod JournalText
+pub mod JournalWords
 pub mod Kinds
-pub mod Known
 pub mod Output
 pub mod ReplyPlaces
 pub mod ReportText

@@ -1,22 +1,23 @@
 -- The places of the words of a reply.
 use Rattle.std.specs.Prelude.{ℕ, List, pos}
-use Rattle.ctt_text.specs.Numbers.{number_of}
 use Rattle.ctt_text.specs.Problem.{Problem}
 use Rattle.ctt_text.specs.declared.placed.Placed.{Placed}
-use Rattle.ctt_text.specs.Forms.{Form, done, ◌>>=◌}
+use Rattle.ctt_text.specs.Places.{number}
+use Rattle.ctt_text.specs.Forms.{Form, done, ◌>>=◌, list_of}
 use Rattle.ctt_rules.specs.declared.cost.Cost.{Cost}
 use Rattle.ctt_edits.specs.declared.fault.EditFault.{EditFault}
 use Rattle.ctt_edits.specs.declared.fault.EditFault.TheVariants.{NotPlaced, SameSlot, SameCourse, AlreadyThere, CourseFull, Unavailable, Clash, RoomTaken}
 use Rattle.ctt_edits.specs.declared.reply.Reply.{Reply}
 use Rattle.ctt_edits.specs.declared.reply.Reply.TheVariants.{Done, Refused, Lectures, Costs, Price as Priced}
 use Rattle.ctt_script.specs.declared.journal_fault.JournalFault.{JournalFault}
+use Rattle.ctt_script.specs.declared.journal_fault.JournalFault.TheVariants.{BadWord}
 use Rattle.ctt_script.specs.declared.kinds.ReplyKind.{ReplyKind}
 use Rattle.ctt_script.specs.declared.kinds.ReplyKind.TheVariants as reply
 use Rattle.ctt_script.specs.declared.kinds.FaultKind.{FaultKind}
 use Rattle.ctt_script.specs.declared.kinds.FaultKind.TheVariants as fault
 use Rattle.ctt_script.specs.Amounts.{amount_of, price_of}
 use Rattle.ctt_script.specs.Kinds.{reply_kind, fault_kind}
-use Rattle.ctt_script.specs.Known.{word, list_of}
+use Rattle.ctt_script.specs.JournalWords.{word}
 use Rattle.ctt_script.specs.CallPlaces.{course, room, slot}
 
 -- what stands behind the word of a fault
@@ -47,7 +48,7 @@ lecture i = do
   done (record { course = c; slot = s; room = r })
 
 unfoldable pub count : Form JournalFault ℕ
-count = word number_of 0
+count = number BadWord
 
 unfoldable pub lectures : Problem → Form JournalFault (List Placed)
 lectures i = do

@@ -11,9 +11,11 @@ use Rattle.ctt_script.specs.declared.kinds.StepKind.{StepKind}
 use Rattle.ctt_script.specs.declared.kinds.StepKind.TheVariants as step
 use Rattle.ctt_script.specs.declared.script.Start.{Start}
 use Rattle.ctt_script.specs.declared.script.Start.TheVariants as begin
+use Rattle.ctt_script.specs.declared.script.OwnStart.{OwnStart}
+use Rattle.ctt_script.specs.declared.script.OwnStart.TheVariants as own
 use Rattle.ctt_script.specs.Amounts.{number_below}
 use Rattle.ctt_script.specs.Kinds.{step_kind}
-use Rattle.ctt_script.specs.Known.{word}
+use Rattle.ctt_script.specs.JournalWords.{word}
 use Rattle.ctt_script.specs.CallPlaces.{look_form, call_after}
 
 -- a look at what is published, or one of 64 planners
@@ -42,3 +44,18 @@ unfoldable pub event_form : Problem → Form JournalFault Event
 event_form i = do
   first ← word first_of begin.Show
   event_after i first
+
+-- in the script of one planner: a look at what is published, or a step
+unfoldable pub own_first_of : List ℕ → Option OwnStart
+own_first_of word = if bytes_eq word (codes "show") then Some own.Show else option_map own.Step (step_kind word)
+
+unfoldable pub own_after : Problem → ℕ → OwnStart → Form JournalFault Event
+own_after i p own.Show = do
+  l ← look_form i
+  done (Show l)
+own_after i p (own.Step kind) = step_after i p kind
+
+unfoldable pub own_form : Problem → ℕ → Form JournalFault Event
+own_form i p = do
+  first ← word own_first_of own.Show
+  own_after i p first

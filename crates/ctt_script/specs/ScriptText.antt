@@ -1,15 +1,15 @@
 -- A script as its items: one for each line that has words.
-use Rattle.std.specs.Prelude.{◌≡◌, ℕ, List, [], ◌∷◌, Bool, true, false, map, filter, ◌==◌, Option, Some, None, Result, Ok, Err, if◌then◌else◌}
+use Rattle.std.specs.Prelude.{ℕ, List, [], ◌∷◌, Bool, true, false, map, filter, ◌==◌, Option, Some, None, Result, Ok, Err, if◌then◌else◌}
 use Rattle.std.specs.List.{slice_split}
 use Rattle.std.specs.Str.{is_utf8}
 use Rattle.ctt_text.specs.Left.{Left}
 use Rattle.ctt_text.specs.Words.{words}
 use Rattle.ctt_text.specs.Problem.{Problem}
-use Rattle.ctt_text.specs.Forms.{Fills, read}
+use Rattle.ctt_text.specs.Forms.{Form, read}
 use Rattle.ctt_script.specs.declared.journal_fault.JournalFault.{JournalFault}
 use Rattle.ctt_core.specs.declared.event.Event.{Event}
-use Rattle.ctt_script.specs.Known.{missing}
-use Rattle.ctt_script.specs.ScriptPlaces.{event_form}
+use Rattle.ctt_script.specs.JournalWords.{missing}
+use Rattle.ctt_script.specs.ScriptPlaces.{event_form, own_form}
 
 -- a value, if no word is left behind it
 abbrev pub if_none_left : {A : Type 0} → A → List (List ℕ) → Option A
@@ -21,13 +21,21 @@ abbrev pub whole : {A : Type 0} → Result (A × Left) JournalFault → Option A
 whole (Ok x) = if_none_left x.0 x.1.words
 whole (Err e) = None
 
--- the event that words ask for; none for words of any other form
-abbrev pub event_of : Problem → List (List ℕ) → Option Event
-event_of i words = whole (read missing (event_form i) words 1)
+-- the event that words ask for by a form; none for words of any other form
+abbrev pub asked_by : Form JournalFault Event → List (List ℕ) → Option Event
+asked_by form words = whole (read missing form words 1)
 
--- the event of a line; none for a bad line, such as one with a word that is not UTF-8
+-- the event of a line by a form; none for a bad line, such as one with a word that is not UTF-8
+abbrev pub item_by : Form JournalFault Event → List ℕ → Option Event
+item_by form line = if is_utf8 line then asked_by form (words line) else None
+
+-- the event of a line
 abbrev pub item : Problem → List ℕ → Option Event
-item i line = if is_utf8 line then event_of i (words line) else None
+item i line = item_by (event_form i) line
+
+-- the event of a line in the script of planner p alone
+abbrev pub own_item : Problem → ℕ → List ℕ → Option Event
+own_item i p line = item_by (own_form i p) line
 
 abbrev pub has_words : List ℕ → Bool
 has_words line = some (words line)
@@ -46,7 +54,3 @@ items_of i lines = map (item i) (filter has_words lines)
 
 abbrev pub script : Problem → List ℕ → List (Option Event)
 script i text = items_of i (lines_of text)
-
--- An event is asked for exactly by the words that fill the form with it.
-abbrev pub ItemsFill : Type 0
-ItemsFill = (i : Problem) (words : List (List ℕ)) (e : Event) → (event_of i words ≡ Some e → Fills (event_form i) words e) × (Fills (event_form i) words e → event_of i words ≡ Some e)

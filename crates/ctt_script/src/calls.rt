@@ -1,7 +1,7 @@
 //! Reading the words of a call.
 
 ghost use Rattle.std.specs.Prelude.{◌≡◌};
-ghost use Rattle.ctt_script.specs.Known.{reads, IsRead};
+ghost use Rattle.ctt_script.specs.JournalWords.{reads, IsRead};
 ghost use Rattle.ctt_script.specs.CallPlaces.{edit_after, edit_form, look_after, look_form, call_after, call_form};
 ghost use Rattle.ctt_script.specs.declared.kinds.EditKind.TheVariants as edit;
 
@@ -15,7 +15,7 @@ use ctt_edits::{Call, Edit, Look};
 use ctt_text::{Instance, Reader};
 
 /// What stands behind `place`.
-#[tactic(auto, using(crate::proofs::KnownLaws::read_bind, crate::proofs::KnownLaws::read_done), unfolding(crate::specs::CallPlaces::edit_after))]
+#[tactic(auto, using(crate::proofs::JournalSteps::read_bind, crate::proofs::JournalSteps::read_done), unfolding(crate::specs::CallPlaces::edit_after))]
 fn read_place(reader: &mut Reader, instance: &Instance) -> Result<Edit, JournalFault>
     ensures { IsRead (λ edit. (edit, reader.new)) result (reads (edit_after instance.now edit.Place) reader.old) }
 {
@@ -26,7 +26,7 @@ fn read_place(reader: &mut Reader, instance: &Instance) -> Result<Edit, JournalF
 }
 
 /// What stands behind `move`.
-#[tactic(auto, using(crate::proofs::KnownLaws::read_bind, crate::proofs::KnownLaws::read_done), unfolding(crate::specs::CallPlaces::edit_after))]
+#[tactic(auto, using(crate::proofs::JournalSteps::read_bind, crate::proofs::JournalSteps::read_done), unfolding(crate::specs::CallPlaces::edit_after))]
 fn read_move(reader: &mut Reader, instance: &Instance) -> Result<Edit, JournalFault>
     ensures { IsRead (λ edit. (edit, reader.new)) result (reads (edit_after instance.now edit.Move) reader.old) }
 {
@@ -38,7 +38,7 @@ fn read_move(reader: &mut Reader, instance: &Instance) -> Result<Edit, JournalFa
 }
 
 /// What stands behind `swap`.
-#[tactic(auto, using(crate::proofs::KnownLaws::read_bind, crate::proofs::KnownLaws::read_done), unfolding(crate::specs::CallPlaces::edit_after))]
+#[tactic(auto, using(crate::proofs::JournalSteps::read_bind, crate::proofs::JournalSteps::read_done), unfolding(crate::specs::CallPlaces::edit_after))]
 fn read_swap(reader: &mut Reader, instance: &Instance) -> Result<Edit, JournalFault>
     ensures { IsRead (λ edit. (edit, reader.new)) result (reads (edit_after instance.now edit.Swap) reader.old) }
 {
@@ -50,7 +50,7 @@ fn read_swap(reader: &mut Reader, instance: &Instance) -> Result<Edit, JournalFa
 }
 
 /// What stands behind `reroom`.
-#[tactic(auto, using(crate::proofs::KnownLaws::read_bind, crate::proofs::KnownLaws::read_done), unfolding(crate::specs::CallPlaces::edit_after))]
+#[tactic(auto, using(crate::proofs::JournalSteps::read_bind, crate::proofs::JournalSteps::read_done), unfolding(crate::specs::CallPlaces::edit_after))]
 fn read_reroom(reader: &mut Reader, instance: &Instance) -> Result<Edit, JournalFault>
     ensures { IsRead (λ edit. (edit, reader.new)) result (reads (edit_after instance.now edit.Reroom) reader.old) }
 {
@@ -61,7 +61,7 @@ fn read_reroom(reader: &mut Reader, instance: &Instance) -> Result<Edit, Journal
 }
 
 /// What stands behind `drop`.
-#[tactic(auto, using(crate::proofs::KnownLaws::read_bind, crate::proofs::KnownLaws::read_done), unfolding(crate::specs::CallPlaces::edit_after))]
+#[tactic(auto, using(crate::proofs::JournalSteps::read_bind, crate::proofs::JournalSteps::read_done), unfolding(crate::specs::CallPlaces::edit_after))]
 fn read_drop(reader: &mut Reader, instance: &Instance) -> Result<Edit, JournalFault>
     ensures { IsRead (λ edit. (edit, reader.new)) result (reads (edit_after instance.now edit.Drop) reader.old) }
 {
@@ -88,7 +88,7 @@ fn read_edit_after(
 }
 
 /// The words of an edit.
-#[tactic(auto, using(crate::proofs::KnownLaws::read_bind), unfolding(crate::specs::CallPlaces::edit_form))]
+#[tactic(auto, using(crate::proofs::JournalSteps::read_bind), unfolding(crate::specs::CallPlaces::edit_form))]
 pub(crate) fn read_edit(reader: &mut Reader, instance: &Instance) -> Result<Edit, JournalFault>
     ensures { IsRead (λ edit. (edit, reader.new)) result (reads (edit_form instance.now) reader.old) }
 {
@@ -97,7 +97,7 @@ pub(crate) fn read_edit(reader: &mut Reader, instance: &Instance) -> Result<Edit
 }
 
 /// What stands behind the word of a look.
-#[tactic(auto, using(crate::proofs::KnownLaws::read_bind, crate::proofs::KnownLaws::read_done), unfolding(crate::specs::CallPlaces::look_after))]
+#[tactic(auto, using(crate::proofs::JournalSteps::read_bind, crate::proofs::JournalSteps::read_done), unfolding(crate::specs::CallPlaces::look_after))]
 fn read_look_after(
     reader: &mut Reader,
     instance: &Instance,
@@ -117,7 +117,7 @@ fn read_look_after(
 }
 
 /// The words of a look.
-#[tactic(auto, using(crate::proofs::KnownLaws::read_bind), unfolding(crate::specs::CallPlaces::look_form))]
+#[tactic(auto, using(crate::proofs::JournalSteps::read_bind), unfolding(crate::specs::CallPlaces::look_form))]
 pub fn read_look(reader: &mut Reader, instance: &Instance) -> Result<Look, JournalFault>
     ensures { IsRead (λ look. (look, reader.new)) result (reads (look_form instance.now) reader.old) }
 {
@@ -126,7 +126,7 @@ pub fn read_look(reader: &mut Reader, instance: &Instance) -> Result<Look, Journ
 }
 
 /// What stands behind the word of a call.
-#[tactic(auto, using(crate::proofs::KnownLaws::read_bind, crate::proofs::KnownLaws::read_done), unfolding(crate::specs::CallPlaces::call_after))]
+#[tactic(auto, using(crate::proofs::JournalSteps::read_bind, crate::proofs::JournalSteps::read_done), unfolding(crate::specs::CallPlaces::call_after))]
 pub(crate) fn read_call_after(
     reader: &mut Reader,
     instance: &Instance,
@@ -141,7 +141,7 @@ pub(crate) fn read_call_after(
 }
 
 /// The words of a call.
-#[tactic(auto, using(crate::proofs::KnownLaws::read_bind), unfolding(crate::specs::CallPlaces::call_form))]
+#[tactic(auto, using(crate::proofs::JournalSteps::read_bind), unfolding(crate::specs::CallPlaces::call_form))]
 pub fn read_call(reader: &mut Reader, instance: &Instance) -> Result<Call, JournalFault>
     ensures { IsRead (λ call. (call, reader.new)) result (reads (call_form instance.now) reader.old) }
 {

@@ -10,7 +10,8 @@ ghost use Rattle.ctt_core.specs.declared.journal.JournalEntry.{JournalEntry};
 ghost use Rattle.ctt_edits.specs.Fitting.{AreFew};
 ghost use Rattle.ctt_core.specs.Entries.{EntryFits};
 ghost use Rattle.ctt_script.specs.Entries.{IsShort};
-ghost use Rattle.ctt_script.specs.Known.{reads, GivesRead, wants_memory, list_of, one_more};
+ghost use Rattle.ctt_text.specs.Forms.{list_of, one_more};
+ghost use Rattle.ctt_script.specs.JournalWords.{reads, GivesRead, wants_memory};
 ghost use Rattle.ctt_script.specs.JournalPlaces.{asked_form, entry_form, journal_form};
 ghost use Rattle.ctt_script.specs.JournalText.{journal_answer, JournalSpells, JournalBreaksAt, IsJournalCauseOf};
 ghost use Rattle.ctt_script.specs.declared.journal_fault.JournalFault.{JournalFault};
@@ -26,7 +27,7 @@ use ctt_text::{Instance, Reader};
 use std::alloc::Global;
 
 /// The words of a call and of its reply.
-#[tactic(auto, using(crate::proofs::KnownLaws::read_bind, crate::proofs::KnownLaws::read_done), unfolding(crate::specs::JournalPlaces::asked_form))]
+#[tactic(auto, using(crate::proofs::JournalSteps::read_bind, crate::proofs::JournalSteps::read_done), unfolding(crate::specs::JournalPlaces::asked_form))]
 fn read_asked(
     alloc: Global,
     reader: &mut Reader,
@@ -40,7 +41,7 @@ fn read_asked(
 }
 
 /// One more call with its reply.
-#[tactic(auto, using(crate::proofs::KnownLaws::read_bind, crate::proofs::KnownLaws::read_done), unfolding(crate::specs::Known::one_more))]
+#[tactic(auto, using(crate::proofs::JournalSteps::read_one_more))]
 fn read_one_asked(
     alloc: Global,
     reader: &mut Reader,
@@ -71,7 +72,7 @@ fn read_so_many_asked(
 }
 
 /// An entry.
-#[tactic(auto, using(crate::proofs::KnownLaws::read_bind, crate::proofs::KnownLaws::read_done), unfolding(crate::specs::JournalPlaces::entry_form))]
+#[tactic(auto, using(crate::proofs::JournalSteps::read_bind, crate::proofs::JournalSteps::read_done), unfolding(crate::specs::JournalPlaces::entry_form))]
 fn read_entry(
     alloc: Global,
     reader: &mut Reader,
@@ -90,7 +91,7 @@ fn read_entry(
 }
 
 /// One more entry.
-#[tactic(auto, using(crate::proofs::KnownLaws::read_bind, crate::proofs::KnownLaws::read_done), unfolding(crate::specs::Known::one_more))]
+#[tactic(auto, using(crate::proofs::JournalSteps::read_one_more))]
 fn read_one_entry(
     alloc: Global,
     reader: &mut Reader,
@@ -121,7 +122,7 @@ fn read_so_many_entries(
 }
 
 /// All words up to the one at the end.
-#[tactic(auto, using(crate::proofs::KnownLaws::read_bind, crate::proofs::KnownLaws::read_done), unfolding(crate::specs::JournalPlaces::journal_form))]
+#[tactic(auto, using(crate::proofs::JournalSteps::read_bind, crate::proofs::JournalSteps::read_done), unfolding(crate::specs::JournalPlaces::journal_form))]
 fn read_entries(
     alloc: Global,
     reader: &mut Reader,

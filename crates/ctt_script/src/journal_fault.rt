@@ -3,6 +3,7 @@
 ghost use Rattle.std.specs.Prelude.{◌≡◌};
 ghost use Rattle.ctt_script.specs.declared.journal_fault.JournalFault.TheVariants as journal_fault;
 
+use ctt_text::{FixedFault, PlaceFault, RoomFault};
 use std::alloc::{AllocError, AllocFailed};
 
 /// Why a journal could not be read. A fault names a word, counted from 1, or `NotText` a byte.
@@ -31,5 +32,53 @@ impl<T: Drop> From<AllocFailed<T>> for JournalFault {
 
     fn from(_e: AllocFailed<T>) -> JournalFault {
         JournalFault::NoMemory
+    }
+}
+
+impl PlaceFault for JournalFault {
+    ghost missing = { journal_fault.Missing };
+
+    ghost bad_number = { journal_fault.BadWord };
+
+    ghost unknown_course = { journal_fault.BadWord };
+
+    ghost day_out = { journal_fault.BadWord };
+
+    ghost period_out = { journal_fault.BadWord };
+
+    fn missing(at: u64) -> JournalFault {
+        JournalFault::Missing(at)
+    }
+
+    fn bad_number(at: u64) -> JournalFault {
+        JournalFault::BadWord(at)
+    }
+
+    fn unknown_course(at: u64) -> JournalFault {
+        JournalFault::BadWord(at)
+    }
+
+    fn day_out(at: u64) -> JournalFault {
+        JournalFault::BadWord(at)
+    }
+
+    fn period_out(at: u64) -> JournalFault {
+        JournalFault::BadWord(at)
+    }
+}
+
+impl FixedFault for JournalFault {
+    ghost other_word = { journal_fault.BadWord };
+
+    fn other_word(at: u64) -> JournalFault {
+        JournalFault::BadWord(at)
+    }
+}
+
+impl RoomFault for JournalFault {
+    ghost unknown_room = { journal_fault.BadWord };
+
+    fn unknown_room(at: u64) -> JournalFault {
+        JournalFault::BadWord(at)
     }
 }

@@ -18,7 +18,6 @@ mod script;
 mod script_fault;
 mod sink;
 mod source;
-mod text_places;
 mod written;
 
 pub use answers::write_answer;

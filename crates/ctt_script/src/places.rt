@@ -5,7 +5,7 @@ ghost use Rattle.ctt_text.specs.Numbers.{number_of};
 ghost use Rattle.ctt_text.specs.Problem.{number_in};
 ghost use Rattle.ctt_text.specs.Reading.{word_at};
 ghost use Rattle.ctt_script.specs.Amounts.{price_of, number_below};
-ghost use Rattle.ctt_script.specs.Known.{word, label, missing, reads, IsRead};
+ghost use Rattle.ctt_script.specs.JournalWords.{word, label, missing, reads, IsRead};
 ghost use Rattle.ctt_script.specs.Kinds.{edit_kind, look_kind, call_kind, reply_kind, fault_kind};
 ghost use Rattle.ctt_script.specs.CallPlaces.{course, room, teacher, curriculum, slot};
 ghost use Rattle.ctt_script.specs.ReplyPlaces.{count, amount};
@@ -21,32 +21,27 @@ use crate::kinds::{
     CallKind, EditKind, FaultKind, LookKind, ReplyKind, call_kind, edit_kind, fault_kind,
     look_kind, reply_kind,
 };
-use crate::text_places::{next_course, next_number};
-use ctt_text::{CourseNo, CurriculumNo, Instance, Reader, RoomNo, SlotNo, TeacherNo};
+use ctt_text::{
+    CourseNo, CurriculumNo, Instance, Reader, RoomNo, SlotNo, TeacherNo, next_course, next_fixed,
+    next_number, next_room, next_word,
+};
 
 /// The next word, whatever it is.
 pub(crate) fn read_word<'a>(reader: &mut Reader<'a>) -> Result<&'a str, JournalFault>
     ensures { IsRead (λ word. (word.now, reader.new)) result (word_at missing reader.old) }
 {
-    let at = reader.next();
-    reader.word().ok_or(JournalFault::Missing(at))
+    next_word(reader)
 }
 
 /// The word of this place.
-#[tactic(auto, using(crate::proofs::KnownLaws::read_word), unfolding(crate::specs::Known::label))]
 pub(crate) fn read_label(reader: &mut Reader, text: &str) -> Result<(), JournalFault>
     ensures { IsRead (λ _. (tt, reader.new)) result (reads (label text.now) reader.old) }
 {
-    let at = reader.next();
-    if read_word(reader)? == text {
-        Ok(())
-    } else {
-        Err(JournalFault::BadWord(at))
-    }
+    next_fixed(reader, text)
 }
 
 /// A number.
-#[tactic(auto, unfolding(crate::specs::ReplyPlaces::count, crate::specs::Known::word))]
+#[tactic(auto, unfolding(crate::specs::ReplyPlaces::count))]
 pub(crate) fn read_count(reader: &mut Reader) -> Result<u32, JournalFault>
     ensures { IsRead (λ number. (number, reader.new)) result (reads count reader.old) }
 {
@@ -54,7 +49,7 @@ pub(crate) fn read_count(reader: &mut Reader) -> Result<u32, JournalFault>
 }
 
 /// A number below a limit.
-#[tactic(auto, using(crate::proofs::KnownLaws::read_word))]
+#[tactic(auto, using(crate::proofs::JournalSteps::read_word))]
 pub(crate) fn read_number_below(reader: &mut Reader, limit: u16) -> Result<u16, JournalFault>
     ensures limit { IfOk result (λ number. number < limit) }
     ensures exact { IsRead (λ number. (number, reader.new)) result (reads (word (number_below limit) 0) reader.old) }
@@ -65,7 +60,7 @@ pub(crate) fn read_number_below(reader: &mut Reader, limit: u16) -> Result<u16, 
 }
 
 /// An amount.
-#[tactic(auto, using(crate::proofs::KnownLaws::read_word), unfolding(crate::specs::ReplyPlaces::amount))]
+#[tactic(auto, using(crate::proofs::JournalSteps::read_word), unfolding(crate::specs::ReplyPlaces::amount))]
 pub(crate) fn read_amount(reader: &mut Reader) -> Result<u64, JournalFault>
     ensures { IsRead (λ amount. (amount, reader.new)) result (reads amount reader.old) }
 {
@@ -75,7 +70,7 @@ pub(crate) fn read_amount(reader: &mut Reader) -> Result<u64, JournalFault>
 }
 
 /// A price.
-#[tactic(auto, using(crate::proofs::KnownLaws::read_word))]
+#[tactic(auto, using(crate::proofs::JournalSteps::read_word))]
 pub(crate) fn read_price(reader: &mut Reader) -> Result<i64, JournalFault>
     ensures { IsRead (λ price. (price, reader.new)) result (reads (word price_of (pos 0)) reader.old) }
 {
@@ -85,7 +80,7 @@ pub(crate) fn read_price(reader: &mut Reader) -> Result<i64, JournalFault>
 }
 
 /// A course by its name.
-#[tactic(auto, unfolding(crate::specs::CallPlaces::course, crate::specs::Known::word))]
+#[tactic(auto, unfolding(crate::specs::CallPlaces::course))]
 pub(crate) fn read_course(
     reader: &mut Reader,
     instance: &Instance,
@@ -96,17 +91,15 @@ pub(crate) fn read_course(
 }
 
 /// A room by its name.
-#[tactic(auto, using(crate::proofs::KnownLaws::read_word), unfolding(crate::specs::CallPlaces::room))]
+#[tactic(auto, unfolding(crate::specs::CallPlaces::room))]
 pub(crate) fn read_room(reader: &mut Reader, instance: &Instance) -> Result<RoomNo, JournalFault>
     ensures { IsRead (λ room. (room, reader.new)) result (reads (room instance.now) reader.old) }
 {
-    let at = reader.next();
-    let name = read_word(reader)?;
-    instance.find_room(name).ok_or(JournalFault::BadWord(at))
+    next_room(reader, instance)
 }
 
 /// A teacher by his name.
-#[tactic(auto, using(crate::proofs::KnownLaws::read_word), unfolding(crate::specs::CallPlaces::teacher))]
+#[tactic(auto, using(crate::proofs::JournalSteps::read_name), unfolding(crate::specs::CallPlaces::teacher))]
 pub(crate) fn read_teacher(
     reader: &mut Reader,
     instance: &Instance,
@@ -119,7 +112,7 @@ pub(crate) fn read_teacher(
 }
 
 /// A curriculum by its name.
-#[tactic(auto, using(crate::proofs::KnownLaws::read_word), unfolding(crate::specs::CallPlaces::curriculum))]
+#[tactic(auto, using(crate::proofs::JournalSteps::read_name), unfolding(crate::specs::CallPlaces::curriculum))]
 pub(crate) fn read_curriculum(
     reader: &mut Reader,
     instance: &Instance,
@@ -134,7 +127,7 @@ pub(crate) fn read_curriculum(
 }
 
 /// A day and a period in the day, as their slot.
-#[tactic(auto, using(crate::proofs::KnownLaws::read_bind, crate::proofs::KnownLaws::read_done), unfolding(crate::specs::CallPlaces::slot))]
+#[tactic(auto, using(crate::proofs::JournalSteps::read_bind, crate::proofs::JournalSteps::read_done), unfolding(crate::specs::CallPlaces::slot))]
 pub(crate) fn read_slot(reader: &mut Reader, instance: &Instance) -> Result<SlotNo, JournalFault>
     ensures { IsRead (λ slot. (slot, reader.new)) result (reads (slot instance.now) reader.old) }
 {
@@ -144,7 +137,7 @@ pub(crate) fn read_slot(reader: &mut Reader, instance: &Instance) -> Result<Slot
 }
 
 /// The word of an edit.
-#[tactic(auto, using(crate::proofs::KnownLaws::read_word))]
+#[tactic(auto, using(crate::proofs::JournalSteps::read_word))]
 pub(crate) fn read_edit_kind(reader: &mut Reader) -> Result<EditKind, JournalFault>
     ensures { IsRead (λ kind. (kind, reader.new)) result (reads (word edit_kind edit.Place) reader.old) }
 {
@@ -154,7 +147,7 @@ pub(crate) fn read_edit_kind(reader: &mut Reader) -> Result<EditKind, JournalFau
 }
 
 /// The word of a look.
-#[tactic(auto, using(crate::proofs::KnownLaws::read_word))]
+#[tactic(auto, using(crate::proofs::JournalSteps::read_word))]
 pub(crate) fn read_look_kind(reader: &mut Reader) -> Result<LookKind, JournalFault>
     ensures { IsRead (λ kind. (kind, reader.new)) result (reads (word look_kind look.Cost) reader.old) }
 {
@@ -164,7 +157,7 @@ pub(crate) fn read_look_kind(reader: &mut Reader) -> Result<LookKind, JournalFau
 }
 
 /// The word of a call.
-#[tactic(auto, using(crate::proofs::KnownLaws::read_word))]
+#[tactic(auto, using(crate::proofs::JournalSteps::read_word))]
 pub(crate) fn read_call_kind(reader: &mut Reader) -> Result<CallKind, JournalFault>
     ensures { IsRead (λ kind. (kind, reader.new)) result (reads (word call_kind (kind.Look look.Cost)) reader.old) }
 {
@@ -174,7 +167,7 @@ pub(crate) fn read_call_kind(reader: &mut Reader) -> Result<CallKind, JournalFau
 }
 
 /// The word of a reply.
-#[tactic(auto, using(crate::proofs::KnownLaws::read_word))]
+#[tactic(auto, using(crate::proofs::JournalSteps::read_word))]
 pub(crate) fn read_reply_kind(reader: &mut Reader) -> Result<ReplyKind, JournalFault>
     ensures { IsRead (λ kind. (kind, reader.new)) result (reads (word reply_kind reply.Done) reader.old) }
 {
@@ -184,7 +177,7 @@ pub(crate) fn read_reply_kind(reader: &mut Reader) -> Result<ReplyKind, JournalF
 }
 
 /// The word of a fault.
-#[tactic(auto, using(crate::proofs::KnownLaws::read_word))]
+#[tactic(auto, using(crate::proofs::JournalSteps::read_word))]
 pub(crate) fn read_fault_kind(reader: &mut Reader) -> Result<FaultKind, JournalFault>
     ensures { IsRead (λ kind. (kind, reader.new)) result (reads (word fault_kind fault.NotPlaced) reader.old) }
 {

@@ -1,7 +1,8 @@
 //! Reading the words of a reply.
 
 ghost use Rattle.std.specs.Prelude.{◌≡◌};
-ghost use Rattle.ctt_script.specs.Known.{reads, IsRead, GivesRead, list_of, one_more};
+ghost use Rattle.ctt_text.specs.Forms.{list_of, one_more};
+ghost use Rattle.ctt_script.specs.JournalWords.{reads, IsRead, GivesRead};
 ghost use Rattle.ctt_script.specs.ReplyPlaces.{fault_after, fault_form, lecture, lectures, costs, reply_after, reply_form};
 
 use crate::journal_fault::JournalFault;
@@ -16,7 +17,7 @@ use ctt_text::{Instance, Placed, Reader};
 use std::alloc::Global;
 
 /// What stands behind the word of a fault.
-#[tactic(auto, using(crate::proofs::KnownLaws::read_bind, crate::proofs::KnownLaws::read_done), unfolding(crate::specs::ReplyPlaces::fault_after))]
+#[tactic(auto, using(crate::proofs::JournalSteps::read_bind, crate::proofs::JournalSteps::read_done), unfolding(crate::specs::ReplyPlaces::fault_after))]
 fn read_fault_after(
     reader: &mut Reader,
     instance: &Instance,
@@ -37,7 +38,7 @@ fn read_fault_after(
 }
 
 /// The words of a fault.
-#[tactic(auto, using(crate::proofs::KnownLaws::read_bind), unfolding(crate::specs::ReplyPlaces::fault_form))]
+#[tactic(auto, using(crate::proofs::JournalSteps::read_bind), unfolding(crate::specs::ReplyPlaces::fault_form))]
 fn read_fault(reader: &mut Reader, instance: &Instance) -> Result<EditFault, JournalFault>
     ensures { IsRead (λ fault. (fault, reader.new)) result (reads (fault_form instance.now) reader.old) }
 {
@@ -46,7 +47,7 @@ fn read_fault(reader: &mut Reader, instance: &Instance) -> Result<EditFault, Jou
 }
 
 /// The words of a lecture.
-#[tactic(auto, using(crate::proofs::KnownLaws::read_bind, crate::proofs::KnownLaws::read_done), unfolding(crate::specs::ReplyPlaces::lecture))]
+#[tactic(auto, using(crate::proofs::JournalSteps::read_bind, crate::proofs::JournalSteps::read_done), unfolding(crate::specs::ReplyPlaces::lecture))]
 fn read_lecture(reader: &mut Reader, instance: &Instance) -> Result<Placed, JournalFault>
     ensures { IsRead (λ lecture. (lecture, reader.new)) result (reads (lecture instance.now) reader.old) }
 {
@@ -57,7 +58,7 @@ fn read_lecture(reader: &mut Reader, instance: &Instance) -> Result<Placed, Jour
 }
 
 /// One more lecture.
-#[tactic(auto, using(crate::proofs::KnownLaws::read_bind, crate::proofs::KnownLaws::read_done), unfolding(crate::specs::Known::one_more))]
+#[tactic(auto, using(crate::proofs::JournalSteps::read_one_more))]
 fn read_one_lecture(
     reader: &mut Reader,
     instance: &Instance,
@@ -87,7 +88,7 @@ fn read_so_many_lectures(
 }
 
 /// A number, and so many lectures.
-#[tactic(auto, using(crate::proofs::KnownLaws::read_bind), unfolding(crate::specs::ReplyPlaces::lectures))]
+#[tactic(auto, using(crate::proofs::JournalSteps::read_bind), unfolding(crate::specs::ReplyPlaces::lectures))]
 fn read_lectures(
     alloc: Global,
     reader: &mut Reader,
@@ -100,7 +101,7 @@ fn read_lectures(
 }
 
 /// Four amounts.
-#[tactic(auto, using(crate::proofs::KnownLaws::read_bind, crate::proofs::KnownLaws::read_done), unfolding(crate::specs::ReplyPlaces::costs))]
+#[tactic(auto, using(crate::proofs::JournalSteps::read_bind, crate::proofs::JournalSteps::read_done), unfolding(crate::specs::ReplyPlaces::costs))]
 fn read_costs(reader: &mut Reader) -> Result<Cost, JournalFault>
     ensures { IsRead (λ costs. (costs, reader.new)) result (reads costs reader.old) }
 {
@@ -117,7 +118,7 @@ fn read_costs(reader: &mut Reader) -> Result<Cost, JournalFault>
 }
 
 /// What stands behind the word of a reply.
-#[tactic(auto, using(crate::proofs::KnownLaws::read_bind, crate::proofs::KnownLaws::read_done), unfolding(crate::specs::ReplyPlaces::reply_after))]
+#[tactic(auto, using(crate::proofs::JournalSteps::read_bind, crate::proofs::JournalSteps::read_done), unfolding(crate::specs::ReplyPlaces::reply_after))]
 fn read_reply_after(
     alloc: Global,
     reader: &mut Reader,
@@ -138,7 +139,7 @@ fn read_reply_after(
 }
 
 /// The words of a reply.
-#[tactic(auto, using(crate::proofs::KnownLaws::read_bind), unfolding(crate::specs::ReplyPlaces::reply_form))]
+#[tactic(auto, using(crate::proofs::JournalSteps::read_bind), unfolding(crate::specs::ReplyPlaces::reply_form))]
 pub fn read_reply(
     alloc: Global,
     reader: &mut Reader,

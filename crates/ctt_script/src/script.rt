@@ -1,13 +1,17 @@
 //! Reading the lines of a script.
 
-ghost use Rattle.std.specs.Prelude.{◌≡◌, IfOk, IfSome};
+ghost use Rattle.std.specs.Prelude.{◌≡◌, ℕ, ◌<◌, Result, IfOk, IfSome};
+ghost use Rattle.ctt_text.specs.Left.{Left};
 ghost use Rattle.ctt_core.specs.Runs.{EventFits};
-ghost use Rattle.ctt_script.specs.Known.{word, reads, IsRead};
+ghost use Rattle.ctt_core.specs.declared.event.Event.{Event};
+ghost use Rattle.ctt_script.specs.JournalWords.{word, reads, IsRead};
 ghost use Rattle.ctt_script.specs.Kinds.{step_kind};
-ghost use Rattle.ctt_script.specs.ScriptPlaces.{first_of, step_after, event_after, event_form};
-ghost use Rattle.ctt_script.specs.ScriptText.{item, has_words, script};
+ghost use Rattle.ctt_script.specs.ScriptPlaces.{first_of, step_after, event_after, event_form, own_first_of, own_after, own_form};
+ghost use Rattle.ctt_script.specs.ScriptText.{whole, item, own_item, has_words, script};
 ghost use Rattle.ctt_script.specs.declared.kinds.StepKind.TheVariants as step;
 ghost use Rattle.ctt_script.specs.declared.script.Start.TheVariants as begin;
+ghost use Rattle.ctt_script.specs.declared.script.OwnStart.TheVariants as own;
+ghost use Rattle.ctt_script.specs.declared.journal_fault.JournalFault.{JournalFault};
 
 use crate::amounts::number_below;
 use crate::calls::{read_call_after, read_look};
@@ -40,7 +44,7 @@ fn first_of(word: &str) -> Option<Start>
 }
 
 /// The first word of a line.
-#[tactic(auto, using(crate::proofs::KnownLaws::read_word))]
+#[tactic(auto, using(crate::proofs::JournalSteps::read_word))]
 fn read_start(reader: &mut Reader) -> Result<Start, JournalFault>
     ensures { IsRead (λ start. (start, reader.new)) result (reads (word first_of begin.Show) reader.old) }
 {
@@ -50,7 +54,7 @@ fn read_start(reader: &mut Reader) -> Result<Start, JournalFault>
 }
 
 /// The word of a step.
-#[tactic(auto, using(crate::proofs::KnownLaws::read_word))]
+#[tactic(auto, using(crate::proofs::JournalSteps::read_word))]
 fn read_step_kind(reader: &mut Reader) -> Result<StepKind, JournalFault>
     ensures { IsRead (λ kind. (kind, reader.new)) result (reads (word step_kind step.Open) reader.old) }
 {
@@ -60,7 +64,7 @@ fn read_step_kind(reader: &mut Reader) -> Result<StepKind, JournalFault>
 }
 
 /// What stands behind a planner's number and the word of a step.
-#[tactic(auto, using(crate::proofs::KnownLaws::read_bind, crate::proofs::KnownLaws::read_done), unfolding(crate::specs::ScriptPlaces::step_after))]
+#[tactic(auto, using(crate::proofs::JournalSteps::read_bind, crate::proofs::JournalSteps::read_done), unfolding(crate::specs::ScriptPlaces::step_after))]
 fn read_step_after(
     reader: &mut Reader,
     instance: &Instance,
@@ -78,7 +82,7 @@ fn read_step_after(
 }
 
 /// What stands behind the first word.
-#[tactic(auto, using(crate::proofs::KnownLaws::read_bind, crate::proofs::KnownLaws::read_done), unfolding(crate::specs::ScriptPlaces::event_after))]
+#[tactic(auto, using(crate::proofs::JournalSteps::read_bind, crate::proofs::JournalSteps::read_done), unfolding(crate::specs::ScriptPlaces::event_after))]
 fn read_event_after(
     reader: &mut Reader,
     instance: &Instance,
@@ -96,12 +100,86 @@ fn read_event_after(
 }
 
 /// The words of an event.
-#[tactic(auto, using(crate::proofs::KnownLaws::read_bind), unfolding(crate::specs::ScriptPlaces::event_form))]
+#[tactic(auto, using(crate::proofs::JournalSteps::read_bind), unfolding(crate::specs::ScriptPlaces::event_form))]
 fn read_event(reader: &mut Reader, instance: &Instance) -> Result<Event, JournalFault>
     ensures { IsRead (λ event. (event, reader.new)) result (reads (event_form instance.now) reader.old) }
 {
     let start = read_start(reader)?;
     read_event_after(reader, instance, start)
+}
+
+/// How a line of one planner's own script begins.
+#[derive(Clone, Copy)]
+pub(crate) enum OwnStart {
+    Show,
+    Step(StepKind),
+}
+
+/// What the first word of a line of one planner's own script says.
+#[tactic(auto, unfolding(crate::specs::ScriptPlaces::own_first_of))]
+fn own_first_of(word: &str) -> Option<OwnStart>
+    ensures { result ≡ own_first_of word.now }
+{
+    if word == "show" {
+        Some(OwnStart::Show)
+    } else {
+        Some(OwnStart::Step(step_kind(word)?))
+    }
+}
+
+/// The first word of a line of one planner's own script.
+#[tactic(auto, using(crate::proofs::JournalSteps::read_word))]
+fn read_own_start(reader: &mut Reader) -> Result<OwnStart, JournalFault>
+    ensures { IsRead (λ start. (start, reader.new)) result (reads (word own_first_of own.Show) reader.old) }
+{
+    let at = reader.next();
+    let word = read_word(reader)?;
+    own_first_of(word).ok_or(JournalFault::BadWord(at))
+}
+
+/// What stands behind the first word of a line of a planner's own script.
+#[tactic(auto, using(crate::proofs::JournalSteps::read_bind, crate::proofs::JournalSteps::read_done), unfolding(crate::specs::ScriptPlaces::own_after))]
+fn read_own_after(
+    reader: &mut Reader,
+    instance: &Instance,
+    planner: PlannerNo,
+    start: OwnStart,
+) -> Result<Event, JournalFault>
+    ensures { IsRead (λ event. (event, reader.new)) result (reads (own_after instance.now planner start) reader.old) }
+{
+    match start {
+        OwnStart::Show => Ok(Event::Show(read_look(reader, instance)?)),
+        OwnStart::Step(kind) => read_step_after(reader, instance, planner, kind),
+    }
+}
+
+/// The words of an event in a planner's own script.
+#[tactic(auto, using(crate::proofs::JournalSteps::read_bind), unfolding(crate::specs::ScriptPlaces::own_form))]
+fn read_own_event(
+    reader: &mut Reader,
+    instance: &Instance,
+    planner: PlannerNo,
+) -> Result<Event, JournalFault>
+    ensures { IsRead (λ event. (event, reader.new)) result (reads (own_form instance.now planner) reader.old) }
+{
+    let start = read_own_start(reader)?;
+    read_own_after(reader, instance, planner, start)
+}
+
+/// The event that was read, if no word is left behind it.
+fn only_event(reader: &Reader, read: Result<Event, JournalFault>) -> Option<Event>
+    ensures { (all : Result (Event × Left) JournalFault) → IsRead (λ event. (event, reader.now)) read all → result ≡ whole all }
+{
+    match read {
+        Ok(event) => {
+            if reader.is_at_end() {
+                Some(event)
+            } else {
+                None
+            }
+        }
+        Err(_) => None,
+    }
 }
 
 /// The event that a line asks for; none for a line of any other form.
@@ -114,16 +192,23 @@ pub fn read_line(instance: &Instance, line: &[u8]) -> Option<Event>
         return None;
     };
     let mut reader = Reader::new(text);
-    match read_event(&mut reader, instance) {
-        Ok(event) => {
-            if reader.is_at_end() {
-                Some(event)
-            } else {
-                None
-            }
-        }
-        Err(_) => None,
-    }
+    let read = read_event(&mut reader, instance);
+    only_event(&reader, read)
+}
+
+/// The event that a line asks for in a script of one planner, where no line names him; none for a
+/// line of any other form.
+pub fn read_own_line(instance: &Instance, planner: PlannerNo, line: &[u8]) -> Option<Event>
+    ensures item { result ≡ own_item instance.now planner line.now }
+    ensures fits { (planners : ℕ) → planner < planners → IfSome result (EventFits instance.now planners) }
+{
+    instance.limits_hold();
+    let Ok(text) = str::from_utf8(line) else {
+        return None;
+    };
+    let mut reader = Reader::new(text);
+    let read = read_own_event(&mut reader, instance, planner);
+    only_event(&reader, read)
 }
 
 /// Whether a line has words.

@@ -1,11 +1,11 @@
 -- The names of an instance that a text spells: words of the text, and distinct.
-use Rattle.std.proofs.Common.{◌≡◌, ℕ, List, [], ◌∷◌, ◌++◌, map, flat_map, Bool, true, false, cond, ◌||◌, refl, sym, subst, ◌∙◌, arith}
+use Rattle.std.proofs.Common.{◌≡◌, ℕ, List, [], ◌∷◌, ◌++◌, map, flat_map, Bool, true, false, cond, ◌||◌, ◌-◌, take, drop, refl, sym, subst, ◌∙◌, arith}
 use Rattle.std.specs.Prelude.{codes}
 use Rattle.std.specs.List.{AllByRecursion as Each}
 use Rattle.std.specs.Str.{bytes_eq}
 use Rattle.std.proofs.lemmas.Bool.{or_from}
 use Rattle.std.proofs.lemmas.List.Folds.{list_any-append}
-use Rattle.ctt_text.specs.Words.{words, is_blank, begins_word, grow}
+use Rattle.ctt_text.specs.Words.{words, is_blank, begins_word, grow, IsFirstWord}
 use Rattle.ctt_text.specs.Lists.{Pairwise, each_once}
 use Rattle.ctt_text.specs.Problem.{is_among}
 use Rattle.ctt_text.specs.InstanceText.{CourseWords, RoomWords, CurriculumWords, Given, spelled, spelled_header, spelled_course, spelled_room, spelled_curriculum, spelled_pair, AreNew, AreDistinct, course_names, room_names, curriculum_names, Obey, SaysInstance}
@@ -28,6 +28,10 @@ words_are_words (b ∷ bs) = by (words_are_words bs) (is_blank b) refl
     by : Each IsWord (words bs) → (x : Bool) → is_blank b ≡ x → Each IsWord (cond x (words bs) (grow b (begins_word bs) (words bs)))
     by rest true e = rest
     by rest false e = grow_words b (begins_word bs) (words bs) e rest
+
+-- so is the first of them
+pub first_is_word : (text : List ℕ) (start end : ℕ) → IsFirstWord text start end → IsWord (take (end - start) (drop start text))
+first_is_word text start end at = (subst (Each IsWord) at.first (words_are_words text)).0
 
 -- what holds of each word of a section holds of the names in it
 module _ (P : List ℕ → Type 0) where

@@ -4,10 +4,10 @@ ghost use Rattle.std.specs.Prelude.{◌≡◌, ◌<◌, nat_lt, IfOk};
 ghost use Rattle.ctt_text.specs.Places.{fixed, number, number_if, known_name};
 ghost use Rattle.ctt_text.specs.Problem.{course_count, room_count};
 ghost use Rattle.ctt_text.specs.Reading.{Reads, reading, word_at};
+ghost use Rattle.ctt_text.specs.Named.{IsWord};
 
 use crate::ids::{CourseNo, RoomNo};
 use crate::instance::Instance;
-use crate::numbers::number;
 use crate::reader::Reader;
 
 /// The faults that the places of each text have. A fault is told the number of its word, from 1.
@@ -76,7 +76,8 @@ pub trait RoomFault: PlaceFault {
 
 /// The next word, whatever it is.
 pub fn next_word<'a, F: PlaceFault + Drop>(reader: &mut Reader<'a>) -> Result<&'a str, F>
-    ensures { Reads (λ word. (word.now, reader.new)) result (word_at F.missing reader.old) }
+    ensures word { IfOk result (λ word. IsWord word.now) }
+    ensures exact { Reads (λ word. (word.now, reader.new)) result (word_at F.missing reader.old) }
 {
     let at = reader.next();
     match reader.word() {
@@ -104,9 +105,9 @@ pub fn next_number<F: PlaceFault + Drop>(reader: &mut Reader) -> Result<u32, F>
     ensures { Reads (λ number. (number, reader.new)) result (reading F.missing (number F.bad_number) reader.old) }
 {
     let at = reader.next();
-    let word = next_word::<F>(reader)?;
-    match number(word.as_bytes()) {
+    match reader.number() {
         Some(number) => Ok(number),
+        None if reader.is_at_end() => Err(F::missing(at)),
         None => Err(F::bad_number(at)),
     }
 }

@@ -27,6 +27,10 @@ fn read_course<'a>(
     ensures exact { GivesRead (λ course. (course, reader.new)) result (reads (known_name UnknownCourse courses.old) reader.old) }
 {
     let at = reader.next();
+    let (last, number) = courses.last();
+    if reader.take(last) {
+        return number.ok_or(ReadFault::UnknownCourse(at));
+    }
     let name = next_word::<ReadFault>(reader)?;
     courses.number(name).ok_or(ReadFault::UnknownCourse(at))
 }

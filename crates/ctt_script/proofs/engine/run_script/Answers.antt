@@ -1,5 +1,4 @@
-use Rattle.std.proofs.Common.{rules, ◌≡◌, ◌∙◌, [], List, ℕ, length, Option, Result, Ok, Err, OnErr, sym, ap, refl}
-use Rattle.ctt_core.specs.Desks.{DeskValue}
+use Rattle.std.proofs.Common.{rules, ◌≡◌, ◌∙◌, [], ℕ, length, Result, Ok, Err, OnErr, sym}
 use Rattle.ctt_script.specs.Answering.{IsAtRun}
 use Rattle.ctt_text.proofs.FormLaws.{ok_same}
 use Rattle.ctt_edits.specs.declared.fault.EditFault.{EditFault}

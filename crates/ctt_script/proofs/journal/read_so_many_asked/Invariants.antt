@@ -1,6 +1,6 @@
 use Rattle.std.proofs.Common.{◌≡◌, ◌-◌, []}
-use Rattle.ctt_text.specs.Forms.{times}
-use Rattle.ctt_script.specs.Known.{reads, one_more}
+use Rattle.ctt_text.specs.Forms.{times, one_more}
+use Rattle.ctt_script.specs.JournalWords.{reads}
 use Rattle.ctt_script.specs.JournalPlaces.{asked_form}
 use Rattle.ctt_script.proofs.journal.read_so_many_asked.Given as goal
 

@@ -1,8 +1,8 @@
 use Rattle.std.proofs.Common.{[]}
 use Rattle.std.proofs.lemmas.Result.{err_from_is_err_and}
-use Rattle.ctt_text.specs.Forms.{times}
+use Rattle.ctt_text.specs.Forms.{times, one_more, list_of}
 use Rattle.ctt_text.proofs.Steps.{goes_on, ends, is_done}
-use Rattle.ctt_script.specs.Known.{missing, wants_memory, reads, one_more, list_of}
+use Rattle.ctt_script.specs.JournalWords.{missing, wants_memory, reads}
 use Rattle.ctt_script.specs.ReplyPlaces.{lecture}
 use Rattle.ctt_script.proofs.replies.read_so_many_lectures.Goals as goal
 

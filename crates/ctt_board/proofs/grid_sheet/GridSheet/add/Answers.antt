@@ -5,10 +5,11 @@ use Rattle.ctt_board.specs.Changes.{room_at}
 use Rattle.ctt_board.specs.Tables.{at}
 use Rattle.ctt_board.specs.Grids.{listed, IsGridSheet}
 use Rattle.ctt_board.specs.Seen.{Sees}
+use Rattle.ctt_board.proofs.CountsLemmas.{have_none}
 use Rattle.ctt_board.proofs.FewLemmas.{have_room}
 use Rattle.ctt_board.proofs.GridLemmas.{WroteRoom, sees_now}
 use Rattle.ctt_board.proofs.HolderLemmas.{WroteCourse}
-use Rattle.ctt_board.proofs.MeetingLemmas.{none_yet}
+use Rattle.ctt_board.proofs.MeetingLemmas.{none_yet, one_there}
 use Rattle.ctt_board.proofs.MoreLemmas.{more_with}
 use Rattle.ctt_board.proofs.SheetLemmas.{cost_small, added}
 use Rattle.ctt_board.proofs.grid_sheet.GridSheet.add.Goals as goal
@@ -18,6 +19,15 @@ with_lecture-self-inside-requires-clause-small c = cost_small c.self.inside.inst
 
 pub add-requires-clause-room : goal.add-requires-clause-room
 add-requires-clause-room c = have_room c.self.inside.instance.now (listed c.self.inside.instance.now c.self.inside.rooms) c.self.inside.counts c.self.invariant.counts_are c.self.invariant.lawful.timetable c.limits_hold.ensures
+
+pub add-requires-clause-own : goal.add-requires-clause-own
+add-requires-clause-own c =
+    let i = c.self.inside.instance.now in
+    let l = c.args.lecture.now in
+    let t = listed i c.self.inside.rooms in
+    let fits : Fits i l = subst (λ b. Fits b.problem l) (sym c.self.view_is) c.requires.fits in
+    let lawful : Lawful i (with l t) = subst (λ b. Lawful b.problem (with l b.list)) (sym c.self.view_is) c.requires.lawful in
+    have_none i l t (with l t) (more_with l t) fits c.self.inside.counts c.self.invariant.counts_are (λ q lt. one_there i (with l t) q l.slot lawful lt)
 
 pub joining_of-joining-requires-clause-own : goal.joining_of-joining-requires-clause-own
 joining_of-joining-requires-clause-own c =

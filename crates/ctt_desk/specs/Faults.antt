@@ -1,0 +1,19 @@
+-- Why a desk is not made.
+use Rattle.std.specs.Prelude.{◌≡◌, List, Err}
+use Rattle.ctt_text.specs.Problem.{Problem}
+use Rattle.ctt_text.specs.declared.placed.Placed.{Placed}
+use Rattle.ctt_edits.specs.Openings.{opening}
+use Rattle.ctt_core.specs.declared.desk_fault.DeskFault.{DeskFault}
+use Rattle.ctt_core.specs.declared.desk_fault.DeskFault.TheVariants.{Unlawful as UnlawfulDesk, NoMemory as OutOfMemory}
+use Rattle.ctt_desk.specs.declared.shared_fault.SharedFault.{SharedFault}
+use Rattle.ctt_desk.specs.declared.shared_fault.SharedFault.TheVariants.{Unlawful, NoMemory}
+
+-- the fault of a desk for one thread, as that of a shared one
+abbrev pub shared : DeskFault → SharedFault
+shared (UnlawfulDesk at f) = Unlawful at f
+shared OutOfMemory = NoMemory
+
+-- the first lecture that cannot be placed, with its fault; memory may be wanted at any time
+abbrev pub IsUnlawful : Problem → List Placed → SharedFault → Type 0
+IsUnlawful i ls (Unlawful at f) = opening i ls ≡ Err (at, f)
+IsUnlawful i ls NoMemory = Unit {0}

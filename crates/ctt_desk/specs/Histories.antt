@@ -1,0 +1,53 @@
+-- The journal under the lock, and what a commit makes of it.
+use Rattle.std.specs.Prelude.{ℕ, ◌≡◌, ◌≢◌, ◌==◌, ◌<◌, List, length, None, Some, slice_index_or}
+use Rattle.std.specs.List.{filter}
+use Rattle.ctt_text.specs.Problem.{Problem}
+use Rattle.ctt_text.specs.declared.placed.Placed.{Placed}
+use Rattle.ctt_rules.specs.Hard.{Lawful}
+use Rattle.ctt_draft.specs.Drafts.{calls_of, stale}
+use Rattle.ctt_draft.specs.DraftValues.{DraftValue}
+use Rattle.ctt_draft.specs.declared.asked.Asked.{Asked}
+use Rattle.ctt_core.specs.Runs.{after, Legal}
+use Rattle.ctt_core.specs.declared.journal.JournalEntry.{JournalEntry}
+use Rattle.ctt_desk.specs.declared.locked.Cause.{Cause}
+use Rattle.ctt_desk.specs.declared.locked.Cause.TheVariants.{NotYours, Stale, NoMemory}
+
+-- the entries of planner p
+abbrev pub own : ℕ → List JournalEntry → List JournalEntry
+own p h = filter (λ (e : JournalEntry). e.planner == p) h
+
+-- the entry of a draft in which this was asked
+abbrev pub entry_of : ℕ → List Asked → JournalEntry
+entry_of p asked = record { planner = p; asked = asked }
+
+-- the journal is legal on the opening, and the timetable is the opening after it, and lawful
+pub record Standing (i j : Problem) (opening t : List Placed) (journal : List JournalEntry) : Type 0 where
+  pub same : j ≡ i
+  pub legal : Legal i opening journal
+  pub list : t ≡ after i opening journal
+  pub lawful : Lawful i t
+
+-- so many drafts has each planner in the journal
+abbrev pub Counted : ℕ → List ℕ → List JournalEntry → Type 0
+Counted planners counts journal = (length counts ≡ planners) × ((p : ℕ) → p < planners → slice_index_or counts p 0 ≡ length (own p journal))
+
+-- what holds whenever the lock is free
+pub record IsLocked (i j : Problem) (opening opened t : List Placed) (planners : ℕ) (counts : List ℕ) (journal : List JournalEntry) : Type 0 where
+  pub opens : opened ≡ opening
+  pub standing : Standing i j opening t journal
+  pub counted : Counted planners counts journal
+
+-- the journal has as many drafts of planner p as he committed
+abbrev pub IsHis : List JournalEntry → ℕ → ℕ → Type 0
+IsHis journal p committed = length (own p journal) ≡ committed
+
+-- and no row that the draft read differs after it
+pub record IsFreshAt (i : Problem) (opening : List Placed) (journal : List JournalEntry) (p committed : ℕ) (d : DraftValue) : Type 0 where
+  pub his : IsHis journal p committed
+  pub fresh : stale i d.base (after i opening journal) (calls_of d.asked) ≡ None
+
+-- why the draft d of planner p is not accepted behind the journal
+abbrev pub IsCause : Problem → List Placed → List JournalEntry → ℕ → ℕ → DraftValue → Cause → Type 0
+IsCause i opening journal p committed d (NotYours count) = (count ≡ length (own p journal)) × (count ≢ committed)
+IsCause i opening journal p committed d (Stale row) = IsHis journal p committed × (stale i d.base (after i opening journal) (calls_of d.asked) ≡ Some row)
+IsCause i opening journal p committed d NoMemory = IsFreshAt i opening journal p committed d

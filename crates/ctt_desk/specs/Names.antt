@@ -1,0 +1,31 @@
+-- What the name of a desk says of it.
+use Rattle.std.specs.Prelude.{ℕ, ◌≡◌, List, []}
+use Rattle.ctt_text.specs.Problem.{Problem}
+use Rattle.ctt_text.specs.declared.placed.Placed.{Placed}
+
+-- the instance without courses, which a name says where nobody chose
+abbrev pub nothing : Problem
+nothing = record {
+  name = [];
+  course_names = [];
+  courses = [];
+  teacher_names = [];
+  room_names = [];
+  capacities = [];
+  curriculum_names = [];
+  curricula = [];
+  days = 0;
+  periods = 0;
+  unavailable = [];
+}
+
+-- a desk's opening: its instance and its lectures
+pub record OpenedValue : Type 0 where
+  pub problem : Problem
+  pub list : List Placed
+
+-- the name says this opening, and so many planners
+pub record IsNamed (problem : Problem) (opening : List Placed) (planners : ℕ) (opened : OpenedValue) (count : ℕ) : Type 0 where
+  pub of : opened.problem ≡ problem
+  pub opens : opened.list ≡ opening
+  pub counted : count ≡ planners

@@ -1,0 +1,58 @@
+//! Desks that were closed.
+
+ghost use Rattle.std.specs.Prelude.{◌≡◌, IfOk};
+ghost use Rattle.ctt_rules.specs.Hard.{Lawful};
+ghost use Rattle.ctt_rules.specs.Penalty.{penalty};
+ghost use Rattle.ctt_core.specs.Runs.{after, Legal};
+
+use crate::naming::Naming;
+use ctt_board::Timetable;
+use ctt_core::JournalEntry;
+use ctt_rules::Cost;
+use ctt_text::{NoMemory, Placed};
+use std::marker::{Model, PhantomData};
+
+/// What a desk left: its journal and its timetable. Contracts see the journal.
+#[derive(Drop)]
+pub struct Closed<S: Timetable, J: Naming> {
+    pub(crate) journal: Vec<JournalEntry>,
+    pub(crate) sheet: S,
+    pub(crate) desk: PhantomData<J>,
+}
+
+impl<S: Timetable, J: Naming> Model for Closed<S, J> {
+    ghost use Rattle.std.specs.Prelude.{List};
+    ghost use Rattle.ctt_core.specs.declared.journal.JournalEntry.{JournalEntry};
+    ghost use Rattle.ctt_desk.specs.Histories.{Standing};
+
+    ghost Value = { List JournalEntry };
+
+    ghost view = { λ c. c.journal.items };
+
+    ghost invariant = { λ c. Standing J.problem (S.problem c.sheet) J.opening (S.list c.sheet) c.journal.items };
+}
+
+impl<S: Timetable, J: Naming> Closed<S, J> {
+    /// The lectures, by course and slot: the opening after the journal.
+    pub fn list(&self) -> Result<Vec<Placed>, NoMemory>
+        ensures list { IfOk result (λ list. list.items ≡ after J.problem J.opening self.now) }
+        ensures lawful { Lawful J.problem (after J.problem J.opening self.now) }
+    {
+        self.sheet.list()
+    }
+
+    /// What the timetable costs.
+    pub fn cost(&self) -> Cost
+        ensures { result ≡ penalty J.problem (after J.problem J.opening self.now) }
+    {
+        self.sheet.cost()
+    }
+
+    /// The accepted drafts, in the order of their commits.
+    pub fn journal(&self) -> &[JournalEntry]
+        ensures journal { result.now ≡ self.now }
+        ensures legal { Legal J.problem J.opening self.now }
+    {
+        self.journal.as_slice()
+    }
+}

@@ -1,0 +1,64 @@
+//! Planners with an open draft.
+
+ghost use Rattle.std.specs.Prelude.{◌≡◌, IfOk, OnErr};
+ghost use Rattle.ctt_edits.specs.Calls.{CallFits, reply};
+ghost use Rattle.ctt_edits.specs.Fitting.{IsReply};
+ghost use Rattle.ctt_desk.specs.Planners.{present_of, asked_also};
+
+use crate::naming::Naming;
+use crate::planner::Planner;
+use ctt_board::{Sheet, Timetable};
+use ctt_draft::Draft;
+use ctt_edits::{Call, Reply, laws};
+use ctt_text::{Instance, NoMemory};
+use std::marker::Model;
+
+/// A planner with an open draft. Contracts see the planner, the timetable on which the draft was
+/// opened, and its calls with their replies. Whoever drops it abandons the draft.
+#[derive(Drop)]
+pub struct Drafting<'i, S: Timetable, J: Naming> {
+    pub(crate) planner: Planner<S, J>,
+    pub(crate) draft: Draft<'i, S>,
+}
+
+impl<'i, S: Timetable, J: Naming> Model for Drafting<'i, S, J> {
+    ghost use Rattle.std.specs.Prelude.{◌≡◌};
+    ghost use Rattle.ctt_desk.specs.Planners.{DraftingValue};
+
+    ghost Value = { DraftingValue };
+
+    ghost view = { λ d. record { planner = d.planner; base = d.draft.base; asked = d.draft.asked } };
+
+    ghost invariant = { λ d. d.draft.problem ≡ J.problem };
+}
+
+impl<'i, S: Sheet<'i>, J: Naming> Drafting<'i, S, J> {
+    /// The instance whose courses are timetabled.
+    pub fn instance(&self) -> &'i Instance
+        ensures { result.now ≡ J.problem }
+    {
+        self.draft.instance()
+    }
+
+    /// Makes a call in the draft, where nobody else's work is seen. Where memory is wanted the call was
+    /// not made.
+    pub fn call(&mut self, call: Call) -> Result<Reply, NoMemory>
+        requires { CallFits J.problem call }
+        ensures ok { IfOk result (λ told. (told ≡ reply J.problem (present_of J.problem self.old) call) × (self.new ≡ asked_also self.old call told)) }
+        ensures fits { IfOk result (IsReply J.problem) }
+        ensures err { OnErr result (self.new ≡ self.old) }
+    {
+        laws::replies_fit();
+        self.draft.instance().limits_hold();
+        self.draft.lawful();
+        self.draft.call(call)
+    }
+
+    /// Gives the draft up.
+    pub fn abandon(self) -> Planner<S, J>
+        ensures { result ≡ self.entry.planner }
+    {
+        let Drafting { planner, draft: _ } = self;
+        planner
+    }
+}

@@ -1,0 +1,57 @@
+//! A desk's opening, before the desk has a name.
+
+ghost use Rattle.std.specs.Prelude.{◌≡◌, Ok, IfOk, IfErr};
+ghost use Rattle.std.specs.List.{AllByRecursion as Each};
+ghost use Rattle.ctt_text.specs.Timetable.{Fits};
+ghost use Rattle.ctt_edits.specs.Openings.{opening};
+ghost use Rattle.ctt_desk.specs.Faults.{IsUnlawful};
+
+use crate::shared_fault::SharedFault;
+use ctt_board::{Sheet, Timetable};
+use ctt_core::placed;
+use ctt_text::{Instance, Placed};
+use std::alloc::Global;
+use std::marker::Model;
+
+/// The timetable with which a desk opens. Contracts see its instance and its lectures, from which a
+/// caller names the desk.
+#[derive(Drop)]
+pub struct Opened<S: Timetable> {
+    pub(crate) alloc: Global,
+    pub(crate) opening: Vec<Placed>,
+    pub(crate) sheet: S,
+}
+
+impl<S: Timetable> Model for Opened<S> {
+    ghost use Rattle.std.specs.Prelude.{◌≡◌};
+    ghost use Rattle.ctt_desk.specs.Names.{OpenedValue};
+
+    ghost Value = { OpenedValue };
+
+    ghost view = { λ o. record { problem = S.problem o.sheet; list = o.opening.items } };
+
+    ghost invariant = { λ o. S.list o.sheet ≡ o.opening.items };
+}
+
+impl<'i, S: Sheet<'i>> Opened<S> {
+    /// The timetable of these lectures, which are placed in their order, whatever it is. It is refused
+    /// at the first lecture that cannot be placed.
+    pub fn new(
+        alloc: Global,
+        instance: &'i Instance,
+        lectures: &[Placed],
+    ) -> Result<Self, SharedFault>
+        requires { Each (Fits instance.now) lectures.now }
+        ensures problem { IfOk result (λ opened. opened.problem ≡ instance.now) }
+        ensures list { IfOk result (λ opened. opening instance.now lectures.now ≡ Ok opened.list) }
+        ensures fault { IfErr result (IsUnlawful instance.now lectures.now) }
+    {
+        let sheet: S = placed(alloc, instance, lectures)?;
+        let opening = sheet.list()?;
+        Ok(Opened {
+            alloc,
+            opening,
+            sheet,
+        })
+    }
+}

@@ -1,0 +1,20 @@
+//! Why a commit is refused.
+
+use crate::drafting::Drafting;
+use crate::naming::Naming;
+use crate::planner::Planner;
+use ctt_board::Timetable;
+use ctt_edits::Row;
+
+/// Why a draft was not accepted.
+#[derive(Drop)]
+pub enum Refusal<'i, S: Timetable, J: Naming> {
+    /// The journal has another number of drafts of this planner than the planner committed, namely this
+    /// one. The draft has ended.
+    NotYours(Planner<S, J>, u64),
+    /// This row, the least one that was read, has changed since the draft was opened. The draft has
+    /// ended.
+    Stale(Planner<S, J>, Row),
+    /// There is not enough memory. The draft is as it was.
+    NoMemory(Drafting<'i, S, J>),
+}

@@ -1,0 +1,52 @@
+//! Why a desk is not made, a draft not opened or a look not answered.
+
+use ctt_core::DeskFault;
+use ctt_edits::EditFault;
+use ctt_text::NoMemory;
+use std::alloc::AllocError;
+
+/// What stands against a desk, a draft or a look.
+#[derive(Clone, Copy, Debug, PartialEq, Eq)]
+pub enum SharedFault {
+    /// The first lecture of the opening that cannot be placed, counted from 1, and what stands against
+    /// it.
+    Unlawful(u64, EditFault),
+    /// There is not enough memory.
+    NoMemory,
+}
+
+impl From<DeskFault> for SharedFault {
+    ghost use Rattle.std.specs.Prelude.{◌≡◌};
+    ghost use Rattle.ctt_desk.specs.Faults.{shared};
+
+    ghost from_gives = { λ fault told. told ≡ shared fault };
+
+    fn from(fault: DeskFault) -> SharedFault {
+        match fault {
+            DeskFault::Unlawful(at, fault) => SharedFault::Unlawful(at, fault),
+            DeskFault::NoMemory => SharedFault::NoMemory,
+        }
+    }
+}
+
+impl From<NoMemory> for SharedFault {
+    ghost use Rattle.std.specs.Prelude.{◌≡◌};
+    ghost use Rattle.ctt_desk.specs.declared.shared_fault.SharedFault.TheVariants.{NoMemory as OutOfMemory};
+
+    ghost from_gives = { λ _ fault. fault ≡ OutOfMemory };
+
+    fn from(_e: NoMemory) -> SharedFault {
+        SharedFault::NoMemory
+    }
+}
+
+impl From<AllocError> for SharedFault {
+    ghost use Rattle.std.specs.Prelude.{◌≡◌};
+    ghost use Rattle.ctt_desk.specs.declared.shared_fault.SharedFault.TheVariants.{NoMemory as OutOfMemory};
+
+    ghost from_gives = { λ _ fault. fault ≡ OutOfMemory };
+
+    fn from(_e: AllocError) -> SharedFault {
+        SharedFault::NoMemory
+    }
+}

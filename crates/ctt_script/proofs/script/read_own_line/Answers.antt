@@ -1,0 +1,22 @@
+use Rattle.std.proofs.Common.{◌≡◌}
+use Rattle.ctt_script.specs.JournalWords.{reads}
+use Rattle.ctt_script.specs.ScriptPlaces.{own_form}
+use Rattle.ctt_script.specs.ScriptText.{own_item}
+use Rattle.ctt_script.proofs.EventFits.{own_item_fits}
+use Rattle.ctt_script.proofs.ScriptLaws.{bad_text, text_asks}
+use Rattle.ctt_script.proofs.script.read_own_line.Goals as goal
+
+pub returns-in_default-clause-item : goal.returns-in_default-clause-item
+returns-in_default-clause-item c = bad_text (own_form c.args.instance.now c.args.planner) c.args.line.now c.in_default.ensures.cases.0
+
+pub returns-clause-item : goal.returns-clause-item
+returns-clause-item c =
+    text_asks (own_form c.args.instance.now c.args.planner) c.args.line.now c.in-Ok.text.now c.new-reader.result c.only_event.result c.in-Ok.ensures.cases.1 c.in-Ok.ensures.cases.0 c.new-reader.ensures
+    (c.only_event.ensures (reads (own_form c.args.instance.now c.args.planner) c.new-reader.result) c.read_own_event-read.ensures)
+
+pub returns-clause-fits : goal.returns-clause-fits
+returns-clause-fits c planners lt =
+    let is : c.only_event.result ≡ own_item c.args.instance.now c.args.planner c.args.line.now =
+      text_asks (own_form c.args.instance.now c.args.planner) c.args.line.now c.in-Ok.text.now c.new-reader.result c.only_event.result c.in-Ok.ensures.cases.1 c.in-Ok.ensures.cases.0 c.new-reader.ensures
+      (c.only_event.ensures (reads (own_form c.args.instance.now c.args.planner) c.new-reader.result) c.read_own_event-read.ensures) in
+    own_item_fits c.args.instance.now c.limits_hold.ensures planners c.args.planner lt c.args.line.now c.only_event.result is
