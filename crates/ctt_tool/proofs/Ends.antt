@@ -1,15 +1,17 @@
 -- How the program ends, by its status.
 use Rattle.std.proofs.Common.{◌≡◌, ◌≢◌, ◌⊎◌, inl, inr, ⊎_elim, refl, ℕ, List, [], Option, arith}
-use Rattle.ctt_tool.specs.Faults.{MayHaveWritten, status_of}
+use Rattle.ctt_tool.specs.Faults.{KeptUnless, MayHaveWritten, SaysFault, status_of}
 use Rattle.ctt_tool.specs.Jobs.{faults_of}
 use Rattle.ctt_tool.specs.Outcomes.{outcome_status}
 use Rattle.ctt_tool.specs.Texts.{Held}
 use Rattle.ctt_tool.specs.Work.{DoesAsAsked}
 use Rattle.ctt_tool.specs.declared.fault.Fault.{Fault}
 use Rattle.ctt_tool.specs.declared.fault.Fault.TheVariants.{CannotRead, CannotWrite, Instance, Journal, NoMemory, Opening, Solution, TooLong, Words, WordsNotText}
+use Rattle.ctt_tool.specs.declared.job.Job.TheVariants.{Audit, Check, Run}
 use Rattle.ctt_tool.specs.declared.outcome.Outcome.{Outcome}
 use Rattle.ctt_tool.specs.declared.outcome.Outcome.TheVariants.{Done, Differs}
 use Rattle.ctt_tool.proofs.Causes.{three_is_one}
+use Rattle.ctt_tool.proofs.Known.{says_weaker}
 
 -- status 0 is that of a job that was done
 pub ends_done : (outcome : Outcome) (status : ℕ) (D : Outcome → Type 0) → status ≡ outcome_status outcome → D outcome → status ≡ 0 → D Done
@@ -29,6 +31,26 @@ pub differs_taken : (words : List (List ℕ)) (before after : Held) (old new : O
 differs_taken words before after old new (inl help) = cc
 differs_taken words before after old new (inr does) = does.0
 
+-- files have changed only where one could not be stored, which ends with status 3
+pub ended_kept : (fault : Fault) (status : ℕ) (S K : Type 0) → (status ≡ status_of fault) ⊎ (status ≡ 3) → KeptUnless fault S K → K ⊎ ((status ≡ 3) × S)
+ended_kept CannotWrite status S K is kept = ⊎_elim inl (λ stored. inr (⊎_elim (λ same. same) (λ three. three) is, stored)) kept
+ended_kept NoMemory status S K is kept = inl kept
+ended_kept (Instance number at) status S K is kept = inl kept
+ended_kept (Solution number at) status S K is kept = inl kept
+ended_kept (Journal number at) status S K is kept = inl kept
+ended_kept (Opening text) status S K is kept = inl kept
+ended_kept (CannotRead name) status S K is kept = inl kept
+ended_kept (TooLong name) status S K is kept = inl kept
+ended_kept (Words text) status S K is kept = inl kept
+ended_kept WordsNotText status S K is kept = inl kept
+
+-- an audit that does not agree has changed no file
+pub differs_kept : (words : List (List ℕ)) (before after : Held) (old new : Option (List ℕ)) → DoesAsAsked words Differs before after old new → after ≡ before
+differs_kept words before after old new (inl help) = help.2
+differs_kept words before after old new (inr (taken, (Check instance solution json, is, does))) = cc
+differs_kept words before after old new (inr (taken, (Run instance script start journal, is, does))) = cc
+differs_kept words before after old new (inr (taken, (Audit instance journal start, is, does))) = does.0
+
 -- where a text is refused, nothing was printed
 pub unprinted_one : (fault : Fault) (P : Type 0) → MayHaveWritten fault ⊎ P → status_of fault ≡ 1 → P
 unprinted_one fault P (inr same) one = same
@@ -42,3 +64,9 @@ unprinted_one (CannotRead name) P (inl may) one = absurd may
 unprinted_one (TooLong name) P (inl may) one = absurd may
 unprinted_one (Words text) P (inl may) one = absurd may
 unprinted_one WordsNotText P (inl may) one = absurd may
+
+-- what is so of these words is so of some
+pub of_some_words : (words : List (List ℕ)) (D : List (List ℕ) → Type 0) (M : Type 0) (C : Fault → Type 0) (status : ℕ) (old new : Option (List ℕ)) → D words ⊎ (M ⊎ SaysFault C status old new)
+    → ((some : List (List ℕ)) × D some) ⊎ (M ⊎ SaysFault (λ _. Unit {0}) status old new)
+of_some_words words D M C status old new (inl does) = inl (words, does)
+of_some_words words D M C status old new (inr said) = inr (says_weaker M C (λ _. Unit {0}) status old new (λ fault has. tt) said)

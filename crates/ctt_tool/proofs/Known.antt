@@ -3,11 +3,11 @@ use Rattle.std.proofs.Common.{◌≡◌, ◌⊎◌, ⊎_elim, inl, inr, ℕ, Boo
 use Rattle.std.specs.Global.{Global}
 use Rattle.std.specs.Io.KnownBytes.{Appends}
 use Rattle.std.specs.declared.string.String.{String}
-use Rattle.ctt_tool.specs.Faults.{IfUnwritten, IsLineOf, IsOfFiles, IsOneOf, SaysFault, status_of}
+use Rattle.ctt_tool.specs.Faults.{IfUnwritten, IsLineOf, IsOfFiles, IsOneOf, KeptUnless, SaysFault, status_of}
 use Rattle.ctt_tool.specs.Jobs.{IsJobOf, Storing, files_of}
 use Rattle.ctt_tool.specs.Work.{HasCause}
 use Rattle.ctt_tool.specs.declared.fault.Fault.{Fault}
-use Rattle.ctt_tool.specs.declared.fault.Fault.TheVariants.{CannotRead, CannotWrite, NoMemory, TooLong}
+use Rattle.ctt_tool.specs.declared.fault.Fault.TheVariants.{CannotRead, CannotWrite, Instance, Journal, NoMemory, Opening, Solution, TooLong, Words, WordsNotText}
 use Rattle.ctt_tool.specs.declared.job.Job.{Job}
 
 pub both_told : {X Y : Type 0} (o : Option X) (p : Option Y) (P : X → Type 0) (Q : Y → Type 0) (R : X → Y → Type 0) → ((x : X) (y : Y) → P x → Q y → R x y)
@@ -60,3 +60,28 @@ job_caused words held failed job Q _ is file unwritten = tt
 pub passed_on : {T : Type 0} (r : Result T Fault) (fault : Fault) (P : Fault → Type 0) → IsErrAnd r (λ told. told ≡ fault) → P fault → IfErr r P
 passed_on (Ok x) fault P same holds = tt
 passed_on (Err told) fault P same holds = subst P (sym same) holds
+
+-- files that are kept are kept by any fault; and what is so of the cause of the others may be said otherwise
+pub kept_unless : (fault : Fault) (S K : Type 0) → K → KeptUnless fault S K
+kept_unless CannotWrite S K kept = inl kept
+kept_unless NoMemory S K kept = kept
+kept_unless (Instance number at) S K kept = kept
+kept_unless (Solution number at) S K kept = kept
+kept_unless (Journal number at) S K kept = kept
+kept_unless (Opening text) S K kept = kept
+kept_unless (CannotRead name) S K kept = kept
+kept_unless (TooLong name) S K kept = kept
+kept_unless (Words text) S K kept = kept
+kept_unless WordsNotText S K kept = kept
+
+pub kept_weaker : (fault : Fault) (S R K L : Type 0) → (S → R) → (K → L) → KeptUnless fault S K → KeptUnless fault R L
+kept_weaker CannotWrite S R K L more kept is = ⊎_elim (λ same. inl (kept same)) (λ stored. inr (more stored)) is
+kept_weaker NoMemory S R K L more kept is = kept is
+kept_weaker (Instance number at) S R K L more kept is = kept is
+kept_weaker (Solution number at) S R K L more kept is = kept is
+kept_weaker (Journal number at) S R K L more kept is = kept is
+kept_weaker (Opening text) S R K L more kept is = kept is
+kept_weaker (CannotRead name) S R K L more kept is = kept is
+kept_weaker (TooLong name) S R K L more kept is = kept is
+kept_weaker (Words text) S R K L more kept is = kept is
+kept_weaker WordsNotText S R K L more kept is = kept is

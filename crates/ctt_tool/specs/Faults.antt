@@ -135,6 +135,10 @@ IfUnwritten NoMemory P Q = Q
 IfUnwritten (Words text) P Q = Q
 IfUnwritten WordsNotText P Q = Q
 
+-- K, unless a file that had to be stored could not be written, and then S
+abbrev pub KeptUnless : Fault → Type 0 → Type 0 → Type 0
+KeptUnless fault S K = IfUnwritten fault (K ⊎ S) K
+
 -- a part of the answers may have been printed before
 abbrev pub MayHaveWritten : Fault → Type 0
 MayHaveWritten CannotWrite = Unit {0}

@@ -141,7 +141,12 @@ fn audit_command<'a>(alloc: Global) -> Result<Command<'a>, AllocError>
     ensures { IfOk result (IsCommand audit) }
 {
     let instance = file_argument(alloc, "instance", "INSTANCE", "The file of the instance");
-    let journal = file_argument(alloc, "journal", "JOURNAL", "The file of the accepted drafts");
+    let journal = file_argument(
+        alloc,
+        "journal",
+        "JOURNAL",
+        "The file of the accepted drafts",
+    );
     let start = start_argument(alloc);
     Command::new(alloc, "audit")
         .about("Say whether a journal was told what its drafts are told, run one after another")

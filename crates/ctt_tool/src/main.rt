@@ -39,7 +39,12 @@ fn owned_words(rt: &HostRuntime) -> Result<Vec<String>, Fault>
 }
 
 /// Does what the words of the command line ask for, as `program` does.
-fn serve<F: Files, W: Sink, V: Sink>(rt: &HostRuntime, files: &mut F, out: &mut W, err: &mut V) -> u8
+fn serve<F: Files, W: Sink, V: Sink>(
+    rt: &HostRuntime,
+    files: &mut F,
+    out: &mut W,
+    err: &mut V,
+) -> u8
     requires out { W.has_failed out.old ≡ false }
     requires err { V.has_failed err.old ≡ false }
 

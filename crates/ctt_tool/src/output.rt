@@ -37,10 +37,10 @@ pub fn pass_on<W: Sink>(out: &mut W) -> Result<(), Fault>
     ensures marked { OnErr result (W.has_failed out.new ≡ true) }
     ensures fault { IfErr result (λ fault. fault ≡ CannotWrite) }
 {
-    match out.flush() {
-        Ok(()) => Ok(()),
-        Err(_) => Err(Fault::CannotWrite),
-    }
+    let Ok(()) = out.flush() else {
+        return Err(Fault::CannotWrite);
+    };
+    Ok(())
 }
 
 /// Writes a whole text on standard error, where that can be done.

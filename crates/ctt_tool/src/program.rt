@@ -1,7 +1,7 @@
 //! What the program does.
 
 ghost use Rattle.std.specs.Prelude.{◌≡◌, ◌≢◌, ◌≤◌, ◌⊎◌, [], true, false, map, OnOk, IfOk, IfErr};
-ghost use Rattle.ctt_tool.specs.Faults.{IfUnwritten, IsOfFiles, IsOfTexts, MayHaveWritten, SaysFault, status_of};
+ghost use Rattle.ctt_tool.specs.Faults.{IfUnwritten, IsOfFiles, IsOfTexts, KeptUnless, MayHaveWritten, SaysFault, status_of};
 ghost use Rattle.ctt_tool.specs.Jobs.{IsRefusal, Storing, faults_of, files_of};
 ghost use Rattle.ctt_tool.specs.Work.{AsksForRefusedText, AsksToStore, DoesAsAsked, DoesJob, HasCause, HasRefusedText};
 ghost use Rattle.ctt_tool.specs.declared.fault.Fault.TheVariants.{NoMemory};
@@ -32,7 +32,9 @@ fn do_job<F: Files, W: Sink>(
         ((W.has_failed out.new ≡ true) ⊎ Storing job)
         (IsOfTexts fault × (W.has_failed out.new ≡ W.has_failed out.old))) }
     ensures unwritten { IfErr result (λ fault. MayHaveWritten fault ⊎ (out.new ≡ out.old)) }
-    ensures unstored { IfErr result (λ fault. Storing job ⊎ (F.held files.new ≡ F.held files.old)) }
+    ensures unstored { IfErr result (λ fault. KeptUnless fault
+        ((W.has_failed out.new ≡ W.has_failed out.old) × Storing job)
+        (F.held files.new ≡ F.held files.old)) }
     ensures file { IfErr result (IsOfFiles (files_of job) (F.held files.old)) }
     ensures cause { IfErr result (λ fault. status_of fault ≡ 1 → HasRefusedText job (F.held files.old)) }
 {
@@ -76,8 +78,9 @@ fn do_as_asked<F: Files, W: Sink>(
     ensures unmarked { OnOk result (W.has_failed out.new ≡ W.has_failed out.old) }
     ensures marked { IfErr result (λ fault. (status_of fault ≡ 3) ⊎ (W.has_failed out.new ≡ W.has_failed out.old)) }
     ensures unwritten { IfErr result (λ fault. MayHaveWritten fault ⊎ (out.new ≡ out.old)) }
-    ensures unstored { IfErr result (λ fault. AsksToStore (map (λ word. word.now) words.now)
-        ⊎ (F.held files.new ≡ F.held files.old)) }
+    ensures unstored { IfErr result (λ fault. KeptUnless fault
+        ((W.has_failed out.new ≡ W.has_failed out.old) × AsksToStore (map (λ word. word.now) words.now))
+        (F.held files.new ≡ F.held files.old)) }
     ensures cause { IfErr result (λ fault. status_of fault ≡ 1
         → AsksForRefusedText (map (λ word. word.now) words.now) (F.held files.old)) }
     ensures taken { IfErr result (λ fault. status_of fault ≡ 1
@@ -150,8 +153,9 @@ pub fn program<R: AllocGlobal, F: Files, W: Sink, V: Sink>(
         result (V.taken err.old) (V.taken err.new)) }
     ensures unprinted { result ≡ 2 → out.new ≡ out.old }
     ensures unwritten { W.has_failed out.new ≡ true → result ≡ 3 }
-    ensures unstored { result ≢ 0 → AsksToStore (map (λ word. word.now) words.now)
-        ⊎ (F.held files.new ≡ F.held files.old) }
+    ensures unstored { result ≢ 0 → (F.held files.new ≡ F.held files.old)
+        ⊎ ((result ≡ 3) × ((W.has_failed out.new ≡ W.has_failed out.old)
+        × AsksToStore (map (λ word. word.now) words.now))) }
 {
     let alloc = rt.alloc();
     match do_as_asked(alloc, words, files, out) {

@@ -11,7 +11,7 @@ ghost use Rattle.ctt_core.specs.Runs.{accepted_of};
 ghost use Rattle.ctt_script.specs.AnswerText.{answer_text, script_run};
 ghost use Rattle.ctt_script.specs.Entries.{IsWritable};
 ghost use Rattle.ctt_script.specs.WrittenText.{journal_text};
-ghost use Rattle.ctt_tool.specs.Faults.{IfUnwritten, IsOfFiles, IsOfTexts, IsRunFault, MayHaveWritten, RunFaultFits, status_of};
+ghost use Rattle.ctt_tool.specs.Faults.{IfUnwritten, IsOfFiles, IsOfTexts, IsRunFault, KeptUnless, MayHaveWritten, RunFaultFits, status_of};
 ghost use Rattle.ctt_tool.specs.Jobs.{IsGiven, given};
 ghost use Rattle.ctt_tool.specs.Runs.{IsRefusedRun, RunsOn, RunsScript, Stores};
 ghost use Rattle.ctt_tool.specs.Texts.{IsRefusedStart};
@@ -123,7 +123,9 @@ fn run_on<'i, S: Sheet<'i>, F: Files, W: Sink>(
         ((W.has_failed out.new ≡ true) ⊎ IsGiven journal)
         (IsOfTexts fault × (W.has_failed out.new ≡ W.has_failed out.old))) }
     ensures unwritten { IfErr result (λ fault. MayHaveWritten fault ⊎ (out.new ≡ out.old)) }
-    ensures unstored { IfErr result (λ fault. IsGiven journal ⊎ (F.held files.new ≡ F.held files.old)) }
+    ensures unstored { IfErr result (λ fault. KeptUnless fault
+        ((W.has_failed out.new ≡ W.has_failed out.old) × IsGiven journal)
+        (F.held files.new ≡ F.held files.old)) }
     ensures file { IfErr result (IsOfFiles (script ∷ given start) (F.held files.old)) }
     ensures cause { IfErr result (λ fault. status_of fault ≡ 1
         → IsRefusedStart instance.now (F.held files.old) start) }
@@ -154,7 +156,9 @@ pub fn run<F: Files, W: Sink>(
         ((W.has_failed out.new ≡ true) ⊎ IsGiven journal)
         (IsOfTexts fault × (W.has_failed out.new ≡ W.has_failed out.old))) }
     ensures unwritten { IfErr result (λ fault. MayHaveWritten fault ⊎ (out.new ≡ out.old)) }
-    ensures unstored { IfErr result (λ fault. IsGiven journal ⊎ (F.held files.new ≡ F.held files.old)) }
+    ensures unstored { IfErr result (λ fault. KeptUnless fault
+        ((W.has_failed out.new ≡ W.has_failed out.old) × IsGiven journal)
+        (F.held files.new ≡ F.held files.old)) }
     ensures file { IfErr result (IsOfFiles (instance ∷ script ∷ given start) (F.held files.old)) }
     ensures cause { IfErr result (λ fault. status_of fault ≡ 1
         → IsRefusedRun (F.held files.old) instance start) }

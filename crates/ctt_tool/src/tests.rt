@@ -443,7 +443,10 @@ fn audits_a_journal(rt: HostRuntime) {
             "told",
             b"journal 1 entry 0 1 place top A 0 1 refused roomtaken geo END.".as_slice(),
         ),
-        ("done", b"journal 1 entry 0 1 place top A 0 1 done END.".as_slice()),
+        (
+            "done",
+            b"journal 1 entry 0 1 place top A 0 1 done END.".as_slice(),
+        ),
         ("cut", b"journal 1 entry 0 1 place top A 0 1".as_slice()),
     ];
     for (journal, start, printed, said, status) in [
@@ -458,7 +461,14 @@ fn audits_a_journal(rt: HostRuntime) {
         let words = ["timedesk", "audit", "i", journal, "--start", start];
         assert_ends(&rt, &words, &files, printed, said, status);
     }
-    assert_ends(&rt, &["timedesk", "audit", "i", "done"], &files, "agrees\n", "", 0);
+    assert_ends(
+        &rt,
+        &["timedesk", "audit", "i", "done"],
+        &files,
+        "agrees\n",
+        "",
+        0,
+    );
 }
 
 #[test]

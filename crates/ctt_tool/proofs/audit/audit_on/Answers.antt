@@ -25,9 +25,13 @@ returns-clause-cause g c =
     let problem : Problem = c.args.instance.now in
     IfErr-weaker c.print_verdict.result _ _ (λ fault caused one.
     let why = caused one in
-    inr (inr (why.0, why.1, record {
-      lectures = c.in_ok-lectures.lectures.items;
-      is_start = subst (λ held. IsStart problem held c.args.start c.in_ok-lectures.lectures.items) c.in_ok-entries.ensures.kept c.in_ok-lectures.ensures.spelled;
-      refused = badly_opened problem c.in_ok-lectures.lectures.items c.deref-2.result.now c.in_ok-verdict.verdict why.0 why.1 why.2
-          (subst (λ ls. IsVerdict problem ls c.deref-2.result.now c.in_ok-verdict.verdict) c.deref.ensures.value c.in_ok-verdict.ensures.found);
-    }))) c.print_verdict.ensures.cause
+    inr (inr (
+      why.0,
+      why.1,
+      record {
+        lectures = c.in_ok-lectures.lectures.items;
+        is_start = subst (λ held. IsStart problem held c.args.start c.in_ok-lectures.lectures.items) c.in_ok-entries.ensures.kept c.in_ok-lectures.ensures.spelled;
+        refused = badly_opened problem c.in_ok-lectures.lectures.items c.deref-2.result.now c.in_ok-verdict.verdict why.0 why.1 why.2
+            (subst (λ ls. IsVerdict problem ls c.deref-2.result.now c.in_ok-verdict.verdict) c.deref.ensures.value c.in_ok-verdict.ensures.found);
+      },
+    ))) c.print_verdict.ensures.cause

@@ -1,4 +1,4 @@
-use Rattle.std.proofs.Common.{[], ◌∷◌, ◌∙◌, ⊎_elim, inl, inr, subst, IfErr, IfSome, List, ℕ}
+use Rattle.std.proofs.Common.{[], ◌∷◌, ◌∙◌, inr, subst, IfErr}
 use Rattle.std.proofs.lemmas.Result.{IfErr-weaker}
 use Rattle.std.specs.String.{string_bytes}
 use Rattle.ctt_text.specs.Problem.{Problem}
@@ -6,7 +6,7 @@ use Rattle.ctt_tool.specs.Faults.{IsOfFiles}
 use Rattle.ctt_tool.specs.Jobs.{given}
 use Rattle.ctt_tool.specs.Runs.{RunsOn}
 use Rattle.ctt_tool.specs.Texts.{IsRefusedStart}
-use Rattle.ctt_tool.proofs.Known.{of_more_files, on_ok_weaker}
+use Rattle.ctt_tool.proofs.Known.{kept_weaker, of_more_files, on_ok_weaker}
 use Rattle.ctt_tool.proofs.run.run.Goals as goal
 
 pub returns-clause-runs : goal.returns-clause-runs
@@ -20,7 +20,7 @@ returns-clause-runs g c =
 
 pub returns-clause-unstored : goal.returns-clause-unstored
 returns-clause-unstored g c =
-    IfErr-weaker c.run_on.result _ _ (λ fault kept. ⊎_elim inl (λ same. inr (same ∙ c.in_ok-instance.ensures.kept)) kept) c.run_on.ensures.unstored
+    IfErr-weaker c.run_on.result _ _ (λ fault kept. kept_weaker fault _ _ _ _ (λ stored. stored) (λ same. same ∙ c.in_ok-instance.ensures.kept) kept) c.run_on.ensures.unstored
 
 pub returns-clause-file : goal.returns-clause-file
 returns-clause-file g c =

@@ -24,11 +24,15 @@ returns-in_err-desk-clause-cause g c =
     let problem : Problem = c.args.instance.now in
     passed_on c.from_residual-in_err-desk.result c.in_err-desk.field-0.0 (λ fault. status_of fault ≡ 1 → IsRefusedStart problem (g.F.Files.held c.args.files.now) c.args.start) c.from_residual-in_err-desk.ensures.1 (λ one.
     let why = c.in_err-desk.ensures.cause one in
-    inr (why.0, why.1, record {
-      lectures = c.in_ok-lectures.lectures.items;
-      is_start = subst (λ held. IsStart problem held c.args.start c.in_ok-lectures.lectures.items) c.in-Ok.ensures.kept c.in_ok-lectures.ensures.spelled;
-      refused = ap (opening problem) (sym c.deref-2.ensures.value) ∙ why.2;
-    }))
+    inr (
+      why.0,
+      why.1,
+      record {
+        lectures = c.in_ok-lectures.lectures.items;
+        is_start = subst (λ held. IsStart problem held c.args.start c.in_ok-lectures.lectures.items) c.in-Ok.ensures.kept c.in_ok-lectures.ensures.spelled;
+        refused = ap (opening problem) (sym c.deref-2.ensures.value) ∙ why.2;
+      },
+    ))
 
 pub returns-clause-runs : goal.returns-clause-runs
 returns-clause-runs g c =
