@@ -1,19 +1,16 @@
 -- The rows of a timetable, which stand one after another.
 use Rattle.std.proofs.Common.{◌≡◌, ℕ, zero, suc, ◌+◌, ◌-◌, ◌<◌, ◌≤◌, Bool, true, false, ◌==◌, leb, List, [], ◌∷◌, length, take, drop, get_or, refl, ◌∙◌, sym, ap, arith, inl, inr, one-add, add-one}
-use Rattle.std.specs.List.{filter, prefix_len, AllWithin, AllByRecursion as Each}
+use Rattle.std.specs.List.{list_all, prefix_len, AllWithin, AllByRecursion as Each}
 use Rattle.std.specs.List.Sorted.{IsNonDecreasingBy}
 use Rattle.std.proofs.lemmas.Bool.Decides.{nat_tests}
-use Rattle.std.proofs.lemmas.Bool.{cases_eq, eq-eqb, ne_eqb, eqb-true, leb-true, le-leb, lt-leb}
+use Rattle.std.proofs.lemmas.Bool.{cases_eq, eq-eqb, ne_eqb, eqb-true, leb-true, le-leb, lt-leb, and_parts}
 use Rattle.std.proofs.lemmas.List.{drop-drop, get_or-drop, length-drop}
 use Rattle.std.proofs.lemmas.List.Sums.{prefix_len-le-length}
 use Rattle.ctt_text.specs.Timetable.{before, Ascending, course_row}
 use Rattle.ctt_text.specs.declared.placed.Placed.{Placed}
 use Rattle.ctt_text.proofs.TimetableLemmas.{Each-map, Each-at, Each-from_index}
+use Rattle.ctt_rules.specs.Rows.{from_course, IsCut}
 use Rattle.ctt_rules.proofs.ListLemmas.{filter_none, filter_every, filter_within, Pairwise-filter, Each-filter_passes}
-
--- the lectures of this course and of the courses after it
-abbrev pub from_course : ℕ → List Placed → List Placed
-from_course c t = filter (λ l. leb c l.course) t
 
 pub record IsStart (c start : ℕ) (t : List Placed) : Type 0 where
   pub within : start ≤ length t
@@ -123,3 +120,27 @@ row_by_places t ascending c start end is next =
     let there : IsStart (c + 1) end rest = rw is.rest at next in
     let e : end - 0 ≡ end = omega arith in
     rw is.rest (rw e at (row_between rest order c 0 first end there) ∙ filter_within (λ l. l.course == c) (λ l. leb c l.course) t (λ l k. le-leb c l.course (omega (arith, eqb-true l.course c k))))
+
+-- the first that does not pass stands behind those that do
+pub passes_end : {X : Type 0} (p : X → Bool) (d : X) (xs : List X) (k : ℕ) → k ≤ length xs → list_all p (take k xs) ≡ true → (k < length xs → p (get_or xs k d) ≡ false) → prefix_len p xs ≡ k
+passes_end p d [] zero le all stop = refl
+passes_end p d (x ∷ xs) zero le all stop = rw (stop (omega arith)) refl
+passes_end p d [] (suc k) le all stop = absurd (omega (arith, le))
+passes_end p d (x ∷ xs) (suc k) le all stop =
+    let parts = and_parts (p x) (list_all p (take k xs)) all in
+    rw (parts.0, one-add) (ap suc (passes_end p d xs k (omega (arith, le)) parts.1 (λ lt. stop (omega (arith, lt)))))
+
+-- what a timetable has from a course on, cut behind its row
+pub cut_is : (t : List Placed) → Ascending t → (c : ℕ) (lectures : List Placed) → lectures ≡ from_course c t → (k : ℕ) → prefix_len (λ l. l.course == c) lectures ≡ k → IsCut c t (take k lectures) (drop k lectures)
+cut_is t ascending c lectures is k e =
+    let order : Ascending (from_course c t) = Pairwise-filter (λ a b. before a b ≡ true) (λ l. leb c l.course) t ascending in
+    let later = Each-map (λ (l : Placed). leb c l.course ≡ true) (λ (l : Placed). c ≤ l.course) (λ l h. leb-true c l.course h) (from_course c t) (Each-filter_passes (λ l. leb c l.course) t) in
+    let both = front_is c (from_course c t) later order in
+    rw (← e, is) (record {
+      front = both.0 ∙ filter_within (λ l. l.course == c) (λ l. leb c l.course) t (λ l h. le-leb c l.course (omega (arith, eqb-true l.course c h)));
+      after = both.1 ∙ filter_within (λ l. leb (suc c) l.course) (λ l. leb c l.course) t (λ l h. le-leb c l.course (omega (arith, leb-true (suc c) l.course h))) ∙ ap (λ d. from_course d t) (sym (add-one c));
+    })
+
+-- all lectures are those from the first course on
+pub from_first : (t : List Placed) → t ≡ from_course 0 t
+from_first t = sym (filter_every (λ l. leb 0 l.course) t (Each-from_index (λ l. leb 0 l.course ≡ true) t (λ k d lt. le-leb 0 (get_or t k d).course (omega arith))))

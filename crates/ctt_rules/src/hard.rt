@@ -5,7 +5,7 @@ ghost use Rattle.std.specs.List.{AllByRecursion as Each};
 ghost use Rattle.ctt_text.specs.Timetable.{IsTimetable, Fits};
 ghost use Rattle.ctt_rules.specs.Hard.{hard_counts, missing_count, unavailable_count};
 
-use crate::row::course_row;
+use crate::row::cut_row;
 use crate::sharing::count_sharing;
 use ctt_text::{CourseNo, Instance, Placed};
 
@@ -29,11 +29,13 @@ fn missing(instance: &Instance, timetable: &[Placed]) -> u64
     ensures { result ≡ missing_count instance.now timetable.now }
 {
     instance.limits_hold();
+    let mut rest = timetable;
     let mut total = 0;
     for number in 0..instance.courses() {
         let course = CourseNo::new(number);
-        let lectures = u64::from(instance.lectures(course));
-        total += lectures.abs_diff(course_row(instance, timetable, course).len() as u64);
+        let (row, after) = cut_row(rest, course);
+        total += u64::from(instance.lectures(course)).abs_diff(row.len() as u64);
+        rest = after;
     }
     total
 }

@@ -9,11 +9,15 @@ use crate::hard::{Hard, hard_counts};
 use crate::row::course_row;
 use ctt_text::{CourseNo, Instance, Placed};
 
-/// Whether no course has more lectures than the instance says.
-fn has_no_surplus(instance: &Instance, timetable: &[Placed]) -> bool
-    requires { IsTimetable instance.now timetable.now }
+/// Whether no course has more lectures than the instance says, in a timetable that breaks so much.
+fn has_no_surplus(instance: &Instance, timetable: &[Placed], hard: &Hard) -> bool
+    requires timetable { IsTimetable instance.now timetable.now }
+    requires counted { hard.now ≡ hard_counts instance.now timetable.now }
     ensures { IsTrue result ↔ ((c : ℕ) → length (course_row c timetable.now) ≤ (course_of instance.now c).lectures) }
 {
+    if hard.lectures == 0 {
+        return true;
+    }
     for number in 0..instance.courses() {
         let course = CourseNo::new(number);
         if course_row(instance, timetable, course).len() > instance.lectures(course) as usize {
@@ -36,7 +40,7 @@ pub(crate) fn keeps_rules(instance: &Instance, timetable: &[Placed], hard: &Hard
     requires counted { hard.now ≡ hard_counts instance.now timetable.now }
     ensures { IsTrue result ↔ Lawful instance.now timetable.now }
 {
-    breaks_none(hard) && has_no_surplus(instance, timetable)
+    breaks_none(hard) && has_no_surplus(instance, timetable, hard)
 }
 
 /// Whether a timetable that breaks so much, and is lawful or not, is complete.

@@ -1,8 +1,10 @@
 //! The lectures of one course in a timetable.
 
-ghost use Rattle.std.specs.Prelude.{◌≡◌};
+ghost use Rattle.std.specs.Prelude.{◌≡◌, List};
 ghost use Rattle.std.specs.List.{AllByRecursion as Each};
-ghost use Rattle.ctt_text.specs.Timetable.{IsTimetable, Fits, course_row};
+ghost use Rattle.ctt_text.specs.Timetable.{Ascending, IsTimetable, Fits, course_row};
+ghost use Rattle.ctt_text.specs.declared.placed.Placed.{Placed};
+ghost use Rattle.ctt_rules.specs.Rows.{from_course, IsCut};
 
 use ctt_text::{CourseNo, Instance, Placed};
 
@@ -20,4 +22,16 @@ pub fn course_row<'a>(
     let rest = &timetable[start..];
     let end = rest.partition_point(|l| l.course.get() <= course.get());
     &rest[..end]
+}
+
+/// The lectures of a course, and those of the courses after it, of a timetable's lectures from this
+/// course on.
+pub(crate) fn cut_row<'a>(lectures: &'a [Placed], course: CourseNo) -> (&'a [Placed], &'a [Placed])
+    ensures { (t : List Placed) → Ascending t → lectures.now ≡ from_course course t → IsCut course t result.0.now result.1.now }
+{
+    let mut len = 0;
+    while len < lectures.len() && lectures[len].course == course {
+        len += 1;
+    }
+    lectures.split_at(len)
 }

@@ -9,7 +9,7 @@ ghost use Rattle.ctt_rules.specs.Penalty.{penalty, course_cost, total, unseated,
 
 use crate::compactness::compactness;
 use crate::cost::Cost;
-use crate::row::course_row;
+use crate::row::{course_row, cut_row};
 use ctt_text::{CourseNo, Instance, Marks, Placed};
 
 /// The students above the capacities of the rooms, over all these lectures.
@@ -88,10 +88,13 @@ fn days(instance: &Instance, timetable: &[Placed]) -> u64
     ensures bound { result ≤ 2000 * (5 * 999999999) }
 {
     instance.limits_hold();
+    let mut rest = timetable;
     let mut total = 0;
     for number in 0..instance.courses() {
         let course = CourseNo::new(number);
-        total += missing_days(instance, course, course_row(instance, timetable, course));
+        let (row, after) = cut_row(rest, course);
+        total += missing_days(instance, course, row);
+        rest = after;
     }
     total
 }
@@ -103,10 +106,12 @@ fn stability(instance: &Instance, timetable: &[Placed]) -> u64
     ensures bound { result ≤ 2000 * 1000 }
 {
     instance.limits_hold();
+    let mut rest = timetable;
     let mut total = 0;
     for number in 0..instance.courses() {
-        let row = course_row(instance, timetable, CourseNo::new(number));
+        let (row, after) = cut_row(rest, CourseNo::new(number));
         total += surplus_rooms(instance, row);
+        rest = after;
     }
     total
 }

@@ -1,9 +1,9 @@
 //! The lectures of a solution, as they are read.
 
-ghost use Rattle.std.specs.Prelude.{◌≡◌, ◌<◌, ◌+◌, ◌*◌, [], false, IfOk};
+ghost use Rattle.std.specs.Prelude.{◌≡◌, ◌<◌, ◌≤◌, ◌+◌, ◌*◌, ℕ, [], false, length, take, IfOk};
 ghost use Rattle.ctt_text.specs.Problem.{course_count, room_count, slot_count};
 ghost use Rattle.ctt_text.specs.Timetable.{has_lecture, with};
-ghost use Rattle.ctt_text.specs.RoomTable.{lecture_in};
+ghost use Rattle.ctt_text.specs.RoomTable.{lecture_in, lectures_from};
 
 use crate::ids::{CourseNo, RoomNo, SlotNo};
 use crate::instance::Instance;
@@ -85,6 +85,21 @@ impl HeldRoom {
     }
 }
 
+/// The first cell from one on that has a room; the end of the table, where none has.
+#[tactic(auto, using(crate::proofs::RoomTableLaws::gathered_none))]
+fn next_held(rooms: &[HeldRoom], from: usize) -> usize
+    requires { from ≤ length rooms.now }
+    ensures after { from ≤ result }
+    ensures within { result ≤ length rooms.now }
+    ensures free { (slots : ℕ) → lectures_from slots 0 (take result rooms.now) ≡ lectures_from slots 0 (take from rooms.now) }
+{
+    let mut cell = from;
+    while cell < rooms.len() && rooms[cell].room().is_none() {
+        cell += 1;
+    }
+    cell
+}
+
 /// Lectures of an instance: a room for each course and slot that has one.
 #[derive(Drop)]
 pub(crate) struct Lectures<'i> {
@@ -158,10 +173,12 @@ impl<'i> Lectures<'i> {
         ensures { IfOk result (λ list. list.items ≡ self.now.lectures) }
     {
         let mut list = Vec::new(alloc);
-        for (cell, room) in self.rooms.iter().enumerate() {
-            if let Some(room) = room.room() {
+        let mut cell = next_held(&self.rooms, 0);
+        while cell < self.rooms.len() {
+            if let Some(room) = self.rooms[cell].room() {
                 list.push(lecture(self.instance, cell, room))?;
             }
+            cell = next_held(&self.rooms, cell + 1);
         }
         Ok(list)
     }
