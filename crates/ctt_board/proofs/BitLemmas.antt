@@ -1,8 +1,8 @@
 -- Reads and writes of a table of bits.
-use Rattle.std.proofs.Common.{◌≡◌, ℕ, zero, suc, ◌+◌, ◌*◌, ◌/◌, ◌%◌, ◌^◌, ◌<◌, ◌≤◌, Bool, true, false, cond, ◌&&◌, ◌==◌, List, length, set, get_or, refl, ◌∙◌, sym, ap, ap₂, subst, arith, w64, zero-add}
+use Rattle.std.proofs.Common.{◌≡◌, ℕ, zero, suc, ◌+◌, ◌*◌, ◌/◌, ◌%◌, ◌^◌, ◌<◌, ◌≤◌, Bool, true, false, cond, ◌==◌, List, length, set, get_or, refl, ◌∙◌, sym, ap, arith, w64, zero-add}
 use Rattle.std.specs.Prelude.{slice_set, bit_and, bit_or}
 use Rattle.std.specs.Int.{bit_at, bit_not}
-use Rattle.std.proofs.lemmas.Bool.{eq-eqb, ne_eqb, eqb-true, eqb-false}
+use Rattle.std.proofs.lemmas.Bool.{eq-eqb, eqb-true, eqb-false}
 use Rattle.std.proofs.lemmas.List.{get_or-set_same, get_or-set_other, length-set, ext_get_or}
 use Rattle.std.proofs.lemmas.List.FromFn.{length-map-range_with_len, get_or-map-range_with_len}
 use Rattle.std.proofs.lemmas.Nat.{mod_below, div_below}
@@ -82,8 +82,8 @@ module _ (rows width row column : ℕ) (words : List ℕ) (less : row < rows) (l
   set_adds w is none =
       one_more rows width row column words (slice_set words ((row * width + column) / 64) (bit_or w (1 * 2 ^ ((row * width + column) % 64) % 2 ^ 64))) less lt none
       (one_changed words (row * width + column) (bit_or w (1 * 2 ^ ((row * width + column) % 64) % 2 ^ 64)) true there
-        (ap (λ b. b == 1) (bit_at_set_same w64 w ((row * width + column) % 64) low))
-        (λ k small other. bit_at_set_other w64 w ((row * width + column) % 64) low k other ∙ ap (λ v. bit_at v k) is))
+      (ap (λ b. b == 1) (bit_at_set_same w64 w ((row * width + column) % 64) low))
+      (λ k small other. bit_at_set_other w64 w ((row * width + column) % 64) low k other ∙ ap (λ v. bit_at v k) is))
 
   cleared : ℕ → List ℕ
   cleared w = slice_set words ((row * width + column) / 64) (bit_and w (bit_not w64 (1 * 2 ^ ((row * width + column) % 64) % 2 ^ 64)))
@@ -93,8 +93,8 @@ module _ (rows width row column : ℕ) (words : List ℕ) (less : row < rows) (l
   clear_adds w is some =
       one_more rows width row column next words less lt none
       (λ k. bool_case _ (k == row * width + column)
-        (λ y. rw y (ap (is_marked words) (eqb-true k (row * width + column) y) ∙ was))
-        (λ n. rw n (sym (wrote k ∙ rw n refl))))
+      (λ y. rw y (ap (is_marked words) (eqb-true k (row * width + column) y) ∙ was))
+      (λ n. rw n (sym (wrote k ∙ rw n refl))))
     where
       next : List ℕ
       next = slice_set words ((row * width + column) / 64) (bit_and w (bit_not w64 (1 * 2 ^ ((row * width + column) % 64) % 2 ^ 64)))

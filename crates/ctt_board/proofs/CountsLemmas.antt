@@ -6,10 +6,9 @@ use Rattle.std.proofs.lemmas.Bool.Decides.{nat_tests}
 use Rattle.std.proofs.lemmas.List.Sums.{sum_by-append, length-filter}
 use Rattle.ctt_text.specs.Lists.{has, below}
 use Rattle.ctt_text.specs.Belonging.{curricula_of}
-use Rattle.ctt_text.specs.Problem.{Problem, IsProblem, course_of, IsCourseFacts, teacher_count, course_count, room_count, curriculum_count, slot_count, members, day_of}
+use Rattle.ctt_text.specs.Problem.{Problem, IsProblem, course_count, room_count, curriculum_count, slot_count, members, day_of}
 use Rattle.ctt_text.specs.Timetable.{Fits, course_row}
 use Rattle.ctt_text.specs.declared.placed.Placed.{Placed}
-use Rattle.ctt_text.proofs.TimetableLemmas.{Each-at}
 use Rattle.ctt_rules.specs.Penalty.{days_of}
 use Rattle.ctt_rules.proofs.SlotLemmas.{day_fits}
 use Rattle.ctt_rules.proofs.SumLemmas.{sum_below_zero}

@@ -4,19 +4,17 @@ use Rattle.std.specs.List.{count_by, list_any}
 use Rattle.std.proofs.lemmas.Bool.{and_parts}
 use Rattle.std.proofs.lemmas.List.{length-append}
 use Rattle.std.proofs.lemmas.List.Sums.{length-filter}
-use Rattle.ctt_text.specs.Lists.{has}
-use Rattle.ctt_text.specs.Problem.{Problem, IsProblem, course_of, course_count, slot_count, members, day_of}
-use Rattle.ctt_text.specs.Timetable.{IsTimetable, course_row, slot_row}
+use Rattle.ctt_text.specs.Problem.{Problem, IsProblem, slot_count, day_of}
+use Rattle.ctt_text.specs.Timetable.{IsTimetable, course_row}
 use Rattle.ctt_text.specs.declared.placed.Placed.{Placed}
 use Rattle.ctt_rules.proofs.SumLemmas.{count_below_le}
 use Rattle.ctt_board.specs.Cells.{lecture_at, row_below}
 use Rattle.ctt_board.specs.Changes.{room_at}
 use Rattle.ctt_board.specs.Counts.{AreCounts, HaveRoom}
 use Rattle.ctt_board.specs.Grids.{column_below}
-use Rattle.ctt_board.specs.Joining.{on_day, in_room, in_slot}
+use Rattle.ctt_board.specs.Joining.{on_day, in_room}
 use Rattle.ctt_board.specs.declared.counts.Counts.{Counts}
 use Rattle.ctt_rules.proofs.SumLemmas.{count_by-cons}
-use Rattle.ctt_board.proofs.GridLemmas.{slot_row_is}
 use Rattle.ctt_board.proofs.RowLemmas.{course_row_is}
 
 -- of two tests, the narrower one counts no more

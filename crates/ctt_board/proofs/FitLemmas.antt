@@ -1,7 +1,7 @@
 -- A change fits where the test says so.
-use Rattle.std.proofs.Common.{add-one, ◌≡◌, ℕ, zero, suc, leb, take, ◌++◌, ◌+◌, ◌<◌, ◌≤◌, Bool, true, false, cond, not, ltb, ◌&&◌, ◌||◌, ◌==◌, List, [], ◌∷◌, length, get_or, Option, Some, None, is_some, is_none, refl, ◌∙◌, ap, ap₂, subst, arith, inl, inr, ◌⊎◌}
+use Rattle.std.proofs.Common.{◌≡◌, ℕ, zero, suc, leb, take, ◌+◌, ◌<◌, ◌≤◌, Bool, true, false, cond, not, ltb, ◌&&◌, ◌||◌, ◌==◌, List, [], ◌∷◌, length, get_or, Option, Some, None, is_some, is_none, refl, ◌∙◌, ap, ap₂, subst, arith, inl, inr, ◌⊎◌}
 use Rattle.std.specs.List.{filter, find, AllByRecursion as Each}
-use Rattle.std.proofs.lemmas.Bool.{cases_Bool, cases_lt, and_parts, le-leb, leb-true, eq-eqb, lt-ltb, ltb-true}
+use Rattle.std.proofs.lemmas.Bool.{cases_Bool, and_parts, le-leb, leb-true, eq-eqb, lt-ltb, ltb-true}
 use Rattle.ctt_text.specs.Lists.{Pairwise}
 use Rattle.ctt_text.specs.Problem.{Problem, course_of, course_count, slot_count, room_count, clash, is_unavailable}
 use Rattle.ctt_text.specs.Timetable.{before, Fits, course_row, slot_row, with}
@@ -9,8 +9,6 @@ use Rattle.ctt_text.specs.declared.placed.Placed.{Placed}
 use Rattle.ctt_text.proofs.TimetableLemmas.{Each-map}
 use Rattle.ctt_rules.specs.Hard.{Lawful, conflicts}
 use Rattle.ctt_board.specs.Changes.{room_at, room_of, course_named, clash_at, holder_at, apply_at, apply, in_turn, is_change, CellFits, CellsFit, ChangeFits}
-use Rattle.ctt_board.specs.Cells.{lecture_at}
-use Rattle.ctt_board.specs.Grids.{column_below}
 use Rattle.ctt_board.specs.Fitting.{is_known, is_wanted, is_unhindered, can_come, cell_fits, fits, FitsAsTested}
 use Rattle.ctt_board.specs.declared.cell.Cell.{Cell}
 use Rattle.ctt_board.proofs.AfterLemmas.{one_in_row}

@@ -1,5 +1,5 @@
 -- Cells of a timetable, and changes, which are made cell by cell.
-use Rattle.std.specs.Prelude.{ℕ, ◌≡◌, ◌+◌, ◌-◌, Bool, true, false, cond, not, ◌&&◌, ◌||◌, ◌==◌, List, [], ◌∷◌, length, count_by, nat_le, Option, Some, None, is_some, is_none, IsSome, IsNone}
+use Rattle.std.specs.Prelude.{ℕ, ◌+◌, ◌-◌, Bool, true, false, cond, not, ◌&&◌, ◌||◌, ◌==◌, List, [], ◌∷◌, length, count_by, nat_le, Option, Some, None, is_some, is_none, IsSome, IsNone}
 use Rattle.std.specs.Option.{option_map, option_eq}
 use Rattle.std.specs.List.{find}
 use Rattle.ctt_text.specs.Problem.{Problem, clash}

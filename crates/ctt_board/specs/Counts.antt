@@ -1,8 +1,7 @@
 -- The tables of a sheet, by its timetable.
 use Rattle.std.specs.Prelude.{◌≡◌, ◌<◌, ◌≤◌, ◌+◌, ℕ, true, List, length, count_by, ◌==◌}
-use Rattle.std.specs.List.{AllByRecursion as Each}
 use Rattle.ctt_text.specs.Belonging.{curricula_of}
-use Rattle.ctt_text.specs.Problem.{Problem, course_of, course_count, room_count, teacher_count, curriculum_count, slot_count, members, day_of}
+use Rattle.ctt_text.specs.Problem.{Problem, course_count, room_count, curriculum_count, slot_count, members, day_of}
 use Rattle.ctt_text.specs.Timetable.{course_row}
 use Rattle.ctt_text.specs.declared.placed.Placed.{Placed}
 use Rattle.ctt_rules.specs.Penalty.{days_of}

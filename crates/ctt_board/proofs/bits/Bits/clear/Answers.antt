@@ -1,6 +1,5 @@
-use Rattle.std.proofs.Common.{rules, ◌≡◌, ◌<◌, ◌≤◌, ◌+◌, ◌*◌, ◌/◌, ◌%◌, ◌^◌, get_or, ◌∙◌, sym, ap, subst, arith}
+use Rattle.std.proofs.Common.{◌<◌, ◌≤◌, ◌+◌, ◌*◌, ◌/◌, ◌∙◌, sym, ap, subst, arith}
 use Rattle.std.proofs.lemmas.Int.{ints}
-use Rattle.std.specs.Prelude.{bit_and}
 use Rattle.ctt_text.proofs.TableLemmas.{same_element}
 use Rattle.ctt_board.specs.Tables.{Grid, at}
 use Rattle.ctt_board.proofs.BitLemmas.{table, small, there, clear_adds}

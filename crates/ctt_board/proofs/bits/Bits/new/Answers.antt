@@ -1,4 +1,4 @@
-use Rattle.std.proofs.Common.{◌≡◌, ◌∙◌, ◌+◌, ◌*◌, ◌/◌, ap, arith}
+use Rattle.std.proofs.Common.{◌∙◌, ◌+◌, ◌*◌, ◌/◌, ap}
 use Rattle.ctt_text.specs.Marks.{is_marked}
 use Rattle.ctt_text.proofs.MarkLemmas.{none_marked}
 use Rattle.ctt_board.proofs.TableLemmas.{in_table}

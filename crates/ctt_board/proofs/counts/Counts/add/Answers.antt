@@ -1,6 +1,5 @@
-use Rattle.std.proofs.Common.{rules, ◌≡◌, ◌<◌, ◌≤◌, ◌+◌, ℕ, List, sym, ap₂, subst}
+use Rattle.std.proofs.Common.{rules, ◌≡◌, ◌<◌, sym, subst}
 use Rattle.std.specs.List.{AllByRecursion as Each}
-use Rattle.ctt_board.specs.Tables.{at, in_column}
 use Rattle.ctt_board.proofs.counts.Counts.add.Goals as goal
 
 pub add_column-requires-clause-rows : goal.add_column-requires-clause-rows
