@@ -66,9 +66,7 @@ pub(crate) fn stand(standing: &mut Table<Marks>, course: CourseNo, slot: SlotNo)
     requires course { course < 2000 }
     ensures { Stands standing.old standing.new course slot true }
 {
-    let mut here = standing.get(0, slot.get() as usize);
-    here.mark(course.get() as usize);
-    standing.set(0, slot.get() as usize, here);
+    standing.set_mark(0, slot.get() as usize, course.get() as usize, true);
 }
 
 /// Lets it leave.
@@ -78,7 +76,5 @@ pub(crate) fn leave(standing: &mut Table<Marks>, course: CourseNo, slot: SlotNo)
     requires course { course < 2000 }
     ensures { Stands standing.old standing.new course slot false }
 {
-    let mut here = standing.get(0, slot.get() as usize);
-    here.unmark(course.get() as usize);
-    standing.set(0, slot.get() as usize, here);
+    standing.set_mark(0, slot.get() as usize, course.get() as usize, false);
 }

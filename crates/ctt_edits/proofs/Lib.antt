@@ -3,6 +3,7 @@ pub mod EditLemmas
 pub mod LeastLemmas
 pub mod MarkedRows
 pub mod MateLemmas
+mod PastLemmas
 pub mod ReadLemmas
 pub mod FrameLemmas
 pub mod PriceFrame

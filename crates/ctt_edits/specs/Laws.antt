@@ -1,5 +1,5 @@
 -- What layers above rest on.
-use Rattle.std.specs.Prelude.{ℕ, ◌≡◌, ◌<◌, ◌≤◌, true, List, Some, None, Ok}
+use Rattle.std.specs.Prelude.{ℕ, ◌≡◌, ◌<◌, ◌≤◌, true, List, Some, None, Ok, Err}
 use Rattle.std.specs.List.{AllByRecursion as Each}
 use Rattle.ctt_text.specs.Lists.{Pairwise}
 use Rattle.ctt_text.specs.Problem.{Problem, IsProblem, course_count, slot_count, clash}
@@ -10,8 +10,9 @@ use Rattle.ctt_board.specs.Changes.{room_at, ChangeFits}
 use Rattle.ctt_edits.specs.Calls.{CallFits, reply, cells_of, reads, Agree, RowBefore}
 use Rattle.ctt_edits.specs.declared.call.Call.{Call}
 use Rattle.ctt_edits.specs.declared.edit.Edit.{Edit}
+use Rattle.ctt_edits.specs.declared.fault.EditFault.{EditFault}
 use Rattle.ctt_edits.specs.declared.fault.EditFault.TheVariants.{Clash}
-use Rattle.ctt_edits.specs.Fitting.{IsReply}
+use Rattle.ctt_edits.specs.Fitting.{FaultFits, IsReply}
 use Rattle.ctt_edits.specs.Edits.{EditFits, try_fault, edit_fault, edited, change}
 use Rattle.ctt_edits.specs.Openings.{opening}
 use Rattle.ctt_edits.specs.Table.{outcome, by_table}
@@ -49,6 +50,10 @@ EditIsTable = (i : Problem) (t : List Placed) (e : Edit) → outcome i t e ≡ b
 -- the timetable that lectures make is lawful
 abbrev pub OpeningIsLawful : Type 0
 OpeningIsLawful = (i : Problem) (ls t : List Placed) → Each (Fits i) ls → opening i ls ≡ Ok t → Lawful i t
+
+-- what stands against a lecture that cannot be placed names a course of the instance, if it names one
+abbrev pub OpeningFaultsFit : Type 0
+OpeningFaultsFit = (i : Problem) (ls : List Placed) (at : ℕ) (fault : EditFault) → Each (Fits i) ls → opening i ls ≡ Err (at, fault) → FaultFits i fault
 
 -- two timetables with the same rooms are the same
 abbrev pub RoomsDetermine : Type 0

@@ -1,5 +1,5 @@
 -- Sets of rows.
-use Rattle.std.specs.Prelude.{ℕ, ◌≡◌, ◌<◌, ◌||◌, ◌&&◌, Bool, true, false, nat_le, nat_lt, List, Option, Some, None}
+use Rattle.std.specs.Prelude.{ℕ, ◌≡◌, ◌<◌, ◌≤◌, ◌||◌, ◌&&◌, Bool, true, false, nat_le, nat_lt, List, Option, Some, None}
 use Rattle.ctt_text.specs.Marks.{is_marked}
 use Rattle.ctt_text.specs.Problem.{Problem, course_count, slot_count}
 use Rattle.ctt_edits.specs.Calls.{reads_course, reads_slot, rows_where}
@@ -27,10 +27,12 @@ is_in rows (SlotRow s) = has_slot rows s
 abbrev pub rows_of : Problem → RowSet → List Row
 rows_of i rows = rows_where i (has_course rows) (has_slot rows)
 
--- of the rows of the instance, beside those that were in the set, those that the call reads
+-- of the rows of the instance, beside those that were in the set, those that the call reads; of other rows none more
 pub record AddsReads (i : Problem) (call : Call) (old new : RowSet) : Type 0 where
   pub courses : (c : ℕ) → c < course_count i → has_course new c ≡ (has_course old c || reads_course i call c)
   pub slots : (s : ℕ) → s < slot_count i → has_slot new s ≡ (has_slot old s || reads_slot call s)
+  pub courses_past : (c : ℕ) → course_count i ≤ c → has_course new c ≡ has_course old c
+  pub slots_past : (s : ℕ) → slot_count i ≤ s → has_slot new s ≡ has_slot old s
 
 -- numbers from here to there that pass
 abbrev pub between : ℕ → ℕ → (ℕ → Bool) → ℕ → Bool

@@ -1,6 +1,6 @@
 //! Laws of edits, for the layers above. None of these functions computes anything.
 
-ghost use Rattle.ctt_edits.specs.Laws.{EditsKeepLawful, EditsFit, ClashIsLeast, CallFrame, ReadsAscend, RepliesFit, EditIsTable, OpeningIsLawful, RoomsDetermine};
+ghost use Rattle.ctt_edits.specs.Laws.{EditsKeepLawful, EditsFit, ClashIsLeast, CallFrame, ReadsAscend, RepliesFit, EditIsTable, OpeningIsLawful, OpeningFaultsFit, RoomsDetermine};
 
 /// An edit that has no fault keeps a timetable lawful.
 pub fn edits_keep_lawful()
@@ -43,6 +43,12 @@ pub fn edit_is_table()
 /// The timetable that lectures make, placed in the order of their list, is lawful.
 pub fn opening_is_lawful()
     ensures { OpeningIsLawful }
+{}
+
+/// What stands against the first lecture of a list that cannot be placed names, if it names a course,
+/// one of the instance.
+pub fn opening_faults_fit()
+    ensures { OpeningFaultsFit }
 {}
 
 /// Two timetables of one instance that have the same room, or none, for each course in each slot are

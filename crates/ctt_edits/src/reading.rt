@@ -1,6 +1,6 @@
 //! The rows that calls read: each call marks its own.
 
-ghost use Rattle.std.specs.Prelude.{◌≡◌, ◌<◌, ◌==◌, ◌||◌, ◌&&◌, ◌∷◌, [], ℕ, true, IfOk};
+ghost use Rattle.std.specs.Prelude.{◌≡◌, ◌<◌, ◌≤◌, ◌==◌, ◌||◌, ◌&&◌, ◌∷◌, [], ℕ, true, IfOk};
 ghost use Rattle.std.specs.List.{list_any, AllByRecursion as Each};
 ghost use Rattle.ctt_text.specs.Lists.{has};
 ghost use Rattle.ctt_text.specs.Marks.{is_marked};
@@ -68,7 +68,8 @@ fn mark_if(condition: bool, number: usize, marks: &mut Marks)
 
 /// Marks the courses of a teacher.
 fn mark_taught(instance: &Instance, teacher: TeacherNo, marks: &mut Marks)
-    ensures { (n : ℕ) → n < course_count instance.now → is_marked marks.new n ≡ (is_marked marks.old n || (course_of instance.now n).teacher == teacher) }
+    ensures marked { (n : ℕ) → n < course_count instance.now → is_marked marks.new n ≡ (is_marked marks.old n || (course_of instance.now n).teacher == teacher) }
+    ensures past { (n : ℕ) → course_count instance.now ≤ n → is_marked marks.new n ≡ is_marked marks.old n }
 {
     for number in 0..instance.courses() {
         let is_taught = instance.teacher(CourseNo::new(number)) == teacher;
@@ -78,7 +79,8 @@ fn mark_taught(instance: &Instance, teacher: TeacherNo, marks: &mut Marks)
 
 /// Marks all courses.
 fn mark_all(instance: &Instance, marks: &mut Marks)
-    ensures { (n : ℕ) → n < course_count instance.now → is_marked marks.new n ≡ (is_marked marks.old n || true) }
+    ensures marked { (n : ℕ) → n < course_count instance.now → is_marked marks.new n ≡ (is_marked marks.old n || true) }
+    ensures past { (n : ℕ) → course_count instance.now ≤ n → is_marked marks.new n ≡ is_marked marks.old n }
 {
     for number in 0..instance.courses() {
         marks.mark(number as usize);
@@ -128,8 +130,10 @@ fn mark_courses_of_price(instance: &Instance, edit: &Edit, marks: &mut Marks)
 /// Marks the courses whose rows a look reads.
 fn mark_courses_of_look(instance: &Instance, look: &Look, marks: &mut Marks)
     requires { LookFits instance.now look.now }
-    ensures { (n : ℕ) → n < course_count instance.now → is_marked marks.new n ≡ (is_marked marks.old n || look_reads_course instance.now look.now n) }
+    ensures marked { (n : ℕ) → n < course_count instance.now → is_marked marks.new n ≡ (is_marked marks.old n || look_reads_course instance.now look.now n) }
+    ensures past { (n : ℕ) → course_count instance.now ≤ n → is_marked marks.new n ≡ is_marked marks.old n }
 {
+    instance.limits_hold();
     match *look {
         Look::Course(course) | Look::CourseCost(course) => mark_course(instance, course, marks),
         Look::Slot(_) => {}
@@ -180,6 +184,8 @@ pub(crate) fn mark_reads(instance: &Instance, call: &Call, courses: &mut Marks, 
     requires { CallFits instance.now call.now }
     ensures courses { (n : ℕ) → n < course_count instance.now → is_marked courses.new n ≡ (is_marked courses.old n || reads_course instance.now call.now n) }
     ensures slots { (n : ℕ) → n < slot_count instance.now → is_marked slots.new n ≡ (is_marked slots.old n || reads_slot call.now n) }
+    ensures courses_past { (n : ℕ) → course_count instance.now ≤ n → is_marked courses.new n ≡ is_marked courses.old n }
+    ensures slots_past { (n : ℕ) → slot_count instance.now ≤ n → is_marked slots.new n ≡ is_marked slots.old n }
 {
     match call {
         Call::Look(look) => {

@@ -34,7 +34,7 @@ pub use script::{Item, read_line, read_script};
 pub use script_fault::ScriptFault;
 pub use sink::{Sink, put_all};
 pub use source::{Failed, Source};
-pub use written::{write_call, write_journal, write_reply};
+pub use written::{write_call, write_fault, write_journal, write_reply};
 
 #[cfg(test)]
 mod journal_tests;

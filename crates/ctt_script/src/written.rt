@@ -119,6 +119,29 @@ pub fn write_call(text: &mut String, instance: &Instance, call: &Call) -> Result
     }
 }
 
+/// Adds the line of a fault.
+pub fn write_fault(
+    text: &mut String,
+    instance: &Instance,
+    fault: &EditFault,
+) -> Result<(), AllocError>
+    requires { FaultFits instance.now fault.now }
+    ensures { OnOk result (string_bytes text.new ≡ string_bytes text.old ++ line (fault_words instance.now fault.now)) }
+{
+    match fault {
+        EditFault::NotPlaced => writeln!(text, "notplaced"),
+        EditFault::SameSlot => writeln!(text, "sameslot"),
+        EditFault::SameCourse => writeln!(text, "samecourse"),
+        EditFault::AlreadyThere => writeln!(text, "already"),
+        EditFault::CourseFull => writeln!(text, "full"),
+        EditFault::Unavailable => writeln!(text, "unavailable"),
+        EditFault::Clash(course) => writeln!(text, "clash {}", instance.course_name(*course)),
+        EditFault::RoomTaken(course) => {
+            writeln!(text, "roomtaken {}", instance.course_name(*course))
+        }
+    }
+}
+
 /// Adds the line of a refusal.
 fn write_refused(
     text: &mut String,
@@ -128,20 +151,8 @@ fn write_refused(
     requires { FaultFits instance.now fault.now }
     ensures { OnOk result (string_bytes text.new ≡ string_bytes text.old ++ line (codes "refused" ∷ fault_words instance.now fault.now)) }
 {
-    match fault {
-        EditFault::NotPlaced => writeln!(text, "refused notplaced"),
-        EditFault::SameSlot => writeln!(text, "refused sameslot"),
-        EditFault::SameCourse => writeln!(text, "refused samecourse"),
-        EditFault::AlreadyThere => writeln!(text, "refused already"),
-        EditFault::CourseFull => writeln!(text, "refused full"),
-        EditFault::Unavailable => writeln!(text, "refused unavailable"),
-        EditFault::Clash(course) => {
-            writeln!(text, "refused clash {}", instance.course_name(*course))
-        }
-        EditFault::RoomTaken(course) => {
-            writeln!(text, "refused roomtaken {}", instance.course_name(*course))
-        }
-    }
+    text.push_str("refused ")?;
+    write_fault(text, instance, fault)
 }
 
 /// Adds the words of a lecture, each behind a blank.

@@ -10,10 +10,14 @@ use Rattle.ctt_text.specs.declared.fault.ReadFault.{ReadFault}
 use Rattle.ctt_text.specs.declared.fault.ReadFault.TheVariants as instance
 use Rattle.ctt_text.specs.declared.fault.SolutionFault.{SolutionFault}
 use Rattle.ctt_text.specs.declared.fault.SolutionFault.TheVariants as solution
+use Rattle.ctt_core.specs.declared.journal.JournalEntry.{JournalEntry}
+use Rattle.ctt_script.specs.JournalText.{JournalSpells}
+use Rattle.ctt_script.specs.declared.journal_fault.JournalFault.{JournalFault}
+use Rattle.ctt_script.specs.declared.journal_fault.JournalFault.TheVariants as journal
 use Rattle.ctt_text.specs.declared.placed.Placed.{Placed}
 use Rattle.ctt_text.proofs.FormLaws.{err_is_ok, err_same}
-use Rattle.ctt_tool.specs.Checks.{IsNoInstance, IsNoSolution}
-use Rattle.ctt_tool.specs.Faults.{fault_of_instance, fault_of_solution, status_of}
+use Rattle.ctt_tool.specs.Texts.{IsNoInstance, IsNoJournal, IsNoSolution}
+use Rattle.ctt_tool.specs.Faults.{fault_of_instance, fault_of_journal, fault_of_solution, status_of}
 use Rattle.ctt_tool.specs.declared.fault.Fault.{Fault}
 
 -- the status that is told is that of the fault, unless it is 3
@@ -22,7 +26,7 @@ one_is_of_fault fault status (inl same) one = sym same ∙ one
 one_is_of_fault fault status (inr three) one = absurd (omega (arith, three, one))
 
 -- the want of memory is no refusal
-three_is_one : {C : Type 0} → ◌≡◌ {A = ℕ} 3 1 → C
+pub three_is_one : {C : Type 0} → ◌≡◌ {A = ℕ} 3 1 → C
 three_is_one e = absurd (omega (arith, e))
 
 -- a reading of bytes fails by this fault, and each instance that they spell would be read, but for want of memory
@@ -52,3 +56,14 @@ pub solution_refused : {T : Type 0} (r : Result T Fault) (read : SolutionFault) 
 solution_refused (Ok x) read problem told bytes items gives takes copied all = tt
 solution_refused (Err fault) read problem told bytes items gives takes copied all = λ one. IfSome_then told all (λ held same. subst (IsNoSolution problem) (copied ∙ same)
     (λ timetable is. three_is_one (subst (λ fault. status_of (fault_of_solution fault) ≡ 1) (takes timetable is.is_text is.spells) (sym (ap status_of gives) ∙ one))))
+
+-- the same of journals
+abbrev pub TakesJournals : Problem → List ℕ → JournalFault → Type 0
+TakesJournals problem bytes read = (entries : List JournalEntry) → IsUtf8 bytes → JournalSpells problem (words bytes) entries → read ≡ journal.NoMemory
+
+-- and the text of a journal is that of none
+pub journal_refused : {T : Type 0} (r : Result T Fault) (read : JournalFault) (problem : Problem) (told : Option (List ℕ)) (bytes items : List ℕ) → IsErrAnd r (λ fault. fault ≡ fault_of_journal read) → TakesJournals problem bytes read
+    → bytes ≡ items → IfSome told (λ held. items ≡ held) → IfErr r (λ fault. status_of fault ≡ 1 → IfSome told (IsNoJournal problem))
+journal_refused (Ok x) read problem told bytes items gives takes copied all = tt
+journal_refused (Err fault) read problem told bytes items gives takes copied all = λ one. IfSome_then told all (λ held same. subst (IsNoJournal problem) (copied ∙ same)
+    (λ entries is. three_is_one (subst (λ fault. status_of (fault_of_journal fault) ≡ 1) (takes entries is.is_text is.spells) (sym (ap status_of gives) ∙ one))))

@@ -1,10 +1,10 @@
 -- What holds where bytes are told.
-use Rattle.std.proofs.Common.{◌≡◌, ◌⊎◌, ⊎_elim, inl, inr, ℕ, Bool, true, List, refl, sym, subst, IfErr, IfSome, OnOk, Option, Some, None, Result, Ok, Err}
+use Rattle.std.proofs.Common.{◌≡◌, ◌⊎◌, ⊎_elim, inl, inr, ℕ, Bool, true, List, refl, sym, subst, IfErr, IfSome, IsErrAnd, OnOk, Option, Some, None, Result, Ok, Err}
 use Rattle.std.specs.Global.{Global}
 use Rattle.std.specs.Io.KnownBytes.{Appends}
 use Rattle.std.specs.declared.string.String.{String}
 use Rattle.ctt_tool.specs.Faults.{IfUnwritten, IsLineOf, IsOfFiles, IsOneOf, SaysFault, status_of}
-use Rattle.ctt_tool.specs.Jobs.{IsJobOf, files_of}
+use Rattle.ctt_tool.specs.Jobs.{IsJobOf, Storing, files_of}
 use Rattle.ctt_tool.specs.Work.{HasCause}
 use Rattle.ctt_tool.specs.declared.fault.Fault.{Fault}
 use Rattle.ctt_tool.specs.declared.fault.Fault.TheVariants.{CannotRead, CannotWrite, NoMemory, TooLong}
@@ -50,8 +50,13 @@ of_more_files names more held _ within is = tt
 
 -- the cause of a fault of a job
 pub job_caused : (words : List (List ℕ)) (held : List ℕ → Option (List ℕ)) (failed : Bool) (job : Job) (Q : Type 0) (fault : Fault) → IsJobOf words job → IsOfFiles (files_of job) held fault
-    → IfUnwritten fault (failed ≡ true) Q → HasCause words held failed fault
-job_caused words held failed job Q CannotWrite is file unwritten = unwritten
+    → IfUnwritten fault ((failed ≡ true) ⊎ Storing job) Q → HasCause words held failed fault
+job_caused words held failed job Q CannotWrite is file unwritten = ⊎_elim inl (λ storing. inr (job, is, storing)) unwritten
 job_caused words held failed job Q (CannotRead name) is file unwritten = (job, is, file)
 job_caused words held failed job Q (TooLong name) is file unwritten = (job, is, file)
 job_caused words held failed job Q _ is file unwritten = tt
+
+-- what holds of a fault holds where it is passed on
+pub passed_on : {T : Type 0} (r : Result T Fault) (fault : Fault) (P : Fault → Type 0) → IsErrAnd r (λ told. told ≡ fault) → P fault → IfErr r P
+passed_on (Ok x) fault P same holds = tt
+passed_on (Err told) fault P same holds = subst P (sym same) holds

@@ -6,3 +6,5 @@ pub mod Entered
 pub mod Taken
 pub mod Known
 pub mod Causes
+pub mod Desks
+pub mod Ends

@@ -1,5 +1,5 @@
 -- Words in which `clap` finds no fault ask for one of the program's commands, with all that it needs. Each command has its rows here, and no lemma of its own.
-use Rattle.std.proofs.Common.{◌≡◌, ◌∙◌, ◌⊎◌, Bool, true, false, refl, sym, ap, subst, ⊎_elim, List, [], ◌∷◌, Option, Some, None, codes}
+use Rattle.std.proofs.Common.{◌≡◌, ◌∙◌, ◌⊎◌, Bool, true, false, refl, sym, ap, subst, inl, inr, ⊎_elim, List, [], ◌∷◌, Option, Some, None, codes}
 use Rattle.std.specs.List.{list_all, list_any}
 use Rattle.std.specs.Str.{bytes_eq}
 use Rattle.clap.specs.Faults.{level_fault}
@@ -7,17 +7,17 @@ use Rattle.clap.specs.Simple.{Shape, built, built_leaf, label_of, rows_at}
 use Rattle.clap.specs.Walk.{Row, Text, answers_to, nothing_held, rows_after}
 use Rattle.clap.specs.Words.{fault_of, subcommand_of}
 use Rattle.clap.proofs.OnLiterals.{clap_on_literals}
-use Rattle.ctt_tool.specs.CommandLine.{IsOnOrOff, check, is_on, timedesk}
-use Rattle.ctt_tool.specs.Jobs.{IsWhole}
+use Rattle.ctt_tool.specs.CommandLine.{IsOnOrOff, audit, check, is_on, run, timedesk}
+use Rattle.ctt_tool.specs.Jobs.{IsWhole, IsWholeAs, NamesFiles, NamesJournal, NamesScript}
 use Rattle.ctt_tool.proofs.Rows.{is_giving}
 use Rattle.ctt_tool.proofs.Entered.{Enters, enters, has_flag, has_required, is_flag, is_required, not_help}
 
 command_required : (built timedesk).top.subcommand_required ≡ true
-unfolding clap_on_literals timedesk check
+unfolding clap_on_literals timedesk check run audit
 command_required = refl
 
 help_is_no_command : (built timedesk).top.disable_help_subcommand ≡ false
-unfolding clap_on_literals timedesk check
+unfolding clap_on_literals timedesk check run audit
 help_is_no_command = refl
 
 -- ---- `check`
@@ -43,7 +43,7 @@ unfolding clap_on_literals built_check check
 check_json = refl
 
 check_is_whole : (rest : List Text) (matched : Option (Text × List Row)) → matched ≡ Some (codes "check", rows_after built_check.rules [] rest)
-    → level_fault built_check [] nothing_held rest false [] ≡ [] → IsWhole matched
+    → level_fault built_check [] nothing_held rest false [] ≡ [] → IsWholeAs (codes "check") NamesFiles matched
 check_is_whole rest matched is none = (
   rows_after built_check.rules [] rest,
   is,
@@ -54,20 +54,78 @@ check_is_whole rest matched is none = (
   },
 )
 
+-- ---- `run`
+
+unfoldable pub built_run : Shape
+built_run = built_leaf run.top
+
+run_gives : list_all is_giving built_run.rules ≡ true
+unfolding clap_on_literals built_run run
+run_gives = refl
+
+run_instance : list_any (is_required (codes "instance")) built_run.rules ≡ true
+unfolding clap_on_literals built_run run
+run_instance = refl
+
+run_script : list_any (is_required (codes "script")) built_run.rules ≡ true
+unfolding clap_on_literals built_run run
+run_script = refl
+
+run_is_whole : (rest : List Text) (matched : Option (Text × List Row)) → matched ≡ Some (codes "run", rows_after built_run.rules [] rest)
+    → level_fault built_run [] nothing_held rest false [] ≡ [] → IsWholeAs (codes "run") NamesScript matched
+run_is_whole rest matched is none = (
+  rows_after built_run.rules [] rest,
+  is,
+  record {
+    instance = has_required built_run rest (codes "instance") run_gives none run_instance;
+    script = has_required built_run rest (codes "script") run_gives none run_script;
+  },
+)
+
+-- ---- `audit`
+
+unfoldable pub built_audit : Shape
+built_audit = built_leaf audit.top
+
+audit_gives : list_all is_giving built_audit.rules ≡ true
+unfolding clap_on_literals built_audit audit
+audit_gives = refl
+
+audit_instance : list_any (is_required (codes "instance")) built_audit.rules ≡ true
+unfolding clap_on_literals built_audit audit
+audit_instance = refl
+
+audit_journal : list_any (is_required (codes "journal")) built_audit.rules ≡ true
+unfolding clap_on_literals built_audit audit
+audit_journal = refl
+
+audit_is_whole : (rest : List Text) (matched : Option (Text × List Row)) → matched ≡ Some (codes "audit", rows_after built_audit.rules [] rest)
+    → level_fault built_audit [] nothing_held rest false [] ≡ [] → IsWholeAs (codes "audit") NamesJournal matched
+audit_is_whole rest matched is none = (
+  rows_after built_audit.rules [] rest,
+  is,
+  record {
+    instance = has_required built_audit rest (codes "instance") audit_gives none audit_instance;
+    journal = has_required built_audit rest (codes "journal") audit_gives none audit_journal;
+  },
+)
+
 -- ---- the program
 
 -- words in which `clap` finds no fault name a command with all that it needs
 pub taken_is_whole : (words : List Text) → fault_of timedesk words ≡ [] → IsWhole (subcommand_of timedesk words)
-unfolding clap_on_literals timedesk check built_check
+unfolding clap_on_literals timedesk check run audit built_check built_run built_audit
 taken_is_whole words none =
     let found = enters timedesk words command_required none in
     let named : (shape : Shape) → found.shape ≡ shape → subcommand_of timedesk words ≡ Some (rows_at shape found.rest)
     = λ shape is. found.command ∙ ap (λ (s : Shape). Some (rows_at s found.rest)) is in
     let level : (shape : Shape) → found.shape ≡ shape → level_fault shape [] nothing_held found.rest false [] ≡ []
     = λ shape is. subst (λ (s : Shape). level_fault s [] nothing_held found.rest false [] ≡ []) is found.level in
-    ⊎_elim (λ is. check_is_whole found.rest _ (named built_check is) (level built_check is)) (λ later.
+    ⊎_elim (λ is. inl (check_is_whole found.rest _ (named built_check is) (level built_check is))) (λ second.
+    ⊎_elim (λ is. inr (inl (run_is_whole found.rest _ (named built_run is) (level built_run is)))) (λ third.
+    ⊎_elim (λ is. inr (inr (audit_is_whole found.rest _ (named built_audit is) (level built_audit is)))) (λ later.
     ⊎_elim (λ is. absurd (not_help (built timedesk).top found.word help_is_no_command (ap (λ (s : Shape). answers_to found.word (label_of s)) (sym is) ∙ found.answers) found.is_no_request))
-    (λ none. absurd none) later) found.is_one
+    (λ none. absurd none) later) third) second) found.is_one
 
 -- a flag that is read as `clap` reads it is on where the option is given
 pub flag_is_on : (o : Option Text) (flag : Bool) → IsOnOrOff o → (o ≡ None → flag ≡ false) → (o ≡ Some (codes "true") → flag ≡ true) → (o ≡ Some (codes "false") → flag ≡ false)

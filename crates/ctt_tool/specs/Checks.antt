@@ -1,31 +1,10 @@
 -- What the command `check` prints, and which texts it refuses.
 use Rattle.std.specs.Prelude.{◌⊎◌, ℕ, Bool, true, false, List, Option}
 use Rattle.std.specs.Io.KnownBytes.{Appends}
-use Rattle.std.specs.Str.{IsUtf8}
-use Rattle.ctt_text.specs.InstanceText.{Spells}
 use Rattle.ctt_text.specs.Problem.{Problem}
-use Rattle.ctt_text.specs.SolutionText.{SolSpells}
-use Rattle.ctt_text.specs.Words.{words}
 use Rattle.ctt_text.specs.declared.placed.Placed.{Placed}
 use Rattle.ctt_script.specs.ReportText.{IsJsonReport, IsTextReport}
-
--- the text is that of the instance
-pub record IsInstanceText (text : List ℕ) (problem : Problem) : Type 0 where
-  pub is_text : IsUtf8 text
-  pub spells : Spells (words text) problem
-
--- the text is that of the timetable, as a solution of the instance
-pub record IsSolutionText (problem : Problem) (text : List ℕ) (timetable : List Placed) : Type 0 where
-  pub is_text : IsUtf8 text
-  pub spells : SolSpells problem (words text) timetable
-
--- the text is that of no instance
-abbrev pub IsNoInstance : List ℕ → Type 0
-IsNoInstance text = (problem : Problem) → ¬ IsInstanceText text problem
-
--- the text is that of no timetable, as a solution of the instance
-abbrev pub IsNoSolution : Problem → List ℕ → Type 0
-IsNoSolution problem text = (timetable : List Placed) → ¬ IsSolutionText problem text timetable
+use Rattle.ctt_tool.specs.Texts.{IsInstanceText, IsNoInstance, IsNoSolution, IsSolutionText}
 
 -- the first text is that of an instance, and the second that of no solution of it
 abbrev pub IsNoSolutionOf : List ℕ → List ℕ → Type 0

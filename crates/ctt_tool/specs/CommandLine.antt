@@ -15,10 +15,24 @@ required_word id = record (new_rule id) { required = true; value_names = 1 }
 abbrev pub flag : List ℕ → Rule
 flag id = record (new_rule id) { long = Some id; action = Some SetTrue }
 
+-- an option with a value
+abbrev pub valued : List ℕ → Rule
+valued id = record (new_rule id) { long = Some id; value_names = 1 }
+
 -- `check INSTANCE SOLUTION [--json]`
 unfoldable pub check : App
 check = with_rule (with_rule (with_rule (new_app (codes "check"))
     (required_word (codes "instance"))) (required_word (codes "solution"))) (flag (codes "json"))
+
+-- `run INSTANCE SCRIPT [--start SOLUTION] [--journal FILE]`
+unfoldable pub run : App
+run = with_rule (with_rule (with_rule (with_rule (new_app (codes "run"))
+    (required_word (codes "instance"))) (required_word (codes "script"))) (valued (codes "start"))) (valued (codes "journal"))
+
+-- `audit INSTANCE JOURNAL [--start SOLUTION]`
+unfoldable pub audit : App
+audit = with_rule (with_rule (with_rule (new_app (codes "audit"))
+    (required_word (codes "instance"))) (required_word (codes "journal"))) (valued (codes "start"))
 
 -- the program alone: it has a version, and a command has to be given
 abbrev pub bare : App
@@ -26,7 +40,7 @@ bare = on_top (λ s. record s { has_version = true; subcommand_required = true }
 
 -- the program with its commands
 unfoldable pub timedesk : App
-timedesk = with_subcommand bare check.top
+timedesk = with_subcommand (with_subcommand (with_subcommand bare check.top) run.top) audit.top
 
 -- `clap` reads words by this command as by `app`, and no argument of it holds for other commands
 pub record IsCommand (app : App) (command : Command) : Type 0 where

@@ -1,15 +1,25 @@
 -- The faults of the program: their numbers and their statuses.
 use Rattle.std.specs.Prelude.{◌≡◌, ◌⊎◌, ◌++◌, ◌<◌, ℕ, List, [], ◌∷◌, Option, IfSome, codes, length}
+use Rattle.std.specs.Fmt.{decimal}
 use Rattle.std.specs.Global.{Global}
 use Rattle.std.specs.Io.KnownBytes.{Appends}
 use Rattle.std.specs.String.{string_bytes}
 use Rattle.std.specs.declared.string.String.{String}
+use Rattle.ctt_text.specs.Problem.{Problem}
 use Rattle.ctt_text.specs.declared.fault.ReadFault.{ReadFault}
 use Rattle.ctt_text.specs.declared.fault.ReadFault.TheVariants as instance
 use Rattle.ctt_text.specs.declared.fault.SolutionFault.{SolutionFault}
 use Rattle.ctt_text.specs.declared.fault.SolutionFault.TheVariants as solution
+use Rattle.ctt_edits.specs.Fitting.{FaultFits}
+use Rattle.ctt_edits.specs.declared.fault.EditFault.{EditFault}
+use Rattle.ctt_script.specs.WrittenText.{line}
+use Rattle.ctt_script.specs.WrittenWords.{fault_words}
+use Rattle.ctt_script.specs.declared.journal_fault.JournalFault.{JournalFault}
+use Rattle.ctt_script.specs.declared.journal_fault.JournalFault.TheVariants as journal
+use Rattle.ctt_script.specs.declared.script_fault.ScriptFault.{ScriptFault}
+use Rattle.ctt_script.specs.declared.script_fault.ScriptFault.TheVariants as script
 use Rattle.ctt_tool.specs.declared.fault.Fault.{Fault}
-use Rattle.ctt_tool.specs.declared.fault.Fault.TheVariants.{CannotRead, CannotWrite, Instance, NoMemory, Solution, TooLong, Words, WordsNotText}
+use Rattle.ctt_tool.specs.declared.fault.Fault.TheVariants.{CannotRead, CannotWrite, Instance, Journal, NoMemory, Opening, Solution, TooLong, Words, WordsNotText}
 
 -- the fault of an instance, by its number and the byte or the word that it names
 abbrev pub fault_of_instance : ReadFault → Fault
@@ -36,10 +46,49 @@ fault_of_solution (solution.PeriodOut word) = Solution 7 word
 fault_of_solution (solution.Repeated word) = Solution 8 word
 fault_of_solution solution.NoMemory = NoMemory
 
+-- the fault of a journal
+abbrev pub fault_of_journal : JournalFault → Fault
+fault_of_journal (journal.NotText byte) = Journal 1 byte
+fault_of_journal (journal.Missing word) = Journal 2 word
+fault_of_journal (journal.BadWord word) = Journal 3 word
+fault_of_journal journal.NoMemory = NoMemory
+
+-- the line of an opening of which this lecture, counted from 1, cannot be placed
+abbrev pub opening_line : Problem → ℕ → EditFault → List ℕ
+opening_line problem at fault = codes "timedesk: opening " ++ (decimal at ++ (codes " " ++ line (fault_words problem fault)))
+
+-- the fault of such an opening, or there is no memory for its line
+abbrev pub IsOpeningFault : Problem → ℕ → EditFault → Fault → Type 0
+IsOpeningFault problem at fault (Opening text) = string_bytes text ≡ opening_line problem at fault
+IsOpeningFault problem at fault NoMemory = Unit {0}
+IsOpeningFault problem at fault (Instance number word) = ⊥
+IsOpeningFault problem at fault (Solution number word) = ⊥
+IsOpeningFault problem at fault (Journal number word) = ⊥
+IsOpeningFault problem at fault (CannotRead name) = ⊥
+IsOpeningFault problem at fault (TooLong name) = ⊥
+IsOpeningFault problem at fault CannotWrite = ⊥
+IsOpeningFault problem at fault (Words text) = ⊥
+IsOpeningFault problem at fault WordsNotText = ⊥
+
+-- a fault of a run that names a course of the instance, if it names one
+abbrev pub RunFaultFits : Problem → ScriptFault → Type 0
+RunFaultFits problem (script.Unlawful at fault) = FaultFits problem fault
+RunFaultFits problem fault = Unit {0}
+
+-- the fault of the run of the script in this file
+abbrev pub IsRunFault : Problem → String Global → ScriptFault → Fault → Type 0
+IsRunFault problem name (script.Unlawful at fault) told = IsOpeningFault problem at fault told
+IsRunFault problem name script.Read told = told ≡ CannotRead name
+IsRunFault problem name script.TooLong told = told ≡ TooLong name
+IsRunFault problem name script.Write told = told ≡ CannotWrite
+IsRunFault problem name script.NoMemory told = told ≡ NoMemory
+
 -- 1 where a text is refused, 2 where the words are, and 3 where the machine failed
 abbrev pub status_of : Fault → ℕ
 status_of (Instance number at) = 1
 status_of (Solution number at) = 1
+status_of (Journal number at) = 1
+status_of (Opening text) = 1
 status_of (Words text) = 2
 status_of WordsNotText = 2
 status_of (CannotRead name) = 3
@@ -54,6 +103,8 @@ IsOfFile name (TooLong file) = file ≡ name
 IsOfFile name NoMemory = Unit {0}
 IsOfFile name (Instance number at) = ⊥
 IsOfFile name (Solution number at) = ⊥
+IsOfFile name (Journal number at) = ⊥
+IsOfFile name (Opening text) = ⊥
 IsOfFile name (Words text) = ⊥
 IsOfFile name WordsNotText = ⊥
 IsOfFile name CannotWrite = ⊥
@@ -62,6 +113,8 @@ IsOfFile name CannotWrite = ⊥
 abbrev pub IsOfTexts : Fault → Type 0
 IsOfTexts (Instance number at) = Unit {0}
 IsOfTexts (Solution number at) = Unit {0}
+IsOfTexts (Journal number at) = Unit {0}
+IsOfTexts (Opening text) = Unit {0}
 IsOfTexts (CannotRead name) = Unit {0}
 IsOfTexts (TooLong name) = Unit {0}
 IsOfTexts NoMemory = Unit {0}
@@ -74,21 +127,38 @@ abbrev pub IfUnwritten : Fault → Type 0 → Type 0 → Type 0
 IfUnwritten CannotWrite P Q = P
 IfUnwritten (Instance number at) P Q = Q
 IfUnwritten (Solution number at) P Q = Q
+IfUnwritten (Journal number at) P Q = Q
+IfUnwritten (Opening text) P Q = Q
 IfUnwritten (CannotRead name) P Q = Q
 IfUnwritten (TooLong name) P Q = Q
 IfUnwritten NoMemory P Q = Q
 IfUnwritten (Words text) P Q = Q
 IfUnwritten WordsNotText P Q = Q
 
+-- a part of the answers may have been printed before
+abbrev pub MayHaveWritten : Fault → Type 0
+MayHaveWritten CannotWrite = Unit {0}
+MayHaveWritten NoMemory = Unit {0}
+MayHaveWritten (Instance number at) = ⊥
+MayHaveWritten (Solution number at) = ⊥
+MayHaveWritten (Journal number at) = ⊥
+MayHaveWritten (Opening text) = ⊥
+MayHaveWritten (CannotRead name) = ⊥
+MayHaveWritten (TooLong name) = ⊥
+MayHaveWritten (Words text) = ⊥
+MayHaveWritten WordsNotText = ⊥
+
 -- the bytes end with the end of a line
 abbrev pub EndsLine : List ℕ → Type 0
 EndsLine bytes = (front : List ℕ) × (bytes ≡ front ++ codes "\n")
 
--- what is said of the fault: the text of refused words as it is, of wanted memory this line, and else a text with its line's end
+-- what is said of the fault: the text of refused words and the line of an opening as they are, of wanted memory this line, and else a text with its line's end
 abbrev pub IsLineOf : Fault → List ℕ → Type 0
 IsLineOf (Words text) bytes = bytes ≡ string_bytes text
+IsLineOf (Opening text) bytes = bytes ≡ string_bytes text
 IsLineOf (Instance number at) bytes = EndsLine bytes
 IsLineOf (Solution number at) bytes = EndsLine bytes
+IsLineOf (Journal number at) bytes = EndsLine bytes
 IsLineOf (CannotRead name) bytes = EndsLine bytes
 IsLineOf (TooLong name) bytes = EndsLine bytes
 IsLineOf WordsNotText bytes = EndsLine bytes

@@ -1,5 +1,5 @@
 -- Which job the words of a command line ask for, and what is said where they ask for none.
-use Rattle.std.specs.Prelude.{◌≡◌, ◌≢◌, ◌⊎◌, Bool, List, [], ◌∷◌, Option, Some, IsSome, codes}
+use Rattle.std.specs.Prelude.{◌≡◌, ◌≢◌, ◌⊎◌, Bool, List, [], ◌∷◌, Option, Some, None, IsSome, codes, option_map}
 use Rattle.std.specs.Global.{Global}
 use Rattle.std.specs.String.{string_bytes}
 use Rattle.std.specs.declared.string.String.{String}
@@ -8,7 +8,7 @@ use Rattle.clap.specs.declared.error.kind.ErrorKind.{ErrorKind}
 use Rattle.clap.specs.declared.error.kind.ErrorKind.TheVariants.{DisplayHelp, DisplayVersion, OutOfMemory}
 use Rattle.ctt_tool.specs.CommandLine.{IsOnOrOff, is_on, timedesk}
 use Rattle.ctt_tool.specs.declared.job.Job.{Job}
-use Rattle.ctt_tool.specs.declared.job.Job.TheVariants.{Check}
+use Rattle.ctt_tool.specs.declared.job.Job.TheVariants.{Audit, Check, Run}
 use Rattle.ctt_tool.specs.declared.job.WordsFault.{WordsFault}
 use Rattle.ctt_tool.specs.declared.job.WordsFault.TheVariants.{Help, NoMemory, Refused}
 
@@ -18,25 +18,78 @@ pub record NamesFiles (rows : List Row) : Type 0 where
   pub solution : IsSome (first_of (codes "solution") rows)
   pub json : IsOnOrOff (one_of (codes "json") rows)
 
+-- the matches of `run` have what it needs
+pub record NamesScript (rows : List Row) : Type 0 where
+  pub instance : IsSome (first_of (codes "instance") rows)
+  pub script : IsSome (first_of (codes "script") rows)
+
+-- the matches of `audit` have what it needs
+pub record NamesJournal (rows : List Row) : Type 0 where
+  pub instance : IsSome (first_of (codes "instance") rows)
+  pub journal : IsSome (first_of (codes "journal") rows)
+
 -- they have these two files and this option
 pub record HasCheck (rows : List Row) (instance solution : Text) (json : Bool) : Type 0 where
   pub has_instance : first_of (codes "instance") rows ≡ Some instance
   pub has_solution : first_of (codes "solution") rows ≡ Some solution
   pub has_json : json ≡ is_on (one_of (codes "json") rows)
 
+-- the matches of `run` have these files
+pub record HasRun (rows : List Row) (instance script : Text) (start journal : Option Text) : Type 0 where
+  pub has_instance : first_of (codes "instance") rows ≡ Some instance
+  pub has_script : first_of (codes "script") rows ≡ Some script
+  pub has_start : first_of (codes "start") rows ≡ start
+  pub has_journal : first_of (codes "journal") rows ≡ journal
+
+-- the matches of `audit` have these files
+pub record HasAudit (rows : List Row) (instance journal : Text) (start : Option Text) : Type 0 where
+  pub has_instance : first_of (codes "instance") rows ≡ Some instance
+  pub has_journal : first_of (codes "journal") rows ≡ Some journal
+  pub has_start : first_of (codes "start") rows ≡ start
+
+-- the matches of the command with this name have what it needs
+abbrev pub IsWholeAs : Text → (List Row → Type 0) → Option (Text × List Row) → Type 0
+IsWholeAs name Needs matched = (rows : List Row) × (matched ≡ Some (name, rows)) × Needs rows
+
 -- the matches of this command have what it needs
 abbrev pub IsWhole : Option (Text × List Row) → Type 0
-IsWhole matched = (rows : List Row) × (matched ≡ Some (codes "check", rows)) × NamesFiles rows
+IsWhole matched = IsWholeAs (codes "check") NamesFiles matched
+    ⊎ (IsWholeAs (codes "run") NamesScript matched
+    ⊎ IsWholeAs (codes "audit") NamesJournal matched)
 
 -- the job is that of this command, with what its matches have
 abbrev pub IsJobBy : Option (Text × List Row) → Job → Type 0
 IsJobBy matched (Check instance solution json) = (rows : List Row)
     × (matched ≡ Some (codes "check", rows))
     × HasCheck rows (string_bytes instance) (string_bytes solution) json
+IsJobBy matched (Run instance script start journal) = (rows : List Row)
+    × (matched ≡ Some (codes "run", rows))
+    × HasRun rows (string_bytes instance) (string_bytes script) (option_map string_bytes start) (option_map string_bytes journal)
+IsJobBy matched (Audit instance journal start) = (rows : List Row)
+    × (matched ≡ Some (codes "audit", rows))
+    × HasAudit rows (string_bytes instance) (string_bytes journal) (option_map string_bytes start)
+
+-- a file is given
+abbrev pub IsGiven : Option (String Global) → Type 0
+IsGiven None = ⊥
+IsGiven (Some name) = Unit {0}
+
+-- the file that is given, if one is
+abbrev pub given : Option (String Global) → List (String Global)
+given None = []
+given (Some name) = name ∷ []
 
 -- the files that the job reads
 abbrev pub files_of : Job → List (String Global)
 files_of (Check instance solution json) = instance ∷ solution ∷ []
+files_of (Run instance script start journal) = instance ∷ script ∷ given start
+files_of (Audit instance journal start) = instance ∷ journal ∷ given start
+
+-- the job stores a file
+abbrev pub Storing : Job → Type 0
+Storing (Check instance solution json) = ⊥
+Storing (Run instance script start journal) = IsGiven journal
+Storing (Audit instance journal start) = ⊥
 
 -- the job is that of the command that `clap` finds in the words, with what its matches have
 abbrev pub IsJobOf : List Text → Job → Type 0

@@ -1,6 +1,10 @@
 pub mod CommandLine
 pub mod Jobs
 pub mod Faults
+pub mod Outcomes
+pub mod Texts
 pub mod Checks
+pub mod Runs
+pub mod Audits
 pub mod Work
 pub mod Files

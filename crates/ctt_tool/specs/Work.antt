@@ -1,45 +1,65 @@
 -- What the program has done where it ends well, and what was the cause where it did not.
-use Rattle.std.specs.Prelude.{◌≡◌, ◌⊎◌, Bool, true, List, Option, IfSome}
+use Rattle.std.specs.Prelude.{◌≡◌, ◌⊎◌, ℕ, Bool, true, List, [], Option, IfSome}
 use Rattle.std.specs.String.{string_bytes}
 use Rattle.clap.specs.Words.{Text}
+use Rattle.ctt_tool.specs.Audits.{AuditsJournal, IsRefusedAudit}
 use Rattle.ctt_tool.specs.Checks.{OneIsRefused, PrintsReport}
 use Rattle.ctt_tool.specs.Faults.{IsOfFiles}
-use Rattle.ctt_tool.specs.Jobs.{IsJobOf, IsRequest, faults_of, files_of}
+use Rattle.ctt_tool.specs.Jobs.{IsJobOf, IsRequest, Storing, faults_of, files_of}
+use Rattle.ctt_tool.specs.Runs.{IsRefusedRun, RunsScript}
+use Rattle.ctt_tool.specs.Texts.{Held}
 use Rattle.ctt_tool.specs.declared.fault.Fault.{Fault}
 use Rattle.ctt_tool.specs.declared.fault.Fault.TheVariants.{CannotRead, CannotWrite, TooLong}
 use Rattle.ctt_tool.specs.declared.job.Job.{Job}
-use Rattle.ctt_tool.specs.declared.job.Job.TheVariants.{Check}
+use Rattle.ctt_tool.specs.declared.job.Job.TheVariants.{Audit, Check, Run}
+use Rattle.ctt_tool.specs.declared.outcome.Outcome.{Outcome}
+use Rattle.ctt_tool.specs.declared.outcome.Outcome.TheVariants.{Done}
 
--- the job is done over these files, where they tell their bytes, and its answer is printed
-abbrev pub DoesJob : Job → (Text → Option Text) → Option Text → Option Text → Type 0
-DoesJob (Check instance solution json) held old new =
-    IfSome (held (string_bytes instance)) (λ instance_text.
-    IfSome (held (string_bytes solution)) (λ solution_text.
+-- a report is printed, and no file has changed
+abbrev pub Reports : Bool → List ℕ → List ℕ → Held → Held → Option Text → Option Text → Type 0
+Reports json instance solution before after old new = (after ≡ before)
+    × IfSome (before instance) (λ instance_text.
+    IfSome (before solution) (λ solution_text.
     PrintsReport json instance_text solution_text old new))
 
--- the words ask for help or the version, or for a job that is done
-abbrev pub DoesAsAsked : List Text → (Text → Option Text) → Option Text → Option Text → Type 0
-DoesAsAsked words held old new = IsRequest (faults_of words)
-    ⊎ ((job : Job) × IsJobOf words job × DoesJob job held old new)
+-- the job is done over these files, where they tell their bytes; its answer is printed, and the program ends as it says
+abbrev pub DoesJob : Job → Outcome → Held → Held → Option Text → Option Text → Type 0
+DoesJob (Check instance solution json) outcome before after old new = (outcome ≡ Done)
+    × Reports json (string_bytes instance) (string_bytes solution) before after old new
+DoesJob (Run instance script start journal) outcome before after old new = (outcome ≡ Done)
+    × RunsScript instance script start journal before after old new
+DoesJob (Audit instance journal start) outcome before after old new = (after ≡ before)
+    × AuditsJournal instance journal start outcome before old new
+
+-- the words ask for help or the version, or `clap` finds no fault in them and they ask for a job that is done
+abbrev pub DoesAsAsked : List Text → Outcome → Held → Held → Option Text → Option Text → Type 0
+DoesAsAsked words outcome before after old new = (IsRequest (faults_of words) × (outcome ≡ Done) × (after ≡ before))
+    ⊎ ((faults_of words ≡ []) × ((job : Job) × IsJobOf words job × DoesJob job outcome before after old new))
 
 -- a text of the job is refused, over these files, where they tell their bytes
-abbrev pub HasRefusedText : Job → (Text → Option Text) → Type 0
+abbrev pub HasRefusedText : Job → Held → Type 0
 HasRefusedText (Check instance solution json) held =
     IfSome (held (string_bytes instance)) (λ instance_text.
     IfSome (held (string_bytes solution)) (λ solution_text.
     OneIsRefused instance_text solution_text))
+HasRefusedText (Run instance script start journal) held = IsRefusedRun held instance start
+HasRefusedText (Audit instance journal start) held = IsRefusedAudit held instance journal start
 
 -- the words ask for a job of which a text is refused
-abbrev pub AsksForRefusedText : List Text → (Text → Option Text) → Type 0
+abbrev pub AsksForRefusedText : List Text → Held → Type 0
 AsksForRefusedText words held = (job : Job) × IsJobOf words job × HasRefusedText job held
 
 -- the words ask for a job at one of whose files the machine failed so
-abbrev pub AsksForFiles : List Text → (Text → Option Text) → Fault → Type 0
+abbrev pub AsksForFiles : List Text → Held → Fault → Type 0
 AsksForFiles words held fault = (job : Job) × IsJobOf words job × IsOfFiles (files_of job) held fault
 
+-- the words ask for a job that stores a file
+abbrev pub AsksToStore : List Text → Type 0
+AsksToStore words = (job : Job) × IsJobOf words job × Storing job
+
 -- the cause of a fault of the machine, by the words, the files, and whether standard output failed; wanted memory has none
-abbrev pub HasCause : List Text → (Text → Option Text) → Bool → Fault → Type 0
-HasCause words held failed CannotWrite = failed ≡ true
+abbrev pub HasCause : List Text → Held → Bool → Fault → Type 0
+HasCause words held failed CannotWrite = (failed ≡ true) ⊎ AsksToStore words
 HasCause words held failed (CannotRead name) = AsksForFiles words held (CannotRead name)
 HasCause words held failed (TooLong name) = AsksForFiles words held (TooLong name)
 HasCause words held failed _ = Unit {0}

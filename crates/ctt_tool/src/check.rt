@@ -3,8 +3,9 @@
 ghost use Rattle.std.specs.Prelude.{◌≡◌, [], ◌∷◌, true, OnOk, IfOk, IfErr, IfSome};
 ghost use Rattle.std.specs.String.{string_bytes};
 ghost use Rattle.ctt_text.specs.Timetable.{IsTimetable};
-ghost use Rattle.ctt_tool.specs.Checks.{IsNoSolution, IsReport, IsReportFor, IsReportOn, OneIsRefused, PrintsReport};
+ghost use Rattle.ctt_tool.specs.Checks.{IsReport, IsReportFor, IsReportOn, OneIsRefused, PrintsReport};
 ghost use Rattle.ctt_tool.specs.Faults.{IfUnwritten, IsOfFiles, IsOfTexts, status_of};
+ghost use Rattle.ctt_tool.specs.Texts.{IsNoSolution};
 
 use crate::fault::Fault;
 use crate::files::Files;
@@ -42,6 +43,7 @@ fn report_for<F: Files>(
     ensures reports { IfOk result (λ bytes.
         IfSome (F.held files.old (string_bytes solution)) (λ text.
         IsReportFor json instance.now text bytes.items)) }
+    ensures kept { F.held files.new ≡ F.held files.old }
     ensures fault { IfErr result IsOfTexts }
     ensures file { IfErr result (IsOfFiles (solution ∷ []) (F.held files.old)) }
     ensures cause { IfErr result (λ fault. status_of fault ≡ 1
@@ -64,6 +66,7 @@ fn report_on<F: Files>(
         IfSome (F.held files.old (string_bytes instance)) (λ instance_text.
         IfSome (F.held files.old (string_bytes solution)) (λ solution_text.
         IsReportOn json instance_text solution_text bytes.items))) }
+    ensures kept { F.held files.new ≡ F.held files.old }
     ensures fault { IfErr result IsOfTexts }
     ensures file { IfErr result (IsOfFiles (instance ∷ solution ∷ []) (F.held files.old)) }
     ensures cause { IfErr result (λ fault. status_of fault ≡ 1
@@ -87,6 +90,7 @@ pub fn check<F: Files, W: Sink>(
         (IfSome (F.held files.old (string_bytes instance)) (λ instance_text.
         IfSome (F.held files.old (string_bytes solution)) (λ solution_text.
         PrintsReport json instance_text solution_text (W.taken out.old) (W.taken out.new)))) }
+    ensures kept { F.held files.new ≡ F.held files.old }
     ensures unmarked { OnOk result (W.has_failed out.new ≡ W.has_failed out.old) }
     ensures fault { IfErr result (λ fault. IfUnwritten fault
         (W.has_failed out.new ≡ true)

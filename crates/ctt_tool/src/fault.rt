@@ -2,15 +2,16 @@
 
 ghost use Rattle.std.specs.Prelude.{◌≡◌, ◌++◌, IfOk, codes};
 ghost use Rattle.std.specs.String.{string_bytes};
-ghost use Rattle.ctt_tool.specs.Faults.{IsLineOf, fault_of_instance, fault_of_solution, status_of};
+ghost use Rattle.ctt_tool.specs.Faults.{IsLineOf, fault_of_instance, fault_of_journal, fault_of_solution, status_of};
 ghost use Rattle.ctt_tool.specs.declared.fault.Fault.TheVariants.{NoMemory};
 
+use ctt_script::JournalFault;
 use ctt_text::{ReadFault, SolutionFault};
 use std::alloc::{AllocError, Global};
 use thiserror::Error;
 
 /// Why the program did not do its job. Its text is the line on standard error, without the end of the
-/// line; that of `Words` is whole.
+/// line; those of `Words` and `Opening` are whole.
 #[derive(Debug, Drop, Error)]
 pub enum Fault {
     /// The words ask for no job. The text says why.
@@ -25,13 +26,19 @@ pub enum Fault {
     /// The solution is not as it has to be, at this byte or word.
     #[error("timedesk: solution S{number} {at}")]
     Solution { number: u8, at: u64 },
+    /// The journal is not as it has to be, at this byte or word.
+    #[error("timedesk: journal J{number} {at}")]
+    Journal { number: u8, at: u64 },
+    /// A lecture of the opening cannot be placed. The text says which one, and what stands against it.
+    #[error("{0}")]
+    Opening(String),
     /// The file of this name could not be opened or read.
     #[error("timedesk: cannot read {0}")]
     CannotRead(String),
     /// The file of this name has more bytes than are taken.
     #[error("timedesk: too long {0}")]
     TooLong(String),
-    /// A write to standard output failed.
+    /// A write to standard output failed, or to a file that had to be stored.
     #[error("timedesk: cannot write")]
     CannotWrite,
     /// No memory was left.
@@ -56,7 +63,10 @@ impl Fault {
         ensures { result ≡ status_of self.now }
     {
         match self {
-            Fault::Instance { .. } | Fault::Solution { .. } => 1,
+            Fault::Instance { .. }
+            | Fault::Solution { .. }
+            | Fault::Journal { .. }
+            | Fault::Opening(_) => 1,
             Fault::Words(_) | Fault::WordsNotText => 2,
             Fault::CannotRead(_) | Fault::TooLong(_) | Fault::CannotWrite | Fault::NoMemory => 3,
         }
@@ -67,7 +77,7 @@ impl Fault {
         ensures { IfOk result (λ line. IsLineOf self.now (string_bytes line)) }
     {
         match self {
-            Fault::Words(text) => text.clone(),
+            Fault::Words(text) | Fault::Opening(text) => text.clone(),
             Fault::NoMemory => String::from_str(alloc, NO_MEMORY),
             _ => ended(self.to_string(alloc)?),
         }
@@ -126,5 +136,19 @@ impl From<SolutionFault> for Fault {
             SolutionFault::NoMemory => return Fault::NoMemory,
         };
         Fault::Solution { number, at }
+    }
+}
+
+impl From<JournalFault> for Fault {
+    ghost from_gives = { λ read fault. fault ≡ fault_of_journal read };
+
+    fn from(fault: JournalFault) -> Fault {
+        let (number, at) = match fault {
+            JournalFault::NotText(byte) => (1, byte),
+            JournalFault::Missing(word) => (2, word),
+            JournalFault::BadWord(word) => (3, word),
+            JournalFault::NoMemory => return Fault::NoMemory,
+        };
+        Fault::Journal { number, at }
     }
 }

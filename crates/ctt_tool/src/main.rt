@@ -1,18 +1,23 @@
 //! The program `timedesk`: a shared desk for curriculum-based course timetabling.
 #![tactic(auto)]
 
+mod audit;
 mod check;
 mod fault;
 mod files;
 mod job;
+mod opening;
+mod outcome;
 mod output;
 mod program;
+mod run;
 mod texts;
 
 ghost use Rattle.std.specs.Prelude.{◌≡◌, ◌≢◌, ◌≤◌, ◌⊎◌, ℕ, List, true, false, IfErr};
 ghost use Rattle.ctt_tool.specs.Faults.{SaysFault};
 ghost use Rattle.ctt_tool.specs.Work.{AsksForRefusedText, DoesAsAsked};
 ghost use Rattle.ctt_tool.specs.declared.fault.Fault.TheVariants.{NoMemory, WordsNotText};
+ghost use Rattle.ctt_tool.specs.declared.outcome.Outcome.TheVariants.{Differs, Done};
 
 use ctt_script::{Device, Sink};
 use fault::Fault;
@@ -34,21 +39,25 @@ fn owned_words(rt: &HostRuntime) -> Result<Vec<String>, Fault>
 }
 
 /// Does what the words of the command line ask for, as `program` does.
-fn run<F: Files, W: Sink, V: Sink>(rt: &HostRuntime, files: &mut F, out: &mut W, err: &mut V) -> u8
+fn serve<F: Files, W: Sink, V: Sink>(rt: &HostRuntime, files: &mut F, out: &mut W, err: &mut V) -> u8
     requires out { W.has_failed out.old ≡ false }
     requires err { V.has_failed err.old ≡ false }
 
     ensures known { result ≤ 3 }
-    ensures done { result ≡ 0 → (words : List (List ℕ)) × DoesAsAsked words (F.held files.old)
-        (W.taken out.old) (W.taken out.new) }
+    ensures done { result ≡ 0 → (words : List (List ℕ)) × DoesAsAsked words Done
+        (F.held files.old) (F.held files.new) (W.taken out.old) (W.taken out.new) }
     ensures unmarked { result ≡ 0 → W.has_failed out.new ≡ false }
     ensures unsaid { result ≡ 0 → err.new ≡ err.old }
-    ensures cause { result ≡ 1 → (words : List (List ℕ)) × AsksForRefusedText words (F.held files.old) }
-    ensures rejected { result ≡ 1 → out.new ≡ out.old }
+    ensures one { result ≡ 1 → (words : List (List ℕ)) × ((AsksForRefusedText words (F.held files.old)
+        × (out.new ≡ out.old))
+        ⊎ (DoesAsAsked words Differs (F.held files.old) (F.held files.new)
+        (W.taken out.old) (W.taken out.new) × (err.new ≡ err.old))) }
     ensures unprinted { result ≡ 2 → out.new ≡ out.old }
     ensures unwritten { W.has_failed out.new ≡ true → result ≡ 3 }
-    ensures said { result ≢ 0 → (V.has_failed err.new ≡ true)
-        ⊎ SaysFault (λ _. Unit {0}) result (V.taken err.old) (V.taken err.new) }
+    ensures said { result ≢ 0 → ((words : List (List ℕ)) × DoesAsAsked words Differs
+        (F.held files.old) (F.held files.new) (W.taken out.old) (W.taken out.new))
+        ⊎ ((V.has_failed err.new ≡ true)
+        ⊎ SaysFault (λ _. Unit {0}) result (V.taken err.old) (V.taken err.new)) }
 {
     let owned = match owned_words(rt) {
         Ok(owned) => owned,
@@ -68,7 +77,7 @@ fn main(rt: HostRuntime) -> ExitCode {
     let mut files = SystemFiles::new(&rt);
     let mut out = Device::new(rt.stdout());
     let mut err = Device::new(rt.stderr());
-    ExitCode::from(run(&rt, &mut files, &mut out, &mut err))
+    ExitCode::from(serve(&rt, &mut files, &mut out, &mut err))
 }
 
 #[cfg(test)]

@@ -1,7 +1,7 @@
 //! What the program prints, and what it says on standard error.
 
 ghost use Rattle.std.specs.Prelude.{◌≡◌, ◌⊎◌, true, false, OnOk, OnErr, IfErr};
-ghost use Rattle.std.specs.Io.KnownBytes.{Appends};
+ghost use Rattle.std.specs.Io.KnownBytes.{Appends, Keeps};
 ghost use Rattle.ctt_tool.specs.declared.fault.Fault.TheVariants.{CannotWrite};
 
 use crate::fault::Fault;
@@ -25,6 +25,19 @@ pub fn print<W: Sink>(out: &mut W, text: &[u8]) -> Result<(), Fault>
     ensures fault { IfErr result (λ fault. fault ≡ CannotWrite) }
 {
     match put_whole(out, text) {
+        Ok(()) => Ok(()),
+        Err(_) => Err(Fault::CannotWrite),
+    }
+}
+
+/// Passes on what was printed.
+pub fn pass_on<W: Sink>(out: &mut W) -> Result<(), Fault>
+    ensures kept { Keeps (W.taken out.old) (W.taken out.new) }
+    ensures unmarked { OnOk result (W.has_failed out.new ≡ W.has_failed out.old) }
+    ensures marked { OnErr result (W.has_failed out.new ≡ true) }
+    ensures fault { IfErr result (λ fault. fault ≡ CannotWrite) }
+{
+    match out.flush() {
         Ok(()) => Ok(()),
         Err(_) => Err(Fault::CannotWrite),
     }

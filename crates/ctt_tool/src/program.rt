@@ -1,16 +1,20 @@
 //! What the program does.
 
-ghost use Rattle.std.specs.Prelude.{◌≡◌, ◌≢◌, ◌≤◌, ◌⊎◌, [], true, false, map, OnOk, IfErr};
-ghost use Rattle.ctt_tool.specs.Faults.{IfUnwritten, IsOfFiles, IsOfTexts, SaysFault, status_of};
-ghost use Rattle.ctt_tool.specs.Jobs.{IsRefusal, faults_of, files_of};
-ghost use Rattle.ctt_tool.specs.Work.{AsksForRefusedText, DoesAsAsked, DoesJob, HasCause, HasRefusedText};
+ghost use Rattle.std.specs.Prelude.{◌≡◌, ◌≢◌, ◌≤◌, ◌⊎◌, [], true, false, map, OnOk, IfOk, IfErr};
+ghost use Rattle.ctt_tool.specs.Faults.{IfUnwritten, IsOfFiles, IsOfTexts, MayHaveWritten, SaysFault, status_of};
+ghost use Rattle.ctt_tool.specs.Jobs.{IsRefusal, Storing, faults_of, files_of};
+ghost use Rattle.ctt_tool.specs.Work.{AsksForRefusedText, AsksToStore, DoesAsAsked, DoesJob, HasCause, HasRefusedText};
 ghost use Rattle.ctt_tool.specs.declared.fault.Fault.TheVariants.{NoMemory};
+ghost use Rattle.ctt_tool.specs.declared.outcome.Outcome.TheVariants.{Differs, Done};
 
+use crate::audit::audit;
 use crate::check::check;
 use crate::fault::{Fault, NO_MEMORY};
 use crate::files::Files;
 use crate::job::{Job, WordsFault, read_words};
+use crate::outcome::Outcome;
 use crate::output::{complain, print};
+use crate::run::run;
 use ctt_script::Sink;
 use std::alloc::Global;
 
@@ -20,12 +24,15 @@ fn do_job<F: Files, W: Sink>(
     job: Job,
     files: &mut F,
     out: &mut W,
-) -> Result<(), Fault>
-    ensures done { OnOk result (DoesJob job (F.held files.old) (W.taken out.old) (W.taken out.new)) }
+) -> Result<Outcome, Fault>
+    ensures done { IfOk result (λ outcome. DoesJob job outcome (F.held files.old) (F.held files.new)
+        (W.taken out.old) (W.taken out.new)) }
     ensures unmarked { OnOk result (W.has_failed out.new ≡ W.has_failed out.old) }
     ensures fault { IfErr result (λ fault. IfUnwritten fault
-        (W.has_failed out.new ≡ true)
-        (IsOfTexts fault × (out.new ≡ out.old))) }
+        ((W.has_failed out.new ≡ true) ⊎ Storing job)
+        (IsOfTexts fault × (W.has_failed out.new ≡ W.has_failed out.old))) }
+    ensures unwritten { IfErr result (λ fault. MayHaveWritten fault ⊎ (out.new ≡ out.old)) }
+    ensures unstored { IfErr result (λ fault. Storing job ⊎ (F.held files.new ≡ F.held files.old)) }
     ensures file { IfErr result (IsOfFiles (files_of job) (F.held files.old)) }
     ensures cause { IfErr result (λ fault. status_of fault ≡ 1 → HasRefusedText job (F.held files.old)) }
 {
@@ -34,7 +41,24 @@ fn do_job<F: Files, W: Sink>(
             instance,
             solution,
             json,
-        } => check(alloc, files, out, instance, solution, json),
+        } => {
+            check(alloc, files, out, instance, solution, json)?;
+            Ok(Outcome::Done)
+        }
+        Job::Run {
+            instance,
+            script,
+            start,
+            journal,
+        } => {
+            run(alloc, files, out, instance, script, start, journal)?;
+            Ok(Outcome::Done)
+        }
+        Job::Audit {
+            instance,
+            journal,
+            start,
+        } => audit(alloc, files, out, instance, journal, start),
     }
 }
 
@@ -44,15 +68,16 @@ fn do_as_asked<F: Files, W: Sink>(
     words: &[&str],
     files: &mut F,
     out: &mut W,
-) -> Result<(), Fault>
-    ensures done { OnOk result (DoesAsAsked (map (λ word. word.now) words.now) (F.held files.old)
-        (W.taken out.old) (W.taken out.new)) }
+) -> Result<Outcome, Fault>
+    ensures done { IfOk result (λ outcome. DoesAsAsked (map (λ word. word.now) words.now) outcome
+        (F.held files.old) (F.held files.new) (W.taken out.old) (W.taken out.new)) }
     ensures refused { IfErr result (λ fault. status_of fault ≡ 2
         → IsRefusal (faults_of (map (λ word. word.now) words.now))) }
     ensures unmarked { OnOk result (W.has_failed out.new ≡ W.has_failed out.old) }
-    ensures fault { IfErr result (λ fault. IfUnwritten fault
-        (W.has_failed out.new ≡ true)
-        (out.new ≡ out.old)) }
+    ensures marked { IfErr result (λ fault. (status_of fault ≡ 3) ⊎ (W.has_failed out.new ≡ W.has_failed out.old)) }
+    ensures unwritten { IfErr result (λ fault. MayHaveWritten fault ⊎ (out.new ≡ out.old)) }
+    ensures unstored { IfErr result (λ fault. AsksToStore (map (λ word. word.now) words.now)
+        ⊎ (F.held files.new ≡ F.held files.old)) }
     ensures cause { IfErr result (λ fault. status_of fault ≡ 1
         → AsksForRefusedText (map (λ word. word.now) words.now) (F.held files.old)) }
     ensures taken { IfErr result (λ fault. status_of fault ≡ 1
@@ -62,7 +87,10 @@ fn do_as_asked<F: Files, W: Sink>(
 {
     match read_words(alloc, words) {
         Ok(job) => do_job(alloc, job, files, out),
-        Err(WordsFault::Help(text)) => print(out, text.as_bytes()),
+        Err(WordsFault::Help(text)) => {
+            print(out, text.as_bytes())?;
+            Ok(Outcome::Done)
+        }
         Err(WordsFault::Refused(text)) => Err(Fault::Words(text)),
         Err(WordsFault::NoMemory) => Err(Fault::NoMemory),
     }
@@ -90,8 +118,9 @@ pub fn fail_with<V: Sink>(alloc: Global, fault: &Fault, err: &mut V) -> u8
 }
 
 /// Does the job that the words ask for, of which the first is the program's name, and answers the
-/// status with which to end: 0 where it was done, 1 where a text is refused, 2 where the words are, and
-/// 3 where the machine failed. Answers go to `out`, and why a job was not done to `err`.
+/// status with which to end: 0 where it was done, 1 where a text is refused or an audit does not agree,
+/// 2 where the words are refused, and 3 where the machine failed. Answers go to `out`, and why a job was
+/// not done to `err`.
 pub fn program<R: AllocGlobal, F: Files, W: Sink, V: Sink>(
     rt: &R,
     words: &[&str],
@@ -103,24 +132,30 @@ pub fn program<R: AllocGlobal, F: Files, W: Sink, V: Sink>(
     requires err { V.has_failed err.old ≡ false }
 
     ensures known { result ≤ 3 }
-    ensures done { result ≡ 0 → DoesAsAsked (map (λ word. word.now) words.now) (F.held files.old)
-        (W.taken out.old) (W.taken out.new) }
+    ensures done { result ≡ 0 → DoesAsAsked (map (λ word. word.now) words.now) Done
+        (F.held files.old) (F.held files.new) (W.taken out.old) (W.taken out.new) }
     ensures unmarked { result ≡ 0 → W.has_failed out.new ≡ false }
     ensures unsaid { result ≡ 0 → err.new ≡ err.old }
 
-    ensures cause { result ≡ 1 → AsksForRefusedText (map (λ word. word.now) words.now) (F.held files.old) }
+    ensures one { result ≡ 1 → (AsksForRefusedText (map (λ word. word.now) words.now) (F.held files.old)
+        × (out.new ≡ out.old))
+        ⊎ (DoesAsAsked (map (λ word. word.now) words.now) Differs
+        (F.held files.old) (F.held files.new) (W.taken out.old) (W.taken out.new) × (err.new ≡ err.old)) }
     ensures taken { result ≡ 1 → faults_of (map (λ word. word.now) words.now) ≡ [] }
-    ensures rejected { result ≡ 1 → out.new ≡ out.old }
     ensures refused { result ≡ 2 → IsRefusal (faults_of (map (λ word. word.now) words.now)) }
-    ensures said { result ≢ 0 → (V.has_failed err.new ≡ true)
+    ensures said { result ≢ 0 → DoesAsAsked (map (λ word. word.now) words.now) Differs
+        (F.held files.old) (F.held files.new) (W.taken out.old) (W.taken out.new)
+        ⊎ ((V.has_failed err.new ≡ true)
         ⊎ SaysFault (HasCause (map (λ word. word.now) words.now) (F.held files.old) (W.has_failed out.new))
-        result (V.taken err.old) (V.taken err.new) }
+        result (V.taken err.old) (V.taken err.new)) }
     ensures unprinted { result ≡ 2 → out.new ≡ out.old }
     ensures unwritten { W.has_failed out.new ≡ true → result ≡ 3 }
+    ensures unstored { result ≢ 0 → AsksToStore (map (λ word. word.now) words.now)
+        ⊎ (F.held files.new ≡ F.held files.old) }
 {
     let alloc = rt.alloc();
     match do_as_asked(alloc, words, files, out) {
-        Ok(()) => 0,
+        Ok(outcome) => outcome.status(),
         Err(fault) => fail_with(alloc, &fault, err),
     }
 }

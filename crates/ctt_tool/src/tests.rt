@@ -318,13 +318,15 @@ fn assert_words(rt: &(impl Abort + AllocGlobal), words: &[&str], status: u8) {
 }
 
 const NO_COMMAND: &str =
-    "error: 'timedesk' requires a subcommand but one was not provided\n  [subcommands: check, help]\n\nUsage: timedesk <COMMAND>\n\nFor more information, try '--help'.\n";
+    "error: 'timedesk' requires a subcommand but one was not provided\n  [subcommands: check, run, audit, help]\n\nUsage: timedesk <COMMAND>\n\nFor more information, try '--help'.\n";
 
 #[test]
 fn refuses_words_and_gives_help(rt: HostRuntime) {
     assert_ends(&rt, &["timedesk"], &[], "", NO_COMMAND, 2);
     assert_ends(&rt, &["timedesk", "-V"], &[], "timedesk 0.1.0\n", "", 0);
-    assert_words(&rt, &["timedesk", "run", "i", "s"], 2);
+    assert_words(&rt, &["timedesk", "rum", "i", "s"], 2);
+    assert_words(&rt, &["timedesk", "run", "i"], 2);
+    assert_words(&rt, &["timedesk", "audit", "i", "j", "--journal", "k"], 2);
     assert_words(&rt, &["timedesk", "check", "i"], 2);
     assert_words(&rt, &["timedesk", "check", "i", "s", "t"], 2);
     assert_words(&rt, &["timedesk", "check", "i", "s", "--xml"], 2);
@@ -356,6 +358,107 @@ fn reads_the_words_of_a_check(rt: HostRuntime) -> Result<(), Fail> {
     assert_asks(&rt, &["timedesk", "check", "i", "s"], false)?;
     assert_asks(&rt, &["timedesk", "check", "i", "s", "--json"], true)?;
     Ok(())
+}
+
+/// A text of its own.
+fn text(rt: &impl AllocGlobal, text: &str) -> Result<String, AllocError> {
+    String::from_str(rt.alloc(), text)
+}
+
+#[test]
+fn reads_the_words_of_a_run(rt: HostRuntime) -> Result<(), Fail> {
+    let bare = Job::Run {
+        instance: text(&rt, "small.ctt")?,
+        script: text(&rt, "row9.txt")?,
+        start: None,
+        journal: None,
+    };
+    let words = ["timedesk", "run", "small.ctt", "row9.txt"];
+    let job = read_words(rt.alloc(), &words);
+    assert!(rt; job.is_ok_and(|job| job == bare));
+    let whole = Job::Run {
+        instance: text(&rt, "i")?,
+        script: text(&rt, "s")?,
+        start: Some(text(&rt, "t")?),
+        journal: Some(text(&rt, "j")?),
+    };
+    let words = ["timedesk", "run", "--start=t", "i", "s", "--journal", "j"];
+    let job = read_words(rt.alloc(), &words);
+    assert!(rt; job.is_ok_and(|job| job == whole));
+    Ok(())
+}
+
+#[test]
+fn reads_the_words_of_an_audit(rt: HostRuntime) -> Result<(), Fail> {
+    let wanted = Job::Audit {
+        instance: text(&rt, "i")?,
+        journal: text(&rt, "j")?,
+        start: Some(text(&rt, "t")?),
+    };
+    let words = ["timedesk", "audit", "i", "j", "--start", "t"];
+    let job = read_words(rt.alloc(), &words);
+    assert!(rt; job.is_ok_and(|job| job == wanted));
+    Ok(())
+}
+
+/// A script of two planners.
+const SCRIPT: &str =
+    "0 open\n0 slot 0 2\n0 place geo A 0 1\n1 open\n1 place top B 0 2\n1 commit\n0 commit\nshow cost\n";
+
+const ANSWERS: &str =
+    "opened\nlectures 0\ndone\nopened\ndone\ncommitted 1\nstale slot 0 2\ncosts 10 15 0 0\n";
+
+#[test]
+fn answers_a_script(rt: HostRuntime) {
+    let files = [
+        ("i", SMALL.as_bytes()),
+        ("s", SCRIPT.as_bytes()),
+        ("bad", b"alg A 0 0 top B 0 0".as_slice()),
+    ];
+    let stored = "timedesk: cannot write\n";
+    let opening = "timedesk: opening 2 clash alg\n";
+    let missing = "timedesk: cannot read no\n";
+    let words = ["timedesk", "run", "i", "s", "--journal", "j"];
+    assert_ends(&rt, &words[..4], &files, ANSWERS, "", 0);
+    assert_ends(&rt, &words, &files, ANSWERS, stored, 3);
+    for (script, start, said, status) in [
+        ("s", "bad", opening, 1),
+        (BREAKING, "bad", opening, 1),
+        ("s", "no", missing, 3),
+        ("no", "bad", missing, 3),
+        (BREAKING, "s", "timedesk: solution S3 1\n", 1),
+    ] {
+        let words = ["timedesk", "run", "i", script, "--start", start];
+        assert_ends(&rt, &words, &files, "", said, status);
+    }
+}
+
+#[test]
+fn audits_a_journal(rt: HostRuntime) {
+    let files = [
+        ("i", SMALL.as_bytes()),
+        ("t", b"alg A 0 0 alg B 1 0 geo A 0 1 geo A 1 2".as_slice()),
+        ("bad", b"alg A 0 0 top B 0 0".as_slice()),
+        (
+            "told",
+            b"journal 1 entry 0 1 place top A 0 1 refused roomtaken geo END.".as_slice(),
+        ),
+        ("done", b"journal 1 entry 0 1 place top A 0 1 done END.".as_slice()),
+        ("cut", b"journal 1 entry 0 1 place top A 0 1".as_slice()),
+    ];
+    for (journal, start, printed, said, status) in [
+        ("told", "t", "agrees\n", "", 0),
+        ("done", "t", "differs 1 1\n", "", 1),
+        ("told", "bad", "", "timedesk: opening 2 clash alg\n", 1),
+        ("cut", "bad", "", "timedesk: journal J2 11\n", 1),
+        ("cut", "no", "", "timedesk: journal J2 11\n", 1),
+        ("told", "no", "", "timedesk: cannot read no\n", 3),
+        (ENDLESS, "t", "", "timedesk: too long endless\n", 3),
+    ] {
+        let words = ["timedesk", "audit", "i", journal, "--start", start];
+        assert_ends(&rt, &words, &files, printed, said, status);
+    }
+    assert_ends(&rt, &["timedesk", "audit", "i", "done"], &files, "agrees\n", "", 0);
 }
 
 #[test]

@@ -2,7 +2,8 @@ use Rattle.std.proofs.Common.{[], ◌∷◌, inr, subst, IfErr, IfSome}
 use Rattle.std.proofs.lemmas.Result.{IfErr-weaker, IfOk-weaker}
 use Rattle.std.specs.String.{string_bytes}
 use Rattle.ctt_text.specs.Problem.{Problem}
-use Rattle.ctt_tool.specs.Checks.{IsInstanceText, IsNoSolution, IsReportFor, IsReportOn, OneIsRefused}
+use Rattle.ctt_tool.specs.Checks.{IsReportFor, IsReportOn, OneIsRefused}
+use Rattle.ctt_tool.specs.Texts.{IsInstanceText, IsNoSolution}
 use Rattle.ctt_tool.specs.Faults.{IsOfFiles}
 use Rattle.ctt_tool.proofs.Known.{both_told, of_more_files}
 use Rattle.ctt_tool.proofs.check.report_on.Goals as goal

@@ -1,10 +1,13 @@
-use Rattle.std.proofs.Common.{inr}
-use Rattle.std.proofs.lemmas.Result.{IfErr-weaker}
-use Rattle.ctt_tool.proofs.Known.{if_err_both, job_caused, on_ok_weaker}
+use Rattle.std.proofs.Common.{⊎_elim, inl, inr}
+use Rattle.std.proofs.lemmas.Result.{IfErr-weaker, IfOk-weaker}
+use Rattle.ctt_tool.proofs.Known.{if_err_both, job_caused}
 use Rattle.ctt_tool.proofs.program.do_as_asked.Goals as goal
 
 pub returns-in-Ok-clause-done : goal.returns-in-Ok-clause-done
-returns-in-Ok-clause-done g c = on_ok_weaker c.do_job.result _ _ (λ does. inr (c.in-Ok.job, c.in-Ok.ensures.job, does)) c.do_job.ensures.done
+returns-in-Ok-clause-done g c = IfOk-weaker c.do_job.result _ _ (λ outcome does. inr (c.in-Ok.ensures.taken, (c.in-Ok.job, c.in-Ok.ensures.job, does))) c.do_job.ensures.done
+
+pub returns-in-Ok-clause-unstored : goal.returns-in-Ok-clause-unstored
+returns-in-Ok-clause-unstored g c = IfErr-weaker c.do_job.result _ _ (λ fault kept. ⊎_elim (λ storing. inl (c.in-Ok.job, c.in-Ok.ensures.job, storing)) inr kept) c.do_job.ensures.unstored
 
 pub returns-in-Ok-clause-cause : goal.returns-in-Ok-clause-cause
 returns-in-Ok-clause-cause g c = IfErr-weaker c.do_job.result _ _ (λ fault caused one. (c.in-Ok.job, c.in-Ok.ensures.job, caused one)) c.do_job.ensures.cause

@@ -1,9 +1,26 @@
+use Rattle.std.proofs.Common.{inl, inr, map, refl}
+use Rattle.ctt_tool.specs.Work.{DoesAsAsked}
 use Rattle.ctt_tool.proofs.Causes.{one_is_of_fault}
+use Rattle.ctt_tool.proofs.Ends.{differs_taken, ends_differs, ends_done, one_is_some, unprinted_one}
 use Rattle.ctt_tool.proofs.Known.{says_caused}
 use Rattle.ctt_tool.proofs.program.program.Goals as goal
 
-pub returns-in-Err-clause-cause : goal.returns-in-Err-clause-cause
-returns-in-Err-clause-cause g c = λ one. c.in-Err.ensures.cause (one_is_of_fault c.in-Err.fault c.fail_with.result c.fail_with.ensures.status one)
+pub returns-in-Ok-clause-done : goal.returns-in-Ok-clause-done
+returns-in-Ok-clause-done g c = λ zero. ends_done c.in-Ok.outcome c.status.result (λ outcome. DoesAsAsked (map (λ word. word.now) c.args.words.now) outcome (g.F.Files.held c.args.files.now) (g.F.Files.held c.do_as_asked.new.files) (g.W.Sink.taken c.args.out.now) (g.W.Sink.taken c.do_as_asked.new.out)) c.status.ensures c.in-Ok.ensures.done zero
+
+pub returns-in-Ok-clause-one : goal.returns-in-Ok-clause-one
+returns-in-Ok-clause-one g c = λ one. inr (ends_differs c.in-Ok.outcome c.status.result (λ outcome. DoesAsAsked (map (λ word. word.now) c.args.words.now) outcome (g.F.Files.held c.args.files.now) (g.F.Files.held c.do_as_asked.new.files) (g.W.Sink.taken c.args.out.now) (g.W.Sink.taken c.do_as_asked.new.out)) c.status.ensures c.in-Ok.ensures.done (one_is_some c.status.result one), refl)
+
+pub returns-in-Ok-clause-taken : goal.returns-in-Ok-clause-taken
+returns-in-Ok-clause-taken g c = λ one. differs_taken _ _ _ _ _ (ends_differs c.in-Ok.outcome c.status.result (λ outcome. DoesAsAsked (map (λ word. word.now) c.args.words.now) outcome (g.F.Files.held c.args.files.now) (g.F.Files.held c.do_as_asked.new.files) (g.W.Sink.taken c.args.out.now) (g.W.Sink.taken c.do_as_asked.new.out)) c.status.ensures c.in-Ok.ensures.done (one_is_some c.status.result one))
+
+pub returns-in-Ok-clause-said : goal.returns-in-Ok-clause-said
+returns-in-Ok-clause-said g c = λ some. inl (ends_differs c.in-Ok.outcome c.status.result (λ outcome. DoesAsAsked (map (λ word. word.now) c.args.words.now) outcome (g.F.Files.held c.args.files.now) (g.F.Files.held c.do_as_asked.new.files) (g.W.Sink.taken c.args.out.now) (g.W.Sink.taken c.do_as_asked.new.out)) c.status.ensures c.in-Ok.ensures.done some)
+
+pub returns-in-Err-clause-one : goal.returns-in-Err-clause-one
+returns-in-Err-clause-one g c = λ one.
+    let of_fault = one_is_of_fault c.in-Err.fault c.fail_with.result c.fail_with.ensures.status one in
+    inl (c.in-Err.ensures.cause of_fault, unprinted_one c.in-Err.fault _ c.in-Err.ensures.unwritten of_fault)
 
 pub returns-in-Err-clause-said : goal.returns-in-Err-clause-said
-returns-in-Err-clause-said g c = λ some. says_caused _ _ c.in-Err.fault _ _ _ c.in-Err.ensures.machine tt c.fail_with.ensures.said
+returns-in-Err-clause-said g c = λ some. inr (says_caused _ _ c.in-Err.fault _ _ _ c.in-Err.ensures.machine tt c.fail_with.ensures.said)

@@ -1,7 +1,7 @@
 use Rattle.std.proofs.Common.{◌∙◌, subst}
 use Rattle.std.proofs.lemmas.Option.{IfSome_then}
 use Rattle.std.specs.String.{string_bytes}
-use Rattle.ctt_tool.specs.Checks.{IsInstanceText}
+use Rattle.ctt_tool.specs.Texts.{IsInstanceText}
 use Rattle.ctt_tool.proofs.Causes.{instance_refused}
 use Rattle.ctt_tool.proofs.texts.fetch_instance.Goals as goal
 

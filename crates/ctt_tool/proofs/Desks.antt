@@ -1,0 +1,64 @@
+-- Openings that are refused, and what is printed and stored of a desk.
+use Rattle.std.proofs.Common.{◌≡◌, ◌∙◌, ap, subst, sym, ℕ, List, IfSome, Option, Some, None}
+use Rattle.std.specs.Global.{Global}
+use Rattle.std.specs.List.{AllByRecursion as Each}
+use Rattle.std.specs.Prelude.{Err}
+use Rattle.std.specs.String.{string_bytes}
+use Rattle.std.specs.declared.string.String.{String}
+use Rattle.ctt_text.specs.Problem.{Problem}
+use Rattle.ctt_text.specs.Timetable.{Fits}
+use Rattle.ctt_text.specs.declared.placed.Placed.{Placed}
+use Rattle.ctt_edits.specs.Openings.{opening}
+use Rattle.ctt_edits.specs.declared.fault.EditFault.{EditFault}
+use Rattle.ctt_edits.proofs.OpeningLemmas.{opening_faults_fit}
+use Rattle.ctt_core.specs.Audits.{IsVerdict}
+use Rattle.ctt_core.specs.declared.auditing.Verdict.{Verdict}
+use Rattle.ctt_core.specs.declared.auditing.Verdict.TheVariants as verdict
+use Rattle.ctt_core.specs.declared.journal.JournalEntry.{JournalEntry}
+use Rattle.ctt_script.specs.RunFaults.{IsCauseOf}
+use Rattle.ctt_script.specs.WrittenText.{journal_text}
+use Rattle.ctt_script.specs.declared.script_fault.ScriptFault.{ScriptFault}
+use Rattle.ctt_script.specs.declared.script_fault.ScriptFault.TheVariants as script
+use Rattle.ctt_tool.specs.Audits.{VerdictFits}
+use Rattle.ctt_tool.specs.Faults.{RunFaultFits}
+use Rattle.ctt_tool.specs.Runs.{Stores}
+use Rattle.ctt_tool.specs.Texts.{Held}
+
+-- the fault of an opening names a course of the instance, if it names one
+pub run_fits : (i : Problem) (ls : List Placed) (left : Option (List ℕ)) (fault : ScriptFault) → Each (Fits i) ls → IsCauseOf i ls left fault → RunFaultFits i fault
+run_fits i ls left (script.Unlawful at fault) fit cause = opening_faults_fit i ls at fault fit cause
+run_fits i ls left script.Read fit cause = tt
+run_fits i ls left script.TooLong fit cause = tt
+run_fits i ls left script.Write fit cause = tt
+run_fits i ls left script.NoMemory fit cause = tt
+
+pub verdict_fits : (i : Problem) (ls : List Placed) (h : List JournalEntry) (v : Verdict) → Each (Fits i) ls → IsVerdict i ls h v → VerdictFits i v
+verdict_fits i ls h verdict.Agrees fit is = tt
+verdict_fits i ls h (verdict.BadOpening at fault) fit is = opening_faults_fit i ls at fault fit is
+verdict_fits i ls h (verdict.Differs entry call) fit is = tt
+
+pub badly_opened : (i : Problem) (ls : List Placed) (h : List JournalEntry) (v : Verdict) (at : ℕ) (fault : EditFault) → v ≡ verdict.BadOpening at fault → IsVerdict i ls h v → opening i ls ≡ Err (at, fault)
+badly_opened i ls h v at fault same is = subst (IsVerdict i ls h) same is
+
+-- what is so of a text that is left to be read is so of the file that it is read from
+pub told_through : (o left : Option (List ℕ)) (P : List ℕ → Type 0) → IfSome o (λ text. left ≡ Some text) → IfSome left P → IfSome o P
+told_through None left P same h = tt
+told_through (Some text) left P same h = subst (λ l. IfSome l P) same h
+
+some_weaker : (o : Option (List ℕ)) (P Q : List ℕ → Type 0) → IfSome o P → ((text : List ℕ) → P text → Q text) → IfSome o Q
+some_weaker None P Q h more = tt
+some_weaker (Some text) P Q h more = more text h
+
+journal_told : (told : Option (List ℕ)) (i : Problem) (entries kept : List JournalEntry) (accepted : List ℕ → List JournalEntry) (bytes : List ℕ) → entries ≡ kept → IfSome told (λ text. kept ≡ accepted text)
+    → bytes ≡ journal_text i entries → IfSome told (λ text. bytes ≡ journal_text i (accepted text))
+journal_told None i entries kept accepted bytes same known is = tt
+journal_told (Some text) i entries kept accepted bytes same known is = is ∙ ap (journal_text i) (same ∙ known)
+
+-- the journal that is stored is that of the drafts that the script has accepted
+pub journal_stored : (journal : Option (String Global)) (before later after : Held) (told : Option (List ℕ)) (i : Problem) (entries kept : List JournalEntry) (accepted : List ℕ → List JournalEntry)
+    → later ≡ before → entries ≡ kept → IfSome told (λ text. kept ≡ accepted text) → Stores journal later after (λ bytes. bytes ≡ journal_text i entries)
+    → Stores journal before after (λ bytes. IfSome told (λ text. bytes ≡ journal_text i (accepted text)))
+journal_stored None before later after told i entries kept accepted same_files same known h = h ∙ same_files
+journal_stored (Some name) before later after told i entries kept accepted same_files same known h =
+    some_weaker (after (string_bytes name)) (λ bytes. bytes ≡ journal_text i entries) (λ bytes. IfSome told (λ text. bytes ≡ journal_text i (accepted text))) h
+    (λ bytes is. journal_told told i entries kept accepted bytes same known is)

@@ -1,0 +1,18 @@
+use Rattle.std.proofs.Common.{rules, codes}
+use Rattle.std.proofs.lemmas.Result.{IfOk-weaker}
+use Rattle.clap.specs.Words.{new_app}
+use Rattle.ctt_tool.specs.CommandLine.{IsCommand, audit, required_word, valued}
+use Rattle.ctt_tool.proofs.Commands.{with_argument}
+use Rattle.ctt_tool.proofs.job.audit_command.Goals as goal
+
+pub returns : goal.returns
+unfolding audit
+returns c =
+    let bare : IsCommand (new_app (codes "audit")) c.about.result =
+    record { reads_by = search rules; is_local = search rules } in
+    let first = with_argument (new_app (codes "audit")) (required_word (codes "instance")) c.about.result c.file_argument-instance.result c.in_ok-arg.field-0
+    bare c.file_argument-instance.ensures.rule c.file_argument-instance.ensures.local c.in_ok-arg.ensures in
+    let second = with_argument _ (required_word (codes "journal")) c.in_ok-arg.field-0 c.file_argument-journal.result c.in_ok-arg-2.field-0
+    first c.file_argument-journal.ensures.rule c.file_argument-journal.ensures.local c.in_ok-arg-2.ensures in
+    IfOk-weaker c.arg-3.result _ _ (λ command adds. with_argument _ (valued (codes "start")) c.in_ok-arg-2.field-0 c.start_argument-start.result command
+    second c.start_argument-start.ensures.rule c.start_argument-start.ensures.local adds) c.arg-3.ensures

@@ -1,0 +1,33 @@
+use Rattle.std.proofs.Common.{[], ◌∷◌, ◌∙◌, ⊎_elim, inl, inr, subst, IfErr, IfSome, List, ℕ}
+use Rattle.std.proofs.lemmas.Result.{IfErr-weaker}
+use Rattle.std.specs.String.{string_bytes}
+use Rattle.ctt_text.specs.Problem.{Problem}
+use Rattle.ctt_tool.specs.Faults.{IsOfFiles}
+use Rattle.ctt_tool.specs.Jobs.{given}
+use Rattle.ctt_tool.specs.Runs.{RunsOn}
+use Rattle.ctt_tool.specs.Texts.{IsRefusedStart}
+use Rattle.ctt_tool.proofs.Known.{of_more_files, on_ok_weaker}
+use Rattle.ctt_tool.proofs.run.run.Goals as goal
+
+pub returns-clause-runs : goal.returns-clause-runs
+returns-clause-runs g c =
+    let problem : Problem = c.in_ok-instance.instance in
+    on_ok_weaker c.run_on.result _ _ (λ runs. record {
+      problem = problem;
+      is_instance = c.in_ok-instance.ensures.spelled;
+      runs = subst (λ held. RunsOn problem c.args.script c.args.start c.args.journal held (g.F.Files.held c.run_on.new.files) (g.W.Sink.taken c.args.out.now) (g.W.Sink.taken c.run_on.new.out)) c.in_ok-instance.ensures.kept runs;
+    }) c.run_on.ensures.runs
+
+pub returns-clause-unstored : goal.returns-clause-unstored
+returns-clause-unstored g c =
+    IfErr-weaker c.run_on.result _ _ (λ fault kept. ⊎_elim inl (λ same. inr (same ∙ c.in_ok-instance.ensures.kept)) kept) c.run_on.ensures.unstored
+
+pub returns-clause-file : goal.returns-clause-file
+returns-clause-file g c =
+    IfErr-weaker c.run_on.result _ _ (λ fault is. of_more_files (c.args.script ∷ given c.args.start) (c.args.instance ∷ c.args.script ∷ given c.args.start) (g.F.Files.held c.args.files.now) fault (λ name one. inr one) is)
+    (subst (λ held. IfErr c.run_on.result (IsOfFiles (c.args.script ∷ given c.args.start) held)) c.in_ok-instance.ensures.kept c.run_on.ensures.file)
+
+pub returns-clause-cause : goal.returns-clause-cause
+returns-clause-cause g c =
+    let problem : Problem = c.in_ok-instance.instance in
+    IfErr-weaker c.run_on.result _ _ (λ fault caused one. inr (problem, c.in_ok-instance.ensures.spelled, subst (λ held. IsRefusedStart problem held c.args.start) c.in_ok-instance.ensures.kept (caused one))) c.run_on.ensures.cause

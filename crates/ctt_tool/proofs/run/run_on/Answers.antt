@@ -1,0 +1,48 @@
+use Rattle.std.proofs.Common.{rules, ◌≡◌, ◌∙◌, ap, subst, sym, false, inr, refl, List, ℕ, IfSome, Some}
+use Rattle.std.specs.List.{AllByRecursion as Each}
+use Rattle.std.specs.String.{string_bytes}
+use Rattle.ctt_text.specs.Problem.{Problem}
+use Rattle.ctt_text.specs.Timetable.{Fits}
+use Rattle.ctt_text.specs.declared.placed.Placed.{Placed}
+use Rattle.ctt_edits.specs.Openings.{opening}
+use Rattle.ctt_core.specs.Runs.{accepted_of}
+use Rattle.ctt_script.specs.AnswerText.{script_run}
+use Rattle.ctt_tool.specs.Faults.{status_of}
+use Rattle.ctt_tool.specs.Texts.{Held, Holds, IsRefusedStart, IsStart}
+use Rattle.ctt_tool.proofs.Desks.{journal_stored, told_through}
+use Rattle.ctt_tool.proofs.Known.{on_ok_weaker, passed_on}
+use Rattle.ctt_tool.proofs.run.run_on.Goals as goal
+
+pub answer-requires : goal.answer-requires
+answer-requires g c κs =
+    let fit : Each (Fits c.args.instance.now) c.deref-2.result.now = subst (Each (Fits c.args.instance.now)) (sym c.deref-2.ensures.value) c.in_ok-lectures.ensures.fit in
+    let unread : g.F.Input.Source.has_failed c.in-Ok.input ≡ false = c.in-Ok.ensures.unmarked in
+    search rules
+
+pub returns-in_err-desk-clause-cause : goal.returns-in_err-desk-clause-cause
+returns-in_err-desk-clause-cause g c =
+    let problem : Problem = c.args.instance.now in
+    passed_on c.from_residual-in_err-desk.result c.in_err-desk.field-0.0 (λ fault. status_of fault ≡ 1 → IsRefusedStart problem (g.F.Files.held c.args.files.now) c.args.start) c.from_residual-in_err-desk.ensures.1 (λ one.
+    let why = c.in_err-desk.ensures.cause one in
+    inr (why.0, why.1, record {
+      lectures = c.in_ok-lectures.lectures.items;
+      is_start = subst (λ held. IsStart problem held c.args.start c.in_ok-lectures.lectures.items) c.in-Ok.ensures.kept c.in_ok-lectures.ensures.spelled;
+      refused = ap (opening problem) (sym c.deref-2.ensures.value) ∙ why.2;
+    }))
+
+pub returns-clause-runs : goal.returns-clause-runs
+returns-clause-runs g c =
+    let problem : Problem = c.args.instance.now in
+    let held : Held = g.F.Files.held c.args.files.now in
+    let opened : List Placed = c.in_ok-desk.desk.opening in
+    let whole : Holds held c.args.script (λ text. g.F.Input.Source.left c.in-Ok.input ≡ Some text) = subst (λ name. IfSome (held name) (λ text. g.F.Input.Source.left c.in-Ok.input ≡ Some text)) c.deref.ensures c.in-Ok.ensures.whole in
+    let entries : Holds held c.args.script (λ text. c.in_ok-desk.desk.journal ≡ accepted_of (script_run problem opened text)) = told_through _ _ _ whole c.in_ok-desk.ensures.journal in
+    on_ok_weaker c.store_journal.result _ _ (λ stores. record {
+      lectures = c.in_ok-lectures.lectures.items;
+      is_start = subst (λ known. IsStart problem known c.args.start c.in_ok-lectures.lectures.items) c.in-Ok.ensures.kept c.in_ok-lectures.ensures.spelled;
+      opened = opened;
+      opens = ap (opening problem) (sym c.deref-2.ensures.value) ∙ c.in_ok-desk.ensures.opening;
+      prints = told_through _ _ _ whole c.in_ok-desk.ensures.prints;
+      stores = journal_stored c.args.journal held _ _ (held (string_bytes c.args.script)) problem c.journal.result.now c.in_ok-desk.desk.journal (λ text. accepted_of (script_run problem opened text))
+          (c.in_ok-lectures.ensures.kept ∙ c.in-Ok.ensures.kept) c.journal.ensures entries stores;
+    }) c.store_journal.ensures.stores

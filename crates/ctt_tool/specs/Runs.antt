@@ -1,0 +1,37 @@
+-- What the command `run` prints and stores, and which texts it refuses.
+use Rattle.std.specs.Prelude.{◌≡◌, ◌⊎◌, ℕ, List, Option, Some, None, Ok}
+use Rattle.std.specs.Global.{Global}
+use Rattle.std.specs.Io.KnownBytes.{Appends}
+use Rattle.std.specs.declared.string.String.{String}
+use Rattle.ctt_text.specs.Problem.{Problem}
+use Rattle.ctt_text.specs.declared.placed.Placed.{Placed}
+use Rattle.ctt_edits.specs.Openings.{opening}
+use Rattle.ctt_core.specs.Runs.{accepted_of}
+use Rattle.ctt_script.specs.AnswerText.{answer_text, script_run}
+use Rattle.ctt_script.specs.WrittenText.{journal_text}
+use Rattle.ctt_tool.specs.Texts.{Held, Holds, IsInstanceText, IsNoInstance, IsRefusedStart, IsStart}
+
+-- where a file is given, it holds what it should; where none is, no file has changed
+abbrev pub Stores : Option (String Global) → Held → Held → (List ℕ → Type 0) → Type 0
+Stores None before after P = after ≡ before
+Stores (Some name) before after P = Holds after name P
+
+-- of an instance, the script is run on a desk that opens with the start: its answers are printed, and the accepted drafts are stored as a journal where a file is given
+pub record RunsOn (problem : Problem) (script : String Global) (start journal : Option (String Global)) (before after : Held) (old new : Option (List ℕ)) : Type 0 where
+  pub lectures : List Placed
+  pub is_start : IsStart problem before start lectures
+  pub opened : List Placed
+  pub opens : opening problem lectures ≡ Ok opened
+  pub prints : Holds before script (λ text. Appends old new (answer_text problem opened text))
+  pub stores : Stores journal before after (λ bytes. Holds before script (λ text. bytes ≡ journal_text problem (accepted_of (script_run problem opened text))))
+
+-- the same, of the instance in a file
+pub record RunsScript (instance script : String Global) (start journal : Option (String Global)) (before after : Held) (old new : Option (List ℕ)) : Type 0 where
+  pub problem : Problem
+  pub is_instance : Holds before instance (λ text. IsInstanceText text problem)
+  pub runs : RunsOn problem script start journal before after old new
+
+-- the first file holds no instance, or there is no timetable to open with
+abbrev pub IsRefusedRun : Held → String Global → Option (String Global) → Type 0
+IsRefusedRun held instance start = Holds held instance IsNoInstance
+    ⊎ ((problem : Problem) × Holds held instance (λ text. IsInstanceText text problem) × IsRefusedStart problem held start)

@@ -1,0 +1,70 @@
+-- Which texts are taken, and which are refused.
+use Rattle.std.specs.Prelude.{◌≡◌, ◌⊎◌, ℕ, List, [], Option, Some, None, IfSome, Err}
+use Rattle.std.specs.Global.{Global}
+use Rattle.std.specs.Str.{IsUtf8}
+use Rattle.std.specs.String.{string_bytes}
+use Rattle.std.specs.declared.string.String.{String}
+use Rattle.ctt_text.specs.InstanceText.{Spells}
+use Rattle.ctt_text.specs.Problem.{Problem}
+use Rattle.ctt_text.specs.SolutionText.{SolSpells}
+use Rattle.ctt_text.specs.Words.{words}
+use Rattle.ctt_text.specs.declared.placed.Placed.{Placed}
+use Rattle.ctt_edits.specs.Openings.{opening}
+use Rattle.ctt_edits.specs.declared.fault.EditFault.{EditFault}
+use Rattle.ctt_core.specs.declared.journal.JournalEntry.{JournalEntry}
+use Rattle.ctt_script.specs.JournalText.{JournalSpells}
+
+-- the bytes of files by their names, where they are told
+abbrev pub Held : Type 0
+Held = List ℕ → Option (List ℕ)
+
+-- the text of this file, where it is told, is so
+abbrev pub Holds : Held → String Global → (List ℕ → Type 0) → Type 0
+Holds held name P = IfSome (held (string_bytes name)) P
+
+-- the text is that of the instance
+pub record IsInstanceText (text : List ℕ) (problem : Problem) : Type 0 where
+  pub is_text : IsUtf8 text
+  pub spells : Spells (words text) problem
+
+-- the text is that of the timetable, as a solution of the instance
+pub record IsSolutionText (problem : Problem) (text : List ℕ) (timetable : List Placed) : Type 0 where
+  pub is_text : IsUtf8 text
+  pub spells : SolSpells problem (words text) timetable
+
+-- the text is that of the journal with these entries, of drafts on timetables of the instance
+pub record IsJournalText (problem : Problem) (text : List ℕ) (entries : List JournalEntry) : Type 0 where
+  pub is_text : IsUtf8 text
+  pub spells : JournalSpells problem (words text) entries
+
+-- the text is that of no instance
+abbrev pub IsNoInstance : List ℕ → Type 0
+IsNoInstance text = (problem : Problem) → ¬ IsInstanceText text problem
+
+-- the text is that of no timetable, as a solution of the instance
+abbrev pub IsNoSolution : Problem → List ℕ → Type 0
+IsNoSolution problem text = (timetable : List Placed) → ¬ IsSolutionText problem text timetable
+
+-- the text is that of no journal
+abbrev pub IsNoJournal : Problem → List ℕ → Type 0
+IsNoJournal problem text = (entries : List JournalEntry) → ¬ IsJournalText problem text entries
+
+-- the lectures that a desk opens with: those of the solution in the file, or none where no file is given
+abbrev pub IsStart : Problem → Held → Option (String Global) → List Placed → Type 0
+IsStart problem held None lectures = lectures ≡ []
+IsStart problem held (Some name) lectures = Holds held name (λ text. IsSolutionText problem text lectures)
+
+-- a file is given whose text is that of no solution
+abbrev pub IsNoStart : Problem → Held → Option (String Global) → Type 0
+IsNoStart problem held None = ⊥
+IsNoStart problem held (Some name) = Holds held name (IsNoSolution problem)
+
+-- the lectures that a desk opens with cannot all be placed: this one is the first, counted from 1, and this stands against it
+pub record IsUnlawfulStart (problem : Problem) (held : Held) (start : Option (String Global)) (at : ℕ) (fault : EditFault) : Type 0 where
+  pub lectures : List Placed
+  pub is_start : IsStart problem held start lectures
+  pub refused : opening problem lectures ≡ Err (at, fault)
+
+-- there is no timetable to open with
+abbrev pub IsRefusedStart : Problem → Held → Option (String Global) → Type 0
+IsRefusedStart problem held start = IsNoStart problem held start ⊎ ((at : ℕ) × (fault : EditFault) × IsUnlawfulStart problem held start at fault)
