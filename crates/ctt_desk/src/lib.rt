@@ -22,3 +22,6 @@ pub use receipt::Receipt;
 pub use refusal::Refusal;
 pub use shared_desk::SharedDesk;
 pub use shared_fault::SharedFault;
+
+#[cfg(test)]
+mod tests;
