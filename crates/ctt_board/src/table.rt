@@ -30,12 +30,7 @@ impl<T> Model for Table<T> {
 
 impl<T: Copy> Table<T> {
     /// The same value everywhere.
-    pub fn new(
-        alloc: Global,
-        rows: usize,
-        width: usize,
-        value: T,
-    ) -> Result<Self, AllocError>
+    pub fn new(alloc: Global, rows: usize, width: usize, value: T) -> Result<Self, AllocError>
         requires { rows * width ≤ 100000000 }
         ensures rows { IfOk result (λ t. (t.rows ≡ rows) × (t.width ≡ width)) }
         ensures size { IfOk result (λ t. length t.cells ≡ rows * width) }

@@ -174,9 +174,10 @@ module _ (i k : Problem) (base here : List Placed) (asked : List Asked) (old : L
       undo' ≡ more_noted here cells undo → AddsReads i (Edits x) rows rows' →
       IsDraft i l (put_back i undo'.cells next) next longer new undo' rows' × (◌≡◌ {A = DraftValue} (record { problem = i; base = put_back i undo'.cells next; asked = longer }) (asked_more v (Edits x) Done))
   made_draft longer rows' x cells l next new undo' same f free cells_are of is more noted adds =
-      let d' : IsDraft i l base next longer new undo' rows' = draft_made longer rows' x cells l next new undo' same f free cells_are of is more noted adds in
-      (rebased i l base next longer new undo' rows' d',
-      ap₂ (λ b xs. record { problem = i; base = b; asked = xs }) (back_to i l base next longer new undo' rows' d') same ∙ ap (λ w. asked_more w (Edits x) Done) e)
+      let d' : IsDraft i l base next longer new undo' rows' = draft_made longer rows' x cells l next new undo' same f free cells_are of is more noted adds in (
+        rebased i l base next longer new undo' rows' d',
+        ap₂ (λ b xs. record { problem = i; base = b; asked = xs }) (back_to i l base next longer new undo' rows' d') same ∙ ap (λ w. asked_more w (Edits x) Done) e,
+      )
 
   -- the cells of an edit are within the record's table
   pub edit_within : (x : Edit) (cells : List Cell) → EditFits v.problem x → cells ≡ change (present v) x → AreWithin undo.courses undo.slots cells

@@ -74,12 +74,7 @@ fn mark_others<R: Rooms>(cells: &[Cell], sheet: &R, courses: &mut Marks, slots: 
 
 impl<'a, R: Rooms> Comparison<'a, R> {
     /// The base to which an undo record leads back from the present timetable, beside a sheet.
-    pub(crate) fn new(
-        instance: &'a Instance,
-        present: &'a R,
-        undo: &'a Undo,
-        sheet: &'a R,
-    ) -> Self
+    pub(crate) fn new(instance: &'a Instance, present: &'a R, undo: &'a Undo, sheet: &'a R) -> Self
         requires present { R.problem present.now ≡ instance.now }
         requires sheet { R.problem sheet.now ≡ instance.now }
         requires courses { undo.now.courses ≡ course_count instance.now }

@@ -101,12 +101,7 @@ fn note<R: Rooms>(recorded: &mut Vec<Cell>, table: &mut Table<bool>, rooms: &R, 
 }
 
 /// Records cells in turn. There is room for them.
-fn note_all<R: Rooms>(
-    recorded: &mut Vec<Cell>,
-    table: &mut Table<bool>,
-    rooms: &R,
-    cells: &[Cell],
-)
+fn note_all<R: Rooms>(recorded: &mut Vec<Cell>, table: &mut Table<bool>, rooms: &R, cells: &[Cell])
     requires room { vec_len recorded.old + length cells.now ≤ vec_capacity recorded.old }
     requires undo { IsUndo recorded.old.items table.old }
     requires courses { table.old.rows ≡ course_count (R.problem rooms.now) }
