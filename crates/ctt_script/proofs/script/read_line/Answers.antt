@@ -17,6 +17,6 @@ returns-clause-item c =
 pub returns-clause-fits : goal.returns-clause-fits
 returns-clause-fits c =
     let is : c.only_event.result ≡ item c.args.instance.now c.args.line.now =
-      text_asks (event_form c.args.instance.now) c.args.line.now c.in-Ok.text.now c.new-reader.result c.only_event.result c.in-Ok.ensures.cases.1 c.in-Ok.ensures.cases.0 c.new-reader.ensures
-      (c.only_event.ensures (reads (event_form c.args.instance.now) c.new-reader.result) c.read_event-read.ensures) in
+    text_asks (event_form c.args.instance.now) c.args.line.now c.in-Ok.text.now c.new-reader.result c.only_event.result c.in-Ok.ensures.cases.1 c.in-Ok.ensures.cases.0 c.new-reader.ensures
+    (c.only_event.ensures (reads (event_form c.args.instance.now) c.new-reader.result) c.read_event-read.ensures) in
     item_fits c.args.instance.now c.limits_hold.ensures c.args.line.now c.only_event.result is

@@ -17,6 +17,6 @@ returns-clause-item c =
 pub returns-clause-fits : goal.returns-clause-fits
 returns-clause-fits c planners lt =
     let is : c.only_event.result ≡ own_item c.args.instance.now c.args.planner c.args.line.now =
-      text_asks (own_form c.args.instance.now c.args.planner) c.args.line.now c.in-Ok.text.now c.new-reader.result c.only_event.result c.in-Ok.ensures.cases.1 c.in-Ok.ensures.cases.0 c.new-reader.ensures
-      (c.only_event.ensures (reads (own_form c.args.instance.now c.args.planner) c.new-reader.result) c.read_own_event-read.ensures) in
+    text_asks (own_form c.args.instance.now c.args.planner) c.args.line.now c.in-Ok.text.now c.new-reader.result c.only_event.result c.in-Ok.ensures.cases.1 c.in-Ok.ensures.cases.0 c.new-reader.ensures
+    (c.only_event.ensures (reads (own_form c.args.instance.now c.args.planner) c.new-reader.result) c.read_own_event-read.ensures) in
     own_item_fits c.args.instance.now c.limits_hold.ensures planners c.args.planner lt c.args.line.now c.only_event.result is
