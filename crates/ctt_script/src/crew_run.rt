@@ -77,39 +77,48 @@ struct Attendance<'i, 'x, S: Timetable, J: Naming, G: Gate> {
     alloc: Global,
     desk: &'x SharedDesk<S, J>,
     instance: &'i Instance,
+    number: PlannerNo,
     planner: Planner<S, J>,
     script: &'x [u8],
     gate: &'x G,
     ghost same: { J.problem ≡ instance.now },
 }
 
+/// Answers the lines of a planner's script, and gives the lines of the answers.
+fn attend<'i, 'x, S: Sheet<'i>, J: Naming, R: Wait, G: Gate>(
+    attendance: Attendance<'i, 'x, S, J, G>,
+    rt: &R,
+) -> Result<String, NoMemory> {
+    let Attendance {
+        alloc,
+        desk,
+        instance,
+        number,
+        planner,
+        script,
+        gate,
+    } = attendance;
+    let mut seat = Seat::Free(planner);
+    let mut text = String::new(alloc);
+    let mut at = 0u64;
+    for line in Lines::new(script) {
+        if has_words(line) {
+            at = at.saturating_add(1);
+            gate.before(number, at);
+            seat = answer_own_line(rt, desk, instance, seat, number, line, &mut text)?;
+            gate.after(number, at);
+        }
+    }
+    Ok(text)
+}
+
 impl<'i, 'x, S: Sheet<'i>, J: Naming + Send + Sync, G: Gate> Work for Attendance<'i, 'x, S, J, G> {
     fn planner(&self) -> PlannerNo {
-        self.planner.number()
+        self.number
     }
 
     fn work<R: Wait>(self, rt: &R) -> Result<String, NoMemory> {
-        let Attendance {
-            alloc,
-            desk,
-            instance,
-            planner,
-            script,
-            gate,
-        } = self;
-        let number = planner.number();
-        let mut seat = Seat::Free(planner);
-        let mut text = String::new(alloc);
-        let mut at = 0u64;
-        for line in Lines::new(script) {
-            if has_words(line) {
-                at = at.saturating_add(1);
-                gate.before(number, at);
-                seat = answer_own_line(rt, desk, instance, seat, number, line, &mut text)?;
-                gate.after(number, at);
-            }
-        }
-        Ok(text)
+        attend(self, rt)
     }
 }
 
@@ -141,7 +150,7 @@ fn work_at_once<R: Threads + Wait + Sync, W: Work>(
 }
 
 /// The planners, each with his script.
-fn attendances<'i, 'x, S: Sheet<'i>, J: Naming + Send + Sync, G: Gate>(
+fn attendances<'i, 'x, S: Sheet<'i>, J: Naming, G: Gate>(
     alloc: Global,
     desk: &'x SharedDesk<S, J>,
     instance: &'i Instance,
@@ -153,10 +162,12 @@ fn attendances<'i, 'x, S: Sheet<'i>, J: Naming + Send + Sync, G: Gate>(
 {
     let mut works = Vec::with_capacity(alloc, scripts.len())?;
     for (planner, script) in planners.into_iter().zip(scripts) {
+        let number = planner.number();
         works.push(Attendance {
             alloc,
             desk,
             instance,
+            number,
             planner,
             script,
             gate,
