@@ -5,6 +5,7 @@ mod closed;
 mod committing;
 mod drafting;
 mod locked;
+mod named;
 mod naming;
 mod opened;
 mod planner;
@@ -15,6 +16,7 @@ mod shared_fault;
 
 pub use closed::Closed;
 pub use drafting::Drafting;
+pub use named::Named;
 pub use naming::Naming;
 pub use opened::Opened;
 pub use planner::Planner;

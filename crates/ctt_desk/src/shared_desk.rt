@@ -1,14 +1,13 @@
 //! The desk that planners on threads share.
 
 ghost use Rattle.std.specs.Prelude.{◌≡◌, IfOk, IfErr};
-ghost use Rattle.ctt_desk.specs.Names.{IsNamed};
 ghost use Rattle.ctt_desk.specs.Planners.{new_planners};
 ghost use Rattle.ctt_desk.specs.declared.shared_fault.SharedFault.TheVariants.{NoMemory as OutOfMemory};
 
 use crate::closed::Closed;
 use crate::locked::Locked;
+use crate::named::Named;
 use crate::naming::Naming;
-use crate::opened::Opened;
 use crate::planner::Planner;
 use crate::shared_fault::SharedFault;
 use ctt_board::Timetable;
@@ -40,13 +39,16 @@ impl<S: Timetable, J: Naming> SharedDesk<S, J> {
     /// nothing.
     pub fn new<R: Wait>(
         _rt: &R,
-        opened: Opened<S>,
-        count: u16,
+        named: Named<S, J>,
     ) -> Result<(Self, Vec<Planner<S, J>>), SharedFault>
-        requires { IsNamed J.problem J.opening J.planners opened count }
-        ensures planners { IfOk result (λ made. made.1.items ≡ new_planners count) }
+        ensures planners { IfOk result (λ made. made.1.items ≡ new_planners named.count) }
         ensures fault { IfErr result (λ fault. fault ≡ OutOfMemory) }
     {
+        let Named {
+            opened,
+            count,
+            name: _,
+        } = named;
         let planners = planners(opened.alloc, count)?;
         let locked = Locked::new(opened, count)?;
         let desk = SharedDesk {

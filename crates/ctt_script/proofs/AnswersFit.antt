@@ -1,5 +1,5 @@
 -- What a plain desk answers, and the journal of a right run, can be written.
-use Rattle.std.proofs.Common.{ℕ, zero, suc, ◌+◌, ◌<◌, ◌≤◌, Bool, true, false, cond, List, [], ◌∷◌, map, take, length, Option, Some, None, arith, inl, inr}
+use Rattle.std.proofs.Common.{subst, ◌≡◌, ℕ, zero, suc, ◌+◌, ◌<◌, ◌≤◌, Bool, true, false, cond, List, [], ◌∷◌, map, take, length, Option, Some, None, arith, inl, inr}
 use Rattle.std.specs.Prelude.{IfSome}
 use Rattle.std.specs.List.{find, AllByRecursion as Each}
 use Rattle.std.proofs.lemmas.Bool.{cases_Bool}
@@ -48,12 +48,20 @@ all_below p (suc n) = Each-join (λ k. k < suc n) (below p n) (cond (p n) (n ∷
     by true = (omega arith, tt)
     by false = tt
 
-module _ (i : Problem) (is : IsProblem i) where
+module _ (i : Problem) where
   rows_fit : (p q : ℕ → Bool) → Each (RowFits i) (rows_where i p q)
   rows_fit p q = Each-join (RowFits i) (map CourseRow (below p (course_count i))) (map SlotRow (below q (slot_count i)))
       (Each-of_map (RowFits i) CourseRow (below p (course_count i)) (all_below p (course_count i)))
       (Each-of_map (RowFits i) SlotRow (below q (slot_count i)) (all_below q (slot_count i)))
 
+  -- a row for which a draft is stale is one of the instance
+  pub stale_fits : (base now : List Placed) (calls : List Call) → IfSome (stale i base now calls) (RowFits i)
+  stale_fits base now calls = found (RowFits i) (differs base now) (all_reads i calls) (rows_fit (all_read_course i calls) (all_read_slot calls))
+
+  pub stale_row_fits : (base now : List Placed) (calls : List Call) (row : Row) → stale i base now calls ≡ Some row → RowFits i row
+  stale_row_fits base now calls row e = subst (λ o. IfSome o (RowFits i)) e (stale_fits base now calls)
+
+module _ (i : Problem) (is : IsProblem i) where
   verdict_fits : (n : ℕ) (o : Option Row) → IfSome o (RowFits i) → AnswerFits i (verdict n o)
   verdict_fits n None h = tt
   verdict_fits n (Some row) h = h
@@ -73,8 +81,7 @@ module _ (i : Problem) (is : IsProblem i) where
       commit_fits None = tt
       commit_fits (Some mine) =
           let calls : List Call = calls_of mine.asked in
-          verdict_fits (commits past + 1) (stale i (base i t0 past mine) (now i t0 past) calls)
-          (found (RowFits i) (differs (base i t0 past mine) (now i t0 past)) (all_reads i calls) (rows_fit (all_read_course i calls) (all_read_slot calls)))
+          verdict_fits (commits past + 1) (stale i (base i t0 past mine) (now i t0 past) calls) (stale_fits i (base i t0 past mine) (now i t0 past) calls)
 
       open_fits : (o : Option OpenDraft) → AnswerFits i (open_answer o)
       open_fits None = tt

@@ -2,6 +2,7 @@ pub mod Amounts
 pub mod AnswerText
 pub mod Answering
 pub mod CallPlaces
+pub mod CrewText
 pub mod Device
 pub mod Entries
 pub mod JournalPlaces

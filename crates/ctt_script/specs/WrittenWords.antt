@@ -3,10 +3,11 @@ use Rattle.std.specs.Prelude.{ℕ, List, [], ◌∷◌, ◌++◌, flat_map, leng
 use Rattle.std.specs.Fmt.{decimal, signed_decimal}
 use Rattle.ctt_text.specs.Problem.{Problem, day_of, period_of}
 use Rattle.ctt_text.specs.declared.placed.Placed.{Placed}
+use Rattle.ctt_rules.specs.declared.cost.Cost.{Cost}
 use Rattle.ctt_edits.specs.declared.edit.Edit.{Edit}
 use Rattle.ctt_edits.specs.declared.edit.Edit.TheVariants.{Place, Move, Swap, Reroom, Drop}
 use Rattle.ctt_edits.specs.declared.looks.Look.{Look}
-use Rattle.ctt_edits.specs.declared.looks.Look.TheVariants.{Course, Slot, Teacher, Curriculum, CourseCost, Cost, Price}
+use Rattle.ctt_edits.specs.declared.looks.Look.TheVariants.{Course, Slot, Teacher, Curriculum, CourseCost, Cost as CostLook, Price}
 use Rattle.ctt_edits.specs.declared.call.Call.{Call}
 use Rattle.ctt_edits.specs.declared.call.Call.TheVariants.{Look as Looks, Edit as Edits}
 use Rattle.ctt_edits.specs.declared.fault.EditFault.{EditFault}
@@ -42,7 +43,7 @@ look_words i (Slot s) = codes "slot" ∷ day_word i s ∷ period_word i s ∷ []
 look_words i (Teacher h) = codes "teacher" ∷ slice_index_or i.teacher_names h [] ∷ []
 look_words i (Curriculum q) = codes "curriculum" ∷ slice_index_or i.curriculum_names q [] ∷ []
 look_words i (CourseCost c) = codes "coursecost" ∷ course_word i c ∷ []
-look_words i Cost = codes "cost" ∷ []
+look_words i CostLook = codes "cost" ∷ []
 look_words i (Price e) = codes "price" ∷ edit_words i e
 
 abbrev pub call_words : Problem → Call → List (List ℕ)
@@ -62,11 +63,14 @@ fault_words i (RoomTaken c) = codes "roomtaken" ∷ course_word i c ∷ []
 abbrev pub lecture_words : Problem → Placed → List (List ℕ)
 lecture_words i l = course_word i l.course ∷ room_word i l.room ∷ day_word i l.slot ∷ period_word i l.slot ∷ []
 
+abbrev pub cost_words : Cost → List (List ℕ)
+cost_words c = codes "costs" ∷ decimal c.capacity ∷ decimal c.days ∷ decimal c.compactness ∷ decimal c.stability ∷ []
+
 abbrev pub reply_words : Problem → Reply → List (List ℕ)
 reply_words i Done = codes "done" ∷ []
 reply_words i (Refused f) = codes "refused" ∷ fault_words i f
 reply_words i (Lectures ls) = codes "lectures" ∷ decimal (length ls) ∷ flat_map (lecture_words i) ls
-reply_words i (Costs c) = codes "costs" ∷ decimal c.capacity ∷ decimal c.days ∷ decimal c.compactness ∷ decimal c.stability ∷ []
+reply_words i (Costs c) = cost_words c
 reply_words i (Priced p) = codes "price" ∷ signed_decimal p ∷ []
 
 abbrev pub asked_words : Problem → Asked → List (List ℕ)

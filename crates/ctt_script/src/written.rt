@@ -15,7 +15,7 @@ ghost use Rattle.ctt_draft.specs.Drafts.{AskedFits};
 ghost use Rattle.ctt_core.specs.Entries.{EntryFits};
 ghost use Rattle.ctt_script.specs.Entries.{IsShort};
 ghost use Rattle.ctt_script.specs.JournalText.{JournalSpells};
-ghost use Rattle.ctt_script.specs.WrittenWords.{edit_words, look_words, call_words, fault_words, lecture_words, reply_words};
+ghost use Rattle.ctt_script.specs.WrittenWords.{edit_words, look_words, call_words, fault_words, lecture_words, cost_words, reply_words};
 ghost use Rattle.ctt_script.specs.WrittenText.{line, lecture_part, asked_text, entry_text, journal_text};
 
 use ctt_core::JournalEntry;
@@ -184,8 +184,8 @@ fn write_lectures(
 }
 
 /// Adds the line of four costs.
-fn write_costs(text: &mut String, cost: &Cost) -> Result<(), AllocError>
-    ensures { OnOk result (string_bytes text.new ≡ string_bytes text.old ++ line (codes "costs" ∷ decimal cost.now.capacity ∷ decimal cost.now.days ∷ decimal cost.now.compactness ∷ decimal cost.now.stability ∷ [])) }
+pub(crate) fn write_costs(text: &mut String, cost: &Cost) -> Result<(), AllocError>
+    ensures { OnOk result (string_bytes text.new ≡ string_bytes text.old ++ line (cost_words cost.now)) }
 {
     let Cost {
         capacity,

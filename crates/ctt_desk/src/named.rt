@@ -1,0 +1,20 @@
+//! Openings of desks that have a name.
+
+ghost use Rattle.ctt_desk.specs.Names.{IsNamed};
+
+use crate::naming::Naming;
+use crate::opened::Opened;
+use ctt_board::Timetable;
+use std::marker::PhantomData;
+
+/// An opening with a number of planners, of a desk of which its name says both.
+#[derive(Drop)]
+pub struct Named<S: Timetable, J: Naming> {
+    /// The opening.
+    pub opened: Opened<S>,
+    /// How many planners the desk has.
+    pub count: u16,
+    /// The name.
+    pub name: PhantomData<J>,
+    ghost named: { IsNamed J.problem J.opening J.planners opened count },
+}

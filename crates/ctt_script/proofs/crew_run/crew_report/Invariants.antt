@@ -1,0 +1,7 @@
+use Rattle.std.proofs.Common.{◌≡◌, ◌++◌, map, drop, string_bytes}
+use Rattle.ctt_script.specs.CrewText.{planners_text}
+use Rattle.ctt_script.proofs.crew_run.crew_report.Given as goal
+
+-- what was written, and the answers of the planners still to come, are those of all
+abbrev pub invariant-loop-planner : goal.invariant-loop-planner
+invariant-loop-planner l = string_bytes l.text ++ planners_text l.planner-counter (map string_bytes (drop l.planner-counter l.answers)) ≡ planners_text 0 (map string_bytes l.answers)

@@ -1,0 +1,40 @@
+//! Why a crew could not work.
+
+use ctt_core::PlannerNo;
+use ctt_desk::SharedFault;
+use ctt_text::NoMemory;
+use std::alloc::{AllocError, AllocFailed};
+
+/// Why a crew could not work to its end.
+#[derive(Clone, Copy, Debug, PartialEq, Eq)]
+pub enum CrewFault {
+    /// The thread of this planner could not be started.
+    NoThread(PlannerNo),
+    /// There is not enough memory.
+    NoMemory,
+}
+
+impl From<SharedFault> for CrewFault {
+    /// A crew's desk opens empty, so it wants memory and nothing else.
+    fn from(_fault: SharedFault) -> CrewFault {
+        CrewFault::NoMemory
+    }
+}
+
+impl From<NoMemory> for CrewFault {
+    fn from(_error: NoMemory) -> CrewFault {
+        CrewFault::NoMemory
+    }
+}
+
+impl From<AllocError> for CrewFault {
+    fn from(_error: AllocError) -> CrewFault {
+        CrewFault::NoMemory
+    }
+}
+
+impl<T: Drop> From<AllocFailed<T>> for CrewFault {
+    fn from(_error: AllocFailed<T>) -> CrewFault {
+        CrewFault::NoMemory
+    }
+}
