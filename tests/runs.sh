@@ -87,6 +87,7 @@ Commands:
   check  Report what a solution breaks and what it costs
   run    Run a script of planners' steps and print the answers
   audit  Say whether a journal was told what its drafts are told, run one after another
+  crew   Run scripts at once, each by a planner on a thread, and print the answers
   help   Print this message or the help of the given subcommand(s)
 
 Options:
@@ -136,8 +137,19 @@ Options:
       --start <SOLUTION>  The file of the opening timetable; without it the desk opens empty
   -h, --help              Print help
 '
+crew_help="Run scripts at once, each by a planner on a thread, and print the answers
+
+Usage: timedesk crew <INSTANCE> <SCRIPT>...
+
+Arguments:
+  <INSTANCE>   The file of the instance
+  <SCRIPT>...  The files of the planners' steps, one for each planner, at most 64
+
+Options:
+  -h, --help  Print help
+"
 no_words="error: 'timedesk' requires a subcommand but one was not provided
-  [subcommands: check, run, audit, help]
+  [subcommands: check, run, audit, crew, help]
 
 Usage: timedesk <COMMAND>
 
@@ -170,6 +182,13 @@ Usage: timedesk audit <INSTANCE> <JOURNAL>
 
 For more information, try '--help'.
 "
+no_scripts="error: the following required arguments were not provided:
+  <SCRIPT>...
+
+Usage: timedesk crew <INSTANCE> <SCRIPT>...
+
+For more information, try '--help'.
+"
 no_value="error: a value is required for '--journal <FILE>' but none was supplied
 
 For more information, try '--help'.
@@ -188,10 +207,31 @@ run 'a report' 0 "$report" '' check small.ctt s.sol
 run 'a report as JSON' 0 "$json" '' check small.ctt s.sol --json
 printf 'alg A 0 0\ntop B 0 0\n' >clash.sol
 run 'a report on an unlawful solution' 0 "$unlawful" '' check small.ctt clash.sol
+# Checks a solution of the instance `small`, given as its text, against the eight counts and costs of its report, their total, and
+# whether it is lawful and complete.
+reports() {
+    local name=$1 names=(lectures conflicts availability occupancy capacity days compactness stability total lawful complete)
+    local printed=$'instance Small\n' field
+    printf '%s' "$2" >counted.sol
+    shift 2
+    for field in "${names[@]}"; do
+        printed+="$field $1"$'\n'
+        shift
+    done
+    run "$name" 0 "$printed" '' check small.ctt counted.sol
+}
+reports 'no lecture at all' '' 5 0 0 0 0 20 0 0 20 yes no
+reports 'the last period is not beside the first of the next day' 'alg A 0 2 geo A 1 0' 3 0 0 0 5 10 4 0 19 yes no
+reports 'an unavailable period, and a room taken' 'geo B 0 0 top B 0 0' 3 0 1 1 10 10 2 0 22 no no
+reports 'a teacher twice in a slot' 'alg A 0 0 top B 0 0' 3 1 0 0 15 10 2 0 27 no no
+reports 'a lecture too many' 'top B 0 0 top B 0 1' 5 0 0 0 20 15 0 0 35 no no
+reports 'each of two lectures of a curriculum in one slot' 'alg A 0 1 geo B 0 1' 3 1 0 0 5 10 4 0 19 no no
+reports 'three lectures in a room' 'alg B 0 1 geo B 0 1 top B 0 1' 2 2 0 2 10 5 4 0 19 no no
 run 'help' 0 "$help" '' --help
 run 'help of a command' 0 "$check_help" '' check --help
 run 'help of run' 0 "$run_help" '' run --help
 run 'help of audit' 0 "$audit_help" '' audit --help
+run 'help of crew' 0 "$crew_help" '' crew --help
 run 'the version' 0 'timedesk 0.1.0
 ' '' --version
 
@@ -205,6 +245,93 @@ run 'a solution with a repeated lecture' 1 '' 'timedesk: solution S8 8
 printf 'alg A \xff 0' >bytes.sol
 run 'a solution that is not UTF-8' 1 '' 'timedesk: solution S1 6
 ' check small.ctt bytes.sol
+# an instance and a solution cut off behind each of their words: a solution may end behind every fourth
+# shellcheck disable=SC2207
+words=($(cat small.ctt)) lines=($(cat s.sol))
+for ((count = 0; count < ${#words[@]}; count++)); do
+    echo "${words[@]:0:count}" >told.ctt
+    run "an instance of $count words" 1 '' "timedesk: instance I2 $((count + 1))"$'\n' check told.ctt s.sol
+done
+for ((count = 0; count < ${#lines[@]}; count++)); do
+    [ $((count % 4)) != 0 ] || continue
+    echo "${lines[@]:0:count}" >told.sol
+    run "a solution of $count words" 1 '' "timedesk: solution S2 $((count + 1))"$'\n' check small.ctt told.sol
+done
+# Changes the word at a place of the instance, and names the fault that it has then.
+changes() {
+    local changed=("${words[@]}")
+    changed[$(($1 - 1))]=$2
+    echo "${changed[@]}" >told.ctt
+    run "an instance with $2 at $1" 1 '' "timedesk: instance $3"$'\n' check told.ctt s.sol
+}
+changes 1 name: 'I3 1'
+changes 4 2001 'I5 4'
+changes 4 1000000000 'I4 4'
+changes 4 4294967299 'I4 4'
+changes 4 18446744073709551617 'I4 4'
+changes 4 -1 'I4 4'
+changes 4 +1 'I4 4'
+changes 4 4 'I4 34'
+changes 6 1001 'I5 6'
+changes 8 2000 'I5 10'
+changes 10 2001 'I5 10'
+changes 12 20001 'I5 12'
+changes 14 2000001 'I5 14'
+changes 14 2000000 'I7 45'
+changes 20 many 'I4 20'
+changes 21 alg 'I6 21'
+changes 34 A 'I6 34'
+changes 36 curricula 'I3 36'
+changes 38 999999999 'I7 41'
+changes 39 A 'I7 39'
+changes 42 t1 'I7 42'
+changes 43 2 'I8 43'
+changes 43 x 'I4 43'
+changes 44 3 'I9 44'
+changes 44 9999999999 'I4 44'
+changes 45 END 'I3 45'
+printf 'Name: Small Courses: 2001\xff' >told.ctt
+run 'an instance that is not UTF-8 behind a fault' 1 '' 'timedesk: instance I1 25
+' check told.ctt s.sol
+# Checks a solution of the instance `small`, given as its text, against its fault.
+refuses_solution() {
+    printf '%s' "$1" >told.sol
+    run "the solution $1" 1 '' "timedesk: solution $2"$'\n' check small.ctt told.sol
+}
+refuses_solution 'alg A 0 0 geo A 0 0 alg A 0 0' 'S8 12'
+refuses_solution 'alg A 0 0 nul' 'S3 5'
+refuses_solution 'A A 0 0' 'S3 1'
+refuses_solution 'alg C 0 0' 'S4 2'
+refuses_solution 'alg A x 0' 'S5 3'
+refuses_solution 'alg A 0 1000000000' 'S5 4'
+refuses_solution 'alg A 2 0' 'S6 3'
+refuses_solution 'alg A 65536 0' 'S6 3'
+refuses_solution 'alg A 0 3' 'S7 4'
+refuses_solution 'alg A 1 65536' 'S7 4'
+refuses_solution $'nul A 0 0 \xff' 'S1 10'
+# other layouts
+sed -e 's/: 3/: 0003/' -e 's/ /\t/g' -e 's/$/\r\n/' small.ctt >told.ctt
+printf 'and more \xc3\xa4' >>told.ctt
+printf 'top\tB 0 2 geo A 1 02\r\nalg A 0 0\n\ngeo A 0 1 alg B 0001 0' >told.sol
+run 'another layout' 0 "$report" '' check told.ctt told.sol
+sed -e 's/^q1 2 alg geo/q1 3 alg geo alg/' small.ctt | tr '\n' '\v' >told.ctt
+run 'a member named twice' 0 "$report" '' check told.ctt told.sol
+echo 'Name: END. Courses: 0 Rooms: 0 Days: 0 Periods_per_day: 0 Curricula: 0 Constraints: 0 COURSES: ROOMS: CURRICULA:' \
+    'UNAVAILABILITY_CONSTRAINTS: END.' >told.ctt
+printf ' \r\n' >told.sol
+run 'an instance without anything' 0 'instance END.
+lectures 0
+conflicts 0
+availability 0
+occupancy 0
+capacity 0
+days 0
+compactness 0
+stability 0
+total 0
+lawful yes
+complete yes
+' '' check told.ctt told.sol
 truncate -s 67108864 longest
 run 'a file of as many bytes as are taken' 1 '' 'timedesk: instance I3 1
 ' check longest s.sol
@@ -215,6 +342,7 @@ run 'an unknown command' 2 '' "$unknown_command" frobnicate
 run 'a word too few' 2 '' "$no_solution" check small.ctt
 run 'no script' 2 '' "$no_script" run small.ctt
 run 'no journal' 2 '' "$no_journal" audit small.ctt
+run 'no script of a crew' 2 '' "$no_scripts" crew small.ctt
 run 'an option without its value' 2 '' "$no_value" run small.ctt row9.txt --journal
 run 'an unknown option' 2 '' "$unknown_option" check small.ctt s.sol --xml
 run 'words that are not text' 2 '' 'timedesk: words that are not text
@@ -243,18 +371,20 @@ committed 1
 stale slot 0 2
 costs 10 15 0 0
 ' '' run small.ctt row9.txt
+# planner 0 has looked at a slot in which planner 1 then places a lecture
+looked='0 open -> opened
+0 slot 0 2 -> lectures 0
+0 place geo A 0 1 -> done
+1 open -> opened
+1 place top B 0 2 -> done
+1 commit -> committed 1'
 day 'phantom slot' '' 'journal 1
 entry 1 1
 place top B 0 2
 done
 END.
-' <<'DAY'
-0 open -> opened
-0 slot 0 2 -> lectures 0
-0 place geo A 0 1 -> done
-1 open -> opened
-1 place top B 0 2 -> done
-1 commit -> committed 1
+' <<DAY
+$looked
 0 commit -> stale slot 0 2
 show cost -> costs 10 15 0 0
 DAY
@@ -271,46 +401,37 @@ lectures 0
 place geo A 0 1
 done
 END.
-' <<'DAY'
-0 open -> opened
-0 slot 0 2 -> lectures 0
-0 place geo A 0 1 -> done
-1 open -> opened
-1 place top B 0 2 -> done
-1 commit -> committed 1
+' <<DAY
+$looked
 1 open -> opened
 1 drop top 0 2 -> done
 1 commit -> committed 2
 0 commit -> committed 3
 show cost -> costs 0 15 2 0
 DAY
-day 'commit order' '--start s0.sol' 'journal 2
-entry 1 1
-place top B 1 2
-done
-entry 0 1
+# two drafts of which one places a lecture in the slot that the other empties
+crossed='0 open -> opened
+1 open -> opened
+0 drop geo 1 2 -> done
+1 place top B 1 2 -> done'
+emptied='entry 0 1
 drop geo 1 2
 done
 END.
-' <<'DAY'
-0 open -> opened
-1 open -> opened
-0 drop geo 1 2 -> done
-1 place top B 1 2 -> done
+'
+day 'commit order' '--start s0.sol' "journal 2
+entry 1 1
+place top B 1 2
+done
+$emptied" <<DAY
+$crossed
 1 commit -> committed 1
 0 commit -> committed 2
 show slot 1 2 -> lectures 1 top B 1 2
 DAY
-day 'commits in the other order' '--start s0.sol' 'journal 1
-entry 0 1
-drop geo 1 2
-done
-END.
-' <<'DAY'
-0 open -> opened
-1 open -> opened
-0 drop geo 1 2 -> done
-1 place top B 1 2 -> done
+day 'commits in the other order' '--start s0.sol' "journal 1
+$emptied" <<DAY
+$crossed
 0 commit -> committed 1
 1 commit -> stale slot 1 2
 DAY
@@ -357,6 +478,112 @@ END.
 0 abandon -> no draft
 show cost -> costs 0 20 0 0
 DAY
+# drafts are opened on the sheets of drafts that were given up, accepted or refused, on which what was accepted since is made
+day 'sheets are used again' '' 'journal 3
+entry 1 2
+slot 0 0
+lectures 0
+place top B 0 2
+done
+entry 0 2
+place top B 0 2
+refused already
+place geo A 0 1
+done
+entry 1 3
+place top B 0 2
+refused already
+drop top 0 2
+done
+place top A 1 1
+done
+END.
+' <<'DAY'
+0 open -> opened
+0 place geo A 0 1 -> done
+0 place alg B 0 0 -> done
+0 drop geo 0 1 -> done
+0 abandon -> abandoned
+1 open -> opened
+1 slot 0 0 -> lectures 0
+1 place top B 0 2 -> done
+0 open -> opened
+1 commit -> committed 1
+1 open -> opened
+1 place top B 0 2 -> refused already
+1 drop top 0 2 -> done
+1 place top A 1 1 -> done
+0 slot 0 2 -> lectures 0
+0 commit -> stale slot 0 2
+0 open -> opened
+0 place top B 0 2 -> refused already
+0 place geo A 0 1 -> done
+0 commit -> committed 2
+1 commit -> committed 3
+1 open -> opened
+1 place geo B 0 1 -> refused already
+1 slot 0 2 -> lectures 0
+1 place top B 1 1 -> refused already
+1 abandon -> abandoned
+show cost -> costs 25 10 2 0
+DAY
+# So many times a lecture of top is placed and dropped again, as lines of planner 1 with their answers, and as calls of a journal.
+turns() {
+    local turn
+    for ((turn = 0; turn < $1; turn++)); do
+        printf '%splace top B 1 1%sdone\n%sdrop top 1 1%sdone\n' "$2" "$3" "$2" "$3"
+    done
+}
+# so many changes are accepted at once that they are forgotten: the next drafts are opened on copies
+day 'changes are forgotten' '' "journal 2
+entry 1 17
+$(turns 8 '' $'\n')
+place top B 1 1
+done
+entry 1 1
+place top B 1 1
+refused already
+END.
+" <<DAY
+0 open -> opened
+1 open -> opened
+$(turns 8 '1 ' ' -> ')
+1 place top B 1 1 -> done
+1 commit -> committed 1
+0 slot 1 1 -> lectures 0
+1 open -> opened
+1 place top B 1 1 -> refused already
+0 commit -> stale slot 1 1
+0 open -> opened
+0 place top B 1 1 -> refused already
+0 abandon -> abandoned
+1 commit -> committed 2
+show cost -> costs 10 15 0 0
+DAY
+day 'a thousand calls on one cell' '' "journal 2
+entry 0 1
+slot 0 0
+lectures 0
+entry 1 1000
+$(turns 500 '' $'\n')
+END.
+" <<DAY
+1 open -> opened
+$(turns 500 '1 ' ' -> ')
+0 open -> opened
+0 slot 0 0 -> lectures 0
+0 commit -> committed 1
+1 commit -> committed 2
+show slot 1 1 -> lectures 0
+DAY
+day 'what a course costs by itself' '--start s.sol' 'journal 0
+END.
+' <<'DAY'
+show coursecost alg -> costs 5 0 0 1
+show coursecost top -> costs 10 0 0 0
+show cost -> costs 15 0 4 1
+show course top -> lectures 1 top B 0 2
+DAY
 day 'bad lines' '' 'journal 0
 END.
 ' <<'DAY'
@@ -364,7 +591,13 @@ END.
 0 place nul A 0 0 -> bad line
 0 slot 0 3 -> bad line
 0 open now -> bad line
+show place geo A 0 1 -> bad line
+show -> bad line
+7 -> bad line
 0 commit -> no draft
+63 open -> opened
+63 price place geo A 0 1 -> price -3
+show price place geo A 0 1 -> price -3
 DAY
 printf ' \n\n0\topen\r' >script
 run 'blanks, and a last line without its end' 0 'opened
@@ -375,6 +608,103 @@ costs 0 20 0 0
 ' '' run small.ctt script
 : >script
 run 'an empty script' 0 '' '' run small.ctt script --journal journal
+
+# crews
+# Runs a crew on the instance `small`: the name, what it prints, and the text of each planner's script.
+crew() {
+    local name=$1 printed=$2 scripts=() script
+    shift 2
+    for script; do
+        scripts+=("crew${#scripts[@]}")
+        printf '%s' "$script" >"${scripts[-1]}"
+    done
+    run "$name" 0 "$printed" '' crew small.ctt "${scripts[@]}"
+}
+# So many times a text, after a line with the planner's number.
+each_of() {
+    local planner
+    for ((planner = 0; planner < $1; planner++)); do
+        printf 'planner %s\n%s' "$planner" "$2"
+    done
+}
+crew 'a crew of one' 'planner 0
+opened
+done
+committed 1
+journal 1
+costs 0 15 2 0
+' 'open
+place geo A 0 1
+commit
+'
+crew 'a crew of two' "$(each_of 2 $'opened\nabandoned\n')"$'\njournal 0\ncosts 0 20 0 0\n' $'open\nabandon\n' $'open\nabandon\n'
+crew 'a draft that is left open' 'planner 0
+opened
+done
+journal 0
+costs 0 20 0 0
+' $'open\nplace geo A 0 1'
+crew 'lines of a crew that are none' 'planner 0
+bad line
+bad line
+bad line
+bad line
+bad line
+no draft
+journal 0
+costs 0 20 0 0
+' $'0 open\nplace nul A 0 0\n\nslot 0 3\nopen now\nopen \xff\n \t\ncommit'
+crew 'a look beside a draft' 'planner 0
+costs 0 20 0 0
+opened
+already open
+already open
+refused unavailable
+abandoned
+no draft
+journal 0
+costs 0 20 0 0
+' $'show cost\nopen\nopen\nshow cost\nplace geo A 0 0\nabandon\ncourse geo\n'
+crew 'an empty script' 'planner 0
+planner 1
+opened
+journal 0
+costs 0 20 0 0
+' '' 'open'
+
+# 64 planners who commit nothing are told the same, whoever comes first
+printf 'show cost\nopen\nprice place geo A 0 1\nplace geo A 0 1\ncost\nabandon\n' >alone
+alone=()
+for ((planner = 0; planner < 64; planner++)); do
+    alone+=(alone)
+done
+run 'a crew of 64' 0 "$(each_of 64 $'costs 0 20 0 0\nopened\nprice -3\ndone\ncosts 0 15 2 0\nabandoned\n')"$'\njournal 0\ncosts 0 20 0 0\n' '' crew small.ctt "${alone[@]}"
+run 'too many scripts' 2 '' 'timedesk: too many scripts
+' crew nowhere "${alone[@]}" alone
+
+# eight planners whose drafts change nothing: each is accepted, and their numbers are 1 to 400, in whatever order
+for ((draft = 0; draft < 50; draft++)); do
+    printf 'open\nplace geo A 0 1\ndrop geo 0 1\ncommit\n'
+done >turns
+(exec -a timedesk "$program" crew small.ctt turns turns turns turns turns turns turns turns) >told 2>err </dev/null
+status=$?
+tail -n 2 told >out
+judge 'what eight planners leave' "$status" 0 'journal 400
+costs 0 20 0 0
+' ''
+sed -n 's/^committed //p' told | sort -n >out
+judge 'the numbers of their drafts' "$status" 0 "$(seq 400)"$'\n' ''
+
+run 'the instance is read before the scripts' 1 '' 'timedesk: instance I2 14
+' crew cut.ctt nowhere
+run 'an instance of a crew that is missing' 3 '' 'timedesk: cannot read nowhere
+' crew nowhere alone
+run 'a script of a crew that is missing' 3 '' 'timedesk: cannot read nowhere
+' crew small.ctt alone nowhere longer
+run 'a script of a crew that is too long' 3 '' 'timedesk: too long longer
+' crew small.ctt alone longer nowhere
+run 'a script of a crew that is a folder' 3 '' 'timedesk: cannot read folder
+' crew small.ctt folder
 
 # journals
 sed 's/refused.*/done/' refused >told
@@ -399,6 +729,24 @@ refuses 'a journal that is cut off' 'journal 1 entry 0 1 place top A 0 1' 'J2 11
 refuses 'an empty journal' '' 'J2 1'
 refuses 'an amount that is too large' 'journal 1 entry 0 1 cost costs 0 0 0 9223372036854775808 END.' 'J3 11'
 refuses 'a planner that is none' 'journal 1 entry 1000 0 END.' 'J3 4'
+refuses 'fewer entries than counted' 'journal 999999999 END.' 'J3 3'
+refuses 'a sign behind its number' 'journal 1 entry 0 1 price drop top 0 1 price 1- END.' 'J3 12'
+refuses 'a period out of range' 'journal 1 entry 0 1 slot 0 3 lectures 0 END.' 'J3 8'
+refuses 'fewer lectures than counted' 'journal 1 entry 0 1 slot 0 2 lectures 1 END.' 'J3 11'
+refuses 'a call that is none' 'journal 1 entry 0 1 refused' 'J3 6'
+refuses 'a fault that is none' 'journal 1 entry 0 1 cost refused E7' 'J3 8'
+# shellcheck disable=SC2207
+words=($(cat refused))
+for ((count = 0; count < ${#words[@]}; count++)); do
+    refuses "a journal of $count words" "${words[*]:0:count}" "J2 $((count + 1))"
+done
+# each kind of call, each with a reply of a kind that it can have
+echo 'journal 2 entry 999 0 entry 7 13 place top A 0 1 refused roomtaken geo move alg 0 0 B 1 2 refused notplaced swap alg 0 0 geo 1 2
+refused sameslot reroom geo B 1 1 refused samecourse drop geo 1 0 refused already course alg lectures 2 top B 1 2 alg A 0 0
+slot 1 2 lectures 0 teacher t1 refused full curriculum q1 refused unavailable coursecost geo costs 1 2 3 9223372036854775807
+cost costs 0 0 0 0 price place top A 0 1 price -9223372036854775807 price drop top 0 1 refused clash alg END.' >told
+run 'each kind of call and of reply' 1 'differs 2 1
+' '' audit small.ctt told
 refuses 'a journal that is not UTF-8' $'journal 0 END. \xff' 'J1 15'
 
 # openings that are refused
@@ -439,7 +787,7 @@ costs 10 15 0 0
 ' run small.ctt row9.txt --journal no/folder
 
 # a full device
-for words in 'check small.ctt s.sol' 'run small.ctt row9.txt --journal unwritten' 'audit small.ctt refused' --help; do
+for words in 'check small.ctt s.sol' 'run small.ctt row9.txt --journal unwritten' 'audit small.ctt refused' 'crew small.ctt alone alone' --help; do
     (exec -a timedesk "$program" $words) >/dev/full 2>err
     status=$?
     : >out

@@ -101,13 +101,17 @@ module _ (i : Problem) (t : List Placed) (h : Lawful i t) (c s : ℕ) where
   stands_fits n y = (let stood = some_room (room_at n s t) y in (there_fits i n s stood.0 t h stood.1).0)
 
   -- marks of those that stand and of those that clash
-  same_test : (a b : ℕ → Bool) → ((n : ℕ) → a n ≡ is_some (room_at n s t)) → ((n : ℕ) → b n ≡ (ltb n (course_count i) && clash i c n)) → (n : ℕ) → (a n && b n) ≡ here n
-  same_test a b e f n = ap₂ (λ x y. x && y) (e n) (f n) ∙ elim (cases_Bool (is_some (room_at n s t))) [
+  same_test : (a b : ℕ → Bool) → ((n : ℕ) → a n ≡ is_some (room_at n s t)) → ((n : ℕ) → b n ≡ (ltb n (course_count i) && clash i c n)) → (n : ℕ) → (ltb n (course_count i) && (a n && b n)) ≡ here n
+  same_test a b e f n = ap₂ (λ x y. ltb n (course_count i) && (x && y)) (e n) (f n) ∙ elim (cases_Bool (is_some (room_at n s t))) [
     | inl y ↦ rw (y, lt-ltb n (course_count i) (stands_fits n y)) refl
-    | inr no' ↦ rw no' refl
+    | inr no' ↦ rw no' (none (ltb n (course_count i)))
   ]
+    where
+      none : (b : Bool) → (b && false) ≡ false
+      none true = refl
+      none false = refl
 
-  pub clash_is : (a b : ℕ → Bool) (o : Option ℕ) → ((n : ℕ) → a n ≡ is_some (room_at n s t)) → ((n : ℕ) → b n ≡ (ltb n (course_count i) && clash i c n)) → IsLeast (λ n. a n && b n) o → o ≡ clash_at i c s t
+  pub clash_is : (a b : ℕ → Bool) (o : Option ℕ) → ((n : ℕ) → a n ≡ is_some (room_at n s t)) → ((n : ℕ) → b n ≡ (ltb n (course_count i) && clash i c n)) → IsLeast (λ n. ltb n (course_count i) && (a n && b n)) o → o ≡ clash_at i c s t
   clash_is a b None e f least = sym (ap (λ row. course_named (find (λ (l : Placed). clash i c l.course) row)) (slot_row_is i t s h.timetable) ∙ none_passes (λ n. room_at n s t) s (clash i c) (course_count i) (λ m lt. sym (same_test a b e f m) ∙ least m))
   clash_is a b (Some k) e f least =
       let y : here k ≡ true = sym (same_test a b e f k) ∙ least.0 in

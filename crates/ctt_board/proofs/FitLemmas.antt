@@ -14,7 +14,8 @@ use Rattle.ctt_board.specs.declared.cell.Cell.{Cell}
 use Rattle.ctt_board.proofs.AfterLemmas.{one_in_row}
 use Rattle.ctt_board.proofs.BetweenLemmas.{next_lawful, turn_rest, put_has, comes_fits, there_fits, some_room}
 use Rattle.ctt_board.proofs.HolderLemmas.{is_in, holder_is, free_else, find_nowhere}
-use Rattle.ctt_board.proofs.LawfulLemmas.{Free, with_lawful, without_lawful, clash_comm, eqb_comm}
+use Rattle.ctt_rules.proofs.ConflictLemmas.{clash_comm}
+use Rattle.ctt_board.proofs.LawfulLemmas.{Free, with_lawful, without_lawful, eqb_comm}
 use Rattle.ctt_board.proofs.MoreLemmas.{more_with}
 
 -- what holds of those that pass, in the list of those

@@ -14,7 +14,7 @@ use Rattle.ctt_board.specs.Seen.{Sees}
 use Rattle.ctt_board.specs.declared.joining.Joining.{Joining}
 use Rattle.ctt_board.specs.declared.later.Later.{Later}
 use Rattle.ctt_rules.specs.declared.cost.Cost.{Cost}
-use Rattle.ctt_rules.proofs.ListLemmas.{filter_none, filter_every, Each-filter, Pairwise-filter, Each-filter_passes}
+use Rattle.ctt_rules.proofs.ListLemmas.{Pairwise-map, filter_none, filter_every, Each-filter, Pairwise-filter, Each-filter_passes}
 use Rattle.ctt_rules.proofs.TimetableLemmas.{row_by_slot}
 use Rattle.ctt_board.specs.Changes.{room_at, apply_at, CellFits}
 use Rattle.ctt_board.specs.Cells.{lecture_at, row_below}
@@ -22,7 +22,7 @@ use Rattle.ctt_board.specs.Tables.{Grid, at}
 use Rattle.ctt_board.specs.Counts.{AreCounts, HaveSizes, HasSize}
 use Rattle.ctt_board.specs.Grids.{rows_below, column_below, listed, AreRooms, AreHolders, AreStanding, IsGridSheet}
 use Rattle.ctt_board.specs.declared.counts.Counts.{Counts}
-use Rattle.ctt_board.proofs.PutLemmas.{Pairwise-map, filter_filter}
+use Rattle.ctt_board.proofs.PutLemmas.{filter_filter}
 use Rattle.ctt_board.proofs.RowLemmas.{split_at, one_slot, course_row_is}
 use Rattle.ctt_board.proofs.RoomLemmas.{room_after}
 
@@ -115,6 +115,10 @@ sees_now i t v c h e1 e2 e3 e4 e5 = record {
 -- one cell more
 pub row_goes_on : (xs : List Placed) (f : ℕ → Option ℕ) (c n m : ℕ) → m ≡ n → ((xs ++ row_below f c n) ++ lecture_at c m (f m)) ≡ xs ++ row_below f c (n + 1)
 row_goes_on xs f c n m e = rw (add-one, e) (append_assoc xs (row_below f c n) (lecture_at c n (f n)))
+
+pub row_with : (xs before after : List Placed) (f : ℕ → Option ℕ) (c n m : ℕ) (o : Option ℕ) → after ≡ before ++ lecture_at c m o → before ≡ xs ++ row_below f c n → m ≡ n → o ≡ f n → after ≡ xs ++ row_below f c (n + 1)
+row_with xs before after f c n m o more so_far e same =
+    more ∙ ap₂ (λ ys k. ys ++ lecture_at c m k) so_far same ∙ ap (λ k. (xs ++ row_below f c n) ++ lecture_at c m k) (ap f (sym e)) ∙ row_goes_on xs f c n m e
 
 pub column_goes_on : (f : ℕ → Option ℕ) (s n m : ℕ) → m ≡ n → (column_below f s n ++ lecture_at m s (f m)) ≡ column_below f s (n + 1)
 column_goes_on f s n m e = rw (add-one, e) refl

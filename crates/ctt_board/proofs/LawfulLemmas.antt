@@ -1,16 +1,15 @@
 -- A timetable stays lawful with one lecture more that can be placed, and with one less.
-use Rattle.std.proofs.Common.{is_some, ◌≡◌, ℕ, suc, ◌<◌, ◌≤◌, Bool, true, false, not, ◌&&◌, ◌||◌, ◌==◌, List, [], ◌∷◌, refl, ◌∙◌, sym, ap, ap₂, subst, length, arith, inl, inr}
+use Rattle.std.proofs.Common.{is_some, ◌≡◌, ℕ, suc, ◌<◌, ◌≤◌, Bool, true, false, not, ◌&&◌, ◌==◌, List, [], ◌∷◌, refl, ◌∙◌, sym, ap, subst, length, arith, inl, inr}
 use Rattle.std.specs.List.{filter, AllByRecursion as Each}
 use Rattle.std.proofs.lemmas.Bool.Decides.{nat_tests}
 use Rattle.std.proofs.lemmas.Bool.{cases_Bool, cases_eq, eq-eqb, ne_eqb}
-use Rattle.ctt_text.specs.Lists.{has}
 use Rattle.ctt_text.specs.Problem.{Problem, course_of, clash, is_unavailable}
 use Rattle.ctt_text.specs.Timetable.{before, Ascending, Fits, course_row, slot_row, with, without}
 use Rattle.ctt_text.specs.declared.placed.Placed.{Placed}
 use Rattle.ctt_text.proofs.TimetableLemmas.{Each-map}
 use Rattle.ctt_rules.specs.Hard.{Lawful, conflicts, share_room}
 use Rattle.ctt_rules.proofs.ListLemmas.{Each-filter, Pairwise-filter}
-use Rattle.ctt_rules.proofs.NeighbourLemmas.{any_same}
+use Rattle.ctt_rules.proofs.ConflictLemmas.{clash_comm}
 use Rattle.ctt_text.proofs.LectureLaws.{Each-put, before_once}
 use Rattle.ctt_board.specs.Changes.{room_at}
 use Rattle.ctt_board.proofs.PutLemmas.{filter_filter, filter-put_yes, filter-put_no, length-put, Pairwise-put, Pairwise-put_both}
@@ -37,21 +36,8 @@ pub length-filter_le : {X : Type 0} (p : X → Bool) (xs : List X) → length (f
 length-filter_le p [] = omega arith
 length-filter_le p (x ∷ xs) = elim (cases_Bool (p x)) [ inl b ↦ rw b (omega (arith, length-filter_le p xs)) | inr b ↦ rw b (omega (arith, length-filter_le p xs)) ]
 
--- a clash is a clash from both sides
-and_comm : (a b : Bool) → (a && b) ≡ (b && a)
-and_comm true true = refl
-and_comm true false = refl
-and_comm false true = refl
-and_comm false false = refl
-
 pub eqb_comm : (a b : ℕ) → (a == b) ≡ (b == a)
 eqb_comm a b = grind (arith, nat_tests)
-
-pub clash_comm : (i : Problem) (c d : ℕ) → clash i c d ≡ clash i d c
-clash_comm i c d =
-    ap₂ (λ a b. not a && b) (eqb_comm c d)
-    (ap₂ (λ a b. a || b) (eqb_comm (course_of i c).teacher (course_of i d).teacher)
-    (any_same (λ q. has c q && has d q) (λ q. has d q && has c q) i.curricula (λ q. and_comm (has c q) (has d q))))
 
 pub without_lawful : (i : Problem) (t : List Placed) (c s : ℕ) → Lawful i t → Lawful i (without c s t)
 without_lawful i t c s h =

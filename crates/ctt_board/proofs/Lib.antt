@@ -15,14 +15,20 @@ pub mod CountsLemmas
 pub mod SeenLemmas
 pub mod SlotFacts
 pub mod GridLemmas
+mod ColumnLemmas
 pub mod BetweenLemmas
 pub mod SheetLemmas
 pub mod GainLemmas
 pub mod HolderLemmas
+mod HeldLemmas
 mod AfterLemmas
 mod FewLemmas
 pub mod LawfulLemmas
 pub mod FitLemmas
 mod MeetingLemmas
+mod ApartLemmas
+mod BesideLemmas
+mod WindowLemmas
+mod MovedLemmas
 mod ClashLemmas
 pub mod SameLemmas

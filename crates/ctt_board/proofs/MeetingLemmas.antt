@@ -7,13 +7,13 @@ use Rattle.std.proofs.lemmas.List.Sums.{sum_by-append}
 use Rattle.ctt_text.specs.Belonging.{curricula_of}
 use Rattle.ctt_text.specs.Lists.{has, below, Pairwise}
 use Rattle.ctt_text.specs.Problem.{Problem, curriculum_count, slot_count, members, mates, clash, period_of}
-use Rattle.ctt_text.specs.Timetable.{before}
+use Rattle.ctt_text.specs.Timetable.{before, Fits}
 use Rattle.ctt_text.specs.declared.placed.Placed.{Placed}
 use Rattle.ctt_text.proofs.TimetableLemmas.{Each-at, Each-map}
 use Rattle.ctt_rules.specs.Hard.{Lawful, conflicts}
 use Rattle.ctt_rules.specs.Neighbours.{is_beside}
 use Rattle.ctt_rules.proofs.SumLemmas.{count_by-cons}
-use Rattle.ctt_board.specs.Joining.{IsMore, in_slot, by_slot, alone_at, stands_alone, count_before, count_after}
+use Rattle.ctt_board.specs.Joining.{IsMore, AreApart, IsFree, in_slot, by_slot, alone_at, stands_alone, count_before, count_after}
 use Rattle.ctt_board.specs.Seen.{Sees, seen_part, NoneThere, OneThere}
 use Rattle.ctt_board.specs.Tables.{at}
 use Rattle.ctt_board.specs.declared.later.Later.{Later}
@@ -119,6 +119,24 @@ any_none p (x ∷ xs) h = elim (cases_Bool (p x)) [
   | inr b ↦ (let h' : list_any p xs ≡ false = rw b at h in (b, any_none p xs h'))
 ]
 
+-- courses that do not clash share no curriculum
+share_none : (i : Problem) (c d q : ℕ) → (c == d) ≡ false → clash i c d ≡ false → q < curriculum_count i → (has c (members i q) && has d (members i q)) ≡ false
+share_none i c d q other clear known = Each-at (λ m. (has c m && has d m) ≡ false) i.curricula (any_none (λ m. has c m && has d m) i.curricula no_mates) q [] known
+  where
+    by : (x y : Bool) → (x || y) ≡ false → y ≡ false
+    by true y h = cc
+    by false y h = h
+
+    no_mates : mates i c d ≡ false
+    no_mates = by _ (mates i c d) (rw other at clear)
+
+pub are_apart : (i : Problem) (c d : ℕ) → (c == d) ≡ false → clash i c d ≡ false → AreApart i c d
+are_apart i c d other clear = (other, λ q known y. left (has c (members i q)) (has d (members i q)) (share_none i c d q other clear known) y)
+  where
+    left : (a b : Bool) → (a && b) ≡ false → a ≡ true → b ≡ false
+    left true b h y = h
+    left false b h y = cc
+
 -- two lectures of one curriculum in one slot would conflict
 apart : (i : Problem) (q s : ℕ) (a b : Placed) → q < curriculum_count i → conflicts i a b ≡ false → before a b ≡ true → in_slot (members i q) s a ≡ true → in_slot (members i q) s b ≡ false
 apart i q s a b known none order here = elim (cases_Bool (in_slot (members i q) s b)) [
@@ -129,17 +147,9 @@ apart i q s a b known none order here = elim (cases_Bool (in_slot (members i q) 
       let same : (a.slot == b.slot) ≡ true = grind (arith, nat_tests, first.1, second.1) in
       let other : (a.course == b.course) ≡ false = grind (arith, nat_tests, same, order) in
       let no_clash : clash i a.course b.course ≡ false = (rw same at none) in
-      let no_mates : mates i a.course b.course ≡ false = left a b other no_clash in
-      let not_both : (has a.course (members i q) && has b.course (members i q)) ≡ false = Each-at (λ m. (has a.course m && has b.course m) ≡ false) i.curricula (any_none (λ m. has a.course m && has b.course m) i.curricula no_mates) q [] known in
+      let not_both = share_none i a.course b.course q other no_clash known in
       absurd (let z : true ≡ false = sym (ap₂ (λ x y. x && y) first.0 second.0) ∙ not_both in cc))
 ]
-  where
-    left : (a b : Placed) → (a.course == b.course) ≡ false → clash i a.course b.course ≡ false → mates i a.course b.course ≡ false
-    left a b other no' = by _ (mates i a.course b.course) (rw other at no')
-      where
-        by : (x y : Bool) → (x || y) ≡ false → y ≡ false
-        by true y h = cc
-        by false y h = h
 
 pub one_there : (i : Problem) (t : List Placed) (q s : ℕ) → Lawful i t → q < curriculum_count i → by_slot (members i q) t s ≤ 1
 one_there i t q s h known = one_most (in_slot (members i q) s) t (Pairwise-both (λ a b. conflicts i a b ≡ false) (λ a b. before a b ≡ true) (λ a b. in_slot (members i q) s a ≡ true → in_slot (members i q) s b ≡ false) (λ a b c o. apart i q s a b known c o) t h.conflict_free h.timetable.ascending)
@@ -155,16 +165,19 @@ below_each P p (suc n) h = both (below p n) (below_each P p n (λ k lt y. h k (o
     both (x ∷ xs) e b y = (e.0, both xs e.1 b y)
 
 -- of each curriculum of a course
-of_course : (i : Problem) (c : ℕ) (P : ℕ → Type 0) → ((q : ℕ) → q < curriculum_count i → has c (members i q) ≡ true → P q) → Each P (curricula_of i c)
+pub of_course : (i : Problem) (c : ℕ) (P : ℕ → Type 0) → ((q : ℕ) → q < curriculum_count i → has c (members i q) ≡ true → P q) → Each P (curricula_of i c)
 of_course i c P h = below_each P (λ q. has c (members i q)) (curriculum_count i) h
 
 module _ (i : Problem) (l : Placed) where
-  mine : (q : ℕ) → has l.course (members i q) ≡ true → in_slot (members i q) l.slot l ≡ true
+  pub mine : (q : ℕ) → has l.course (members i q) ≡ true → in_slot (members i q) l.slot l ≡ true
   mine q y = rw (y, eq-eqb l.slot l.slot refl) refl
 
   -- a lecture that can come, and one that is there
   pub none_yet : (t u : List Placed) (v : Later) → IsMore l t u → Lawful i t → Lawful i u → Sees i v t → NoneThere i v l
   none_yet t u v more lt lu sees = of_course i l.course (λ q. seen_part i v q l.slot ≡ 0) (λ q known y. omega (arith, part_is i v t sees lt.timetable.fits q known l.slot, one_there i u q l.slot lu known, counted_more l t u more (in_slot (members i q) l.slot), ap (λ b. cond {A = ℕ} b 1 0) (mine q y)))
+
+  pub none_seen : (t : List Placed) (v : Later) → Each (Fits i) t → IsFree i t l → Sees i v t → NoneThere i v l
+  none_seen t v fits free sees = of_course i l.course (λ q. seen_part i v q l.slot ≡ 0) (λ q known y. part_is i v t sees fits q known l.slot ∙ free q known y)
 
   pub one_seen : (t : List Placed) (v : Later) → Lawful i t → Sees i v t → OneThere i v l
   one_seen t v lt sees = of_course i l.course (λ q. seen_part i v q l.slot ≤ 1) (λ q known y. omega (arith, part_is i v t sees lt.timetable.fits q known l.slot, one_there i t q l.slot lt known))

@@ -7,8 +7,8 @@ use Rattle.ctt_text.specs.Lists.{Pairwise}
 use Rattle.ctt_text.specs.Timetable.{before, Ascending, with, without}
 use Rattle.ctt_text.specs.declared.placed.Placed.{Placed}
 use Rattle.ctt_text.proofs.LectureLaws.{before_once}
-use Rattle.ctt_rules.proofs.ListLemmas.{Pairwise-filter}
-use Rattle.ctt_board.proofs.PutLemmas.{Pairwise-map, Pairwise-put, put_is}
+use Rattle.ctt_rules.proofs.ListLemmas.{Pairwise-map, Pairwise-filter}
+use Rattle.ctt_board.proofs.PutLemmas.{Pairwise-put, put_is}
 
 pub before_goes : (a b c : Placed) → before a b ≡ true → before c b ≡ false → before a c ≡ true
 before_goes a b c h k = grind (arith, nat_tests)

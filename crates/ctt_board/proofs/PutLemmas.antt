@@ -12,10 +12,6 @@ pub filter_filter : {X : Type 0} (p q : X → Bool) (xs : List X) → filter p (
 filter_filter p q [] = refl
 filter_filter p q (x ∷ xs) = grind (arith, nat_tests, cases_Bool (p x), cases_Bool (q x), filter_filter p q xs)
 
-pub Pairwise-map : {X : Type 0} (R S : X → X → Type 0) → ((x y : X) → R x y → S x y) → (xs : List X) → Pairwise R xs → Pairwise S xs
-Pairwise-map R S f [] h = tt
-Pairwise-map R S f (x ∷ xs) h = (Each-map (R x) (S x) (f x) xs h.0, Pairwise-map R S f xs h.1)
-
 pub length-put : {X : Type 0} (lt : X → X → Bool) (l : X) (xs : List X) → length (put lt l xs) ≡ suc (length xs)
 length-put lt l [] = refl
 length-put lt l (x ∷ xs) = elim (cases_Bool (lt l x)) [ inl e ↦ rw e refl | inr e ↦ rw e (ap suc (length-put lt l xs)) ]

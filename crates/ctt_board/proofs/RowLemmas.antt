@@ -7,12 +7,11 @@ use Rattle.ctt_text.specs.Problem.{Problem, slot_count}
 use Rattle.ctt_text.specs.Timetable.{before, IsTimetable, Fits, course_row}
 use Rattle.ctt_text.specs.declared.placed.Placed.{Placed}
 use Rattle.ctt_text.proofs.TimetableLemmas.{Each-map}
-use Rattle.ctt_rules.proofs.ListLemmas.{filter_none, filter_every, filter_within, Pairwise-filter, Each-filter_passes}
+use Rattle.ctt_rules.proofs.ListLemmas.{Pairwise-map, filter_none, filter_every, filter_within, Pairwise-filter, Each-filter_passes}
 use Rattle.ctt_rules.proofs.TimetableLemmas.{row_fits, row_by_slot}
 use Rattle.ctt_rules.specs.Penalty.{course_cost, row_cost}
 use Rattle.ctt_board.specs.Changes.{room_at, room_of}
 use Rattle.ctt_board.specs.Cells.{lecture_at, row_below}
-use Rattle.ctt_board.proofs.PutLemmas.{Pairwise-map}
 
 -- of a list in the order of a key, those below n + 1 are those below n and then those at n
 pub split_at : {X : Type 0} (key : X → ℕ) (n : ℕ) (xs : List X) → Pairwise (λ a b. key a ≤ key b) xs → filter (λ x. ltb (key x) (suc n)) xs ≡ filter (λ x. ltb (key x) n) xs ++ filter (λ x. key x == n) xs

@@ -31,13 +31,13 @@ turned_and false false = refl
 alone_same : (i : Problem) (f g : ℕ → ℕ) → ((k : ℕ) → f k ≡ g k) → (s : ℕ) → alone_at i f s ≡ alone_at i g s
 alone_same i f g e s = ap₂ (λ b m. cond b 0 m) (ap₂ (λ a b. (ltb 0 (period_of i s) && ltb 0 a) || (ltb (period_of i s + 1) i.periods && ltb 0 b)) (e (s - 1)) (e (s + 1))) (e s)
 
-stands_same : (i : Problem) (f g : ℕ → ℕ) → ((k : ℕ) → f k ≡ g k) → (s : ℕ) → stands_alone i f s ≡ stands_alone i g s
+pub stands_same : (i : Problem) (f g : ℕ → ℕ) → ((k : ℕ) → f k ≡ g k) → (s : ℕ) → stands_alone i f s ≡ stands_alone i g s
 stands_same i f g e s = ap (λ b. cond {A = ℕ} b 0 1) (ap₂ (λ a b. (ltb 0 (period_of i s) && ltb 0 a) || (ltb (period_of i s + 1) i.periods && ltb 0 b)) (e (s - 1)) (e (s + 1)))
 
-beside_same : (i : Problem) (f g : ℕ → ℕ) → ((k : ℕ) → f k ≡ g k) → (s : ℕ) → alone_beside i f s ≡ alone_beside i g s
+pub beside_same : (i : Problem) (f g : ℕ → ℕ) → ((k : ℕ) → f k ≡ g k) → (s : ℕ) → alone_beside i f s ≡ alone_beside i g s
 beside_same i f g e s = ap₂ (λ a b. cond (ltb 0 (period_of i s)) a 0 + cond (ltb (period_of i s + 1) i.periods) b 0) (alone_same i f g e (s - 1)) (alone_same i f g e (s + 1))
 
-sum_by_each : {X : Type 0} (f g : X → ℕ) (xs : List X) → Each (λ x. f x ≡ g x) xs → sum_by f xs ≡ sum_by g xs
+pub sum_by_each : {X : Type 0} (f g : X → ℕ) (xs : List X) → Each (λ x. f x ≡ g x) xs → sum_by f xs ≡ sum_by g xs
 sum_by_each f g [] h = refl
 sum_by_each f g (x ∷ xs) h = omega (arith, sum_by-cons f x xs, sum_by-cons g x xs, h.0, sum_by_each f g xs h.1)
 
@@ -45,7 +45,7 @@ Each-each : {X : Type 0} (P Q : X → Type 0) → ((x : X) → P x → Q x) → 
 Each-each P Q f [] h = tt
 Each-each P Q f (x ∷ xs) h = (f x h.0, Each-each P Q f xs h.1)
 
-none_there : (i : Problem) (q : List ℕ) (s : ℕ) (t : List Placed) → slot_count i ≤ s → Each (λ (l : Placed). l.slot < slot_count i) t → by_slot q t s ≡ 0
+pub none_there : (i : Problem) (q : List ℕ) (s : ℕ) (t : List Placed) → slot_count i ≤ s → Each (λ (l : Placed). l.slot < slot_count i) t → by_slot q t s ≡ 0
 none_there i q s [] le h = refl
 none_there i q s (x ∷ xs) le h =
     let lt : x.slot < slot_count i = h.0 in
@@ -81,6 +81,19 @@ module _ (i : Problem) (v : Later) (t : List Placed) (h : Sees i v t) where
       let alone = sum_by_each (λ q. stands_alone i (seen_part i v q) l.slot) (λ q. stands_alone i (by_slot (members i q) t) l.slot) qs (Each-each (λ q. q < curriculum_count i) (λ q. stands_alone i (seen_part i v q) l.slot ≡ stands_alone i (by_slot (members i q) t) l.slot) (λ q lt. stands_same i (seen_part i v q) (by_slot (members i q) t) (part_is fit q lt) l.slot) qs known) in
       let company = sum_by_each (λ q. alone_beside i (seen_part i v q) l.slot) (λ q. alone_beside i (by_slot (members i q) t) l.slot) qs (Each-each (λ q. q < curriculum_count i) (λ q. alone_beside i (seen_part i v q) l.slot ≡ alone_beside i (by_slot (members i q) t) l.slot) (λ q lt. beside_same i (seen_part i v q) (by_slot (members i q) t) (part_is fit q lt) l.slot) qs known) in
       rw (day_is l.course (day_of i l.slot) fits.0 (day_fits i l.slot fits.1), days_is l.course fits.0, lectures_is l.course fits.0, room_is l.course l.room fits.0 fits.2, alone, company) refl
+
+-- a lecture that leaves was one of its course on its day
+pub day_left : (i : Problem) (l : Placed) (v w : Later) → w.counts.now ≡ v.counts.now → w.added.items ≡ v.added.items → w.removed.items ≡ v.removed.items ++ l ∷ [] → seen_day i w l.course (day_of i l.slot) ≡ seen_day i v l.course (day_of i l.slot) - 1
+day_left i l v w counts added removed = omega (arith, gone, ap (count_by p) added, ap (λ c. at c.days l.course (day_of i l.slot) 0) counts)
+  where
+    p : Placed → Bool
+    p = on_day i l.course (day_of i l.slot)
+
+    mine : p l ≡ true
+    mine = rw (eq-eqb l.course l.course refl, eq-eqb (day_of i l.slot) (day_of i l.slot) refl) refl
+
+    gone : count_by p w.removed.items ≡ count_by p v.removed.items + 1
+    gone = ap (count_by p) removed ∙ sum_by-append (λ x. cond (p x) 1 0) v.removed.items (l ∷ []) ∙ ap (λ n. count_by p v.removed.items + n) (sum_by-cons (λ x. cond (p x) 1 0) l [] ∙ ap (λ b. cond {A = ℕ} b 1 0 + 0) mine)
 
 -- a lecture comes
 pub sees_come : (i : Problem) (l : Placed) (t u : List Placed) (v w : Later) → IsMore l t u → Fits i l → Sees i v t → w.counts.now ≡ v.counts.now → w.removed.items ≡ v.removed.items → w.gone.items ≡ v.gone.items

@@ -9,7 +9,7 @@ ghost use Rattle.ctt_board.specs.Changes.{room_by, held_after, holder_by, is_add
 
 use crate::cell::Cell;
 use crate::sheet::Rooms;
-use crate::standing::standing_after;
+use crate::standing::change_standing;
 use arrayvec::ArrayVec;
 use ctt_rules::{count_alone, mark_slots};
 use ctt_text::{CourseNo, Instance, Marks, Placed, RoomNo, SlotNo};
@@ -211,7 +211,9 @@ impl<'a, R: Rooms> Rooms for After<'a, R> {
     fn standing(&self, slot: SlotNo) -> Marks {
         self.rooms.lawful();
         self.instance.limits_hold();
-        standing_after(self.cells, slot, self.rooms.standing(slot))
+        let mut standing = self.rooms.standing(slot);
+        change_standing(&mut standing, self.cells, slot);
+        standing
     }
 
     fn count(&self, course: CourseNo) -> u32 {

@@ -1,8 +1,10 @@
 //! A table of bits of a fixed size.
 
-ghost use Rattle.std.specs.Prelude.{◌≡◌, ℕ, ◌<◌, ◌≤◌, ◌*◌, true, IfOk};
+ghost use Rattle.std.specs.Prelude.{◌≡◌, ℕ, ◌<◌, ◌≤◌, ◌+◌, ◌-◌, ◌*◌, true, IfOk};
 ghost use Rattle.ctt_board.specs.Tables.{at, Adds, one_at};
+ghost use Rattle.ctt_board.specs.Beside.{AreBeside};
 
+use crate::beside::Beside;
 use std::alloc::{AllocError, Global};
 use std::marker::Model;
 
@@ -49,6 +51,70 @@ impl Bits {
         let number = row * self.width + column;
         let word = self.words[number / 64];
         (word >> (number % 64)) & 1
+    }
+
+    /// The bit so many columns before a place, or zero where there is none.
+    fn back(&self, row: usize, column: usize, steps: usize) -> u64
+        requires row { row < self.now.rows }
+        requires column { column < self.now.width }
+        ensures value { steps ≤ column → result ≡ at self.now row (column - steps) 0 }
+        ensures bound { result ≤ 1 }
+    {
+        if steps <= column {
+            self.get(row, column - steps)
+        } else {
+            0
+        }
+    }
+
+    /// The bit so many columns after a place, or zero where there is none.
+    fn ahead(&self, row: usize, column: usize, steps: usize) -> u64
+        requires row { row < self.now.rows }
+        requires column { column < self.now.width }
+        ensures value { column + steps < self.now.width → result ≡ at self.now row (column + steps) 0 }
+        ensures bound { result ≤ 1 }
+    {
+        let width = self.width;
+        if steps < width - column {
+            self.get(row, column + steps)
+        } else {
+            0
+        }
+    }
+
+    /// The bits beside a place, one by one.
+    fn beside_each(&self, row: usize, column: usize) -> Beside
+        requires row { row < self.now.rows }
+        requires column { column < self.now.width }
+        ensures { AreBeside self.now row column result }
+    {
+        Beside {
+            earlier: self.back(row, column, 2),
+            before: self.back(row, column, 1),
+            after: self.ahead(row, column, 1),
+            later: self.ahead(row, column, 2),
+        }
+    }
+
+    /// The bits in the two columns before a place and in the two after it, where there are such
+    /// columns. Mostly all are in one word.
+    pub(crate) fn beside(&self, row: usize, column: usize) -> Beside
+        requires row { row < self.now.rows }
+        requires column { column < self.now.width }
+        ensures { AreBeside self.now row column result }
+    {
+        let number = row * self.width + column;
+        let place = number % 64;
+        if place < 2 || place > 61 {
+            return self.beside_each(row, column);
+        }
+        let word = self.words[number / 64];
+        Beside {
+            earlier: (word >> (place - 2)) & 1,
+            before: (word >> (place - 1)) & 1,
+            after: (word >> (place + 1)) & 1,
+            later: (word >> (place + 2)) & 1,
+        }
     }
 
     /// Sets a bit that is zero.

@@ -20,7 +20,9 @@ pub fn first_clash<R: Rooms>(
     ensures { result ≡ clash_at instance.now course slot (R.list rooms.now) }
 {
     rooms.lawful();
+    instance.limits_hold();
     let standing = rooms.standing(slot);
-    let number = standing.first_common(instance.clashing(course))?;
+    let courses = instance.courses() as usize;
+    let number = standing.first_common_below(instance.clashing(course), courses)?;
     Some(CourseNo::new(number as u16))
 }

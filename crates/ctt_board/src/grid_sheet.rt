@@ -1,24 +1,29 @@
 //! A sheet that keeps tables of fixed size, and its costs.
 
-ghost use Rattle.std.specs.Prelude.{◌≡◌, ◌≤◌, ◌<◌, ◌+◌, pos, ◌-ℤ◌, ◌*◌, ◌++◌, ℕ, cond, [], false, Some, None, is_some, length, IfOk, OnOk};
+ghost use Rattle.std.specs.Prelude.{◌≡◌, ◌≤◌, ◌<◌, ◌+◌, pos, ◌-ℤ◌, ◌*◌, ◌++◌, ◌∷◌, ℕ, cond, get_or, [], true, false, Some, None, is_some, length, IfOk, IfSome, OnOk};
+ghost use Rattle.ctt_text.specs.Marks.{is_marked};
 ghost use Rattle.ctt_text.specs.Problem.{course_count, slot_count};
 ghost use Rattle.ctt_text.specs.Timetable.{course_row, with, without, Fits};
 ghost use Rattle.ctt_rules.specs.Hard.{Lawful};
-ghost use Rattle.ctt_board.specs.Changes.{CellFits, CellsFit, room_at, apply_at, apply};
+ghost use Rattle.ctt_board.specs.Boards.{delta};
+ghost use Rattle.ctt_board.specs.Changes.{CellFits, CellsFit, ChangeFits, cell, is_change, room_at, apply_at, apply};
 ghost use Rattle.ctt_rules.specs.Penalty.{penalty, total};
 ghost use Rattle.ctt_board.specs.Seen.{Sees, HasPlaces};
 ghost use Rattle.ctt_board.specs.Ways.{Ready};
 ghost use Rattle.ctt_board.specs.Cells.{row_below, lecture_at};
+ghost use Rattle.ctt_board.specs.Grids.{column_below};
 ghost use Rattle.ctt_board.specs.Tables.{at};
 
 use crate::after::last_room;
 use crate::cell::Cell;
 use crate::change::Change;
+use crate::compact::Compact;
 use crate::counts::Counts;
 use crate::fitting::fits;
 use crate::joining::{joining_of, with_lecture, without_lecture};
 use crate::later::Later;
 use crate::laws;
+use crate::moving::moved;
 use crate::same_rows::{same_course_row, same_slot_row};
 use crate::sheet::{Rooms, Sheet, Timetable};
 use crate::standing::{leave, stand};
@@ -34,9 +39,9 @@ use std::marker::Model;
 pub struct GridSheet<'i> {
     instance: &'i Instance,
     /// By course and slot.
-    rooms: Table<Option<RoomNo>>,
+    rooms: Table<Compact>,
     /// By slot and room.
-    courses: Table<Option<CourseNo>>,
+    courses: Table<Compact>,
     /// The courses that stand in each slot, in one row.
     standing: Table<Marks>,
     counts: Counts,
@@ -70,9 +75,10 @@ impl<'i> GridSheet<'i> {
         self.counts.add(self.instance, lecture);
         let course = lecture.course.get() as usize;
         let slot = lecture.slot.get() as usize;
-        self.rooms.set(course, slot, Some(lecture.room));
+        self.rooms.set(course, slot, Compact::of_room(lecture.room));
         let room = lecture.room.get() as usize;
-        self.courses.set(slot, room, Some(lecture.course));
+        self.courses
+            .set(slot, room, Compact::of_course(lecture.course));
         stand(&mut self.standing, lecture.course, lecture.slot);
     }
 
@@ -87,11 +93,12 @@ impl<'i> GridSheet<'i> {
         self.counts.take(self.instance, lecture);
         let joining = joining_of(&Later::now(&self.counts), self.instance, lecture);
         self.cost = without_lecture(self.cost, &joining);
+        let none = Compact::none();
         let course = lecture.course.get() as usize;
         let slot = lecture.slot.get() as usize;
-        self.rooms.set(course, slot, None);
+        self.rooms.set(course, slot, none);
         let room = lecture.room.get() as usize;
-        self.courses.set(slot, room, None);
+        self.courses.set(slot, room, none);
         leave(&mut self.standing, lecture.course, lecture.slot);
     }
 
@@ -115,12 +122,95 @@ impl<'i> GridSheet<'i> {
             Some(room) => self.add(&Placed { course, slot, room }),
         }
     }
+
+    /// The lecture that a cell removes, if it removes one.
+    fn leaving(&self, gone: &Cell) -> Option<Placed>
+        requires course { gone.now.course < course_count self.now.problem }
+        requires slot { gone.now.slot < slot_count self.now.problem }
+        ensures { IfSome result (λ l. (gone.now ≡ cell l.course l.slot None) × (room_at l.course l.slot self.now.list ≡ Some l.room)) }
+    {
+        if gone.room.is_some() {
+            return None;
+        }
+        let room = self.room_at(gone.course, gone.slot)?;
+        Some(Placed {
+            course: gone.course,
+            slot: gone.slot,
+            room,
+        })
+    }
+
+    /// What these cells add to the penalty, if two lectures go elsewhere by them whose courses share
+    /// no curriculum: what each of them adds, as if the other one stayed.
+    fn exchanged(&self, first: &Cell, second: &Cell, third: &Cell, fourth: &Cell) -> Option<i64>
+        requires turn { is_change (first.now ∷ second.now ∷ third.now ∷ fourth.now ∷ []) ≡ true }
+        requires fits { ChangeFits self.now.problem (first.now ∷ second.now ∷ third.now ∷ fourth.now ∷ []) self.now.list }
+        ensures { IfSome result (λ x. x ≡ delta self.now.problem self.now.list (first.now ∷ second.now ∷ third.now ∷ fourth.now ∷ [])) }
+    {
+        self.lawful();
+        let from = self.leaving(first)?;
+        let other_from = self.leaving(second)?;
+        let to = coming(third, from.course)?;
+        let other_to = coming(fourth, other_from.course)?;
+        if from.course == other_from.course || self.instance.clash(from.course, other_from.course) {
+            return None;
+        }
+        let more = moved(self.instance, &self.counts, self, &from, &to);
+        let other = moved(self.instance, &self.counts, self, &other_from, &other_to);
+        Some(more + other)
+    }
+
+    /// What a change adds to the penalty, cell by cell.
+    fn stepwise(&self, change: &Change) -> i64
+        requires { ChangeFits self.now.problem change.now self.now.list }
+        ensures { result ≡ delta self.now.problem self.now.list change.now }
+    {
+        self.lawful();
+        self.instance.limits_hold();
+        let cells = change.cells();
+        let mut later = Later::now(&self.counts);
+        let mut total = 0;
+        for (number, cell) in cells.iter().enumerate() {
+            total += step(self.instance, self, &mut later, &cells[..number], cell);
+        }
+        total
+    }
+}
+
+/// The lecture that a cell adds, if it adds one of this course.
+fn coming(come: &Cell, course: CourseNo) -> Option<Placed>
+    ensures { IfSome result (λ l. (come.now ≡ cell l.course l.slot (Some l.room)) × (l.course ≡ course)) }
+{
+    if come.course != course {
+        return None;
+    }
+    let room = come.room?;
+    Some(Placed {
+        course,
+        slot: come.slot,
+        room,
+    })
+}
+
+/// Appends the lecture of a course in a slot, if it has a room there.
+fn append_here(
+    list: &mut Vec<Placed>,
+    here: Compact,
+    course: CourseNo,
+    slot: SlotNo,
+) -> Result<(), AllocError>
+    ensures { OnOk result (list.new.items ≡ list.old.items ++ lecture_at course slot here) }
+{
+    if let Some(room) = here.room() {
+        list.push(Placed { course, slot, room })?;
+    }
+    Ok(())
 }
 
 /// Appends the lecture of a course in a slot that a table of rooms shows.
 fn append_lecture(
     list: &mut Vec<Placed>,
-    rooms: &Table<Option<RoomNo>>,
+    rooms: &Table<Compact>,
     course: CourseNo,
     slot: SlotNo,
 ) -> Result<(), AllocError>
@@ -128,8 +218,21 @@ fn append_lecture(
     requires width { slot < rooms.now.width }
     ensures { OnOk result (list.new.items ≡ list.old.items ++ lecture_at course slot (at rooms.now course slot None)) }
 {
-    if let Some(room) = rooms.get(course.get() as usize, slot.get() as usize) {
-        list.push(Placed { course, slot, room })?;
+    let here = rooms.get(course.get() as usize, slot.get() as usize);
+    append_here(list, here, course, slot)
+}
+
+/// Appends the lectures of a course whose rooms, or none, are told slot by slot.
+fn append_slots(
+    list: &mut Vec<Placed>,
+    rooms: &[Compact],
+    course: CourseNo,
+) -> Result<(), AllocError>
+    requires { length rooms.now ≤ 2000 }
+    ensures { OnOk result (list.new.items ≡ list.old.items ++ row_below (λ s. get_or rooms.now s None) course (length rooms.now)) }
+{
+    for (number, here) in rooms.iter().enumerate() {
+        append_here(list, *here, course, SlotNo::new(number as u16))?;
     }
     Ok(())
 }
@@ -137,7 +240,7 @@ fn append_lecture(
 /// Appends the lectures of a course that a table of rooms shows.
 fn append_row(
     list: &mut Vec<Placed>,
-    rooms: &Table<Option<RoomNo>>,
+    rooms: &Table<Compact>,
     instance: &Instance,
     course: CourseNo,
 ) -> Result<(), AllocError>
@@ -147,8 +250,26 @@ fn append_row(
     ensures { OnOk result (list.new.items ≡ list.old.items ++ row_below (λ s. at rooms.now course s None) course (slot_count instance.now)) }
 {
     instance.limits_hold();
-    for number in 0..instance.slots() {
-        append_lecture(list, rooms, course, SlotNo::new(number))?;
+    append_slots(list, rooms.row(course.get() as usize), course)
+}
+
+/// Appends the lectures in a slot that a table of rooms shows, of the courses that stand there.
+fn append_column(
+    list: &mut Vec<Placed>,
+    rooms: &Table<Compact>,
+    standing: &Marks,
+    slot: SlotNo,
+) -> Result<(), AllocError>
+    requires few { rooms.now.rows ≤ 2000 }
+    requires width { slot < rooms.now.width }
+    requires standing { (c : ℕ) → c < rooms.now.rows → is_marked standing.now c ≡ is_some (at rooms.now c slot None) }
+    requires within { (c : ℕ) → is_marked standing.now c ≡ true → c < rooms.now.rows }
+    ensures { OnOk result (list.new.items ≡ list.old.items ++ column_below (λ c. at rooms.now c slot None) slot rooms.now.rows) }
+{
+    let mut from = 0;
+    while let Some(number) = standing.next_from(from) {
+        append_lecture(list, rooms, CourseNo::new(number as u16), slot)?;
+        from = number + 1;
     }
     Ok(())
 }
@@ -163,11 +284,13 @@ impl<'i> Rooms for GridSheet<'i> {
     }
 
     fn room_at(&self, course: CourseNo, slot: SlotNo) -> Option<RoomNo> {
-        self.rooms.get(course.get() as usize, slot.get() as usize)
+        let here = self.rooms.get(course.get() as usize, slot.get() as usize);
+        here.room()
     }
 
     fn holder(&self, slot: SlotNo, room: RoomNo) -> Option<CourseNo> {
-        self.courses.get(slot.get() as usize, room.get() as usize)
+        let here = self.courses.get(slot.get() as usize, room.get() as usize);
+        here.course()
     }
 
     fn standing(&self, slot: SlotNo) -> Marks {
@@ -223,12 +346,13 @@ impl<'i> Timetable for GridSheet<'i> {
         self.lawful();
         self.instance.limits_hold();
         let cells = change.cells();
-        let mut later = Later::now(&self.counts);
-        let mut total = 0;
-        for (number, cell) in cells.iter().enumerate() {
-            total += step(self.instance, self, &mut later, &cells[..number], cell);
+        let [first, second, third, fourth] = cells else {
+            return self.stepwise(change);
+        };
+        match self.exchanged(first, second, third, fourth) {
+            Some(total) => total,
+            None => self.stepwise(change),
         }
-        total
     }
 
     fn accepts(&self, change: &Change) -> bool {
@@ -252,17 +376,23 @@ impl<'i> Timetable for GridSheet<'i> {
     }
 
     fn course_row(&self, course: CourseNo) -> Result<Vec<Placed>, NoMemory> {
-        let mut row = Vec::new(self.alloc);
+        let count = self.count(course) as usize;
+        let mut row = Vec::with_capacity(self.alloc, count)?;
         append_row(&mut row, &self.rooms, self.instance, course)?;
         Ok(row)
     }
 
+    fn append_course_row(&self, course: CourseNo, list: &mut Vec<Placed>) -> Result<(), NoMemory> {
+        append_row(list, &self.rooms, self.instance, course)?;
+        Ok(())
+    }
+
     fn slot_row(&self, slot: SlotNo) -> Result<Vec<Placed>, NoMemory> {
         self.instance.limits_hold();
-        let mut row = Vec::new(self.alloc);
-        for number in 0..self.instance.courses() {
-            append_lecture(&mut row, &self.rooms, CourseNo::new(number), slot)?;
-        }
+        let standing = self.standing(slot);
+        let count = standing.common_count(&standing) as usize;
+        let mut row = Vec::with_capacity(self.alloc, count)?;
+        append_column(&mut row, &self.rooms, &standing, slot)?;
         Ok(row)
     }
 
@@ -293,10 +423,11 @@ impl<'i> Sheet<'i> for GridSheet<'i> {
         instance.limits_hold();
         let courses = instance.courses() as usize;
         let slots = instance.slots() as usize;
+        let none = Compact::none();
         Ok(GridSheet {
             instance,
-            rooms: Table::new(alloc, courses, slots, None)?,
-            courses: Table::new(alloc, slots, instance.rooms() as usize, None)?,
+            rooms: Table::new(alloc, courses, slots, none)?,
+            courses: Table::new(alloc, slots, instance.rooms() as usize, none)?,
             standing: Table::new(alloc, 1, slots, Marks::new())?,
             counts: Counts::new(alloc, instance)?,
             cost: ctt_rules::penalty(instance, &[]),

@@ -1,15 +1,16 @@
 //! The counts of a timetable as a change would leave them. Nothing is changed, and no memory is
 //! taken.
 
-ghost use Rattle.std.specs.Prelude.{◌≡◌, ◌<◌, ◌≤◌, ◌+◌, ◌-◌, ℕ, [], nat_lt, count_by, length, cond, ◌==◌, ◌++◌, ◌∷◌};
+ghost use Rattle.std.specs.Prelude.{◌≡◌, ◌<◌, ◌≤◌, ◌+◌, ◌-◌, ◌↔◌, ◌||◌, IsTrue, true, ℕ, [], nat_lt, count_by, length, cond, ◌==◌, ◌++◌, ◌∷◌};
+ghost use Rattle.std.specs.List.{AllByRecursion as Each};
 ghost use Rattle.ctt_text.specs.Problem.{course_count, slot_count, room_count, curriculum_count, members, day_of};
 ghost use Rattle.ctt_text.specs.Timetable.{Fits};
-ghost use Rattle.ctt_board.specs.Joining.{on_day, in_room, in_slot, gain_of};
+ghost use Rattle.ctt_board.specs.Joining.{on_day, in_room, in_slot, gain_of, IsSmallJoining};
 ghost use Rattle.ctt_board.specs.Counts.{HaveSizes};
-ghost use Rattle.ctt_board.specs.Seen.{seen_day, seen_room, seen_lectures, seen_part, seen_days, seen_joining, NoneThere, OneThere};
+ghost use Rattle.ctt_board.specs.Seen.{seen_day, seen_room, seen_lectures, seen_part, seen_days, seen_joining, NoneThere, OneThere, is_apart, StandApart};
 
 use crate::counts::Counts;
-use crate::joining::{gain, joining_of};
+use crate::joining::{gain, joining_on};
 use arrayvec::ArrayVec;
 use ctt_text::{CourseNo, CurriculumNo, Instance, Placed, RoomNo, SlotNo};
 
@@ -94,6 +95,22 @@ fn in_slot(instance: &Instance, lectures: &[Placed], part: CurriculumNo, slot: S
         }
     }
     count
+}
+
+/// Whether a lecture is in a slot, or more than two away from it.
+fn is_apart(lecture: &Placed, slot: SlotNo) -> bool
+    ensures { result ≡ is_apart slot lecture.now }
+{
+    let own = u32::from(lecture.slot.get());
+    let other = u32::from(slot.get());
+    own == other || (own + 2 < other || other + 2 < own)
+}
+
+/// Whether all are in a slot, or more than two away from it.
+fn are_apart(lectures: &[Placed], slot: SlotNo) -> bool
+    ensures { IsTrue result ↔ Each (λ l. is_apart slot l ≡ true) lectures.now }
+{
+    lectures.iter().all(|lecture| is_apart(lecture, slot))
 }
 
 /// How often a course is named.
@@ -210,6 +227,14 @@ impl<'a> Later<'a> {
         (count + more).saturating_sub(less)
     }
 
+    /// Whether nothing that leaves or comes is in one of the two slots before this one or the two
+    /// after it.
+    pub(crate) fn is_apart(&self, slot: SlotNo) -> bool
+        ensures { result ≡ true → StandApart self.now slot }
+    {
+        are_apart(&self.removed, slot) && are_apart(&self.added, slot)
+    }
+
     /// Lets a lecture come. Answers what it adds to the penalty.
     pub(crate) fn come(&mut self, instance: &Instance, lecture: &Placed) -> i64
         requires fits { Fits instance.now lecture.now }
@@ -218,16 +243,17 @@ impl<'a> Later<'a> {
         requires fresh_room { length self.old.fresh.items < 4 }
         requires own { NoneThere instance.now self.old lecture.now }
         ensures gain { result ≡ gain_of (seen_joining instance.now self.old lecture.now) }
+        ensures small { IsSmallJoining (seen_joining instance.now self.old lecture.now) }
         ensures counts { self.new.counts.now ≡ self.old.counts.now }
         ensures removed { self.new.removed.items ≡ self.old.removed.items }
         ensures gone { self.new.gone.items ≡ self.old.gone.items }
         ensures added { self.new.added.items ≡ self.old.added.items ++ lecture.now ∷ [] }
         ensures fresh { self.new.fresh.items ≡ self.old.fresh.items ++ cond (seen_day instance.now self.old lecture.now.course (day_of instance.now lecture.now.slot) == 0) (lecture.now.course ∷ []) [] }
     {
-        let joining = joining_of(self, instance, lecture);
         let day = instance.day_of(lecture.slot);
-        let is_first = self.on_day(instance, lecture.course, day) == 0;
-        name_if(&mut self.fresh, lecture.course, is_first);
+        let on_day = self.on_day(instance, lecture.course, day);
+        let joining = joining_on(self, instance, lecture, day, on_day);
+        name_if(&mut self.fresh, lecture.course, on_day == 0);
         self.added.push(*lecture);
         gain(&joining)
     }
@@ -240,6 +266,7 @@ impl<'a> Later<'a> {
         requires gone_room { length self.old.gone.items < 4 }
         requires own { OneThere instance.now self.old lecture.now }
         ensures gain { result ≡ gain_of (seen_joining instance.now self.new lecture.now) }
+        ensures small { IsSmallJoining (seen_joining instance.now self.new lecture.now) }
         ensures counts { self.new.counts.now ≡ self.old.counts.now }
         ensures added { self.new.added.items ≡ self.old.added.items }
         ensures fresh { self.new.fresh.items ≡ self.old.fresh.items }
@@ -247,9 +274,9 @@ impl<'a> Later<'a> {
         ensures gone { self.new.gone.items ≡ self.old.gone.items ++ cond (seen_day instance.now self.old lecture.now.course (day_of instance.now lecture.now.slot) == 1) (lecture.now.course ∷ []) [] }
     {
         let day = instance.day_of(lecture.slot);
-        let was_last = self.on_day(instance, lecture.course, day) == 1;
-        name_if(&mut self.gone, lecture.course, was_last);
+        let on_day = self.on_day(instance, lecture.course, day);
+        name_if(&mut self.gone, lecture.course, on_day == 1);
         self.removed.push(*lecture);
-        gain(&joining_of(self, instance, lecture))
+        gain(&joining_on(self, instance, lecture, day, on_day.saturating_sub(1)))
     }
 }

@@ -2,10 +2,12 @@
 #![tactic(auto)]
 
 mod after;
+mod beside;
 mod bits;
 mod cell;
 mod change;
 mod clashes;
+mod compact;
 mod counts;
 mod delta;
 mod fitting;
@@ -15,6 +17,7 @@ mod later;
 pub mod laws;
 mod list_sheet;
 mod meeting;
+mod moving;
 mod same_rows;
 mod sheet;
 mod standing;
@@ -29,6 +32,3 @@ pub use grid_sheet::GridSheet;
 pub use list_sheet::ListSheet;
 pub use sheet::{Rooms, Sheet, Timetable};
 pub use table::Table;
-
-#[cfg(test)]
-mod tests;

@@ -176,6 +176,11 @@ impl<'i> Timetable for ListSheet<'i> {
         Ok(row.to_vec(*self.lectures.allocator())?)
     }
 
+    fn append_course_row(&self, course: CourseNo, list: &mut Vec<Placed>) -> Result<(), NoMemory> {
+        let row = ctt_rules::course_row(self.instance, &self.lectures, course);
+        Ok(list.extend_from_slice(row)?)
+    }
+
     fn slot_row(&self, slot: SlotNo) -> Result<Vec<Placed>, NoMemory> {
         let lectures = self.lectures.iter().copied();
         Ok(

@@ -5,7 +5,7 @@ ghost use Rattle.ctt_text.specs.Problem.{course_count, slot_count};
 ghost use Rattle.ctt_text.specs.Timetable.{course_row, slot_row};
 
 use crate::sheet::Rooms;
-use ctt_text::{CourseNo, Instance, SlotNo};
+use ctt_text::{CourseNo, Instance, RoomNo, SlotNo};
 
 /// Whether two timetables have the same lectures of a course, slot by slot.
 pub(crate) fn same_course_row<R: Rooms>(
@@ -30,7 +30,7 @@ pub(crate) fn same_course_row<R: Rooms>(
     true
 }
 
-/// Whether two timetables have the same lectures in a slot, course by course.
+/// Whether two timetables have the same lectures in a slot, room by room.
 pub(crate) fn same_slot_row<R: Rooms>(
     instance: &Instance,
     rooms: &R,
@@ -44,9 +44,9 @@ pub(crate) fn same_slot_row<R: Rooms>(
 {
     rooms.lawful();
     other.lawful();
-    for number in 0..instance.courses() {
-        let course = CourseNo::new(number);
-        if rooms.room_at(course, slot) != other.room_at(course, slot) {
+    for number in 0..instance.rooms() {
+        let room = RoomNo::new(number);
+        if rooms.holder(slot, room) != other.holder(slot, room) {
             return false;
         }
     }

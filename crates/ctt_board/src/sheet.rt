@@ -1,6 +1,6 @@
 //! What a sheet is.
 
-ghost use Rattle.std.specs.Prelude.{◌≡◌, ◌<◌, ◌^◌, ◌↔◌, ℕ, [], length, is_some, IfOk, IsTrue};
+ghost use Rattle.std.specs.Prelude.{◌≡◌, ◌<◌, ◌^◌, ◌↔◌, ◌++◌, ℕ, [], length, is_some, IfOk, OnOk, IsTrue};
 ghost use Rattle.ctt_text.specs.Problem.{course_count, slot_count, room_count};
 ghost use Rattle.ctt_text.specs.Marks.{is_marked};
 ghost use Rattle.ctt_text.specs.Timetable.{course_row, slot_row};
@@ -94,6 +94,11 @@ pub trait Timetable: Rooms + Send + Sync {
     fn course_row(&self, course: CourseNo) -> Result<Vec<Placed>, NoMemory>
         requires { course < course_count (Self.problem self.now) }
         ensures { IfOk result (λ row. row.items ≡ course_row course (Self.list self.now)) };
+
+    /// Appends the lectures of a course, by slot, to a list.
+    fn append_course_row(&self, course: CourseNo, list: &mut Vec<Placed>) -> Result<(), NoMemory>
+        requires { course < course_count (Self.problem self.now) }
+        ensures { OnOk result (list.new.items ≡ list.old.items ++ course_row course (Self.list self.now)) };
 
     /// The lectures in a slot, by course.
     fn slot_row(&self, slot: SlotNo) -> Result<Vec<Placed>, NoMemory>

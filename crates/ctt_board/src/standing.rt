@@ -47,16 +47,14 @@ fn change_if_there(standing: &mut Marks, cell: &Cell, slot: SlotNo)
     }
 }
 
-/// The courses that stand in a slot after these cells, from those before them.
-pub(crate) fn standing_after(cells: &[Cell], slot: SlotNo, before: Marks) -> Marks
+/// Lets the courses of these cells come into a slot and leave it.
+pub(crate) fn change_standing(standing: &mut Marks, cells: &[Cell], slot: SlotNo)
     requires { Each (λ x. x.course < 2000) cells.now }
-    ensures { (course : ℕ) → is_marked result course ≡ stands_by cells.now course slot (is_marked before course) }
+    ensures { (course : ℕ) → is_marked standing.new course ≡ stands_by cells.now course slot (is_marked standing.old course) }
 {
-    let mut standing = before;
     for cell in cells {
-        change_if_there(&mut standing, cell, slot);
+        change_if_there(standing, cell, slot);
     }
-    standing
 }
 
 /// Lets a course stand in a slot.

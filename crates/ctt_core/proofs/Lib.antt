@@ -5,3 +5,4 @@ pub mod RanLemmas
 pub mod OpeningLemmas
 pub mod AuditLemmas
 pub mod JournalLemmas
+pub mod StockLemmas

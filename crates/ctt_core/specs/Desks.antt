@@ -14,6 +14,7 @@ use Rattle.ctt_core.specs.declared.event.Event.TheVariants.{Open, Ask, Commit, A
 use Rattle.ctt_core.specs.declared.answer.Answer.{Answer}
 use Rattle.ctt_core.specs.declared.answer.Answer.TheVariants.{Opened, AlreadyOpen, NoDraft, Replied, Committed, Stale, Abandoned, NoMemory}
 use Rattle.ctt_core.specs.declared.journal.JournalEntry.{JournalEntry}
+use Rattle.ctt_core.specs.Stocks.{StockValue, IsMarked, mark_at}
 use Rattle.ctt_core.specs.Runs.{after, Turn, OpenDraft, draft, accepted_of, now, verdict, may_want}
 
 -- the opening timetable, the present one, the accepted drafts, and the open draft of each planner
@@ -94,12 +95,14 @@ goes_on v _ _ = v
 abbrev pub Answers : DeskValue → Event → Answer → Type 0
 Answers v event answer = (answer ≡ answer_of v event) ⊎ ((answer ≡ NoMemory) × (may_want event (answer_of v event) ≡ true))
 
--- what a desk keeps to: its sheet and its open drafts are of its instance, and its opening is lawful
-pub record IsDesk (i j : Problem) (opening : List Placed) (drafts : List (Option DraftValue)) (planners : ℕ) : Type 0 where
-  pub same : j ≡ i
+-- what a desk keeps to: its timetable and its open drafts are of its instance, its opening is lawful, and it is known which changes were made since a draft was opened
+pub record IsDesk (i : Problem) (stock : StockValue) (opening : List Placed) (drafts : List (Option DraftValue)) (marks : List (Option ℕ)) (planners : ℕ) : Type 0 where
+  pub same : stock.problem ≡ i
   pub opening_lawful : Lawful i opening
   pub counted : length drafts ≡ planners
   pub drafts_of : (p : ℕ) → IfSome (draft_at drafts p) (λ d. d.problem ≡ i)
+  pub marks_counted : length marks ≡ planners
+  pub marked : (p : ℕ) → IsMarked stock (draft_at drafts p) (mark_at marks p)
 
 -- there is a draft, which can be settled
 abbrev pub IsFresh : DeskValue → Option DraftValue → Type 0

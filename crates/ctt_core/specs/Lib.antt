@@ -4,3 +4,4 @@ pub mod Laws
 pub mod Openings
 pub mod Entries
 pub mod Audits
+pub mod Stocks

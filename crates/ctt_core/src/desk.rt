@@ -1,6 +1,6 @@
 //! The desk.
 
-ghost use Rattle.std.specs.Prelude.{◌≡◌, ◌⊎◌, ◌↔◌, ℕ, ◌+◌, ◌<◌, List, [], ◌∷◌, length, None, Ok, IfOk, IfErr, OnErr, IsTrue};
+ghost use Rattle.std.specs.Prelude.{◌≡◌, ◌⊎◌, ◌↔◌, ℕ, ◌+◌, ◌<◌, true, false, List, [], ◌∷◌, length, None, Ok, IfOk, IfErr, OnErr, IsTrue};
 ghost use Rattle.std.specs.List.{AllByRecursion as Each};
 ghost use Rattle.ctt_text.specs.Timetable.{Fits};
 ghost use Rattle.ctt_edits.specs.Calls.{CallFits};
@@ -9,7 +9,8 @@ ghost use Rattle.ctt_rules.specs.Hard.{Lawful};
 ghost use Rattle.ctt_rules.specs.Penalty.{penalty};
 ghost use Rattle.ctt_core.specs.Runs.{after, Legal, Turn, answered, accepted_of, EventFits, onto};
 ghost use Rattle.ctt_core.specs.Laws.{Stands};
-ghost use Rattle.ctt_core.specs.Desks.{Answers, goes_on, draft_at, IsFresh, SameDesk};
+ghost use Rattle.ctt_core.specs.Stocks.{mark_at};
+ghost use Rattle.ctt_core.specs.Desks.{Answers, goes_on, draft_at, with_draft, IsFresh, SameDesk};
 ghost use Rattle.ctt_core.specs.declared.answer.Answer.TheVariants.{Committed};
 ghost use Rattle.ctt_core.specs.declared.answer.Answer.TheVariants.{NoMemory as OutOfMemory};
 ghost use Rattle.ctt_edits.specs.Openings.{opening};
@@ -23,6 +24,7 @@ use crate::journal::JournalEntry;
 use crate::laws;
 use crate::opening::placed;
 use crate::planner::PlannerNo;
+use crate::stock::Stock;
 use ctt_board::{Rooms, Sheet, Timetable};
 use ctt_draft::Draft;
 use ctt_edits::{Call, Look};
@@ -36,9 +38,11 @@ use std::marker::Model;
 pub struct Desk<'i, S: Timetable> {
     instance: &'i Instance,
     opening: Vec<Placed>,
-    sheet: S,
+    stock: Stock<'i, S>,
     journal: Vec<JournalEntry>,
     drafts: Vec<Option<Draft<'i, S>>>,
+    /// How many of the changes that the stock knows were made before a planner's draft was opened.
+    marks: Vec<Option<usize>>,
     planners: u16,
 }
 
@@ -47,9 +51,9 @@ impl<'i, S: Timetable> Model for Desk<'i, S> {
 
     ghost Value = { DeskValue };
 
-    ghost view = { λ d. record { problem = d.instance.now; opening = d.opening.items; list = S.list d.sheet; journal = d.journal.items; drafts = d.drafts.items } };
+    ghost view = { λ d. record { problem = d.instance.now; opening = d.opening.items; list = d.stock.list; journal = d.journal.items; drafts = d.drafts.items } };
 
-    ghost invariant = { λ d. IsDesk d.instance.now (S.problem d.sheet) d.opening.items d.drafts.items d.planners };
+    ghost invariant = { λ d. IsDesk d.instance.now d.stock d.opening.items d.drafts.items d.marks.items d.planners };
 }
 
 /// No draft for each of so many planners.
@@ -65,6 +69,20 @@ fn no_drafts<'i, S: Timetable>(
         drafts.push(None)?;
     }
     Ok(drafts)
+}
+
+/// Forgets all marks, unless the changes that they count are known.
+#[tactic(auto, using(crate::proofs::StockLemmas::refilled))]
+fn forget_unless(known: bool, marks: &mut Vec<Option<usize>>)
+    ensures length { length marks.new.items ≡ length marks.old.items }
+    ensures kept { known ≡ true → marks.new.items ≡ marks.old.items }
+    ensures none { known ≡ false → (p : ℕ) → mark_at marks.new.items p ≡ None }
+{
+    if !known {
+        let count = marks.len();
+        marks.clear();
+        marks.resize(count, None).unwrap();
+    }
 }
 
 impl<'i, S: Sheet<'i>> Desk<'i, S> {
@@ -87,12 +105,15 @@ impl<'i, S: Sheet<'i>> Desk<'i, S> {
         sheet.lawful();
         let opening = sheet.list()?;
         let drafts = no_drafts(alloc, planners)?;
+        let mut marks = Vec::new(alloc);
+        marks.resize(planners as usize, None)?;
         Ok(Desk {
             instance,
             opening,
-            sheet,
+            stock: Stock::new(alloc, sheet),
             journal: Vec::new(alloc),
             drafts,
+            marks,
             planners,
         })
     }
@@ -122,14 +143,14 @@ impl<'i, S: Sheet<'i>> Desk<'i, S> {
     pub fn list(&self) -> Result<Vec<Placed>, NoMemory>
         ensures { IfOk result (λ list. list.items ≡ self.now.list) }
     {
-        self.sheet.list()
+        self.stock.sheet().list()
     }
 
     /// What the timetable costs.
     pub fn cost(&self) -> Cost
         ensures { result ≡ penalty self.now.problem self.now.list }
     {
-        self.sheet.cost()
+        self.stock.sheet().cost()
     }
 
     /// The accepted drafts, in the order of their commits.
@@ -149,9 +170,10 @@ impl<'i, S: Sheet<'i>> Desk<'i, S> {
         if self.drafts[place].is_some() {
             return Answer::AlreadyOpen;
         }
-        match Draft::open(*self.journal.allocator(), &self.sheet) {
+        match self.stock.open(*self.journal.allocator()) {
             Ok(draft) => {
                 self.drafts[place] = Some(draft);
+                self.marks[place] = Some(self.stock.mark());
                 Answer::Opened
             }
             Err(_) => Answer::NoMemory,
@@ -176,6 +198,17 @@ impl<'i, S: Sheet<'i>> Desk<'i, S> {
         }
     }
 
+    /// Ends a planner's draft, if he has one, and keeps its sheet.
+    fn give_up(&mut self, planner: PlannerNo)
+        requires { planner < length self.old.drafts }
+        ensures { self.new ≡ with_draft planner None self.old }
+    {
+        let place = planner.get() as usize;
+        if let Some(draft) = self.drafts[place].take() {
+            self.stock.retire(draft, self.marks[place]);
+        }
+    }
+
     /// Gives a draft up.
     fn abandon(&mut self, planner: PlannerNo) -> Answer
         requires { planner < length self.old.drafts }
@@ -186,7 +219,7 @@ impl<'i, S: Sheet<'i>> Desk<'i, S> {
         if self.drafts[place].is_none() {
             return Answer::NoDraft;
         }
-        self.drafts[place] = None;
+        self.give_up(planner);
         Answer::Abandoned
     }
 
@@ -196,7 +229,7 @@ impl<'i, S: Sheet<'i>> Desk<'i, S> {
         ensures answer { Answers self.now (Show look.now) result }
         ensures goes_on { self.now ≡ goes_on self.now (Show look.now) result }
     {
-        match ctt_edits::look(*self.journal.allocator(), &self.sheet, look) {
+        match ctt_edits::look(*self.journal.allocator(), self.stock.sheet(), look) {
             Ok(told) => Answer::Replied(told),
             Err(_) => Answer::NoMemory,
         }
@@ -216,9 +249,9 @@ impl<'i, S: Sheet<'i>> Desk<'i, S> {
         let Some(draft) = self.drafts[place].take() else {
             return Answer::NoDraft;
         };
-        let work = draft.finish();
-        work.settle(&mut self.sheet);
-        let asked = work.asked;
+        let (mut asked, known) = self.stock.settle(draft, self.marks[place]);
+        asked.shrink_to_fit();
+        forget_unless(known, &mut self.marks);
         self.journal.push(JournalEntry { planner, asked }).unwrap();
         Answer::Committed(self.journal.len() as u64)
     }
@@ -232,12 +265,12 @@ impl<'i, S: Sheet<'i>> Desk<'i, S> {
         let place = planner.get() as usize;
         let found = match &self.drafts[place] {
             None => return Answer::NoDraft,
-            Some(draft) => draft.stale(&self.sheet),
+            Some(draft) => self.stock.stale(draft, self.marks[place]),
         };
         match found {
             Err(_) => Answer::NoMemory,
             Ok(Some(row)) => {
-                self.drafts[place] = None;
+                self.give_up(planner);
                 Answer::Stale(row)
             }
             Ok(None) => self.accept(planner),
@@ -249,7 +282,7 @@ impl<'i, S: Sheet<'i>> Desk<'i, S> {
         ensures opening { Lawful self.now.problem self.now.opening }
         ensures list { Lawful self.now.problem self.now.list }
     {
-        self.sheet.lawful();
+        self.stock.sheet().lawful();
     }
 
     /// Answers an event by what the desk keeps.

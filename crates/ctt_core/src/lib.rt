@@ -10,6 +10,7 @@ mod journal;
 pub mod laws;
 mod opening;
 mod planner;
+mod stock;
 
 pub use answer::Answer;
 pub use auditing::{Verdict, audit};
@@ -19,6 +20,3 @@ pub use event::Event;
 pub use journal::JournalEntry;
 pub use opening::placed;
 pub use planner::PlannerNo;
-
-#[cfg(test)]
-mod tests;

@@ -17,7 +17,7 @@ nought_more (x ∷ xs) h zero = h zero
 nought_more (x ∷ xs) h (suc p) = nought_more xs (λ q. h (suc q)) p
 
 -- a planner has no more entries than there are
-own-fewer : (p : ℕ) (h : List JournalEntry) → length (own p h) ≤ length h
+pub own-fewer : (p : ℕ) (h : List JournalEntry) → length (own p h) ≤ length h
 own-fewer p h = omega (arith, length-filter (λ (e : JournalEntry). e.planner == p) h, count_by-le-length (λ (e : JournalEntry). e.planner == p) h)
 
 -- and a journal that is longer by one has more

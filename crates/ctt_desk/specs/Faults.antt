@@ -6,7 +6,7 @@ use Rattle.ctt_edits.specs.Openings.{opening}
 use Rattle.ctt_core.specs.declared.desk_fault.DeskFault.{DeskFault}
 use Rattle.ctt_core.specs.declared.desk_fault.DeskFault.TheVariants.{Unlawful as UnlawfulDesk, NoMemory as OutOfMemory}
 use Rattle.ctt_desk.specs.declared.shared_fault.SharedFault.{SharedFault}
-use Rattle.ctt_desk.specs.declared.shared_fault.SharedFault.TheVariants.{Unlawful, NoMemory}
+use Rattle.ctt_desk.specs.declared.shared_fault.SharedFault.TheVariants.{Unlawful, NoPlace, NoMemory}
 
 -- the fault of a desk for one thread, as that of a shared one
 abbrev pub shared : DeskFault → SharedFault
@@ -16,4 +16,11 @@ shared OutOfMemory = NoMemory
 -- the first lecture that cannot be placed, with its fault; memory may be wanted at any time
 abbrev pub IsUnlawful : Problem → List Placed → SharedFault → Type 0
 IsUnlawful i ls (Unlawful at f) = opening i ls ≡ Err (at, f)
+IsUnlawful i ls NoPlace = ⊥
 IsUnlawful i ls NoMemory = Unit {0}
+
+-- the fault of a desk whose opening stands: a planner has no place, or there is not enough memory
+abbrev pub IsWant : SharedFault → Type 0
+IsWant (Unlawful at f) = ⊥
+IsWant NoPlace = Unit {0}
+IsWant NoMemory = Unit {0}

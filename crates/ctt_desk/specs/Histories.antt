@@ -1,11 +1,13 @@
 -- The journal under the lock, and what a commit makes of it.
-use Rattle.std.specs.Prelude.{ℕ, ◌≡◌, ◌≢◌, ◌==◌, ◌<◌, List, length, None, Some, slice_index_or}
+use Rattle.std.specs.Prelude.{ℕ, ◌≡◌, ◌≢◌, ◌==◌, ◌<◌, ◌⊎◌, List, length, None, Some, slice_index_or}
 use Rattle.std.specs.List.{filter}
+use mathlib.Core.List.{IsPrefix}
 use Rattle.ctt_text.specs.Problem.{Problem}
 use Rattle.ctt_text.specs.declared.placed.Placed.{Placed}
 use Rattle.ctt_rules.specs.Hard.{Lawful}
 use Rattle.ctt_draft.specs.Drafts.{calls_of, stale}
-use Rattle.ctt_draft.specs.DraftValues.{DraftValue}
+use Rattle.ctt_draft.specs.DraftValues.{DraftValue, present}
+use Rattle.ctt_draft.specs.Endings.{RemainsValue}
 use Rattle.ctt_draft.specs.declared.asked.Asked.{Asked}
 use Rattle.ctt_core.specs.Runs.{after, Legal}
 use Rattle.ctt_core.specs.declared.journal.JournalEntry.{JournalEntry}
@@ -20,6 +22,10 @@ own p h = filter (λ (e : JournalEntry). e.planner == p) h
 abbrev pub entry_of : ℕ → List Asked → JournalEntry
 entry_of p asked = record { planner = p; asked = asked }
 
+-- what such a draft leaves
+abbrev pub left_of : DraftValue → RemainsValue
+left_of d = record { problem = d.problem; base = d.base; present = present d }
+
 -- the journal is legal on the opening, and the timetable is the opening after it, and lawful
 pub record Standing (i j : Problem) (opening t : List Placed) (journal : List JournalEntry) : Type 0 where
   pub same : j ≡ i
@@ -32,10 +38,15 @@ abbrev pub Counted : ℕ → List ℕ → List JournalEntry → Type 0
 Counted planners counts journal = (length counts ≡ planners) × ((p : ℕ) → p < planners → slice_index_or counts p 0 ≡ length (own p journal))
 
 -- what holds whenever the lock is free
-pub record IsLocked (i j : Problem) (opening opened t : List Placed) (planners : ℕ) (counts : List ℕ) (journal : List JournalEntry) : Type 0 where
+pub record IsLocked (i : Problem) (opening opened : List Placed) (planners : ℕ) (counts : List ℕ) (journal : List JournalEntry) : Type 0 where
   pub opens : opened ≡ opening
-  pub standing : Standing i j opening t journal
+  pub legal : Legal i opening journal
   pub counted : Counted planners counts journal
+
+-- and of the copy that is published: it is the opening after the journal, with the journal as its history
+pub record IsPublished (i j : Problem) (opening t : List Placed) (journal h : List JournalEntry) : Type 0 where
+  pub standing : Standing i j opening t journal
+  pub history : h ≡ journal
 
 -- the journal has as many drafts of planner p as he committed
 abbrev pub IsHis : List JournalEntry → ℕ → ℕ → Type 0
@@ -46,8 +57,18 @@ pub record IsFreshAt (i : Problem) (opening : List Placed) (journal : List Journ
   pub his : IsHis journal p committed
   pub fresh : stale i d.base (after i opening journal) (calls_of d.asked) ≡ None
 
--- why the draft d of planner p is not accepted behind the journal
-abbrev pub IsCause : Problem → List Placed → List JournalEntry → ℕ → ℕ → DraftValue → Cause → Type 0
-IsCause i opening journal p committed d (NotYours count) = (count ≡ length (own p journal)) × (count ≢ committed)
-IsCause i opening journal p committed d (Stale row) = IsHis journal p committed × (stale i d.base (after i opening journal) (calls_of d.asked) ≡ Some row)
-IsCause i opening journal p committed d NoMemory = IsFreshAt i opening journal p committed d
+-- the front that was old is now the journal
+abbrev pub IsSeen : List JournalEntry → List JournalEntry → List JournalEntry → Type 0
+IsSeen journal old new = (new ≡ journal) × IsPrefix old new
+
+-- more was seen than the journal has; or it has another number of drafts of planner p
+abbrev pub IsNotHis : List JournalEntry → ℕ → ℕ → List JournalEntry → List JournalEntry → ℕ → Type 0
+IsNotHis journal p committed old new count =
+    ((new ≡ old) × (count ≡ length journal) × (count < length old))
+    ⊎ (IsSeen journal old new × (count ≡ length (own p journal)) × (count ≢ committed))
+
+-- why the draft d of planner p, whose front was old and is new, is not accepted behind the journal
+abbrev pub IsCause : Problem → List Placed → List JournalEntry → ℕ → ℕ → List JournalEntry → List JournalEntry → DraftValue → Cause → Type 0
+IsCause i opening journal p committed old new d (NotYours count) = IsNotHis journal p committed old new count
+IsCause i opening journal p committed old new d (Stale row) = IsSeen journal old new × IsHis journal p committed × (stale i d.base (after i opening journal) (calls_of d.asked) ≡ Some row)
+IsCause i opening journal p committed old new d NoMemory = (new ≡ old) × IsFreshAt i opening journal p committed d

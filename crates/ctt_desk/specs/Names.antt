@@ -1,5 +1,6 @@
 -- What the name of a desk says of it.
 use Rattle.std.specs.Prelude.{ℕ, ◌≡◌, List, []}
+use Rattle.logbook.specs.Pages.{Book}
 use Rattle.ctt_text.specs.Problem.{Problem}
 use Rattle.ctt_text.specs.declared.placed.Placed.{Placed}
 
@@ -19,13 +20,15 @@ nothing = record {
   unavailable = [];
 }
 
--- a desk's opening: its instance and its lectures
+-- a desk's opening: its instance, its lectures, and the book of its history
 pub record OpenedValue : Type 0 where
   pub problem : Problem
   pub list : List Placed
+  pub book : Book
 
 -- the name says this opening, and so many planners
-pub record IsNamed (problem : Problem) (opening : List Placed) (planners : ℕ) (opened : OpenedValue) (count : ℕ) : Type 0 where
+pub record IsNamed (problem : Problem) (opening : List Placed) (planners : ℕ) (book : Book) (opened : OpenedValue) (count : ℕ) : Type 0 where
   pub of : opened.problem ≡ problem
   pub opens : opened.list ≡ opening
   pub counted : count ≡ planners
+  pub kept_in : opened.book ≡ book

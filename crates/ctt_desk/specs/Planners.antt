@@ -1,5 +1,6 @@
 -- What contracts see of planners and their drafts.
-use Rattle.std.specs.Prelude.{ℕ, zero, suc, ◌+◌, ◌≡◌, ◌≢◌, List, [], ◌∷◌, ◌++◌, length, None, Some}
+use Rattle.std.specs.Prelude.{ℕ, zero, suc, ◌+◌, ◌≡◌, ◌≢◌, ◌<◌, ◌⊎◌, List, [], ◌∷◌, ◌++◌, length, take, None, Some}
+use mathlib.Core.List.{IsPrefix}
 use Rattle.ctt_text.specs.Problem.{Problem}
 use Rattle.ctt_text.specs.declared.placed.Placed.{Placed}
 use Rattle.ctt_edits.specs.Looks.{shown}
@@ -11,20 +12,32 @@ use Rattle.ctt_draft.specs.Drafts.{calls_of, whole, stale}
 use Rattle.ctt_draft.specs.declared.asked.Asked.{Asked}
 use Rattle.ctt_core.specs.Runs.{after, Legal}
 use Rattle.ctt_core.specs.declared.journal.JournalEntry.{JournalEntry}
-use Rattle.ctt_desk.specs.Histories.{own}
+use Rattle.ctt_desk.specs.Histories.{own, entry_of}
 
--- a planner: the number, and how many drafts were committed
+-- a planner: the number, how many drafts were committed, and the history that was seen, the front
 pub record PlannerValue : Type 0 where
   pub number : ℕ
   pub committed : ℕ
+  pub front : List JournalEntry
 
 abbrev pub new_planner : ℕ → PlannerValue
-new_planner n = record { number = n; committed = 0 }
+new_planner n = record { number = n; committed = 0; front = [] }
 
--- so many planners, in order of their numbers, who have committed nothing
+-- so many planners, in order of their numbers, who have committed and seen nothing
 abbrev pub new_planners : ℕ → List PlannerValue
 new_planners zero = []
 new_planners (suc n) = new_planners n ++ new_planner n ∷ []
+
+-- the planner with one commit more
+abbrev pub committed_more : PlannerValue → PlannerValue
+committed_more p = record { number = p.number; committed = p.committed + 1; front = p.front }
+
+-- the planner p has become q, who has seen more, or as much
+pub record Grows (i : Problem) (opening : List Placed) (p q : PlannerValue) : Type 0 where
+  pub number : q.number ≡ p.number
+  pub committed : q.committed ≡ p.committed
+  pub begins : IsPrefix p.front q.front
+  pub legal : Legal i opening q.front
 
 -- a planner with an open draft: the timetable on which it was opened, and the calls with their replies
 pub record DraftingValue : Type 0 where
@@ -40,38 +53,37 @@ present_of i d = whole i d.base (calls_of d.asked)
 abbrev pub asked_also : DraftingValue → Call → Reply → DraftingValue
 asked_also d call told = record d { asked = d.asked ++ record { call = call; reply = told } ∷ [] }
 
--- the planner p has a draft on the opening after some legal history, in which nothing was asked yet
+-- the planner p has seen more, and has a draft on the opening after all that he has seen, in which nothing was asked yet
 pub record IsOpen (i : Problem) (opening : List Placed) (p : PlannerValue) (d : DraftingValue) : Type 0 where
-  pub planner : d.planner ≡ p
-  pub history : List JournalEntry
-  pub legal : Legal i opening history
-  pub base : d.base ≡ after i opening history
+  pub planner : Grows i opening p d.planner
+  pub base : d.base ≡ after i opening d.planner.front
   pub asked : d.asked ≡ []
 
--- the look is told what it shows of the opening after some legal history
-pub record IsViewed (i : Problem) (opening : List Placed) (look : Look) (told : Reply) : Type 0 where
-  pub history : List JournalEntry
-  pub legal : Legal i opening history
-  pub tells : told ≡ shown i (after i opening history) look
+-- the planner p has become q, who has seen more, and the look is told what it shows of the opening after all that q has seen
+pub record IsViewed (i : Problem) (opening : List Placed) (look : Look) (p q : PlannerValue) (told : Reply) : Type 0 where
+  pub planner : Grows i opening p q
+  pub tells : told ≡ shown i (after i opening q.front) look
 
--- the draft was accepted behind some legal history, in which the planner has as many drafts as he committed and no row that it read differs; it has the number that follows
-pub record IsAccepted (i : Problem) (opening : List Placed) (d : DraftingValue) (p : PlannerValue) (number : ℕ) : Type 0 where
-  pub history : List JournalEntry
-  pub legal : Legal i opening history
-  pub his : length (own d.planner.number history) ≡ d.planner.committed
-  pub fresh : stale i d.base (after i opening history) (calls_of d.asked) ≡ None
-  pub numbered : number ≡ length history + 1
-  pub planner : p ≡ record { number = d.planner.number; committed = d.planner.committed + 1 }
+-- the draft d was accepted: its planner is q now, and the receipt shows the front f
+pub record IsAccepted (i : Problem) (opening : List Placed) (d : DraftingValue) (q : PlannerValue) (f : List JournalEntry) : Type 0 where
+  pub legal : Legal i opening f
+  -- what others committed since
+  pub between : List JournalEntry
+  -- f begins with the planner's front, and ends with this draft
+  pub ends : f ≡ (d.planner.front ++ between) ++ entry_of d.planner.number d.asked ∷ []
+  -- before it no row differs that the draft read
+  pub fresh : stale i d.base (after i opening (d.planner.front ++ between)) (calls_of d.asked) ≡ None
+  -- of the planner's drafts f has those that he committed, and then this one
+  pub his : own d.planner.number f ≡ take d.planner.committed (own d.planner.number d.planner.front) ++ entry_of d.planner.number d.asked ∷ []
+  pub counted : length (own d.planner.number f) ≡ d.planner.committed + 1
+  pub planner : q ≡ record { number = d.planner.number; committed = d.planner.committed + 1; front = f }
 
--- the draft was refused behind some legal history, in which the planner has so many drafts
-pub record IsForeign (i : Problem) (opening : List Placed) (d : DraftingValue) (count : ℕ) : Type 0 where
-  pub history : List JournalEntry
-  pub legal : Legal i opening history
-  pub counted : count ≡ length (own d.planner.number history)
-  pub other : count ≢ d.planner.committed
+-- the draft d was refused: its planner, who is q now, had seen more drafts than the journal has, namely count; or the journal, which q has seen, has so many drafts of his, and not as many as he committed
+pub record IsForeign (i : Problem) (opening : List Placed) (d : DraftingValue) (q : PlannerValue) (count : ℕ) : Type 0 where
+  pub planner : Grows i opening d.planner q
+  pub other : (count < length d.planner.front) ⊎ ((count ≡ length (own q.number q.front)) × (count ≢ q.committed))
 
--- or after which this row, the least one that was read and differs, is another one
-pub record IsStale (i : Problem) (opening : List Placed) (d : DraftingValue) (row : Row) : Type 0 where
-  pub history : List JournalEntry
-  pub legal : Legal i opening history
-  pub differs : stale i d.base (after i opening history) (calls_of d.asked) ≡ Some row
+-- or q has seen the history after which this row, the least one that was read and differs, is another one
+pub record IsStale (i : Problem) (opening : List Placed) (d : DraftingValue) (q : PlannerValue) (row : Row) : Type 0 where
+  pub planner : Grows i opening d.planner q
+  pub differs : stale i d.base (after i opening q.front) (calls_of d.asked) ≡ Some row

@@ -1,13 +1,21 @@
--- Why a draft is refused.
-use Rattle.std.specs.Prelude.{◌≡◌, List}
+-- Why a draft is refused, or not opened, or a look not answered.
+use Rattle.std.specs.Prelude.{◌≡◌, ◌⊎◌, List}
 use Rattle.ctt_text.specs.Problem.{Problem}
 use Rattle.ctt_text.specs.declared.placed.Placed.{Placed}
-use Rattle.ctt_desk.specs.Planners.{DraftingValue, IsForeign, IsStale}
+use Rattle.ctt_desk.specs.Planners.{PlannerValue, DraftingValue, Grows, IsForeign, IsStale}
 use Rattle.ctt_desk.specs.declared.refusal.Refusal.{Refusal}
 use Rattle.ctt_desk.specs.declared.refusal.Refusal.TheVariants.{NotYours, Stale, NoMemory}
+use Rattle.ctt_desk.specs.declared.shared_fault.SharedFault.{SharedFault}
+use Rattle.ctt_desk.specs.declared.shared_fault.SharedFault.TheVariants.{Unlawful, NoPlace, NoMemory as OutOfMemory}
 
 -- why a draft was refused, and what is left
 abbrev pub IsRefused : {X Y : Type 0} → Problem → List Placed → DraftingValue → Refusal X Y → Type 0
-IsRefused i opening d (NotYours p count) = (p ≡ d.planner) × IsForeign i opening d count
-IsRefused i opening d (Stale p row) = (p ≡ d.planner) × IsStale i opening d row
+IsRefused i opening d (NotYours q count) = IsForeign i opening d q count
+IsRefused i opening d (Stale q row) = IsStale i opening d q row
 IsRefused i opening d (NoMemory back) = back ≡ d
+
+-- what has become of the planner p where he could not read: without a place he is as before, and where memory was wanted he has seen more
+abbrev pub IsUnread : Problem → List Placed → PlannerValue → PlannerValue → SharedFault → Type 0
+IsUnread i opening p q (Unlawful at f) = ⊥
+IsUnread i opening p q NoPlace = q ≡ p
+IsUnread i opening p q OutOfMemory = Grows i opening p q

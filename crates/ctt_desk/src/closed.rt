@@ -5,23 +5,25 @@ ghost use Rattle.ctt_rules.specs.Hard.{Lawful};
 ghost use Rattle.ctt_rules.specs.Penalty.{penalty};
 ghost use Rattle.ctt_core.specs.Runs.{after, Legal};
 
+use crate::front::Front;
 use crate::naming::Naming;
 use ctt_board::Timetable;
 use ctt_core::JournalEntry;
 use ctt_rules::Cost;
 use ctt_text::{NoMemory, Placed};
-use std::marker::{Model, PhantomData};
+use std::marker::Model;
 
 /// What a desk left: its journal and its timetable. Contracts see the journal.
 #[derive(Drop)]
 pub struct Closed<S: Timetable, J: Naming> {
     pub(crate) journal: Vec<JournalEntry>,
     pub(crate) sheet: S,
-    pub(crate) desk: PhantomData<J>,
+    /// The journal, as what was seen.
+    pub(crate) front: Front<J>,
 }
 
 impl<S: Timetable, J: Naming> Model for Closed<S, J> {
-    ghost use Rattle.std.specs.Prelude.{List};
+    ghost use Rattle.std.specs.Prelude.{◌≡◌, List};
     ghost use Rattle.ctt_core.specs.declared.journal.JournalEntry.{JournalEntry};
     ghost use Rattle.ctt_desk.specs.Histories.{Standing};
 
@@ -29,7 +31,7 @@ impl<S: Timetable, J: Naming> Model for Closed<S, J> {
 
     ghost view = { λ c. c.journal.items };
 
-    ghost invariant = { λ c. Standing J.problem (S.problem c.sheet) J.opening (S.list c.sheet) c.journal.items };
+    ghost invariant = { λ c. Standing J.problem (S.problem c.sheet) J.opening (S.list c.sheet) c.journal.items × (c.front ≡ c.journal.items) };
 }
 
 impl<S: Timetable, J: Naming> Closed<S, J> {
@@ -54,5 +56,12 @@ impl<S: Timetable, J: Naming> Closed<S, J> {
         ensures legal { Legal J.problem J.opening self.now }
     {
         self.journal.as_slice()
+    }
+
+    /// The journal, as what was seen.
+    pub(crate) fn front(&self) -> &Front<J>
+        ensures { result.now ≡ self.now }
+    {
+        &self.front
     }
 }

@@ -5,6 +5,7 @@ ghost use Rattle.ctt_desk.specs.Planners.{IsAccepted};
 ghost use Rattle.ctt_desk.specs.Refusals.{IsRefused};
 
 use crate::drafting::Drafting;
+use crate::kept::Kept;
 use crate::locked::Cause;
 use crate::naming::Naming;
 use crate::planner::Planner;
@@ -16,7 +17,7 @@ use std::sync::{MutexGuard, Wait};
 
 impl<'i, S: Sheet<'i>, J: Naming> Drafting<'i, S, J> {
     /// Commits the draft: it is accepted where no row that it read has changed since it was opened.
-    /// What was drafted is dropped when the lock is free again.
+    /// Its sheet is kept, and what else was drafted is dropped when the lock is free again.
     pub fn commit<R: Wait>(
         self,
         rt: &R,
@@ -26,25 +27,37 @@ impl<'i, S: Sheet<'i>, J: Naming> Drafting<'i, S, J> {
         ensures err { IfErr result (IsRefused J.problem J.opening self.entry) }
     {
         let Drafting { planner, draft } = self;
-        let number = planner.number();
-        let committed = planner.committed();
+        let Planner {
+            alloc,
+            number,
+            committed,
+            mut front,
+            place,
+            kept: _,
+        } = planner;
+        let before = front.again();
         let mut locked = desk.locked.lock(rt);
-        let outcome = locked.commit(number, committed, draft);
+        let outcome = locked.commit(rt, number, committed, &mut front, draft);
         MutexGuard::unlock(locked);
+        let seen = front.again();
+        let planner = Planner {
+            alloc,
+            number,
+            committed,
+            front,
+            place,
+            kept: None,
+        };
         match outcome {
-            Ok((place, _remains)) => {
-                prove!(committed < place);
-                let planner = Planner {
-                    committed: committed + 1,
-                    ..planner
-                };
-                Ok((planner, Receipt::new(place)))
-            }
-            Err((draft, cause)) => Err(match cause {
-                Cause::NotYours(count) => Refusal::NotYours(planner, count),
-                Cause::Stale(row) => Refusal::Stale(planner, row),
-                Cause::NoMemory => Refusal::NoMemory(Drafting { planner, draft }),
-            }),
+            Ok(remains) => Ok(planner.accepted(Kept::left_by(remains, before, seen))),
+            Err((draft, cause)) => match cause {
+                Cause::NotYours(count) => Err(Refusal::NotYours(planner, count)),
+                Cause::Stale(row) => {
+                    let kept = Kept::of_base(draft, before);
+                    Err(Refusal::Stale(planner.keeping(kept), row))
+                }
+                Cause::NoMemory => Err(Refusal::NoMemory(Drafting { planner, draft })),
+            },
         }
     }
 }

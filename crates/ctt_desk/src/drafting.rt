@@ -5,6 +5,7 @@ ghost use Rattle.ctt_edits.specs.Calls.{CallFits, reply};
 ghost use Rattle.ctt_edits.specs.Fitting.{IsReply};
 ghost use Rattle.ctt_desk.specs.Planners.{present_of, asked_also};
 
+use crate::kept::Kept;
 use crate::naming::Naming;
 use crate::planner::Planner;
 use ctt_board::{Sheet, Timetable};
@@ -18,18 +19,19 @@ use std::marker::Model;
 #[derive(Drop)]
 pub struct Drafting<'i, S: Timetable, J: Naming> {
     pub(crate) planner: Planner<S, J>,
-    pub(crate) draft: Draft<'i, S>,
+    pub(crate) draft: Box<Draft<'i, S>>,
 }
 
 impl<'i, S: Timetable, J: Naming> Model for Drafting<'i, S, J> {
     ghost use Rattle.std.specs.Prelude.{◌≡◌};
+    ghost use Rattle.ctt_core.specs.Runs.{after};
     ghost use Rattle.ctt_desk.specs.Planners.{DraftingValue};
 
     ghost Value = { DraftingValue };
 
-    ghost view = { λ d. record { planner = d.planner; base = d.draft.base; asked = d.draft.asked } };
+    ghost view = { λ d. record { planner = d.planner; base = d.draft.value.base; asked = d.draft.value.asked } };
 
-    ghost invariant = { λ d. d.draft.problem ≡ J.problem };
+    ghost invariant = { λ d. (d.draft.value.problem ≡ J.problem) × (d.draft.value.base ≡ after J.problem J.opening d.planner.front) };
 }
 
 impl<'i, S: Sheet<'i>, J: Naming> Drafting<'i, S, J> {
@@ -54,11 +56,12 @@ impl<'i, S: Sheet<'i>, J: Naming> Drafting<'i, S, J> {
         self.draft.call(call)
     }
 
-    /// Gives the draft up.
+    /// Gives the draft up. Its sheet is kept.
     pub fn abandon(self) -> Planner<S, J>
         ensures { result ≡ self.entry.planner }
     {
-        let Drafting { planner, draft: _ } = self;
-        planner
+        let Drafting { planner, draft } = self;
+        let kept = Kept::of_base(draft, planner.front.again());
+        planner.keeping(kept)
     }
 }

@@ -1,9 +1,12 @@
-//! The running desk: planners on threads share one timetable, which lies under one lock.
+//! The running desk: planners on threads draft on copies that are published, and commit under one lock.
 #![tactic(auto)]
 
+mod book;
 mod closed;
 mod committing;
 mod drafting;
+mod front;
+mod kept;
 mod locked;
 mod named;
 mod naming;
@@ -13,6 +16,9 @@ mod receipt;
 mod refusal;
 mod shared_desk;
 mod shared_fault;
+mod shown;
+mod trail;
+mod update;
 
 pub use closed::Closed;
 pub use drafting::Drafting;
@@ -24,6 +30,3 @@ pub use receipt::Receipt;
 pub use refusal::Refusal;
 pub use shared_desk::SharedDesk;
 pub use shared_fault::SharedFault;
-
-#[cfg(test)]
-mod tests;

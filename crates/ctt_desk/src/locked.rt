@@ -1,29 +1,35 @@
 //! What lies under the lock.
 
-ghost use Rattle.std.specs.Prelude.{◌≡◌, ◌++◌, ◌∷◌, [], ◌<◌, length, IfOk, IfErr};
-ghost use Rattle.ctt_edits.specs.Fitting.{IsReply};
-ghost use Rattle.ctt_edits.specs.Looks.{LookFits, shown};
-ghost use Rattle.ctt_draft.specs.DraftValues.{Settles};
+ghost use Rattle.std.specs.Prelude.{◌≡◌, ◌++◌, ◌∷◌, [], ◌<◌, drop, length, None, Some, Ok, IfOk, IfErr};
+ghost use mathlib.Core.List.{IsPrefix};
+ghost use Rattle.ctt_draft.specs.Drafts.{calls_of, changes, stale};
+ghost use Rattle.ctt_draft.specs.DraftValues.{IsTold, Settles};
 ghost use Rattle.ctt_core.specs.Runs.{after, Legal};
-ghost use Rattle.ctt_desk.specs.Names.{IsNamed};
-ghost use Rattle.ctt_desk.specs.Histories.{entry_of, Counted, IsFreshAt, IsCause};
+ghost use Rattle.ctt_desk.specs.Histories.{entry_of, left_of, Counted, IsFreshAt, IsCause, IsPublished};
+ghost use Rattle.ctt_desk.specs.Published.{IsAfter};
 ghost use Rattle.ctt_desk.specs.declared.locked.Cause.TheVariants.{NoMemory as OutOfMemory};
 
 use crate::closed::Closed;
+use crate::front::{Front, Head};
 use crate::naming::Naming;
-use crate::opened::Opened;
+use crate::shown::{Common, Publisher, Shown, publish};
+use crate::update::Update;
 use ctt_board::{Sheet, Timetable};
 use ctt_core::{JournalEntry, PlannerNo};
-use ctt_draft::{Draft, Remains};
-use ctt_edits::{Look, Reply, Row, laws};
+use ctt_draft::{Draft, Remains, Work};
+use ctt_edits::Row;
 use ctt_text::{NoMemory, Placed};
+use left_right::Absorb;
 use std::alloc::{AllocError, Global};
-use std::marker::{Model, PhantomData};
+use std::marker::Model;
+use std::mem;
+use std::sync::Wait;
 
 /// Why a draft is not accepted.
 #[derive(Clone, Copy, Debug, PartialEq, Eq)]
 pub(crate) enum Cause {
-    /// The journal has another number of this planner's drafts, namely this one.
+    /// The planner has seen more drafts than the journal has, namely this many; or the journal has
+    /// another number of this planner's drafts, namely this one.
     NotYours(u64),
     /// The least row that was read and has changed.
     Stale(Row),
@@ -31,30 +37,40 @@ pub(crate) enum Cause {
     NoMemory,
 }
 
-/// The desk's opening, its journal and its timetable. Contracts see the journal.
-pub(crate) struct Locked<S: Timetable, J: Naming> {
+/// The desk's opening and its journal, and the end by which its timetable is published, which is kept
+/// nowhere else. Contracts see the journal.
+pub(crate) struct Locked<S: Timetable, J: Naming>
+where
+    Shown<S, J>: Absorb<Update<J>, State = Common>,
+{
     opening: Vec<Placed>,
     journal: Vec<JournalEntry>,
     /// How many drafts each planner has in the journal.
     counts: Vec<u64>,
-    sheet: S,
-    desk: PhantomData<J>,
+    /// The journal, as what was seen.
+    front: Front<J>,
+    head: Head<J>,
+    /// It is there whenever the lock is free.
+    writer: Option<Publisher<S, J>>,
 }
 
-impl<S: Timetable, J: Naming> Model for Locked<S, J> {
-    ghost use Rattle.std.specs.Prelude.{List};
+impl<S: Timetable, J: Naming> Model for Locked<S, J>
+where
+    Shown<S, J>: Absorb<Update<J>, State = Common>,
+{
+    ghost use Rattle.std.specs.Prelude.{◌≡◌, [], drop, List, IsSomeAnd};
     ghost use Rattle.ctt_core.specs.declared.journal.JournalEntry.{JournalEntry};
-    ghost use Rattle.ctt_desk.specs.Histories.{IsLocked};
+    ghost use Rattle.ctt_desk.specs.Histories.{IsLocked, IsPublished};
 
     ghost Value = { List JournalEntry };
 
     ghost view = { λ l. l.journal.items };
 
-    ghost invariant = { λ l. IsLocked J.problem (S.problem l.sheet) J.opening l.opening.items (S.list l.sheet) J.planners l.counts.items l.journal.items };
+    ghost invariant = { λ l. IsLocked J.problem J.opening l.opening.items J.planners l.counts.items l.journal.items × (l.front ≡ l.journal.items) × IsSomeAnd l.writer (λ w. IsPublished J.problem (S.problem w.desk.shown.value.sheet) J.opening (S.list w.desk.shown.value.sheet) l.journal.items w.desk.shown.value.front × (drop w.behind w.log.items ≡ [])) };
 }
 
 /// No draft for each of so many planners.
-fn no_counts(alloc: Global, planners: u16) -> Result<Vec<u64>, AllocError>
+pub(crate) fn no_counts(alloc: Global, planners: u16) -> Result<Vec<u64>, AllocError>
     ensures { IfOk result (λ counts. Counted planners counts.items []) }
 {
     let mut counts = Vec::with_capacity(alloc, planners as usize)?;
@@ -64,128 +80,189 @@ fn no_counts(alloc: Global, planners: u16) -> Result<Vec<u64>, AllocError>
     Ok(counts)
 }
 
+/// Puts the writing end back.
+fn put_back<S: Timetable, J: Naming>(slot: &mut Option<Publisher<S, J>>, writer: Publisher<S, J>)
+    requires { slot.old ≡ None }
+    ensures { slot.new ≡ Some writer }
+{
+    let before = mem::replace(slot, Some(writer));
+    let None = before else { unreachable!() };
+}
+
+/// Ends a draft whose calls are to stay as they are.
+fn end<'i, S: Sheet<'i>>(draft: Box<Draft<'i, S>>) -> (Work, Remains<S>)
+    ensures asked { result.0.asked ≡ draft.entry.value.asked }
+    ensures changes { result.0.changes.items ≡ changes draft.entry.value.problem draft.entry.value.base (calls_of draft.entry.value.asked) }
+    ensures told { IsTold draft.entry.value.problem draft.entry.value.base draft.entry.value.asked }
+    ensures remains { result.1 ≡ left_of draft.entry.value }
+{
+    let (mut work, remains) = Box::into_inner(draft).end();
+    work.asked.shrink_to_fit();
+    (work, remains)
+}
+
 impl<S: Timetable, J: Naming> Locked<S, J> {
-    /// A desk that opens so, with an empty journal.
-    pub(crate) fn new(opened: Opened<S>, planners: u16) -> Result<Self, NoMemory>
-        requires { IsNamed J.problem J.opening J.planners opened planners }
-        ensures { IfOk result (λ locked. locked ≡ []) }
+    /// A desk that opens so, with an empty journal, and whose opening is published.
+    pub(crate) fn new(
+        alloc: Global,
+        opening: Vec<Placed>,
+        counts: Vec<u64>,
+        front: Front<J>,
+        head: Head<J>,
+        writer: Publisher<S, J>,
+    ) -> Self
+        requires opening { opening.items ≡ J.opening }
+        requires counts { Counted J.planners counts.items [] }
+        requires front { front ≡ [] }
+        requires published { IsAfter J.problem J.opening (S.problem writer.desk.shown.value.sheet) (S.list writer.desk.shown.value.sheet) writer.desk.shown.value.front }
+        requires history { writer.desk.shown.value.front ≡ [] }
+        requires rests { drop writer.behind writer.log.items ≡ [] }
+        ensures { result ≡ [] }
     {
-        let Opened {
-            alloc,
-            opening,
-            sheet,
-        } = opened;
-        sheet.lawful();
-        let counts = no_counts(alloc, planners)?;
-        Ok(Locked {
+        writer.published().sheet.lawful();
+        Locked {
             opening,
             journal: Vec::new(alloc),
             counts,
-            sheet,
-            desk: PhantomData,
-        })
+            front,
+            head,
+            writer: Some(writer),
+        }
     }
 
-    /// The journal with its timetable.
-    pub(crate) fn close(self) -> Closed<S, J>
+    /// What is published.
+    fn shown(&self) -> &Shown<S, J>
+        ensures { IsPublished J.problem (S.problem result.now.sheet) J.opening (S.list result.now.sheet) self.now result.now.front }
+    {
+        match &self.writer {
+            Some(writer) => writer.published(),
+            None => unreachable!(),
+        }
+    }
+
+    /// Gives up the writing end, and gives the journal with its timetable.
+    pub(crate) fn close<R: Wait>(self, rt: &R) -> Closed<S, J>
         ensures { result ≡ self }
     {
         let Locked {
             opening: _,
             journal,
             counts: _,
-            sheet,
-            desk,
+            front,
+            head: _,
+            writer,
         } = self;
+        let Shown {
+            sheet,
+            front: _,
+            trail: _,
+        } = Box::into_inner(writer.unwrap().take(rt));
         Closed {
             journal,
             sheet,
-            desk,
+            front,
         }
     }
 }
 
 impl<'i, S: Sheet<'i>, J: Naming> Locked<S, J> {
-    /// A draft on the timetable as it stands.
-    pub(crate) fn open(&self) -> Result<Draft<'i, S>, NoMemory>
-        ensures problem { IfOk result (λ draft. draft.problem ≡ J.problem) }
-        ensures base { IfOk result (λ draft. draft.base ≡ after J.problem J.opening self.now) }
-        ensures asked { IfOk result (λ draft. draft.asked ≡ []) }
-        ensures legal { Legal J.problem J.opening self.now }
-    {
-        Draft::open(*self.journal.allocator(), &self.sheet)
-    }
-
-    /// What a look shows of the timetable as it stands.
-    pub(crate) fn look(&self, look: &Look) -> Result<Reply, NoMemory>
-        requires { LookFits J.problem look.now }
-        ensures told { IfOk result (λ told. told ≡ shown J.problem (after J.problem J.opening self.now) look.now) }
-        ensures fits { IfOk result (IsReply J.problem) }
-        ensures legal { Legal J.problem J.opening self.now }
-    {
-        laws::replies_fit();
-        self.sheet.instance().limits_hold();
-        self.sheet.lawful();
-        ctt_edits::look(*self.journal.allocator(), &self.sheet, look)
-    }
-
-    /// Accepts a draft of which nothing that it read has changed, and answers its place in the journal,
-    /// from 1. What remains of the draft is for the caller to drop, and a refused draft goes back.
-    pub(crate) fn commit(
+    /// Accepts a draft of which nothing that it read has changed; the planner's front is then the
+    /// journal. What remains of the draft is for the caller to drop, and a refused draft goes back.
+    pub(crate) fn commit<R: Wait>(
         &mut self,
+        rt: &R,
         number: PlannerNo,
         committed: u64,
-        draft: Draft<'i, S>,
-    ) -> Result<(u64, Remains<S>), (Draft<'i, S>, Cause)>
-        requires problem { draft.problem ≡ J.problem }
+        front: &mut Front<J>,
+        draft: Box<Draft<'i, S>>,
+    ) -> Result<Remains<S>, (Box<Draft<'i, S>>, Cause)>
+        requires problem { draft.value.problem ≡ J.problem }
+        requires base { draft.value.base ≡ after J.problem J.opening front.old }
         requires planner { number < J.planners }
         ensures legal { Legal J.problem J.opening self.old }
-        ensures fresh { IfOk result (λ _. IsFreshAt J.problem J.opening self.old number committed draft.entry) }
-        ensures journal { IfOk result (λ _. self.new ≡ self.old ++ entry_of number draft.entry.asked ∷ []) }
-        ensures place { IfOk result (λ done. done.0 ≡ length self.new) }
-        ensures err { IfErr result (λ refused. (self.new ≡ self.old) × (refused.0 ≡ draft.entry) × IsCause J.problem J.opening self.old number committed draft.entry refused.1) }
+        ensures fresh { IfOk result (λ _. IsFreshAt J.problem J.opening self.old number committed draft.entry.value) }
+        ensures journal { IfOk result (λ _. self.new ≡ self.old ++ entry_of number draft.entry.value.asked ∷ []) }
+        ensures front { IfOk result (λ _. front.new ≡ self.new) }
+        ensures begins { IfOk result (λ _. IsPrefix front.old self.old) }
+        ensures seen { Legal J.problem J.opening front.new }
+        ensures remains { IfOk result (λ remains. remains ≡ left_of draft.entry.value) }
+        ensures err { IfErr result (λ refused. (self.new ≡ self.old) × (refused.0.value ≡ draft.entry.value) × IsCause J.problem J.opening self.old number committed front.old front.new draft.entry.value refused.1) }
     {
+        if !front.begins(&self.front) {
+            return Err((draft, Cause::NotYours(self.front.len())));
+        }
         let count = self.counts[number.get() as usize];
         if count != committed {
+            *front = self.front.again();
             return Err((draft, Cause::NotYours(count)));
         }
-        match draft.stale(&self.sheet) {
-            Ok(None) => self.accept(number, draft),
-            Ok(Some(row)) => Err((draft, Cause::Stale(row))),
+        match self.stale(&draft, front) {
+            Ok(None) => {
+                let remains = self.accept(rt, number, draft)?;
+                *front = self.front.again();
+                Ok(remains)
+            }
+            Ok(Some(row)) => {
+                *front = self.front.again();
+                Err((draft, Cause::Stale(row)))
+            }
             Err(_) => Err((draft, Cause::NoMemory)),
         }
     }
 
-    /// Settles a draft, and enters it into the journal.
-    fn accept(
+    /// The least row that a draft read and that has changed since a history, behind which it was opened. Where that is
+    /// the journal there is nothing to compare, and where the changes since are known only the rows that they touch.
+    fn stale(&self, draft: &Draft<'i, S>, front: &Front<J>) -> Result<Option<Row>, NoMemory>
+        requires problem { draft.now.problem ≡ J.problem }
+        requires base { draft.now.base ≡ after J.problem J.opening front.now }
+        ensures row { result ≡ Ok (stale J.problem draft.now.base (after J.problem J.opening self.now) (calls_of draft.now.asked)) }
+        ensures fresh { result ≡ Ok None → Settles draft.now (after J.problem J.opening self.now) }
+    {
+        let shown = self.shown();
+        if front.is(&shown.front) {
+            draft.settles_on_base();
+            return Ok(None);
+        }
+        match shown.trail.between(front, &shown.front) {
+            Some(changes) => draft.stale_after(changes, &shown.sheet),
+            None => draft.stale(&shown.sheet),
+        }
+    }
+
+    /// Enters a draft into the journal, and publishes the timetable that it makes.
+    fn accept<R: Wait>(
         &mut self,
+        rt: &R,
         number: PlannerNo,
-        draft: Draft<'i, S>,
-    ) -> Result<(u64, Remains<S>), (Draft<'i, S>, Cause)>
-        requires problem { draft.problem ≡ J.problem }
+        draft: Box<Draft<'i, S>>,
+    ) -> Result<Remains<S>, (Box<Draft<'i, S>>, Cause)>
+        requires problem { draft.value.problem ≡ J.problem }
         requires planner { number < J.planners }
-        requires settles { Settles draft (after J.problem J.opening self.old) }
-        ensures journal { IfOk result (λ _. self.new ≡ self.old ++ entry_of number draft.entry.asked ∷ []) }
-        ensures place { IfOk result (λ done. done.0 ≡ length self.new) }
-        ensures err { IfErr result (λ refused. (self.new ≡ self.old) × (refused.0 ≡ draft.entry) × (refused.1 ≡ OutOfMemory)) }
+        requires settles { Settles draft.value (after J.problem J.opening self.old) }
+        ensures journal { IfOk result (λ _. self.new ≡ self.old ++ entry_of number draft.entry.value.asked ∷ []) }
+        ensures remains { IfOk result (λ remains. remains ≡ left_of draft.entry.value) }
+        ensures err { IfErr result (λ refused. (self.new ≡ self.old) × (refused.0.value ≡ draft.entry.value) × (refused.1 ≡ OutOfMemory)) }
     {
         if self.journal.reserve(1).is_err() {
             return Err((draft, Cause::NoMemory));
         }
-        let (work, remains) = draft.end();
-        work.settle(&mut self.sheet);
-        self.sheet.lawful();
-        let asked = work.asked;
-        self.journal
-            .push(JournalEntry {
-                planner: number,
-                asked,
-            })
-            .unwrap();
-        let place = self.journal.len() as u64;
+        let (work, remains) = end(draft);
+        let Work { asked, changes } = work;
+        let entry = JournalEntry {
+            planner: number,
+            asked,
+        };
+        let before = self.front.again();
+        self.front.extend(rt, &self.head, &entry);
+        self.journal.push(entry).unwrap();
         let count = self.counts[number.get() as usize];
+        let place = self.journal.len() as u64;
         prove!(count < place);
         self.counts[number.get() as usize] = count + 1;
-        Ok((place, remains))
+        let update = Update::new(changes, before, self.front.again());
+        let writer = publish(rt, self.writer.take().unwrap(), update);
+        writer.published().sheet.lawful();
+        put_back(&mut self.writer, writer);
+        Ok(remains)
     }
 }

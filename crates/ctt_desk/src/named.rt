@@ -16,5 +16,5 @@ pub struct Named<S: Timetable, J: Naming> {
     pub count: u16,
     /// The name.
     pub name: PhantomData<J>,
-    ghost named: { IsNamed J.problem J.opening J.planners opened count },
+    ghost named: { IsNamed J.problem J.opening J.planners J.book opened count },
 }

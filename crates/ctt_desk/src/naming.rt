@@ -6,6 +6,7 @@ use std::marker::Brand;
 /// them is used with another desk. A caller chooses what a name says where it passes `Brand`.
 pub trait Naming {
     ghost use Rattle.std.specs.Prelude.{ℕ, List};
+    ghost use Rattle.logbook.specs.Pages.{Book};
     ghost use Rattle.ctt_text.specs.Problem.{Problem};
     ghost use Rattle.ctt_text.specs.declared.placed.Placed.{Placed};
 
@@ -17,6 +18,9 @@ pub trait Naming {
 
     /// How many planners it has.
     ghost planners: { ℕ };
+
+    /// The book of its history.
+    ghost book: { Book };
 }
 
 impl Naming for Brand {
@@ -28,4 +32,6 @@ impl Naming for Brand {
     ghost opening = { [] };
 
     ghost planners = { 0 };
+
+    ghost book = { record { number = 0; log_name = 0; cells_name = 0 } };
 }

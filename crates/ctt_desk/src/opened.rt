@@ -6,31 +6,47 @@ ghost use Rattle.ctt_text.specs.Timetable.{Fits};
 ghost use Rattle.ctt_edits.specs.Openings.{opening};
 ghost use Rattle.ctt_desk.specs.Faults.{IsUnlawful};
 
+use crate::book::BookRule;
 use crate::shared_fault::SharedFault;
 use ctt_board::{Sheet, Timetable};
-use ctt_core::placed;
+use ctt_core::{JournalEntry, placed};
 use ctt_text::{Instance, Placed};
+use logbook::{Seen, Start, Word};
 use std::alloc::Global;
 use std::marker::Model;
 
-/// The timetable with which a desk opens. Contracts see its instance and its lectures, from which a
-/// caller names the desk.
+/// The timetable with which a desk opens. Contracts see its instance, its lectures and the book of
+/// its history, from which a caller names the desk.
 #[derive(Drop)]
 pub struct Opened<S: Timetable> {
     pub(crate) alloc: Global,
     pub(crate) opening: Vec<Placed>,
     pub(crate) sheet: S,
+    /// For so many changes there is to be room in what is published.
+    pub(crate) room: usize,
+    /// The word by which the history will grow, and that there is none yet.
+    pub(crate) word: Word<JournalEntry, u64, BookRule>,
+    pub(crate) seen: Seen<JournalEntry, u64, BookRule>,
 }
 
 impl<S: Timetable> Model for Opened<S> {
-    ghost use Rattle.std.specs.Prelude.{◌≡◌};
+    ghost use Rattle.std.specs.Prelude.{◌≡◌, []};
     ghost use Rattle.ctt_desk.specs.Names.{OpenedValue};
+    ghost use Rattle.ctt_desk.specs.Books.{head_of};
 
     ghost Value = { OpenedValue };
 
-    ghost view = { λ o. record { problem = S.problem o.sheet; list = o.opening.items } };
+    ghost view = { λ o. record { problem = S.problem o.sheet; list = o.opening.items; book = o.seen.book } };
 
-    ghost invariant = { λ o. S.list o.sheet ≡ o.opening.items };
+    ghost invariant = { λ o. (S.list o.sheet ≡ o.opening.items) × (o.seen.log ≡ []) × (o.word ≡ head_of o.seen.book) };
+}
+
+/// How many changes are kept with a published timetable: four times as many as may be made in place of a copy, by
+/// the cells that a copy copies.
+fn room_for_changes(instance: &Instance) -> usize {
+    instance.limits_hold();
+    let cells = instance.courses() as usize * instance.slots() as usize;
+    (cells / 32).clamp(64, 4000)
 }
 
 impl<'i, S: Sheet<'i>> Opened<S> {
@@ -48,10 +64,14 @@ impl<'i, S: Sheet<'i>> Opened<S> {
     {
         let sheet: S = placed(alloc, instance, lectures)?;
         let opening = sheet.list()?;
+        let (seen, mut first, _second) = Seen::open(Start::alone(), 0, 0);
         Ok(Opened {
             alloc,
             opening,
             sheet,
+            room: room_for_changes(instance),
+            word: Word::tracked(0, &mut first),
+            seen,
         })
     }
 }

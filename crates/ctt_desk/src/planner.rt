@@ -1,50 +1,69 @@
 //! Planners.
 
-ghost use Rattle.std.specs.Prelude.{◌≡◌, ◌<◌, IfOk, IfErr, OnErr, Err};
+ghost use Rattle.std.specs.Prelude.{◌≡◌, ◌+◌, ◌<◌, ◌≤◌, ◌↔◌, [], length, IsTrue, IfOk, IfErr};
+ghost use mathlib.Core.List.{IsPrefix};
 ghost use Rattle.ctt_edits.specs.Fitting.{IsReply};
-ghost use Rattle.ctt_edits.specs.Looks.{LookFits};
-ghost use Rattle.ctt_desk.specs.Planners.{new_planner, IsOpen, IsViewed};
-ghost use Rattle.ctt_desk.specs.declared.shared_fault.SharedFault.TheVariants.{NoMemory as OutOfMemory};
+ghost use Rattle.ctt_edits.specs.Looks.{LookFits, shown as shown_of};
+ghost use Rattle.ctt_core.specs.Runs.{Legal};
+ghost use Rattle.ctt_desk.specs.Histories.{own};
+ghost use Rattle.ctt_desk.specs.Planners.{new_planner, committed_more, Grows, IsOpen, IsViewed};
+ghost use Rattle.ctt_desk.specs.Refusals.{IsUnread};
 
 use crate::drafting::Drafting;
+use crate::front::Front;
+use crate::kept::{Kept, draft_on};
 use crate::naming::Naming;
-use crate::shared_desk::SharedDesk;
+use crate::receipt::Receipt;
 use crate::shared_fault::SharedFault;
+use crate::shown::{Place, enter};
 use ctt_board::{Sheet, Timetable};
 use ctt_core::PlannerNo;
-use ctt_edits::{Look, Reply};
-use std::marker::{Model, PhantomData};
-use std::sync::{MutexGuard, Wait};
+use ctt_edits::{Look, Reply, laws};
+use ctt_text::NoMemory;
+use std::alloc::Global;
+use std::marker::Model;
 
-/// One who drafts. Contracts see the number, and how many drafts were committed.
+/// One who drafts. Contracts see the number, how many drafts were committed, and the front: the history
+/// that the planner has seen.
 #[derive(Drop)]
 pub struct Planner<S: Timetable, J: Naming> {
+    pub(crate) alloc: Global,
     pub(crate) number: PlannerNo,
     pub(crate) committed: u64,
-    pub(crate) desk: PhantomData<(S, J)>,
+    pub(crate) front: Front<J>,
+    /// It is there but while the planner reads.
+    pub(crate) place: Option<Place<S, J>>,
+    /// The sheet of the last draft, for a draft to come.
+    pub(crate) kept: Option<Box<Kept<S, J>>>,
 }
 
 impl<S: Timetable, J: Naming> Model for Planner<S, J> {
-    ghost use Rattle.std.specs.Prelude.{◌<◌};
+    ghost use Rattle.std.specs.Prelude.{◌<◌, ◌≤◌, length, IsSome};
+    ghost use Rattle.ctt_core.specs.Runs.{Legal};
+    ghost use Rattle.ctt_desk.specs.Histories.{own};
     ghost use Rattle.ctt_desk.specs.Planners.{PlannerValue};
 
     ghost Value = { PlannerValue };
 
-    ghost view = { λ p. record { number = p.number; committed = p.committed } };
+    ghost view = { λ p. record { number = p.number; committed = p.committed; front = p.front } };
 
-    ghost invariant = { λ p. p.number < J.planners };
+    ghost invariant = { λ p. (p.number < J.planners) × Legal J.problem J.opening p.front × (p.committed ≤ length (own p.number p.front)) × IsSome p.place };
 }
 
 impl<S: Timetable, J: Naming> Planner<S, J> {
     /// A planner of the desk who has committed nothing.
-    pub(crate) fn new(number: u16) -> Self
-        requires { number < J.planners }
+    pub(crate) fn new(alloc: Global, number: u16, front: &Front<J>, place: Place<S, J>) -> Self
+        requires number { number < J.planners }
+        requires front { front.now ≡ [] }
         ensures { result ≡ new_planner number }
     {
         Planner {
+            alloc,
             number: PlannerNo::new(number),
             committed: 0,
-            desk: PhantomData,
+            front: front.again(),
+            place: Some(place),
+            kept: None,
         }
     }
 
@@ -62,46 +81,136 @@ impl<S: Timetable, J: Naming> Planner<S, J> {
     {
         self.committed
     }
+
+    /// How many drafts of the desk's history the planner has seen.
+    pub fn seen(&self) -> u64
+        ensures seen { result ≡ length self.now.front }
+        ensures legal { Legal J.problem J.opening self.now.front }
+    {
+        self.front.len()
+    }
+
+    /// Whether a history begins with the planner's front.
+    pub(crate) fn begins(&self, history: &Front<J>) -> bool
+        ensures begins { IsTrue result → IsPrefix self.now.front history.now }
+        ensures shorter { IsTrue result ↔ (length self.now.front ≤ length history.now) }
+    {
+        self.front.begins(history)
+    }
+
+    /// The planner, who keeps a sheet, if there is memory.
+    pub(crate) fn keeping(self, kept: Kept<S, J>) -> Self
+        ensures { result ≡ self }
+    {
+        let kept = Box::new(self.alloc, kept).ok();
+        Planner { kept, ..self }
+    }
+
+    /// The planner with one commit more, which is the last one in his front, and its receipt. He keeps
+    /// a sheet, if there is memory.
+    pub(crate) fn accepted(self, kept: Kept<S, J>) -> (Self, Receipt<J>)
+        requires { length (own self.number self.front) ≡ self.committed + 1 }
+        ensures planner { result.0 ≡ committed_more self }
+        ensures receipt { result.1 ≡ self.front }
+    {
+        let seen = self.front.len();
+        let committed = self.committed;
+        prove!(committed < seen);
+        let receipt = Receipt {
+            front: self.front.again(),
+        };
+        let kept = Box::new(self.alloc, kept).ok();
+        let planner = Planner {
+            committed: committed + 1,
+            kept,
+            ..self
+        };
+        (planner, receipt)
+    }
+
+    /// Takes in what a receipt shows.
+    pub fn learn(&mut self, receipt: &Receipt<J>)
+        ensures grows { Grows J.problem J.opening self.old self.new }
+        ensures receipt { IsPrefix receipt.now self.new.front }
+    {
+        self.front = self.front.longer(&receipt.front);
+    }
 }
 
 impl<'i, S: Sheet<'i>, J: Naming> Planner<S, J> {
-    /// Opens a draft on the timetable as it stands. Where memory is wanted the planner is as before.
-    pub fn open<R: Wait>(
-        self,
-        rt: &R,
-        desk: &SharedDesk<S, J>,
-    ) -> Result<Drafting<'i, S, J>, (Self, SharedFault)>
+    /// Opens a draft on the timetable that was published last, which the planner has then seen.
+    pub fn open(self) -> Result<Drafting<'i, S, J>, (Self, SharedFault)>
         ensures ok { IfOk result (IsOpen J.problem J.opening self) }
-        ensures err { IfErr result (λ refused. (refused.0 ≡ self) × (refused.1 ≡ OutOfMemory)) }
+        ensures err { IfErr result (λ refused. IsUnread J.problem J.opening self refused.0 refused.1) }
     {
-        let locked = desk.locked.lock(rt);
-        let opened = locked.open();
-        MutexGuard::unlock(locked);
-        match opened {
-            Ok(draft) => Ok(Drafting {
-                planner: self,
-                draft,
-            }),
-            Err(_) => Err((self, SharedFault::NoMemory)),
+        let Planner {
+            alloc,
+            number,
+            committed,
+            front,
+            place,
+            kept,
+        } = self;
+        match enter(place.unwrap(), &front) {
+            Err(place) => {
+                let planner = Planner {
+                    alloc,
+                    number,
+                    committed,
+                    front,
+                    place: Some(place),
+                    kept,
+                };
+                Err((planner, SharedFault::NoPlace))
+            }
+            Ok((visit, seen)) => {
+                let opened = draft_on(alloc, kept, visit.get(), &seen);
+                let planner = Planner {
+                    alloc,
+                    number,
+                    committed,
+                    front: seen,
+                    place: Some(visit.leave()),
+                    kept: None,
+                };
+                match opened {
+                    Ok(draft) => Ok(Drafting { planner, draft }),
+                    Err(_) => Err((planner, SharedFault::NoMemory)),
+                }
+            }
         }
     }
 
-    /// Looks at the timetable as it stands.
-    pub fn view<R: Wait>(
-        &mut self,
-        rt: &R,
-        desk: &SharedDesk<S, J>,
-        look: &Look,
-    ) -> Result<Reply, SharedFault>
+    /// Looks at the timetable that was published last, which the planner has then seen.
+    pub fn view(&mut self, look: &Look) -> Result<Reply, SharedFault>
         requires { LookFits J.problem look.now }
-        ensures same { self.new ≡ self.old }
-        ensures ok { IfOk result (IsViewed J.problem J.opening look.now) }
+        ensures ok { IfOk result (IsViewed J.problem J.opening look.now self.old self.new) }
         ensures fits { IfOk result (IsReply J.problem) }
-        ensures err { OnErr result (result ≡ Err OutOfMemory) }
+        ensures err { IfErr result (IsUnread J.problem J.opening self.old self.new) }
     {
-        let locked = desk.locked.lock(rt);
-        let told = locked.look(look);
-        MutexGuard::unlock(locked);
-        Ok(told?)
+        match enter(self.place.take().unwrap(), &self.front) {
+            Err(place) => {
+                self.place = Some(place);
+                Err(SharedFault::NoPlace)
+            }
+            Ok((visit, seen)) => {
+                let told = shown(self.alloc, &visit.get().sheet, look);
+                self.place = Some(visit.leave());
+                self.front = seen;
+                Ok(told?)
+            }
+        }
     }
+}
+
+/// What a look shows of a sheet.
+fn shown<'i, S: Sheet<'i>>(alloc: Global, sheet: &S, look: &Look) -> Result<Reply, NoMemory>
+    requires { LookFits (S.problem sheet.now) look.now }
+    ensures told { IfOk result (λ told. told ≡ shown_of (S.problem sheet.now) (S.list sheet.now) look.now) }
+    ensures fits { IfOk result (IsReply (S.problem sheet.now)) }
+{
+    laws::replies_fit();
+    sheet.instance().limits_hold();
+    sheet.lawful();
+    ctt_edits::look(alloc, sheet, look)
 }

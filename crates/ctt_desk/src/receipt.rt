@@ -1,40 +1,36 @@
 //! Receipts of commits.
 
-ghost use Rattle.std.specs.Prelude.{◌≡◌};
+ghost use Rattle.std.specs.Prelude.{◌≡◌, length};
+ghost use Rattle.ctt_core.specs.Runs.{Legal};
 
+use crate::front::Front;
 use crate::naming::Naming;
-use std::marker::{Model, PhantomData};
+use std::marker::Model;
 
-/// That a draft was accepted.
+/// That a draft was accepted. Contracts see the history that ends with it.
 #[derive(Drop)]
 pub struct Receipt<J: Naming> {
-    number: u64,
-    desk: PhantomData<J>,
+    pub(crate) front: Front<J>,
 }
 
 impl<J: Naming> Model for Receipt<J> {
-    ghost use Rattle.std.specs.Prelude.{ℕ};
+    ghost use Rattle.std.specs.Prelude.{List};
+    ghost use Rattle.ctt_core.specs.Runs.{Legal};
+    ghost use Rattle.ctt_core.specs.declared.journal.JournalEntry.{JournalEntry};
 
-    ghost Value = { ℕ };
+    ghost Value = { List JournalEntry };
 
-    ghost view = { λ r. r.number };
+    ghost view = { λ r. r.front };
+
+    ghost invariant = { λ r. Legal J.problem J.opening r.front };
 }
 
 impl<J: Naming> Receipt<J> {
-    /// The receipt of the draft at this place of the journal, from 1.
-    pub(crate) fn new(number: u64) -> Self
-        ensures { result ≡ number }
-    {
-        Receipt {
-            number,
-            desk: PhantomData,
-        }
-    }
-
     /// The place of the draft in the journal, from 1.
     pub fn number(&self) -> u64
-        ensures { result ≡ self.now }
+        ensures number { result ≡ length self.now }
+        ensures legal { Legal J.problem J.opening self.now }
     {
-        self.number
+        self.front.len()
     }
 }

@@ -1,65 +1,130 @@
 //! The desk that planners on threads share.
 
-ghost use Rattle.std.specs.Prelude.{◌≡◌, IfOk, IfErr};
+ghost use Rattle.std.specs.Prelude.{◌≡◌, ◌≤◌, ◌↔◌, [], length, All, IsTrue, IfOk, IfErr};
+ghost use mathlib.Core.List.{IsPrefix};
 ghost use Rattle.ctt_desk.specs.Planners.{new_planners};
-ghost use Rattle.ctt_desk.specs.declared.shared_fault.SharedFault.TheVariants.{NoMemory as OutOfMemory};
+ghost use Rattle.ctt_desk.specs.Faults.{IsWant};
 
 use crate::closed::Closed;
-use crate::locked::Locked;
+use crate::front::{Front, first};
+use crate::locked::{Locked, no_counts};
 use crate::named::Named;
 use crate::naming::Naming;
+use crate::opened::Opened;
 use crate::planner::Planner;
 use crate::shared_fault::SharedFault;
+use crate::shown::{Common, Publisher, Shown, place, publisher};
+use crate::update::Update;
 use ctt_board::Timetable;
-use std::alloc::{AllocError, Global};
+use left_right::Absorb;
+use std::alloc::Global;
 use std::sync::{Mutex, Wait};
 
 /// A timetable on which planners work in threads. It is ended by `close`.
-pub struct SharedDesk<S: Timetable, J: Naming> {
+pub struct SharedDesk<S: Timetable, J: Naming>
+where
+    Shown<S, J>: Absorb<Update<J>, State = Common>,
+{
     pub(crate) locked: Mutex<Locked<S, J>>,
 }
 
-/// The planners with the numbers below this one, in order.
+/// The planners with the numbers below this one, in order, each with a place.
 fn planners<S: Timetable, J: Naming>(
     alloc: Global,
     count: u16,
-) -> Result<Vec<Planner<S, J>>, AllocError>
-    requires { count ≡ J.planners }
-    ensures { IfOk result (λ planners. planners.items ≡ new_planners count) }
+    front: &Front<J>,
+    writer: &Publisher<S, J>,
+) -> Result<Vec<Planner<S, J>>, SharedFault>
+    requires count { count ≡ J.planners }
+    requires front { front.now ≡ [] }
+    ensures planners { IfOk result (λ planners. planners.items ≡ new_planners count) }
+    ensures fault { IfErr result IsWant }
 {
     let mut planners = Vec::with_capacity(alloc, count as usize)?;
     for number in 0..count {
-        planners.push(Planner::new(number))?;
+        let Some(place) = place(writer) else {
+            return Err(SharedFault::NoPlace);
+        };
+        let planner = Planner::new(alloc, number, front, place);
+        if planners.push(planner).is_err() {
+            return Err(SharedFault::NoMemory);
+        }
     }
     Ok(planners)
 }
 
+/// Whether a history begins with the front of each planner.
+fn begins_with_all<S: Timetable, J: Naming>(planners: &[Planner<S, J>], history: &Front<J>) -> bool
+    ensures begins { IsTrue result → All (λ p. IsPrefix p.front history.now) planners.now }
+    ensures shorter { IsTrue result ↔ All (λ p. length p.front ≤ length history.now) planners.now }
+{
+    for planner in planners {
+        if !planner.begins(history) {
+            return false;
+        }
+    }
+    true
+}
+
 impl<S: Timetable, J: Naming> SharedDesk<S, J> {
-    /// The desk that opens so, with so many planners, who are numbered from 0 and have committed
+    /// The desk that opens so, with so many planners, who are numbered from 0 and have committed and seen
     /// nothing.
     pub fn new<R: Wait>(
-        _rt: &R,
+        rt: &R,
         named: Named<S, J>,
     ) -> Result<(Self, Vec<Planner<S, J>>), SharedFault>
         ensures planners { IfOk result (λ made. made.1.items ≡ new_planners named.count) }
-        ensures fault { IfErr result (λ fault. fault ≡ OutOfMemory) }
+        ensures fault { IfErr result IsWant }
     {
         let Named {
             opened,
             count,
             name: _,
         } = named;
-        let planners = planners(opened.alloc, count)?;
-        let locked = Locked::new(opened, count)?;
-        let desk = SharedDesk {
-            locked: Mutex::new(locked),
-        };
-        Ok((desk, planners))
+        let Opened {
+            alloc,
+            opening,
+            sheet,
+            room,
+            word,
+            seen,
+        } = opened;
+        let (head, front) = first::<J>(word, seen);
+        let counts = no_counts(alloc, count)?;
+        let places = usize::from(count).max(1);
+        let writer = publisher(rt, alloc, sheet, &front, places, room)?;
+        match planners(alloc, count, &front, &writer) {
+            Ok(planners) => {
+                let locked = Locked::new(alloc, opening, counts, front, head, writer);
+                let desk = SharedDesk {
+                    locked: Mutex::new(locked),
+                };
+                Ok((desk, planners))
+            }
+            Err(fault) => {
+                writer.take(rt);
+                Err(fault)
+            }
+        }
     }
 
-    /// Ends the desk, and gives its journal with its timetable.
-    pub fn close<R: Wait>(self, _rt: &R) -> Closed<S, J> {
+    /// Ends the desk, and gives its journal with its timetable: as `Ok` where the journal begins with
+    /// the front of each of these planners, who stay as they are.
+    pub fn close<R: Wait>(
+        self,
+        rt: &R,
+        planners: &mut [Planner<S, J>],
+    ) -> Result<Closed<S, J>, Closed<S, J>>
+        ensures same { planners.new ≡ planners.old }
+        ensures ok { IfOk result (λ closed. All (λ p. IsPrefix p.front closed) planners.old) }
+        ensures err { IfErr result (λ closed. All (λ p. length p.front ≤ length closed) planners.old → ⊥) }
+    {
         let SharedDesk { locked } = self;
-        locked.into_inner().close()
+        let closed = locked.into_inner().close(rt);
+        if begins_with_all(planners, closed.front()) {
+            Ok(closed)
+        } else {
+            Err(closed)
+        }
     }
 }

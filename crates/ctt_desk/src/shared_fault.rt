@@ -11,6 +11,8 @@ pub enum SharedFault {
     /// The first lecture of the opening that cannot be placed, counted from 1, and what stands against
     /// it.
     Unlawful(u64, EditFault),
+    /// `left_right` refused a place, or to enter.
+    NoPlace,
     /// There is not enough memory.
     NoMemory,
 }

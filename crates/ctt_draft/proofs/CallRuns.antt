@@ -54,7 +54,7 @@ made_edit t (Reroom c s r) = refl
 made_edit t (Drop c s) = refl
 
 -- the changes fit where they are made
-ChangesFit-append : (i : Problem) (xs ys : List (List Cell)) (t : List Placed) → ChangesFit i xs t → ChangesFit i ys (apply_all xs t) → ChangesFit i (xs ++ ys) t
+pub ChangesFit-append : (i : Problem) (xs ys : List (List Cell)) (t : List Placed) → ChangesFit i xs t → ChangesFit i ys (apply_all xs t) → ChangesFit i (xs ++ ys) t
 ChangesFit-append i [] ys t h k = k
 ChangesFit-append i (x ∷ xs) ys t h k = (h.0, ChangesFit-append i xs ys (apply x t) h.1 k)
 

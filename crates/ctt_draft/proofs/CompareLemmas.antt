@@ -1,22 +1,20 @@
 -- Rows of the base beside those of a sheet, cell by cell.
-use Rattle.std.proofs.Common.{◌≡◌, ◌<◌, ◌==◌, ◌&&◌, ◌||◌, ◌↔◌, IsTrue, Bool, true, false, not, ℕ, List, [], ◌∷◌, Option, refl, ◌∙◌, sym, ap, ap₂, subst, arith, inl, inr}
+use Rattle.std.proofs.Common.{◌≡◌, ◌==◌, ◌&&◌, ◌||◌, ◌↔◌, IsTrue, Bool, true, false, not, ℕ, List, [], ◌∷◌, Option, refl, ◌∙◌, sym, ap, ap₂, subst, inl, inr}
 use Rattle.std.specs.Option.{option_eq}
 use Rattle.std.specs.List.{list_any, AllByRecursion as Each}
 use Rattle.std.proofs.lemmas.Bool.{cases_Bool, or_parts, and_parts, eqb-true}
-use Rattle.std.proofs.lemmas.Bool.Decides.{nat_tests}
-use Rattle.ctt_text.specs.Problem.{Problem}
-use Rattle.ctt_text.specs.Timetable.{IsTimetable, course_row, slot_row}
+use Rattle.ctt_text.specs.Timetable.{course_row, slot_row}
 use Rattle.ctt_text.specs.declared.placed.Placed.{Placed}
 use Rattle.ctt_board.specs.Changes.{room_at}
 use Rattle.ctt_board.specs.declared.cell.Cell.{Cell}
 use Rattle.ctt_board.proofs.SameLemmas.{room_by_course_row, room_by_slot_row, same_cell, differ}
-use Rattle.ctt_draft.specs.Undo.{is_of, is_named, Records}
+use Rattle.ctt_draft.specs.Undo.{is_of, is_named}
 use Rattle.ctt_draft.specs.Comparisons.{Compared, base_of, is_other, has_other_in_course, has_other_in_slot, IsComparable}
 
 abbrev same_room : Option ℕ → Option ℕ → Bool
 same_room a b = option_eq (λ (m n : ℕ). m == n) a b
 
-abbrev HasRooms : List Placed → List Cell → Type 0
+abbrev pub HasRooms : List Placed → List Cell → Type 0
 HasRooms base cells = Each (λ (x : Cell). x.room ≡ room_at x.course x.slot base) cells
 
 -- a cell that is otherwise on the sheet, among those that pass a test, where the rows P would have made all these cells the same

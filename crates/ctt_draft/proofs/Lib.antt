@@ -7,3 +7,6 @@ pub mod StaleLemmas
 pub mod SettleLemmas
 pub mod UndoLemmas
 pub mod CompareLemmas
+mod TouchedLemmas
+pub mod ReplayLemmas
+pub mod PutBackLemmas

@@ -1,7 +1,7 @@
 -- An undo record: how it grows, and that it leads back to the base.
-use Rattle.std.proofs.Common.{◌≡◌, ℕ, ◌<◌, Bool, true, false, not, cond, ◌&&◌, ◌||◌, ◌==◌, List, [], ◌∷◌, ◌++◌, map, Option, append-nil, append_assoc, refl, ◌∙◌, sym, ap, ap₂, subst, arith, inl, inr}
-use Rattle.std.specs.List.{filter, list_any, AllByRecursion as Each}
-use Rattle.std.proofs.lemmas.Bool.{cases_Bool, or_left, or_right, or_parts, and_parts, eqb-true}
+use Rattle.std.proofs.Common.{◌≡◌, ℕ, ◌<◌, Bool, true, false, not, cond, ◌&&◌, ◌||◌, ◌==◌, List, [], ◌∷◌, ◌++◌, ◌+◌, map, drop, length, get_or, Option, append-nil, append_assoc, refl, ◌∙◌, sym, ap, ap₂, subst, arith, inl, inr}
+use Rattle.std.specs.List.{filter, AllByRecursion as Each}
+use Rattle.std.proofs.lemmas.Bool.{cases_Bool, or_right, or_parts, and_parts, eqb-true}
 use Rattle.std.proofs.lemmas.Bool.Decides.{nat_tests}
 use Rattle.std.proofs.lemmas.List.{map-append}
 use Rattle.std.proofs.lemmas.List.Elements.{filter-append}
@@ -11,13 +11,15 @@ use Rattle.ctt_text.proofs.InstanceReading.{any_mapped}
 use Rattle.ctt_text.specs.Problem.{Problem, course_count, slot_count}
 use Rattle.ctt_text.specs.Timetable.{IsTimetable}
 use Rattle.ctt_text.specs.declared.placed.Placed.{Placed}
-use Rattle.ctt_board.specs.Changes.{room_at, room_by, apply, CellsFit}
+use Rattle.ctt_board.specs.Changes.{room_at, room_by, apply}
 use Rattle.ctt_board.specs.declared.cell.Cell.{Cell}
+use Rattle.ctt_board.specs.Tables.{Grid, at}
+use Rattle.ctt_board.proofs.CellLemmas.{cell_at}
 use Rattle.ctt_board.proofs.RoomLemmas.{rooms_after}
 use Rattle.ctt_board.proofs.GridLemmas.{timetable_is, rows_same}
 use Rattle.ctt_draft.specs.Drafts.{made, apply_all, ChangesFit}
 use Rattle.ctt_draft.specs.Laws.{UndoPutsBack}
-use Rattle.ctt_draft.specs.Undo.{is_of, is_named, first_named, found_in, recorded, all_cells, undo_of, put_back, Records, noted, all_noted}
+use Rattle.ctt_draft.specs.Undo.{is_of, is_named, first_named, found_in, recorded, all_cells, undo_of, put_back, Records, noted, all_noted, IsUndo}
 
 -- of two cells, each names the other or neither does
 turned : (x y : Cell) → is_of y.course y.slot x ≡ is_of x.course x.slot y
@@ -147,3 +149,33 @@ undo_made i changes base (x ∷ xs) h = undo_more i changes base (x ∷ xs) h
 
 pub undo_puts_back : UndoPutsBack
 undo_puts_back i base changes h fit = put_back_is i base (apply_all changes base) (undo_of base changes) h (undo_records i changes base fit)
+
+-- a table from which cells are taken, one by one, still tells of the others
+pub forgotten : (cells : List Cell) (k : ℕ) (x : Cell) (old new : Grid Bool) → k < length cells → x ≡ get_or cells k x → new.rows ≡ old.rows → new.width ≡ old.width →
+    ((c s : ℕ) → s < old.width → at new c s false ≡ cond (c == x.course && s == x.slot) false (at old c s false)) →
+    ((c s : ℕ) → c < old.rows → s < old.width → at old c s false ≡ true → is_named c s (drop k cells) ≡ true) →
+    (c s : ℕ) → c < new.rows → s < new.width → at new c s false ≡ true → is_named c s (drop (k + 1) cells) ≡ true
+forgotten cells k x old new lt is rows width wrote rest c s lc ls e =
+    let le : s < old.width = omega (arith, ls, width) in
+    elim (cases_Bool (c == x.course && s == x.slot)) [
+      | inl y ↦ absurd (let bad : true ≡ false = sym e ∙ wrote c s le ∙ ap (λ b. cond b false (at old c s false)) y in cc)
+      | inr n ↦ (
+          let there : at old c s false ≡ true = sym (ap (λ b. cond b false (at old c s false)) n) ∙ sym (wrote c s le) ∙ e in
+          let named : (is_of c s x || is_named c s (drop (k + 1) cells)) ≡ true = subst (λ ys. is_named c s ys ≡ true) (cell_at cells k x lt is) (rest c s (omega (arith, lc, rows)) le there) in
+          later (is_of c s x) (is_named c s (drop (k + 1) cells)) named (apart c s x n))
+    ]
+  where
+    later : (a b : Bool) → (a || b) ≡ true → a ≡ false → b ≡ true
+    later true b h k = cc
+    later false b h k = h
+
+    apart : (c s : ℕ) (x : Cell) → (c == x.course && s == x.slot) ≡ false → is_of c s x ≡ false
+    apart c s x n = grind (arith, nat_tests)
+
+-- and then it tells of none
+pub none_left : (t : Grid Bool) → ((c s : ℕ) → c < t.rows → s < t.width → at t c s false ≡ true → false ≡ true) → IsUndo [] t
+none_left t none = record { within = tt; tells = λ c s lc ls. unmarked (at t c s false) (none c s lc ls) }
+  where
+    unmarked : (b : Bool) → (b ≡ true → false ≡ true) → b ≡ false
+    unmarked true h = sym (h refl)
+    unmarked false h = refl

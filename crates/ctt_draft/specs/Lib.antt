@@ -3,3 +3,6 @@ pub mod Laws
 pub mod DraftValues
 pub mod Undo
 pub mod Comparisons
+pub mod Replays
+pub mod PutBack
+pub mod Endings

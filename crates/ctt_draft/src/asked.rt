@@ -57,6 +57,13 @@ impl AskedCalls {
         self.list.as_slice()
     }
 
+    /// Gives back the memory in which nothing stands, for a list to which nothing is added any more.
+    pub fn shrink_to_fit(&mut self)
+        ensures { self.new ≡ self.old }
+    {
+        self.list.shrink_to_fit();
+    }
+
     /// Whether each call and each reply fits.
     pub fn fits(&self, instance: &Instance) -> bool
         ensures { IsTrue result ↔ Each (AskedFits instance.now) self.now }

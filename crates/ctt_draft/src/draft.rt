@@ -1,20 +1,30 @@
 //! A draft: what one planner asks of a timetable of his own.
 
-ghost use Rattle.std.specs.Prelude.{◌≡◌, ◌++◌, ◌∷◌, [], IfOk, OnOk, OnErr, None, Ok};
+ghost use Rattle.std.specs.Prelude.{◌≡◌, ◌++◌, ◌∷◌, [], List, false, IfOk, OnOk, OnErr, None, Ok};
+ghost use Rattle.ctt_text.specs.declared.placed.Placed.{Placed as Lecture};
 ghost use Rattle.ctt_edits.specs.Calls.{CallFits, reply, cells_of};
 ghost use Rattle.ctt_edits.specs.declared.call.Call.TheVariants.{Look as Looks, Edit as Edits};
 ghost use Rattle.ctt_edits.specs.declared.reply.Reply.TheVariants.{Done};
 ghost use Rattle.ctt_edits.specs.Edits.{EditFits, edit_fault, change as change_of};
 ghost use Rattle.ctt_edits.specs.Looks.{LookFits, shown};
+ghost use Rattle.ctt_edits.specs.RowSets.{is_in, AddsReads};
+ghost use Rattle.ctt_edits.specs.declared.row.Row.{Row};
 ghost use Rattle.ctt_rules.specs.Hard.{Lawful};
-ghost use Rattle.ctt_draft.specs.Drafts.{calls_of, changes, stale};
+ghost use Rattle.ctt_draft.specs.Drafts.{calls_of, changes, stale, whole};
+ghost use Rattle.ctt_draft.specs.Replays.{replayed};
 ghost use Rattle.ctt_draft.specs.DraftValues.{present, asked_more, IsTold, Settles};
-ghost use Rattle.ctt_draft.specs.Undo.{undo_of};
+ghost use Rattle.ctt_text.specs.Problem.{course_count, slot_count};
+ghost use Rattle.ctt_board.specs.Changes.{ChangeFits, apply as applied};
+ghost use Rattle.ctt_draft.specs.Undo.{undo_of, all_noted, AreWithin};
+ghost use Rattle.ctt_draft.specs.Drafts.{apply_all};
+ghost use Rattle.ctt_draft.specs.Comparisons.{LeavesRest};
 
 use crate::asked::{Asked, AskedCalls};
 use crate::comparing::Comparison;
+use crate::idle::Idle;
 use crate::laws;
 use crate::remains::Remains;
+use crate::touched::Touched;
 use crate::undo::Undo;
 use crate::work::Work;
 use ctt_board::{Cell, Change, Rooms, Sheet, Timetable};
@@ -29,11 +39,11 @@ use std::marker::Model;
 #[derive(Drop)]
 pub struct Draft<'i, S: Timetable> {
     instance: &'i Instance,
-    present: S,
+    present: Box<S>,
     undo: Undo,
     asked: Vec<Asked>,
     changes: Vec<Change>,
-    rows: RowsRead,
+    rows: Box<RowsRead>,
 }
 
 impl<'i, S: Timetable> Model for Draft<'i, S> {
@@ -42,9 +52,59 @@ impl<'i, S: Timetable> Model for Draft<'i, S> {
 
     ghost Value = { DraftValue };
 
-    ghost view = { λ d. record { problem = d.instance.now; base = put_back d.instance.now d.undo.cells (S.list d.present); asked = d.asked.items } };
+    ghost view = { λ d. record { problem = d.instance.now; base = put_back d.instance.now d.undo.cells (S.list d.present.value); asked = d.asked.items } };
 
-    ghost invariant = { λ d. IsDraft d.instance.now (S.problem d.present) (put_back d.instance.now d.undo.cells (S.list d.present)) (S.list d.present) d.asked.items d.changes.items d.undo d.rows };
+    ghost invariant = { λ d. IsDraft d.instance.now (S.problem d.present.value) (put_back d.instance.now d.undo.cells (S.list d.present.value)) (S.list d.present.value) d.asked.items d.changes.items d.undo d.rows.value };
+}
+
+/// An equal sheet, boxed: drafts are moved often, and sheets are large.
+fn boxed_copy<'i, S: Sheet<'i>>(alloc: Global, sheet: &S) -> Result<Box<S>, NoMemory>
+    ensures problem { IfOk result (λ copy. S.problem copy.value ≡ S.problem sheet.now) }
+    ensures list { IfOk result (λ copy. S.list copy.value ≡ S.list sheet.now) }
+{
+    Ok(Box::new(alloc, sheet.copy()?)?)
+}
+
+/// What is boxed.
+fn unboxed<T>(boxed: &Box<T>) -> &T
+    ensures { result.now ≡ boxed.now.value }
+{
+    &**boxed
+}
+
+/// Records cells with the rooms that a boxed sheet has there.
+fn note_cells<R: Rooms>(undo: &mut Undo, sheet: &Box<R>, cells: &[Cell]) -> Result<(), NoMemory>
+    requires courses { undo.old.courses ≡ course_count (R.problem sheet.now.value) }
+    requires slots { undo.old.slots ≡ slot_count (R.problem sheet.now.value) }
+    requires within { AreWithin undo.old.courses undo.old.slots cells.now }
+    ensures ok { OnOk result (undo.new ≡ record undo.old { cells = all_noted (R.list sheet.now.value) cells.now undo.old.cells }) }
+    ensures err { OnErr result (undo.new ≡ undo.old) }
+{
+    undo.record(unboxed(sheet), cells)
+}
+
+/// Makes a change on a boxed sheet.
+fn apply<S: Timetable>(sheet: &mut Box<S>, change: &Change)
+    requires { ChangeFits (S.problem sheet.old.value) change.now (S.list sheet.old.value) }
+    ensures problem { S.problem sheet.new.value ≡ S.problem sheet.old.value }
+    ensures list { S.list sheet.new.value ≡ applied change.now (S.list sheet.old.value) }
+{
+    sheet.apply(change);
+}
+
+/// Adds the rows that a call reads to boxed ones.
+fn add(rows: &mut Box<RowsRead>, instance: &Instance, call: &Call)
+    requires { CallFits instance.now call.now }
+    ensures { AddsReads instance.now call.now rows.old.value rows.new.value }
+{
+    rows.add(instance, call);
+}
+
+/// No rows, boxed.
+fn no_rows(alloc: Global) -> Result<Box<RowsRead>, NoMemory>
+    ensures { IfOk result (λ rows. (row : Row) → is_in rows.value row ≡ false) }
+{
+    Ok(Box::new(alloc, RowsRead::new())?)
 }
 
 impl<'i, S: Sheet<'i>> Draft<'i, S> {
@@ -56,16 +116,36 @@ impl<'i, S: Sheet<'i>> Draft<'i, S> {
     {
         sheet.lawful();
         let instance = sheet.instance();
-        let present = sheet.copy()?;
+        let present = boxed_copy(alloc, sheet)?;
         let undo = Undo::new(alloc, instance)?;
+        let rows = no_rows(alloc)?;
         Ok(Draft {
             instance,
             present,
             undo,
             asked: Vec::new(alloc),
             changes: Vec::new(alloc),
-            rows: RowsRead::new(),
+            rows,
         })
+    }
+
+    /// A draft on a timetable that was kept, in which nothing was asked yet. It takes no memory.
+    pub fn reopen(alloc: Global, idle: Idle<S>) -> Self
+        ensures problem { result.problem ≡ idle.problem }
+        ensures base { result.base ≡ idle.list }
+        ensures asked { result.asked ≡ [] }
+    {
+        idle.lawful();
+        let mut rows = idle.rows;
+        rows.clear();
+        Draft {
+            instance: idle.sheet.instance(),
+            present: idle.sheet,
+            undo: idle.undo,
+            asked: Vec::new(alloc),
+            changes: Vec::new(alloc),
+            rows,
+        }
     }
 
     /// The instance.
@@ -80,6 +160,16 @@ impl<'i, S: Sheet<'i>> Draft<'i, S> {
         ensures { result.now ≡ self.now.asked }
     {
         self.asked.as_slice()
+    }
+
+    /// The changes that the calls made, in order. Replayed on a timetable on which the draft is not
+    /// stale, they leave there what its calls leave.
+    pub fn changes(&self) -> &[Change]
+        ensures value { result.now ≡ changes self.now.problem self.now.base (calls_of self.now.asked) }
+        ensures again { (t : List Lecture) → Lawful self.now.problem t → stale self.now.problem self.now.base t (calls_of self.now.asked) ≡ None → replayed self.now.problem result.now t ≡ whole self.now.problem t (calls_of self.now.asked) }
+    {
+        laws::draft_replays();
+        self.changes.as_slice()
     }
 
     /// The cells that the changes name, each once, in the order in which they are named first, with the
@@ -99,7 +189,7 @@ impl<'i, S: Sheet<'i>> Draft<'i, S> {
         ensures err { OnErr result (self.new ≡ self.old) }
     {
         self.asked.push(Asked { call, reply: told })?;
-        self.rows.add(self.instance, &call);
+        add(&mut self.rows, self.instance, &call);
         Ok(())
     }
 
@@ -115,9 +205,9 @@ impl<'i, S: Sheet<'i>> Draft<'i, S> {
         self.present.lawful();
         self.changes.reserve(1)?;
         self.asked.reserve(1)?;
-        self.undo.record(&self.present, change.cells())?;
-        self.present.apply(&change);
-        self.rows.add(self.instance, &call);
+        note_cells(&mut self.undo, &self.present, change.cells())?;
+        apply(&mut self.present, &change);
+        add(&mut self.rows, self.instance, &call);
         let reply = Reply::Done;
         self.asked.push(Asked { call, reply }).unwrap();
         self.changes.push(change).unwrap();
@@ -185,14 +275,39 @@ impl<'i, S: Sheet<'i>> Draft<'i, S> {
         ensures row { result ≡ Ok (stale self.now.problem self.now.base (S.list sheet.now) (calls_of self.now.asked)) }
         ensures fresh { result ≡ Ok None → Settles self.now (S.list sheet.now) }
     {
+        self.first_stale(sheet, &Touched::all())
+    }
+
+    /// What `stale` answers for a sheet whose timetable is the base with these changes made, of which only
+    /// the rows that the changes touch are compared.
+    pub fn stale_after(&self, changes: &[Change], sheet: &S) -> Result<Option<Row>, NoMemory>
+        requires same { S.problem sheet.now ≡ self.now.problem }
+        requires after { apply_all changes.now self.now.base ≡ S.list sheet.now }
+        ensures row { result ≡ Ok (stale self.now.problem self.now.base (S.list sheet.now) (calls_of self.now.asked)) }
+        ensures fresh { result ≡ Ok None → Settles self.now (S.list sheet.now) }
+    {
+        ctt_board::laws::changes_leave_others();
+        self.instance().limits_hold();
+        self.first_stale(sheet, &Touched::by(changes))
+    }
+
+    /// The least row that the calls read and that is not the same on a sheet, of those that were touched.
+    fn first_stale(&self, sheet: &S, touched: &Touched) -> Result<Option<Row>, NoMemory>
+        requires same { S.problem sheet.now ≡ self.now.problem }
+        requires rest { LeavesRest self.now.problem self.now.base (S.list sheet.now) touched.now }
+        ensures row { result ≡ Ok (stale self.now.problem self.now.base (S.list sheet.now) (calls_of self.now.asked)) }
+        ensures fresh { result ≡ Ok None → Settles self.now (S.list sheet.now) }
+    {
         laws::draft_frame();
         laws::settling_fits();
         sheet.lawful();
-        let comparison = Comparison::new(self.instance, &self.present, &self.undo, sheet);
-        if let Some(course) = comparison.first_course(&self.rows) {
+        let present = unboxed(&self.present);
+        let rows = unboxed(&self.rows);
+        let comparison = Comparison::new(self.instance, present, &self.undo, sheet, touched);
+        if let Some(course) = comparison.first_course(rows) {
             return Ok(Some(Row::Course(course)));
         }
-        if let Some(slot) = comparison.first_slot(&self.rows) {
+        if let Some(slot) = comparison.first_slot(rows) {
             return Ok(Some(Row::Slot(slot)));
         }
         Ok(None)
@@ -223,15 +338,36 @@ impl<'i, S: Sheet<'i>> Draft<'i, S> {
         ensures asked { result.0.asked ≡ self.entry.asked }
         ensures changes { result.0.changes.items ≡ changes self.entry.problem self.entry.base (calls_of self.entry.asked) }
         ensures told { IsTold self.entry.problem self.entry.base self.entry.asked }
+        ensures remains { result.1 ≡ record { problem = self.entry.problem; base = self.entry.base; present = present self.entry } }
     {
         let work = Work {
             asked: AskedCalls::new(self.asked),
             changes: self.changes,
         };
         let remains = Remains {
-            _present: self.present,
-            _undo: self.undo,
+            present: self.present,
+            undo: self.undo,
+            rows: self.rows,
         };
         (work, remains)
+    }
+
+    /// Ends the draft, and keeps its base for a draft to come. It takes no memory.
+    pub fn retire(self) -> Idle<S>
+        ensures { result ≡ record { problem = self.entry.problem; list = self.entry.base } }
+    {
+        let (_work, remains) = self.end();
+        remains.into_base()
+    }
+
+    /// Computes nothing: its contract says that the draft is not stale on its own base, and can be
+    /// settled there.
+    pub fn settles_on_base(&self)
+        ensures fresh { stale self.now.problem self.now.base self.now.base (calls_of self.now.asked) ≡ None }
+        ensures settles { Settles self.now self.now.base }
+    {
+        laws::draft_frame();
+        laws::settling_fits();
+        let _present = &self.present;
     }
 }

@@ -4,15 +4,18 @@
 mod asked;
 mod comparing;
 mod draft;
+mod idle;
 pub mod laws;
+mod put_back;
 mod remains;
+mod replaying;
+mod touched;
 mod undo;
 mod work;
 
 pub use asked::{Asked, AskedCalls};
 pub use draft::Draft;
+pub use idle::Idle;
 pub use remains::Remains;
+pub use replaying::replay;
 pub use work::Work;
-
-#[cfg(test)]
-mod tests;

@@ -1,12 +1,56 @@
 //! What is left of a draft beside its work.
 
-use crate::undo::Undo;
-use ctt_board::Timetable;
+ghost use Rattle.std.specs.Prelude.{◌≡◌};
 
-/// The timetable of a draft that has ended, and its undo record. Nothing is done with them but to drop
-/// them, where that keeps nobody waiting.
+use crate::idle::Idle;
+use crate::put_back::put_back;
+use crate::undo::Undo;
+use ctt_board::{Rooms, Timetable};
+use ctt_edits::RowsRead;
+use std::marker::Model;
+
+/// The timetable of a draft that has ended, and its undo record. They are dropped, where that keeps
+/// nobody waiting, or made ready for a draft to come.
 #[derive(Drop)]
 pub struct Remains<S: Timetable> {
-    pub(crate) _present: S,
-    pub(crate) _undo: Undo,
+    pub(crate) present: Box<S>,
+    pub(crate) undo: Undo,
+    /// Kept for their room alone.
+    pub(crate) rows: Box<RowsRead>,
+}
+
+impl<S: Timetable> Model for Remains<S> {
+    ghost use Rattle.ctt_draft.specs.Endings.{RemainsValue, AreRemains};
+    ghost use Rattle.ctt_draft.specs.Undo.{put_back};
+
+    ghost Value = { RemainsValue };
+
+    ghost view = { λ r. record { problem = S.problem r.present.value; base = put_back (S.problem r.present.value) r.undo.cells (S.list r.present.value); present = S.list r.present.value } };
+
+    ghost invariant = { λ r. AreRemains (S.problem r.present.value) (put_back (S.problem r.present.value) r.undo.cells (S.list r.present.value)) (S.list r.present.value) r.undo };
+}
+
+impl<S: Timetable> Remains<S> {
+    /// The timetable at the draft's opening. It takes no memory.
+    pub fn into_base(self) -> Idle<S>
+        ensures { result ≡ record { problem = self.problem; list = self.base } }
+    {
+        let mut sheet = self.present;
+        let mut undo = self.undo;
+        let rows = self.rows;
+        put_back(&mut *sheet, undo.cells());
+        undo.clear();
+        Idle { sheet, undo, rows }
+    }
+
+    /// The timetable as the draft's calls left it. It takes no memory.
+    pub fn into_present(self) -> Idle<S>
+        ensures { result ≡ record { problem = self.problem; list = self.present } }
+    {
+        let sheet = self.present;
+        let mut undo = self.undo;
+        let rows = self.rows;
+        undo.clear();
+        Idle { sheet, undo, rows }
+    }
 }

@@ -1,8 +1,9 @@
 //! What a draft keeps to get back to its base: the cells that it changed, as they were.
 
-ghost use Rattle.std.specs.Prelude.{◌≡◌, ◌<◌, ◌≤◌, ◌+◌, ◌-◌, [], length, IfOk, OnOk, OnErr};
+ghost use Rattle.std.specs.Prelude.{ℕ, ◌≡◌, ◌<◌, ◌≤◌, ◌+◌, ◌-◌, ◌==◌, ◌&&◌, false, cond, [], length, IfOk, OnOk, OnErr};
 ghost use Rattle.std.specs.Vec.{vec_len, vec_capacity};
 ghost use Rattle.ctt_text.specs.Problem.{course_count, slot_count};
+ghost use Rattle.ctt_board.specs.Tables.{at};
 ghost use Rattle.ctt_draft.specs.Undo.{is_named, noted, all_noted, AreWithin, IsUndo};
 
 use ctt_board::{Cell, Rooms, Table};
@@ -71,6 +72,37 @@ impl Undo {
         self.cells.reserve(cells.len())?;
         note_all(&mut self.cells, &mut self.table, rooms, cells);
         Ok(())
+    }
+
+    /// Forgets all cells.
+    pub(crate) fn clear(&mut self)
+        ensures { self.new ≡ record self.old { cells = [] } }
+    {
+        forget_all(&mut self.table, &self.cells);
+        self.cells.clear();
+    }
+}
+
+/// Forgets a cell.
+fn forget(table: &mut Table<bool>, cell: &Cell)
+    requires course { cell.now.course < table.old.rows }
+    requires slot { cell.now.slot < table.old.width }
+    ensures rows { table.new.rows ≡ table.old.rows }
+    ensures width { table.new.width ≡ table.old.width }
+    ensures cells { (c s : ℕ) → s < table.old.width → at table.new c s false ≡ cond (c == cell.now.course && s == cell.now.slot) false (at table.old c s false) }
+{
+    table.set(cell.course.get() as usize, cell.slot.get() as usize, false);
+}
+
+/// Forgets cells, which are all that are recorded.
+fn forget_all(table: &mut Table<bool>, cells: &[Cell])
+    requires { IsUndo cells.now table.old }
+    ensures rows { table.new.rows ≡ table.old.rows }
+    ensures width { table.new.width ≡ table.old.width }
+    ensures none { IsUndo [] table.new }
+{
+    for cell in cells {
+        forget(table, cell);
     }
 }
 

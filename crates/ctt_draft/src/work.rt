@@ -25,7 +25,7 @@ impl Work {
 }
 
 /// Makes changes, each in its turn.
-fn settle<S: Timetable>(changes: &[Change], sheet: &mut S)
+pub(crate) fn settle<S: Timetable>(changes: &[Change], sheet: &mut S)
     requires { ChangesFit (S.problem sheet.old) changes.now (S.list sheet.old) }
     ensures problem { S.problem sheet.new ≡ S.problem sheet.old }
     ensures list { S.list sheet.new ≡ apply_all changes.now (S.list sheet.old) }

@@ -13,3 +13,4 @@ pub mod SameLemmas
 pub mod TableLemmas
 pub mod OpeningLemmas
 pub mod PartLemmas
+mod TaughtLemmas

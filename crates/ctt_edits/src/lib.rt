@@ -31,6 +31,8 @@ pub use showing::look;
 #[cfg(test)]
 mod drawn_tests;
 #[cfg(test)]
+mod row_tests;
+#[cfg(test)]
 mod sheet_tests;
 #[cfg(test)]
 mod tests;

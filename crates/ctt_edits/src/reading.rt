@@ -1,13 +1,14 @@
 //! The rows that calls read: each call marks its own.
 
-ghost use Rattle.std.specs.Prelude.{◌≡◌, ◌<◌, ◌≤◌, ◌==◌, ◌||◌, ◌&&◌, ◌∷◌, [], ℕ, true, IfOk};
+ghost use Rattle.std.specs.Prelude.{◌≡◌, ◌<◌, ◌≤◌, ◌==◌, ◌||◌, ◌&&◌, ◌∷◌, [], ℕ, false, true, None, IfOk, IfSome};
 ghost use Rattle.std.specs.List.{list_any, AllByRecursion as Each};
 ghost use Rattle.ctt_text.specs.Lists.{has};
-ghost use Rattle.ctt_text.specs.Marks.{is_marked};
-ghost use Rattle.ctt_text.specs.Problem.{course_of, course_count, slot_count, mates};
+ghost use Rattle.ctt_text.specs.Marks.{is_marked, IsLeast};
+ghost use Rattle.ctt_text.specs.Problem.{course_of, course_count, slot_count, teacher_count, mates};
 ghost use Rattle.ctt_edits.specs.Calls.{CallFits, edit_courses, edit_slots, look_reads_course, look_reads_slot, reads_course, reads_slot, reads};
 ghost use Rattle.ctt_edits.specs.Edits.{EditFits};
 ghost use Rattle.ctt_edits.specs.Looks.{LookFits};
+ghost use Rattle.ctt_edits.specs.RowSets.{between};
 
 use crate::call::Call;
 use crate::edit::Edit;
@@ -66,14 +67,76 @@ fn mark_if(condition: bool, number: usize, marks: &mut Marks)
     }
 }
 
+/// Whether a teacher has a course.
+fn is_taught(instance: &Instance, number: u16, teacher: TeacherNo) -> bool
+    requires { number < course_count instance.now }
+    ensures { result ≡ ((course_of instance.now number).teacher == teacher) }
+{
+    instance.teacher(CourseNo::new(number)) == teacher
+}
+
+/// The first course of a teacher from a number on, and below another one.
+fn first_taught(instance: &Instance, teacher: TeacherNo, from: u16, end: u16) -> Option<CourseNo>
+    requires { end ≤ course_count instance.now }
+    ensures { IsLeast (between from end (λ n. (course_of instance.now n).teacher == teacher)) result }
+{
+    for number in from..end {
+        if is_taught(instance, number, teacher) {
+            return Some(CourseNo::new(number));
+        }
+    }
+    None
+}
+
+/// A course of a teacher. Teachers are numbered in the order in which the courses name them first,
+/// so it is looked for from the course with the teacher's number on.
+fn any_taught(instance: &Instance, teacher: TeacherNo) -> Option<CourseNo>
+    requires { teacher < teacher_count instance.now }
+    ensures some { IfSome result (λ c. (c < course_count instance.now) × ((course_of instance.now c).teacher ≡ teacher)) }
+    ensures none { result ≡ None → (n : ℕ) → n < course_count instance.now → ((course_of instance.now n).teacher == teacher) ≡ false }
+{
+    instance.limits_hold();
+    let number = teacher.get();
+    match first_taught(instance, teacher, number, instance.courses()) {
+        Some(course) => Some(course),
+        None => first_taught(instance, teacher, 0, number),
+    }
+}
+
+/// Marks those of some courses that a teacher has.
+fn mark_taught_of(instance: &Instance, courses: &Marks, teacher: TeacherNo, marks: &mut Marks)
+    requires { (n : ℕ) → is_marked courses.now n ≡ true → n < course_count instance.now }
+    ensures { (n : ℕ) → is_marked marks.new n ≡ (is_marked marks.old n || (is_marked courses.now n && (course_of instance.now n).teacher == teacher)) }
+{
+    let mut from = 0;
+    while let Some(number) = courses.next_from(from) {
+        let taught = is_taught(instance, number as u16, teacher);
+        mark_if(taught, number, marks);
+        from = number + 1;
+    }
+}
+
+/// Marks a course and its teacher's other ones, which all clash with it.
+fn mark_colleagues(instance: &Instance, course: CourseNo, marks: &mut Marks)
+    requires { course < course_count instance.now }
+    ensures marked { (n : ℕ) → n < course_count instance.now → is_marked marks.new n ≡ (is_marked marks.old n || (course_of instance.now n).teacher == (course_of instance.now course).teacher) }
+    ensures past { (n : ℕ) → course_count instance.now ≤ n → is_marked marks.new n ≡ is_marked marks.old n }
+{
+    instance.limits_hold();
+    let teacher = instance.teacher(course);
+    mark_taught_of(instance, instance.clashing(course), teacher, marks);
+    marks.mark(course.get() as usize);
+}
+
 /// Marks the courses of a teacher.
 fn mark_taught(instance: &Instance, teacher: TeacherNo, marks: &mut Marks)
+    requires { teacher < teacher_count instance.now }
     ensures marked { (n : ℕ) → n < course_count instance.now → is_marked marks.new n ≡ (is_marked marks.old n || (course_of instance.now n).teacher == teacher) }
     ensures past { (n : ℕ) → course_count instance.now ≤ n → is_marked marks.new n ≡ is_marked marks.old n }
 {
-    for number in 0..instance.courses() {
-        let is_taught = instance.teacher(CourseNo::new(number)) == teacher;
-        mark_if(is_taught, number as usize, marks);
+    match any_taught(instance, teacher) {
+        Some(course) => mark_colleagues(instance, course, marks),
+        None => {}
     }
 }
 
@@ -82,9 +145,7 @@ fn mark_all(instance: &Instance, marks: &mut Marks)
     ensures marked { (n : ℕ) → n < course_count instance.now → is_marked marks.new n ≡ (is_marked marks.old n || true) }
     ensures past { (n : ℕ) → course_count instance.now ≤ n → is_marked marks.new n ≡ is_marked marks.old n }
 {
-    for number in 0..instance.courses() {
-        marks.mark(number as usize);
-    }
+    marks.mark_below(instance.courses() as usize);
 }
 
 /// Marks the courses of an edit.

@@ -35,8 +35,7 @@ fn gather<'i, S: Sheet<'i>>(
     let mut lectures = Vec::new(alloc);
     let mut from = 0;
     while let Some(course) = rows.next_course(instance, from) {
-        let row = sheet.course_row(course)?;
-        lectures.extend_from_slice(&row)?;
+        sheet.append_course_row(course, &mut lectures)?;
         from = course.get() + 1;
     }
     Ok(lectures)

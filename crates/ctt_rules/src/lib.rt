@@ -18,6 +18,3 @@ pub use lawful::{is_complete, is_lawful};
 pub use row::course_row;
 pub use slots::{count_alone, mark_slots};
 pub use soft::{course_cost, penalty};
-
-#[cfg(test)]
-mod tests;

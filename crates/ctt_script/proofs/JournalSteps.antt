@@ -1,19 +1,42 @@
 -- Reading a journal step by step.
-use Rattle.std.proofs.Common.{◌≡◌, ℕ, List, [], ◌∷◌, ◌++◌, Option, Ok}
+use Rattle.std.proofs.Common.{◌≡◌, ℕ, ◌+◌, List, [], ◌∷◌, ◌++◌, Bool, true, false, cond, Option, Some, None, Ok, Err, refl}
+use Rattle.std.specs.Prelude.{◌&&◌, nat_lt}
 use Rattle.ctt_text.specs.Left.{Left}
 use Rattle.ctt_text.specs.Forms.{Form, done, ◌>>=◌, one_more, read}
-use Rattle.ctt_text.specs.Places.{known_name}
+use Rattle.ctt_text.specs.Numbers.{is_number, value}
+use Rattle.ctt_text.specs.Places.{one, known, known_name, number, broken_unless, meant}
 use Rattle.ctt_text.specs.Problem.{number_in}
 use Rattle.ctt_text.specs.Reading.{reading, word_at}
-use Rattle.ctt_text.proofs.Steps.{and_then, told_as}
+use Rattle.ctt_text.proofs.Steps.{and_then, judged, told_as}
 use Rattle.ctt_text.proofs.Steps as steps
 use Rattle.ctt_script.specs.declared.journal_fault.JournalFault.{JournalFault}
 use Rattle.ctt_script.specs.declared.journal_fault.JournalFault.TheVariants.{BadWord}
+use Rattle.ctt_script.specs.Amounts.{number_below}
 use Rattle.ctt_script.specs.JournalWords.{word, name, missing}
 
 pub read_word : {A : Type 0} (meaning : List ℕ → Option A) (otherwise : A) (left : Left)
     → reading missing (word meaning otherwise) left ≡ and_then (word_at missing left) (λ w after. told_as BadWord (meaning w) left.next after)
 read_word meaning otherwise left = steps.read_known missing BadWord meaning otherwise left
+
+-- a number below a limit, by what was read as a number
+pub read_number_below : (limit : ℕ) (left : Left)
+    → reading missing (word (number_below limit) 0) left ≡ and_then (reading missing (number BadWord) left) (λ n after. judged (cond (nat_lt n limit) None (Some BadWord)) left.next n after)
+unfolding read number known one
+read_number_below limit left = by left.words left.next
+  where
+    by : (words : List (List ℕ)) (n : ℕ) → read missing (word (number_below limit) 0) words n ≡ and_then (read missing (number BadWord) words n) (λ m after. judged (cond (nat_lt m limit) None (Some BadWord)) n m after)
+    by [] n = refl
+    by (w ∷ ws) n = at (is_number w)
+      where
+        below : (b : Bool) → elim (broken_unless BadWord (cond {A = Option ℕ} b (Some (value w)) None)) [ None ↦ Ok (meant 0 (cond {A = Option ℕ} b (Some (value w)) None), record { words = ws; next = n + 1 }) | Some broken ↦ Err (broken n) ]
+            ≡ judged (cond b None (Some BadWord)) n (value w) (record { words = ws; next = n + 1 })
+        below true = refl
+        below false = refl
+
+        at : (a : Bool) → elim (broken_unless BadWord (cond {A = Option ℕ} (a && nat_lt (value w) limit) (Some (value w)) None)) [ None ↦ Ok (meant 0 (cond {A = Option ℕ} (a && nat_lt (value w) limit) (Some (value w)) None), record { words = ws; next = n + 1 }) | Some broken ↦ Err (broken n) ]
+            ≡ and_then (elim (broken_unless BadWord (cond {A = Option ℕ} a (Some (value w)) None)) [ None ↦ Ok (meant 0 (cond {A = Option ℕ} a (Some (value w)) None), record { words = ws; next = n + 1 }) | Some broken ↦ Err (broken n) ]) (λ m after. judged (cond (nat_lt m limit) None (Some BadWord)) n m after)
+        at true = below (nat_lt (value w) limit)
+        at false = refl
 
 pub read_name : (names : List (List ℕ)) (left : Left) → reading missing (name names) left ≡ and_then (word_at missing left) (λ w after. told_as BadWord (number_in names w) left.next after)
 unfolding known_name

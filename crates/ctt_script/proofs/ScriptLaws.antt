@@ -4,18 +4,24 @@ use Rattle.std.specs.Str.{IsUtf8, is_utf8}
 use Rattle.std.proofs.lemmas.List.{append-nil}
 use Rattle.std.proofs.lemmas.Str.{IsUtf8-from_is_utf8, is_utf8-from_IsUtf8}
 use Rattle.std.proofs.lemmas.Grind.{common_steps}
-use Rattle.std.proofs.lemmas.List.Sums.{fails_before_first}
+use Rattle.std.specs.Prelude.{slice_index, OnSome}
+use Rattle.std.specs.List.{position_or_len}
+use Rattle.std.proofs.lemmas.List.Quantifiers.{position-Some}
+use Rattle.std.proofs.lemmas.List.Sums.{fails_before_first, position_or_len_is}
+use Rattle.memchr.specs.Find.{IsFirstByte, is_byte}
 use Rattle.std.proofs.lemmas.List.Splits.{slice_split_first, slice_split_none}
 use Rattle.ctt_text.proofs.WordLemmas.{position_is, position_none}
 use Rattle.ctt_text.specs.Words.{words}
 use Rattle.ctt_text.specs.Left.{Left}
 use Rattle.ctt_text.specs.Problem.{Problem}
-use Rattle.ctt_text.specs.Forms.{Form, Fills, read}
+use Rattle.ctt_text.specs.Forms.{Form, Fills, ◌>>=◌, read}
+use Rattle.ctt_text.specs.Places.{one, known}
 use Rattle.ctt_text.proofs.FormLaws.{read_fills}
 use Rattle.ctt_script.specs.declared.journal_fault.JournalFault.{JournalFault}
 use Rattle.ctt_core.specs.declared.event.Event.{Event}
 use Rattle.ctt_script.specs.JournalWords.{missing, reads}
-use Rattle.ctt_script.specs.ScriptText.{whole, if_none_left, asked_by, item_by, item, has_words, lines_of, items_of}
+use Rattle.ctt_script.specs.ScriptPlaces.{event_form, own_form}
+use Rattle.ctt_script.specs.ScriptText.{whole, if_none_left, asked_by, item_by, item, own_item, has_words, lines_of, items_of}
 
 -- what was read whole has nothing left
 abbrev IsWhole : {A : Type 0} → A → Result (A × Left) JournalFault → Type 0
@@ -59,6 +65,56 @@ pub text_asks : (form : Form JournalFault Event) (line text : List ℕ) (left : 
 text_asks form line text left o utf8 same all is =
     let start : left ≡ record { words = words line; next = 1 } = all ∙ ap (λ bs. record { words = words bs; next = 1 }) same in
     rw (is_utf8-from_IsUtf8 line utf8) (is ∙ ap (λ l. whole (reads form l)) start)
+
+-- a line that asks for an event has words, where no event is asked for without one
+asks_words : (form : Form JournalFault Event) → asked_by form [] ≡ None → (line : List ℕ) (e : Event) → item_by form line ≡ Some e → has_words line ≡ true
+asks_words form none line e h = by (words line) refl (is_utf8 line) h
+  where
+    by : (ws : List (List ℕ)) → words line ≡ ws → (b : Bool) → cond b (asked_by form (words line)) None ≡ Some e → has_words line ≡ true
+    by [] is true k = let no : None ≡ Some e = sym none ∙ ap (asked_by form) (sym is) ∙ k in cc
+    by [] is false k = cc
+    by (w ∷ ws) is b k = rw is refl
+
+no_event : (i : Problem) → asked_by (event_form i) [] ≡ None
+unfolding event_form known one ◌>>=◌ read
+no_event i = refl
+
+no_own_event : (i : Problem) (p : ℕ) → asked_by (own_form i p) [] ≡ None
+unfolding own_form known one ◌>>=◌ read
+no_own_event i p = refl
+
+pub item_has_words : (i : Problem) (line : List ℕ) (o : Option Event) → o ≡ item i line → OnSome o (has_words line ≡ true)
+item_has_words i line None h = tt
+item_has_words i line (Some e) h = asks_words (event_form i) (no_event i) line e (sym h)
+
+pub own_item_has_words : (i : Problem) (p : ℕ) (line : List ℕ) (o : Option Event) → o ≡ own_item i p line → OnSome o (has_words line ≡ true)
+own_item_has_words i p line None h = tt
+own_item_has_words i p line (Some e) h = asks_words (own_form i p) (no_own_event i p) line e (sym h)
+
+-- a search for a byte finds the first place of it
+pub first_byte_is : (a : ℕ) (text : List ℕ) (r : Option ℕ) → IsFirstByte (is_byte a) text r → r ≡ position (λ b. b == a) text
+first_byte_is a text r h = by r (position is_a text) h refl
+  where
+    is_a : ℕ → Bool
+    is_a b = b == a
+
+    fails : (b : Bool) → ¬ (b ≡ true) → b ≡ false
+    fails true h = absurd (h refl)
+    fails false h = refl
+
+    by : (r o : Option ℕ) → IsFirstByte (is_byte a) text r → position is_a text ≡ o → r ≡ o
+    by None None h e = refl
+    by None (Some k) h e =
+        let at = position-Some is_a text k 0 e in
+        absurd (h k (omega arith) at.0 at.1)
+    by (Some k) None h e =
+        let len = position_none is_a text e in
+        let at : position_or_len is_a text ≡ k = position_or_len_is is_a text k 0 (omega (arith, h.0.high)) (λ j lt. fails (is_a (slice_index text j)) (h.0.before j (omega arith) lt)) (λ _. h.1) in
+        absurd (omega (arith, len, at, h.0.high))
+    by (Some k) (Some j) h e =
+        let first = position_is is_a text j e in
+        let at : position_or_len is_a text ≡ k = position_or_len_is is_a text k 0 (omega (arith, h.0.high)) (λ i lt. fails (is_a (slice_index text i)) (h.0.before i (omega arith) lt)) (λ _. h.1) in
+        ap Some (sym (first.0 ∙ at))
 
 -- the lines of a text, by the place of the first byte that ends a line
 abbrev ends_line : ℕ → Bool

@@ -1,6 +1,7 @@
 -- What was written of a script's answers, and the journal of the desk that gave them.
 use Rattle.std.proofs.Common.{◌≡◌, ℕ, ◌+◌, ◌≤◌, List, [], ◌∷◌, filter, ◌==◌, length, Option, Some, None, sym, subst, ap, ◌∙◌, arith}
-use Rattle.std.specs.Prelude.{IfSome}
+use Rattle.std.specs.Prelude.{◌++◌, IfSome}
+use Rattle.std.specs.Io.KnownBytes.{Appends}
 use Rattle.std.specs.List.{AllByRecursion as Each}
 use Rattle.std.proofs.lemmas.List.{length-map}
 use Rattle.std.proofs.lemmas.List.Splits.{length-slice_split}
@@ -13,7 +14,7 @@ use Rattle.ctt_core.specs.declared.event.Event.{Event}
 use Rattle.ctt_core.specs.Runs.{Turn, RunFits, Right, accepted_of}
 use Rattle.ctt_core.specs.Desks.{DeskValue}
 use Rattle.ctt_core.specs.Laws.{Stands}
-use Rattle.ctt_script.specs.AnswerText.{answered, answers_after, run_after, answer_text}
+use Rattle.ctt_script.specs.AnswerText.{answered, answers_after, run_after, answer_text, script_run}
 use Rattle.ctt_script.specs.Answering.{AppendsFront, Wrote, WroteFront}
 use Rattle.ctt_edits.specs.Fitting.{AreFew}
 use Rattle.ctt_core.specs.Entries.{EntryFits}
@@ -42,6 +43,26 @@ front_said v i t0 (Some bytes) read text before after same t0_is stands whole kn
     let all : text ≡ bytes = whole ∙ known in
     let first : AppendsFront before after (answers_after i v.opening [] (script i text)) = subst (λ j. AppendsFront before after (answers_after j v.opening [] (script i text))) same (h [] stands) in
     subst (λ bs. AppendsFront before after (answer_text i t0 bs)) all (subst (λ t. AppendsFront before after (answers_after i t [] (script i text))) t0_is first)
+
+-- all of the answers were written
+pub all_said : (v w : DeskValue) (i : Problem) (left : Option (List ℕ)) (read text : List ℕ) (before after : Option (List ℕ)) → v.problem ≡ i → Stands v [] → text ≡ read → IfSome left (λ bytes. read ≡ bytes) → Wrote v w (script i text) before after
+    → IfSome left (λ bytes. Appends before after (answer_text i w.opening bytes))
+all_said v w i None read text before after same stands whole known h = tt
+all_said v w i (Some bytes) read text before after same stands whole known h =
+    let all : text ≡ bytes = whole ∙ known in
+    let grown : h.text ≡ answers_after v.problem v.opening [] (script i text) = h.answered.grown [] stands in
+    let said : Appends before after (answers_after v.problem v.opening [] (script i text)) = subst (λ bs. Appends before after bs) grown h.taken in
+    let first : Appends before after (answers_after i v.opening [] (script i text)) = subst (λ j. Appends before after (answers_after j v.opening [] (script i text))) same said in
+    subst (λ bs. Appends before after (answer_text i w.opening bs)) all (subst (λ t. Appends before after (answers_after i t [] (script i text))) (sym h.answered.same.opening) first)
+
+-- the desk stands at the events of the script
+pub script_done : (v w : DeskValue) (i : Problem) (left : Option (List ℕ)) (read text : List ℕ) (before after : Option (List ℕ)) → v.problem ≡ i → Stands v [] → text ≡ read → IfSome left (λ bytes. read ≡ bytes) → Wrote v w (script i text) before after
+    → IfSome left (λ bytes. Stands w (script_run i w.opening bytes))
+script_done v w i None read text before after same stands whole known h = tt
+script_done v w i (Some bytes) read text before after same stands whole known h =
+    let all : text ≡ bytes = whole ∙ known in
+    let first : Stands w (run_after i v.opening [] (script i text)) = subst (λ j. Stands w (run_after j v.opening [] (script i text))) same (h.answered.goes_on [] stands) in
+    subst (λ bs. Stands w (script_run i w.opening bs)) all (subst (λ t. Stands w (run_after i t [] (script i text))) (sym h.answered.same.opening) first)
 
 -- the journal of a desk that answered a script can be written
 pub journal_can : (v w : DeskValue) (i : Problem) (read text : List ℕ) (before after : Option (List ℕ)) → IsProblem i → v.problem ≡ i → Lawful v.problem v.opening → length v.drafts ≡ 64 → Stands v [] → text ≡ read → Wrote v w (script i text) before after → length read ≤ 67108864 → IsWritable i w.journal

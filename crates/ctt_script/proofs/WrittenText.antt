@@ -1,9 +1,10 @@
 -- The text that is written of a journal, as its words.
-use Rattle.std.proofs.Common.{◌≡◌, ℕ, suc, ◌<◌, ◌≤◌, List, [], ◌∷◌, ◌++◌, length, flat_map, Bool, true, false, not, ◌&&◌, ℤ, pos, negsuc, refl, sym, ap, subst, ◌∙◌, arith, append_assoc}
+use Rattle.std.proofs.Common.{◌≡◌, ℕ, suc, ◌+◌, ◌<◌, ◌≤◌, List, [], ◌∷◌, ◌++◌, length, flat_map, Bool, true, false, not, ◌&&◌, ℤ, pos, negsuc, refl, sym, ap, subst, ◌∙◌, arith, append_assoc}
 use Rattle.std.specs.Prelude.{codes, nat_lt, slice_index_or, unsigned_abs}
 use Rattle.std.specs.List.{list_all, AllByRecursion as Each}
 use Rattle.std.specs.Fmt.{decimal, signed_decimal}
 use Rattle.std.proofs.lemmas.Bool.{and_parts, ltb-true}
+use Rattle.std.proofs.lemmas.Fmt.{decimal_digit}
 use Rattle.ctt_text.specs.Words.{words, is_blank}
 use Rattle.ctt_text.specs.Problem.{Problem, IsProblem, course_count, room_count, slot_count, teacher_count, curriculum_count}
 use Rattle.ctt_text.specs.Named.{IsWord, IsNamed}
@@ -34,6 +35,10 @@ use Rattle.ctt_script.specs.JournalText.{JournalSpells}
 use Rattle.ctt_script.specs.WrittenWords.{course_word, room_word, day_word, period_word, edit_words, look_words, call_words, fault_words, lecture_words, reply_words, asked_words, entry_words, journal_words}
 use Rattle.ctt_script.specs.WrittenText.{line, rest_of_line, lecture_part, asked_text, entry_text, journal_text}
 use Rattle.ctt_script.proofs.WrittenWords.{journal_fills}
+
+-- the text of a number of one digit
+pub digit_text : (n : ℕ) → n < 10 → decimal n ≡ (48 + n) ∷ []
+digit_text n lt = decimal_digit n lt
 
 -- words, each of them
 abbrev pub AreWords : List (List ℕ) → Type 0

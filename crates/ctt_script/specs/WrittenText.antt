@@ -17,9 +17,13 @@ abbrev pub line : List (List ℕ) → List ℕ
 line [] = codes "\n"
 line (w ∷ ws) = w ++ rest_of_line ws
 
+-- the day and the period of a slot, each behind a blank
+abbrev pub slot_part : Problem → ℕ → List ℕ
+slot_part i s = codes " " ++ (day_word i s ++ (codes " " ++ period_word i s))
+
 -- the words of a lecture, each behind a blank
 abbrev pub lecture_part : Problem → Placed → List ℕ
-lecture_part i l = codes " " ++ (course_word i l.course ++ (codes " " ++ (room_word i l.room ++ (codes " " ++ (day_word i l.slot ++ (codes " " ++ period_word i l.slot))))))
+lecture_part i l = codes " " ++ (course_word i l.course ++ (codes " " ++ (room_word i l.room ++ slot_part i l.slot)))
 
 abbrev pub asked_text : Problem → Asked → List ℕ
 asked_text i s = line (call_words i s.call) ++ line (reply_words i s.reply)

@@ -5,12 +5,12 @@ ghost use Rattle.ctt_script.specs.AnswerText.{answer_words, bad_line, row_words}
 ghost use Rattle.ctt_script.specs.Entries.{AnswerFits, RowFits};
 ghost use Rattle.ctt_script.specs.WrittenText.{line};
 
+use crate::pieces::{end_with_number, end_with_slot, end_with_word};
 use crate::written::write_reply;
 use ctt_core::Answer;
 use ctt_edits::Row;
 use ctt_text::Instance;
 use std::alloc::AllocError;
-use std::fmt::Write;
 
 /// Adds the line of a draft that is refused for a row that has changed.
 fn write_stale(text: &mut String, instance: &Instance, row: &Row) -> Result<(), AllocError>
@@ -18,11 +18,13 @@ fn write_stale(text: &mut String, instance: &Instance, row: &Row) -> Result<(), 
     ensures { OnOk result (string_bytes text.new ≡ string_bytes text.old ++ line (codes "stale" ∷ row_words instance.now row.now)) }
 {
     match row {
-        Row::Course(course) => writeln!(text, "stale course {}", instance.course_name(*course)),
+        Row::Course(course) => {
+            text.push_str("stale course")?;
+            end_with_word(text, instance.course_name(*course))
+        }
         Row::Slot(slot) => {
-            let day = instance.day_of(*slot);
-            let period = instance.period_of(*slot);
-            writeln!(text, "stale slot {day} {period}")
+            text.push_str("stale slot")?;
+            end_with_slot(text, instance, *slot)
         }
     }
 }
@@ -37,14 +39,17 @@ pub fn write_answer(
     ensures { OnOk result (string_bytes text.new ≡ string_bytes text.old ++ line (answer_words instance.now answer.now)) }
 {
     match answer {
-        Answer::Opened => writeln!(text, "opened"),
-        Answer::AlreadyOpen => writeln!(text, "already open"),
-        Answer::NoDraft => writeln!(text, "no draft"),
+        Answer::Opened => text.push_str("opened\n"),
+        Answer::AlreadyOpen => text.push_str("already open\n"),
+        Answer::NoDraft => text.push_str("no draft\n"),
         Answer::Replied(reply) => write_reply(text, instance, reply),
-        Answer::Committed(number) => writeln!(text, "committed {number}"),
+        Answer::Committed(number) => {
+            text.push_str("committed")?;
+            end_with_number(text, *number)
+        }
         Answer::Stale(row) => write_stale(text, instance, row),
-        Answer::Abandoned => writeln!(text, "abandoned"),
-        Answer::NoMemory => writeln!(text, "no memory"),
+        Answer::Abandoned => text.push_str("abandoned\n"),
+        Answer::NoMemory => text.push_str("no memory\n"),
     }
 }
 
@@ -52,5 +57,5 @@ pub fn write_answer(
 pub(crate) fn write_bad_line(text: &mut String) -> Result<(), AllocError>
     ensures { OnOk result (string_bytes text.new ≡ string_bytes text.old ++ bad_line) }
 {
-    writeln!(text, "bad line")
+    text.push_str("bad line\n")
 }

@@ -8,6 +8,8 @@ use std::alloc::{AllocError, AllocFailed};
 /// Why a crew could not work to its end.
 #[derive(Clone, Copy, Debug, PartialEq, Eq)]
 pub enum CrewFault {
+    /// `left_right` refused a planner's place.
+    NoPlace,
     /// The thread of this planner could not be started.
     NoThread(PlannerNo),
     /// There is not enough memory.
@@ -15,9 +17,12 @@ pub enum CrewFault {
 }
 
 impl From<SharedFault> for CrewFault {
-    /// A crew's desk opens empty, so it wants memory and nothing else.
-    fn from(_fault: SharedFault) -> CrewFault {
-        CrewFault::NoMemory
+    /// A crew's desk opens empty, so it wants memory or a place and nothing else.
+    fn from(fault: SharedFault) -> CrewFault {
+        match fault {
+            SharedFault::NoPlace => CrewFault::NoPlace,
+            _ => CrewFault::NoMemory,
+        }
     }
 }
 

@@ -1,10 +1,11 @@
 //! A crew: planners on threads, each with a script of his own.
 
-ghost use Rattle.std.specs.Prelude.{◌≡◌, ◌≤◌, ℕ, length, IfOk, OnOk, ◌++◌, ◌∷◌, codes, map, string_bytes};
+ghost use Rattle.std.specs.Prelude.{◌≡◌, ◌≤◌, ◌<◌, ◌+◌, ℕ, [], length, IfOk, IfSome, IsOkAnd, OnOk, ◌++◌, ◌∷◌, codes, map, string_bytes};
 ghost use Rattle.std.specs.Fmt.{decimal};
 ghost use Rattle.ctt_rules.specs.declared.cost.Cost.{Cost};
+ghost use Rattle.ctt_core.specs.Runs.{EventFits};
 ghost use Rattle.ctt_desk.specs.Names.{IsNamed};
-ghost use Rattle.ctt_script.specs.CrewText.{ToldFits, told_words, crew_text};
+ghost use Rattle.ctt_script.specs.CrewText.{IsCrewText, ToldFits, told_words, crew_text};
 ghost use Rattle.ctt_script.specs.WrittenText.{line};
 
 use crate::answers::{write_answer, write_bad_line};
@@ -15,8 +16,8 @@ use crate::script::{has_words, read_own_line};
 use crate::seat::{Seat, Told};
 use crate::written::write_costs;
 use ctt_board::{GridSheet, Sheet, Timetable};
-use ctt_core::PlannerNo;
-use ctt_desk::{Named, Naming, Opened, Planner, SharedDesk, SharedFault};
+use ctt_core::{Event, PlannerNo};
+use ctt_desk::{Closed, Named, Naming, Opened, Planner, SharedDesk, SharedFault};
 use ctt_rules::Cost;
 use ctt_text::{Instance, NoMemory};
 use std::alloc::{AllocError, Global};
@@ -24,7 +25,7 @@ use std::fmt::Write;
 use std::marker::{Brand, PhantomData, Send, Sync};
 use std::sync::Wait;
 use std::thread;
-use std::thread::Threads;
+use std::thread::{JoinHandle, Threads};
 
 /// Adds the line of what a planner of a crew is answered.
 fn write_told(text: &mut String, instance: &Instance, told: &Told) -> Result<(), AllocError>
@@ -34,22 +35,24 @@ fn write_told(text: &mut String, instance: &Instance, told: &Told) -> Result<(),
     match told {
         Told::Answer(answer) => write_answer(text, instance, answer),
         Told::NotYours(count) => writeln!(text, "not yours {count}"),
+        Told::NoPlace => writeln!(text, "no place"),
     }
 }
 
-/// Answers a line of a planner's script, and adds the line of the answer.
+/// Answers a line of a planner's script, in which this event was read, or none, and adds the line of the answer.
 fn answer_own_line<'i, S: Sheet<'i>, J: Naming, R: Wait>(
     rt: &R,
     desk: &SharedDesk<S, J>,
     instance: &Instance,
     seat: Seat<'i, S, J>,
     planner: PlannerNo,
-    line: &[u8],
+    read: Option<Event>,
     text: &mut String,
 ) -> Result<Seat<'i, S, J>, NoMemory>
-    requires { J.problem ≡ instance.now }
+    requires same { J.problem ≡ instance.now }
+    requires fits { (planners : ℕ) → planner < planners → IfSome read (EventFits instance.now planners) }
 {
-    match read_own_line(instance, planner, line) {
+    match read {
         Some(event) => {
             let (seat, told) = seat.take(rt, desk, event);
             write_told(text, instance, &told)?;
@@ -62,59 +65,54 @@ fn answer_own_line<'i, S: Sheet<'i>, J: Naming, R: Wait>(
     }
 }
 
-/// A planner with the script that he is to follow, on the desk that he shares.
+/// The script that a planner is to follow, of a desk of the instance.
 #[derive(Drop)]
-struct Attendance<'i, 'x, S: Timetable, J: Naming, G: Gate> {
+struct Attendance<'i, 'x, J: Naming, G: Gate> {
     alloc: Global,
-    desk: &'x SharedDesk<S, J>,
     instance: &'i Instance,
-    number: PlannerNo,
-    planner: Planner<S, J>,
     script: &'x [u8],
     gate: &'x G,
+    desk: PhantomData<J>,
     ghost same: { J.problem ≡ instance.now },
 }
 
 /// Answers the lines of a planner's script, and gives the lines of the answers.
 fn attend<'i, 'x, S: Sheet<'i>, J: Naming, R: Wait, G: Gate>(
-    attendance: Attendance<'i, 'x, S, J, G>,
+    attendance: Attendance<'i, 'x, J, G>,
     rt: &R,
+    desk: &SharedDesk<S, J>,
+    planner: Planner<S, J>,
 ) -> Result<String, NoMemory> {
     let Attendance {
         alloc,
-        desk,
         instance,
-        number,
-        planner,
         script,
         gate,
+        desk: _,
     } = attendance;
+    let number = planner.number();
     let mut seat = Seat::Free(planner);
     let mut text = String::new(alloc);
     let mut at = 0u64;
     for line in Lines::new(script) {
-        if has_words(line) {
+        let read = read_own_line(instance, number, line);
+        if read.is_some() || has_words(line) {
             at = at.saturating_add(1);
             gate.before(number, at);
-            seat = answer_own_line(rt, desk, instance, seat, number, line, &mut text)?;
+            seat = answer_own_line(rt, desk, instance, seat, number, read, &mut text)?;
             gate.after(number, at);
         }
     }
     Ok(text)
 }
 
-/// A planner at a desk over a grid sheet. It names the instance's lifetime once, as what goes to a
+/// A planner at the desk that he shares, over a grid sheet. It names the instance's lifetime once, as what goes to a
 /// thread has to.
 #[derive(Drop)]
 struct GridAttendance<'i, 'x, J: Naming, G: Gate> {
-    attendance: Attendance<'i, 'x, GridSheet<'i>, J, G>,
-}
-
-impl<'i, 'x, J: Naming, G: Gate> GridAttendance<'i, 'x, J, G> {
-    /// The planner's number.
-    fn number(&self) -> PlannerNo {
-        self.attendance.number
-    }
+    desk: &'x SharedDesk<GridSheet<'i>, J>,
+    planner: Planner<GridSheet<'i>, J>,
+    attendance: Attendance<'i, 'x, J, G>,
 }
 
 /// Answers the lines of the script of a planner over a grid sheet.
@@ -122,62 +120,96 @@ fn attend_on_grid<'i, 'x, J: Naming, R: Wait, G: Gate>(
     work: GridAttendance<'i, 'x, J, G>,
     rt: &R,
 ) -> Result<String, NoMemory> {
-    let GridAttendance { attendance } = work;
-    attend::<GridSheet<'i>, J, R, G>(attendance, rt)
+    let GridAttendance {
+        desk,
+        planner,
+        attendance,
+    } = work;
+    attend::<GridSheet<'i>, J, R, G>(attendance, rt, desk, planner)
+}
+
+/// What the threads were answered, in their order, when all of them have ended.
+fn joined<R: Threads>(
+    rt: &R,
+    alloc: Global,
+    threads: Vec<JoinHandle<Result<String, NoMemory>>>,
+) -> Result<Vec<String>, CrewFault>
+    ensures { IfOk result (λ answers. length answers.items ≡ length threads.items) }
+{
+    let mut answers = Vec::with_capacity(alloc, threads.len())?;
+    for thread in threads {
+        answers.push(thread.join(rt)?)?;
+    }
+    Ok(answers)
+}
+
+/// Adds a planner's thread, if it was started.
+fn added<T: Drop, E: Drop>(
+    threads: &mut Vec<T>,
+    started: Result<T, E>,
+    planner: PlannerNo,
+) -> Result<(), CrewFault>
+    ensures { OnOk result (length threads.new.items ≡ length threads.old.items + 1) }
+{
+    match started {
+        Ok(thread) => Ok(threads.push(thread)?),
+        Err(_) => Err(CrewFault::NoThread(planner)),
+    }
 }
 
 /// What each planner was answered, when all of them have come to the end of their scripts.
 fn work_at_once<'i, 'x, J: Naming + Send + Sync, R: Threads + Wait + Sync, G: Gate>(
     rt: &R,
     alloc: Global,
-    works: Vec<GridAttendance<'i, 'x, J, G>>,
-) -> Result<Vec<String>, CrewFault> {
+    desk: &'x SharedDesk<GridSheet<'i>, J>,
+    works: Vec<(Planner<GridSheet<'i>, J>, Attendance<'i, 'x, J, G>)>,
+) -> Result<Vec<String>, CrewFault>
+    ensures { IfOk result (λ answers. length answers.items ≡ length works.entry.items) }
+{
     thread::scope(
         thread::scope_env(),
         rt,
-        |scope| -> Result<Vec<String>, CrewFault> {
-            let mut threads = Vec::with_capacity(alloc, works.len())?;
-            for work in works {
-                let planner = work.number();
+        |scope| -> Result<Vec<String>, CrewFault>
+            ensures { IfOk result (λ answers. length answers.items ≡ length works.entry.items) }
+        {
+            let mut threads = Vec::new(alloc);
+            for (planner, attendance) in works {
+                let number = planner.number();
+                let work = GridAttendance {
+                    desk,
+                    planner,
+                    attendance,
+                };
                 let attending = move || attend_on_grid(work, rt);
-                match scope.spawn(attending) {
-                    Ok(thread) => threads.push(thread)?,
-                    Err(_) => return Err(CrewFault::NoThread(planner)),
-                }
+                added(&mut threads, scope.spawn(attending), number)?;
             }
-            let mut answers = Vec::with_capacity(alloc, threads.len())?;
-            for thread in threads {
-                answers.push(thread.join(rt)?)?;
-            }
-            Ok(answers)
+            joined(rt, alloc, threads)
         },
     )
 }
 
 /// The planners, each with his script.
-fn attendances<'i, 'x, J: Naming, G: Gate>(
+fn attendances<'i, 'x, P: Drop, J: Naming, G: Gate>(
     alloc: Global,
-    desk: &'x SharedDesk<GridSheet<'i>, J>,
     instance: &'i Instance,
-    planners: Vec<Planner<GridSheet<'i>, J>>,
+    planners: Vec<P>,
     scripts: &'x [&'x [u8]],
     gate: &'x G,
-) -> Result<Vec<GridAttendance<'i, 'x, J, G>>, CrewFault>
-    requires { J.problem ≡ instance.now }
+) -> Result<Vec<(P, Attendance<'i, 'x, J, G>)>, CrewFault>
+    requires problem { J.problem ≡ instance.now }
+    requires counted { length planners.items ≡ length scripts.now }
+    ensures { IfOk result (λ works. length works.items ≡ length scripts.now) }
 {
     let mut works = Vec::with_capacity(alloc, scripts.len())?;
     for (planner, script) in planners.into_iter().zip(scripts) {
-        let number = planner.number();
         let attendance = Attendance {
             alloc,
-            desk,
             instance,
-            number,
-            planner,
             script,
             gate,
+            desk: PhantomData,
         };
-        works.push(GridAttendance { attendance })?;
+        works.push((planner, attendance))?;
     }
     Ok(works)
 }
@@ -185,20 +217,88 @@ fn attendances<'i, 'x, J: Naming, G: Gate>(
 /// What a crew wrote: the answers of each planner, the number of accepted drafts, and the costs.
 fn crew_report(
     alloc: Global,
-    answers: &[String],
+    answers: Vec<String>,
     entries: usize,
     cost: &Cost,
 ) -> Result<Vec<u8>, NoMemory>
-    ensures { IfOk result (λ text. text.items ≡ crew_text (map string_bytes answers.now) entries cost.now) }
+    ensures { IfOk result (λ text. text.items ≡ crew_text (map string_bytes answers.items) entries cost.now) }
 {
+    // Each planner's answers go once they are copied. To take all room of the text at once has the same peak, so it grows.
     let mut text = String::new(alloc);
-    for (planner, lines) in answers.iter().enumerate() {
+    for (planner, lines) in answers.into_iter().enumerate() {
         writeln!(text, "planner {planner}")?;
-        text.push_str(lines)?;
+        text.push_str(&lines)?;
     }
     writeln!(text, "journal {entries}")?;
     write_costs(&mut text, cost)?;
     Ok(text.into_bytes())
+}
+
+/// What a crew wrote whose desk is closed.
+fn closing_report<S: Timetable, J: Naming>(
+    alloc: Global,
+    closed: &Closed<S, J>,
+    answers: Vec<String>,
+) -> Result<Vec<u8>, NoMemory>
+    ensures { IfOk result (λ text. IsCrewText J.problem J.opening (length answers.items) text.items) }
+{
+    let entries = closed.journal().len();
+    let cost = closed.cost();
+    crew_report(alloc, answers, entries, &cost)
+}
+
+/// A desk of which is known which one it is, with its planners.
+fn desk_named<S: Timetable, J: Naming, R: Wait>(
+    rt: &R,
+    named: Named<S, J>,
+) -> Result<(SharedDesk<S, J>, Vec<Planner<S, J>>), CrewFault>
+    ensures { IfOk result (λ made. length made.1.items ≡ named.count) }
+{
+    Ok(SharedDesk::new(rt, named)?)
+}
+
+/// Ends a desk whose planners are gone.
+fn end<S: Timetable, J: Naming, R: Wait>(
+    rt: &R,
+    alloc: Global,
+    desk: SharedDesk<S, J>,
+) -> Closed<S, J> {
+    let mut none = Vec::new(alloc);
+    match desk.close(rt, none.as_mut_slice()) {
+        Ok(closed) | Err(closed) => closed,
+    }
+}
+
+/// Ends a desk whose planners are gone, and gives what they wrote, if each of them was answered.
+fn last_report<S: Timetable, J: Naming, R: Wait>(
+    rt: &R,
+    alloc: Global,
+    desk: SharedDesk<S, J>,
+    answers: Result<Vec<String>, CrewFault>,
+) -> Result<Vec<u8>, CrewFault>
+    ensures { IfOk result (λ text. IsOkAnd answers (λ answers. IsCrewText J.problem J.opening (length answers.items) text.items)) }
+{
+    let closed = end(rt, alloc, desk);
+    let answers = answers?;
+    Ok(closing_report(alloc, &closed, answers)?)
+}
+
+/// What each planner was answered at a desk, when all of them have come to the end of their scripts.
+fn answers_at<'i, J: Naming + Send + Sync, R: Threads + Wait + Sync, G: Gate>(
+    rt: &R,
+    alloc: Global,
+    desk: &SharedDesk<GridSheet<'i>, J>,
+    instance: &'i Instance,
+    planners: Vec<Planner<GridSheet<'i>, J>>,
+    scripts: &[&[u8]],
+    gate: &G,
+) -> Result<Vec<String>, CrewFault>
+    requires problem { J.problem ≡ instance.now }
+    requires counted { length planners.items ≡ length scripts.now }
+    ensures { IfOk result (λ answers. length answers.items ≡ length scripts.now) }
+{
+    let works = attendances(alloc, instance, planners, scripts, gate)?;
+    work_at_once(rt, alloc, desk, works)
 }
 
 /// Runs scripts on a desk of which is known which one it is.
@@ -211,23 +311,19 @@ fn crew_named<'i, J: Naming + Send + Sync, R: Threads + Wait + Sync, G: Gate>(
     count: u16,
     gate: &G,
 ) -> Result<Vec<u8>, CrewFault>
-    requires named { IsNamed J.problem J.opening J.planners opened count }
+    requires named { IsNamed J.problem J.opening J.planners J.book opened count }
     requires problem { opened.problem ≡ instance.now }
+    requires counted { length scripts.now ≡ count }
+    ensures { IfOk result (λ text. IsCrewText J.problem J.opening J.planners text.items) }
 {
     let named = Named {
         opened,
         count,
         name: PhantomData,
     };
-    let (desk, planners) = SharedDesk::<GridSheet<'i>, J>::new(rt, named)?;
-    let answers = match attendances(alloc, &desk, instance, planners, scripts, gate) {
-        Ok(works) => work_at_once(rt, alloc, works),
-        Err(fault) => Err(fault),
-    };
-    let closed = desk.close(rt);
-    let entries = closed.journal().len();
-    let cost = closed.cost();
-    Ok(crew_report(alloc, &answers?, entries, &cost)?)
+    let (desk, planners) = desk_named::<GridSheet<'i>, J, R>(rt, named)?;
+    let answers = answers_at(rt, alloc, &desk, instance, planners, scripts, gate);
+    last_report::<GridSheet<'i>, J, R>(rt, alloc, desk, answers)
 }
 
 /// The empty timetable, as an opening.
@@ -235,7 +331,8 @@ fn empty_opening<'i, S: Sheet<'i>>(
     alloc: Global,
     instance: &'i Instance,
 ) -> Result<Opened<S>, SharedFault>
-    ensures { IfOk result (λ opened. opened.problem ≡ instance.now) }
+    ensures problem { IfOk result (λ opened. opened.problem ≡ instance.now) }
+    ensures list { IfOk result (λ opened. opened.list ≡ []) }
 {
     Opened::<S>::new(alloc, instance, &[])
 }
@@ -253,6 +350,7 @@ pub fn crew<'i, R: Threads + Wait + Sync, G: Gate>(
 ) -> Result<Vec<u8>, CrewFault>
     requires some { 1 ≤ length scripts.now }
     requires few { length scripts.now ≤ 64 }
+    ensures { IfOk result (λ text. IsCrewText instance.now [] (length scripts.now) text.items) }
 {
     let opened = empty_opening::<GridSheet<'i>>(alloc, instance)?;
     let count = scripts.len() as u16;

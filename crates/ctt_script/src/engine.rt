@@ -73,12 +73,10 @@ fn answer_line<'i, S: Sheet<'i>>(
     requires stands { IsAtRun desk.old }
     ensures { OnOk result (Answered desk.old desk.new (string_bytes answers.old) (string_bytes answers.new) (items_of instance.now (line.now ∷ []))) }
 {
-    if !has_words(line) {
-        return Ok(());
-    }
     match read_line(instance, line) {
         Some(event) => answer_event(desk, instance, event, answers),
-        None => Ok(write_bad_line(answers)?),
+        None if has_words(line) => Ok(write_bad_line(answers)?),
+        None => Ok(()),
     }
 }
 

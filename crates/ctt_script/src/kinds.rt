@@ -1,6 +1,7 @@
 //! The words by which calls, replies and faults are known.
 
 ghost use Rattle.std.specs.Prelude.{◌≡◌};
+ghost use Rattle.std.specs.Str.{bytes_eq};
 ghost use Rattle.ctt_script.specs.Kinds.{edit_kind, look_kind, call_kind, step_kind, reply_kind, fault_kind};
 
 /// Which edit.
@@ -64,18 +65,44 @@ pub(crate) enum FaultKind {
     RoomTaken,
 }
 
+/// Whether a word is this text. The text is a literal where this is called, so that its bytes are compared
+/// in place and nothing is called.
+#[inline(always)]
+#[tactic(auto, using(crate::proofs::KindLemmas::other_length, crate::proofs::KindLemmas::other_at, crate::proofs::KindLemmas::same_all, crate::proofs::KindLemmas::same_more))]
+pub(crate) fn is_word(word: &str, text: &str) -> bool
+    ensures { result ≡ bytes_eq word.now text.now }
+{
+    let (bytes, wanted) = (word.as_bytes(), text.as_bytes());
+    if bytes.len() != wanted.len() {
+        return false;
+    }
+    let mut at = 0;
+    while at < wanted.len() {
+        if bytes[at] != wanted[at] {
+            return false;
+        }
+        at += 1;
+    }
+    true
+}
+
 /// The edit that a word begins.
 #[tactic(auto, unfolding(crate::specs::Kinds::edit_kind))]
 pub(crate) fn edit_kind(word: &str) -> Option<EditKind>
     ensures { result ≡ edit_kind word.now }
 {
-    match word {
-        "place" => Some(EditKind::Place),
-        "move" => Some(EditKind::Move),
-        "swap" => Some(EditKind::Swap),
-        "reroom" => Some(EditKind::Reroom),
-        "drop" => Some(EditKind::Drop),
-        _ => None,
+    if is_word(word, "place") {
+        Some(EditKind::Place)
+    } else if is_word(word, "move") {
+        Some(EditKind::Move)
+    } else if is_word(word, "swap") {
+        Some(EditKind::Swap)
+    } else if is_word(word, "reroom") {
+        Some(EditKind::Reroom)
+    } else if is_word(word, "drop") {
+        Some(EditKind::Drop)
+    } else {
+        None
     }
 }
 
@@ -84,15 +111,22 @@ pub(crate) fn edit_kind(word: &str) -> Option<EditKind>
 pub(crate) fn look_kind(word: &str) -> Option<LookKind>
     ensures { result ≡ look_kind word.now }
 {
-    match word {
-        "course" => Some(LookKind::Course),
-        "slot" => Some(LookKind::Slot),
-        "teacher" => Some(LookKind::Teacher),
-        "curriculum" => Some(LookKind::Curriculum),
-        "coursecost" => Some(LookKind::CourseCost),
-        "cost" => Some(LookKind::Cost),
-        "price" => Some(LookKind::Price),
-        _ => None,
+    if is_word(word, "course") {
+        Some(LookKind::Course)
+    } else if is_word(word, "slot") {
+        Some(LookKind::Slot)
+    } else if is_word(word, "teacher") {
+        Some(LookKind::Teacher)
+    } else if is_word(word, "curriculum") {
+        Some(LookKind::Curriculum)
+    } else if is_word(word, "coursecost") {
+        Some(LookKind::CourseCost)
+    } else if is_word(word, "cost") {
+        Some(LookKind::Cost)
+    } else if is_word(word, "price") {
+        Some(LookKind::Price)
+    } else {
+        None
     }
 }
 
@@ -112,11 +146,14 @@ pub(crate) fn call_kind(word: &str) -> Option<CallKind>
 pub(crate) fn step_kind(word: &str) -> Option<StepKind>
     ensures { result ≡ step_kind word.now }
 {
-    match word {
-        "open" => Some(StepKind::Open),
-        "commit" => Some(StepKind::Commit),
-        "abandon" => Some(StepKind::Abandon),
-        _ => Some(StepKind::Ask(call_kind(word)?)),
+    if is_word(word, "open") {
+        Some(StepKind::Open)
+    } else if is_word(word, "commit") {
+        Some(StepKind::Commit)
+    } else if is_word(word, "abandon") {
+        Some(StepKind::Abandon)
+    } else {
+        Some(StepKind::Ask(call_kind(word)?))
     }
 }
 
@@ -125,13 +162,18 @@ pub(crate) fn step_kind(word: &str) -> Option<StepKind>
 pub(crate) fn reply_kind(word: &str) -> Option<ReplyKind>
     ensures { result ≡ reply_kind word.now }
 {
-    match word {
-        "done" => Some(ReplyKind::Done),
-        "refused" => Some(ReplyKind::Refused),
-        "lectures" => Some(ReplyKind::Lectures),
-        "costs" => Some(ReplyKind::Costs),
-        "price" => Some(ReplyKind::Price),
-        _ => None,
+    if is_word(word, "done") {
+        Some(ReplyKind::Done)
+    } else if is_word(word, "refused") {
+        Some(ReplyKind::Refused)
+    } else if is_word(word, "lectures") {
+        Some(ReplyKind::Lectures)
+    } else if is_word(word, "costs") {
+        Some(ReplyKind::Costs)
+    } else if is_word(word, "price") {
+        Some(ReplyKind::Price)
+    } else {
+        None
     }
 }
 
@@ -140,15 +182,23 @@ pub(crate) fn reply_kind(word: &str) -> Option<ReplyKind>
 pub(crate) fn fault_kind(word: &str) -> Option<FaultKind>
     ensures { result ≡ fault_kind word.now }
 {
-    match word {
-        "notplaced" => Some(FaultKind::NotPlaced),
-        "sameslot" => Some(FaultKind::SameSlot),
-        "samecourse" => Some(FaultKind::SameCourse),
-        "already" => Some(FaultKind::AlreadyThere),
-        "full" => Some(FaultKind::CourseFull),
-        "unavailable" => Some(FaultKind::Unavailable),
-        "clash" => Some(FaultKind::Clash),
-        "roomtaken" => Some(FaultKind::RoomTaken),
-        _ => None,
+    if is_word(word, "notplaced") {
+        Some(FaultKind::NotPlaced)
+    } else if is_word(word, "sameslot") {
+        Some(FaultKind::SameSlot)
+    } else if is_word(word, "samecourse") {
+        Some(FaultKind::SameCourse)
+    } else if is_word(word, "already") {
+        Some(FaultKind::AlreadyThere)
+    } else if is_word(word, "full") {
+        Some(FaultKind::CourseFull)
+    } else if is_word(word, "unavailable") {
+        Some(FaultKind::Unavailable)
+    } else if is_word(word, "clash") {
+        Some(FaultKind::Clash)
+    } else if is_word(word, "roomtaken") {
+        Some(FaultKind::RoomTaken)
+    } else {
+        None
     }
 }

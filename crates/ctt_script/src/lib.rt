@@ -9,11 +9,13 @@ mod crew_run;
 mod device;
 mod engine;
 mod gate;
+mod gathered;
 mod input;
 mod journal;
 mod journal_fault;
 mod kinds;
 mod lines;
+mod pieces;
 mod places;
 mod replies;
 mod report;
@@ -42,10 +44,3 @@ pub use script_fault::ScriptFault;
 pub use sink::{Sink, put_all};
 pub use source::{Failed, Source};
 pub use written::{write_call, write_fault, write_journal, write_reply};
-
-#[cfg(test)]
-mod crew_tests;
-#[cfg(test)]
-mod journal_tests;
-#[cfg(test)]
-mod tests;

@@ -5,6 +5,7 @@ ghost use Rattle.std.specs.List.{slice_split};
 ghost use Rattle.std.specs.Iterator.{YieldsFirstRef, item_count};
 ghost use Rattle.ctt_script.specs.ScriptText.{lines_of};
 
+use memchr::memchr;
 use std::marker::Model;
 
 /// The lines of a text, from the front: they end at byte 10, and the last line needs none.
@@ -27,7 +28,7 @@ impl<'a> Model for Lines<'a> {
 fn line_end(text: &[u8]) -> Option<usize>
     ensures { result ≡ position (λ b. b == 10) text.now }
 {
-    text.iter().position(|byte| *byte == b'\n')
+    memchr(b'\n', text)
 }
 
 impl<'a> Lines<'a> {

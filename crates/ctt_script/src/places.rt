@@ -15,7 +15,7 @@ ghost use Rattle.ctt_script.specs.declared.kinds.CallKind.TheVariants as kind;
 ghost use Rattle.ctt_script.specs.declared.kinds.ReplyKind.TheVariants as reply;
 ghost use Rattle.ctt_script.specs.declared.kinds.FaultKind.TheVariants as fault;
 
-use crate::amounts::{amount, number_below, price};
+use crate::amounts::{amount, price};
 use crate::journal_fault::JournalFault;
 use crate::kinds::{
     CallKind, EditKind, FaultKind, LookKind, ReplyKind, call_kind, edit_kind, fault_kind,
@@ -49,14 +49,18 @@ pub(crate) fn read_count(reader: &mut Reader) -> Result<u32, JournalFault>
 }
 
 /// A number below a limit.
-#[tactic(auto, using(crate::proofs::JournalSteps::read_word))]
+#[tactic(auto, using(crate::proofs::JournalSteps::read_number_below), unfolding(crate::specs::ReplyPlaces::count))]
 pub(crate) fn read_number_below(reader: &mut Reader, limit: u16) -> Result<u16, JournalFault>
     ensures limit { IfOk result (λ number. number < limit) }
     ensures exact { IsRead (λ number. (number, reader.new)) result (reads (word (number_below limit) 0) reader.old) }
 {
     let at = reader.next();
-    let word = read_word(reader)?;
-    number_below(word.as_bytes(), limit).ok_or(JournalFault::BadWord(at))
+    let number = read_count(reader)?;
+    if number < u32::from(limit) {
+        Ok(number as u16)
+    } else {
+        Err(JournalFault::BadWord(at))
+    }
 }
 
 /// An amount.

@@ -1,6 +1,6 @@
 //! Reading the lines of a script.
 
-ghost use Rattle.std.specs.Prelude.{◌≡◌, ℕ, ◌<◌, Result, IfOk, IfSome};
+ghost use Rattle.std.specs.Prelude.{◌≡◌, ℕ, ◌<◌, Result, IfOk, IfSome, OnSome, true};
 ghost use Rattle.ctt_text.specs.Left.{Left};
 ghost use Rattle.ctt_core.specs.Runs.{EventFits};
 ghost use Rattle.ctt_core.specs.declared.event.Event.{Event};
@@ -16,7 +16,7 @@ ghost use Rattle.ctt_script.specs.declared.journal_fault.JournalFault.{JournalFa
 use crate::amounts::number_below;
 use crate::calls::{read_call_after, read_look};
 use crate::journal_fault::JournalFault;
-use crate::kinds::{StepKind, step_kind};
+use crate::kinds::{StepKind, is_word, step_kind};
 use crate::lines::Lines;
 use crate::places::read_word;
 use ctt_core::{Event, PlannerNo};
@@ -36,7 +36,7 @@ pub(crate) enum Start {
 fn first_of(word: &str) -> Option<Start>
     ensures { result ≡ first_of word.now }
 {
-    if word == "show" {
+    if is_word(word, "show") {
         Some(Start::Show)
     } else {
         Some(Start::Planner(PlannerNo::new(number_below(word.as_bytes(), 64)?)))
@@ -120,7 +120,7 @@ pub(crate) enum OwnStart {
 fn own_first_of(word: &str) -> Option<OwnStart>
     ensures { result ≡ own_first_of word.now }
 {
-    if word == "show" {
+    if is_word(word, "show") {
         Some(OwnStart::Show)
     } else {
         Some(OwnStart::Step(step_kind(word)?))
@@ -185,6 +185,7 @@ fn only_event(reader: &Reader, read: Result<Event, JournalFault>) -> Option<Even
 /// The event that a line asks for; none for a line of any other form.
 pub fn read_line(instance: &Instance, line: &[u8]) -> Option<Event>
     ensures item { result ≡ item instance.now line.now }
+    ensures words { OnSome result (has_words line.now ≡ true) }
     ensures fits { IfSome result (EventFits instance.now 64) }
 {
     instance.limits_hold();
@@ -200,6 +201,7 @@ pub fn read_line(instance: &Instance, line: &[u8]) -> Option<Event>
 /// line of any other form.
 pub fn read_own_line(instance: &Instance, planner: PlannerNo, line: &[u8]) -> Option<Event>
     ensures item { result ≡ own_item instance.now planner line.now }
+    ensures words { OnSome result (has_words line.now ≡ true) }
     ensures fits { (planners : ℕ) → planner < planners → IfSome result (EventFits instance.now planners) }
 {
     instance.limits_hold();

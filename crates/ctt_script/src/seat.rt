@@ -1,14 +1,14 @@
 //! A planner of a crew, with or without an open draft, and what he is answered.
 
-ghost use Rattle.std.specs.Prelude.{ℕ};
+ghost use Rattle.std.specs.Prelude.{ℕ, ◌≡◌};
 ghost use Rattle.ctt_edits.specs.Calls.{CallFits};
 ghost use Rattle.ctt_edits.specs.Looks.{LookFits};
 ghost use Rattle.ctt_core.specs.Runs.{EventFits};
-ghost use Rattle.ctt_script.specs.CrewText.{ToldFits};
+ghost use Rattle.ctt_script.specs.CrewText.{ToldFits, told_unread};
 
 use ctt_board::{Sheet, Timetable};
 use ctt_core::{Answer, Event};
-use ctt_desk::{Drafting, Naming, Planner, Refusal, SharedDesk};
+use ctt_desk::{Drafting, Naming, Planner, Refusal, SharedDesk, SharedFault};
 use ctt_edits::{Call, Look};
 use std::sync::Wait;
 
@@ -26,19 +26,33 @@ pub(crate) enum Seat<'i, S: Timetable, J: Naming> {
 pub(crate) enum Told {
     /// As by a desk for one thread.
     Answer(Answer),
-    /// The desk has another number of his drafts than he committed, namely this one.
+    /// He has seen more drafts than the desk has, namely this many; or it has another number of his drafts
+    /// than he committed, namely this one.
     NotYours(u64),
+    /// `left_right` refused to enter.
+    NoPlace,
+}
+
+/// What is told of a timetable that could not be read.
+fn unread<J: Naming>(fault: SharedFault) -> Told
+    ensures fits { ToldFits J.problem result }
+    ensures told { result ≡ told_unread fault }
+{
+    match fault {
+        SharedFault::NoPlace => Told::NoPlace,
+        _ => Told::Answer(Answer::NoMemory),
+    }
 }
 
 impl<'i, S: Sheet<'i>, J: Naming> Seat<'i, S, J> {
     /// Opens a draft.
-    fn open<R: Wait>(self, rt: &R, desk: &SharedDesk<S, J>) -> (Self, Told)
+    fn open(self) -> (Self, Told)
         ensures { ToldFits J.problem result.1 }
     {
         match self {
-            Seat::Free(planner) => match planner.open(rt, desk) {
+            Seat::Free(planner) => match planner.open() {
                 Ok(drafting) => (Seat::Drafting(drafting), Told::Answer(Answer::Opened)),
-                Err((planner, _)) => (Seat::Free(planner), Told::Answer(Answer::NoMemory)),
+                Err((planner, fault)) => (Seat::Free(planner), unread::<J>(fault)),
             },
             Seat::Drafting(drafting) => {
                 (Seat::Drafting(drafting), Told::Answer(Answer::AlreadyOpen))
@@ -103,19 +117,21 @@ impl<'i, S: Sheet<'i>, J: Naming> Seat<'i, S, J> {
     }
 
     /// Looks at the timetable as it stands, if no draft is open.
-    fn show<R: Wait>(self, rt: &R, desk: &SharedDesk<S, J>, look: &Look) -> (Self, Told)
+    fn show(self, look: &Look) -> (Self, Told)
         requires { LookFits J.problem look.now }
         ensures { ToldFits J.problem result.1 }
     {
         match self {
             Seat::Free(planner) => {
                 let mut planner = planner;
-                let told = planner.view(rt, desk, look);
-                let answer = match told {
-                    Ok(reply) => Answer::Replied(reply),
-                    Err(_) => Answer::NoMemory,
-                };
-                (Seat::Free(planner), Told::Answer(answer))
+                let shown = planner.view(look);
+                match shown {
+                    Ok(reply) => {
+                        let answer = Answer::Replied(reply);
+                        (Seat::Free(planner), Told::Answer(answer))
+                    }
+                    Err(fault) => (Seat::Free(planner), unread::<J>(fault)),
+                }
             }
             Seat::Drafting(drafting) => {
                 (Seat::Drafting(drafting), Told::Answer(Answer::AlreadyOpen))
@@ -129,11 +145,11 @@ impl<'i, S: Sheet<'i>, J: Naming> Seat<'i, S, J> {
         ensures { ToldFits J.problem result.1 }
     {
         match event {
-            Event::Open(_) => self.open(rt, desk),
+            Event::Open(_) => self.open(),
             Event::Ask(_, call) => self.ask(call),
             Event::Commit(_) => self.commit(rt, desk),
             Event::Abandon(_) => self.abandon(),
-            Event::Show(look) => self.show(rt, desk, &look),
+            Event::Show(look) => self.show(&look),
         }
     }
 }

@@ -1,8 +1,9 @@
 //! Writing calls, replies and journals as a text.
 
-ghost use Rattle.std.specs.Prelude.{◌≡◌, ◌≤◌, ◌++◌, ◌∷◌, [], ℕ, List, OnOk, IfOk, codes, string_bytes, unsigned_abs, flat_map, length};
+ghost use Rattle.std.specs.Prelude.{◌≡◌, ◌<◌, ◌≤◌, ◌++◌, ◌∷◌, [], ℕ, List, OnOk, IfOk, codes, string_bytes, unsigned_abs, flat_map, length};
 ghost use Rattle.std.specs.List.{AllByRecursion as Each};
-ghost use Rattle.std.specs.Fmt.{decimal};
+ghost use Rattle.std.specs.Fmt.{decimal, signed_decimal};
+ghost use Rattle.ctt_text.specs.Problem.{course_count, slot_count};
 ghost use Rattle.std.specs.Str.{IsUtf8};
 ghost use Rattle.ctt_text.specs.Words.{words};
 ghost use Rattle.ctt_text.specs.Timetable.{Fits};
@@ -15,73 +16,88 @@ ghost use Rattle.ctt_draft.specs.Drafts.{AskedFits};
 ghost use Rattle.ctt_core.specs.Entries.{EntryFits};
 ghost use Rattle.ctt_script.specs.Entries.{IsShort};
 ghost use Rattle.ctt_script.specs.JournalText.{JournalSpells};
-ghost use Rattle.ctt_script.specs.WrittenWords.{edit_words, look_words, call_words, fault_words, lecture_words, cost_words, reply_words};
-ghost use Rattle.ctt_script.specs.WrittenText.{line, lecture_part, asked_text, entry_text, journal_text};
+ghost use Rattle.ctt_script.specs.WrittenWords.{course_word, edit_words, look_words, call_words, fault_words, lecture_words, cost_words, reply_words};
+ghost use Rattle.ctt_script.specs.WrittenText.{line, rest_of_line, slot_part, asked_text, entry_text, journal_text};
 
+use crate::gathered::{Gathered, add_lecture, write_lecture};
+use crate::pieces::{
+    end_with_number, end_with_slot, end_with_word, push_number, push_signed, push_slot, push_word,
+};
 use ctt_core::JournalEntry;
 use ctt_draft::Asked;
 use ctt_edits::{Call, Edit, EditFault, Look, Reply};
 use ctt_rules::Cost;
-use ctt_text::{Instance, NoMemory, Placed};
+use ctt_text::{CourseNo, Instance, NoMemory, Placed, SlotNo};
 use std::alloc::{AllocError, Global};
-use std::fmt::Write;
 
-/// Adds the line of an edit, behind what stands before it on its line.
-fn write_edit(
+/// Adds the line of an edit that names a course, a room and a slot.
+fn write_roomed(
     text: &mut String,
-    before: &str,
+    kind: &str,
     instance: &Instance,
-    edit: &Edit,
+    lecture: &Placed,
 ) -> Result<(), AllocError>
-    requires { EditFits instance.now edit.now }
-    ensures { OnOk result (string_bytes text.new ≡ string_bytes text.old ++ (before.now ++ line (edit_words instance.now edit.now))) }
+    requires { Fits instance.now lecture.now }
+    ensures { OnOk result (string_bytes text.new ≡ string_bytes text.old ++ (kind.now ++ rest_of_line (lecture_words instance.now lecture.now))) }
 {
-    match edit {
+    text.push_str(kind)?;
+    write_lecture(text, instance, lecture)?;
+    text.push('\n')
+}
+
+/// Adds a course and a slot, each behind a blank.
+fn push_at(
+    text: &mut String,
+    instance: &Instance,
+    course: CourseNo,
+    slot: SlotNo,
+) -> Result<(), AllocError>
+    requires course { course < course_count instance.now }
+    requires slot { slot < slot_count instance.now }
+    ensures { OnOk result (string_bytes text.new ≡ string_bytes text.old ++ (codes " " ++ (course_word instance.now course ++ slot_part instance.now slot))) }
+{
+    push_word(text, instance.course_name(course))?;
+    push_slot(text, instance, slot)
+}
+
+/// Adds the line of an edit.
+fn write_edit(text: &mut String, instance: &Instance, edit: &Edit) -> Result<(), AllocError>
+    requires { EditFits instance.now edit.now }
+    ensures { OnOk result (string_bytes text.new ≡ string_bytes text.old ++ line (edit_words instance.now edit.now)) }
+{
+    match *edit {
         Edit::Place(course, slot, room) => {
-            let course = instance.course_name(*course);
-            let room = instance.room_name(*room);
-            let day = instance.day_of(*slot);
-            let period = instance.period_of(*slot);
-            writeln!(text, "{before}place {course} {room} {day} {period}")
+            write_roomed(text, "place", instance, &Placed { course, slot, room })
         }
         Edit::Move(course, slot, target, room) => {
-            let course = instance.course_name(*course);
-            let room = instance.room_name(*room);
-            let day = instance.day_of(*slot);
-            let period = instance.period_of(*slot);
-            let to_day = instance.day_of(*target);
-            let to_period = instance.period_of(*target);
-            writeln!(
-                text,
-                "{before}move {course} {day} {period} {room} {to_day} {to_period}"
-            )
+            text.push_str("move")?;
+            push_at(text, instance, course, slot)?;
+            push_word(text, instance.room_name(room))?;
+            end_with_slot(text, instance, target)
         }
         Edit::Swap(course, slot, other, other_slot) => {
-            let course = instance.course_name(*course);
-            let day = instance.day_of(*slot);
-            let period = instance.period_of(*slot);
-            let other = instance.course_name(*other);
-            let other_day = instance.day_of(*other_slot);
-            let other_period = instance.period_of(*other_slot);
-            writeln!(
-                text,
-                "{before}swap {course} {day} {period} {other} {other_day} {other_period}"
-            )
+            text.push_str("swap")?;
+            push_at(text, instance, course, slot)?;
+            push_word(text, instance.course_name(other))?;
+            end_with_slot(text, instance, other_slot)
         }
         Edit::Reroom(course, slot, room) => {
-            let course = instance.course_name(*course);
-            let room = instance.room_name(*room);
-            let day = instance.day_of(*slot);
-            let period = instance.period_of(*slot);
-            writeln!(text, "{before}reroom {course} {room} {day} {period}")
+            write_roomed(text, "reroom", instance, &Placed { course, slot, room })
         }
         Edit::Drop(course, slot) => {
-            let course = instance.course_name(*course);
-            let day = instance.day_of(*slot);
-            let period = instance.period_of(*slot);
-            writeln!(text, "{before}drop {course} {day} {period}")
+            text.push_str("drop")?;
+            push_word(text, instance.course_name(course))?;
+            end_with_slot(text, instance, slot)
         }
     }
+}
+
+/// Adds a line of two words.
+fn write_named(text: &mut String, kind: &str, name: &str) -> Result<(), AllocError>
+    ensures { OnOk result (string_bytes text.new ≡ string_bytes text.old ++ line (kind.now ∷ name.now ∷ [])) }
+{
+    text.push_str(kind)?;
+    end_with_word(text, name)
 }
 
 /// Adds the line of a look.
@@ -90,21 +106,23 @@ fn write_look(text: &mut String, instance: &Instance, look: &Look) -> Result<(),
     ensures { OnOk result (string_bytes text.new ≡ string_bytes text.old ++ line (look_words instance.now look.now)) }
 {
     match look {
-        Look::Course(course) => writeln!(text, "course {}", instance.course_name(*course)),
+        Look::Course(course) => write_named(text, "course", instance.course_name(*course)),
         Look::Slot(slot) => {
-            let day = instance.day_of(*slot);
-            let period = instance.period_of(*slot);
-            writeln!(text, "slot {day} {period}")
+            text.push_str("slot")?;
+            end_with_slot(text, instance, *slot)
         }
-        Look::Teacher(teacher) => writeln!(text, "teacher {}", instance.teacher_name(*teacher)),
+        Look::Teacher(teacher) => write_named(text, "teacher", instance.teacher_name(*teacher)),
         Look::Curriculum(curriculum) => {
-            writeln!(text, "curriculum {}", instance.curriculum_name(*curriculum))
+            write_named(text, "curriculum", instance.curriculum_name(*curriculum))
         }
         Look::CourseCost(course) => {
-            writeln!(text, "coursecost {}", instance.course_name(*course))
+            write_named(text, "coursecost", instance.course_name(*course))
         }
-        Look::Cost => writeln!(text, "cost"),
-        Look::Price(edit) => write_edit(text, "price ", instance, edit),
+        Look::Cost => text.push_str("cost\n"),
+        Look::Price(edit) => {
+            text.push_str("price ")?;
+            write_edit(text, instance, edit)
+        }
     }
 }
 
@@ -115,7 +133,7 @@ pub fn write_call(text: &mut String, instance: &Instance, call: &Call) -> Result
 {
     match call {
         Call::Look(look) => write_look(text, instance, look),
-        Call::Edit(edit) => write_edit(text, "", instance, edit),
+        Call::Edit(edit) => write_edit(text, instance, edit),
     }
 }
 
@@ -129,15 +147,15 @@ pub fn write_fault(
     ensures { OnOk result (string_bytes text.new ≡ string_bytes text.old ++ line (fault_words instance.now fault.now)) }
 {
     match fault {
-        EditFault::NotPlaced => writeln!(text, "notplaced"),
-        EditFault::SameSlot => writeln!(text, "sameslot"),
-        EditFault::SameCourse => writeln!(text, "samecourse"),
-        EditFault::AlreadyThere => writeln!(text, "already"),
-        EditFault::CourseFull => writeln!(text, "full"),
-        EditFault::Unavailable => writeln!(text, "unavailable"),
-        EditFault::Clash(course) => writeln!(text, "clash {}", instance.course_name(*course)),
+        EditFault::NotPlaced => text.push_str("notplaced\n"),
+        EditFault::SameSlot => text.push_str("sameslot\n"),
+        EditFault::SameCourse => text.push_str("samecourse\n"),
+        EditFault::AlreadyThere => text.push_str("already\n"),
+        EditFault::CourseFull => text.push_str("full\n"),
+        EditFault::Unavailable => text.push_str("unavailable\n"),
+        EditFault::Clash(course) => write_named(text, "clash", instance.course_name(*course)),
         EditFault::RoomTaken(course) => {
-            writeln!(text, "roomtaken {}", instance.course_name(*course))
+            write_named(text, "roomtaken", instance.course_name(*course))
         }
     }
 }
@@ -155,18 +173,6 @@ fn write_refused(
     write_fault(text, instance, fault)
 }
 
-/// Adds the words of a lecture, each behind a blank.
-fn write_lecture(text: &mut String, instance: &Instance, lecture: &Placed) -> Result<(), AllocError>
-    requires { Fits instance.now lecture.now }
-    ensures { OnOk result (string_bytes text.new ≡ string_bytes text.old ++ lecture_part instance.now lecture.now) }
-{
-    let course = instance.course_name(lecture.course);
-    let room = instance.room_name(lecture.room);
-    let day = instance.day_of(lecture.slot);
-    let period = instance.period_of(lecture.slot);
-    write!(text, " {course} {room} {day} {period}")
-}
-
 /// Adds the line of lectures.
 fn write_lectures(
     text: &mut String,
@@ -176,11 +182,14 @@ fn write_lectures(
     requires { Each (Fits instance.now) lectures.now }
     ensures { OnOk result (string_bytes text.new ≡ string_bytes text.old ++ line (reply_words instance.now (Lectures lectures.now))) }
 {
-    write!(text, "lectures {}", lectures.len())?;
+    text.push_str("lectures")?;
+    push_number(text, lectures.len() as u64)?;
+    let mut gathered = Gathered::new();
     for lecture in lectures {
-        write_lecture(text, instance, lecture)?;
+        add_lecture(text, &mut gathered, instance, lecture)?;
     }
-    writeln!(text)
+    text.push_str(gathered.as_str())?;
+    text.push('\n')
 }
 
 /// Adds the line of four costs.
@@ -193,7 +202,20 @@ pub(crate) fn write_costs(text: &mut String, cost: &Cost) -> Result<(), AllocErr
         compactness,
         stability,
     } = cost;
-    writeln!(text, "costs {capacity} {days} {compactness} {stability}")
+    text.push_str("costs")?;
+    push_number(text, *capacity)?;
+    push_number(text, *days)?;
+    push_number(text, *compactness)?;
+    end_with_number(text, *stability)
+}
+
+/// Adds the line of a price.
+fn write_price(text: &mut String, price: i64) -> Result<(), AllocError>
+    ensures { OnOk result (string_bytes text.new ≡ string_bytes text.old ++ line (codes "price" ∷ signed_decimal price ∷ [])) }
+{
+    text.push_str("price")?;
+    push_signed(text, price)?;
+    text.push('\n')
 }
 
 /// Adds the line of a reply.
@@ -202,11 +224,11 @@ pub fn write_reply(text: &mut String, instance: &Instance, reply: &Reply) -> Res
     ensures { OnOk result (string_bytes text.new ≡ string_bytes text.old ++ line (reply_words instance.now (reply.now))) }
 {
     match reply {
-        Reply::Done => writeln!(text, "done"),
+        Reply::Done => text.push_str("done\n"),
         Reply::Refused(fault) => write_refused(text, instance, fault),
         Reply::Lectures(lectures) => write_lectures(text, instance, lectures.as_slice()),
         Reply::Costs(cost) => write_costs(text, cost),
-        Reply::Price(price) => writeln!(text, "price {price}"),
+        Reply::Price(price) => write_price(text, *price),
     }
 }
 
@@ -231,7 +253,9 @@ fn write_entry(
     let asked = entry.asked.as_slice();
     let planner = entry.planner.get();
     let count = asked.len();
-    writeln!(text, "entry {planner} {count}")?;
+    text.push_str("entry")?;
+    push_number(text, u64::from(planner))?;
+    end_with_number(text, count as u64)?;
     for one in asked {
         write_asked(text, instance, one)?;
     }
@@ -256,10 +280,11 @@ pub fn write_journal(
     instance.limits_hold();
     instance.names_are_words();
     let mut text = String::new(alloc);
-    writeln!(text, "journal {}", entries.len())?;
+    text.push_str("journal")?;
+    end_with_number(&mut text, entries.len() as u64)?;
     for entry in entries {
         write_entry(&mut text, instance, entry)?;
     }
-    writeln!(text, "END.")?;
+    text.push_str("END.\n")?;
     Ok(text.into_bytes())
 }

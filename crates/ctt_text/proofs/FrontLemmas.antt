@@ -1,10 +1,12 @@
 -- Whether a word stands at the front of a text.
-use Rattle.std.proofs.Common.{◌≡◌, ℕ, suc, ◌<◌, ◌≤◌, ◌+◌, ◌-◌, List, [], ◌∷◌, length, take, drop, get_or, position, Some, Bool, true, false, not, refl, sym, ◌∙◌, ap, arith, one-add, true≢false}
+use Rattle.std.proofs.Common.{◌≡◌, ℕ, suc, ◌<◌, ◌≤◌, ◌+◌, ◌-◌, List, [], ◌∷◌, length, take, drop, get_or, position, cond, nat_lt, Some, None, Bool, true, false, not, add-zero, length-drop, refl, sym, ◌∙◌, ap, arith, one-add, true≢false}
 use Rattle.std.specs.List.{position_or_len, AllByRecursion as Each}
 use Rattle.std.specs.Str.{bytes_eq}
+use Rattle.std.proofs.lemmas.Bool.Decides.{Decides-ltb}
+use Rattle.std.proofs.lemmas.List.{get_or-drop}
 use Rattle.std.proofs.lemmas.Grind.{common_steps}
 use Rattle.std.proofs.lemmas.List.Sums.{prefix_len-le-length, passes_at_first}
-use Rattle.ctt_text.specs.Words.{words, is_blank, front_word, begins_with, IsFirst}
+use Rattle.ctt_text.specs.Words.{words, is_blank, front_word, IsFirst}
 use Rattle.ctt_text.proofs.ListLaws.{bytes_sound, same_bytes}
 use Rattle.ctt_text.proofs.WordLemmas.{stands, first_word_at}
 
@@ -65,11 +67,38 @@ module _ (w bs : List ℕ) (start : ℕ) (is : position stands bs ≡ Some start
   shifted : start + len - start ≡ len
   shifted = omega arith
 
-  pub begins_by : begins_with w (words bs) ≡ bytes_eq (front_word rest) w
-  begins_by = ap (begins_with w) (first_word_at bs start is).first ∙ ap (λ n. bytes_eq (take n rest) w) shifted
-
   pub first_by : bytes_eq (front_word rest) w ≡ true → IsFirst w bs (start + length w)
   first_by h =
       let e : front_word rest ≡ w = bytes_sound (front_word rest) w h in
       let p : length w ≡ len = ap length (sym e) ∙ front_len rest in
       rw p (record { start = start; at = first_word_at bs start is; same = ap (λ n. take n rest) shifted ∙ e })
+
+-- a word behind one blank
+behind : (x : ℕ) (w : List ℕ) (b : ℕ) (bs : List ℕ) → is_blank b ≡ true → front_word bs ≡ x ∷ w → (position_or_len stands (b ∷ bs) ≡ 1) × (1 < length (b ∷ bs))
+behind x w b [] blank h = absurd (nothing h)
+  where
+    nothing : ◌≡◌ {A = List ℕ} [] (x ∷ w) → ⊥
+    nothing e = cc
+behind x w b (c ∷ cs) blank h = by (is_blank c) refl
+  where
+    nothing : ◌≡◌ {A = List ℕ} [] (x ∷ w) → ⊥
+    nothing e = cc
+
+    by : (k : Bool) → is_blank c ≡ k → (position_or_len stands (b ∷ c ∷ cs) ≡ 1) × (1 < length (b ∷ c ∷ cs))
+    by false e = (rw (blank, e) refl, omega arith)
+    by true e =
+        let none : position_or_len is_blank (c ∷ cs) ≡ 0 = rw e refl in
+        absurd (nothing (sym (ap (λ n. take n (c ∷ cs)) none) ∙ h))
+
+pub word_behind : (w bs : List ℕ) → 0 < length bs → is_blank (get_or bs 0 0) ≡ true → 0 < length w → bytes_eq (front_word (drop 1 bs)) w ≡ true → IsFirst w bs (1 + length w)
+word_behind w [] some blank long h = absurd (omega (arith, some))
+word_behind [] (b ∷ bs) some blank long h = absurd (omega (arith, long))
+word_behind (x ∷ w) (b ∷ bs) some blank long h =
+    let at = behind x w b bs blank (bytes_sound (front_word bs) (x ∷ w) h) in
+    first_by (x ∷ w) (b ∷ bs) 1 (ap (λ k. cond (nat_lt k (length (b ∷ bs))) (Some k) None) at.0 ∙ ap (λ t. cond t (Some 1) None) ((Decides-ltb 1 (length (b ∷ bs))).1 at.1)) h
+
+-- what follows a word begins with a blank
+pub blank_next : (bs rest : List ℕ) (end : ℕ) → rest ≡ drop end bs → (end < length bs → is_blank (get_or bs end 0) ≡ true) → 0 < length rest → is_blank (get_or rest 0 0) ≡ true
+blank_next bs rest end e after some =
+    let lt : end < length bs = omega (arith, ap length e, length-drop end bs, some) in
+    ap (λ r. is_blank (get_or r 0 0)) e ∙ ap is_blank (get_or-drop end bs 0 0) ∙ ap (λ k. is_blank (get_or bs k 0)) (add-zero end) ∙ after lt

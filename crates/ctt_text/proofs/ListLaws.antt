@@ -1,5 +1,5 @@
 -- Lists of which each element is taken once, and the places of names.
-use Rattle.std.proofs.Common.{◌≡◌, ℕ, ◌+◌, ◌≤◌, ◌<◌, List, [], ◌∷◌, ◌++◌, length, map, Bool, true, false, cond, not, ◌||◌, refl, sym, ap, ◌∙◌, append_assoc, arith}
+use Rattle.std.proofs.Common.{◌≡◌, ℕ, zero, suc, get_or, ◌+◌, ◌≤◌, ◌<◌, List, [], ◌∷◌, ◌++◌, length, map, Bool, true, false, cond, not, ◌||◌, refl, sym, ap, ◌∙◌, append_assoc, arith}
 use Rattle.std.specs.Prelude.{fold, filter}
 use Rattle.std.specs.List.{list_any, position_or_len, AllByRecursion as Each}
 use Rattle.std.specs.Str.{bytes_eq}
@@ -143,6 +143,28 @@ module _ {X : Type 0} (same : X → X → Bool) (sound : (x y : X) → same x y 
   pub once_few : (xs : List X) → length (each_once same xs) ≤ length xs
   once_few [] = omega arith
   once_few (x ∷ xs) = omega (arith, length-filter (λ y. not (same y x)) (each_once same xs), once_few xs)
+
+  -- what passes keeps its place, or comes before it, where others are left out
+  place_left : (p q : X → Bool) → ((y : X) → p y ≡ true → q y ≡ true) → (ys : List X) → position_or_len p (filter q ys) ≤ position_or_len p ys
+  place_left p q stays [] = omega arith
+  place_left p q stays (y ∷ ys) =
+      let rest : position_or_len p (filter q ys) ≤ position_or_len p ys = place_left p q stays ys in
+      bool_case _ (p y)
+      (λ is. rw (stays y is, is) (omega arith))
+      (λ isnt. bool_case _ (q y) (λ kept. rw (kept, isnt) (omega (arith, rest))) (λ gone. rw (gone, isnt) (omega (arith, rest))))
+
+  -- one that is taken is no later than where it was
+  pub once_place : ((x : X) → same x x ≡ true) → (d : X) (xs : List X) (k : ℕ) → k < length xs → position_or_len (same (get_or xs k d)) (each_once same xs) ≤ k
+  once_place itself d [] k lt = absurd (omega (arith, lt))
+  once_place itself d (x ∷ xs) zero lt = rw (itself x) (omega arith)
+  once_place itself d (x ∷ xs) (suc k) lt =
+      let z : X = get_or xs k d in
+      let before : position_or_len (same z) (each_once same xs) ≤ k = once_place itself d xs k (omega (arith, lt)) in
+      bool_case _ (same z x)
+      (λ is. rw is (omega arith))
+      (λ isnt.
+      let stays : (y : X) → same z y ≡ true → not (same y x) ≡ true = λ y is. ap (λ q. not (same q x)) (sym (sound z y is)) ∙ ap not isnt in
+      rw isnt (omega (arith, before, place_left (same z) (λ y. not (same y x)) stays (each_once same xs))))
 
 -- the place of what is found is a place of the list
 pub place_below : {X : Type 0} (test : X → Bool) (xs : List X) → list_any test xs ≡ true → position_or_len test xs < length xs

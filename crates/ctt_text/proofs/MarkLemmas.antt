@@ -1,6 +1,7 @@
 -- Marks on numbers, by the words that hold them.
 use Rattle.std.proofs.Common.{◌≡◌, ℕ, zero, suc, ◌+◌, ◌-◌, ◌*◌, ◌/◌, ◌%◌, ◌^◌, ◌<◌, ◌≤◌, ◌≢◌, List, length, get_or, Bool, true, false, not, cond, ◌==◌, ◌&&◌, ◌||◌, nat_le, nat_lt, Some, refl, sym, ap, ap₂, ◌∙◌, arith, true≢false, w64, add-zero, zero-add, one-add, add-suc, add_assoc}
-use Rattle.std.specs.Prelude.{replicate, slice_set, bit_and, bit_or}
+use Rattle.std.specs.Prelude.{replicate, slice_set, bit_and, bit_or, IfSome}
+use Rattle.std.specs.Bool.{then_some}
 use Rattle.std.specs.Int.{bit_at, bit_not, trailing_zeros}
 use Rattle.std.specs.Int.Count.{ones, ones_step}
 use Rattle.std.proofs.lemmas.List.{get_or-set_other, get_or_past, length-set}
@@ -9,7 +10,7 @@ use Rattle.std.proofs.lemmas.Bool.{eqb-true, eqb-false}
 use Rattle.std.proofs.lemmas.Bool.Decides.{nat_tests, Decides-ltb}
 use Rattle.std.proofs.lemmas.Nat.{div-add-mod', div_below, mod_below, pow_below, pow_pos, div-mul-add, mod-mul-add}
 use Rattle.std.proofs.Math.Nat.{mod-eq_of_lt, one-mul, zero-mul, pow-suc}
-use Rattle.std.proofs.lemmas.Nat.Bits.{bit_at-zero, bit_at-lt, bit_at-suc, bit_at_lowest, bit_at_and, bit_at_or, bit_at_set_same, bit_at_set_other, bit_at_clear_same, bit_at_clear_other, shr_and_one, and_pow, bit_at-trailing_zeros, bit_at_mask_inside, bit_at_mask_below, ones_shl}
+use Rattle.std.proofs.lemmas.Nat.Bits.{bit_at-zero, bit_at-lt, bit_at-suc, bit_at_lowest, bit_at_and, bit_at_or, bit_at_set_same, bit_at_set_other, bit_at_clear_same, bit_at_clear_other, shr_and_one, and_pow, bit_at-trailing_zeros, bit_at_mask_inside, bit_at_mask_below, ones_shl, bit_at_ones, bit_at_ones_above}
 use Rattle.ctt_text.specs.Marks.{is_marked, AreMarks, count_marked, IsLeast}
 use Rattle.ctt_text.specs.Lists.{count_below}
 use Rattle.ctt_text.proofs.TableLemmas.{bool_case}
@@ -401,3 +402,143 @@ least_small test n past is = bool_case _ (nat_lt n 2000)
 
 pub none_common : (a b : List ℕ) → AreMarks a → (n : ℕ) → 2000 ≤ n → in_both a b n ≡ false
 none_common a b are n large = ap (λ t. t && is_marked b n) (are.within n large)
+
+-- the bits that are in both, in one of the words below p, are bits of this word
+abbrev pub Seen : List ℕ → List ℕ → ℕ → ℕ → Type 0
+Seen a b p common = (n : ℕ) → n / 64 < p → in_both a b n ≡ true → (bit_at common (n % 64) == 1) ≡ true
+
+pub seen_more : (a b : List ℕ) (p common : ℕ) → Seen a b p common → Seen a b (p + 1) (bit_or common (bit_and (get_or a p 0) (get_or b p 0)))
+seen_more a b p common so_far n lt is =
+    let w = bit_and (get_or a p 0) (get_or b p 0) in
+    either_bit common w (n % 64) ∙ bool_case _ (nat_lt (n / 64) p)
+    (λ below. ap (λ x. x || bit_at w (n % 64) == 1) (so_far n ((Decides-ltb (n / 64) p).0 below) is))
+    (λ isnt.
+    let q : n / 64 ≡ p = word n (not_below (n / 64) p isnt) lt in
+    let at : n ≡ p * 64 + n % 64 = sym (div-add-mod' n 64) ∙ ap (λ k. k * 64 + n % 64) q in
+    ap (λ x. bit_at common (n % 64) == 1 || x) (sym (in_both_words a b p (n % 64) (mod_below n 64 (omega arith))) ∙ ap (in_both a b) (sym at) ∙ is) ∙ or_true (bit_at common (n % 64) == 1))
+  where
+    word : (n : ℕ) → p ≤ n / 64 → n / 64 < p + 1 → n / 64 ≡ p
+    word n a b = omega arith
+
+    or_true : (x : Bool) → (x || true) ≡ true
+    or_true true = refl
+    or_true false = refl
+
+-- where that word is 0, nothing is in both
+pub none_seen : (a b : List ℕ) (p common : ℕ) → 32 ≤ p → AreMarks a → common ≡ 0 → Seen a b p common → (n : ℕ) → in_both a b n ≡ false
+none_seen a b p common all are none so_far n = bool_case _ (nat_lt (n / 64) p)
+    (λ below. bool_case _ (in_both a b n)
+    (λ is. absurd (no_bit (n % 64) (sym (so_far n ((Decides-ltb (n / 64) p).0 below) is))))
+    (λ isnt. isnt))
+    (λ above. none_common a b are n (omega (arith, not_below (n / 64) p above, all)))
+  where
+    no_bit : (k : ℕ) → true ≡ (bit_at common k == 1) → ⊥
+    no_bit k e = true≢false (e ∙ ap (λ v. bit_at v k == 1) none ∙ ap (λ v. v == 1) (bit_at-zero k))
+
+pub zero_of : (n : ℕ) → not (n == 0) ≡ false → n ≡ 0
+zero_of n h = grind (arith, nat_tests)
+
+-- none is counted where none passes
+pub count_none : (test : ℕ → Bool) → ((n : ℕ) → test n ≡ false) → 0 ≡ count_marked test
+count_none test none = sym (counted test ∙ count_below_none test limit (λ k lt. none k))
+
+-- of the numbers below one: the least that passes is the least of them, if it is below
+and_no : (a b : Bool) → b ≡ false → (a && b) ≡ false
+and_no true b e = e
+and_no false b e = refl
+
+pub least_below : (test : ℕ → Bool) (count n : ℕ) → IsLeast test (Some n) → IsLeast (λ k. nat_lt k count && test k) (then_some (nat_lt n count) n)
+least_below test count n least = by (nat_lt n count) refl
+  where
+    by : (b : Bool) → nat_lt n count ≡ b → IsLeast (λ k. nat_lt k count && test k) (then_some b n)
+    by true e = (ap₂ (λ a b. a && b) e least.0, λ m lt. and_no (nat_lt m count) (test m) (least.1 m lt))
+    by false e = λ k. bool_case _ (nat_lt k n)
+        (λ is. and_no (nat_lt k count) (test k) (least.1 k ((Decides-ltb k n).0 is)))
+        (λ isnt. let past : nat_lt k count ≡ false = grind (arith, nat_tests, not_below k n isnt, not_below n count e) in rw past refl)
+
+pub least_within : (count n : ℕ) → IfSome (then_some (nat_lt n count) n) (λ k. k < count)
+least_within count n = by (nat_lt n count) refl
+  where
+    by : (b : Bool) → nat_lt n count ≡ b → IfSome (then_some b n) (λ k. k < count)
+    by true e = (Decides-ltb n count).0 e
+    by false e = tt
+
+-- none passes where none of so many words has one
+pub none_below : (test : ℕ → Bool) (count p : ℕ) → count ≤ p * 64 → ((n : ℕ) → n / 64 < p → test n ≡ false) → (n : ℕ) → (nat_lt n count && test n) ≡ false
+none_below test count p le none n = bool_case _ (nat_lt n count)
+    (λ is. and_no (nat_lt n count) (test n) (none n (let lt : n < count = (Decides-ltb n count).0 is in omega arith)))
+    (λ isnt. rw isnt refl)
+
+-- one word, with the bits of another one too
+or_word : (words : List ℕ) (p w : ℕ) → p < length words → (n : ℕ) → is_marked (slice_set words p (bit_or (get_or words p 0) w)) n ≡ (is_marked words n || (n / 64 == p && bit_at w (n % 64) == 1))
+unfolding is_marked
+or_word words p w within n = bool_case _ (n / 64 == p)
+    (λ is.
+    let e : n / 64 ≡ p = eqb-true (n / 64) p is in
+    let k = n % 64 in
+    let word : get_or (slice_set words p (bit_or (get_or words p 0) w)) (n / 64) 0 ≡ bit_or (get_or words p 0) w = get_or-set_at words p (n / 64) (bit_or (get_or words p 0) w) 0 e within in
+    rw is (ap (λ v. bit_at v k == 1) word ∙ either_bit (get_or words p 0) w k ∙ ap (λ q. bit_at (get_or words q 0) k == 1 || bit_at w k == 1) (sym e)))
+    (λ isnt.
+    let k = n % 64 in
+    let word : get_or (slice_set words p (bit_or (get_or words p 0) w)) (n / 64) 0 ≡ get_or words (n / 64) 0 = get_or-set_other words p (n / 64) (bit_or (get_or words p 0) w) 0 (eqb-false (n / 64) p isnt) in
+    rw isnt (ap (λ v. bit_at v k == 1) word ∙ or_false (bit_at (get_or words (n / 64) 0) k == 1)))
+  where
+    or_false : (b : Bool) → b ≡ (b || false)
+    or_false true = refl
+    or_false false = refl
+
+-- all bits of the words below p are set
+pub record FilledBelow (old words : List ℕ) (p : ℕ) : Type 0 where
+  pub size : length words ≡ length old
+  pub marks : (n : ℕ) → is_marked words n ≡ (is_marked old n || nat_lt (n / 64) p)
+
+pub filled_none : (old : List ℕ) → FilledBelow old old 0
+filled_none old = record { size = refl; marks = λ n. none (is_marked old n) (n / 64) }
+  where
+    none : (a : Bool) (q : ℕ) → a ≡ (a || nat_lt q 0)
+    none a q = grind (arith, nat_tests)
+
+pub filled_within : (old : List ℕ) (count p : ℕ) → AreMarks old → count ≤ 2000 → p < count / 64 → p < length old
+filled_within old count p are few lt = rw are.size (omega (arith, few, lt, div_below count 64 32 (omega arith) (omega (arith, few))))
+
+pub filled_more : (old words : List ℕ) (p : ℕ) → p < length old → FilledBelow old words p → FilledBelow old (slice_set words p (bit_or (get_or words p 0) (2 ^ 64 - 1))) (p + 1)
+filled_more old words p within so_far = record {
+  size = length-set words p (bit_or (get_or words p 0) (2 ^ 64 - 1)) ∙ so_far.size;
+  marks = λ n. or_word words p (2 ^ 64 - 1) (rw so_far.size within) n
+      ∙ ap₂ (λ a b. a || (n / 64 == p && b)) (so_far.marks n) (ap (λ b. b == 1) (bit_at_ones 64 (n % 64) (mod_below n 64 (omega arith))))
+      ∙ join (is_marked old n) (n / 64) p;
+}
+  where
+    join : (a : Bool) (q p : ℕ) → ((a || nat_lt q p) || (q == p && true)) ≡ (a || nat_lt q (p + 1))
+    join a q p = grind (arith, nat_tests)
+
+-- and the lower bits of the next one
+module _ (old words : List ℕ) (count : ℕ) (few : count ≤ 2000) (are : AreMarks old) (so_far : FilledBelow old words (count / 64)) where
+  pub filled_is : (n : ℕ) → is_marked (slice_set words (count / 64) (bit_or (get_or words (count / 64) 0) (1 * 2 ^ (count % 64) % 2 ^ 64 - 1))) n ≡ (is_marked old n || nat_lt n count)
+  filled_is n =
+      or_word words (count / 64) (1 * 2 ^ (count % 64) % 2 ^ 64 - 1) (rw (so_far.size, are.size) (div_below count 64 32 (omega arith) (omega (arith, few)))) n
+      ∙ ap₂ (λ a b. a || (n / 64 == count / 64 && b)) (so_far.marks n) (ap (λ v. bit_at (v - 1) (n % 64) == 1) (one_shl (count % 64) low) ∙ bits (count % 64) (n % 64))
+      ∙ join (is_marked old n)
+    where
+      low : count % 64 < 64
+      low = mod_below count 64 (omega arith)
+
+      bits : (k i : ℕ) → (bit_at (2 ^ k - 1) i == 1) ≡ nat_lt i k
+      bits k i = bool_case _ (nat_lt i k)
+          (λ is. rw is (ap (λ b. b == 1) (bit_at_ones k i ((Decides-ltb i k).0 is))))
+          (λ isnt. rw isnt (ap (λ b. b == 1) (bit_at_ones_above k i (not_below i k isnt))))
+
+      join : (a : Bool) → ((a || nat_lt (n / 64) (count / 64)) || (n / 64 == count / 64 && nat_lt (n % 64) (count % 64))) ≡ (a || nat_lt n count)
+      join a =
+          let split_n : n / 64 * 64 + n % 64 ≡ n = div-add-mod' n 64 in
+          let split : count / 64 * 64 + count % 64 ≡ count = div-add-mod' count 64 in
+          let low_n : n % 64 < 64 = mod_below n 64 (omega arith) in
+          let low_c : count % 64 < 64 = low in
+          grind (arith, nat_tests, split_n, split, low_n, low_c)
+
+  pub filled_are : AreMarks (slice_set words (count / 64) (bit_or (get_or words (count / 64) 0) (1 * 2 ^ (count % 64) % 2 ^ 64 - 1)))
+  filled_are = changed_are words (count / 64) (bit_or (get_or words (count / 64) 0) (1 * 2 ^ (count % 64) % 2 ^ 64 - 1)) (so_far.size ∙ are.size)
+      (λ n large. filled_is n ∙ ap₂ (λ a b. a || b) (are.within n large) (past n large))
+    where
+      past : (n : ℕ) → 2000 ≤ n → nat_lt n count ≡ false
+      past n large = grind (arith, nat_tests, few)

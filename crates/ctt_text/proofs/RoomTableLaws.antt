@@ -1,8 +1,8 @@
 -- The lectures that a table of rooms holds.
-use Rattle.std.proofs.Common.{◌≡◌, ℕ, zero, suc, ◌+◌, ◌*◌, ◌/◌, ◌%◌, ◌<◌, ◌≤◌, List, [], ◌∷◌, ◌++◌, length, take, get_or, true, false, ◌&&◌, ◌||◌, ◌==◌, Option, Some, None, refl, sym, ap, subst, ◌∙◌, arith, zero-add, mul_comm}
+use Rattle.std.proofs.Common.{◌≡◌, ℕ, zero, suc, ◌+◌, ◌*◌, ◌/◌, ◌%◌, ◌<◌, ◌≤◌, List, [], ◌∷◌, ◌++◌, length, take, get_or, true, false, ◌&&◌, ◌||◌, ◌==◌, Option, Some, None, refl, sym, ap, ◌∙◌, arith, zero-add}
 use Rattle.std.specs.Prelude.{is_some, replicate, slice_set}
 use Rattle.std.specs.List.{AllByRecursion as Each}
-use Rattle.std.proofs.lemmas.Nat.{div-mul-add, mod-mul-add, div-add-mod', le-div, mul-add-lt}
+use Rattle.std.proofs.lemmas.Nat.{div-mul-add, mod-mul-add, div-add-mod', le-div}
 use Rattle.std.proofs.lemmas.Bool.{eq-eqb, or_from, or_left, and_from, cond-false}
 use Rattle.std.proofs.lemmas.List.{take_more, length-take-le}
 use Rattle.std.proofs.lemmas.Bool.Decides.{nat_tests}
@@ -11,10 +11,6 @@ use Rattle.ctt_text.specs.Timetable.{before, has_lecture, with}
 use Rattle.ctt_text.specs.RoomTable.{lecture_in, lectures_from}
 use Rattle.ctt_text.proofs.FormLaws.{one_later, at_once}
 use Rattle.ctt_text.proofs.LectureLaws.{placed_same, before_apart, before_apart_turned, before_once}
-
--- a cell is in the table
-pub cell_within : (course slot courses slots : ℕ) → course < courses → slot < slots → course * slots + slot < courses * slots
-cell_within course slot courses slots in_courses in_slots = subst (λ n. course * slots + slot < n) (mul_comm slots courses) (mul-add-lt course slots slot courses in_courses in_slots)
 
 -- a cell by its course and its slot
 pub lecture_in_row : (slots course slot room : ℕ) → slot < slots → lecture_in slots (course * slots + slot) room ≡ record { course = course; slot = slot; room = room }

@@ -1,17 +1,16 @@
 -- Rows of marks.
-use Rattle.std.proofs.Common.{◌≡◌, ◌≢◌, ℕ, zero, suc, ◌+◌, ◌*◌, ◌/◌, ◌%◌, ◌<◌, ◌≤◌, List, [], ◌∷◌, ◌++◌, length, get_or, Bool, true, false, not, ◌==◌, ◌&&◌, ◌||◌, take, take_all, replicate, refl, sym, ap, ap₂, subst, ◌∙◌, arith, nat_lt, zero-add}
+use Rattle.std.proofs.Common.{◌≡◌, ◌≢◌, ℕ, zero, suc, ◌+◌, ◌*◌, ◌<◌, ◌≤◌, List, [], ◌∷◌, ◌++◌, length, get_or, Bool, true, false, not, cond, ◌==◌, ◌&&◌, ◌||◌, take, take_all, replicate, refl, sym, ap, ap₂, subst, ◌∙◌, arith, nat_lt, zero-add}
 use Rattle.std.specs.List.{slice_set, list_any, AllByRecursion as Each}
-use Rattle.std.proofs.lemmas.List.{get_or-set_other, get_or-replicate, get_or_past, length-set, length-replicate, take-append-le, ext_get_or}
+use Rattle.std.proofs.lemmas.List.{get_or-set_other, get_or-replicate, length-set, length-replicate, take-append-le, ext_get_or}
 use Rattle.std.proofs.lemmas.List.FromFn.{length-map-range_with_len, get_or-map-range_with_len}
 use Rattle.std.proofs.Math.Nat.{le_refl}
-use Rattle.std.proofs.lemmas.Nat.{row_fits, div-add-mod', div-mul-add, mod-mul-add, div_below}
-use Rattle.std.proofs.lemmas.Nat.Bits.{bit_at-zero}
+use Rattle.std.proofs.lemmas.Nat.{row_fits}
 use Rattle.std.proofs.lemmas.Grind.{get_or-set_at}
 use Rattle.std.proofs.lemmas.Bool.{eqb-true, eqb-false}
-use Rattle.std.proofs.lemmas.Bool.Decides.{Decides-ltb, nat_tests}
+use Rattle.std.proofs.lemmas.Bool.Decides.{nat_tests}
 use Rattle.ctt_text.specs.Lists.{has}
 use Rattle.ctt_text.specs.Marks.{is_marked}
-use Rattle.ctt_text.specs.Tables.{mark_at, AddsMarks, MarkTable, table_of, AreBelow}
+use Rattle.ctt_text.specs.Tables.{mark_at, AddsMarks, MarkTable, marks_below}
 
 -- by cases
 pub bool_case : (C : Type 0) (b : Bool) → (b ≡ true → C) → (b ≡ false → C) → C
@@ -66,6 +65,23 @@ own_more s t row new within size before here r n lt = bool_case _ (r == row)
 
     there : (r : ℕ) → (r == row) ≡ false → nat_lt r row ≡ nat_lt r (row + 1)
     there r isnt = grind (arith, nat_tests)
+
+-- one row more is that of a teacher, and those below it are as they were
+module _ (s t : List (List ℕ)) (teacher : ℕ → ℕ) (row : ℕ) (new : List ℕ) (within : row < length t)
+    (kept : (c d : ℕ) → c < row + 1 → mark_at t c d ≡ mark_at s c d) where
+  pub kept_below : (c d : ℕ) → c < row → mark_at (slice_set t row new) c d ≡ mark_at s c d
+  kept_below c d lt = ap (λ m. is_marked m d) (get_or-set_other t row c new [] (λ e. absurd (omega (arith, lt, e)))) ∙ kept c d (omega (arith, lt))
+
+  pub given_more : (n : ℕ) → ((c d : ℕ) → row + 1 ≤ c → c < n → mark_at t c d ≡ mark_at s (teacher c) d)
+      → teacher row ≤ row → new ≡ get_or t (teacher row) []
+      → (c d : ℕ) → row ≤ c → c < n → mark_at (slice_set t row new) c d ≡ mark_at s (teacher c) d
+  given_more n given ranked is c d le lt = bool_case _ (c == row)
+      (λ same.
+      let e : c ≡ row = eqb-true c row same in
+      ap (λ m. is_marked m d) (get_or-set_at t row c new [] e within ∙ is) ∙ kept (teacher row) d (omega (arith, ranked)) ∙ ap (λ k. mark_at s (teacher k) d) (sym e))
+      (λ other.
+      let apart : c ≢ row = eqb-false c row other in
+      ap (λ m. is_marked m d) (get_or-set_other t row c new [] apart) ∙ given c d (omega (arith, le, apart)) lt)
 
 -- a course that is no member
 pub no_member : (n d : ℕ) → n ≤ d → (ms : List ℕ) → Each (λ m. m < n) ms → has d ms ≡ false
@@ -123,84 +139,28 @@ table_same r s w m n rows marks = ap₂ (λ a b. record { rows = a; width = w; m
 pub place_within : (r c w n : ℕ) → r < n → c < w → r * w + c < n * w
 place_within r c w n row column = omega (arith, row_fits r w n w row (le_refl w))
 
--- the marks of a table
-pub table_length : (w : ℕ) (rows : List (List ℕ)) → length (table_of w rows) ≡ length rows * w
-unfolding table_of
-table_length w rows = length-map-range_with_len (λ k. mark_at rows (k / w) (k % w)) 0 (length rows * w)
+-- the marks below a number
+pub mark_of : (n : ℕ) (words : List ℕ) (k : ℕ) → k < n → get_or (marks_below n words) k false ≡ is_marked words k
+unfolding marks_below
+mark_of n words k lt = get_or-map-range_with_len (λ k. is_marked words k) 0 n k k false lt (zero-add k)
 
-pub table_at : (w : ℕ) (rows : List (List ℕ)) (k : ℕ) → k < length rows * w → get_or (table_of w rows) k false ≡ mark_at rows (k / w) (k % w)
-unfolding table_of
-table_at w rows k lt = get_or-map-range_with_len (λ k. mark_at rows (k / w) (k % w)) 0 (length rows * w) k k false lt (zero-add k)
+marks_length : (n : ℕ) (words : List ℕ) → length (marks_below n words) ≡ n
+unfolding marks_below
+marks_length n words = length-map-range_with_len (λ k. is_marked words k) 0 n
 
-pub table_row : (w : ℕ) (rows : List (List ℕ)) (r n : ℕ) → r < length rows → n < w → get_or (table_of w rows) (r * w + n) false ≡ mark_at rows r n
-table_row w rows r n row column =
-    table_at w rows (r * w + n) (place_within r n w (length rows) row column)
-    ∙ ap₂ (mark_at rows) (div-mul-add r w n column) (mod-mul-add r w n column)
-
--- a row as it is read from the table
-pub row_of_table : (w : ℕ) (rows : List (List ℕ)) (r n : ℕ) → AreBelow w rows → r < length rows → mark_at rows r n ≡ (nat_lt n w && get_or (table_of w rows) (r * w + n) false)
-row_of_table w rows r n below row = bool_case _ (nat_lt n w)
-    (λ is. rw is (sym (table_row w rows r n row ((Decides-ltb n w).0 is))))
-    (λ isnt. rw isnt (below r n (not_below n w isnt)))
-  where
-    not_below : (n w : ℕ) → nat_lt n w ≡ false → w ≤ n
-    not_below n w h = grind (arith, nat_tests)
-
--- a table with no mark
-pub table_none : (w n : ℕ) (marks : List ℕ) → ((k : ℕ) → is_marked marks k ≡ false) → table_of w (replicate n marks) ≡ replicate (n * w) false
-table_none w n marks none = ext_get_or false (table_of w (replicate n marks)) (replicate (n * w) false)
-    (table_length w (replicate n marks) ∙ ap (λ k. k * w) (length-replicate n marks) ∙ sym (length-replicate (n * w) false))
+-- none is marked
+pub marks_none : (n : ℕ) (words : List ℕ) → ((k : ℕ) → is_marked words k ≡ false) → marks_below n words ≡ replicate n false
+marks_none n words none = ext_get_or false (marks_below n words) (replicate n false) (marks_length n words ∙ sym (length-replicate n false))
     (λ k lt.
-    let inside : k < length (replicate n marks) * w = subst (λ n. k < n) (table_length w (replicate n marks)) lt in
-    let few : k < n * w = subst (λ m. k < m * w) (length-replicate n marks) inside in
-    let w_some : 0 < w = some k n w few in
-    table_at w (replicate n marks) k inside ∙ ap (λ m. is_marked m (k % w)) (get_or-replicate n (k / w) marks [] (div_below k w n w_some few)) ∙ none (k % w) ∙ sym (get_or-replicate (n * w) k false false few))
-  where
-    some : (k n w : ℕ) → k < n * w → 0 < w
-    some k n zero lt = absurd (omega (arith, lt))
-    some k n (suc w) lt = omega arith
+    let less : k < n = subst (λ m. k < m) (marks_length n words) lt in
+    mark_of n words k less ∙ none k ∙ sym (get_or-replicate n k false false less))
 
-nothing : (k : ℕ) → is_marked [] k ≡ false
-unfolding is_marked
-nothing k = ap (λ b. b == 1) (bit_at-zero (k % 64))
-
-pub none_below : (w n : ℕ) (marks : List ℕ) → ((k : ℕ) → is_marked marks k ≡ false) → AreBelow w (replicate n marks)
-none_below w n marks none = λ r k _. bool_case _ (nat_lt r n)
-    (λ is. ap (λ m. is_marked m k) (get_or-replicate n r marks [] ((Decides-ltb r n).0 is)) ∙ none k)
-    (λ isnt. ap (λ m. is_marked m k) (get_or_past (replicate n marks) r [] (subst (λ m. m ≤ r) (sym (length-replicate n marks)) (not_below r n isnt))) ∙ nothing k)
-  where
-    not_below : (n w : ℕ) → nat_lt n w ≡ false → w ≤ n
-    not_below n w h = grind (arith, nat_tests)
-
--- one more mark
-pub table_more : (w : ℕ) (rows : List (List ℕ)) (r c : ℕ) (new : List ℕ) → r < length rows → c < w → ((n : ℕ) → is_marked new n ≡ (n == c || mark_at rows r n))
-    → table_of w (slice_set rows r new) ≡ slice_set (table_of w rows) (r * w + c) true
-table_more w rows r c new row column here = ext_get_or false (table_of w (slice_set rows r new)) (slice_set (table_of w rows) (r * w + c) true)
-    (table_length w (slice_set rows r new) ∙ ap (λ k. k * w) (length-set rows r new) ∙ sym (table_length w rows) ∙ sym (length-set (table_of w rows) (r * w + c) true))
+-- one more is marked
+pub marks_more : (n : ℕ) (words next : List ℕ) (m : ℕ) → m < n → ((k : ℕ) → is_marked next k ≡ cond (k == m) true (is_marked words k)) → marks_below n next ≡ slice_set (marks_below n words) m true
+marks_more n words next m within wrote = ext_get_or false (marks_below n next) (slice_set (marks_below n words) m true)
+    (marks_length n next ∙ sym (length-set (marks_below n words) m true ∙ marks_length n words))
     (λ k lt.
-    let inside : k < length (slice_set rows r new) * w = subst (λ n. k < n) (table_length w (slice_set rows r new)) lt in
-    let few : k < length rows * w = subst (λ n. k < n * w) (length-set rows r new) inside in
-    let split : k / w * w + k % w ≡ k = div-add-mod' k w in
-    table_at w (slice_set rows r new) k inside ∙ bool_case _ (k / w == r)
-    (λ is.
-    let e : k / w ≡ r = eqb-true (k / w) r is in
-    let in_row : mark_at (slice_set rows r new) (k / w) (k % w) ≡ (k % w == c || mark_at rows (k / w) (k % w))
-    = ap (λ m. is_marked m (k % w)) (get_or-set_at rows r (k / w) new [] e row) ∙ here (k % w) ∙ ap (λ q. k % w == c || mark_at rows q (k % w)) (sym e) in
-    in_row ∙ bool_case _ (k % w == c)
-    (λ same.
-    let place : k ≡ r * w + c = sym split ∙ ap₂ (λ q b. q * w + b) e (eqb-true (k % w) c same) in
-    ap (λ b. b || mark_at rows (k / w) (k % w)) same ∙ sym (get_or-set_at (table_of w rows) (r * w + c) k true false place (subst (λ n. r * w + c < n) (sym (table_length w rows)) (place_within r c w (length rows) row column))))
-    (λ differ.
-    let place : k ≢ r * w + c = λ same. eqb-false (k % w) c differ (ap (λ n. n % w) same ∙ mod-mul-add r w c column) in
-    ap (λ b. b || mark_at rows (k / w) (k % w)) differ ∙ sym (table_at w rows k few) ∙ sym (get_or-set_other (table_of w rows) (r * w + c) k true false place)))
-    (λ isnt.
-    let place : k ≢ r * w + c = λ same. eqb-false (k / w) r isnt (ap (λ n. n / w) same ∙ div-mul-add r w c column) in
-    ap (λ m. is_marked m (k % w)) (get_or-set_other rows r (k / w) new [] (eqb-false (k / w) r isnt)) ∙ sym (table_at w rows k few) ∙ sym (get_or-set_other (table_of w rows) (r * w + c) k true false place)))
-
-pub below_more : (w : ℕ) (rows : List (List ℕ)) (r c : ℕ) (new : List ℕ) → r < length rows → c < w → AreBelow w rows → ((n : ℕ) → is_marked new n ≡ (n == c || mark_at rows r n)) → AreBelow w (slice_set rows r new)
-below_more w rows r c new row column below here = λ s n large. bool_case _ (s == r)
-    (λ is. ap (λ m. is_marked m n) (get_or-set_at rows r s new [] (eqb-true s r is) row) ∙ here n ∙ ap₂ (λ a b. a || b) (other n large) (below r n large))
-    (λ isnt. ap (λ m. is_marked m n) (get_or-set_other rows r s new [] (eqb-false s r isnt)) ∙ below s n large)
-  where
-    other : (n : ℕ) → w ≤ n → (n == c) ≡ false
-    other n large = grind (arith, nat_tests)
+    let less : k < n = subst (λ j. k < j) (marks_length n next) lt in
+    mark_of n next k less ∙ wrote k ∙ bool_case _ (k == m)
+    (λ is. rw is (sym (get_or-set_at (marks_below n words) m k true false (eqb-true k m is) (subst (λ j. m < j) (sym (marks_length n words)) within))))
+    (λ isnt. rw isnt (sym (get_or-set_other (marks_below n words) m k true false (eqb-false k m isnt) ∙ mark_of n words k less))))

@@ -1,5 +1,5 @@
 -- Rows of marks.
-use Rattle.std.specs.Prelude.{◌≡◌, ◌<◌, ◌≤◌, ◌*◌, ◌/◌, ◌%◌, ℕ, List, [], Bool, false, ◌||◌, get_or, length, map}
+use Rattle.std.specs.Prelude.{◌≡◌, ◌<◌, ◌≤◌, ◌*◌, ℕ, List, [], Bool, ◌||◌, get_or, length, map}
 use Rattle.std.specs.List.{range_with_len}
 use Rattle.ctt_text.specs.Marks.{is_marked}
 use Rattle.ctt_text.specs.declared.course_facts.CourseFacts.{CourseFacts}
@@ -22,13 +22,14 @@ pub record MarkTable : Type 0 where
   pub width : ℕ
   pub marks : List Bool
 
--- the marks below a width, row by row
-unfoldable pub table_of : ℕ → List (List ℕ) → List Bool
-table_of width rows = map (λ k. mark_at rows (k / width) (k % width)) (range_with_len 0 (length rows * width))
+-- the marks of the numbers below n
+unfoldable pub marks_below : ℕ → List ℕ → List Bool
+marks_below n words = map (λ k. is_marked words k) (range_with_len 0 n)
 
--- no row has a mark from a width on
-abbrev pub AreBelow : ℕ → List (List ℕ) → Type 0
-AreBelow width rows = (r n : ℕ) → width ≤ n → mark_at rows r n ≡ false
+-- no more marks than the largest instance has, and words for all of them
+pub record HasWords (n : ℕ) (words : List ℕ) : Type 0 where
+  pub few : n ≤ 4000000
+  pub words_are : n ≤ length words * 64
 
 -- the table has so many rows and columns
 pub record IsTableOf (rows width : ℕ) (table : MarkTable) : Type 0 where

@@ -260,16 +260,8 @@ impl Instance {
         requires slot { slot < slot_count self.now }
         ensures { result ≡ is_unavailable self.now course slot }
     {
-        self.unavailable_slots(course)
-            .is_marked(slot.get() as usize)
-    }
-
-    /// The slots in which a course is unavailable.
-    pub fn unavailable_slots(&self, course: CourseNo) -> &Marks
-        requires { course < course_count self.now }
-        ensures { (s : ℕ) → is_marked result.now s ≡ is_unavailable self.now course s }
-    {
-        self.unavailable.slots_of(course.get() as usize)
+        let (course, slot) = (course.get() as usize, slot.get() as usize);
+        self.unavailable.is_marked(course, slot)
     }
 
     /// The slot of a period in a day.

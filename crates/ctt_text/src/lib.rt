@@ -34,6 +34,3 @@ pub use reader::Reader;
 pub use solution::{read_solution, write_solution};
 pub use timetable::{is_before, is_timetable};
 pub use words::Words;
-
-#[cfg(test)]
-mod tests;

@@ -1,6 +1,6 @@
 //! Marks on small numbers, such as those of courses, slots or rooms.
 
-ghost use Rattle.std.specs.Prelude.{◌≡◌, ℕ, ◌<◌, ◌≤◌, ◌==◌, ◌&&◌, ◌||◌, false, not, nat_le, IfSome};
+ghost use Rattle.std.specs.Prelude.{◌≡◌, ℕ, ◌<◌, ◌≤◌, ◌==◌, ◌&&◌, ◌||◌, false, not, nat_le, nat_lt, IfSome};
 ghost use Rattle.ctt_text.specs.Marks.{is_marked, count_marked, IsLeast};
 
 use std::marker::Model;
@@ -73,8 +73,30 @@ impl Marks {
         }
     }
 
-    /// How many numbers are marked in both.
-    pub fn common_count(&self, other: &Self) -> u32
+    /// Marks all numbers below `count`, whole words first.
+    pub fn mark_below(&mut self, count: usize)
+        requires { count ≤ 2000 }
+        ensures { (n : ℕ) → is_marked self.new n ≡ (is_marked self.old n || nat_lt n count) }
+    {
+        for place in 0..count / 64 {
+            self.words[place] |= u64::MAX;
+        }
+        self.words[count / 64] |= (1 << (count % 64)) - 1;
+    }
+
+    /// Whether any number is marked in both. All words are looked at at once, with no test between them.
+    fn has_common(&self, other: &Self) -> bool
+        ensures { result ≡ false → (n : ℕ) → (is_marked self.now n && is_marked other.now n) ≡ false }
+    {
+        let mut common = 0;
+        for place in 0..32 {
+            common |= self.words[place] & other.words[place];
+        }
+        common != 0
+    }
+
+    /// How many numbers are marked in both, word by word.
+    fn count_common(&self, other: &Self) -> u32
         ensures { result ≡ count_marked (λ n. is_marked self.now n && is_marked other.now n) }
     {
         let mut count = 0;
@@ -84,15 +106,29 @@ impl Marks {
         count
     }
 
-    /// The least number that is marked in both.
-    pub fn first_common(&self, other: &Self) -> Option<usize>
-        ensures least { IsLeast (λ n. is_marked self.now n && is_marked other.now n) result }
-        ensures within { IfSome result (λ n. n < 2000) }
+    /// How many numbers are marked in both. Of most two marks none is.
+    #[tactic(auto, using(crate::proofs::MarkLemmas::count_none))]
+    pub fn common_count(&self, other: &Self) -> u32
+        ensures { result ≡ count_marked (λ n. is_marked self.now n && is_marked other.now n) }
     {
-        for place in 0..32 {
+        if self.has_common(other) {
+            self.count_common(other)
+        } else {
+            0
+        }
+    }
+
+    /// The least number below `count` that is marked in both.
+    pub fn first_common_below(&self, other: &Self, count: usize) -> Option<usize>
+        requires { count ≤ 2000 }
+        ensures least { IsLeast (λ n. nat_lt n count && (is_marked self.now n && is_marked other.now n)) result }
+        ensures within { IfSome result (λ n. n < count) }
+    {
+        for place in 0..(count + 63) / 64 {
             let common = self.words[place] & other.words[place];
             if common != 0 {
-                return Some(place * 64 + common.trailing_zeros() as usize);
+                let number = place * 64 + common.trailing_zeros() as usize;
+                return (number < count).then_some(number);
             }
         }
         None

@@ -3,8 +3,7 @@
 mod lectures;
 mod places;
 mod read;
-#[cfg(test)]
-mod tests;
+mod room_table;
 mod write;
 
 pub use read::read_solution;

@@ -17,8 +17,9 @@ use Rattle.ctt_script.specs.declared.journal_fault.JournalFault.TheVariants as j
 use Rattle.ctt_text.specs.declared.placed.Placed.{Placed}
 use Rattle.ctt_text.proofs.FormLaws.{err_is_ok, err_same}
 use Rattle.ctt_tool.specs.Texts.{IsNoInstance, IsNoJournal, IsNoSolution}
-use Rattle.ctt_tool.specs.Faults.{fault_of_instance, fault_of_journal, fault_of_solution, status_of}
+use Rattle.ctt_tool.specs.Faults.{IfUnwritten, fault_of_instance, fault_of_journal, fault_of_solution, status_of}
 use Rattle.ctt_tool.specs.declared.fault.Fault.{Fault}
+use Rattle.ctt_tool.specs.declared.fault.Fault.TheVariants.{CannotRead, CannotWrite, Instance, Journal, NoMemory, NoPlace, NoThread, Opening, Solution, TooLong, TooManyScripts, Words, WordsNotText}
 
 -- the status that is told is that of the fault, unless it is 3
 pub one_is_of_fault : (fault : Fault) (status : ℕ) → (status ≡ status_of fault) ⊎ (status ≡ 3) → status ≡ 1 → status_of fault ≡ 1
@@ -28,6 +29,26 @@ one_is_of_fault fault status (inr three) one = absurd (omega (arith, three, one)
 -- the want of memory is no refusal
 pub three_is_one : {C : Type 0} → ◌≡◌ {A = ℕ} 3 1 → C
 three_is_one e = absurd (omega (arith, e))
+
+-- what keeps a journal from being stored is the machine's
+machine_only : (fault : Fault) (A K P : Type 0) → IfUnwritten fault A ((fault ≡ NoMemory) × K) → status_of fault ≡ 1 → P
+machine_only CannotWrite A K P is one = three_is_one one
+machine_only (Instance number at) A K P is one = three_is_one (ap status_of (sym is.0) ∙ one)
+machine_only (Solution number at) A K P is one = three_is_one (ap status_of (sym is.0) ∙ one)
+machine_only (Journal number at) A K P is one = three_is_one (ap status_of (sym is.0) ∙ one)
+machine_only (Opening text) A K P is one = three_is_one (ap status_of (sym is.0) ∙ one)
+machine_only (CannotRead name) A K P is one = three_is_one (ap status_of (sym is.0) ∙ one)
+machine_only (TooLong name) A K P is one = three_is_one (ap status_of (sym is.0) ∙ one)
+machine_only NoMemory A K P is one = three_is_one (ap status_of (sym is.0) ∙ one)
+machine_only (Words text) A K P is one = three_is_one (ap status_of (sym is.0) ∙ one)
+machine_only WordsNotText A K P is one = three_is_one (ap status_of (sym is.0) ∙ one)
+machine_only TooManyScripts A K P is one = three_is_one (ap status_of (sym is.0) ∙ one)
+machine_only NoPlace A K P is one = three_is_one (ap status_of (sym is.0) ∙ one)
+machine_only NoThread A K P is one = three_is_one (ap status_of (sym is.0) ∙ one)
+
+pub unstored_refuses_none : {T : Type 0} (r : Result T Fault) (A K : Type 0) (P : Fault → Type 0) → IfErr r (λ fault. IfUnwritten fault A ((fault ≡ NoMemory) × K)) → IfErr r (λ fault. status_of fault ≡ 1 → P fault)
+unstored_refuses_none (Ok x) A K P is = tt
+unstored_refuses_none (Err fault) A K P is = machine_only fault A K (P fault) is
 
 -- a reading of bytes fails by this fault, and each instance that they spell would be read, but for want of memory
 abbrev pub TakesInstances : List ℕ → ReadFault → Type 0

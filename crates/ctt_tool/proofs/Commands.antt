@@ -1,5 +1,6 @@
 -- Commands grow by arguments and by commands of their own.
-use Rattle.std.proofs.Common.{◌≡◌, ◌∙◌, ◌||◌, ap, ap₂, false}
+use Rattle.std.proofs.Common.{◌≡◌, ◌∙◌, ◌||◌, ap, ap₂, false, Result, Ok, Err}
+use Rattle.std.specs.Prelude.{IfOk, IsOkAnd}
 use Rattle.clap.specs.Words.{AddsArg, AddsSubcommand, App, Rule, rule_of, with_rule, with_subcommand}
 use Rattle.clap.specs.declared.builder.Arg.{Arg}
 use Rattle.clap.specs.declared.builder.Command.{Command}
@@ -21,3 +22,10 @@ with_command app sub old command new was command_is adds = record {
       ∙ ap₂ with_subcommand was.reads_by (ap (λ (a : App). a.top) command_is.reads_by);
   is_local = adds.globals ∙ ap₂ (◌||◌) was.is_local command_is.is_local;
 }
+
+-- a command that could be made, and was added
+pub with_made : {E : Type 0} (app sub : App) (old : Command) (made : Result Command E) (new : Command)
+    → IsCommand app old → IfOk made (IsCommand sub) → IsOkAnd made (λ command. AddsSubcommand old command new)
+    → IsCommand (with_subcommand app sub.top) new
+with_made app sub old (Ok command) new was is adds = with_command app sub old command new was is adds
+with_made app sub old (Err e) new was is adds = absurd adds

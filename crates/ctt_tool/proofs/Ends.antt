@@ -1,13 +1,13 @@
 -- How the program ends, by its status.
-use Rattle.std.proofs.Common.{◌≡◌, ◌≢◌, ◌⊎◌, inl, inr, ⊎_elim, refl, ℕ, List, [], Option, arith}
+use Rattle.std.proofs.Common.{◌≡◌, ◌≢◌, ◌∙◌, ◌⊎◌, sym, inl, inr, ⊎_elim, refl, ℕ, List, [], Option, arith}
 use Rattle.ctt_tool.specs.Faults.{KeptUnless, MayHaveWritten, SaysFault, status_of}
 use Rattle.ctt_tool.specs.Jobs.{faults_of}
 use Rattle.ctt_tool.specs.Outcomes.{outcome_status}
 use Rattle.ctt_tool.specs.Texts.{Held}
 use Rattle.ctt_tool.specs.Work.{DoesAsAsked}
 use Rattle.ctt_tool.specs.declared.fault.Fault.{Fault}
-use Rattle.ctt_tool.specs.declared.fault.Fault.TheVariants.{CannotRead, CannotWrite, Instance, Journal, NoMemory, Opening, Solution, TooLong, Words, WordsNotText}
-use Rattle.ctt_tool.specs.declared.job.Job.TheVariants.{Audit, Check, Run}
+use Rattle.ctt_tool.specs.declared.fault.Fault.TheVariants.{CannotRead, CannotWrite, Instance, Journal, NoMemory, NoPlace, NoThread, Opening, Solution, TooLong, TooManyScripts, Words, WordsNotText}
+use Rattle.ctt_tool.specs.declared.job.Job.TheVariants.{Audit, Check, Crew, Run}
 use Rattle.ctt_tool.specs.declared.outcome.Outcome.{Outcome}
 use Rattle.ctt_tool.specs.declared.outcome.Outcome.TheVariants.{Done, Differs}
 use Rattle.ctt_tool.proofs.Causes.{three_is_one}
@@ -26,6 +26,14 @@ ends_differs Differs status D is does some = does
 pub one_is_some : (status : ℕ) → status ≡ 1 → status ≢ 0
 one_is_some status one zero = omega (arith, one, zero)
 
+pub three_is_not_one : {C : Type 0} (fault : Fault) → status_of fault ≡ 3 → status_of fault ≡ 1 → C
+three_is_not_one fault three one = absurd (omega (arith, three, one))
+
+-- and 2 is that of a fault
+pub two_is_of_fault : (fault : Fault) (status : ℕ) → (status ≡ status_of fault) ⊎ (status ≡ 3) → status ≡ 2 → status_of fault ≡ 2
+two_is_of_fault fault status (inl same) two = sym same ∙ two
+two_is_of_fault fault status (inr three) two = absurd (omega (arith, three, two))
+
 -- such words have no fault
 pub differs_taken : (words : List (List ℕ)) (before after : Held) (old new : Option (List ℕ)) → DoesAsAsked words Differs before after old new → faults_of words ≡ []
 differs_taken words before after old new (inl help) = cc
@@ -43,6 +51,9 @@ ended_kept (CannotRead name) status S K is kept = inl kept
 ended_kept (TooLong name) status S K is kept = inl kept
 ended_kept (Words text) status S K is kept = inl kept
 ended_kept WordsNotText status S K is kept = inl kept
+ended_kept TooManyScripts status S K is kept = inl kept
+ended_kept NoThread status S K is kept = inl kept
+ended_kept NoPlace status S K is kept = inl kept
 
 -- an audit that does not agree has changed no file
 pub differs_kept : (words : List (List ℕ)) (before after : Held) (old new : Option (List ℕ)) → DoesAsAsked words Differs before after old new → after ≡ before
@@ -50,6 +61,7 @@ differs_kept words before after old new (inl help) = help.2
 differs_kept words before after old new (inr (taken, (Check instance solution json, is, does))) = cc
 differs_kept words before after old new (inr (taken, (Run instance script start journal, is, does))) = cc
 differs_kept words before after old new (inr (taken, (Audit instance journal start, is, does))) = does.0
+differs_kept words before after old new (inr (taken, (Crew instance scripts, is, does))) = cc
 
 -- where a text is refused, nothing was printed
 pub unprinted_one : (fault : Fault) (P : Type 0) → MayHaveWritten fault ⊎ P → status_of fault ≡ 1 → P
@@ -64,6 +76,9 @@ unprinted_one (CannotRead name) P (inl may) one = absurd may
 unprinted_one (TooLong name) P (inl may) one = absurd may
 unprinted_one (Words text) P (inl may) one = absurd may
 unprinted_one WordsNotText P (inl may) one = absurd may
+unprinted_one TooManyScripts P (inl may) one = absurd may
+unprinted_one NoThread P (inl may) one = absurd may
+unprinted_one NoPlace P (inl may) one = absurd may
 
 -- what is so of these words is so of some
 pub of_some_words : (words : List (List ℕ)) (D : List (List ℕ) → Type 0) (M : Type 0) (C : Fault → Type 0) (status : ℕ) (old new : Option (List ℕ)) → D words ⊎ (M ⊎ SaysFault C status old new)

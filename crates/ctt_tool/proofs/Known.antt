@@ -1,14 +1,16 @@
 -- What holds where bytes are told.
-use Rattle.std.proofs.Common.{◌≡◌, ◌⊎◌, ⊎_elim, inl, inr, ℕ, Bool, true, List, refl, sym, subst, IfErr, IfSome, IsErrAnd, OnOk, Option, Some, None, Result, Ok, Err}
+use Rattle.std.proofs.Common.{◌≡◌, ◌≤◌, ◌<◌, ◌⊎◌, ⊎_elim, length, arith, string_bytes, inl, inr, ℕ, Bool, true, List, refl, sym, subst, IfErr, IfSome, IsErrAnd, OnOk, Option, Some, None, Result, Ok, Err}
 use Rattle.std.specs.Global.{Global}
 use Rattle.std.specs.Io.KnownBytes.{Appends}
 use Rattle.std.specs.declared.string.String.{String}
+use Rattle.std.proofs.lemmas.List.{length-map}
 use Rattle.ctt_tool.specs.Faults.{IfUnwritten, IsLineOf, IsOfFiles, IsOneOf, KeptUnless, SaysFault, status_of}
-use Rattle.ctt_tool.specs.Jobs.{IsJobOf, Storing, files_of}
-use Rattle.ctt_tool.specs.Work.{HasCause}
+use Rattle.ctt_tool.specs.Jobs.{HasScripts, IsJobOf, IsOfJob, IsRefusal, Storing, faults_of, files_of, scripts_of}
+use Rattle.ctt_tool.specs.Work.{AsksForTooMany, HasCause}
 use Rattle.ctt_tool.specs.declared.fault.Fault.{Fault}
-use Rattle.ctt_tool.specs.declared.fault.Fault.TheVariants.{CannotRead, CannotWrite, Instance, Journal, NoMemory, Opening, Solution, TooLong, Words, WordsNotText}
+use Rattle.ctt_tool.specs.declared.fault.Fault.TheVariants.{CannotRead, CannotWrite, Instance, Journal, NoMemory, NoPlace, NoThread, Opening, Solution, TooLong, TooManyScripts, Words, WordsNotText}
 use Rattle.ctt_tool.specs.declared.job.Job.{Job}
+use Rattle.ctt_tool.specs.declared.job.Job.TheVariants.{Audit, Check, Crew, Run}
 
 pub both_told : {X Y : Type 0} (o : Option X) (p : Option Y) (P : X → Type 0) (Q : Y → Type 0) (R : X → Y → Type 0) → ((x : X) (y : Y) → P x → Q y → R x y)
     → IfSome o P → IfSome p Q → IfSome o (λ x. IfSome p (R x))
@@ -48,13 +50,72 @@ of_more_files names more held (CannotRead name) within is = within name is
 of_more_files names more held (TooLong name) within is = (within name is.0, is.1)
 of_more_files names more held _ within is = tt
 
+-- scripts are too many only for a crew, and threads and places are only a crew's
+too_many : (job : Job) → IsOfJob job TooManyScripts → 64 < length (scripts_of job)
+too_many (Check instance solution json) is = absurd is
+too_many (Run instance script start journal) is = absurd is
+too_many (Audit instance journal start) is = absurd is
+too_many (Crew instance scripts) is = is
+
+some_scripts : (job : Job) → IsOfJob job NoThread → 1 ≤ length (scripts_of job)
+some_scripts (Check instance solution json) is = absurd is
+some_scripts (Run instance script start journal) is = absurd is
+some_scripts (Audit instance journal start) is = absurd is
+some_scripts (Crew instance scripts) is = is
+
+some_places : (job : Job) → IsOfJob job NoPlace → 1 ≤ length (scripts_of job)
+some_places (Check instance solution json) is = absurd is
+some_places (Run instance script start journal) is = absurd is
+some_places (Audit instance journal start) is = absurd is
+some_places (Crew instance scripts) is = is
+
+-- and no job refuses the words that ask for it
+no_words : (job : Job) (text : String Global) → IsOfJob job (Words text) → ⊥
+no_words (Check instance solution json) text is = is
+no_words (Run instance script start journal) text is = is
+no_words (Audit instance journal start) text is = is
+no_words (Crew instance scripts) text is = is
+
+no_word : (job : Job) → IsOfJob job WordsNotText → ⊥
+no_word (Check instance solution json) is = is
+no_word (Run instance script start journal) is = is
+no_word (Audit instance journal start) is = is
+no_word (Crew instance scripts) is = is
+
 -- the cause of a fault of a job
 pub job_caused : (words : List (List ℕ)) (held : List ℕ → Option (List ℕ)) (failed : Bool) (job : Job) (Q : Type 0) (fault : Fault) → IsJobOf words job → IsOfFiles (files_of job) held fault
-    → IfUnwritten fault ((failed ≡ true) ⊎ Storing job) Q → HasCause words held failed fault
+    → IfUnwritten fault ((failed ≡ true) ⊎ Storing job) (IsOfJob job fault × Q) → HasCause words held failed fault
 job_caused words held failed job Q CannotWrite is file unwritten = ⊎_elim inl (λ storing. inr (job, is, storing)) unwritten
 job_caused words held failed job Q (CannotRead name) is file unwritten = (job, is, file)
 job_caused words held failed job Q (TooLong name) is file unwritten = (job, is, file)
+job_caused words held failed job Q TooManyScripts is file unwritten = (job, is, too_many job unwritten.0)
+job_caused words held failed job Q NoThread is file unwritten = (job, is, some_scripts job unwritten.0)
+job_caused words held failed job Q NoPlace is file unwritten = (job, is, some_places job unwritten.0)
 job_caused words held failed job Q _ is file unwritten = tt
+
+-- a refusal of a job is that of too many scripts
+pub job_refused : (words : List (List ℕ)) (job : Job) (P Q : Type 0) (fault : Fault) → IsJobOf words job → IfUnwritten fault P (IsOfJob job fault × Q) → status_of fault ≡ 2
+    → IsRefusal (faults_of words) ⊎ AsksForTooMany words
+job_refused words job P Q TooManyScripts is unwritten two = inr (job, is, too_many job unwritten.0)
+job_refused words job P Q (Words text) is unwritten two = absurd (no_words job text unwritten.0)
+job_refused words job P Q WordsNotText is unwritten two = absurd (no_word job unwritten.0)
+job_refused words job P Q (Instance number at) is unwritten two = absurd (omega (arith, two))
+job_refused words job P Q (Solution number at) is unwritten two = absurd (omega (arith, two))
+job_refused words job P Q (Journal number at) is unwritten two = absurd (omega (arith, two))
+job_refused words job P Q (Opening text) is unwritten two = absurd (omega (arith, two))
+job_refused words job P Q (CannotRead name) is unwritten two = absurd (omega (arith, two))
+job_refused words job P Q (TooLong name) is unwritten two = absurd (omega (arith, two))
+job_refused words job P Q CannotWrite is unwritten two = absurd (omega (arith, two))
+job_refused words job P Q NoMemory is unwritten two = absurd (omega (arith, two))
+job_refused words job P Q NoThread is unwritten two = absurd (omega (arith, two))
+job_refused words job P Q NoPlace is unwritten two = absurd (omega (arith, two))
+
+-- a job that words ask for has what a crew needs
+pub job_has_scripts : (words : List (List ℕ)) (job : Job) → IsJobOf words job → HasScripts job
+job_has_scripts words (Check instance solution json) is = tt
+job_has_scripts words (Run instance script start journal) is = tt
+job_has_scripts words (Audit instance journal start) is = tt
+job_has_scripts words (Crew instance scripts) is = subst (λ n. 1 ≤ n) (length-map scripts.items string_bytes) is.2.has_some
 
 -- what holds of a fault holds where it is passed on
 pub passed_on : {T : Type 0} (r : Result T Fault) (fault : Fault) (P : Fault → Type 0) → IsErrAnd r (λ told. told ≡ fault) → P fault → IfErr r P
@@ -73,6 +134,9 @@ kept_unless (CannotRead name) S K kept = kept
 kept_unless (TooLong name) S K kept = kept
 kept_unless (Words text) S K kept = kept
 kept_unless WordsNotText S K kept = kept
+kept_unless TooManyScripts S K kept = kept
+kept_unless NoThread S K kept = kept
+kept_unless NoPlace S K kept = kept
 
 pub kept_weaker : (fault : Fault) (S R K L : Type 0) → (S → R) → (K → L) → KeptUnless fault S K → KeptUnless fault R L
 kept_weaker CannotWrite S R K L more kept is = ⊎_elim (λ same. inl (kept same)) (λ stored. inr (more stored)) is
@@ -85,3 +149,6 @@ kept_weaker (CannotRead name) S R K L more kept is = kept is
 kept_weaker (TooLong name) S R K L more kept is = kept is
 kept_weaker (Words text) S R K L more kept is = kept is
 kept_weaker WordsNotText S R K L more kept is = kept is
+kept_weaker TooManyScripts S R K L more kept is = kept is
+kept_weaker NoThread S R K L more kept is = kept is
+kept_weaker NoPlace S R K L more kept is = kept is

@@ -7,4 +7,5 @@ pub mod Taken
 pub mod Known
 pub mod Causes
 pub mod Desks
+pub mod Scripts
 pub mod Ends

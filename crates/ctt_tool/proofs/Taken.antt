@@ -7,17 +7,17 @@ use Rattle.clap.specs.Simple.{Shape, built, built_leaf, label_of, rows_at}
 use Rattle.clap.specs.Walk.{Row, Text, answers_to, nothing_held, rows_after}
 use Rattle.clap.specs.Words.{fault_of, subcommand_of}
 use Rattle.clap.proofs.OnLiterals.{clap_on_literals}
-use Rattle.ctt_tool.specs.CommandLine.{IsOnOrOff, audit, check, is_on, run, timedesk}
-use Rattle.ctt_tool.specs.Jobs.{IsWhole, IsWholeAs, NamesFiles, NamesJournal, NamesScript}
+use Rattle.ctt_tool.specs.CommandLine.{IsOnOrOff, audit, check, crew, is_on, run, timedesk}
+use Rattle.ctt_tool.specs.Jobs.{IsWhole, IsWholeAs, NamesFiles, NamesJournal, NamesScript, NamesScripts}
 use Rattle.ctt_tool.proofs.Rows.{is_giving}
 use Rattle.ctt_tool.proofs.Entered.{Enters, enters, has_flag, has_required, is_flag, is_required, not_help}
 
 command_required : (built timedesk).top.subcommand_required ≡ true
-unfolding clap_on_literals timedesk check run audit
+unfolding clap_on_literals timedesk check run audit crew
 command_required = refl
 
 help_is_no_command : (built timedesk).top.disable_help_subcommand ≡ false
-unfolding clap_on_literals timedesk check run audit
+unfolding clap_on_literals timedesk check run audit crew
 help_is_no_command = refl
 
 -- ---- `check`
@@ -110,11 +110,39 @@ audit_is_whole rest matched is none = (
   },
 )
 
+-- ---- `crew`
+
+unfoldable pub built_crew : Shape
+built_crew = built_leaf crew.top
+
+crew_gives : list_all is_giving built_crew.rules ≡ true
+unfolding clap_on_literals built_crew crew
+crew_gives = refl
+
+crew_instance : list_any (is_required (codes "instance")) built_crew.rules ≡ true
+unfolding clap_on_literals built_crew crew
+crew_instance = refl
+
+crew_script : list_any (is_required (codes "script")) built_crew.rules ≡ true
+unfolding clap_on_literals built_crew crew
+crew_script = refl
+
+crew_is_whole : (rest : List Text) (matched : Option (Text × List Row)) → matched ≡ Some (codes "crew", rows_after built_crew.rules [] rest)
+    → level_fault built_crew [] nothing_held rest false [] ≡ [] → IsWholeAs (codes "crew") NamesScripts matched
+crew_is_whole rest matched is none = (
+  rows_after built_crew.rules [] rest,
+  is,
+  record {
+    instance = has_required built_crew rest (codes "instance") crew_gives none crew_instance;
+    script = has_required built_crew rest (codes "script") crew_gives none crew_script;
+  },
+)
+
 -- ---- the program
 
 -- words in which `clap` finds no fault name a command with all that it needs
 pub taken_is_whole : (words : List Text) → fault_of timedesk words ≡ [] → IsWhole (subcommand_of timedesk words)
-unfolding clap_on_literals timedesk check run audit built_check built_run built_audit
+unfolding clap_on_literals timedesk check run audit crew built_check built_run built_audit built_crew
 taken_is_whole words none =
     let found = enters timedesk words command_required none in
     let named : (shape : Shape) → found.shape ≡ shape → subcommand_of timedesk words ≡ Some (rows_at shape found.rest)
@@ -123,9 +151,10 @@ taken_is_whole words none =
     = λ shape is. subst (λ (s : Shape). level_fault s [] nothing_held found.rest false [] ≡ []) is found.level in
     ⊎_elim (λ is. inl (check_is_whole found.rest _ (named built_check is) (level built_check is))) (λ second.
     ⊎_elim (λ is. inr (inl (run_is_whole found.rest _ (named built_run is) (level built_run is)))) (λ third.
-    ⊎_elim (λ is. inr (inr (audit_is_whole found.rest _ (named built_audit is) (level built_audit is)))) (λ later.
+    ⊎_elim (λ is. inr (inr (inl (audit_is_whole found.rest _ (named built_audit is) (level built_audit is))))) (λ fourth.
+    ⊎_elim (λ is. inr (inr (inr (crew_is_whole found.rest _ (named built_crew is) (level built_crew is))))) (λ later.
     ⊎_elim (λ is. absurd (not_help (built timedesk).top found.word help_is_no_command (ap (λ (s : Shape). answers_to found.word (label_of s)) (sym is) ∙ found.answers) found.is_no_request))
-    (λ none. absurd none) later) third) second) found.is_one
+    (λ none. absurd none) later) fourth) third) second) found.is_one
 
 -- a flag that is read as `clap` reads it is on where the option is given
 pub flag_is_on : (o : Option Text) (flag : Bool) → IsOnOrOff o → (o ≡ None → flag ≡ false) → (o ≡ Some (codes "true") → flag ≡ true) → (o ≡ Some (codes "false") → flag ≡ false)

@@ -1,6 +1,7 @@
 -- The command line of the program, as far as `clap` reads words by it, and what it finds.
 use Rattle.std.specs.Prelude.{◌≡◌, ◌⊎◌, ℕ, Bool, List, codes, true, false, Option, Some, None}
 use Rattle.std.specs.Str.{bytes_eq}
+use Rattle.clap.specs.Lexer.{usize_max}
 use Rattle.clap.specs.Simple.{on_top}
 use Rattle.clap.specs.Words.{App, Rule, Text, app_of, new_app, new_rule, with_rule, with_subcommand}
 use Rattle.clap.specs.declared.builder.Command.{Command}
@@ -10,6 +11,10 @@ use Rattle.clap.specs.declared.builder.action.ArgAction.TheVariants.{SetTrue}
 -- a word that has to be given, by its place
 abbrev pub required_word : List ℕ → Rule
 required_word id = record (new_rule id) { required = true; value_names = 1 }
+
+-- one word or more that have to be given, by their places behind all others
+abbrev pub required_words : List ℕ → Rule
+required_words id = record (required_word id) { range = Some (record { start_inclusive = 1; end_inclusive = usize_max }) }
 
 -- an option that is given or not
 abbrev pub flag : List ℕ → Rule
@@ -34,13 +39,18 @@ unfoldable pub audit : App
 audit = with_rule (with_rule (with_rule (new_app (codes "audit"))
     (required_word (codes "instance"))) (required_word (codes "journal"))) (valued (codes "start"))
 
+-- `crew INSTANCE SCRIPT..`
+unfoldable pub crew : App
+crew = with_rule (with_rule (new_app (codes "crew"))
+    (required_word (codes "instance"))) (required_words (codes "script"))
+
 -- the program alone: it has a version, and a command has to be given
 abbrev pub bare : App
 bare = on_top (λ s. record s { has_version = true; subcommand_required = true }) (new_app (codes "timedesk"))
 
 -- the program with its commands
 unfoldable pub timedesk : App
-timedesk = with_subcommand (with_subcommand (with_subcommand bare check.top) run.top) audit.top
+timedesk = with_subcommand (with_subcommand (with_subcommand (with_subcommand bare check.top) run.top) audit.top) crew.top
 
 -- `clap` reads words by this command as by `app`, and no argument of it holds for other commands
 pub record IsCommand (app : App) (command : Command) : Type 0 where

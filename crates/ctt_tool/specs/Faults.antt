@@ -1,5 +1,5 @@
 -- The faults of the program: their numbers and their statuses.
-use Rattle.std.specs.Prelude.{◌≡◌, ◌⊎◌, ◌++◌, ◌<◌, ℕ, List, [], ◌∷◌, Option, IfSome, codes, length}
+use Rattle.std.specs.Prelude.{◌≡◌, ◌⊎◌, ◌++◌, ◌<◌, ◌≤◌, ℕ, List, [], ◌∷◌, Option, IfSome, codes, length}
 use Rattle.std.specs.Fmt.{decimal}
 use Rattle.std.specs.Global.{Global}
 use Rattle.std.specs.Io.KnownBytes.{Appends}
@@ -14,12 +14,14 @@ use Rattle.ctt_edits.specs.Fitting.{FaultFits}
 use Rattle.ctt_edits.specs.declared.fault.EditFault.{EditFault}
 use Rattle.ctt_script.specs.WrittenText.{line}
 use Rattle.ctt_script.specs.WrittenWords.{fault_words}
+use Rattle.ctt_script.specs.declared.crew_fault.CrewFault.{CrewFault}
+use Rattle.ctt_script.specs.declared.crew_fault.CrewFault.TheVariants as crew
 use Rattle.ctt_script.specs.declared.journal_fault.JournalFault.{JournalFault}
 use Rattle.ctt_script.specs.declared.journal_fault.JournalFault.TheVariants as journal
 use Rattle.ctt_script.specs.declared.script_fault.ScriptFault.{ScriptFault}
 use Rattle.ctt_script.specs.declared.script_fault.ScriptFault.TheVariants as script
 use Rattle.ctt_tool.specs.declared.fault.Fault.{Fault}
-use Rattle.ctt_tool.specs.declared.fault.Fault.TheVariants.{CannotRead, CannotWrite, Instance, Journal, NoMemory, Opening, Solution, TooLong, Words, WordsNotText}
+use Rattle.ctt_tool.specs.declared.fault.Fault.TheVariants.{CannotRead, CannotWrite, Instance, Journal, NoMemory, NoPlace, NoThread, Opening, Solution, TooLong, TooManyScripts, Words, WordsNotText}
 
 -- the fault of an instance, by its number and the byte or the word that it names
 abbrev pub fault_of_instance : ReadFault → Fault
@@ -53,6 +55,12 @@ fault_of_journal (journal.Missing word) = Journal 2 word
 fault_of_journal (journal.BadWord word) = Journal 3 word
 fault_of_journal journal.NoMemory = NoMemory
 
+-- the fault of a crew
+abbrev pub fault_of_crew : CrewFault → Fault
+fault_of_crew crew.NoPlace = NoPlace
+fault_of_crew (crew.NoThread planner) = NoThread
+fault_of_crew crew.NoMemory = NoMemory
+
 -- the line of an opening of which this lecture, counted from 1, cannot be placed
 abbrev pub opening_line : Problem → ℕ → EditFault → List ℕ
 opening_line problem at fault = codes "timedesk: opening " ++ (decimal at ++ (codes " " ++ line (fault_words problem fault)))
@@ -69,6 +77,9 @@ IsOpeningFault problem at fault (TooLong name) = ⊥
 IsOpeningFault problem at fault CannotWrite = ⊥
 IsOpeningFault problem at fault (Words text) = ⊥
 IsOpeningFault problem at fault WordsNotText = ⊥
+IsOpeningFault problem at fault TooManyScripts = ⊥
+IsOpeningFault problem at fault NoThread = ⊥
+IsOpeningFault problem at fault NoPlace = ⊥
 
 -- a fault of a run that names a course of the instance, if it names one
 abbrev pub RunFaultFits : Problem → ScriptFault → Type 0
@@ -91,10 +102,13 @@ status_of (Journal number at) = 1
 status_of (Opening text) = 1
 status_of (Words text) = 2
 status_of WordsNotText = 2
+status_of TooManyScripts = 2
 status_of (CannotRead name) = 3
 status_of (TooLong name) = 3
 status_of CannotWrite = 3
 status_of NoMemory = 3
+status_of NoThread = 3
+status_of NoPlace = 3
 
 -- the file of this name cannot be read, or is too long, or its bytes find no room
 abbrev pub IsOfFile : String Global → Fault → Type 0
@@ -108,6 +122,9 @@ IsOfFile name (Opening text) = ⊥
 IsOfFile name (Words text) = ⊥
 IsOfFile name WordsNotText = ⊥
 IsOfFile name CannotWrite = ⊥
+IsOfFile name TooManyScripts = ⊥
+IsOfFile name NoThread = ⊥
+IsOfFile name NoPlace = ⊥
 
 -- the fault lies in a text or its file, or memory was wanted
 abbrev pub IsOfTexts : Fault → Type 0
@@ -121,6 +138,41 @@ IsOfTexts NoMemory = Unit {0}
 IsOfTexts (Words text) = ⊥
 IsOfTexts WordsNotText = ⊥
 IsOfTexts CannotWrite = ⊥
+IsOfTexts TooManyScripts = ⊥
+IsOfTexts NoThread = ⊥
+IsOfTexts NoPlace = ⊥
+
+-- a file cannot be read, or is too long, or its bytes find no room
+abbrev pub IsOfReading : Fault → Type 0
+IsOfReading (CannotRead name) = Unit {0}
+IsOfReading (TooLong name) = Unit {0}
+IsOfReading NoMemory = Unit {0}
+IsOfReading (Instance number at) = ⊥
+IsOfReading (Solution number at) = ⊥
+IsOfReading (Journal number at) = ⊥
+IsOfReading (Opening text) = ⊥
+IsOfReading (Words text) = ⊥
+IsOfReading WordsNotText = ⊥
+IsOfReading CannotWrite = ⊥
+IsOfReading TooManyScripts = ⊥
+IsOfReading NoThread = ⊥
+IsOfReading NoPlace = ⊥
+
+-- the fault lies in a text or its file, or memory was wanted, or, of a crew of so many scripts, they are too many, or a planner had no place or no thread
+abbrev pub IsOfCrew : ℕ → Fault → Type 0
+IsOfCrew scripts TooManyScripts = 64 < scripts
+IsOfCrew scripts NoThread = 1 ≤ scripts
+IsOfCrew scripts NoPlace = 1 ≤ scripts
+IsOfCrew scripts (Instance number at) = Unit {0}
+IsOfCrew scripts (Solution number at) = Unit {0}
+IsOfCrew scripts (Journal number at) = Unit {0}
+IsOfCrew scripts (Opening text) = Unit {0}
+IsOfCrew scripts (CannotRead name) = Unit {0}
+IsOfCrew scripts (TooLong name) = Unit {0}
+IsOfCrew scripts NoMemory = Unit {0}
+IsOfCrew scripts (Words text) = ⊥
+IsOfCrew scripts WordsNotText = ⊥
+IsOfCrew scripts CannotWrite = ⊥
 
 -- P where standard output could not be written, and else Q
 abbrev pub IfUnwritten : Fault → Type 0 → Type 0 → Type 0
@@ -134,6 +186,9 @@ IfUnwritten (TooLong name) P Q = Q
 IfUnwritten NoMemory P Q = Q
 IfUnwritten (Words text) P Q = Q
 IfUnwritten WordsNotText P Q = Q
+IfUnwritten TooManyScripts P Q = Q
+IfUnwritten NoThread P Q = Q
+IfUnwritten NoPlace P Q = Q
 
 -- K, unless a file that had to be stored could not be written, and then S
 abbrev pub KeptUnless : Fault → Type 0 → Type 0 → Type 0
@@ -151,6 +206,9 @@ MayHaveWritten (CannotRead name) = ⊥
 MayHaveWritten (TooLong name) = ⊥
 MayHaveWritten (Words text) = ⊥
 MayHaveWritten WordsNotText = ⊥
+MayHaveWritten TooManyScripts = ⊥
+MayHaveWritten NoThread = ⊥
+MayHaveWritten NoPlace = ⊥
 
 -- the bytes end with the end of a line
 abbrev pub EndsLine : List ℕ → Type 0
@@ -167,6 +225,9 @@ IsLineOf (CannotRead name) bytes = EndsLine bytes
 IsLineOf (TooLong name) bytes = EndsLine bytes
 IsLineOf WordsNotText bytes = EndsLine bytes
 IsLineOf CannotWrite bytes = EndsLine bytes
+IsLineOf TooManyScripts bytes = EndsLine bytes
+IsLineOf NoThread bytes = EndsLine bytes
+IsLineOf NoPlace bytes = EndsLine bytes
 IsLineOf NoMemory bytes = bytes ≡ codes "timedesk: no memory\n"
 
 -- such a line is said

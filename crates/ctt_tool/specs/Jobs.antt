@@ -1,14 +1,16 @@
 -- Which job the words of a command line ask for, and what is said where they ask for none.
-use Rattle.std.specs.Prelude.{◌≡◌, ◌≢◌, ◌⊎◌, Bool, List, [], ◌∷◌, Option, Some, None, IsSome, codes, option_map}
+use Rattle.std.specs.Prelude.{◌≡◌, ◌≢◌, ◌≤◌, ◌⊎◌, Bool, List, [], ◌∷◌, Option, Some, None, IsSome, codes, length, map, option_map}
 use Rattle.std.specs.Global.{Global}
 use Rattle.std.specs.String.{string_bytes}
 use Rattle.std.specs.declared.string.String.{String}
-use Rattle.clap.specs.Words.{IsAmong, Kinds, Row, Text, fault_of, first_of, one_of, subcommand_of}
+use Rattle.clap.specs.Words.{IsAmong, Kinds, Row, Text, all_of, fault_of, first_of, one_of, subcommand_of}
 use Rattle.clap.specs.declared.error.kind.ErrorKind.{ErrorKind}
 use Rattle.clap.specs.declared.error.kind.ErrorKind.TheVariants.{DisplayHelp, DisplayVersion, OutOfMemory}
 use Rattle.ctt_tool.specs.CommandLine.{IsOnOrOff, is_on, timedesk}
+use Rattle.ctt_tool.specs.Faults.{IsOfCrew, IsOfTexts}
+use Rattle.ctt_tool.specs.declared.fault.Fault.{Fault}
 use Rattle.ctt_tool.specs.declared.job.Job.{Job}
-use Rattle.ctt_tool.specs.declared.job.Job.TheVariants.{Audit, Check, Run}
+use Rattle.ctt_tool.specs.declared.job.Job.TheVariants.{Audit, Check, Crew, Run}
 use Rattle.ctt_tool.specs.declared.job.WordsFault.{WordsFault}
 use Rattle.ctt_tool.specs.declared.job.WordsFault.TheVariants.{Help, NoMemory, Refused}
 
@@ -27,6 +29,11 @@ pub record NamesScript (rows : List Row) : Type 0 where
 pub record NamesJournal (rows : List Row) : Type 0 where
   pub instance : IsSome (first_of (codes "instance") rows)
   pub journal : IsSome (first_of (codes "journal") rows)
+
+-- the matches of `crew` have what it needs
+pub record NamesScripts (rows : List Row) : Type 0 where
+  pub instance : IsSome (first_of (codes "instance") rows)
+  pub script : IsSome (first_of (codes "script") rows)
 
 -- they have these two files and this option
 pub record HasCheck (rows : List Row) (instance solution : Text) (json : Bool) : Type 0 where
@@ -47,6 +54,12 @@ pub record HasAudit (rows : List Row) (instance journal : Text) (start : Option 
   pub has_journal : first_of (codes "journal") rows ≡ Some journal
   pub has_start : first_of (codes "start") rows ≡ start
 
+-- the matches of `crew` have these files, and at least one script
+pub record HasCrew (rows : List Row) (instance : Text) (scripts : List Text) : Type 0 where
+  pub has_instance : first_of (codes "instance") rows ≡ Some instance
+  pub has_scripts : all_of (codes "script") rows ≡ Some scripts
+  pub has_some : 1 ≤ length scripts
+
 -- the matches of the command with this name have what it needs
 abbrev pub IsWholeAs : Text → (List Row → Type 0) → Option (Text × List Row) → Type 0
 IsWholeAs name Needs matched = (rows : List Row) × (matched ≡ Some (name, rows)) × Needs rows
@@ -55,7 +68,8 @@ IsWholeAs name Needs matched = (rows : List Row) × (matched ≡ Some (name, row
 abbrev pub IsWhole : Option (Text × List Row) → Type 0
 IsWhole matched = IsWholeAs (codes "check") NamesFiles matched
     ⊎ (IsWholeAs (codes "run") NamesScript matched
-    ⊎ IsWholeAs (codes "audit") NamesJournal matched)
+    ⊎ (IsWholeAs (codes "audit") NamesJournal matched
+    ⊎ IsWholeAs (codes "crew") NamesScripts matched))
 
 -- the job is that of this command, with what its matches have
 abbrev pub IsJobBy : Option (Text × List Row) → Job → Type 0
@@ -68,6 +82,9 @@ IsJobBy matched (Run instance script start journal) = (rows : List Row)
 IsJobBy matched (Audit instance journal start) = (rows : List Row)
     × (matched ≡ Some (codes "audit", rows))
     × HasAudit rows (string_bytes instance) (string_bytes journal) (option_map string_bytes start)
+IsJobBy matched (Crew instance scripts) = (rows : List Row)
+    × (matched ≡ Some (codes "crew", rows))
+    × HasCrew rows (string_bytes instance) (map string_bytes scripts.items)
 
 -- a file is given
 abbrev pub IsGiven : Option (String Global) → Type 0
@@ -84,12 +101,35 @@ abbrev pub files_of : Job → List (String Global)
 files_of (Check instance solution json) = instance ∷ solution ∷ []
 files_of (Run instance script start journal) = instance ∷ script ∷ given start
 files_of (Audit instance journal start) = instance ∷ journal ∷ given start
+files_of (Crew instance scripts) = instance ∷ scripts.items
+
+-- the scripts that a crew is given
+abbrev pub scripts_of : Job → List (String Global)
+scripts_of (Check instance solution json) = []
+scripts_of (Run instance script start journal) = []
+scripts_of (Audit instance journal start) = []
+scripts_of (Crew instance scripts) = scripts.items
+
+-- a crew is given at least one
+abbrev pub HasScripts : Job → Type 0
+HasScripts (Check instance solution json) = Unit {0}
+HasScripts (Run instance script start journal) = Unit {0}
+HasScripts (Audit instance journal start) = Unit {0}
+HasScripts (Crew instance scripts) = 1 ≤ length scripts.items
 
 -- the job stores a file
 abbrev pub Storing : Job → Type 0
 Storing (Check instance solution json) = ⊥
 Storing (Run instance script start journal) = IsGiven journal
 Storing (Audit instance journal start) = ⊥
+Storing (Crew instance scripts) = ⊥
+
+-- a fault that the job may meet, but for an output that cannot be written
+abbrev pub IsOfJob : Job → Fault → Type 0
+IsOfJob (Check instance solution json) fault = IsOfTexts fault
+IsOfJob (Run instance script start journal) fault = IsOfTexts fault
+IsOfJob (Audit instance journal start) fault = IsOfTexts fault
+IsOfJob (Crew instance scripts) fault = IsOfCrew (length scripts.items) fault
 
 -- the job is that of the command that `clap` finds in the words, with what its matches have
 abbrev pub IsJobOf : List Text → Job → Type 0

@@ -6,5 +6,6 @@ pub mod Texts
 pub mod Checks
 pub mod Runs
 pub mod Audits
+pub mod Crews
 pub mod Work
 pub mod Files

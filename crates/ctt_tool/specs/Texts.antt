@@ -1,5 +1,5 @@
 -- Which texts are taken, and which are refused.
-use Rattle.std.specs.Prelude.{◌≡◌, ◌⊎◌, ℕ, List, [], Option, Some, None, IfSome, Err}
+use Rattle.std.specs.Prelude.{◌≡◌, ◌⊎◌, ℕ, List, [], ◌∷◌, Option, Some, None, IfSome, Err}
 use Rattle.std.specs.Global.{Global}
 use Rattle.std.specs.Str.{IsUtf8}
 use Rattle.std.specs.String.{string_bytes}
@@ -21,6 +21,13 @@ Held = List ℕ → Option (List ℕ)
 -- the text of this file, where it is told, is so
 abbrev pub Holds : Held → String Global → (List ℕ → Type 0) → Type 0
 Holds held name P = IfSome (held (string_bytes name)) P
+
+-- the files, where they are told, hold these texts, one each
+abbrev pub HoldInTurn : Held → List (String Global) → List (List ℕ) → Type 0
+HoldInTurn held [] [] = Unit {0}
+HoldInTurn held [] (text ∷ texts) = ⊥
+HoldInTurn held (name ∷ names) [] = ⊥
+HoldInTurn held (name ∷ names) (text ∷ texts) = Holds held name (λ bytes. text ≡ bytes) × HoldInTurn held names texts
 
 -- the text is that of the instance
 pub record IsInstanceText (text : List ℕ) (problem : Problem) : Type 0 where

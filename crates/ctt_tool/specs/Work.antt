@@ -1,17 +1,18 @@
 -- What the program has done where it ends well, and what was the cause where it did not.
-use Rattle.std.specs.Prelude.{◌≡◌, ◌⊎◌, ℕ, Bool, true, List, [], Option, IfSome}
+use Rattle.std.specs.Prelude.{◌≡◌, ◌⊎◌, ◌<◌, ◌≤◌, ℕ, Bool, true, List, [], Option, IfSome, length}
 use Rattle.std.specs.String.{string_bytes}
 use Rattle.clap.specs.Words.{Text}
 use Rattle.ctt_tool.specs.Audits.{AuditsJournal, IsRefusedAudit}
 use Rattle.ctt_tool.specs.Checks.{OneIsRefused, PrintsReport}
+use Rattle.ctt_tool.specs.Crews.{PrintsCrew}
 use Rattle.ctt_tool.specs.Faults.{IsOfFiles}
-use Rattle.ctt_tool.specs.Jobs.{IsJobOf, IsRequest, Storing, faults_of, files_of}
+use Rattle.ctt_tool.specs.Jobs.{IsJobOf, IsRequest, Storing, faults_of, files_of, scripts_of}
 use Rattle.ctt_tool.specs.Runs.{IsRefusedRun, RunsScript}
-use Rattle.ctt_tool.specs.Texts.{Held}
+use Rattle.ctt_tool.specs.Texts.{Held, Holds, IsNoInstance}
 use Rattle.ctt_tool.specs.declared.fault.Fault.{Fault}
-use Rattle.ctt_tool.specs.declared.fault.Fault.TheVariants.{CannotRead, CannotWrite, TooLong}
+use Rattle.ctt_tool.specs.declared.fault.Fault.TheVariants.{CannotRead, CannotWrite, NoPlace, NoThread, TooLong, TooManyScripts}
 use Rattle.ctt_tool.specs.declared.job.Job.{Job}
-use Rattle.ctt_tool.specs.declared.job.Job.TheVariants.{Audit, Check, Run}
+use Rattle.ctt_tool.specs.declared.job.Job.TheVariants.{Audit, Check, Crew, Run}
 use Rattle.ctt_tool.specs.declared.outcome.Outcome.{Outcome}
 use Rattle.ctt_tool.specs.declared.outcome.Outcome.TheVariants.{Done}
 
@@ -30,6 +31,8 @@ DoesJob (Run instance script start journal) outcome before after old new = (outc
     × RunsScript instance script start journal before after old new
 DoesJob (Audit instance journal start) outcome before after old new = (after ≡ before)
     × AuditsJournal instance journal start outcome before old new
+DoesJob (Crew instance scripts) outcome before after old new = (outcome ≡ Done)
+    × (after ≡ before) × PrintsCrew instance (length scripts.items) before old new
 
 -- the words ask for help or the version, or `clap` finds no fault in them and they ask for a job that is done
 abbrev pub DoesAsAsked : List Text → Outcome → Held → Held → Option Text → Option Text → Type 0
@@ -44,6 +47,7 @@ HasRefusedText (Check instance solution json) held =
     OneIsRefused instance_text solution_text))
 HasRefusedText (Run instance script start journal) held = IsRefusedRun held instance start
 HasRefusedText (Audit instance journal start) held = IsRefusedAudit held instance journal start
+HasRefusedText (Crew instance scripts) held = Holds held instance IsNoInstance
 
 -- the words ask for a job of which a text is refused
 abbrev pub AsksForRefusedText : List Text → Held → Type 0
@@ -57,9 +61,20 @@ AsksForFiles words held fault = (job : Job) × IsJobOf words job × IsOfFiles (f
 abbrev pub AsksToStore : List Text → Type 0
 AsksToStore words = (job : Job) × IsJobOf words job × Storing job
 
--- the cause of a fault of the machine, by the words, the files, and whether standard output failed; wanted memory has none
+-- the words ask for a crew of more than 64 scripts
+abbrev pub AsksForTooMany : List Text → Type 0
+AsksForTooMany words = (job : Job) × IsJobOf words job × (64 < length (scripts_of job))
+
+-- the words ask for a crew
+abbrev pub AsksForCrew : List Text → Type 0
+AsksForCrew words = (job : Job) × IsJobOf words job × (1 ≤ length (scripts_of job))
+
+-- the cause of a fault of the machine, or of too many scripts, by the words, the files, and whether standard output failed; wanted memory has none
 abbrev pub HasCause : List Text → Held → Bool → Fault → Type 0
 HasCause words held failed CannotWrite = (failed ≡ true) ⊎ AsksToStore words
 HasCause words held failed (CannotRead name) = AsksForFiles words held (CannotRead name)
 HasCause words held failed (TooLong name) = AsksForFiles words held (TooLong name)
+HasCause words held failed TooManyScripts = AsksForTooMany words
+HasCause words held failed NoThread = AsksForCrew words
+HasCause words held failed NoPlace = AsksForCrew words
 HasCause words held failed _ = Unit {0}

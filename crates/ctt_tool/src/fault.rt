@@ -2,12 +2,12 @@
 
 ghost use Rattle.std.specs.Prelude.{◌≡◌, ◌++◌, IfOk, codes};
 ghost use Rattle.std.specs.String.{string_bytes};
-ghost use Rattle.ctt_tool.specs.Faults.{IsLineOf, fault_of_instance, fault_of_journal, fault_of_solution, status_of};
+ghost use Rattle.ctt_tool.specs.Faults.{IsLineOf, fault_of_crew, fault_of_instance, fault_of_journal, fault_of_solution, status_of};
 ghost use Rattle.ctt_tool.specs.declared.fault.Fault.TheVariants.{NoMemory};
 
-use ctt_script::JournalFault;
+use ctt_script::{CrewFault, JournalFault};
 use ctt_text::{ReadFault, SolutionFault};
-use std::alloc::{AllocError, Global};
+use std::alloc::{AllocError, AllocFailed, Global};
 use thiserror::Error;
 
 /// Why the program did not do its job. Its text is the line on standard error, without the end of the
@@ -44,6 +44,15 @@ pub enum Fault {
     /// No memory was left.
     #[error("timedesk: no memory")]
     NoMemory,
+    /// A crew has more scripts than are taken.
+    #[error("timedesk: too many scripts")]
+    TooManyScripts,
+    /// A planner was refused a place at the desk.
+    #[error("timedesk: no place")]
+    NoPlace,
+    /// The thread of a planner could not be started.
+    #[error("timedesk: no thread")]
+    NoThread,
 }
 
 /// The line of wanted memory, which has to be told without memory.
@@ -67,8 +76,13 @@ impl Fault {
             | Fault::Solution { .. }
             | Fault::Journal { .. }
             | Fault::Opening(_) => 1,
-            Fault::Words(_) | Fault::WordsNotText => 2,
-            Fault::CannotRead(_) | Fault::TooLong(_) | Fault::CannotWrite | Fault::NoMemory => 3,
+            Fault::Words(_) | Fault::WordsNotText | Fault::TooManyScripts => 2,
+            Fault::CannotRead(_)
+            | Fault::TooLong(_)
+            | Fault::CannotWrite
+            | Fault::NoMemory
+            | Fault::NoPlace
+            | Fault::NoThread => 3,
         }
     }
 
@@ -150,5 +164,25 @@ impl From<JournalFault> for Fault {
             JournalFault::NoMemory => return Fault::NoMemory,
         };
         Fault::Journal { number, at }
+    }
+}
+
+impl From<CrewFault> for Fault {
+    ghost from_gives = { λ crew fault. fault ≡ fault_of_crew crew };
+
+    fn from(fault: CrewFault) -> Fault {
+        match fault {
+            CrewFault::NoPlace => Fault::NoPlace,
+            CrewFault::NoThread(_) => Fault::NoThread,
+            CrewFault::NoMemory => Fault::NoMemory,
+        }
+    }
+}
+
+impl<T: Drop> From<AllocFailed<T>> for Fault {
+    ghost from_gives = { λ _ fault. fault ≡ NoMemory };
+
+    fn from(_error: AllocFailed<T>) -> Fault {
+        Fault::NoMemory
     }
 }

@@ -1,8 +1,9 @@
 //! Files by name.
 
-ghost use Rattle.std.specs.Prelude.{◌≡◌, ◌≤◌, ◌<◌, length, Err, false, Some, None, OnOk, IfOk, IfErr, IfSome, vec_len};
+ghost use Rattle.std.specs.Prelude.{◌≡◌, ◌≤◌, ◌<◌, length, map, Err, false, Some, None, OnOk, IfOk, IfErr, IfSome, vec_len};
 ghost use Rattle.std.specs.String.{string_bytes};
-ghost use Rattle.ctt_tool.specs.Faults.{IsOfFile};
+ghost use Rattle.ctt_tool.specs.Faults.{IsOfFile, IsOfFiles, IsOfReading};
+ghost use Rattle.ctt_tool.specs.Texts.{HoldInTurn};
 ghost use Rattle.ctt_tool.specs.declared.fault.Fault.TheVariants.{TooLong};
 
 use crate::fault::Fault;
@@ -93,4 +94,24 @@ pub fn read_file<F: Files>(alloc: Global, files: &mut F, name: String) -> Result
         Err(InputFault::TooLong) => Err(Fault::TooLong(name)),
         Err(InputFault::NoMemory) => Err(Fault::NoMemory),
     }
+}
+
+/// All bytes of each of these files, which are read in their order up to the first that cannot be read.
+pub fn read_files<F: Files>(
+    alloc: Global,
+    files: &mut F,
+    names: Vec<String>,
+) -> Result<Vec<Vec<u8>>, Fault>
+    ensures all { IfOk result (λ texts. HoldInTurn (F.held files.old) names.items (map (λ text. text.items) texts.items)) }
+    ensures each { IfOk result (λ texts. length texts.items ≡ length names.items) }
+    ensures kept { F.held files.new ≡ F.held files.old }
+    ensures fault { IfErr result IsOfReading }
+    ensures file { IfErr result (IsOfFiles names.items (F.held files.old)) }
+{
+    let mut texts = Vec::with_capacity(alloc, names.len())?;
+    for name in names {
+        let text = read_file(alloc, files, name)?;
+        texts.push(text)?;
+    }
+    Ok(texts)
 }

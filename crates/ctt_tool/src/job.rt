@@ -1,10 +1,10 @@
 //! The words of the command line, and the job that they ask for.
 
-ghost use Rattle.std.specs.Prelude.{◌≡◌, [], false, Some, map, codes, IfOk, IfErr, OnOk, option_map};
+ghost use Rattle.std.specs.Prelude.{◌≡◌, [], false, Some, map, codes, IfOk, IfErr, IsOkAnd, OnOk, option_map};
 ghost use Rattle.std.specs.String.{string_bytes};
-ghost use Rattle.clap.specs.Words.{found_of, kind_of, rows_of, rule_of, subcommand_rows_of};
-ghost use Rattle.ctt_tool.specs.CommandLine.{IsCommand, audit, check, flag, required_word, run, timedesk, valued};
-ghost use Rattle.ctt_tool.specs.Jobs.{IsJobBy, IsJobOf, IsOfKind, IsOfKinds, IsWhole, NamesFiles, NamesJournal, NamesScript, faults_of};
+ghost use Rattle.clap.specs.Words.{AddsSubcommand, found_of, kind_of, rows_of, rule_of, subcommand_rows_of};
+ghost use Rattle.ctt_tool.specs.CommandLine.{IsCommand, audit, check, crew, flag, required_word, required_words, run, timedesk, valued};
+ghost use Rattle.ctt_tool.specs.Jobs.{IsJobBy, IsJobOf, IsOfKind, IsOfKinds, IsWhole, NamesFiles, NamesJournal, NamesScript, NamesScripts, faults_of};
 ghost use Rattle.ctt_tool.specs.declared.job.WordsFault.TheVariants.{NoMemory};
 
 use clap::error::ErrorKind;
@@ -12,7 +12,7 @@ use clap::{Arg, ArgAction, ArgMatches, Command};
 use std::alloc::{AllocError, Global};
 
 /// What the program is asked to do. Files are given by their names.
-#[derive(Clone, Debug, Drop, PartialEq)]
+#[derive(Debug, Drop)]
 pub enum Job {
     /// To report on a solution of an instance.
     Check {
@@ -33,6 +33,12 @@ pub enum Job {
         instance: String,
         journal: String,
         start: Option<String>,
+    },
+    /// To run scripts on one desk of an instance that opens empty, each by a planner on a thread of his
+    /// own.
+    Crew {
+        instance: String,
+        scripts: Vec<String>,
     },
 }
 
@@ -69,6 +75,14 @@ fn file_argument<'a>(alloc: Global, id: &'a str, name: &'a str, help: &'a str) -
         .required(true)
 }
 
+/// One file or more that have to be given, by the places of their words behind all others.
+fn files_argument<'a>(alloc: Global, id: &'a str, name: &'a str, help: &'a str) -> Arg<'a>
+    ensures rule { rule_of result ≡ required_words id.entry.now }
+    ensures local { result.global ≡ false }
+{
+    file_argument(alloc, id, name, help).num_args(1..)
+}
+
 /// An option that is given or not, by its own name.
 fn flag_argument<'a>(alloc: Global, id: &'a str, help: &'a str) -> Arg<'a>
     ensures rule { rule_of result ≡ flag id.entry.now }
@@ -92,14 +106,19 @@ fn valued_argument<'a>(alloc: Global, id: &'a str, name: &'a str, help: &'a str)
 fn check_command<'a>(alloc: Global) -> Result<Command<'a>, AllocError>
     ensures { IfOk result (IsCommand check) }
 {
-    let instance = file_argument(alloc, "instance", "INSTANCE", "The file of the instance");
-    let solution = file_argument(alloc, "solution", "SOLUTION", "The file of the solution");
-    let json = flag_argument(alloc, "json", "Print the report as JSON");
     Command::new(alloc, "check")
         .about("Report what a solution breaks and what it costs")
-        .arg(instance)?
-        .arg(solution)?
-        .arg(json)
+        .arg(instance_argument(alloc))?
+        .arg(file_argument(alloc, "solution", "SOLUTION", "The file of the solution"))?
+        .arg(flag_argument(alloc, "json", "Print the report as JSON"))
+}
+
+/// The file of the instance, which each command wants first.
+fn instance_argument<'a>(alloc: Global) -> Arg<'a>
+    ensures rule { rule_of result ≡ required_word (codes "instance") }
+    ensures local { result.global ≡ false }
+{
+    file_argument(alloc, "instance", "INSTANCE", "The file of the instance")
 }
 
 /// The option of the opening timetable.
@@ -119,40 +138,48 @@ fn start_argument<'a>(alloc: Global) -> Arg<'a>
 fn run_command<'a>(alloc: Global) -> Result<Command<'a>, AllocError>
     ensures { IfOk result (IsCommand run) }
 {
-    let instance = file_argument(alloc, "instance", "INSTANCE", "The file of the instance");
-    let script = file_argument(alloc, "script", "SCRIPT", "The file of the planners' steps");
-    let start = start_argument(alloc);
-    let journal = valued_argument(
-        alloc,
-        "journal",
-        "FILE",
-        "The file to write with the drafts that were accepted",
-    );
     Command::new(alloc, "run")
         .about("Run a script of planners' steps and print the answers")
-        .arg(instance)?
-        .arg(script)?
-        .arg(start)?
-        .arg(journal)
+        .arg(instance_argument(alloc))?
+        .arg(file_argument(alloc, "script", "SCRIPT", "The file of the planners' steps"))?
+        .arg(start_argument(alloc))?
+        .arg(valued_argument(
+            alloc,
+            "journal",
+            "FILE",
+            "The file to write with the drafts that were accepted",
+        ))
 }
 
 /// The command `audit`.
 fn audit_command<'a>(alloc: Global) -> Result<Command<'a>, AllocError>
     ensures { IfOk result (IsCommand audit) }
 {
-    let instance = file_argument(alloc, "instance", "INSTANCE", "The file of the instance");
-    let journal = file_argument(
-        alloc,
-        "journal",
-        "JOURNAL",
-        "The file of the accepted drafts",
-    );
-    let start = start_argument(alloc);
     Command::new(alloc, "audit")
         .about("Say whether a journal was told what its drafts are told, run one after another")
-        .arg(instance)?
-        .arg(journal)?
-        .arg(start)
+        .arg(instance_argument(alloc))?
+        .arg(file_argument(
+            alloc,
+            "journal",
+            "JOURNAL",
+            "The file of the accepted drafts",
+        ))?
+        .arg(start_argument(alloc))
+}
+
+/// The command `crew`.
+fn crew_command<'a>(alloc: Global) -> Result<Command<'a>, AllocError>
+    ensures { IfOk result (IsCommand crew) }
+{
+    Command::new(alloc, "crew")
+        .about("Run scripts at once, each by a planner on a thread, and print the answers")
+        .arg(instance_argument(alloc))?
+        .arg(files_argument(
+            alloc,
+            "script",
+            "SCRIPT",
+            "The files of the planners' steps, one for each planner, at most 64",
+        ))
 }
 
 /// What stands below the help.
@@ -163,18 +190,29 @@ Status: 0 where it is done, also where a report says that a solution is unlawful
 A refused file is one line, as in 'timedesk: instance I2 14': docs/FORMATS.md has
 each fault by its number, and how to see the word that it names.";
 
+/// Adds a command to a program, if it could be made.
+fn with_made<'a>(
+    program: Command<'a>,
+    made: Result<Command<'a>, AllocError>,
+) -> Result<Command<'a>, AllocError>
+    ensures { IfOk result (λ whole. IsOkAnd made.entry (λ command. AddsSubcommand program.entry command whole)) }
+{
+    program.subcommand(made?)
+}
+
 /// The command line of the program.
 fn command_line<'a>(alloc: Global) -> Result<Command<'a>, AllocError>
     ensures { IfOk result (IsCommand timedesk) }
 {
-    Command::new(alloc, "timedesk")
+    let bare = Command::new(alloc, "timedesk")
         .about("A shared desk for curriculum-based course timetabling")
         .version("0.1.0")
         .after_help(STATUSES)
-        .subcommand_required(true)
-        .subcommand(check_command(alloc)?)?
-        .subcommand(run_command(alloc)?)?
-        .subcommand(audit_command(alloc)?)
+        .subcommand_required(true);
+    let checks = with_made(bare, check_command(alloc))?;
+    let runs = with_made(checks, run_command(alloc))?;
+    let audits = with_made(runs, audit_command(alloc))?;
+    with_made(audits, crew_command(alloc))
 }
 
 /// The fault that `clap` found in the words.
@@ -200,6 +238,17 @@ fn owned(alloc: Global, text: Option<&str>) -> Result<Option<String>, AllocError
         Some(text) => Ok(Some(String::from_str(alloc, text)?)),
         None => Ok(None),
     }
+}
+
+/// Texts of their own.
+fn owned_texts(alloc: Global, texts: &[&str]) -> Result<Vec<String>, AllocError>
+    ensures { IfOk result (λ owned. map string_bytes owned.items ≡ map (λ text. text.now) texts.now) }
+{
+    let mut owned = Vec::with_capacity(alloc, texts.len())?;
+    for text in texts {
+        owned.push(String::from_str(alloc, text)?)?;
+    }
+    Ok(owned)
 }
 
 /// The job of the command `check`, by its matches.
@@ -248,6 +297,20 @@ fn audit_job(alloc: Global, given: &ArgMatches<'_>) -> Result<Job, WordsFault>
     })
 }
 
+/// The job of the command `crew`, by its matches.
+fn crew_job(alloc: Global, given: &ArgMatches<'_>) -> Result<Job, WordsFault>
+    requires { NamesScripts (rows_of (found_of given.now)) }
+    ensures job { IfOk result (λ job. IsJobBy (Some (codes "crew", rows_of (found_of given.now))) job) }
+    ensures fault { IfErr result (λ fault. fault ≡ NoMemory) }
+{
+    let instance = given.get_str("instance").unwrap();
+    let scripts = given.get_strs("script").unwrap();
+    Ok(Job::Crew {
+        instance: String::from_str(alloc, instance)?,
+        scripts: owned_texts(alloc, scripts)?,
+    })
+}
+
 /// The job of a command, by the matches of the words.
 fn job_of(alloc: Global, matches: &ArgMatches<'_>) -> Result<Job, WordsFault>
     requires { IsWhole (subcommand_rows_of matches.now) }
@@ -258,6 +321,7 @@ fn job_of(alloc: Global, matches: &ArgMatches<'_>) -> Result<Job, WordsFault>
         Some(("check", given)) => check_job(alloc, given),
         Some(("run", given)) => run_job(alloc, given),
         Some(("audit", given)) => audit_job(alloc, given),
+        Some(("crew", given)) => crew_job(alloc, given),
         _ => unreachable!(),
     }
 }

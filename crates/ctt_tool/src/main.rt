@@ -3,6 +3,7 @@
 
 mod audit;
 mod check;
+mod crew;
 mod fault;
 mod files;
 mod job;
@@ -24,11 +25,15 @@ use fault::Fault;
 use files::{Files, SystemFiles};
 use program::{fail_with, program};
 use std::alloc::AllocError;
+use std::marker::Sync;
 use std::process::ExitCode;
+use std::rt::Env;
+use std::sync::Wait;
+use std::thread::Threads;
 use std::{env, io};
 
 /// The words of the command line, of which the first is the program's name.
-fn owned_words(rt: &HostRuntime) -> Result<Vec<String>, Fault>
+fn owned_words<R: Env + AllocGlobal>(rt: &R) -> Result<Vec<String>, Fault>
     ensures { IfErr result (λ fault. (fault ≡ WordsNotText) ⊎ (fault ≡ NoMemory)) }
 {
     match env::args(rt) {
@@ -39,8 +44,8 @@ fn owned_words(rt: &HostRuntime) -> Result<Vec<String>, Fault>
 }
 
 /// Does what the words of the command line ask for, as `program` does.
-fn serve<F: Files, W: Sink, V: Sink>(
-    rt: &HostRuntime,
+fn serve<R: Env + AllocGlobal + Threads + Wait + Sync, F: Files, W: Sink, V: Sink>(
+    rt: &R,
     files: &mut F,
     out: &mut W,
     err: &mut V,
@@ -85,5 +90,11 @@ fn main(rt: HostRuntime) -> ExitCode {
     ExitCode::from(serve(&rt, &mut files, &mut out, &mut err))
 }
 
+#[cfg(test)]
+mod crew_tests;
+#[cfg(test)]
+mod desk_tests;
+#[cfg(test)]
+mod device_tests;
 #[cfg(test)]
 mod tests;

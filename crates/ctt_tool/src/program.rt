@@ -1,14 +1,15 @@
 //! What the program does.
 
 ghost use Rattle.std.specs.Prelude.{◌≡◌, ◌≢◌, ◌≤◌, ◌⊎◌, [], true, false, map, OnOk, IfOk, IfErr};
-ghost use Rattle.ctt_tool.specs.Faults.{IfUnwritten, IsOfFiles, IsOfTexts, KeptUnless, MayHaveWritten, SaysFault, status_of};
-ghost use Rattle.ctt_tool.specs.Jobs.{IsRefusal, Storing, faults_of, files_of};
-ghost use Rattle.ctt_tool.specs.Work.{AsksForRefusedText, AsksToStore, DoesAsAsked, DoesJob, HasCause, HasRefusedText};
+ghost use Rattle.ctt_tool.specs.Faults.{IfUnwritten, IsOfFiles, KeptUnless, MayHaveWritten, SaysFault, status_of};
+ghost use Rattle.ctt_tool.specs.Jobs.{HasScripts, IsOfJob, IsRefusal, Storing, faults_of, files_of};
+ghost use Rattle.ctt_tool.specs.Work.{AsksForRefusedText, AsksForTooMany, AsksToStore, DoesAsAsked, DoesJob, HasCause, HasRefusedText};
 ghost use Rattle.ctt_tool.specs.declared.fault.Fault.TheVariants.{NoMemory};
 ghost use Rattle.ctt_tool.specs.declared.outcome.Outcome.TheVariants.{Differs, Done};
 
 use crate::audit::audit;
 use crate::check::check;
+use crate::crew::crew;
 use crate::fault::{Fault, NO_MEMORY};
 use crate::files::Files;
 use crate::job::{Job, WordsFault, read_words};
@@ -17,20 +18,25 @@ use crate::output::{complain, print};
 use crate::run::run;
 use ctt_script::Sink;
 use std::alloc::Global;
+use std::marker::Sync;
+use std::sync::Wait;
+use std::thread::Threads;
 
 /// Does a job.
-fn do_job<F: Files, W: Sink>(
+fn do_job<R: Threads + Wait + Sync, F: Files, W: Sink>(
+    rt: &R,
     alloc: Global,
     job: Job,
     files: &mut F,
     out: &mut W,
 ) -> Result<Outcome, Fault>
+    requires { HasScripts job }
     ensures done { IfOk result (λ outcome. DoesJob job outcome (F.held files.old) (F.held files.new)
         (W.taken out.old) (W.taken out.new)) }
     ensures unmarked { OnOk result (W.has_failed out.new ≡ W.has_failed out.old) }
     ensures fault { IfErr result (λ fault. IfUnwritten fault
         ((W.has_failed out.new ≡ true) ⊎ Storing job)
-        (IsOfTexts fault × (W.has_failed out.new ≡ W.has_failed out.old))) }
+        (IsOfJob job fault × (W.has_failed out.new ≡ W.has_failed out.old))) }
     ensures unwritten { IfErr result (λ fault. MayHaveWritten fault ⊎ (out.new ≡ out.old)) }
     ensures unstored { IfErr result (λ fault. KeptUnless fault
         ((W.has_failed out.new ≡ W.has_failed out.old) × Storing job)
@@ -61,11 +67,16 @@ fn do_job<F: Files, W: Sink>(
             journal,
             start,
         } => audit(alloc, files, out, instance, journal, start),
+        Job::Crew { instance, scripts } => {
+            crew(rt, alloc, files, out, instance, scripts)?;
+            Ok(Outcome::Done)
+        }
     }
 }
 
 /// Does the job that the words ask for, or gives help.
-fn do_as_asked<F: Files, W: Sink>(
+fn do_as_asked<R: Threads + Wait + Sync, F: Files, W: Sink>(
+    rt: &R,
     alloc: Global,
     words: &[&str],
     files: &mut F,
@@ -74,7 +85,8 @@ fn do_as_asked<F: Files, W: Sink>(
     ensures done { IfOk result (λ outcome. DoesAsAsked (map (λ word. word.now) words.now) outcome
         (F.held files.old) (F.held files.new) (W.taken out.old) (W.taken out.new)) }
     ensures refused { IfErr result (λ fault. status_of fault ≡ 2
-        → IsRefusal (faults_of (map (λ word. word.now) words.now))) }
+        → IsRefusal (faults_of (map (λ word. word.now) words.now))
+        ⊎ AsksForTooMany (map (λ word. word.now) words.now)) }
     ensures unmarked { OnOk result (W.has_failed out.new ≡ W.has_failed out.old) }
     ensures marked { IfErr result (λ fault. (status_of fault ≡ 3) ⊎ (W.has_failed out.new ≡ W.has_failed out.old)) }
     ensures unwritten { IfErr result (λ fault. MayHaveWritten fault ⊎ (out.new ≡ out.old)) }
@@ -89,7 +101,7 @@ fn do_as_asked<F: Files, W: Sink>(
         (W.has_failed out.new)) }
 {
     match read_words(alloc, words) {
-        Ok(job) => do_job(alloc, job, files, out),
+        Ok(job) => do_job(rt, alloc, job, files, out),
         Err(WordsFault::Help(text)) => {
             print(out, text.as_bytes())?;
             Ok(Outcome::Done)
@@ -122,9 +134,9 @@ pub fn fail_with<V: Sink>(alloc: Global, fault: &Fault, err: &mut V) -> u8
 
 /// Does the job that the words ask for, of which the first is the program's name, and answers the
 /// status with which to end: 0 where it was done, 1 where a text is refused or an audit does not agree,
-/// 2 where the words are refused, and 3 where the machine failed. Answers go to `out`, and why a job was
+/// 2 where the words are refused, or ask for too many scripts, and 3 where the machine failed. Answers go to `out`, and why a job was
 /// not done to `err`.
-pub fn program<R: AllocGlobal, F: Files, W: Sink, V: Sink>(
+pub fn program<R: AllocGlobal + Threads + Wait + Sync, F: Files, W: Sink, V: Sink>(
     rt: &R,
     words: &[&str],
     files: &mut F,
@@ -145,7 +157,8 @@ pub fn program<R: AllocGlobal, F: Files, W: Sink, V: Sink>(
         ⊎ (DoesAsAsked (map (λ word. word.now) words.now) Differs
         (F.held files.old) (F.held files.new) (W.taken out.old) (W.taken out.new) × (err.new ≡ err.old)) }
     ensures taken { result ≡ 1 → faults_of (map (λ word. word.now) words.now) ≡ [] }
-    ensures refused { result ≡ 2 → IsRefusal (faults_of (map (λ word. word.now) words.now)) }
+    ensures refused { result ≡ 2 → IsRefusal (faults_of (map (λ word. word.now) words.now))
+        ⊎ AsksForTooMany (map (λ word. word.now) words.now) }
     ensures said { result ≢ 0 → DoesAsAsked (map (λ word. word.now) words.now) Differs
         (F.held files.old) (F.held files.new) (W.taken out.old) (W.taken out.new)
         ⊎ ((V.has_failed err.new ≡ true)
@@ -158,7 +171,7 @@ pub fn program<R: AllocGlobal, F: Files, W: Sink, V: Sink>(
         × AsksToStore (map (λ word. word.now) words.now))) }
 {
     let alloc = rt.alloc();
-    match do_as_asked(alloc, words, files, out) {
+    match do_as_asked(rt, alloc, words, files, out) {
         Ok(outcome) => outcome.status(),
         Err(fault) => fail_with(alloc, &fault, err),
     }

@@ -1,14 +1,16 @@
 ghost use Rattle.std.specs.Prelude.{◌≡◌, false, Some, None, option_map};
 
+use crate::device_tests::{Shelf, writer_with_room};
 use crate::files::{Files, SystemFiles, read_file};
-use crate::job::{Job, WordsFault, read_words};
 use crate::output::put_whole;
 use crate::program::program;
-use ctt_script::{Failed, Sink, Source};
-use std::alloc::AllocError;
+use ctt_script::{Failed, Source};
 use std::fs;
+use std::marker::Sync;
 use std::process::Abort;
+use std::sync::Wait;
 use std::test::Fail;
+use std::thread::Threads;
 
 /// A file in memory that tells its bytes, or one of zeros without an end, which may fail at its second
 /// read.
@@ -88,57 +90,18 @@ impl<'a> Files for MemoryFiles<'a> {
     }
 }
 
-/// A writer over memory that takes up to `room` bytes, and flushes where it is said to.
-#[derive(Drop)]
-struct Shelf {
-    held: Vec<u8>,
-    room: usize,
-    flushes: bool,
-    failed: bool,
-}
-
-impl Sink for Shelf {
-    ghost has_failed = { λ shelf. shelf.failed };
-
-    ghost taken = { λ shelf. Some shelf.held.items };
-
-    fn put(&mut self, bytes: &[u8]) -> Result<usize, Failed> {
-        let n = bytes.len().min(self.room.saturating_sub(self.held.len()));
-        if n == 0 && !bytes.is_empty() {
-            self.failed = true;
-            return Err(Failed);
-        }
-        let Ok(()) = self.held.extend_from_slice(&bytes[..n]) else {
-            self.failed = true;
-            return Err(Failed);
-        };
-        Ok(n)
-    }
-
-    fn flush(&mut self) -> Result<(), Failed> {
-        if self.flushes {
-            return Ok(());
-        }
-        self.failed = true;
-        Err(Failed)
-    }
-}
-
 /// An empty writer.
 fn make_shelf(rt: &impl AllocGlobal, room: usize, flushes: bool) -> Shelf
     ensures { result.failed ≡ false }
 {
-    Shelf {
-        held: Vec::new(rt.alloc()),
-        room,
-        flushes,
-        failed: false,
-    }
+    let mut shelf = writer_with_room(rt.alloc(), usize::MAX, room);
+    shelf.flushes = flushes;
+    shelf
 }
 
 /// Runs the program, and asserts what it prints, what it says and how it ends.
 fn assert_ends(
-    rt: &(impl Abort + AllocGlobal),
+    rt: &(impl Abort + AllocGlobal + Threads + Wait + Sync),
     words: &[&str],
     files: &[(&str, &[u8])],
     printed: &str,
@@ -154,114 +117,11 @@ fn assert_ends(
     assert_eq!(rt; ended, status, "after {printed}{said}");
 }
 
-/// Asserts the same of the report on a solution of an instance.
-fn assert_checks(
-    rt: &(impl Abort + AllocGlobal),
-    instance: &str,
-    solution: &str,
-    printed: &str,
-    said: &str,
-    status: u8,
-) {
-    let files = [("i", instance.as_bytes()), ("s", solution.as_bytes())];
-    let words = ["timedesk", "check", "i", "s"];
-    assert_ends(rt, &words, &files, printed, said, status);
-}
-
-const SMALL: &str =
+/// Three courses, of which alg and geo are members of a curriculum, and alg and top have one teacher.
+pub(crate) const SMALL: &str =
     "Name: Small\nCourses: 3\nRooms: 2\nDays: 2\nPeriods_per_day: 3\nCurricula: 1\nConstraints: 1\nCOURSES:\nalg t1 2 2 30\ngeo t2 2 1 20\ntop t1 1 1 50\nROOMS:\nA 25\nB 40\nCURRICULA:\nq1 2 alg geo\nUNAVAILABILITY_CONSTRAINTS:\ngeo 0 0\nEND.\n";
 
 const SOLUTION: &str = "alg A 0 0\nalg B 1 0\ngeo A 0 1\ngeo A 1 2\ntop B 0 2\n";
-
-const REPORT: &str =
-    "instance Small\nlectures 0\nconflicts 0\navailability 0\noccupancy 0\ncapacity 15\ndays 0\ncompactness 4\nstability 1\ntotal 20\nlawful yes\ncomplete yes\n";
-
-const JSON: &str =
-    "{\"availability\":0,\"capacity\":15,\"compactness\":4,\"complete\":true,\"conflicts\":0,\"days\":0,\"instance\":\"Small\",\"lawful\":true,\"lectures\":0,\"occupancy\":0,\"stability\":1,\"total\":20}\n";
-
-#[test]
-fn counts_what_solutions_break_and_cost(rt: HostRuntime) {
-    for (solution, report) in [
-        (SOLUTION, REPORT),
-        (
-            "",
-            "instance Small\nlectures 5\nconflicts 0\navailability 0\noccupancy 0\ncapacity 0\ndays 20\ncompactness 0\nstability 0\ntotal 20\nlawful yes\ncomplete no\n",
-        ),
-        (
-            "alg A 0 2 geo A 1 0",
-            "instance Small\nlectures 3\nconflicts 0\navailability 0\noccupancy 0\ncapacity 5\ndays 10\ncompactness 4\nstability 0\ntotal 19\nlawful yes\ncomplete no\n",
-        ),
-        (
-            "geo B 0 0 top B 0 0",
-            "instance Small\nlectures 3\nconflicts 0\navailability 1\noccupancy 1\ncapacity 10\ndays 10\ncompactness 2\nstability 0\ntotal 22\nlawful no\ncomplete no\n",
-        ),
-        (
-            "alg A 0 0 top B 0 0",
-            "instance Small\nlectures 3\nconflicts 1\navailability 0\noccupancy 0\ncapacity 15\ndays 10\ncompactness 2\nstability 0\ntotal 27\nlawful no\ncomplete no\n",
-        ),
-    ] {
-        assert_checks(&rt, SMALL, solution, report, "", 0);
-    }
-}
-
-#[test]
-fn names_the_first_broken_word(rt: HostRuntime) -> Result<(), Fail> {
-    for (old, new, said) in [
-        ("Courses: 3", "Courses: 4", "timedesk: instance I4 34\n"),
-        ("Courses: 3", "Courses: 2001", "timedesk: instance I5 4\n"),
-        (
-            "Courses: 3",
-            "Courses: 1000000000",
-            "timedesk: instance I4 4\n",
-        ),
-        (
-            "Days: 2\nPeriods_per_day: 3",
-            "Days: 2000\nPeriods_per_day: 2",
-            "timedesk: instance I5 10\n",
-        ),
-    ] {
-        let instance = SMALL.replace(rt.alloc(), old, new)?;
-        assert_checks(&rt, instance.as_str(), SOLUTION, "", said, 1);
-    }
-    let cut =
-        "Name: Small Courses: 3 Rooms: 2 Days: 2 Periods_per_day: 3 Curricula: 1 Constraints:";
-    assert_checks(&rt, cut, SOLUTION, "", "timedesk: instance I2 14\n", 1);
-    assert_checks(&rt, "", SOLUTION, "", "timedesk: instance I2 1\n", 1);
-    assert_checks(&rt, SMALL, "alg A 0", "", "timedesk: solution S2 4\n", 1);
-    let twice = "alg A 0 0 alg B 0 0";
-    assert_checks(&rt, SMALL, twice, "", "timedesk: solution S8 8\n", 1);
-    Ok(())
-}
-
-#[test]
-fn reads_any_layout(rt: HostRuntime) -> Result<(), Fail> {
-    let numbers = SMALL.replace(rt.alloc(), ": 3", ": 0003")?;
-    let tabs = numbers.as_str().replace(rt.alloc(), " ", "\t")?;
-    let lines = tabs.as_str().replace(rt.alloc(), "\n", "\r\n\r\n")?;
-    let instance = format!(in rt.alloc(); "{}and more", lines.as_str())?;
-    assert_checks(&rt, instance.as_str(), SOLUTION, REPORT, "", 0);
-    Ok(())
-}
-
-#[test]
-fn an_empty_instance_costs_nothing(rt: HostRuntime) {
-    let nothing =
-        "Name: None Courses: 0 Rooms: 0 Days: 0 Periods_per_day: 0 Curricula: 0 Constraints: 0 COURSES: ROOMS: CURRICULA: UNAVAILABILITY_CONSTRAINTS: END.";
-    let report =
-        "instance None\nlectures 0\nconflicts 0\navailability 0\noccupancy 0\ncapacity 0\ndays 0\ncompactness 0\nstability 0\ntotal 0\nlawful yes\ncomplete yes\n";
-    assert_checks(&rt, nothing, "", report, "", 0);
-}
-
-#[test]
-fn prints_json_where_asked(rt: HostRuntime) {
-    let files = [("i", SMALL.as_bytes()), ("s", SOLUTION.as_bytes())];
-    for words in [
-        ["timedesk", "check", "i", "s", "--json"],
-        ["timedesk", "check", "--json", "i", "s"],
-    ] {
-        assert_ends(&rt, &words, &files, JSON, "", 0);
-    }
-}
 
 #[test]
 fn says_which_file_cannot_be_read(rt: HostRuntime) {
@@ -304,101 +164,6 @@ fn a_fault_that_cannot_be_said_changes_nothing(rt: HostRuntime) {
     assert_eq!(rt; status, 3);
     assert!(rt; out.held.is_empty());
     assert_eq!(rt; err.held.as_slice(), b"time".as_slice());
-}
-
-/// Runs the program without files, and asserts how it ends and on which stream it writes.
-fn assert_words(rt: &(impl Abort + AllocGlobal), words: &[&str], status: u8) {
-    let mut files = MemoryFiles { files: &[] };
-    let mut out = make_shelf(rt, 10_000, true);
-    let mut err = make_shelf(rt, 10_000, true);
-    let ended = program(rt, words, &mut files, &mut out, &mut err);
-    assert_eq!(rt; ended, status);
-    assert_eq!(rt; out.held.is_empty(), status != 0);
-    assert_eq!(rt; err.held.is_empty(), status == 0);
-}
-
-const NO_COMMAND: &str =
-    "error: 'timedesk' requires a subcommand but one was not provided\n  [subcommands: check, run, audit, help]\n\nUsage: timedesk <COMMAND>\n\nFor more information, try '--help'.\n";
-
-#[test]
-fn refuses_words_and_gives_help(rt: HostRuntime) {
-    assert_ends(&rt, &["timedesk"], &[], "", NO_COMMAND, 2);
-    assert_ends(&rt, &["timedesk", "-V"], &[], "timedesk 0.1.0\n", "", 0);
-    assert_words(&rt, &["timedesk", "rum", "i", "s"], 2);
-    assert_words(&rt, &["timedesk", "run", "i"], 2);
-    assert_words(&rt, &["timedesk", "audit", "i", "j", "--journal", "k"], 2);
-    assert_words(&rt, &["timedesk", "check", "i"], 2);
-    assert_words(&rt, &["timedesk", "check", "i", "s", "t"], 2);
-    assert_words(&rt, &["timedesk", "check", "i", "s", "--xml"], 2);
-    assert_words(&rt, &["timedesk", "--help"], 0);
-    assert_words(&rt, &["timedesk", "help"], 0);
-    assert_words(&rt, &["timedesk", "check", "--help"], 0);
-}
-
-/// Asserts that words ask to check the files `i` and `s`.
-fn assert_asks(
-    rt: &(impl Abort + AllocGlobal),
-    words: &[&str],
-    json: bool,
-) -> Result<(), AllocError> {
-    let wanted = Job::Check {
-        instance: String::from_str(rt.alloc(), "i")?,
-        solution: String::from_str(rt.alloc(), "s")?,
-        json,
-    };
-    let copy = wanted.clone()?;
-    assert!(rt; copy == wanted);
-    let job = read_words(rt.alloc(), words);
-    assert!(rt; job.is_ok_and(|job| job == wanted));
-    Ok(())
-}
-
-#[test]
-fn reads_the_words_of_a_check(rt: HostRuntime) -> Result<(), Fail> {
-    assert_asks(&rt, &["timedesk", "check", "i", "s"], false)?;
-    assert_asks(&rt, &["timedesk", "check", "i", "s", "--json"], true)?;
-    Ok(())
-}
-
-/// A text of its own.
-fn text(rt: &impl AllocGlobal, text: &str) -> Result<String, AllocError> {
-    String::from_str(rt.alloc(), text)
-}
-
-#[test]
-fn reads_the_words_of_a_run(rt: HostRuntime) -> Result<(), Fail> {
-    let bare = Job::Run {
-        instance: text(&rt, "small.ctt")?,
-        script: text(&rt, "row9.txt")?,
-        start: None,
-        journal: None,
-    };
-    let words = ["timedesk", "run", "small.ctt", "row9.txt"];
-    let job = read_words(rt.alloc(), &words);
-    assert!(rt; job.is_ok_and(|job| job == bare));
-    let whole = Job::Run {
-        instance: text(&rt, "i")?,
-        script: text(&rt, "s")?,
-        start: Some(text(&rt, "t")?),
-        journal: Some(text(&rt, "j")?),
-    };
-    let words = ["timedesk", "run", "--start=t", "i", "s", "--journal", "j"];
-    let job = read_words(rt.alloc(), &words);
-    assert!(rt; job.is_ok_and(|job| job == whole));
-    Ok(())
-}
-
-#[test]
-fn reads_the_words_of_an_audit(rt: HostRuntime) -> Result<(), Fail> {
-    let wanted = Job::Audit {
-        instance: text(&rt, "i")?,
-        journal: text(&rt, "j")?,
-        start: Some(text(&rt, "t")?),
-    };
-    let words = ["timedesk", "audit", "i", "j", "--start", "t"];
-    let job = read_words(rt.alloc(), &words);
-    assert!(rt; job.is_ok_and(|job| job == wanted));
-    Ok(())
 }
 
 /// A script of two planners.
@@ -472,23 +237,40 @@ fn audits_a_journal(rt: HostRuntime) {
 }
 
 #[test]
-fn tells_refused_words_from_help(rt: HostRuntime) {
-    for words in [
-        ["timedesk", "run"],
-        ["timedesk", "check"],
-        ["timedesk", "--xml"],
+fn answers_a_crew(rt: HostRuntime) {
+    let files = [
+        ("i", SMALL.as_bytes()),
+        ("s", b"open\nplace geo A 0 1\ncommit\n".as_slice()),
+        ("t", b"open\nabandon".as_slice()),
+        ("bad", b"Name:".as_slice()),
+    ];
+    for (instance, script, printed, said, status) in [
+        (
+            "i",
+            "s",
+            "planner 0\nopened\ndone\ncommitted 1\nplanner 1\nopened\nabandoned\njournal 1\ncosts 0 15 2 0\n",
+            "",
+            0,
+        ),
+        (
+            "i",
+            "t",
+            "planner 0\nopened\nabandoned\nplanner 1\nopened\nabandoned\njournal 0\ncosts 0 20 0 0\n",
+            "",
+            0,
+        ),
+        ("i", "no", "", "timedesk: cannot read no\n", 3),
+        ("i", BREAKING, "", "timedesk: cannot read breaking\n", 3),
+        ("i", ENDLESS, "", "timedesk: too long endless\n", 3),
+        ("bad", "no", "", "timedesk: instance I2 2\n", 1),
     ] {
-        let refused = read_words(rt.alloc(), &words);
-        assert!(rt; matches!(&refused, Err(WordsFault::Refused(text)) if !text.is_empty()));
+        let words = ["timedesk", "crew", instance, script, "t"];
+        assert_ends(&rt, &words, &files, printed, said, status);
     }
-    for words in [
-        ["timedesk", "help"],
-        ["timedesk", "-h"],
-        ["timedesk", "--version"],
-    ] {
-        let help = read_words(rt.alloc(), &words);
-        assert!(rt; matches!(&help, Err(WordsFault::Help(text)) if !text.is_empty()));
-    }
+    let mut words = ["s"; 68];
+    words[..3].copy_from_slice(&["timedesk", "crew", "no"]);
+    let many = "timedesk: too many scripts\n";
+    assert_ends(&rt, &words, &files, "", many, 2);
 }
 
 #[test]

@@ -1,10 +1,11 @@
 //! Which courses clash: a row of marks a course.
 
-ghost use Rattle.std.specs.Prelude.{◌≡◌, ℕ, ◌<◌, ◌≤◌, ◌==◌, ◌&&◌, ◌||◌, not, nat_lt, length, IfOk};
+ghost use Rattle.std.specs.Prelude.{◌≡◌, ℕ, ◌<◌, ◌≤◌, ◌==◌, ◌&&◌, ◌||◌, not, nat_lt, false, length, IfOk};
 ghost use Rattle.std.specs.List.{list_any, AllByRecursion as Each};
 ghost use Rattle.ctt_text.specs.Lists.{has};
 ghost use Rattle.ctt_text.specs.Marks.{is_marked};
 ghost use Rattle.ctt_text.specs.Tables.{mark_at, teacher_at, AddsMarks};
+ghost use Rattle.ctt_text.specs.Ranked.{AreRanked};
 
 use crate::course_facts::CourseFacts;
 use crate::ids::CourseNo;
@@ -28,7 +29,7 @@ fn add_to_row(rows: &mut [Marks], row: usize, marks: &Marks)
     rows[row].add(marks);
 }
 
-/// Marks each course in the row of its teacher.
+/// Marks each course in the row at the number of its teacher.
 fn mark_taught(rows: &mut [Marks], courses: &[CourseFacts])
     requires few { length courses.now ≤ 2000 }
     requires teachers { Each (λ f. f.teacher < length rows.old) courses.now }
@@ -39,33 +40,20 @@ fn mark_taught(rows: &mut [Marks], courses: &[CourseFacts])
     }
 }
 
-/// For each teacher, a row of the courses that he has.
-fn taught(alloc: Global, courses: &[CourseFacts], teachers: usize) -> Result<Vec<Marks>, AllocError>
-    requires few { length courses.now ≤ 2000 }
-    requires teachers { Each (λ f. f.teacher < teachers) courses.now }
-    ensures size { IfOk result (λ v. length v.items ≡ teachers) }
-    ensures marks { IfOk result (λ v. (t c : ℕ) → t < teachers → mark_at v.items t c ≡ (nat_lt c (length courses.now) && t == teacher_at courses.now c)) }
+/// Gives each course the row that stands at the number of its teacher, from the last course on. Such a row is
+/// still as it was then, since no teacher has a greater number than a course of his.
+fn spread(rows: &mut [Marks], courses: &[CourseFacts])
+    requires size { length courses.now ≤ length rows.old }
+    requires ranked { AreRanked courses.now }
+    ensures size { length rows.new ≡ length rows.old }
+    ensures marks { (c d : ℕ) → c < length courses.now → mark_at rows.new c d ≡ mark_at rows.old (teacher_at courses.now c) d }
 {
-    let mut rows = vec![in alloc; Marks::new(); teachers]?;
-    mark_taught(&mut rows, courses);
-    Ok(rows)
-}
-
-/// For each course, a row of the courses that its teacher has.
-fn colleagues(
-    alloc: Global,
-    courses: &[CourseFacts],
-    taught: &[Marks],
-) -> Result<Vec<Marks>, AllocError>
-    requires { Each (λ f. f.teacher < length taught.now) courses.now }
-    ensures size { IfOk result (λ v. length v.items ≡ length courses.now) }
-    ensures marks { IfOk result (λ v. (c d : ℕ) → c < length courses.now → mark_at v.items c d ≡ mark_at taught.now (teacher_at courses.now c) d) }
-{
-    let mut rows = Vec::with_capacity(alloc, courses.len())?;
-    for course in courses {
-        rows.push(taught[course.teacher.get() as usize])?;
+    let mut left = courses.len();
+    while left > 0 {
+        left -= 1;
+        let teacher = courses[left].teacher.get() as usize;
+        rows[left] = rows[teacher];
     }
-    Ok(rows)
 }
 
 /// Marks of some courses.
@@ -125,21 +113,34 @@ fn add_mates(rows: &mut [Marks], curricula: &[Vec<CourseNo>])
     unmark_own(rows);
 }
 
+/// Marks in the row of each course the courses that it clashes with.
+fn mark_clashes(rows: &mut [Marks], courses: &[CourseFacts], curricula: &[Vec<CourseNo>])
+    requires few { length courses.now ≤ 2000 }
+    requires size { length rows.old ≡ length courses.now }
+    requires ranked { AreRanked courses.now }
+    requires members { Each (λ q. Each (λ d. d < length courses.now) q.items) curricula.now }
+    requires empty { (c d : ℕ) → c < length courses.now → mark_at rows.old c d ≡ false }
+    ensures size { length rows.new ≡ length rows.old }
+    ensures marks { (c d : ℕ) → c < length courses.now → mark_at rows.new c d ≡ (nat_lt d (length courses.now) && (not (c == d) && (teacher_at courses.now c == teacher_at courses.now d || list_any (λ q. has c q.items && has d q.items) curricula.now))) }
+{
+    mark_taught(rows, courses);
+    spread(rows, courses);
+    add_mates(rows, curricula);
+}
+
 /// For each course, a row of the courses that it clashes with.
 pub(crate) fn clash_rows(
     alloc: Global,
     courses: &[CourseFacts],
-    teachers: usize,
     curricula: &[Vec<CourseNo>],
 ) -> Result<Vec<Marks>, AllocError>
     requires few { length courses.now ≤ 2000 }
-    requires teachers { Each (λ f. f.teacher < teachers) courses.now }
+    requires ranked { AreRanked courses.now }
     requires members { Each (λ q. Each (λ d. d < length courses.now) q.items) curricula.now }
     ensures size { IfOk result (λ v. length v.items ≡ length courses.now) }
     ensures marks { IfOk result (λ v. (c d : ℕ) → c < length courses.now → mark_at v.items c d ≡ (nat_lt d (length courses.now) && (not (c == d) && (teacher_at courses.now c == teacher_at courses.now d || list_any (λ q. has c q.items && has d q.items) curricula.now)))) }
 {
-    let taught = taught(alloc, courses, teachers)?;
-    let mut rows = colleagues(alloc, courses, &taught)?;
-    add_mates(&mut rows, curricula);
+    let mut rows = vec![in alloc; Marks::new(); courses.len()]?;
+    mark_clashes(&mut rows, courses, curricula);
     Ok(rows)
 }

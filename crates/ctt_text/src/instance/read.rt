@@ -1,19 +1,25 @@
 //! Reading an instance from its text.
 
-ghost use Rattle.std.specs.Prelude.{◌≡◌, ◌⊎◌, ℕ, IfOk, IfErr, OnOk, Ok, Err};
+ghost use Rattle.std.specs.Prelude.{◌≡◌, ◌≤◌, ◌*◌, ◌⊎◌, ℕ, IfOk, IfErr, OnOk, Ok, Err, map, length};
 ghost use Rattle.std.specs.Str.{IsUtf8};
+ghost use Rattle.std.specs.String.{string_bytes};
 ghost use Rattle.std.specs.Str.Lossy.{utf8_valid_len};
 ghost use Rattle.ctt_text.specs.Words.{words};
 ghost use Rattle.ctt_text.specs.Reading.{Gives};
 ghost use Rattle.ctt_text.specs.Problem.{Problem, IsProblem};
 ghost use Rattle.ctt_text.specs.Named.{IsNamed};
+ghost use Rattle.ctt_text.specs.Ranked.{AreRanked};
+ghost use Rattle.ctt_text.specs.Instance.{AreClashes};
+ghost use Rattle.ctt_text.specs.Belonging.{AreCurricula};
 ghost use Rattle.ctt_text.specs.InstancePlaces.{GivesRead, reads, wants_memory, instance};
+ghost use Rattle.ctt_text.specs.LastSections.{last_sections};
 ghost use Rattle.ctt_text.specs.InstanceText.{Spells, InstanceBreaksAt};
 ghost use Rattle.ctt_text.specs.InstanceLaws.{answer, IsCauseOf};
 ghost use Rattle.ctt_text.specs.declared.fault.ReadFault.{ReadFault};
 ghost use Rattle.ctt_text.specs.declared.fault.ReadFault.TheVariants.{NoMemory, NotText};
 
 use crate::fault::ReadFault;
+use crate::ids::CurriculumNo;
 use crate::instance::Instance;
 use crate::instance::belonging::belonging;
 use crate::instance::clashes::clash_rows;
@@ -24,6 +30,7 @@ use crate::instance::places::read_fixed;
 use crate::instance::rooms::{RoomSection, read_room_section};
 use crate::instance::unavailability::read_unavailability_section;
 use crate::instance::unavailable::Unavailable;
+use crate::marks::Marks;
 use crate::reader::Reader;
 use std::alloc::{AllocError, Global};
 use std::marker::Model;
@@ -51,6 +58,45 @@ impl<'a> Model for Sections<'a> {
     ghost invariant = { λ s. IsTableOf (length s.courses.names) (s.header.days * s.header.periods) s.unavailable };
 }
 
+/// What an instance has beside the sections of its text.
+#[derive(Drop)]
+struct Tables {
+    name: String,
+    clashes: Vec<Marks>,
+    belonging: Vec<Vec<CurriculumNo>>,
+}
+
+/// What stands behind the rooms.
+#[derive(Drop)]
+struct LastSections {
+    curricula: CurriculumSection,
+    unavailable: Unavailable,
+}
+
+/// Reads what stands behind the rooms, up to the word at the end.
+#[tactic(auto, using(crate::proofs::Steps::read_bind, crate::proofs::Steps::read_done), unfolding(crate::specs::LastSections::last_sections))]
+fn read_last_sections<'a>(
+    alloc: Global,
+    reader: &mut Reader<'a>,
+    header: &Header<'a>,
+    courses: &CourseSection,
+) -> Result<LastSections, ReadFault>
+    requires slots { header.now.days * header.now.periods ≤ 2000 }
+    requires courses { length courses.now.names ≡ header.now.courses }
+    requires few { header.now.courses ≤ 2000 }
+    ensures rows { IfOk result (λ last. last.unavailable.rows ≡ header.now.courses) }
+    ensures width { IfOk result (λ last. last.unavailable.width ≡ header.now.days * header.now.periods) }
+    ensures exact { GivesRead (λ last. ((last.curricula, last.unavailable.marks), reader.new)) result (reads (last_sections header.now courses.now.names) reader.old) }
+{
+    let curricula = read_curriculum_section(alloc, reader, header, courses)?;
+    let unavailable = read_unavailability_section(alloc, reader, header, courses)?;
+    read_fixed(reader, "END.")?;
+    Ok(LastSections {
+        curricula,
+        unavailable,
+    })
+}
+
 /// Reads all sections, up to the word at the end.
 #[tactic(auto, using(crate::proofs::Steps::read_bind, crate::proofs::Steps::read_done), unfolding(crate::specs::InstancePlaces::instance))]
 fn read_sections<'a>(alloc: Global, reader: &mut Reader<'a>) -> Result<Sections<'a>, ReadFault>
@@ -59,24 +105,30 @@ fn read_sections<'a>(alloc: Global, reader: &mut Reader<'a>) -> Result<Sections<
     let header = read_header(reader)?;
     let courses = read_course_section(alloc, reader, &header)?;
     let rooms = read_room_section(alloc, reader, &header)?;
-    let curricula = read_curriculum_section(alloc, reader, &header, &courses)?;
-    let unavailable = read_unavailability_section(alloc, reader, &header, &courses)?;
-    read_fixed(reader, "END.")?;
+    let last = read_last_sections(alloc, reader, &header, &courses)?;
     Ok(Sections {
         header,
         courses,
         rooms,
-        curricula,
-        unavailable,
+        curricula: last.curricula,
+        unavailable: last.unavailable,
     })
 }
 
 impl<'a> Sections<'a> {
-    /// The instance, with the rows of its clashes.
-    fn into_instance(self, alloc: Global) -> Result<Instance, AllocError>
+    /// The instance, with these tables.
+    fn with_tables(
+        self,
+        name: String,
+        clashes: Vec<Marks>,
+        belonging: Vec<Vec<CurriculumNo>>,
+    ) -> Instance
         requires problem { IsProblem self }
         requires named { IsNamed self }
-        ensures { IfOk result (λ i. i ≡ self.entry) }
+        requires name { string_bytes name ≡ self.name }
+        requires clashes { AreClashes self clashes.items }
+        requires belonging { AreCurricula self (map (λ q. q.items) belonging.items) }
+        ensures { result ≡ self.entry }
     {
         let Sections {
             header,
@@ -85,32 +137,75 @@ impl<'a> Sections<'a> {
             curricula,
             unavailable,
         } = self;
-        let CourseSection {
-            names: course_names,
-            facts: courses,
-            teachers: teacher_names,
-        } = courses;
-        let CurriculumSection {
-            names: curriculum_names,
-            members: curricula,
-        } = curricula;
-        let clashes = clash_rows(alloc, &courses, teacher_names.len(), &curricula)?;
-        let belonging = belonging(alloc, &courses, &curricula)?;
-        Ok(Instance {
-            name: String::from_str(alloc, header.name)?,
-            course_names,
-            courses,
-            teacher_names,
+        Instance {
+            name,
+            course_names: courses.names,
+            courses: courses.facts,
+            teacher_names: courses.teachers,
             room_names: rooms.names,
             capacities: rooms.capacities,
-            curriculum_names,
-            curricula,
+            curriculum_names: curricula.names,
+            curricula: curricula.members,
             days: header.days as u16,
             periods: header.periods as u16,
             unavailable,
             clashes,
             belonging,
+        }
+    }
+
+    /// For each course, those that it clashes with.
+    fn clashes(&self, alloc: Global) -> Result<Vec<Marks>, AllocError>
+        requires problem { IsProblem self.now }
+        requires ranked { AreRanked self.now.courses }
+        ensures { IfOk result (λ rows. AreClashes self.now rows.items) }
+    {
+        let rows = clash_rows(alloc, &self.courses.facts, &self.curricula.members)?;
+        Ok(rows)
+    }
+
+    /// For each course, its curricula.
+    fn belonging(&self, alloc: Global) -> Result<Vec<Vec<CurriculumNo>>, AllocError>
+        requires problem { IsProblem self.now }
+        ensures { IfOk result (λ lists. AreCurricula self.now (map (λ q. q.items) lists.items)) }
+    {
+        let lists = belonging(alloc, &self.courses.facts, &self.curricula.members)?;
+        Ok(lists)
+    }
+
+    /// What the instance has beside the sections, which are lent: where memory is refused, none of
+    /// them is let go here.
+    fn tables(&self, alloc: Global) -> Result<Tables, AllocError>
+        requires problem { IsProblem self.now }
+        requires ranked { AreRanked self.now.courses }
+        ensures name { IfOk result (λ t. string_bytes t.name ≡ self.now.name) }
+        ensures clashes { IfOk result (λ t. AreClashes self.now t.clashes.items) }
+        ensures belonging { IfOk result (λ t. AreCurricula self.now (map (λ q. q.items) t.belonging.items)) }
+    {
+        let clashes = self.clashes(alloc)?;
+        let belonging = self.belonging(alloc)?;
+        let name = String::from_str(alloc, self.header.name)?;
+        Ok(Tables {
+            name,
+            clashes,
+            belonging,
         })
+    }
+
+    /// The instance, with the rows of its clashes.
+    fn into_instance(self, alloc: Global) -> Result<Instance, AllocError>
+        requires problem { IsProblem self }
+        requires named { IsNamed self }
+        requires ranked { AreRanked self.courses }
+        ensures { IfOk result (λ i. i ≡ self.entry) }
+    {
+        let tables = self.tables(alloc)?;
+        let Tables {
+            name,
+            clashes,
+            belonging,
+        } = tables;
+        Ok(self.with_tables(name, clashes, belonging))
     }
 }
 

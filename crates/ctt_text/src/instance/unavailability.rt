@@ -1,6 +1,7 @@
 //! The section of the unavailable periods.
 
-ghost use Rattle.std.specs.Prelude.{◌≡◌, ◌<◌, ◌≤◌, ◌*◌, length, codes, IfOk};
+ghost use Rattle.std.specs.Prelude.{◌≡◌, ◌<◌, ◌≤◌, ◌+◌, ◌*◌, List, Bool, true, length, codes, IfOk, IfSome, MatchOption, Ok};
+ghost use Rattle.std.specs.List.{slice_set};
 ghost use Rattle.ctt_text.specs.Places.{after, known_name};
 ghost use Rattle.ctt_text.specs.declared.fault.ReadFault.TheVariants.{Expected, UnknownCourse};
 ghost use Rattle.ctt_text.specs.Forms.{times};
@@ -27,17 +28,36 @@ fn read_course<'a>(
     ensures exact { GivesRead (λ course. (course, reader.new)) result (reads (known_name UnknownCourse courses.old) reader.old) }
 {
     let at = reader.next();
-    let (last, number) = courses.last();
-    if reader.take(last) {
-        return number.ok_or(ReadFault::UnknownCourse(at));
-    }
     let name = next_word::<ReadFault>(reader)?;
     courses.number(name).ok_or(ReadFault::UnknownCourse(at))
 }
 
-/// Reads one period in which a course is unavailable, and marks it.
+/// Takes a line of the course of the line before, written as most are, and gives the course and the
+/// slot. Any other line is left to be read word by word.
+#[tactic(auto, using(crate::proofs::LineLaws::line_read))]
+fn next_of_same(
+    reader: &mut Reader,
+    courses: &Lookup,
+    days: u32,
+    periods: u32,
+) -> Option<(usize, usize)>
+    requires { days * periods ≤ 2000 }
+    ensures course { IfSome result (λ line. line.0 < length courses.now) }
+    ensures slot { IfSome result (λ line. line.1 < days * periods) }
+    ensures line { MatchOption result (reader.new ≡ reader.old) (λ line.
+        (marks : List Bool) → reads (unavailability courses.now days periods marks) reader.old ≡ Ok (slice_set marks (line.0 * (days * periods) + line.1) true, reader.new)) }
+{
+    let (name, number) = courses.last();
+    let course = number?;
+    let (day, period) = reader.line(name, (days, periods))?;
+    Some((course, (day * periods + period) as usize))
+}
+
+/// Reads one period in which a course is unavailable, word by word, and marks it. It stands apart so
+/// that the usual line keeps to registers.
+#[inline(never)]
 #[tactic(auto, using(crate::proofs::Steps::read_bind, crate::proofs::Steps::read_done), unfolding(crate::specs::InstancePlaces::unavailability))]
-fn read_one_period<'a>(
+fn read_by_words<'a>(
     reader: &mut Reader<'a>,
     courses: &mut Lookup<'_, 'a>,
     days: u32,
@@ -57,6 +77,29 @@ fn read_one_period<'a>(
     let period = read_period(reader, periods)?;
     table.mark(course, (day * periods + period) as usize);
     Ok(())
+}
+
+/// Reads one period in which a course is unavailable, and marks it.
+fn read_one_period<'a>(
+    reader: &mut Reader<'a>,
+    courses: &mut Lookup<'_, 'a>,
+    days: u32,
+    periods: u32,
+    table: &mut Unavailable,
+) -> Result<(), ReadFault>
+    requires slots { days * periods ≤ 2000 }
+    requires rows { table.old.rows ≡ length courses.old }
+    requires width { table.old.width ≡ days * periods }
+    ensures names { courses.new ≡ courses.old }
+    ensures rows { table.new.rows ≡ table.old.rows }
+    ensures width { table.new.width ≡ table.old.width }
+    ensures exact { GivesRead (λ _. (table.new.marks, reader.new)) result (reads (unavailability courses.old days periods table.old.marks) reader.old) }
+{
+    if let Some((course, slot)) = next_of_same(reader, courses, days, periods) {
+        table.mark(course, slot);
+        return Ok(());
+    }
+    read_by_words(reader, courses, days, periods, table)
 }
 
 /// Reads so many periods in which a course is unavailable.
@@ -93,6 +136,7 @@ pub(crate) fn read_unavailability_section(
 ) -> Result<Unavailable, ReadFault>
     requires slots { header.now.days * header.now.periods ≤ 2000 }
     requires courses { length courses.now.names ≡ header.now.courses }
+    requires few { header.now.courses ≤ 2000 }
     ensures rows { IfOk result (λ table. table.rows ≡ header.now.courses) }
     ensures width { IfOk result (λ table. table.width ≡ header.now.days * header.now.periods) }
     ensures exact { GivesRead (λ table. (table.marks, reader.new)) result (reads (after Expected (codes "UNAVAILABILITY_CONSTRAINTS:") (times (unavailability courses.now.names header.now.days header.now.periods) header.now.constraints (all_available header.now))) reader.old) }

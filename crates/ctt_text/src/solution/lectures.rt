@@ -1,137 +1,86 @@
 //! The lectures of a solution, as they are read.
 
-ghost use Rattle.std.specs.Prelude.{◌≡◌, ◌<◌, ◌≤◌, ◌+◌, ◌*◌, ℕ, [], false, length, take, IfOk};
+ghost use Rattle.std.specs.Prelude.{◌≡◌, ◌<◌, [], true, false, IsTrue, OnOk, IfOk};
+ghost use Rattle.std.specs.List.{AllByRecursion as Each};
 ghost use Rattle.ctt_text.specs.Problem.{course_count, room_count, slot_count};
-ghost use Rattle.ctt_text.specs.Timetable.{has_lecture, with};
-ghost use Rattle.ctt_text.specs.RoomTable.{lecture_in, lectures_from};
+ghost use Rattle.ctt_text.specs.Timetable.{before, Ascending, IsTimetable, has_lecture, with};
 
 use crate::ids::{CourseNo, RoomNo, SlotNo};
 use crate::instance::Instance;
 use crate::placed::Placed;
+use crate::solution::room_table::RoomTable;
+use crate::timetable::is_before;
 use std::alloc::{AllocError, Global};
 use std::marker::Model;
 
-/// The cell of a course and a slot.
-fn cell(instance: &Instance, course: CourseNo, slot: SlotNo) -> usize
-    requires course { course < course_count instance.now }
-    requires slot { slot < slot_count instance.now }
-    ensures cell { result ≡ course * slot_count instance.now + slot }
-    ensures within { result < course_count instance.now * slot_count instance.now }
+/// Whether all lectures of a list come before a lecture.
+fn comes_last(list: &[Placed], lecture: &Placed) -> bool
+    requires { Ascending list.now }
+    ensures { IsTrue result → Each (λ l. before l lecture.now ≡ true) list.now }
 {
-    instance.limits_hold();
-    course.get() as usize * instance.slots() as usize + slot.get() as usize
+    list.is_empty() || is_before(&list[list.len() - 1], lecture)
 }
 
-/// The lecture of a cell.
-fn lecture(instance: &Instance, cell: usize, room: RoomNo) -> Placed
-    requires { cell < course_count instance.now * slot_count instance.now }
-    ensures { result ≡ lecture_in (slot_count instance.now) cell room }
+/// Whether a course has a lecture in a slot.
+fn has_lecture(list: &[Placed], course: CourseNo, slot: SlotNo) -> bool
+    requires { Ascending list.now }
+    ensures { result ≡ has_lecture course slot list.now }
 {
-    instance.limits_hold();
-    let slots = instance.slots() as usize;
-    Placed {
-        course: CourseNo::new((cell / slots) as u16),
-        slot: SlotNo::new((cell % slots) as u16),
-        room,
+    let room = RoomNo::new(0);
+    if comes_last(list, &Placed { course, slot, room }) {
+        return false;
     }
+    list.iter()
+        .any(|lecture| lecture.course == course && lecture.slot == slot)
 }
 
-/// A room, or none, in two bytes.
-#[derive(Clone, Copy)]
-struct HeldRoom {
-    /// 0 for none, and else the number after the room's.
-    code: u16,
-}
-
-impl Model for HeldRoom {
-    ghost use Rattle.std.specs.Prelude.{ℕ, Option};
-    ghost use Rattle.ctt_text.specs.RoomTable.{room_by_code, code_of_room, code_again};
-    ghost use Rattle.std.proofs.Common.{ap};
-
-    ghost Value = { Option ℕ };
-
-    ghost view = { λ h. room_by_code h.code };
-
-    ghost inverse = { λ room. record { code = code_of_room room } };
-
-    ghost inverse_ok = { λ h _. ap (λ code. record { code = code }) (code_again h.code) };
-}
-
-impl HeldRoom {
-    /// No room.
-    fn none() -> Self
-        ensures { result ≡ None }
-    {
-        HeldRoom { code: 0 }
-    }
-
-    fn of(room: RoomNo) -> Self
-        requires { room < 1000 }
-        ensures { result ≡ Some room }
-    {
-        HeldRoom {
-            code: room.get() + 1,
-        }
-    }
-
-    fn room(self) -> Option<RoomNo>
-        ensures { result ≡ self }
-    {
-        if self.code == 0 {
-            None
-        } else {
-            Some(RoomNo::new(self.code - 1))
-        }
-    }
-}
-
-/// The first cell from one on that has a room; the end of the table, where none has.
-#[tactic(auto, using(crate::proofs::RoomTableLaws::gathered_none))]
-fn next_held(rooms: &[HeldRoom], from: usize) -> usize
-    requires { from ≤ length rooms.now }
-    ensures after { from ≤ result }
-    ensures within { result ≤ length rooms.now }
-    ensures free { (slots : ℕ) → lectures_from slots 0 (take result rooms.now) ≡ lectures_from slots 0 (take from rooms.now) }
+/// The table of the lectures of a list.
+fn table_of<'i>(
+    alloc: Global,
+    instance: &'i Instance,
+    list: &[Placed],
+) -> Result<RoomTable<'i>, AllocError>
+    requires { IsTimetable instance.now list.now }
+    ensures { IfOk result (λ table. table ≡ record { problem = instance.now; lectures = list.now }) }
 {
-    let mut cell = from;
-    while cell < rooms.len() && rooms[cell].room().is_none() {
-        cell += 1;
+    let mut table = RoomTable::new(alloc, instance)?;
+    for lecture in list {
+        table.add(*lecture);
     }
-    cell
+    Ok(table)
 }
 
-/// Lectures of an instance: a room for each course and slot that has one.
+/// Lectures of an instance: a list, as long as each one comes after those before it, and a table
+/// from the first one on that does not.
 #[derive(Drop)]
 pub(crate) struct Lectures<'i> {
     instance: &'i Instance,
-    /// For each course in turn, for each slot in turn.
-    rooms: Vec<HeldRoom>,
+    list: Vec<Placed>,
+    table: Option<RoomTable<'i>>,
 }
 
 impl<'i> Model for Lectures<'i> {
-    ghost use Rattle.std.specs.Prelude.{◌≡◌, ◌*◌, length};
-    ghost use Rattle.ctt_text.specs.Problem.{course_count, slot_count};
-    ghost use Rattle.ctt_text.specs.RoomTable.{Held, lectures_from};
+    ghost use Rattle.std.specs.Prelude.{◌≡◌, None, Some, IfSome};
+    ghost use Rattle.ctt_text.specs.RoomTable.{Held};
+    ghost use Rattle.ctt_text.specs.Timetable.{IsTimetable};
 
     ghost Value = { Held };
 
-    ghost view = { λ l. record { problem = l.instance.now; lectures = lectures_from (slot_count l.instance.now) 0 l.rooms.items } };
+    ghost view = { λ l. record { problem = l.instance.now; lectures = elim l.table [ None ↦ l.list.items | Some table ↦ table.lectures ] } };
 
-    ghost invariant = { λ l. length l.rooms.items ≡ course_count l.instance.now * slot_count l.instance.now };
+    ghost invariant = { λ l. IsTimetable l.instance.now l.list.items × IfSome l.table (λ table. table.problem ≡ l.instance.now) };
 }
 
 impl<'i> Lectures<'i> {
     /// No lecture.
-    #[tactic(auto, using(crate::proofs::RoomTableLaws::no_lectures))]
-    pub(crate) fn new(alloc: Global, instance: &'i Instance) -> Result<Self, AllocError>
-        ensures { IfOk result (λ l. l ≡ record { problem = instance.now; lectures = [] }) }
+    pub(crate) fn new(alloc: Global, instance: &'i Instance) -> Self
+        ensures { result ≡ record { problem = instance.now; lectures = [] } }
     {
-        instance.limits_hold();
-        let cells = instance.courses() as usize * instance.slots() as usize;
-        Ok(Lectures {
+        Lectures {
             instance,
-            rooms: vec![in alloc; HeldRoom::none(); cells]?,
-        })
+            list: Vec::new(alloc),
+            table: None,
+        }
     }
 
     /// The instance of the lectures.
@@ -142,44 +91,56 @@ impl<'i> Lectures<'i> {
     }
 
     /// Whether a course has a lecture in a slot.
-    #[tactic(auto, using(crate::proofs::RoomTableLaws::has_cell))]
     pub(crate) fn has(&self, course: CourseNo, slot: SlotNo) -> bool
         requires course { course < course_count self.now.problem }
         requires slot { slot < slot_count self.now.problem }
         ensures { result ≡ has_lecture course slot self.now.lectures }
     {
-        self.rooms[cell(self.instance, course, slot)]
-            .room()
-            .is_some()
+        match &self.table {
+            Some(table) => table.has(course, slot),
+            None => has_lecture(&self.list, course, slot),
+        }
     }
 
     /// Adds a lecture, where its course has none in its slot.
-    #[tactic(auto, using(crate::proofs::RoomTableLaws::with_cell))]
-    pub(crate) fn add(&mut self, lecture: Placed)
+    pub(crate) fn add(&mut self, alloc: Global, lecture: Placed) -> Result<(), AllocError>
         requires course { lecture.course < course_count self.old.problem }
         requires slot { lecture.slot < slot_count self.old.problem }
         requires room { lecture.room < room_count self.old.problem }
         requires free { has_lecture lecture.course lecture.slot self.old.lectures ≡ false }
-        ensures { self.new ≡ record { problem = self.old.problem; lectures = with lecture self.old.lectures } }
+        ensures problem { self.new.problem ≡ self.old.problem }
+        ensures lectures { OnOk result (self.new.lectures ≡ with lecture self.old.lectures) }
     {
-        self.instance.limits_hold();
-        let cell = cell(self.instance, lecture.course, lecture.slot);
-        self.rooms[cell] = HeldRoom::of(lecture.room);
+        match &mut self.table {
+            Some(table) => {
+                table.add(lecture);
+                Ok(())
+            }
+            None if comes_last(&self.list, &lecture) => {
+                self.list.push(lecture)?;
+                Ok(())
+            }
+            None => {
+                let mut table = table_of(alloc, self.instance, &self.list)?;
+                table.add(lecture);
+                self.table = Some(table);
+                Ok(())
+            }
+        }
     }
 
     /// All lectures, by course and then by slot.
-    #[tactic(auto, using(crate::proofs::RoomTableLaws::gathered_room, crate::proofs::RoomTableLaws::gathered_none))]
-    pub(crate) fn list(&self, alloc: Global) -> Result<Vec<Placed>, AllocError>
-        ensures { IfOk result (λ list. list.items ≡ self.now.lectures) }
+    pub(crate) fn into_list(self, alloc: Global) -> Result<Vec<Placed>, AllocError>
+        ensures { IfOk result (λ list. list.items ≡ self.entry.lectures) }
     {
-        let mut list = Vec::new(alloc);
-        let mut cell = next_held(&self.rooms, 0);
-        while cell < self.rooms.len() {
-            if let Some(room) = self.rooms[cell].room() {
-                list.push(lecture(self.instance, cell, room))?;
-            }
-            cell = next_held(&self.rooms, cell + 1);
+        let Lectures {
+            instance: _,
+            list,
+            table,
+        } = self;
+        match table {
+            Some(table) => table.list(alloc),
+            None => Ok(list),
         }
-        Ok(list)
     }
 }

@@ -24,7 +24,11 @@ use std::alloc::Global;
 
 /// Reads one entry, and adds its lecture to those before it.
 #[tactic(auto, using(crate::proofs::Steps::read_bind, crate::proofs::Steps::read_done), unfolding(crate::specs::SolutionPlaces::entry))]
-fn read_entry(reader: &mut Reader, lectures: &mut Lectures) -> Result<(), SolutionFault>
+fn read_entry(
+    alloc: Global,
+    reader: &mut Reader,
+    lectures: &mut Lectures,
+) -> Result<(), SolutionFault>
     ensures problem { lectures.new.problem ≡ lectures.old.problem }
     ensures exact { GivesLectures (λ _. (lectures.new.lectures, reader.new)) result (reads_lectures (entry lectures.old.problem lectures.old.lectures) reader.old) }
 {
@@ -33,7 +37,7 @@ fn read_entry(reader: &mut Reader, lectures: &mut Lectures) -> Result<(), Soluti
     let room = next_room::<SolutionFault>(reader, instance)?;
     let day = next_day::<SolutionFault>(reader, instance)?;
     let slot = read_slot(reader, lectures, course, day)?;
-    lectures.add(Placed { course, slot, room });
+    lectures.add(alloc, Placed { course, slot, room })?;
     Ok(())
 }
 
@@ -45,11 +49,11 @@ fn read_lectures(
 ) -> Result<Vec<Placed>, SolutionFault>
     ensures { GivesLectures (λ list. (list.items, reader.new)) result (reads_lectures (solution instance.now reader.old.words) reader.old) }
 {
-    let mut lectures = Lectures::new(alloc, instance)?;
+    let mut lectures = Lectures::new(alloc, instance);
     while !reader.is_at_end() {
-        read_entry(reader, &mut lectures)?;
+        read_entry(alloc, reader, &mut lectures)?;
     }
-    Ok(lectures.list(alloc)?)
+    Ok(lectures.into_list(alloc)?)
 }
 
 /// Reads a solution from a text.

@@ -1,5 +1,5 @@
-use Rattle.std.proofs.Common.{rules, ◌≡◌, ◌∙◌, None, Some, List, ap, subst}
-use Rattle.ctt_text.specs.Marks.{is_marked}
+use Rattle.std.proofs.Common.{rules, ◌≡◌, ◌∙◌, ◌&&◌, ltb, None, Some, List, ap, subst}
+use Rattle.ctt_text.specs.Marks.{is_marked, IsLeast}
 use Rattle.ctt_text.specs.Problem.{Problem}
 use Rattle.ctt_text.specs.declared.placed.Placed.{Placed}
 use Rattle.ctt_rules.specs.Hard.{Lawful}
@@ -11,7 +11,7 @@ returns-in_err-number g c =
     let i : Problem = c.args.instance.now in
     let t : List Placed = g.R.Rooms.list c.args.rooms.now in
     let lawful : Lawful i t = subst (λ p. Lawful p t) c.requires.same c.lawful.ensures in
-    c.from_residual.ensures ∙ clash_is i t lawful c.args.course c.args.slot (is_marked c.standing-standing.result) (is_marked c.clashing.result.now) None c.standing-standing.ensures c.clashing.ensures c.in_err-number.ensures.least
+    c.from_residual.ensures ∙ clash_is i t lawful c.args.course c.args.slot (is_marked c.standing-standing.result) (is_marked c.clashing.result.now) None c.standing-standing.ensures c.clashing.ensures (subst (λ k. IsLeast (λ n. ltb n k && (is_marked c.standing-standing.result n && is_marked c.clashing.result.now n)) None) c.courses-courses.ensures.exact c.in_err-number.ensures.least)
 
 pub returns : goal.returns
 returns g c =
@@ -19,4 +19,4 @@ returns g c =
     let t : List Placed = g.R.Rooms.list c.args.rooms.now in
     let lawful : Lawful i t = subst (λ p. Lawful p t) c.requires.same c.lawful.ensures in
     let number : c.new.result ≡ c.in_ok-number.number = search rules in
-    ap Some number ∙ clash_is i t lawful c.args.course c.args.slot (is_marked c.standing-standing.result) (is_marked c.clashing.result.now) (Some c.in_ok-number.number) c.standing-standing.ensures c.clashing.ensures c.in_ok-number.ensures.least
+    ap Some number ∙ clash_is i t lawful c.args.course c.args.slot (is_marked c.standing-standing.result) (is_marked c.clashing.result.now) (Some c.in_ok-number.number) c.standing-standing.ensures c.clashing.ensures (subst (λ k. IsLeast (λ n. ltb n k && (is_marked c.standing-standing.result n && is_marked c.clashing.result.now n)) (Some c.in_ok-number.number)) c.courses-courses.ensures.exact c.in_ok-number.ensures.least)

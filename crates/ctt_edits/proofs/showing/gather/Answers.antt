@@ -1,4 +1,4 @@
-use Rattle.std.proofs.Common.{◌≡◌, ◌<◌, ◌+◌, ◌∙◌, ℕ, List, sym, ap, arith}
+use Rattle.std.proofs.Common.{◌≡◌, ◌<◌, ◌+◌, ◌∙◌, ℕ, List, sym, ap, refl, arith}
 use Rattle.ctt_text.specs.Problem.{Problem, course_count}
 use Rattle.ctt_text.specs.Timetable.{course_row}
 use Rattle.ctt_text.specs.declared.placed.Placed.{Placed}
@@ -17,10 +17,8 @@ loop-course-preserved g c =
     let t : List Placed = g.S.Rooms.list c.args.sheet.now in
     let last : ℕ = c.in-Some.course in
     let end : ℕ = course_count c.instance-instance.result.now in
-    let row : c.deref.result.now ≡ course_row last t = c.deref.ensures.value ∙ c.in_ok-row.ensures in
-    let more : c.extend_from_slice.new.self.items ≡ part_below (has_course c.args.rows.now) (last + 1) t =
-    part_more (has_course c.args.rows.now) c.loop-course.from end last t c.loop-course.lectures.items c.deref.result.now c.extend_from_slice.new.self.items
-    c.lawful.ensures.timetable.ascending c.in-Some.ensures c.loop-course.invariant.0 row c.in_ok-extend_from_slice.ensures.items in
+    let more = part_more (has_course c.args.rows.now) c.loop-course.from end last t c.loop-course.lectures.items (course_row last t) c.append_course_row.new.list.items
+    c.lawful.ensures.timetable.ascending c.in-Some.ensures c.loop-course.invariant.0 refl c.in_ok-append_course_row.ensures in
     let within : last < end = part_within (has_course c.args.rows.now) c.loop-course.from end last c.in-Some.ensures in
     (more ∙ ap (λ n. part_below (has_course c.args.rows.now) (n + 1) t) (sym c.get-from.ensures), omega (arith, within, c.get-from.ensures, ap course_count c.instance-instance.ensures))
 

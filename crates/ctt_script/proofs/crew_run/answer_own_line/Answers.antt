@@ -5,7 +5,8 @@ use Rattle.ctt_script.proofs.crew_run.answer_own_line.Goals as goal
 
 pub take-seat-requires : goal.take-seat-requires
 take-seat-requires g c κs =
+    let n : ℕ = c.args.planner + 1 in
     let lt : c.args.planner < c.args.planner + 1 = omega arith in
-    let here : EventFits c.args.instance.now (c.args.planner + 1) c.in-Some.event = c.in-Some.ensures.fits (c.args.planner + 1) lt in
-    let fits : (n : ℕ) × EventFits g.J.Naming.problem n c.in-Some.event = (c.args.planner + 1, subst (λ i. EventFits i (c.args.planner + 1) c.in-Some.event) (sym c.requires) here) in
+    let here : EventFits c.args.instance.now n c.in-Some.event = subst (λ o. IfSome o (EventFits c.args.instance.now n)) c.in-Some.is (c.requires.fits n lt) in
+    let fits : (n : ℕ) × EventFits g.J.Naming.problem n c.in-Some.event = (n, subst (λ i. EventFits i n c.in-Some.event) (sym c.requires.same) here) in
     search rules

@@ -2,7 +2,7 @@ use Rattle.std.proofs.Common.{rules, ◌≡◌, ◌∙◌, [], ℕ, length, Resu
 use Rattle.ctt_script.specs.Answering.{IsAtRun}
 use Rattle.ctt_text.proofs.FormLaws.{ok_same}
 use Rattle.ctt_edits.specs.declared.fault.EditFault.{EditFault}
-use Rattle.ctt_script.proofs.ScriptRuns.{front_said, journal_can}
+use Rattle.ctt_script.proofs.ScriptRuns.{all_said, front_said, journal_can, script_done}
 use Rattle.ctt_script.proofs.engine.run_script.Goals as goal
 
 on_err : {T E : Type 0} {P : Type 0} (r : Result T E) → P → OnErr r P
@@ -30,3 +30,13 @@ pub returns-clause-entries : goal.returns-clause-entries
 returns-clause-entries g c =
     journal_can c.in_ok-desk.desk c.answer_lines.new.desk c.args.instance.now c.in_ok-text.text.items c.deref.result.now (g.W.Sink.taken c.args.writer.now) (g.W.Sink.taken c.answer_lines.new.writer)
     c.limits_hold.ensures c.in_ok-desk.ensures.problem c.lawful.ensures.opening c.in_ok-desk.ensures.planners c.in_ok-desk.ensures.stands c.deref.ensures.value c.in_ok-answer_lines.ensures.written (search rules)
+
+pub returns-clause-answers : goal.returns-clause-answers
+returns-clause-answers g c =
+    all_said c.in_ok-desk.desk c.answer_lines.new.desk c.args.instance.now (g.R.Source.left c.args.reader.now) c.in_ok-text.text.items c.deref.result.now (g.W.Sink.taken c.args.writer.now) _
+    c.in_ok-desk.ensures.problem c.in_ok-desk.ensures.stands c.deref.ensures.value c.in_ok-text.ensures.all c.in_ok-answer_lines.ensures.written
+
+pub returns-clause-stands : goal.returns-clause-stands
+returns-clause-stands g c =
+    script_done c.in_ok-desk.desk c.answer_lines.new.desk c.args.instance.now (g.R.Source.left c.args.reader.now) c.in_ok-text.text.items c.deref.result.now _ _
+    c.in_ok-desk.ensures.problem c.in_ok-desk.ensures.stands c.deref.ensures.value c.in_ok-text.ensures.all c.in_ok-answer_lines.ensures.written

@@ -1,4 +1,4 @@
-use Rattle.std.proofs.Common.{◌≡◌, ◌++◌, ◌∷◌, List, ℕ, refl, arith, codes}
+use Rattle.std.proofs.Common.{◌≡◌, ◌++◌, ◌∷◌, refl, arith, codes}
 use Rattle.std.proofs.lemmas.Grind.{common_steps}
 use Rattle.ctt_text.specs.Problem.{Problem}
 use Rattle.ctt_edits.specs.declared.fault.EditFault.{EditFault}

@@ -10,9 +10,9 @@ unfolding check
 returns c =
     let bare : IsCommand (new_app (codes "check")) c.about.result =
     record { reads_by = search rules; is_local = search rules } in
-    let first = with_argument (new_app (codes "check")) (required_word (codes "instance")) c.about.result c.file_argument-instance.result c.in_ok-arg.field-0
-    bare c.file_argument-instance.ensures.rule c.file_argument-instance.ensures.local c.in_ok-arg.ensures in
-    let second = with_argument _ (required_word (codes "solution")) c.in_ok-arg.field-0 c.file_argument-solution.result c.in_ok-arg-2.field-0
-    first c.file_argument-solution.ensures.rule c.file_argument-solution.ensures.local c.in_ok-arg-2.ensures in
-    IfOk-weaker c.arg-3.result _ _ (λ command adds. with_argument _ (flag (codes "json")) c.in_ok-arg-2.field-0 c.flag_argument-json.result command
-    second c.flag_argument-json.ensures.rule c.flag_argument-json.ensures.local adds) c.arg-3.ensures
+    let first = with_argument (new_app (codes "check")) (required_word (codes "instance")) c.about.result c.instance_argument.result c.in_ok-arg.field-0
+    bare c.instance_argument.ensures.rule c.instance_argument.ensures.local c.in_ok-arg.ensures in
+    let second = with_argument _ (required_word (codes "solution")) c.in_ok-arg.field-0 c.file_argument.result c.in_ok-arg-2.field-0
+    first c.file_argument.ensures.rule c.file_argument.ensures.local c.in_ok-arg-2.ensures in
+    IfOk-weaker c.arg-3.result _ _ (λ command adds. with_argument _ (flag (codes "json")) c.in_ok-arg-2.field-0 c.flag_argument.result command
+    second c.flag_argument.ensures.rule c.flag_argument.ensures.local adds) c.arg-3.ensures

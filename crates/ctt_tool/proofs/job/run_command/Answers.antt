@@ -10,11 +10,11 @@ unfolding run
 returns c =
     let bare : IsCommand (new_app (codes "run")) c.about.result =
     record { reads_by = search rules; is_local = search rules } in
-    let first = with_argument (new_app (codes "run")) (required_word (codes "instance")) c.about.result c.file_argument-instance.result c.in_ok-arg.field-0
-    bare c.file_argument-instance.ensures.rule c.file_argument-instance.ensures.local c.in_ok-arg.ensures in
-    let second = with_argument _ (required_word (codes "script")) c.in_ok-arg.field-0 c.file_argument-script.result c.in_ok-arg-2.field-0
-    first c.file_argument-script.ensures.rule c.file_argument-script.ensures.local c.in_ok-arg-2.ensures in
-    let third = with_argument _ (valued (codes "start")) c.in_ok-arg-2.field-0 c.start_argument-start.result c.in_ok-arg-3.field-0
-    second c.start_argument-start.ensures.rule c.start_argument-start.ensures.local c.in_ok-arg-3.ensures in
-    IfOk-weaker c.arg-4.result _ _ (λ command adds. with_argument _ (valued (codes "journal")) c.in_ok-arg-3.field-0 c.valued_argument-journal.result command
-    third c.valued_argument-journal.ensures.rule c.valued_argument-journal.ensures.local adds) c.arg-4.ensures
+    let first = with_argument (new_app (codes "run")) (required_word (codes "instance")) c.about.result c.instance_argument.result c.in_ok-arg.field-0
+    bare c.instance_argument.ensures.rule c.instance_argument.ensures.local c.in_ok-arg.ensures in
+    let second = with_argument _ (required_word (codes "script")) c.in_ok-arg.field-0 c.file_argument.result c.in_ok-arg-2.field-0
+    first c.file_argument.ensures.rule c.file_argument.ensures.local c.in_ok-arg-2.ensures in
+    let third = with_argument _ (valued (codes "start")) c.in_ok-arg-2.field-0 c.start_argument.result c.in_ok-arg-3.field-0
+    second c.start_argument.ensures.rule c.start_argument.ensures.local c.in_ok-arg-3.ensures in
+    IfOk-weaker c.arg-4.result _ _ (λ command adds. with_argument _ (valued (codes "journal")) c.in_ok-arg-3.field-0 c.valued_argument.result command
+    third c.valued_argument.ensures.rule c.valued_argument.ensures.local adds) c.arg-4.ensures

@@ -1,10 +1,19 @@
-use Rattle.std.proofs.Common.{inr}
+use Rattle.std.proofs.Common.{inr, rules}
 use Rattle.std.proofs.lemmas.Result.{IfErr-weaker, IfOk-weaker}
-use Rattle.ctt_tool.proofs.Known.{if_err_both, job_caused, kept_weaker}
+use Rattle.ctt_tool.specs.Jobs.{HasScripts}
+use Rattle.ctt_tool.proofs.Known.{if_err_both, job_caused, job_has_scripts, job_refused, kept_weaker}
 use Rattle.ctt_tool.proofs.program.do_as_asked.Goals as goal
 
 pub returns-in-Ok-clause-done : goal.returns-in-Ok-clause-done
 returns-in-Ok-clause-done g c = IfOk-weaker c.do_job.result _ _ (λ outcome does. inr (c.in-Ok.ensures.taken, (c.in-Ok.job, c.in-Ok.ensures.job, does))) c.do_job.ensures.done
+
+pub do_job-requires : goal.do_job-requires
+do_job-requires g c =
+    let has : HasScripts c.in-Ok.job = job_has_scripts _ c.in-Ok.job c.in-Ok.ensures.job in
+    search rules
+
+pub returns-in-Ok-clause-refused : goal.returns-in-Ok-clause-refused
+returns-in-Ok-clause-refused g c = IfErr-weaker c.do_job.result _ _ (λ fault unwritten two. job_refused _ c.in-Ok.job _ _ fault c.in-Ok.ensures.job unwritten two) c.do_job.ensures.fault
 
 pub returns-in-Ok-clause-unstored : goal.returns-in-Ok-clause-unstored
 returns-in-Ok-clause-unstored g c = IfErr-weaker c.do_job.result _ _ (λ fault kept. kept_weaker fault _ _ _ _ (λ stored. (stored.0, (c.in-Ok.job, c.in-Ok.ensures.job, stored.1))) (λ same. same) kept) c.do_job.ensures.unstored

@@ -9,6 +9,7 @@ use Rattle.ctt_core.specs.Runs.{accepted_of}
 use Rattle.ctt_script.specs.AnswerText.{script_run}
 use Rattle.ctt_tool.specs.Faults.{status_of}
 use Rattle.ctt_tool.specs.Texts.{Held, Holds, IsRefusedStart, IsStart}
+use Rattle.ctt_tool.proofs.Causes.{unstored_refuses_none}
 use Rattle.ctt_tool.proofs.Desks.{journal_stored, told_through}
 use Rattle.ctt_tool.proofs.Known.{on_ok_weaker, passed_on}
 use Rattle.ctt_tool.proofs.run.run_on.Goals as goal
@@ -50,3 +51,7 @@ returns-clause-runs g c =
       stores = journal_stored c.args.journal held _ _ (held (string_bytes c.args.script)) problem c.journal.result.now c.in_ok-desk.desk.journal (λ text. accepted_of (script_run problem opened text))
           (c.in_ok-lectures.ensures.kept ∙ c.in-Ok.ensures.kept) c.journal.ensures entries stores;
     }) c.store_journal.ensures.stores
+
+pub returns-clause-cause : goal.returns-clause-cause
+returns-clause-cause g c =
+    unstored_refuses_none c.store_journal.result _ _ (λ _. IsRefusedStart c.args.instance.now (g.F.Files.held c.args.files.now) c.args.start) c.store_journal.ensures.fault

@@ -8,8 +8,8 @@ use Rattle.ctt_board.proofs.ClashLemmas.{stands_by_room}
 use Rattle.ctt_board.proofs.RoomLemmas.{rooms_after}
 use Rattle.ctt_board.proofs.after.AfterRooms.standing.Goals as goal
 
-pub standing_after-requires : goal.standing_after-requires
-standing_after-requires g c =
+pub change_standing-requires : goal.change_standing-requires
+change_standing-requires g c =
     let cells = c.self.inside.cells.now in
     let t = g.R.Rooms.list c.self.inside.rooms.now in
     let i = c.self.inside.instance.now in
@@ -21,8 +21,8 @@ pub returns : goal.returns
 returns g c = λ course.
     let cells = c.self.inside.cells.now in
     let t = g.R.Rooms.list c.self.inside.rooms.now in
-    c.standing_after.ensures course
-    ∙ ap (stands_by cells course c.args.slot) (c.standing.ensures course)
+    c.change_standing.ensures course
+    ∙ ap (stands_by cells course c.args.slot) (c.standing-standing.ensures course)
     ∙ stands_by_room cells course c.args.slot (room_at course c.args.slot t)
     ∙ ap is_some (sym (rooms_after cells t c.self.invariant.fit course c.args.slot))
     ∙ ap (λ (b : Board). is_some (room_at course c.args.slot b.list)) c.self.view_is

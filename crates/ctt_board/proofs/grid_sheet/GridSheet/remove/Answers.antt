@@ -50,10 +50,10 @@ module _ (c : goal.After-leave) where
       let course : c.get-course.result ≡ l.course = search rules in
       let slot : c.get-slot.result ≡ l.slot = search rules in
       let wrote : WroteRoom i rooms c.set.new.self l.course l.slot None =
-      λ d e lt. c.set.ensures.cells d e None (omega (arith, lt, c.self.invariant.rooms_are.size.1)) ∙ ap₂ (λ a b. cond (d == a && e == b) None (at rooms d e None)) course slot in
+      λ d e lt. c.set.ensures.cells d e None (omega (arith, lt, c.self.invariant.rooms_are.size.1)) ∙ ap (λ v. cond (d == c.get-course.result && e == c.get-slot.result) v (at rooms d e None)) c.none-none.ensures ∙ ap₂ (λ a b. cond (d == a && e == b) None (at rooms d e None)) course slot in
       let room : c.get-room.result ≡ l.room = search rules in
       let wrote' : WroteCourse i c.self.inside.courses c.set-2.new.self l.slot l.room None =
-      λ d e lt. c.set-2.ensures.cells d e None (omega (arith, lt, c.self.invariant.courses_are.size.1)) ∙ ap₂ (λ a b. cond (d == a && e == b) None (at c.self.inside.courses d e None)) slot room in
+      λ d e lt. c.set-2.ensures.cells d e None (omega (arith, lt, c.self.invariant.courses_are.size.1)) ∙ ap (λ v. cond (d == c.get-slot.result && e == c.get-room.result) v (at c.self.inside.courses d e None)) c.none-none.ensures ∙ ap₂ (λ a b. cond (d == a && e == b) None (at c.self.inside.courses d e None)) slot room in
       removed i rooms c.set.new.self c.self.inside.courses c.set-2.new.self c.self.inside.standing c.leave.new.standing c.self.inside.counts c.take.new.self c.self.inside.cost c.without_lecture-self-inside.result l c.now.result c.joining_of-joining.result c.self.invariant fits c.set.ensures.rows c.set.ensures.width c.set-2.ensures.rows c.set-2.ensures.width there
       sees c.joining_of-joining.ensures.value c.without_lecture-self-inside.ensures c.take.ensures wrote wrote' c.leave.ensures
 

@@ -1,6 +1,7 @@
-use Rattle.std.proofs.Common.{ap, ◌≡◌, ◌<◌, ◌+◌, ◌*◌, ℕ, length, ◌∙◌, [], refl, arith}
+use Rattle.std.proofs.Common.{ap, subst, ◌≡◌, ◌<◌, ◌+◌, ◌*◌, ℕ, length, ◌∙◌, [], refl, arith}
 use Rattle.std.proofs.lemmas.List.{get_or_default}
 use Rattle.ctt_text.specs.Problem.{course_count, slot_count}
+use Rattle.ctt_board.specs.Tables.{at}
 use Rattle.ctt_board.specs.Grids.{AreRooms, AreHolders, AreStanding}
 use Rattle.ctt_text.specs.Marks.{is_marked}
 use Rattle.ctt_board.proofs.ClashLemmas.{none_stand}
@@ -15,14 +16,14 @@ module _ (c : goal.After-penalty) where
       let courses : c.courses-courses.result ≡ course_count i = c.courses-courses.ensures.exact in
       let slots : c.slots-slots.result ≡ slot_count i = c.slots-slots.ensures.exact in
       let g = c.in_ok-new.ensures in
-      no_rooms i c.in_ok-new.field-0 (g.rows.0 ∙ courses, g.rows.1 ∙ slots) (λ k s lk ls. g.cells k s (omega (arith, lk, courses)) (omega (arith, ls, slots)))
+      no_rooms i c.in_ok-new.field-0 (g.rows.0 ∙ courses, g.rows.1 ∙ slots) (λ k s lk ls. subst (λ v. at c.in_ok-new.field-0 k s v ≡ v) c.none-none.ensures (g.cells k s (omega (arith, lk, courses)) (omega (arith, ls, slots))))
 
   courses_none : AreHolders c.args.instance.now [] c.in_ok-new-2.field-0
   courses_none =
       let i = c.args.instance.now in
       let slots : c.slots-slots.result ≡ slot_count i = c.slots-slots.ensures.exact in
       let g = c.in_ok-new-2.ensures in
-      no_holders i c.in_ok-new-2.field-0 (g.rows.0 ∙ slots, g.rows.1 ∙ c.rooms.ensures.exact) (λ s r ls lr. g.cells s r (omega (arith, ls, slots)) (omega (arith, lr, c.rooms.ensures.exact)))
+      no_holders i c.in_ok-new-2.field-0 (g.rows.0 ∙ slots, g.rows.1 ∙ c.rooms.ensures.exact) (λ s r ls lr. subst (λ v. at c.in_ok-new-2.field-0 s r v ≡ v) c.none-none.ensures (g.cells s r (omega (arith, ls, slots)) (omega (arith, lr, c.rooms.ensures.exact))))
 
   stand_none : AreStanding c.args.instance.now [] c.in_ok-new-3.field-0
   stand_none =

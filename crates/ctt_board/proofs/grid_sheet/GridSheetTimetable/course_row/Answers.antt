@@ -11,4 +11,4 @@ returns c =
     let i = c.self.inside.instance.now in
     let row = row_below (λ s. at c.self.inside.rooms c.args.course s None) c.args.course (slot_count i) in
     let course : c.args.course < course_count i = subst (λ b. c.args.course < course_count b.problem) (sym c.self.view_is) c.requires in
-    rw (← c.self.view_is) (c.in_ok-append_row.ensures ∙ ap (λ xs. xs ++ row) c.new-row.ensures.items ∙ row_shown i (listed i c.self.inside.rooms) c.self.inside.rooms c.args.course c.self.invariant.lawful.timetable c.self.invariant.rooms_are course)
+    rw (← c.self.view_is) (c.in_ok-append_row.ensures ∙ ap (λ xs. xs ++ row) c.in_ok-row.ensures.items ∙ row_shown i (listed i c.self.inside.rooms) c.self.inside.rooms c.args.course c.self.invariant.lawful.timetable c.self.invariant.rooms_are course)

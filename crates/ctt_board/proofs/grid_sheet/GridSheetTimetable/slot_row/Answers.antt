@@ -1,20 +1,31 @@
-use Rattle.std.proofs.Common.{rules, ℕ, Option, ◌≡◌, ◌<◌, ◌++◌, None, ◌∙◌, sym, ap, subst, arith}
-use Rattle.ctt_text.specs.Problem.{course_count, slot_count}
+use Rattle.std.proofs.Common.{ℕ, ◌≡◌, ◌<◌, ◌++◌, None, is_some, ◌∙◌, sym, ap, subst}
+use Rattle.ctt_text.specs.Marks.{is_marked}
+use Rattle.ctt_text.specs.Problem.{slot_count}
+use Rattle.ctt_board.specs.Boards.{Board}
+use Rattle.ctt_board.specs.Changes.{room_at}
 use Rattle.ctt_board.specs.Tables.{at}
-use Rattle.ctt_board.specs.Cells.{lecture_at}
 use Rattle.ctt_board.specs.Grids.{listed, column_below}
-use Rattle.ctt_board.proofs.GridLemmas.{column_goes_on, column_shown}
+use Rattle.ctt_board.proofs.GridLemmas.{column_shown}
+use Rattle.ctt_board.proofs.ColumnLemmas.{column_stands, column_within}
 use Rattle.ctt_board.proofs.grid_sheet.GridSheetTimetable.slot_row.Goals as goal
 
-pub loop-number-preserved : goal.loop-number-preserved
-loop-number-preserved c =
-    let f : ℕ → Option ℕ = λ k. at c.self.inside.rooms k c.args.slot None in
-    let number : c.new.result ≡ c.loop-number.number = search rules in
-    c.in_ok-append_lecture.ensures ∙ ap (λ xs. xs ++ lecture_at c.new.result c.args.slot (f c.new.result)) c.loop-number.invariant ∙ column_goes_on f c.args.slot c.loop-number.number c.new.result number
+pub append_column-requires-clause-standing : goal.append_column-requires-clause-standing
+append_column-requires-clause-standing c =
+    let i = c.self.inside.instance.now in
+    let slot : c.args.slot < slot_count i = subst (λ b. c.args.slot < slot_count b.problem) (sym c.self.view_is) c.requires in
+    let stands : (n : ℕ) → is_marked c.standing-standing.result n ≡ is_some (room_at n c.args.slot (listed i c.self.inside.rooms)) = λ n. c.standing-standing.ensures n ∙ ap (λ (b : Board). is_some (room_at n c.args.slot b.list)) (sym c.self.view_is) in
+    column_stands i (listed i c.self.inside.rooms) c.args.slot c.self.invariant.lawful c.self.inside.rooms c.self.invariant.rooms_are slot (λ n. is_marked c.standing-standing.result n) stands
+
+pub append_column-requires-clause-within : goal.append_column-requires-clause-within
+append_column-requires-clause-within c =
+    let i = c.self.inside.instance.now in
+    let slot : c.args.slot < slot_count i = subst (λ b. c.args.slot < slot_count b.problem) (sym c.self.view_is) c.requires in
+    let stands : (n : ℕ) → is_marked c.standing-standing.result n ≡ is_some (room_at n c.args.slot (listed i c.self.inside.rooms)) = λ n. c.standing-standing.ensures n ∙ ap (λ (b : Board). is_some (room_at n c.args.slot b.list)) (sym c.self.view_is) in
+    column_within i (listed i c.self.inside.rooms) c.args.slot c.self.invariant.lawful c.self.inside.rooms c.self.invariant.rooms_are slot (λ n. is_marked c.standing-standing.result n) stands
 
 pub returns : goal.returns
 returns c =
     let i = c.self.inside.instance.now in
+    let column = λ (n : ℕ). column_below (λ k. at c.self.inside.rooms k c.args.slot None) c.args.slot n in
     let slot : c.args.slot < slot_count i = subst (λ b. c.args.slot < slot_count b.problem) (sym c.self.view_is) c.requires in
-    let end : c.loop-number.number ≡ course_count i = omega (arith, c.loop-number-test.false, c.loop-number.auto.number-end, c.courses-number-end.ensures.exact) in
-    rw (← c.self.view_is) (c.loop-number.invariant ∙ ap (column_below (λ k. at c.self.inside.rooms k c.args.slot None) c.args.slot) end ∙ column_shown i (listed i c.self.inside.rooms) c.args.slot c.self.invariant.lawful.timetable c.self.inside.rooms c.self.invariant.rooms_are slot)
+    rw (← c.self.view_is) (c.in_ok-append_column.ensures ∙ ap (λ xs. xs ++ column c.self.inside.rooms.rows) c.in_ok-row.ensures.items ∙ ap column c.self.invariant.rooms_are.size.0 ∙ column_shown i (listed i c.self.inside.rooms) c.args.slot c.self.invariant.lawful.timetable c.self.inside.rooms c.self.invariant.rooms_are slot)

@@ -1,11 +1,18 @@
-use Rattle.std.proofs.Common.{rules, ◌≡◌, ◌∙◌, Ok, sym, ap}
+use Rattle.std.proofs.Common.{rules, ◌≡◌, ◌∙◌, Ok, Some, sym, ap, length, arith}
+use Rattle.ctt_core.specs.Stocks.{IsMarked}
 use Rattle.ctt_core.specs.Desks.{DeskValue, draft_at, IsFresh}
 use Rattle.ctt_core.proofs.StepLemmas.{draft_fits, fresh_of}
+use Rattle.ctt_core.proofs.StockLemmas.{mark_read}
 use Rattle.ctt_core.proofs.desk.Desk.commit.Goals as goal
 
 pub stale-found-requires : goal.stale-found-requires
 stale-found-requires g c κs =
-    let same : g.S.Rooms.problem c.self.inside.sheet ≡ c.in-Some.draft.problem = c.self.invariant.same ∙ ap (λ (v : DeskValue). v.problem) c.self.view_is ∙ sym (draft_fits _ _ c.args.self.now c.args.planner _ _ _ (ap (λ (v : DeskValue). v.problem) c.self.view_is) (ap (λ (v : DeskValue). v.drafts) c.self.view_is) c.self.invariant.drafts_of c.requires c.get-place.ensures c.index.ensures c.in-Some.is) in
+    let drafts = ap (λ (v : DeskValue). v.drafts) c.self.view_is in
+    let same : c.in-Some.draft.problem ≡ c.self.inside.stock.problem =
+    draft_fits _ _ c.args.self.now c.args.planner _ _ _ (ap (λ (v : DeskValue). v.problem) c.self.view_is) drafts c.self.invariant.drafts_of c.requires c.get-place.ensures c.index.ensures c.in-Some.is
+    ∙ sym (c.self.invariant.same ∙ ap (λ (v : DeskValue). v.problem) c.self.view_is) in
+    let marked : IsMarked c.self.inside.stock (Some c.in-Some.draft) c.index-in-Some.result.now =
+    mark_read c.self.inside.stock c.self.inside.drafts.items c.self.inside.marks.items c.args.planner c.get-place.result _ _ _ c.self.invariant.marked (omega (arith, c.requires, ap length drafts)) (omega (arith, c.requires, ap length drafts, c.self.invariant.counted, c.self.invariant.marks_counted)) c.get-place.ensures c.index.ensures c.index-in-Some.ensures c.in-Some.is in
     search rules
 
 pub accept-requires : goal.accept-requires

@@ -1,9 +1,14 @@
 use Rattle.std.proofs.Common.{rules, ◌≡◌, ◌<◌, ◌++◌, ◌∷◌, [], length, arith, ◌+◌, slice_set, sym, ap, ◌∙◌, subst, List}
+use Rattle.ctt_rules.specs.Hard.{Lawful}
 use Rattle.ctt_draft.specs.DraftValues.{Settles}
+use Rattle.ctt_draft.specs.declared.asked.Asked.{Asked}
 use Rattle.ctt_core.specs.Runs.{after}
 use Rattle.ctt_core.specs.declared.journal.JournalEntry.{JournalEntry}
-use Rattle.ctt_desk.specs.Histories.{entry_of, Standing, Counted, own}
-use Rattle.ctt_desk.proofs.CommitLemmas.{standing_more}
+use Rattle.ctt_desk.specs.Histories.{entry_of, Counted, IsLocked, IsPublished, own}
+use Rattle.ctt_draft.specs.Replays.{replayed}
+use Rattle.ctt_desk.specs.Published.{IsAfter}
+use Rattle.ctt_desk.specs.Trails.{UpdateValue}
+use Rattle.ctt_desk.proofs.CommitLemmas.{replayed_more, published_now, and_some, leads_update}
 use Rattle.ctt_desk.proofs.CountLemmas.{fewer, count_read, counted_more}
 use Rattle.ctt_desk.proofs.locked.Locked.accept.Goals as goal
 
@@ -11,22 +16,56 @@ pub prove-unreachable-requires : goal.prove-unreachable-requires
 prove-unreachable-requires g c =
     let entry : JournalEntry = entry_of c.args.number c.end-work.result.0.asked in
     let all : c.push.new.self.items ≡ c.self.inside.journal.items ++ entry ∷ [] = search rules in
-    let count : c.index-count.result.now ≡ length (own c.args.number c.self.inside.journal.items) = count_read g.J.Naming.planners c.args.number _ _ c.self.inside.counts.items c.self.inside.journal.items c.self.invariant.counted c.requires.planner c.get.ensures c.index-count.ensures in
+    let count : c.index-count.result.now ≡ length (own c.args.number c.self.inside.journal.items) = count_read g.J.Naming.planners c.args.number _ _ c.self.inside.counts.items c.self.inside.journal.items c.self.invariant.0.counted c.requires.planner c.get.ensures c.index-count.ensures in
     let less : c.index-count.result.now < length c.push.new.self.items = fewer c.args.number _ c.self.inside.journal.items c.push.new.self.items entry all count in
     omega (arith, less, c.len-place.ensures, c.if-prove.true)
 
+pub new-update-requires : goal.new-update-requires
+new-update-requires g c =
+    let i = g.J.Naming.problem in
+    let t0 = g.J.Naming.opening in
+    let h : List JournalEntry = c.self.inside.journal.items in
+    let longer : c.again.result ≡ h ++ entry_of c.args.number c.args.draft.value.asked ∷ [] =
+    c.again.ensures.same ∙ c.extend.ensures ∙ ap (λ (l : List JournalEntry). l ++ entry_of c.args.number c.end-work.result.0.asked ∷ []) c.self.invariant.1 ∙ ap (λ (xs : List Asked). h ++ entry_of c.args.number xs ∷ []) c.end-work.ensures.asked
+    in
+    let settles : Settles c.args.draft.value (after i t0 h) = subst (λ (j : List JournalEntry). Settles c.args.draft.value (after i t0 j)) (sym c.self.view_is) c.requires.settles in
+    leads_update i t0 h c.again-before.result c.again.result c.args.number c.args.draft.value c.end-work.result.0.changes.items c.requires.problem settles c.end-work.ensures.changes (c.again-before.ensures.same ∙ c.self.invariant.1) longer
+
+pub publish-writer-requires-clause-right : goal.publish-writer-requires-clause-right
+publish-writer-requires-clause-right g c κs within =
+    let i = g.J.Naming.problem in
+    let t0 = g.J.Naming.opening in
+    let h : List JournalEntry = c.self.inside.journal.items in
+    let shown = c.unwrap-2.result.desk.shown.value in
+    let copy : IsPublished i (g.S.Rooms.problem shown.sheet) t0 (g.S.Rooms.list shown.sheet) h shown.front = search rules in
+    let longer : c.again.result ≡ h ++ entry_of c.args.number c.args.draft.value.asked ∷ [] =
+    c.again.ensures.same ∙ c.extend.ensures ∙ ap (λ (l : List JournalEntry). l ++ entry_of c.args.number c.end-work.result.0.asked ∷ []) c.self.invariant.1 ∙ ap (λ (xs : List Asked). h ++ entry_of c.args.number xs ∷ []) c.end-work.ensures.asked
+    in
+    let settles : Settles c.args.draft.value (after i t0 h) = subst (λ (j : List JournalEntry). Settles c.args.draft.value (after i t0 j)) (sym c.self.view_is) c.requires.settles in
+    subst (λ (u : UpdateValue). IsAfter i t0 (g.S.Rooms.problem shown.sheet) (replayed (g.S.Rooms.problem shown.sheet) u.changes (g.S.Rooms.list shown.sheet)) u.front) (sym c.new-update.ensures)
+    (replayed_more i (g.S.Rooms.problem shown.sheet) t0 (g.S.Rooms.list shown.sheet) h c.again.result c.args.number c.args.draft.value c.end-work.result.0.changes.items copy.standing c.requires.problem settles c.end-work.ensures.told c.end-work.ensures.changes longer)
+
 pub invariant_of-self-2 : goal.invariant_of-self-2
 invariant_of-self-2 g c =
+    let i = g.J.Naming.problem in
+    let t0 = g.J.Naming.opening in
     let h : List JournalEntry = c.self.inside.journal.items in
-    let asked : c.end-work.result.0.asked ≡ c.args.draft.asked = c.end-work.ensures.asked in
+    let shown = c.publish-writer.result.desk.shown.value in
+    let asked : c.end-work.result.0.asked ≡ c.args.draft.value.asked = c.end-work.ensures.asked in
     let entered : c.push.new.self.items ≡ h ++ entry_of c.args.number c.end-work.result.0.asked ∷ [] = search rules in
-    let all : c.push.new.self.items ≡ h ++ entry_of c.args.number c.args.draft.asked ∷ [] = entered ∙ ap (λ xs. h ++ entry_of c.args.number xs ∷ []) asked in
-    let count : c.index-count.result.now ≡ length (own c.args.number h) = count_read g.J.Naming.planners c.args.number _ _ c.self.inside.counts.items h c.self.invariant.counted c.requires.planner c.get.ensures c.index-count.ensures in
-    let settles : Settles c.args.draft (after g.J.Naming.problem g.J.Naming.opening h) = subst (λ j. Settles c.args.draft (after g.J.Naming.problem g.J.Naming.opening j)) (sym c.self.view_is) c.requires.settles in
+    let all : c.push.new.self.items ≡ h ++ entry_of c.args.number c.args.draft.value.asked ∷ [] = entered ∙ ap (λ (xs : List Asked). h ++ entry_of c.args.number xs ∷ []) asked in
+    let front : c.extend.new.self ≡ c.push.new.self.items = c.extend.ensures ∙ ap (λ (l : List JournalEntry). l ++ entry_of c.args.number c.end-work.result.0.asked ∷ []) c.self.invariant.1 ∙ sym entered in
+    let count : c.index-count.result.now ≡ length (own c.args.number h) = count_read g.J.Naming.planners c.args.number _ _ c.self.inside.counts.items h c.self.invariant.0.counted c.requires.planner c.get.ensures c.index-count.ensures in
+    let lawful : Lawful (g.S.Rooms.problem shown.sheet) (g.S.Rooms.list shown.sheet) = search rules in
+    let p = c.publish-writer.ensures in
+    let published : IsPublished i (g.S.Rooms.problem shown.sheet) t0 (g.S.Rooms.list shown.sheet) c.push.new.self.items shown.front =
+    published_now i (g.S.Rooms.problem shown.sheet) t0 (g.S.Rooms.list shown.sheet) c.push.new.self.items c.new-update.result.front shown.front p.right lawful p.front (ap (λ (u : UpdateValue). u.front) c.new-update.ensures ∙ c.again.ensures.same ∙ front)
+    in
+    let locked : IsLocked i t0 c.self.inside.opening.items g.J.Naming.planners (slice_set c.self.inside.counts.items c.get-2.result (c.index-count.result.now + 1)) c.push.new.self.items =
     record {
-      opens = c.self.invariant.opens;
-      standing = subst (Standing g.J.Naming.problem (g.S.Rooms.problem c.settle.new.sheet) g.J.Naming.opening (g.S.Rooms.list c.settle.new.sheet)) (sym all)
-          (standing_more g.J.Naming.problem (g.S.Rooms.problem c.self.inside.sheet) (g.S.Rooms.problem c.settle.new.sheet) g.J.Naming.opening (g.S.Rooms.list c.self.inside.sheet) (g.S.Rooms.list c.settle.new.sheet) h c.args.number c.args.draft _ c.self.invariant.standing c.requires.problem settles c.end-work.ensures.told c.end-work.ensures.changes c.settle.ensures.problem c.settle.ensures.list c.lawful.ensures);
+      opens = c.self.invariant.0.opens;
+      legal = published.standing.legal;
       counted = subst (Counted g.J.Naming.planners (slice_set c.self.inside.counts.items c.get-2.result (c.index-count.result.now + 1))) (sym all)
-          (counted_more g.J.Naming.planners c.args.number c.get-2.result c.index-count.result.now c.self.inside.counts.items h c.args.draft.asked c.self.invariant.counted c.requires.planner c.get-2.ensures count);
+          (counted_more g.J.Naming.planners c.args.number c.get-2.result c.index-count.result.now c.self.inside.counts.items h c.args.draft.value.asked c.self.invariant.0.counted c.requires.planner c.get-2.ensures count);
     }
+    in (locked, front, and_some _ _ c.publish-writer.result c.put_back.ensures (published, p.rests))

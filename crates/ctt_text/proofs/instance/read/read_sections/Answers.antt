@@ -1,35 +1,32 @@
-use Rattle.std.proofs.Common.{◌∙◌, codes}
+use Rattle.std.proofs.Common.{◌∙◌, Ok, ap, subst, sym, codes}
 use Rattle.std.proofs.lemmas.Result.{err_from_is_err_and}
 use Rattle.ctt_text.specs.Forms.{times}
-use Rattle.ctt_text.specs.Places.{after, fixed}
-use Rattle.ctt_text.specs.InstancePlaces.{header, course, no_courses, room, no_rooms, curriculum, no_curricula, unavailability, all_available, instance, missing, wants_memory}
+use Rattle.ctt_text.specs.Places.{after}
+use Rattle.ctt_text.specs.Reading.{Fails, reading}
+use Rattle.ctt_text.specs.InstancePlaces.{header, course, no_courses, room, no_rooms, instance, problem_of, missing, wants_memory}
+use Rattle.ctt_text.specs.LastSections.{last_sections}
 use Rattle.ctt_text.specs.declared.fault.ReadFault.TheVariants.{Expected}
-use Rattle.ctt_text.proofs.Steps.{read_then, fails_there}
+use Rattle.ctt_text.proofs.Steps.{and_then, read_then, fails_on}
+use Rattle.ctt_text.proofs.LastSections.{last_read}
 use Rattle.ctt_text.proofs.instance.read.read_sections.Goals as goal
 
-pub returns-in_err-unavailable : goal.returns-in_err-unavailable
+pub returns-in_err-last : goal.returns-in_err-last
 unfolding instance
-returns-in_err-unavailable c =
-    let p = err_from_is_err_and c.from_residual-in_err-unavailable.result c.from_residual-in_err-unavailable.ensures.1 in
+returns-in_err-last c =
+    let p = err_from_is_err_and c.from_residual-in_err-last.result c.from_residual-in_err-last.ensures.1 in
     rw (p.1, p.2)
-    (fails_there missing wants_memory c.in_err-unavailable.field-0.0
-    (after Expected (codes "UNAVAILABILITY_CONSTRAINTS:") (times (unavailability c.in_ok-courses.courses.names c.in_ok-header.header.days c.in_ok-header.header.periods) c.in_ok-header.header.constraints (all_available c.in_ok-header.header)))
-    _ c.read_curriculum_section.new.reader _
-    (read_then missing header _ c.args.reader.now c.read_header.new.reader c.in_ok-header.header c.in_ok-header.ensures.exact
+    (subst (Fails wants_memory c.in_err-last.field-0.0)
+    (sym (read_then missing header _ c.args.reader.now c.read_header.new.reader c.in_ok-header.header c.in_ok-header.ensures.exact
     ∙ read_then missing (after Expected (codes "COURSES:") (times course c.in_ok-header.header.courses no_courses)) _ c.read_header.new.reader c.read_course_section.new.reader c.in_ok-courses.courses c.in_ok-courses.ensures.exact
     ∙ read_then missing (after Expected (codes "ROOMS:") (times room c.in_ok-header.header.rooms no_rooms)) _ c.read_course_section.new.reader c.read_room_section.new.reader c.in_ok-rooms.rooms c.in_ok-rooms.ensures
-    ∙ read_then missing (after Expected (codes "CURRICULA:") (times (curriculum c.in_ok-courses.courses.names) c.in_ok-header.header.curricula no_curricula)) _ c.read_room_section.new.reader c.read_curriculum_section.new.reader c.in_ok-curricula.curricula c.in_ok-curricula.ensures)
-    c.in_err-unavailable.ensures.exact)
+    ∙ last_read c.in_ok-header.header c.in_ok-courses.courses c.in_ok-rooms.rooms c.read_room_section.new.reader))
+    (fails_on missing wants_memory c.in_err-last.field-0.0 (reading missing (last_sections c.in_ok-header.header c.in_ok-courses.courses.names) c.read_room_section.new.reader) _ c.in_err-last.ensures.exact))
 
-pub returns-in_err-read_fixed : goal.returns-in_err-read_fixed
+pub returns : goal.returns
 unfolding instance
-returns-in_err-read_fixed c =
-    let p = err_from_is_err_and c.from_residual-in_err-read_fixed.result c.from_residual-in_err-read_fixed.ensures.1 in
-    rw (p.1, p.2)
-    (fails_there missing wants_memory c.in_err-read_fixed.field-0.0 (fixed Expected (codes "END.")) _ c.read_unavailability_section.new.reader _
-    (read_then missing header _ c.args.reader.now c.read_header.new.reader c.in_ok-header.header c.in_ok-header.ensures.exact
+returns c =
+    read_then missing header _ c.args.reader.now c.read_header.new.reader c.in_ok-header.header c.in_ok-header.ensures.exact
     ∙ read_then missing (after Expected (codes "COURSES:") (times course c.in_ok-header.header.courses no_courses)) _ c.read_header.new.reader c.read_course_section.new.reader c.in_ok-courses.courses c.in_ok-courses.ensures.exact
     ∙ read_then missing (after Expected (codes "ROOMS:") (times room c.in_ok-header.header.rooms no_rooms)) _ c.read_course_section.new.reader c.read_room_section.new.reader c.in_ok-rooms.rooms c.in_ok-rooms.ensures
-    ∙ read_then missing (after Expected (codes "CURRICULA:") (times (curriculum c.in_ok-courses.courses.names) c.in_ok-header.header.curricula no_curricula)) _ c.read_room_section.new.reader c.read_curriculum_section.new.reader c.in_ok-curricula.curricula c.in_ok-curricula.ensures
-    ∙ read_then missing (after Expected (codes "UNAVAILABILITY_CONSTRAINTS:") (times (unavailability c.in_ok-courses.courses.names c.in_ok-header.header.days c.in_ok-header.header.periods) c.in_ok-header.header.constraints (all_available c.in_ok-header.header))) _ c.read_curriculum_section.new.reader c.read_unavailability_section.new.reader c.in_ok-unavailable.unavailable.marks c.in_ok-unavailable.ensures.exact)
-    c.in_err-read_fixed.ensures)
+    ∙ last_read c.in_ok-header.header c.in_ok-courses.courses c.in_ok-rooms.rooms c.read_room_section.new.reader
+    ∙ ap (λ r. and_then r (λ last rest. Ok (problem_of c.in_ok-header.header c.in_ok-courses.courses c.in_ok-rooms.rooms last.0 last.1, rest))) c.in_ok-last.ensures.exact

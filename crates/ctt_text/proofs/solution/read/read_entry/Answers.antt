@@ -16,7 +16,7 @@ returns-clause-exact c =
     ∙ read_then cut (number_if BadNumber (λ n. nat_lt n i.days) DayOut) _ c.next_room.new.reader c.next_day.new.reader c.in_ok-day.day (rw c.instance-instance.ensures at c.in_ok-day.ensures.exact)
     ∙ read_then cut (free_slot i s c.in_ok-course.course c.in_ok-day.day) _ c.next_day.new.reader c.read_slot.new.reader c.in_ok-slot.slot c.in_ok-slot.ensures.exact
     ∙ read_done cut _ c.read_slot.new.reader
-    ∙ ap (λ h. Ok (h.lectures, c.read_slot.new.reader)) (sym c.add.ensures)
+    ∙ ap (λ t. Ok (t, c.read_slot.new.reader)) (sym c.in_ok-add.ensures.lectures)
 
 pub returns-in_err-slot-clause-exact : goal.returns-in_err-slot-clause-exact
 unfolding entry

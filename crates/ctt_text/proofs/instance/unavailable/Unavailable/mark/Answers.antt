@@ -1,15 +1,29 @@
-use Rattle.std.proofs.Common.{◌≡◌, ◌<◌, ◌==◌, ◌||◌, ◌∙◌, ap, get_or, [], length}
-use Rattle.std.proofs.lemmas.List.{length-set}
-use Rattle.ctt_text.specs.Marks.{is_marked}
-use Rattle.ctt_text.proofs.TableLemmas.{table_same, table_more, same_element}
+use Rattle.std.proofs.Common.{◌<◌, ◌+◌, ◌*◌, ◌/◌, ◌∙◌, ap, arith, refl}
+use Rattle.std.proofs.lemmas.Int.{ints}
+use Rattle.ctt_text.specs.Tables.{MarkTable}
+use Rattle.ctt_text.proofs.TableLemmas.{same_element, table_same}
+use Rattle.ctt_text.proofs.UnavailableLemmas.{small, there, mark_is}
 use Rattle.ctt_text.proofs.instance.unavailable.Unavailable.mark.Goals as goal
+
+pub overflow_mul-number : goal.overflow_mul-number
+overflow_mul-number c =
+    let v = c.self.inside in
+    let row : c.args.course < v.courses = omega (arith, ap (λ (t : MarkTable). t.rows) c.self.view_is, c.requires.course) in
+    let column : c.args.slot < v.slots = omega (arith, ap (λ (t : MarkTable). t.width) c.self.view_is, c.requires.slot) in
+    omega (arith, ints, small v.courses v.slots c.args.course c.args.slot v.words.items row column c.self.invariant)
+
+pub overflow_add-number : goal.overflow_add-number
+overflow_add-number c =
+    let v = c.self.inside in
+    let row : c.args.course < v.courses = omega (arith, ap (λ (t : MarkTable). t.rows) c.self.view_is, c.requires.course) in
+    let column : c.args.slot < v.slots = omega (arith, ap (λ (t : MarkTable). t.width) c.self.view_is, c.requires.slot) in
+    omega (arith, ints, small v.courses v.slots c.args.course c.args.slot v.words.items row column c.self.invariant)
 
 pub returns : goal.returns
 returns c =
-    let rows = c.self.inside.courses.items in
-    let within : c.args.course < length c.self.inside.courses.items = rw (← c.self.view_is) at c.requires.course in
-    let column : c.args.slot < c.self.inside.slots = rw (← c.self.view_is) at c.requires.slot in
-    let row : c.index_mut.result.now ≡ get_or c.self.inside.courses.items c.args.course [] = c.index_mut.ensures.value ∙ same_element c.self.inside.courses.items c.args.course c.index_mut.result.now [] within in
+    let v = c.self.inside in
+    let row : c.args.course < v.courses = omega (arith, ap (λ (t : MarkTable). t.rows) c.self.view_is, c.requires.course) in
+    let column : c.args.slot < v.slots = omega (arith, ap (λ (t : MarkTable). t.width) c.self.view_is, c.requires.slot) in
+    let at_word = there v.courses v.slots c.args.course c.args.slot v.words.items row column c.self.invariant in
     rw (← c.self.view_is)
-    (table_same _ _ c.self.inside.slots _ _ (length-set rows c.args.course c.mark.new.self)
-    (table_more c.self.inside.slots rows c.args.course c.args.slot c.mark.new.self within column (λ n. c.mark.ensures.marked n ∙ ap (λ m. n == c.args.slot || is_marked m n) row)))
+    (table_same _ _ v.slots _ _ refl (mark_is v.courses v.slots c.args.course c.args.slot v.words.items row column c.self.invariant _ (c.index-word.ensures ∙ same_element v.words.items ((c.args.course * v.slots + c.args.slot) / 64) _ 0 at_word)))

@@ -1,15 +1,22 @@
-use Rattle.std.proofs.Common.{◌≡◌, ◌∙◌, ap, length, replicate, rules}
+use Rattle.std.proofs.Common.{◌≡◌, ◌+◌, ◌*◌, ◌/◌, ◌∙◌, ap, arith, length, replicate}
 use Rattle.std.proofs.lemmas.List.{length-replicate}
-use Rattle.ctt_text.specs.Tables.{table_of}
-use Rattle.ctt_text.proofs.TableLemmas.{table_same, table_none, none_below}
+use Rattle.std.proofs.lemmas.Nat.{mul-le}
+use Rattle.ctt_text.specs.Tables.{marks_below}
+use Rattle.ctt_text.proofs.MarkLemmas.{none_marked}
+use Rattle.ctt_text.proofs.TableLemmas.{marks_none}
 use Rattle.ctt_text.proofs.instance.unavailable.Unavailable.new.Goals as goal
 
 pub invariant_of-result : goal.invariant_of-result
 invariant_of-result c =
-    let rows : c.in_ok-courses.courses.items ≡ replicate c.args.courses c.new-none.result = search rules in
-    (c.requires, rw rows (none_below c.args.slots c.args.courses c.new-none.result c.new-none.ensures))
+    let n = c.args.courses * c.args.slots in
+    let words : c.in_ok-words.words.items ≡ replicate (n / 64 + 1) 0 = c.in_ok-words.ensures.items_if_clones_equal (λ y e. e) in
+    record {
+      few = mul-le c.args.courses c.args.slots 2000 2000 c.requires.courses c.requires.slots;
+      words_are = omega (arith, ap length words ∙ length-replicate (n / 64 + 1) 0);
+    }
 
 pub returns : goal.returns
 returns c =
-    let rows : c.in_ok-courses.courses.items ≡ replicate c.args.courses c.new-none.result = search rules in
-    table_same _ _ c.args.slots _ _ (ap length rows ∙ length-replicate c.args.courses c.new-none.result) (ap (table_of c.args.slots) rows ∙ table_none c.args.slots c.args.courses c.new-none.result c.new-none.ensures)
+    let n = c.args.courses * c.args.slots in
+    let words : c.in_ok-words.words.items ≡ replicate (n / 64 + 1) 0 = c.in_ok-words.ensures.items_if_clones_equal (λ y e. e) in
+    ap (λ m. record { rows = c.args.courses; width = c.args.slots; marks = m }) (ap (marks_below n) words ∙ marks_none n (replicate (n / 64 + 1) 0) (none_marked (n / 64 + 1)))

@@ -1,0 +1,165 @@
+-- What two lectures add that go elsewhere, where their courses share no curriculum: what each of them adds by itself.
+use Rattle.std.proofs.Common.{◌≡◌, ℕ, ◌<◌, Bool, true, false, cond, ◌&&◌, ◌==◌, List, [], ◌∷◌, length, Some, None, is_some, ℤ, pos, ◌-ℤ◌, ◌+ℤ◌, refl, ◌∙◌, sym, ap, arith}
+use Rattle.std.specs.List.{count_by}
+use Rattle.std.proofs.lemmas.Int.{ints}
+use Rattle.std.proofs.lemmas.List.Sums.{length-filter}
+use Rattle.ctt_text.specs.Belonging.{curricula_of}
+use Rattle.ctt_text.specs.Lists.{has}
+use Rattle.ctt_text.specs.Problem.{Problem, curriculum_count, members, clash, day_of}
+use Rattle.ctt_text.specs.Timetable.{Fits, course_row, with, without}
+use Rattle.ctt_text.specs.declared.placed.Placed.{Placed}
+use Rattle.ctt_rules.specs.Hard.{Lawful}
+use Rattle.ctt_rules.specs.Penalty.{penalty, total, days_of}
+use Rattle.ctt_board.specs.Changes.{room_at, cell, ChangeFits}
+use Rattle.ctt_board.specs.Joining.{IsMore, AreApart, IsFree, on_day, in_room, in_slot, by_slot, stands_alone, alone_beside, joining, gain_of}
+use Rattle.ctt_board.specs.declared.cell.Cell.{Cell}
+use Rattle.ctt_board.proofs.BetweenLemmas.{there_fits, comes_fits, on_the_way}
+use Rattle.ctt_board.proofs.CountedLemmas.{counted_more}
+use Rattle.ctt_board.proofs.GainLemmas.{gain_is}
+use Rattle.ctt_board.proofs.JoiningLemmas.{joins, same_used}
+use Rattle.ctt_rules.proofs.ConflictLemmas.{clash_comm}
+use Rattle.ctt_board.proofs.LawfulLemmas.{without_lawful, eqb_comm}
+use Rattle.ctt_board.proofs.MeetingLemmas.{one_there, of_course, mine, are_apart}
+use Rattle.ctt_board.proofs.MoreLemmas.{more_with, more_without}
+use Rattle.ctt_board.proofs.RoomLemmas.{room_after}
+use Rattle.ctt_board.proofs.SeenLemmas.{stands_same, beside_same, sum_by_each}
+
+-- l more changes nothing for m, of a course that is apart from its own
+module _ (i : Problem) (l m : Placed) (t u : List Placed) (more : IsMore l t u) (fits : Fits i l) (apart : AreApart i m.course l.course) where
+  same_count : (p : Placed → Bool) → p l ≡ false → count_by p u ≡ count_by p t
+  same_count p no' = omega (arith, counted_more l t u more p, ap (λ b. cond {A = ℕ} b 1 0) no')
+
+  other : (l.course == m.course) ≡ false
+  other = eqb_comm l.course m.course ∙ apart.0
+
+  same_days : days_of i (course_row m.course u) ≡ days_of i (course_row m.course t)
+  same_days = same_used i l t u more fits m.course apart.0
+
+  same_length : length (course_row m.course u) ≡ length (course_row m.course t)
+  same_length = length-filter (λ x. x.course == m.course) u ∙ same_count (λ x. x.course == m.course) other ∙ sym (length-filter (λ x. x.course == m.course) t)
+
+  same_day : (d : ℕ) → count_by (on_day i m.course d) u ≡ count_by (on_day i m.course d) t
+  same_day d = same_count (on_day i m.course d) (ap (λ b. b && day_of i l.slot == d) other)
+
+  same_room : (r : ℕ) → count_by (in_room m.course r) u ≡ count_by (in_room m.course r) t
+  same_room r = same_count (in_room m.course r) (ap (λ b. b && l.room == r) other)
+
+  pub same_part : (q : ℕ) → q < curriculum_count i → has m.course (members i q) ≡ true → (s : ℕ) → by_slot (members i q) u s ≡ by_slot (members i q) t s
+  same_part q known y s = same_count (in_slot (members i q) s) (ap (λ b. b && l.slot == s) (apart.1 q known y))
+
+  pub same_joining : joining i u m ≡ joining i t m
+  same_joining =
+      let qs : List ℕ = curricula_of i m.course in
+      let alone = sum_by_each (λ q. stands_alone i (by_slot (members i q) u) m.slot) (λ q. stands_alone i (by_slot (members i q) t) m.slot) qs
+      (of_course i m.course (λ q. stands_alone i (by_slot (members i q) u) m.slot ≡ stands_alone i (by_slot (members i q) t) m.slot) (λ q known y. stands_same i (by_slot (members i q) u) (by_slot (members i q) t) (same_part q known y) m.slot)) in
+      let company = sum_by_each (λ q. alone_beside i (by_slot (members i q) u) m.slot) (λ q. alone_beside i (by_slot (members i q) t) m.slot) qs
+      (of_course i m.course (λ q. alone_beside i (by_slot (members i q) u) m.slot ≡ alone_beside i (by_slot (members i q) t) m.slot) (λ q known y. beside_same i (by_slot (members i q) u) (by_slot (members i q) t) (same_part q known y) m.slot)) in
+      rw (same_day (day_of i m.slot), same_days, same_length, same_room m.room, alone, company) refl
+
+-- of four steps, those of the first lecture and those of the second
+in_pairs : (a b x y : ℤ) (p0 p1 p2 p3 p4 : ℕ) → a ≡ pos p0 -ℤ pos p1 → b ≡ pos p1 -ℤ pos p2 → x ≡ pos p3 -ℤ pos p2 → y ≡ pos p4 -ℤ pos p3 → (x -ℤ a) +ℤ (y -ℤ b) ≡ pos p4 -ℤ pos p0
+in_pairs a b x y p0 p1 p2 p3 p4 ea eb ex ey = omega (arith, ints, ea, eb, ex, ey)
+
+-- the cells by which l goes to l', and m to m'
+abbrev pub cells_of : (l m l' m' : Placed) → List Cell
+cells_of l m l' m' = cell l.course l.slot None ∷ cell m.course m.slot None ∷ cell l'.course l'.slot (Some l'.room) ∷ cell m'.course m'.slot (Some m'.room) ∷ []
+
+-- they fit, and the courses do not clash
+pub record Exchange (i : Problem) (t : List Placed) (l m l' m' : Placed) : Type 0 where
+  pub lawful : Lawful i t
+  pub fits : ChangeFits i (cells_of l m l' m') t
+  pub there : room_at l.course l.slot t ≡ Some l.room
+  pub also : room_at m.course m.slot t ≡ Some m.room
+  pub its : l'.course ≡ l.course
+  pub own : m'.course ≡ m.course
+  pub differ : (l.course == m.course) ≡ false
+  pub clear : clash i l.course m.course ≡ false
+
+module _ (i : Problem) (t : List Placed) (l m l' m' : Placed) where
+  abbrev cells : List Cell
+  cells = cells_of l m l' m'
+
+  abbrev t1 : List Placed
+  t1 = without l.course l.slot t
+
+  abbrev t2 : List Placed
+  t2 = without m.course m.slot t1
+
+  abbrev t3 : List Placed
+  t3 = with l' t2
+
+  abbrev t4 : List Placed
+  t4 = with m' t3
+
+  abbrev u : List Placed
+  u = without m.course m.slot t
+
+  module _ (x : Exchange i t l m l' m') where
+    h : Lawful i t
+    h = x.lawful
+
+    change_fits : ChangeFits i cells t
+    change_fits = x.fits
+
+    first_apart : AreApart i l'.course m.course
+    first_apart = rw x.its (are_apart i l.course m.course x.differ x.clear)
+
+    other_apart : (c d : ℕ) → c ≡ m.course → d ≡ l.course → AreApart i c d
+    other_apart c d ec ed = rw (ec, ed) (are_apart i m.course l.course (eqb_comm m.course l.course ∙ x.differ) (clash_comm i m.course l.course ∙ x.clear))
+
+    lawful1 : Lawful i t1
+    lawful1 = without_lawful i t l.course l.slot h
+
+    lawful2 : Lawful i t2
+    lawful2 = without_lawful i t1 m.course m.slot lawful1
+
+    lawful3 : Lawful i t3
+    lawful3 = (on_the_way i cells t 3 (cell m'.course m'.slot (Some m'.room)) (omega arith) refl h refl change_fits.cells_fit change_fits.lawful).now
+
+    also1 : room_at m.course m.slot t1 ≡ Some m.room
+    also1 = room_after l.course l.slot None m.course m.slot t (ap is_some x.there) ∙ ap (λ b. cond (b && l.slot == m.slot) None (room_at m.course m.slot t)) x.differ ∙ x.also
+
+    fits_l : Fits i l
+    fits_l = there_fits i l.course l.slot l.room t h x.there
+
+    fits_m : Fits i m
+    fits_m = there_fits i m.course m.slot m.room t h x.also
+
+    pub first_fits : Fits i l'
+    first_fits = comes_fits i l' t2 lawful3
+
+    pub other_fits : Fits i m'
+    other_fits = comes_fits i m' t3 change_fits.lawful
+
+    more_l : IsMore l t1 t
+    more_l = more_without l.course l.slot l.room t h.timetable.ascending x.there
+
+    more_m : IsMore m t2 t1
+    more_m = more_without m.course m.slot m.room t1 lawful1.timetable.ascending also1
+
+    more_u : IsMore m u t
+    more_u = more_without m.course m.slot m.room t h.timetable.ascending x.also
+
+    more_both : IsMore l t2 u
+    more_both f = omega (arith, more_l f, more_m f, more_u f)
+
+    -- at most one in the slot with the one that comes, so none before it comes
+    none_yet : (x : Placed) (a : List Placed) → Lawful i (with x a) → IsFree i a x
+    none_yet x a after q known y = omega (arith, one_there i (with x a) q x.slot after known, counted_more x a (with x a) (more_with x a) (in_slot (members i q) x.slot), ap (λ b. cond {A = ℕ} b 1 0) (mine i x q y))
+
+    pub first_free : IsFree i t1 l'
+    first_free q known y = same_part i m l' t2 t1 more_m fits_m first_apart q known y l'.slot ∙ none_yet l' t2 lawful3 q known y
+
+    pub other_free : IsFree i u m'
+    other_free q known y =
+        same_part i l m' t2 u more_both fits_l (other_apart m'.course l.course x.own refl) q known y m'.slot ∙ sym (same_part i l' m' t2 t3 (more_with l' t2) first_fits (other_apart m'.course l'.course x.own x.its) q known y m'.slot)
+        ∙ none_yet m' t3 change_fits.lawful q known y
+
+    pub each_by_itself : (gain_of (joining i t1 l') -ℤ gain_of (joining i t1 l)) +ℤ (gain_of (joining i u m') -ℤ gain_of (joining i u m)) ≡ pos (total (penalty i t4)) -ℤ pos (total (penalty i t))
+    each_by_itself =
+        in_pairs (gain_of (joining i t1 l)) (gain_of (joining i u m)) (gain_of (joining i t1 l')) (gain_of (joining i u m')) (total (penalty i t)) (total (penalty i t1)) (total (penalty i t2)) (total (penalty i t3)) (total (penalty i t4))
+        (gain_is i t1 t (joining i t1 l) (joins i l t1 t more_l fits_l lawful1.timetable.fits h.timetable.fits))
+        (ap gain_of (same_joining i l m t2 u more_both fits_l (other_apart m.course l.course refl refl)) ∙ gain_is i t2 t1 (joining i t2 m) (joins i m t2 t1 more_m fits_m lawful2.timetable.fits lawful1.timetable.fits))
+        (ap gain_of (same_joining i m l' t2 t1 more_m fits_m first_apart) ∙ gain_is i t2 t3 (joining i t2 l') (joins i l' t2 t3 (more_with l' t2) first_fits lawful2.timetable.fits lawful3.timetable.fits))
+        (ap gain_of (same_joining i l m' t2 u more_both fits_l (other_apart m'.course l.course x.own refl) ∙ sym (same_joining i l' m' t2 t3 (more_with l' t2) first_fits (other_apart m'.course l'.course x.own x.its)))
+        ∙ gain_is i t3 t4 (joining i t3 m') (joins i m' t3 t4 (more_with m' t3) other_fits lawful3.timetable.fits change_fits.lawful.timetable.fits))

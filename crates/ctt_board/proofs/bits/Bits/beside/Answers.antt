@@ -1,0 +1,16 @@
+use Rattle.std.proofs.Common.{◌<◌, ◌≤◌, ◌+◌, ◌*◌, ◌/◌, ◌%◌, ◌∙◌, ap, arith}
+use Rattle.ctt_text.proofs.TableLemmas.{same_element}
+use Rattle.ctt_board.specs.Tables.{Grid}
+use Rattle.ctt_board.proofs.BitLemmas.{there}
+use Rattle.ctt_board.proofs.BesideLemmas.{word_beside}
+use Rattle.ctt_board.proofs.bits.Bits.beside.Goals as goal
+
+pub returns : goal.returns
+returns c =
+    let v = c.self.inside in
+    let row : c.args.row < v.rows = omega (arith, ap (λ (t : Grid _). t.rows) c.self.view_is, c.requires.row) in
+    let column : c.args.column < v.width = omega (arith, ap (λ (t : Grid _). t.width) c.self.view_is, c.requires.column) in
+    let at_word = there v.rows v.width c.args.row c.args.column v.words.items row column c.self.invariant in
+    let low : 2 ≤ (c.args.row * v.width + c.args.column) % 64 = omega (arith, c.if-place-lt2.false) in
+    let high : (c.args.row * v.width + c.args.column) % 64 ≤ 61 = omega (arith, c.if-place-gt61.false) in
+    rw (← c.self.view_is) (word_beside v.rows v.width c.args.row c.args.column v.words.items row column c.self.invariant _ (c.index-word.ensures ∙ same_element v.words.items ((c.args.row * v.width + c.args.column) / 64) _ 0 at_word) low high)

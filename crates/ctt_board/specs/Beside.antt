@@ -1,0 +1,26 @@
+-- The lectures in the slots about one.
+use Rattle.std.specs.Prelude.{◌≡◌, ◌<◌, ◌≤◌, ℕ, ◌+◌, ◌-◌}
+use Rattle.ctt_text.specs.Problem.{Problem, period_of}
+use Rattle.ctt_board.specs.Joining.{count_before, count_after}
+use Rattle.ctt_board.specs.Tables.{Grid, at}
+use Rattle.ctt_board.specs.declared.beside.Beside.{Beside}
+
+-- of so many lectures in each slot, those beside one, and beyond where there is a slot beside it
+pub record IsBeside (i : Problem) (f : ℕ → ℕ) (s : ℕ) (b : Beside) : Type 0 where
+  pub earlier : 0 < period_of i s → b.earlier ≡ count_before i f (s - 1)
+  pub before : b.before ≡ count_before i f s
+  pub after : b.after ≡ count_after i f s
+  pub later : period_of i s + 1 < i.periods → b.later ≡ count_after i f (s + 1)
+  pub few_before : b.before ≤ 5000000000
+  pub few_after : b.after ≤ 5000000000
+
+-- what stands in a row beside a column, and beyond
+pub record AreBeside (g : Grid ℕ) (row column : ℕ) (b : Beside) : Type 0 where
+  pub earlier : 2 ≤ column → b.earlier ≡ at g row (column - 2) 0
+  pub before : 1 ≤ column → b.before ≡ at g row (column - 1) 0
+  pub after : column + 1 < g.width → b.after ≡ at g row (column + 1) 0
+  pub later : column + 2 < g.width → b.later ≡ at g row (column + 2) 0
+  pub bit_earlier : b.earlier ≤ 1
+  pub bit_before : b.before ≤ 1
+  pub bit_after : b.after ≤ 1
+  pub bit_later : b.later ≤ 1

@@ -1,0 +1,287 @@
+//! What it adds to the penalty that a lecture goes elsewhere, by the counts without it.
+
+ghost use Rattle.std.specs.Prelude.{◌≡◌, ◌<◌, ◌≤◌, ◌+◌, ◌-◌, ◌*◌, ◌&&◌, ◌==◌, ◌-ℤ◌, Some, not, true, nat_lt, cond, sum_by, length};
+ghost use Rattle.std.specs.List.{AllByRecursion as Each};
+ghost use Rattle.ctt_text.specs.Problem.{course_of, course_count, slot_count, room_count, day_of};
+ghost use Rattle.ctt_text.specs.Timetable.{Fits, without};
+ghost use Rattle.ctt_rules.specs.Penalty.{unseated};
+ghost use Rattle.ctt_board.specs.Beside.{IsBeside};
+ghost use Rattle.ctt_board.specs.Changes.{room_at};
+ghost use Rattle.ctt_board.specs.Counts.{AreCounts, HaveSizes};
+ghost use Rattle.ctt_board.specs.Joining.{joining, gain_of, IsFree, IsSmallJoining, stands_alone, alone_beside};
+ghost use Rattle.ctt_board.specs.Moving.{part_without, IsWindow};
+ghost use Rattle.ctt_board.specs.Tables.{at};
+
+use crate::beside::{Beside, wanted};
+use crate::bits::Bits;
+use crate::counts::Counts;
+use crate::grid_sheet::GridSheet;
+use crate::joining::{Joining, gain, period_on};
+use crate::meeting::{Meeting, meeting_beside};
+use crate::sheet::Rooms;
+use ctt_text::{CourseNo, CurriculumNo, Instance, Placed, RoomNo, SlotNo};
+
+/// A slot, one that a lecture leaves, and which of the slots about the first count: those of its
+/// day, without the one that the lecture leaves.
+#[derive(Clone, Copy, Debug, PartialEq, Eq)]
+pub(crate) struct Window {
+    pub(crate) slot: SlotNo,
+    pub(crate) gone: SlotNo,
+    /// Whether the one two slots before counts.
+    pub(crate) earlier: bool,
+    /// The slot before.
+    pub(crate) before: bool,
+    /// The slot after.
+    pub(crate) after: bool,
+    /// Two slots after.
+    pub(crate) later: bool,
+}
+
+/// What a lecture does to its curricula where it leaves, and where it comes.
+#[derive(Clone, Copy, Debug, PartialEq, Eq)]
+struct Ends {
+    from: Meeting,
+    to: Meeting,
+}
+
+/// Whether a slot counts, which is on the day, and may be the one that is left.
+fn counts(is_on_day: bool, is_left: bool) -> bool
+    ensures { result ≡ (is_on_day && not is_left) }
+{
+    is_on_day && !is_left
+}
+
+/// The slots about one that count, where a lecture leaves a slot.
+fn about(instance: &Instance, slot: SlotNo, day: u16, gone: SlotNo) -> Window
+    requires slot { slot < slot_count instance.now }
+    requires gone { gone < slot_count instance.now }
+    requires day { day ≡ day_of instance.now slot }
+    ensures slot { result.slot ≡ slot }
+    ensures gone { result.gone ≡ gone }
+    ensures is { IsWindow instance.now result }
+{
+    instance.limits_hold();
+    let period = period_on(instance, slot, day);
+    let periods = instance.periods();
+    let here = slot.get();
+    let there = gone.get();
+    Window {
+        slot,
+        gone,
+        earlier: counts(period > 1, there + 2 == here),
+        before: counts(period > 0, there + 1 == here),
+        after: counts(period + 1 < periods, here + 1 == there),
+        later: counts(period + 2 < periods, here + 2 == there),
+    }
+}
+
+/// The lectures of a curriculum in the slots of a window, without the one that leaves.
+fn seen_through(instance: &Instance, parts: &Bits, part: CurriculumNo, window: &Window) -> Beside
+    requires part { part < parts.now.rows }
+    requires width { parts.now.width ≡ slot_count instance.now }
+    requires slot { window.now.slot < slot_count instance.now }
+    requires window { IsWindow instance.now window.now }
+    ensures { IsBeside instance.now (part_without instance.now parts.now window.now.gone part) window.now.slot result }
+{
+    let bits = parts.beside(part.get() as usize, window.slot.get() as usize);
+    Beside {
+        earlier: wanted(window.earlier, bits.earlier),
+        before: wanted(window.before, bits.before),
+        after: wanted(window.after, bits.after),
+        later: wanted(window.later, bits.later),
+    }
+}
+
+/// What a lecture does to a curriculum of which another one leaves.
+fn met(instance: &Instance, parts: &Bits, part: CurriculumNo, window: &Window) -> Meeting
+    requires part { part < parts.now.rows }
+    requires width { parts.now.width ≡ slot_count instance.now }
+    requires slot { window.now.slot < slot_count instance.now }
+    requires window { IsWindow instance.now window.now }
+    requires own { part_without instance.now parts.now window.now.gone part window.now.slot ≡ 0 }
+    ensures alone { result.alone ≡ stands_alone instance.now (part_without instance.now parts.now window.now.gone part) window.now.slot }
+    ensures company { result.company ≡ alone_beside instance.now (part_without instance.now parts.now window.now.gone part) window.now.slot }
+    ensures few { result.alone ≤ 1 }
+    ensures bound { result.company ≤ 10000000000 }
+{
+    meeting_beside(seen_through(instance, parts, part, window))
+}
+
+/// What a lecture does to these curricula together, where it leaves and where it comes.
+fn meet_both(
+    instance: &Instance,
+    parts: &Bits,
+    curricula: &[CurriculumNo],
+    here: &Window,
+    there: &Window,
+) -> Ends
+    requires curricula { Each (λ q. q < parts.now.rows) curricula.now }
+    requires few { length curricula.now ≤ 20000 }
+    requires width { parts.now.width ≡ slot_count instance.now }
+    requires here { here.now.slot < slot_count instance.now }
+    requires there { there.now.slot < slot_count instance.now }
+    requires here_window { IsWindow instance.now here.now }
+    requires there_window { IsWindow instance.now there.now }
+    requires here_own { Each (λ q. part_without instance.now parts.now here.now.gone q here.now.slot ≡ 0) curricula.now }
+    requires there_own { Each (λ q. part_without instance.now parts.now there.now.gone q there.now.slot ≡ 0) curricula.now }
+    ensures from_alone { result.from.alone ≡ sum_by (λ q. stands_alone instance.now (part_without instance.now parts.now here.now.gone q) here.now.slot) curricula.now }
+    ensures from_company { result.from.company ≡ sum_by (λ q. alone_beside instance.now (part_without instance.now parts.now here.now.gone q) here.now.slot) curricula.now }
+    ensures to_alone { result.to.alone ≡ sum_by (λ q. stands_alone instance.now (part_without instance.now parts.now there.now.gone q) there.now.slot) curricula.now }
+    ensures to_company { result.to.company ≡ sum_by (λ q. alone_beside instance.now (part_without instance.now parts.now there.now.gone q) there.now.slot) curricula.now }
+    ensures from_few { result.from.alone ≤ 20000 }
+    ensures to_few { result.to.alone ≤ 20000 }
+    ensures from_bound { result.from.company ≤ 20000 * 10000000000 }
+    ensures to_bound { result.to.company ≤ 20000 * 10000000000 }
+{
+    let mut from_alone = 0;
+    let mut from_company = 0;
+    let mut to_alone = 0;
+    let mut to_company = 0;
+    for part in curricula {
+        let left = met(instance, parts, *part, here);
+        from_alone += left.alone;
+        from_company += left.company;
+        let found = met(instance, parts, *part, there);
+        to_alone += found.alone;
+        to_company += found.company;
+    }
+    Ends {
+        from: Meeting {
+            alone: from_alone,
+            company: from_company,
+        },
+        to: Meeting {
+            alone: to_alone,
+            company: to_company,
+        },
+    }
+}
+
+/// A count, without one if that is counted.
+fn without_one(count: u16, is_counted: bool) -> u16
+    ensures { result ≡ count - cond is_counted 1 0 }
+{
+    if is_counted {
+        count.saturating_sub(1)
+    } else {
+        count
+    }
+}
+
+/// The days of a course without a lecture of it on a day.
+fn days_left(instance: &Instance, counts: &Counts, course: CourseNo, day: u16) -> u16
+    requires course { course < course_count instance.now }
+    requires day { day < instance.now.days }
+    requires sizes { HaveSizes instance.now counts.now }
+    ensures { result ≡ at counts.now.used 0 course 0 - cond (at counts.now.days course day 0 == 1) 1 0 }
+{
+    let row = course.get() as usize;
+    let is_last = counts.days.get(row, day as usize) == 1;
+    without_one(counts.used.get(0, row), is_last)
+}
+
+/// Five, if a lecture would be the first of its course on a day that was missing, once another one
+/// of the course has left a day, which leaves it so many days.
+fn missing_day(
+    instance: &Instance,
+    counts: &Counts,
+    course: CourseNo,
+    day: u16,
+    left: u16,
+    days: u16,
+) -> u64
+    requires course { course < course_count instance.now }
+    requires day { day < instance.now.days }
+    requires sizes { HaveSizes instance.now counts.now }
+    ensures value { result ≡ cond (at counts.now.days course day 0 - cond (left == day) 1 0 == 0 && nat_lt days (course_of instance.now course).min_days) 5 0 }
+    ensures bound { result ≤ 5 }
+{
+    let on_day = counts.days.get(course.get() as usize, day as usize);
+    let is_short = u32::from(days) < instance.min_days(course);
+    if without_one(on_day, left == day) == 0 && is_short {
+        5
+    } else {
+        0
+    }
+}
+
+/// One, if a lecture would give its course a further room, once another one of the course has left
+/// a room.
+fn further_room(
+    instance: &Instance,
+    counts: &Counts,
+    course: CourseNo,
+    room: RoomNo,
+    left: RoomNo,
+) -> u64
+    requires course { course < course_count instance.now }
+    requires room { room < room_count instance.now }
+    requires sizes { HaveSizes instance.now counts.now }
+    ensures value { result ≡ cond (at counts.now.rooms course room 0 - cond (left == room) 1 0 == 0 && nat_lt 0 (at counts.now.lectures 0 course 0 - 1)) 1 0 }
+    ensures bound { result ≤ 1 }
+{
+    let row = course.get() as usize;
+    let in_room = counts.rooms.get(row, room.get() as usize);
+    let lectures = counts.lectures.get(0, row).saturating_sub(1);
+    if without_one(in_room, left == room) == 0 && lectures > 0 {
+        1
+    } else {
+        0
+    }
+}
+
+/// The students of a lecture above the capacity of its room.
+fn unseated(instance: &Instance, lecture: &Placed) -> u64
+    requires { Fits instance.now lecture.now }
+    ensures value { result ≡ unseated instance.now lecture.now }
+    ensures bound { result ≤ 999999999 }
+{
+    let students = instance.students(lecture.course);
+    u64::from(students.saturating_sub(instance.capacity(lecture.room)))
+}
+
+/// What it adds to the penalty that a lecture goes elsewhere, where no curriculum of its course has
+/// another one.
+pub(crate) fn moved(
+    instance: &Instance,
+    counts: &Counts,
+    sheet: &GridSheet,
+    from: &Placed,
+    to: &Placed,
+) -> i64
+    requires same { sheet.now.problem ≡ instance.now }
+    requires there { room_at from.now.course from.now.slot sheet.now.list ≡ Some from.now.room }
+    requires its { to.now.course ≡ from.now.course }
+    requires fits { Fits instance.now to.now }
+    requires free { IsFree instance.now (without from.now.course from.now.slot sheet.now.list) to.now }
+    requires counts { AreCounts instance.now sheet.now.list counts.now }
+    ensures value { result ≡ gain_of (joining instance.now (without from.now.course from.now.slot sheet.now.list) to.now) -ℤ gain_of (joining instance.now (without from.now.course from.now.slot sheet.now.list) from.now) }
+    ensures more { IsSmallJoining (joining instance.now (without from.now.course from.now.slot sheet.now.list) to.now) }
+    ensures less { IsSmallJoining (joining instance.now (without from.now.course from.now.slot sheet.now.list) from.now) }
+{
+    sheet.lawful();
+    instance.limits_hold();
+    let course = from.course;
+    let day = instance.day_of(from.slot);
+    let to_day = instance.day_of(to.slot);
+    let here = about(instance, from.slot, day, from.slot);
+    let there = about(instance, to.slot, to_day, from.slot);
+    let curricula = instance.curricula_of(course);
+    let both = meet_both(instance, &counts.parts, curricula, &here, &there);
+    let days = days_left(instance, counts, course, day);
+    let less = Joining {
+        seats: unseated(instance, from),
+        day: missing_day(instance, counts, course, day, day, days),
+        alone: 2 * both.from.alone,
+        company: 2 * both.from.company,
+        room: further_room(instance, counts, course, from.room, from.room),
+    };
+    let more = Joining {
+        seats: unseated(instance, to),
+        day: missing_day(instance, counts, course, to_day, day, days),
+        alone: 2 * both.to.alone,
+        company: 2 * both.to.company,
+        room: further_room(instance, counts, course, to.room, from.room),
+    };
+    gain(&more) - gain(&less)
+}

@@ -1,0 +1,17 @@
+use Rattle.std.proofs.Common.{rules, ◌≡◌, ◌<◌, ◌∙◌, Some, sym, ap, length, arith}
+use Rattle.ctt_core.specs.Stocks.{IsMarked}
+use Rattle.ctt_core.specs.Desks.{DeskValue}
+use Rattle.ctt_core.proofs.StepLemmas.{draft_fits}
+use Rattle.ctt_core.proofs.StockLemmas.{mark_read}
+use Rattle.ctt_core.proofs.desk.Desk.give_up.Goals as goal
+
+pub retire-requires : goal.retire-requires
+retire-requires g c κs =
+    let some = sym c.take.ensures.value ∙ c.in-Some.is in
+    let drafts = ap (λ (v : DeskValue). v.drafts) c.self.view_is in
+    let same : c.in-Some.draft.problem ≡ c.self.inside.stock.problem =
+    draft_fits _ _ c.args.self.now c.args.planner _ _ _ (ap (λ (v : DeskValue). v.problem) c.self.view_is) drafts c.self.invariant.drafts_of c.requires c.get-place.ensures c.index_mut.ensures.value some
+    ∙ sym (c.self.invariant.same ∙ ap (λ (v : DeskValue). v.problem) c.self.view_is) in
+    let marked : IsMarked c.self.inside.stock (Some c.in-Some.draft) c.index.result.now =
+    mark_read c.self.inside.stock c.self.inside.drafts.items c.self.inside.marks.items c.args.planner c.get-place.result _ _ _ c.self.invariant.marked (omega (arith, c.requires, ap length drafts)) (omega (arith, c.requires, ap length drafts, c.self.invariant.counted, c.self.invariant.marks_counted)) c.get-place.ensures c.index_mut.ensures.value c.index.ensures some in
+    search rules

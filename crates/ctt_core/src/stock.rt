@@ -1,0 +1,199 @@
+//! The timetable of a desk, and what makes opening a draft on it cheap.
+
+ghost use Rattle.std.specs.Prelude.{ℕ, ◌≡◌, ◌==◌, [], length, Some, None, Ok, IfOk};
+ghost use Rattle.std.specs.Option.{option_eq};
+ghost use Rattle.ctt_draft.specs.Drafts.{calls_of, changes, stale, ChangesFit};
+ghost use Rattle.ctt_draft.specs.DraftValues.{Settles};
+ghost use Rattle.ctt_core.specs.Stocks.{changed, LeadsFrom, IsMarked};
+
+use ctt_board::{Change, Rooms, Sheet, Timetable};
+use ctt_draft::{AskedCalls, Draft, Idle, Work};
+use ctt_edits::Row;
+use ctt_text::{Instance, NoMemory};
+use std::alloc::Global;
+use std::marker::Model;
+
+/// A sheet that is kept for a draft to come, and how many of the changes are made on it.
+#[derive(Drop)]
+struct Spare<S: Timetable> {
+    idle: Idle<S>,
+    seen: usize,
+}
+
+impl<S: Timetable> Model for Spare<S> {
+    ghost use Rattle.ctt_core.specs.Stocks.{SpareValue};
+
+    ghost Value = { SpareValue };
+
+    ghost view = { λ s. record { idle = s.idle; seen = s.seen } };
+}
+
+/// A timetable, the sheets of drafts that have ended, and the changes that were accepted lately: a draft
+/// is opened on such a sheet, on which the changes that it lacks are made. Where these would be so many
+/// that a copy of the timetable costs less, sheets and changes are forgotten.
+#[derive(Drop)]
+pub(crate) struct Stock<'i, S: Timetable> {
+    instance: &'i Instance,
+    sheet: S,
+    log: Vec<Change>,
+    spares: Vec<Spare<S>>,
+    limit: usize,
+}
+
+impl<'i, S: Timetable> Model for Stock<'i, S> {
+    ghost use Rattle.ctt_core.specs.Stocks.{StockValue, IsStock};
+
+    ghost Value = { StockValue };
+
+    ghost view = { λ s. record { problem = S.problem s.sheet; list = S.list s.sheet; log = s.log.items } };
+
+    ghost invariant = { λ s. IsStock s.instance.now (record { problem = S.problem s.sheet; list = S.list s.sheet; log = s.log.items }) s.spares.items };
+}
+
+/// How many changes may be made in place of a copy, by the cells that a copy copies.
+fn limit_of(instance: &Instance) -> usize {
+    instance.limits_hold();
+    let cells = instance.courses() as usize * instance.slots() as usize;
+    (cells / 128).clamp(16, 1000)
+}
+
+impl<'i, S: Sheet<'i>> Stock<'i, S> {
+    /// A timetable, with nothing kept.
+    pub(crate) fn new(alloc: Global, sheet: S) -> Self
+        ensures { result ≡ record { problem = S.problem sheet; list = S.list sheet; log = [] } }
+    {
+        let instance = sheet.instance();
+        Stock {
+            instance,
+            sheet,
+            log: Vec::new(alloc),
+            spares: Vec::new(alloc),
+            limit: limit_of(instance),
+        }
+    }
+
+    /// The timetable.
+    pub(crate) fn sheet(&self) -> &S
+        ensures problem { S.problem result.now ≡ self.now.problem }
+        ensures list { S.list result.now ≡ self.now.list }
+    {
+        &self.sheet
+    }
+
+    /// How many changes are known.
+    pub(crate) fn mark(&self) -> usize
+        ensures { result ≡ length self.now.log }
+    {
+        self.log.len()
+    }
+
+    /// Whether these are all changes.
+    fn is_latest(&self, mark: Option<usize>) -> bool
+        ensures { result ≡ option_eq (λ (a b : ℕ). a == b) mark (Some (length self.now.log)) }
+    {
+        mark == Some(self.log.len())
+    }
+
+    /// A draft on the timetable, in which nothing was asked yet. Where a sheet is kept it takes no memory.
+    pub(crate) fn open(&mut self, alloc: Global) -> Result<Draft<'i, S>, NoMemory>
+        ensures problem { IfOk result (λ draft. draft.problem ≡ self.old.problem) }
+        ensures base { IfOk result (λ draft. draft.base ≡ self.old.list) }
+        ensures asked { IfOk result (λ draft. draft.asked ≡ []) }
+        ensures same { self.new ≡ self.old }
+    {
+        match self.spares.pop() {
+            None => Draft::open(alloc, &self.sheet),
+            Some(spare) => {
+                let mut idle = spare.idle;
+                idle.follow(&self.log[spare.seen..]);
+                Ok(Draft::reopen(alloc, idle))
+            }
+        }
+    }
+
+    /// The least row that a draft read and that is not the same on the timetable, if there is one. Where
+    /// nothing was accepted since the draft was opened there is nothing to compare, and else, where it is
+    /// known what was, only the rows that it touched.
+    pub(crate) fn stale(
+        &self,
+        draft: &Draft<'i, S>,
+        mark: Option<usize>,
+    ) -> Result<Option<Row>, NoMemory>
+        requires same { draft.now.problem ≡ self.now.problem }
+        requires marked { IsMarked self.now (Some draft.now) mark }
+        ensures row { result ≡ Ok (stale draft.now.problem draft.now.base self.now.list (calls_of draft.now.asked)) }
+        ensures fresh { result ≡ Ok None → Settles draft.now self.now.list }
+    {
+        if self.is_latest(mark) {
+            draft.settles_on_base();
+            return Ok(None);
+        }
+        match mark {
+            Some(seen) => draft.stale_after(&self.log[seen..], &self.sheet),
+            None => draft.stale(&self.sheet),
+        }
+    }
+
+    /// Keeps a sheet on which so many of the changes are made, or drops it where there is no memory.
+    fn keep(&mut self, idle: Idle<S>, seen: usize)
+        requires same { idle.problem ≡ self.old.problem }
+        requires leads { LeadsFrom self.old seen idle.list }
+        ensures { self.new ≡ self.old }
+    {
+        if self.spares.reserve(1).is_ok() {
+            self.spares.push(Spare { idle, seen }).unwrap();
+        }
+    }
+
+    /// Keeps the base of a draft that is given up, if it is known what was accepted since.
+    pub(crate) fn retire(&mut self, draft: Draft<'i, S>, mark: Option<usize>)
+        requires same { draft.problem ≡ self.old.problem }
+        requires marked { IsMarked self.old (Some draft) mark }
+        ensures { self.new ≡ self.old }
+    {
+        if let Some(seen) = mark {
+            self.keep(draft.retire(), seen);
+        }
+    }
+
+    /// Makes changes, and remembers them, or forgets all that were made where they are too many.
+    fn make(&mut self, mut work: Work) -> (AskedCalls, bool)
+        requires { ChangesFit self.old.problem work.changes.items self.old.list }
+        ensures asked { result.0 ≡ work.asked }
+        ensures changes { self.new ≡ changed self.old work.changes.items result.1 }
+    {
+        work.settle(&mut self.sheet);
+        let left = self.limit.saturating_sub(self.log.len());
+        if work.changes.len() <= left && self.log.append(&mut work.changes).is_ok() {
+            return (work.asked, true);
+        }
+        self.log.clear();
+        self.spares.clear();
+        (work.asked, false)
+    }
+
+    /// Settles a draft that is not stale. Gives its calls with their replies, and whether the changes
+    /// are still known that were made on the bases of others.
+    pub(crate) fn settle(&mut self, draft: Draft<'i, S>, mark: Option<usize>) -> (AskedCalls, bool)
+        requires same { draft.problem ≡ self.old.problem }
+        requires marked { IsMarked self.old (Some draft) mark }
+        requires fit { ChangesFit self.old.problem (changes draft.problem draft.base (calls_of draft.asked)) self.old.list }
+        ensures asked { result.0 ≡ draft.entry.asked }
+        ensures changes { self.new ≡ changed self.old (changes draft.entry.problem draft.entry.base (calls_of draft.entry.asked)) result.1 }
+    {
+        let is_latest = self.is_latest(mark);
+        let (work, remains) = draft.end();
+        let (asked, known) = self.make(work);
+        if is_latest {
+            let seen = self.mark();
+            self.keep(remains.into_present(), seen);
+            return (asked, known);
+        }
+        if known {
+            if let Some(seen) = mark {
+                self.keep(remains.into_base(), seen);
+            }
+        }
+        (asked, known)
+    }
+}

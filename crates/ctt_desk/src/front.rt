@@ -1,0 +1,156 @@
+//! What was seen of a desk's history.
+
+ghost use Rattle.std.specs.Prelude.{◌≡◌, ◌+◌, ◌<◌, ◌≤◌, ◌^◌, ◌++◌, ◌∷◌, ◌⊎◌, ◌↔◌, IsTrue, [], length};
+ghost use mathlib.Core.List.{IsPrefix};
+ghost use Rattle.ctt_draft.specs.Drafts.{calls_of, replies_in, replies};
+ghost use Rattle.ctt_core.specs.Runs.{after, Legal};
+ghost use Rattle.ctt_desk.specs.Books.{head_of};
+
+use crate::book::{Addition, BookRule, NoTrade};
+use crate::naming::Naming;
+use ctt_core::JournalEntry;
+use logbook::{Offer, Seen, Word};
+use std::marker::{Model, PhantomData};
+use std::sync::Wait;
+
+/// The word by which the history grows. It lies under the lock.
+#[derive(Drop)]
+pub(crate) struct Head<J: Naming> {
+    word: Word<JournalEntry, u64, BookRule>,
+    desk: PhantomData<J>,
+    ghost head_is: { word ≡ head_of J.book },
+}
+
+/// A legal history that was seen, with which the desk's begins.
+#[derive(Drop)]
+pub(crate) struct Front<J: Naming> {
+    drafts: u64,
+    seen: Seen<JournalEntry, u64, BookRule>,
+    desk: PhantomData<J>,
+}
+
+impl<J: Naming> Model for Front<J> {
+    ghost use Rattle.std.specs.Prelude.{◌≡◌, List, length};
+    ghost use Rattle.ctt_core.specs.Runs.{Legal};
+    ghost use Rattle.ctt_core.specs.declared.journal.JournalEntry.{JournalEntry};
+
+    ghost Value = { List JournalEntry };
+
+    ghost view = { λ f. f.seen.log };
+
+    ghost invariant = { λ f. (f.drafts ≡ length f.seen.log) × (f.seen.book ≡ J.book) × Legal J.problem J.opening f.seen.log };
+}
+
+/// A desk's word, and the front that has seen nothing, of a book that was just opened.
+pub(crate) fn first<J: Naming>(
+    word: Word<JournalEntry, u64, BookRule>,
+    seen: Seen<JournalEntry, u64, BookRule>,
+) -> (Head<J>, Front<J>)
+    requires book { seen.book ≡ J.book }
+    requires empty { seen.log ≡ [] }
+    requires word { word ≡ head_of J.book }
+    ensures { result.1 ≡ [] }
+{
+    let head = Head {
+        word,
+        desk: PhantomData,
+    };
+    let front = Front {
+        drafts: 0,
+        seen,
+        desk: PhantomData,
+    };
+    (head, front)
+}
+
+impl<J: Naming> Front<J> {
+    /// How many drafts were seen.
+    pub(crate) fn len(&self) -> u64
+        ensures length { result ≡ length self.now }
+        ensures legal { Legal J.problem J.opening self.now }
+    {
+        self.drafts
+    }
+
+    /// A copy.
+    pub(crate) fn again(&self) -> Self
+        ensures same { result ≡ self.now }
+        ensures legal { Legal J.problem J.opening result }
+    {
+        Front {
+            drafts: self.drafts,
+            seen: self.seen.again(),
+            desk: PhantomData,
+        }
+    }
+
+    /// Whether the other front begins with this one: it does where it is no shorter.
+    pub(crate) fn begins(&self, other: &Self) -> bool
+        ensures begins { IsTrue result → IsPrefix self.now other.now }
+        ensures shorter { IsTrue result ↔ (length self.now ≤ length other.now) }
+        ensures legal { Legal J.problem J.opening self.now }
+    {
+        let mut both = self.seen.again();
+        both.learn(&other.seen);
+        self.drafts <= other.drafts
+    }
+
+    /// Whether the other front is this one: it is where it is as long.
+    pub(crate) fn is(&self, other: &Self) -> bool
+        ensures same { IsTrue result → self.now ≡ other.now }
+        ensures as_long { IsTrue result ↔ (length self.now ≡ length other.now) }
+        ensures legal { Legal J.problem J.opening self.now }
+    {
+        let mut both = self.seen.again();
+        both.learn(&other.seen);
+        self.drafts == other.drafts
+    }
+
+    /// The longer of two fronts, which begins with the other.
+    pub(crate) fn longer(&self, other: &Self) -> Self
+        ensures one { (result ≡ self.now) ⊎ (result ≡ other.now) }
+        ensures this { IsPrefix self.now result }
+        ensures that { IsPrefix other.now result }
+        ensures legal { Legal J.problem J.opening result }
+    {
+        let mut both = self.seen.again();
+        both.learn(&other.seen);
+        if self.drafts < other.drafts {
+            other.again()
+        } else {
+            self.again()
+        }
+    }
+
+    /// Adds an entry to all that was seen. Were the history longer, which the lock excludes, this would
+    /// wait for ever.
+    pub(crate) fn extend<R: Wait>(&mut self, rt: &R, head: &Head<J>, entry: &JournalEntry)
+        requires room { length self.old + 1 < 2 ^ 64 }
+        requires legal { replies_in entry.now.asked ≡ replies J.problem (after J.problem J.opening self.old) (calls_of entry.now.asked) }
+        ensures { self.new ≡ self.old ++ entry.now ∷ [] }
+    {
+        let mut seen = self.seen.again();
+        let mut offer: Offer<JournalEntry, u64, BookRule, NoTrade> = seen.plain::<
+            NoTrade,
+            JournalEntry,
+            Addition,
+        >(entry);
+        let mut pen = seen.no_pen();
+        let drafts = self.drafts;
+        let found = head
+            .word
+            .compare_exchange::<Addition, NoTrade>(
+                drafts,
+                drafts + 1,
+                &mut seen,
+                &mut offer,
+                &mut pen,
+            );
+        if found != drafts {
+            for _ in rt.forever() {}
+            unreachable!()
+        }
+        self.seen = seen;
+        self.drafts = drafts + 1;
+    }
+}

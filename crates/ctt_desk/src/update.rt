@@ -1,0 +1,76 @@
+//! What accepted commits bring.
+
+ghost use Rattle.std.specs.Prelude.{◌≡◌, []};
+ghost use Rattle.ctt_desk.specs.Trails.{LeadsOn};
+
+use crate::front::Front;
+use crate::naming::Naming;
+use ctt_board::Change;
+use std::alloc::Global;
+use std::marker::Model;
+
+/// What an accepted commit changes in a copy, and the histories before it and with it.
+#[derive(Drop)]
+pub struct Update<J: Naming> {
+    changes: Vec<Change>,
+    before: Front<J>,
+    front: Front<J>,
+}
+
+impl<J: Naming> Model for Update<J> {
+    ghost use Rattle.ctt_desk.specs.Trails.{UpdateValue, LeadsOn};
+
+    ghost Value = { UpdateValue };
+
+    ghost view = { λ u. record { changes = u.changes.items; before = u.before; front = u.front } };
+
+    ghost invariant = { λ u. LeadsOn J.problem J.opening u.front u.changes.items 0 u.before };
+}
+
+impl<J: Naming> Update<J> {
+    /// What a commit changes that comes behind one history and makes another of it.
+    pub(crate) fn new(changes: Vec<Change>, before: Front<J>, front: Front<J>) -> Self
+        requires { LeadsOn J.problem J.opening front changes.items 0 before }
+        ensures { result ≡ record { changes = changes.items; before = before; front = front } }
+    {
+        Update {
+            changes,
+            before,
+            front,
+        }
+    }
+
+    /// What changes nothing behind a history.
+    pub(crate) fn none(alloc: Global, front: &Front<J>) -> Self
+        ensures { result ≡ record { changes = []; before = front.now; front = front.now } }
+    {
+        Update {
+            changes: Vec::new(alloc),
+            before: front.again(),
+            front: front.again(),
+        }
+    }
+
+    /// The changes: they lead from the opening after the history before to the opening after the one
+    /// with the commit.
+    pub(crate) fn changes(&self) -> &[Change]
+        ensures changes { result.now ≡ self.now.changes }
+        ensures leads { LeadsOn J.problem J.opening self.now.front self.now.changes 0 self.now.before }
+    {
+        self.changes.as_slice()
+    }
+
+    /// The history before the commit.
+    pub(crate) fn before(&self) -> &Front<J>
+        ensures { result.now ≡ self.now.before }
+    {
+        &self.before
+    }
+
+    /// The history that ends with the commit.
+    pub(crate) fn front(&self) -> &Front<J>
+        ensures { result.now ≡ self.now.front }
+    {
+        &self.front
+    }
+}

@@ -1,0 +1,34 @@
+use Rattle.std.proofs.Common.{◌∙◌, Ok, sym, ap, subst}
+use Rattle.std.specs.Option.{option_map}
+use Rattle.ctt_edits.specs.declared.row.Row.TheVariants.{Slot}
+use Rattle.ctt_draft.specs.Comparisons.{LeavesRest}
+use Rattle.ctt_draft.specs.DraftValues.{DraftValue}
+use Rattle.ctt_draft.proofs.DraftSteps.{records_base}
+use Rattle.ctt_draft.proofs.StaleLemmas.{stale_course, stale_slot, settles}
+use Rattle.ctt_draft.proofs.draft.Draft.first_stale.Goals as goal
+
+pub new-comparison-requires-clause-records : goal.new-comparison-requires-clause-records
+new-comparison-requires-clause-records g c = rw c.unboxed-present.ensures (records_base _ _ _ _ _ _ _ _ c.self.invariant)
+
+pub returns-in-Some-clause-row : goal.returns-in-Some-clause-row
+returns-in-Some-clause-row g c = ap Ok (stale_course _ _ _ _ _ _ _ _ c.self.invariant c.self.view_is _ _ (rw c.unboxed-present.ensures at c.new-comparison.ensures) _ _ (rw c.unboxed-rows.ensures at c.first_course.ensures) c.in-Some.is)
+
+pub returns-in-Some-first_slot-clause-row : goal.returns-in-Some-first_slot-clause-row
+returns-in-Some-first_slot-clause-row g c =
+    ap Ok
+    (sym (ap (option_map Slot) c.in-Some-first_slot.is)
+    ∙ stale_slot _ _ _ _ _ _ _ _ c.self.invariant c.self.view_is _ _ (rw c.unboxed-present.ensures at c.new-comparison.ensures) _ _ (rw c.unboxed-rows.ensures at c.first_course.ensures) c.in_default.is (rw c.unboxed-rows.ensures at c.first_slot.ensures))
+
+pub returns-clause-row : goal.returns-clause-row
+returns-clause-row g c =
+    ap Ok
+    (sym (ap (option_map Slot) c.in_default-first_slot.is)
+    ∙ stale_slot _ _ _ _ _ _ _ _ c.self.invariant c.self.view_is _ _ (rw c.unboxed-present.ensures at c.new-comparison.ensures) _ _ (rw c.unboxed-rows.ensures at c.first_course.ensures) c.in_default.is (rw c.unboxed-rows.ensures at c.first_slot.ensures))
+
+pub returns-clause-fresh : goal.returns-clause-fresh
+returns-clause-fresh g c = λ _. settles _ _ _ _ _ _ _ _ c.self.invariant c.self.view_is _ _ c.draft_frame.ensures c.settling_fits.ensures c.lawful.ensures c.requires.same
+    (sym (ap (option_map Slot) c.in_default-first_slot.is)
+    ∙ stale_slot _ _ _ _ _ _ _ _ c.self.invariant c.self.view_is _ _ (rw c.unboxed-present.ensures at c.new-comparison.ensures) _ _ (rw c.unboxed-rows.ensures at c.first_course.ensures) c.in_default.is (rw c.unboxed-rows.ensures at c.first_slot.ensures))
+
+pub new-comparison-requires-clause-rest : goal.new-comparison-requires-clause-rest
+new-comparison-requires-clause-rest g c = rw c.unboxed-present.ensures (subst (λ (v : DraftValue). LeavesRest v.problem v.base (g.S.Rooms.list c.args.sheet.now) c.args.touched.now) (sym c.self.view_is) c.requires.rest)

@@ -1,7 +1,0 @@
-use Rattle.std.proofs.Common.{rules, ◌≡◌}
-use Rattle.ctt_draft.proofs.tests.mate_is_read.Goals as goal
-
-pub ask-requires : goal.ask-requires
-ask-requires g c κs =
-    let of : c.in_ok-draft.draft.problem ≡ c.args.small.now = c.in_ok-draft.ensures in
-    search rules

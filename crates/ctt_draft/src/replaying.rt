@@ -1,0 +1,26 @@
+//! Changes that are made again on another sheet.
+
+ghost use Rattle.std.specs.Prelude.{◌≡◌};
+ghost use Rattle.ctt_draft.specs.Replays.{replayed, all_fit};
+
+use ctt_board::{Change, Timetable, laws};
+
+/// Makes changes on a sheet, in order, up to the first that does not fit, and answers whether all were
+/// made. It takes no memory.
+pub fn replay<S: Timetable>(changes: &[Change], sheet: &mut S) -> bool
+    ensures problem { S.problem sheet.new ≡ S.problem sheet.old }
+    ensures list { S.list sheet.new ≡ replayed (S.problem sheet.old) changes.now (S.list sheet.old) }
+    ensures all { result ≡ all_fit (S.problem sheet.old) changes.now (S.list sheet.old) }
+{
+    laws::fits_as_tested();
+    for change in changes {
+        if !sheet.accepts(change) {
+            return false;
+        }
+        sheet.lawful();
+        // Computes nothing that is used: its contract says that no removal stands behind an addition.
+        let _in_turn = change.cells();
+        sheet.apply(change);
+    }
+    true
+}

@@ -1,0 +1,5 @@
+use Rattle.ctt_tool.proofs.desk_tests.learnt_on_list.Given as goal
+
+-- the desk that was just opened
+abbrev pub ghosts-learnt : goal.ghosts-learnt
+ghosts-learnt g a = record { problem = a.opened.problem; opening = a.opened.list; planners = a.count; book = a.opened.book }

@@ -1,0 +1,112 @@
+//! The command `crew`.
+
+ghost use Rattle.std.specs.Prelude.{◌≡◌, ◌⊎◌, ◌≤◌, ◌<◌, [], ◌∷◌, Err, length, true, OnOk, IfOk, IfErr};
+ghost use Rattle.ctt_script.specs.CrewText.{IsCrewText};
+ghost use Rattle.ctt_tool.specs.Crews.{IsOfCrewOn, PrintsCrew};
+ghost use Rattle.ctt_tool.specs.Faults.{IfUnwritten, IsOfCrew, IsOfFiles, status_of};
+ghost use Rattle.ctt_tool.specs.Texts.{Holds, IsNoInstance};
+ghost use Rattle.ctt_tool.specs.declared.fault.Fault.TheVariants.{NoMemory, NoPlace, NoThread, TooManyScripts};
+
+use crate::fault::Fault;
+use crate::files::{Files, read_files};
+use crate::output::print;
+use crate::texts::fetch_instance;
+use ctt_script::{NoGate, Sink};
+use ctt_text::Instance;
+use std::alloc::Global;
+use std::marker::Sync;
+use std::sync::Wait;
+use std::thread::Threads;
+
+/// The most scripts that a crew may have.
+const SCRIPT_LIMIT: usize = 64;
+
+/// What a crew writes that follows these scripts.
+fn answers<R: Threads + Wait + Sync>(
+    rt: &R,
+    alloc: Global,
+    instance: &Instance,
+    texts: &[Vec<u8>],
+) -> Result<Vec<u8>, Fault>
+    requires some { 1 ≤ length texts.now }
+    requires few { length texts.now ≤ 64 }
+    ensures crew { IfOk result (λ bytes. IsCrewText instance.now [] (length texts.now) bytes.items) }
+    ensures fault { IfErr result (λ fault. (fault ≡ NoPlace) ⊎ ((fault ≡ NoThread) ⊎ (fault ≡ NoMemory))) }
+{
+    let mut scripts: Vec<&[u8]> = Vec::with_capacity(alloc, texts.len())?;
+    for text in texts {
+        scripts.push(text.as_slice())?;
+    }
+    Ok(ctt_script::crew(rt, alloc, instance, &scripts, &NoGate)?)
+}
+
+/// What a crew writes that follows the scripts in these files.
+fn answers_on<R: Threads + Wait + Sync, F: Files>(
+    rt: &R,
+    alloc: Global,
+    files: &mut F,
+    instance: &Instance,
+    scripts: Vec<String>,
+) -> Result<Vec<u8>, Fault>
+    requires some { 1 ≤ length scripts.items }
+    requires few { length scripts.items ≤ 64 }
+    ensures crew { IfOk result (λ bytes. IsCrewText instance.now [] (length scripts.items) bytes.items) }
+    ensures kept { F.held files.new ≡ F.held files.old }
+    ensures fault { IfErr result (IsOfCrew (length scripts.items)) }
+    ensures machine { IfErr result (λ fault. status_of fault ≡ 3) }
+    ensures file { IfErr result (IsOfFiles scripts.items (F.held files.old)) }
+{
+    let texts = read_files(alloc, files, scripts)?;
+    answers(rt, alloc, instance, &texts)
+}
+
+/// What a crew writes on an instance, where the scripts are as many as are taken. The instance is read
+/// first, and then the scripts in their order.
+fn report<R: Threads + Wait + Sync, F: Files>(
+    rt: &R,
+    alloc: Global,
+    files: &mut F,
+    instance: String,
+    scripts: Vec<String>,
+) -> Result<Vec<u8>, Fault>
+    requires some { 1 ≤ length scripts.items }
+    requires few { length scripts.items ≤ 64 }
+    ensures crew { IfOk result (λ bytes. IsOfCrewOn instance (length scripts.items) (F.held files.old) bytes.items) }
+    ensures kept { F.held files.new ≡ F.held files.old }
+    ensures fault { IfErr result (IsOfCrew (length scripts.items)) }
+    ensures file { IfErr result (IsOfFiles (instance ∷ scripts.items) (F.held files.old)) }
+    ensures cause { IfErr result (λ fault. status_of fault ≡ 1 → Holds (F.held files.old) instance IsNoInstance) }
+{
+    let instance = fetch_instance(alloc, files, instance)?;
+    answers_on(rt, alloc, files, &instance, scripts)
+}
+
+/// Runs scripts on one desk of an instance, which opens empty, each by a planner on a thread of his own,
+/// and prints what they are answered when all have ended. Each text is given by the name of its file.
+/// Before any file is read it is looked whether the scripts are too many.
+pub fn crew<R: Threads + Wait + Sync, F: Files, W: Sink>(
+    rt: &R,
+    alloc: Global,
+    files: &mut F,
+    out: &mut W,
+    instance: String,
+    scripts: Vec<String>,
+) -> Result<(), Fault>
+    requires { 1 ≤ length scripts.items }
+    ensures prints { OnOk result (PrintsCrew instance (length scripts.items) (F.held files.old)
+        (W.taken out.old) (W.taken out.new)) }
+    ensures many { 64 < length scripts.items → result ≡ Err TooManyScripts }
+    ensures kept { F.held files.new ≡ F.held files.old }
+    ensures unmarked { OnOk result (W.has_failed out.new ≡ W.has_failed out.old) }
+    ensures fault { IfErr result (λ fault. IfUnwritten fault
+        (W.has_failed out.new ≡ true)
+        (IsOfCrew (length scripts.items) fault × (out.new ≡ out.old))) }
+    ensures file { IfErr result (IsOfFiles (instance ∷ scripts.items) (F.held files.old)) }
+    ensures cause { IfErr result (λ fault. status_of fault ≡ 1 → Holds (F.held files.old) instance IsNoInstance) }
+{
+    if scripts.len() > SCRIPT_LIMIT {
+        return Err(Fault::TooManyScripts);
+    }
+    let report = report(rt, alloc, files, instance, scripts)?;
+    print(out, &report)
+}

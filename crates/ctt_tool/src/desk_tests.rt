@@ -1,0 +1,399 @@
+//! Planners of one desk on the small instance, on one thread and on two: `close` sees every commit, and a
+//! receipt is learnt. The costs were computed by hand from the rules.
+
+ghost use Rattle.std.specs.Prelude.{◌≡◌, ◌↔◌, IsTrue};
+ghost use Rattle.ctt_edits.specs.Calls.{CallFits};
+ghost use Rattle.ctt_edits.specs.Looks.{LookFits};
+ghost use Rattle.ctt_desk.specs.Names.{IsNamed};
+
+use crate::tests::SMALL;
+use ctt_board::{ListSheet, Sheet, Timetable};
+use ctt_core::{JournalEntry, PlannerNo};
+use ctt_desk::{Closed, Drafting, Named, Naming, Opened, Planner, Receipt, Refusal, SharedDesk};
+use ctt_edits::{Call, Edit, Look, Reply, Row};
+use ctt_rules::Cost;
+use ctt_text::{CourseNo, Instance, Placed, RoomNo, SlotNo, read_instance};
+use std::alloc::Global;
+use std::marker::{Brand, PhantomData};
+use std::process::Abort;
+use std::sync::Wait;
+use std::test::Fail;
+use std::thread::{Threads, join};
+
+fn placed(course: u16, slot: u16, room: u16) -> Placed {
+    Placed {
+        course: CourseNo::new(course),
+        slot: SlotNo::new(slot),
+        room: RoomNo::new(room),
+    }
+}
+
+/// geo in slot 1 in room A.
+fn geo_second() -> Placed {
+    placed(1, 1, 0)
+}
+
+/// top in slot 2 in room B.
+fn top_third() -> Placed {
+    placed(2, 2, 1)
+}
+
+fn place(lecture: &Placed) -> Edit {
+    Edit::Place(lecture.course, lecture.slot, lecture.room)
+}
+
+/// Whether a call has numbers of the instance.
+fn call_fits<'i, S: Sheet<'i>, J: Naming>(drafting: &Drafting<'i, S, J>, call: &Call) -> bool
+    ensures { IsTrue result ↔ CallFits J.problem call.now }
+{
+    call.fits(drafting.instance())
+}
+
+/// Makes a call in a draft.
+fn ask<'i, S: Sheet<'i>, J: Naming>(
+    drafting: &mut Drafting<'i, S, J>,
+    call: Call,
+) -> Option<Reply> {
+    if !call_fits(drafting, &call) {
+        return None;
+    }
+    drafting.call(call).ok()
+}
+
+/// Opens a draft of one call.
+fn drafted<'i, S: Sheet<'i>, J: Naming>(
+    planner: Planner<S, J>,
+    call: Call,
+) -> Option<(Drafting<'i, S, J>, Reply)> {
+    let mut drafting = planner.open().ok()?;
+    let reply = ask(&mut drafting, call)?;
+    Some((drafting, reply))
+}
+
+/// Whether a reply shows this lecture alone.
+fn shows(reply: &Reply, lecture: &Placed) -> bool {
+    match reply {
+        Reply::Lectures(list) => list.as_slice() == [*lecture].as_slice(),
+        _ => false,
+    }
+}
+
+/// Whether an entry is this edit of this planner, which was made.
+fn is_entry(entry: &JournalEntry, planner: PlannerNo, edit: Edit) -> bool {
+    match entry.asked.as_slice() {
+        [asked] => {
+            entry.planner == planner
+                && asked.call == Call::Edit(edit)
+                && matches!(asked.reply, Reply::Done)
+        }
+        _ => false,
+    }
+}
+
+/// Whether a closed desk has these lectures.
+fn has_list<S: Timetable, J: Naming>(closed: &Closed<S, J>, lectures: &[Placed]) -> bool {
+    match closed.list() {
+        Ok(list) => list.as_slice() == lectures,
+        Err(_) => false,
+    }
+}
+
+/// The empty timetable.
+fn empty<'i, S: Sheet<'i>>(alloc: Global, small: &'i Instance) -> Option<Opened<S>> {
+    Opened::<S>::new(alloc, small, &[]).ok()
+}
+
+/// Stops where a look has numbers beyond those of the instance.
+fn expect_look_fits<J: Naming>(rt: &impl Abort, small: &Instance, look: &Look)
+    requires { small.now ≡ J.problem }
+    ensures { LookFits J.problem look.now }
+{
+    assert!(rt; look.fits(small));
+}
+
+/// Stops where a planner does not see this lecture alone in its slot: in a look at the timetable, and in
+/// one of a draft that he then abandons.
+fn expect_seen<'i, S: Sheet<'i>, J: Naming, R: Abort>(
+    rt: &R,
+    small: &Instance,
+    planner: Planner<S, J>,
+    lecture: &Placed,
+) -> Option<Planner<S, J>>
+    requires { small.now ≡ J.problem }
+{
+    let mut planner = planner;
+    let look = Look::Slot(lecture.slot);
+    expect_look_fits::<J>(rt, small, &look);
+    let viewed = planner.view(&look).ok()?;
+    assert!(rt; shows(&viewed, lecture));
+    let (drafting, asked) = drafted(planner, Call::Look(look))?;
+    assert!(rt; shows(&asked, lecture));
+    Some(drafting.abandon())
+}
+
+/// The row for which a commit is refused.
+fn refused<'i, S: Sheet<'i>, J: Naming, R: Wait>(
+    rt: &R,
+    desk: &SharedDesk<S, J>,
+    late: Drafting<'i, S, J>,
+) -> Option<(Planner<S, J>, Row)> {
+    match late.commit(rt, desk) {
+        Ok((_planner, _receipt)) => None,
+        Err(Refusal::Stale(planner, row)) => Some((planner, row)),
+        Err(Refusal::NotYours(_planner, _count)) => None,
+        Err(Refusal::NoMemory(_late)) => None,
+    }
+}
+
+/// Commits a draft that places a lecture, the planner's first and the desk's.
+fn commits_first<'i, S: Sheet<'i>, J: Naming, R: Wait + Abort>(
+    rt: &R,
+    desk: &SharedDesk<S, J>,
+    planner: Planner<S, J>,
+    lecture: &Placed,
+) -> Option<(Planner<S, J>, Receipt<J>)> {
+    let (drafting, _reply) = drafted(planner, Call::Edit(place(lecture)))?;
+    let (planner, receipt) = drafting.commit(rt, desk).ok()?;
+    assert_eq!(rt; receipt.number(), 1);
+    assert_eq!(rt; planner.committed(), 1);
+    Some((planner, receipt))
+}
+
+/// Commits a draft that is stale at the slot of a lecture. Its planner has then seen one draft, and
+/// committed none.
+fn is_late<'i, S: Sheet<'i>, J: Naming, R: Wait + Abort>(
+    rt: &R,
+    desk: &SharedDesk<S, J>,
+    late: Drafting<'i, S, J>,
+    lecture: &Placed,
+) -> Option<Planner<S, J>> {
+    let (planner, row) = refused(rt, desk, late)?;
+    assert_eq!(rt; row, Row::Slot(lecture.slot));
+    assert_eq!(rt; planner.committed(), 0);
+    assert_eq!(rt; planner.seen(), 1);
+    Some(planner)
+}
+
+/// The next planner looks at a slot in a draft, which is left open.
+fn looks_next<'i, S: Sheet<'i>, J: Naming>(
+    waiting: &mut Vec<Planner<S, J>>,
+    slot: SlotNo,
+) -> Option<Drafting<'i, S, J>> {
+    let (late, _nothing) = drafted(waiting.pop()?, Call::Look(Look::Slot(slot)))?;
+    Some(late)
+}
+
+/// The next planner commits a draft that places a lecture.
+fn commits_next<'i, S: Sheet<'i>, J: Naming, R: Wait + Abort>(
+    rt: &R,
+    desk: &SharedDesk<S, J>,
+    waiting: &mut Vec<Planner<S, J>>,
+    done: &mut Vec<Planner<S, J>>,
+    lecture: &Placed,
+) -> Option<()> {
+    let (planner, _receipt) = commits_first(rt, desk, waiting.pop()?, lecture)?;
+    done.push(planner).ok()
+}
+
+/// The next planner, who has learnt nothing, sees a lecture.
+fn sees_next<'i, S: Sheet<'i>, J: Naming, R: Abort>(
+    rt: &R,
+    small: &Instance,
+    waiting: &mut Vec<Planner<S, J>>,
+    done: &mut Vec<Planner<S, J>>,
+    lecture: &Placed,
+) -> Option<()>
+    requires { small.now ≡ J.problem }
+{
+    let planner = expect_seen(rt, small, waiting.pop()?, lecture)?;
+    done.push(planner).ok()
+}
+
+/// A planner who has looked at a slot is stale when another one has placed a lecture there. Two more,
+/// who learnt nothing, see it.
+fn turns<'i, S: Sheet<'i>, J: Naming, R: Wait + Abort>(
+    rt: &R,
+    desk: &SharedDesk<S, J>,
+    waiting: &mut Vec<Planner<S, J>>,
+    done: &mut Vec<Planner<S, J>>,
+) -> Option<()> {
+    let top = top_third();
+    let late = looks_next(waiting, top.slot)?;
+    let small = late.instance();
+    commits_next(rt, desk, waiting, done, &top)?;
+    done.push(is_late(rt, desk, late, &top)?).ok()?;
+    sees_next(rt, small, waiting, done, &top)?;
+    sees_next(rt, small, waiting, done, &top)
+}
+
+/// Whether a closed desk has the one entry of planner 2, and its timetable.
+fn is_of_one<S: Timetable, J: Naming>(closed: &Closed<S, J>) -> bool {
+    let top = top_third();
+    match closed.journal() {
+        [entry] => {
+            is_entry(entry, PlannerNo::new(2), place(&top))
+                && has_list(closed, &[top])
+                && closed.cost() == cost_of_one()
+        }
+        _ => false,
+    }
+}
+
+fn cost_of_one() -> Cost {
+    Cost {
+        capacity: 10,
+        days: 15,
+        compactness: 0,
+        stability: 0,
+    }
+}
+
+/// One draft is accepted, and another is stale; `close` is handed all planners, and its journal begins with
+/// what each of them has seen.
+fn every_commit<'i, J: Naming, R: Wait + Abort>(
+    rt: &R,
+    alloc: Global,
+    opened: Opened<ListSheet<'i>>,
+    count: u16,
+) -> Result<(), Fail>
+    requires { IsNamed J.problem J.opening J.planners J.book opened count }
+{
+    let named = Named {
+        opened,
+        count,
+        name: PhantomData,
+    };
+    let Ok((desk, mut planners)) = SharedDesk::<ListSheet, J>::new(rt, named) else {
+        return Err(Fail::from("no desk"));
+    };
+    let mut done = Vec::new(alloc);
+    let turned = turns::<ListSheet, J, R>(rt, &desk, &mut planners, &mut done);
+    let closed = desk
+        .close(rt, done.as_mut_slice())
+        .or(Err("not closed with all"))?;
+    turned.ok_or("a turn failed")?;
+    assert!(rt; is_of_one(&closed));
+    Ok(())
+}
+
+fn every_commit_on_list<'i, R: Wait + Abort>(
+    rt: &R,
+    alloc: Global,
+    small: &'i Instance,
+) -> Result<(), Fail> {
+    let opened = empty::<ListSheet>(alloc, small).ok_or("no opening")?;
+    every_commit::<Brand, R>(rt, alloc, opened, 4)
+}
+
+/// A planner who has committed a draft, with the receipt.
+#[derive(Drop)]
+struct Committed<'i, J: Naming> {
+    planner: Planner<ListSheet<'i>, J>,
+    receipt: Receipt<J>,
+}
+
+/// A planner commits the placing of geo.
+fn places_geo<'i, J: Naming, R: Wait + Abort>(
+    rt: &R,
+    desk: &SharedDesk<ListSheet<'i>, J>,
+    planner: Planner<ListSheet<'i>, J>,
+) -> Option<Committed<'i, J>> {
+    let geo = geo_second();
+    let (planner, receipt) = commits_first::<ListSheet<'i>, J, R>(rt, desk, planner, &geo)?;
+    Some(Committed { planner, receipt })
+}
+
+/// A desk with one who works at it.
+#[derive(Drop)]
+struct Work<'a, 'i, J: Naming> {
+    desk: &'a SharedDesk<ListSheet<'i>, J>,
+    planner: Planner<ListSheet<'i>, J>,
+}
+
+/// Commits a first draft at a desk.
+fn commit_at<'a, 'i, J: Naming, R: Wait + Abort>(
+    rt: &R,
+    work: Work<'a, 'i, J>,
+) -> Option<Committed<'i, J>> {
+    let Work { desk, planner } = work;
+    places_geo(rt, desk, planner)
+}
+
+/// One of two planners commits a draft, on a thread of his own.
+fn one_commits<'i, J: Naming + Send + Sync, R: Threads + Wait + Abort + Sync>(
+    rt: &R,
+    desk: &SharedDesk<ListSheet<'i>, J>,
+    planners: &mut Vec<Planner<ListSheet<'i>, J>>,
+) -> Option<Receipt<J>> {
+    let second = planners.pop()?;
+    let planner = planners.pop()?;
+    let first = Work { desk, planner };
+    let (done, ()) = join(rt, || commit_at(rt, first), || ());
+    let done = done?;
+    planners.push(done.planner).ok()?;
+    planners.push(second).ok()?;
+    Some(done.receipt)
+}
+
+/// A planner opens again and sees his lecture, and another one sees it who has learnt the receipt.
+fn both_see<'i, S: Sheet<'i>, J: Naming, R: Wait + Abort>(
+    rt: &R,
+    planners: &mut Vec<Planner<S, J>>,
+    receipt: &Receipt<J>,
+) -> Option<()> {
+    let geo = geo_second();
+    let mut one = planners.pop()?;
+    let zero = planners.pop()?;
+    one.learn(receipt);
+    assert_eq!(rt; one.seen(), 1);
+    let (drafting, asked) = drafted(zero, Call::Look(Look::Slot(geo.slot)))?;
+    assert!(rt; shows(&asked, &geo));
+    let small = drafting.instance();
+    planners.push(drafting.abandon()).ok()?;
+    planners.push(expect_seen(rt, small, one, &geo)?).ok()?;
+    Some(())
+}
+
+/// A receipt is learnt.
+fn learnt<'i, J: Naming + Send + Sync, R: Threads + Wait + Abort + Sync>(
+    rt: &R,
+    opened: Opened<ListSheet<'i>>,
+    count: u16,
+) -> Result<(), Fail>
+    requires { IsNamed J.problem J.opening J.planners J.book opened count }
+{
+    let named = Named {
+        opened,
+        count,
+        name: PhantomData,
+    };
+    let Ok((desk, mut planners)) = SharedDesk::<ListSheet, J>::new(rt, named) else {
+        return Err(Fail::from("no desk"));
+    };
+    let seen = match one_commits(rt, &desk, &mut planners) {
+        Some(receipt) => both_see::<ListSheet, J, R>(rt, &mut planners, &receipt),
+        None => None,
+    };
+    let closed = desk
+        .close(rt, planners.as_mut_slice())
+        .or(Err("not closed with both"))?;
+    seen.ok_or("the receipt is not learnt")?;
+    assert_eq!(rt; closed.journal().len(), 1);
+    Ok(())
+}
+
+fn learnt_on_list<'i, R: Threads + Wait + Abort + Sync>(
+    rt: &R,
+    alloc: Global,
+    small: &'i Instance,
+) -> Result<(), Fail> {
+    let opened = empty::<ListSheet>(alloc, small).ok_or("no opening")?;
+    learnt::<Brand, R>(rt, opened, 2)
+}
+
+#[test]
+fn planners_of_one_desk(rt: HostRuntime) -> Result<(), Fail> {
+    let small = read_instance(rt.alloc(), SMALL.as_bytes())?;
+    every_commit_on_list(&rt, rt.alloc(), &small)?;
+    learnt_on_list(&rt, rt.alloc(), &small)
+}
