@@ -1,17 +1,21 @@
 //! Planners of one desk on the small instance, on one thread and on two: `close` sees every commit, a receipt
-//! is learnt, and of a hundred commits each entry is where its receipt says. The costs were computed by hand from
-//! the rules.
+//! is learnt, and of a hundred commits each entry is where its receipt says. An unlawful opening is refused. The
+//! costs were computed by hand from the rules.
 
 ghost use Rattle.std.specs.Prelude.{◌≡◌, ◌↔◌, IsTrue};
+ghost use Rattle.std.specs.List.{AllByRecursion as Each};
+ghost use Rattle.ctt_text.specs.Timetable.{Fits};
 ghost use Rattle.ctt_edits.specs.Calls.{CallFits};
 ghost use Rattle.ctt_edits.specs.Looks.{LookFits};
 ghost use Rattle.ctt_desk.specs.Names.{IsNamed};
 
 use crate::tests::SMALL;
-use ctt_board::{ListSheet, Sheet, Timetable};
+use ctt_board::{GridSheet, ListSheet, Sheet, Timetable};
 use ctt_core::{JournalEntry, PlannerNo};
-use ctt_desk::{Closed, Drafting, Named, Naming, Opened, Planner, Receipt, Refusal, SharedDesk};
-use ctt_edits::{Call, Edit, Look, Reply, Row};
+use ctt_desk::{
+    Closed, Drafting, Named, Naming, Opened, Planner, Receipt, Refusal, SharedDesk, SharedFault,
+};
+use ctt_edits::{Call, Edit, EditFault, Look, Reply, Row};
 use ctt_rules::Cost;
 use ctt_text::{CourseNo, Instance, Placed, RoomNo, SlotNo, read_instance};
 use std::alloc::Global;
@@ -568,6 +572,44 @@ fn hundred_on_list<'i, R: Threads + Wait + Abort + Sync>(
     hundred::<Brand, R>(rt, alloc, opened, 2)
 }
 
+/// Stops where a lecture has numbers beyond those of the instance.
+fn expect_lectures_fit(rt: &impl Abort, small: &Instance, lectures: &[Placed])
+    ensures { Each (Fits small.now) lectures.now }
+{
+    assert!(rt; lectures_fit(small, lectures));
+}
+
+/// Whether lectures have numbers of the instance.
+fn lectures_fit(small: &Instance, lectures: &[Placed]) -> bool
+    ensures { IsTrue result ↔ Each (Fits small.now) lectures.now }
+{
+    lectures.iter().all(|lecture| lecture.fits(small))
+}
+
+/// What stands against a desk that opens with these lectures.
+fn fault_of<'i, S: Sheet<'i>>(
+    rt: &impl Abort,
+    alloc: Global,
+    small: &'i Instance,
+    lectures: &[Placed],
+) -> Option<SharedFault> {
+    expect_lectures_fit(rt, small, lectures);
+    Opened::<S>::new(alloc, small, lectures).err()
+}
+
+/// Whether it is that the second lecture clashes with alg.
+fn is_clash(fault: Option<SharedFault>) -> bool {
+    let clash = EditFault::Clash(CourseNo::new(0));
+    fault == Some(SharedFault::Unlawful(2, clash))
+}
+
+/// alg and top, who have one teacher, cannot open a desk in one slot.
+fn expect_refused(rt: &impl Abort, alloc: Global, small: &Instance) {
+    let lectures = [placed(0, 0, 0), placed(2, 0, 1)];
+    assert!(rt; is_clash(fault_of::<ListSheet>(rt, alloc, small, &lectures)));
+    assert!(rt; is_clash(fault_of::<GridSheet>(rt, alloc, small, &lectures)));
+}
+
 #[test]
 fn planners_of_one_desk(rt: HostRuntime) -> Result<(), Fail> {
     let small = read_instance(rt.alloc(), SMALL.as_bytes())?;
@@ -579,4 +621,11 @@ fn planners_of_one_desk(rt: HostRuntime) -> Result<(), Fail> {
 fn hundred_commits_on_two_threads(rt: HostRuntime) -> Result<(), Fail> {
     let small = read_instance(rt.alloc(), SMALL.as_bytes())?;
     hundred_on_list(&rt, rt.alloc(), &small)
+}
+
+#[test]
+fn unlawful_opening(rt: HostRuntime) -> Result<(), Fail> {
+    let small = read_instance(rt.alloc(), SMALL.as_bytes())?;
+    expect_refused(&rt, rt.alloc(), &small);
+    Ok(())
 }
