@@ -56,6 +56,37 @@ module _ (i : Problem) (l m : Placed) (t u : List Placed) (more : IsMore l t u) 
       (of_course i m.course (λ q. alone_beside i (by_slot (members i q) u) m.slot ≡ alone_beside i (by_slot (members i q) t) m.slot) (λ q known y. beside_same i (by_slot (members i q) u) (by_slot (members i q) t) (same_part q known y) m.slot)) in
       rw (same_day (day_of i m.slot), same_days, same_length, same_room m.room, alone, company) refl
 
+-- at most one in the slot with the one that comes, so none before it comes
+none_yet : (i : Problem) (x : Placed) (a : List Placed) → Lawful i (with x a) → IsFree i a x
+none_yet i x a after q known y = omega (arith, one_there i (with x a) q x.slot after known, counted_more x a (with x a) (more_with x a) (in_slot (members i q) x.slot), ap (λ b. cond {A = ℕ} b 1 0) (mine i x q y))
+
+-- a step down and a step up
+down_and_up : (a x : ℤ) (p0 p1 p2 : ℕ) → a ≡ pos p0 -ℤ pos p1 → x ≡ pos p2 -ℤ pos p1 → x -ℤ a ≡ pos p2 -ℤ pos p0
+down_and_up a x p0 p1 p2 ea ex = omega (arith, ints, ea, ex)
+
+-- the cells by which l goes to m
+abbrev pub steps_of : (l m : Placed) → List Cell
+steps_of l m = cell l.course l.slot None ∷ cell m.course m.slot (Some m.room) ∷ []
+
+module _ (i : Problem) (t : List Placed) (l m : Placed) (h : Lawful i t) (fits : ChangeFits i (steps_of l m) t) (there : room_at l.course l.slot t ≡ Some l.room) where
+  abbrev left : List Placed
+  left = without l.course l.slot t
+
+  left_lawful : Lawful i left
+  left_lawful = without_lawful i t l.course l.slot h
+
+  pub goes_fits : Fits i m
+  goes_fits = comes_fits i m left fits.lawful
+
+  pub goes_free : IsFree i left m
+  goes_free = none_yet i m left fits.lawful
+
+  pub goes_by : gain_of (joining i left m) -ℤ gain_of (joining i left l) ≡ pos (total (penalty i (with m left))) -ℤ pos (total (penalty i t))
+  goes_by =
+      down_and_up (gain_of (joining i left l)) (gain_of (joining i left m)) (total (penalty i t)) (total (penalty i left)) (total (penalty i (with m left)))
+      (gain_is i left t (joining i left l) (joins i l left t (more_without l.course l.slot l.room t h.timetable.ascending there) (there_fits i l.course l.slot l.room t h there) left_lawful.timetable.fits h.timetable.fits))
+      (gain_is i left (with m left) (joining i left m) (joins i m left (with m left) (more_with m left) goes_fits left_lawful.timetable.fits fits.lawful.timetable.fits))
+
 -- of four steps, those of the first lecture and those of the second
 in_pairs : (a b x y : ℤ) (p0 p1 p2 p3 p4 : ℕ) → a ≡ pos p0 -ℤ pos p1 → b ≡ pos p1 -ℤ pos p2 → x ≡ pos p3 -ℤ pos p2 → y ≡ pos p4 -ℤ pos p3 → (x -ℤ a) +ℤ (y -ℤ b) ≡ pos p4 -ℤ pos p0
 in_pairs a b x y p0 p1 p2 p3 p4 ea eb ex ey = omega (arith, ints, ea, eb, ex, ey)
@@ -143,17 +174,13 @@ module _ (i : Problem) (t : List Placed) (l m l' m' : Placed) where
     more_both : IsMore l t2 u
     more_both f = omega (arith, more_l f, more_m f, more_u f)
 
-    -- at most one in the slot with the one that comes, so none before it comes
-    none_yet : (x : Placed) (a : List Placed) → Lawful i (with x a) → IsFree i a x
-    none_yet x a after q known y = omega (arith, one_there i (with x a) q x.slot after known, counted_more x a (with x a) (more_with x a) (in_slot (members i q) x.slot), ap (λ b. cond {A = ℕ} b 1 0) (mine i x q y))
-
     pub first_free : IsFree i t1 l'
-    first_free q known y = same_part i m l' t2 t1 more_m fits_m first_apart q known y l'.slot ∙ none_yet l' t2 lawful3 q known y
+    first_free q known y = same_part i m l' t2 t1 more_m fits_m first_apart q known y l'.slot ∙ none_yet i l' t2 lawful3 q known y
 
     pub other_free : IsFree i u m'
     other_free q known y =
         same_part i l m' t2 u more_both fits_l (other_apart m'.course l.course x.own refl) q known y m'.slot ∙ sym (same_part i l' m' t2 t3 (more_with l' t2) first_fits (other_apart m'.course l'.course x.own x.its) q known y m'.slot)
-        ∙ none_yet m' t3 change_fits.lawful q known y
+        ∙ none_yet i m' t3 change_fits.lawful q known y
 
     pub each_by_itself : (gain_of (joining i t1 l') -ℤ gain_of (joining i t1 l)) +ℤ (gain_of (joining i u m') -ℤ gain_of (joining i u m)) ≡ pos (total (penalty i t4)) -ℤ pos (total (penalty i t))
     each_by_itself =

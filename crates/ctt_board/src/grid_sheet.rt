@@ -140,6 +140,19 @@ impl<'i> GridSheet<'i> {
         })
     }
 
+    /// What these cells add to the penalty, if one lecture goes elsewhere by them.
+    fn relocated(&self, first: &Cell, second: &Cell) -> Option<i64>
+        requires turn { is_change (first.now ∷ second.now ∷ []) ≡ true }
+        requires fits { ChangeFits self.now.problem (first.now ∷ second.now ∷ []) self.now.list }
+        ensures { IfSome result (λ x. x ≡ delta self.now.problem self.now.list (first.now ∷ second.now ∷ [])) }
+    {
+        self.lawful();
+        self.instance.limits_hold();
+        let from = self.leaving(first)?;
+        let to = coming(second, from.course)?;
+        Some(moved(self.instance, &self.counts, self, &from, &to))
+    }
+
     /// What these cells add to the penalty, if two lectures go elsewhere by them whose courses share
     /// no curriculum: what each of them adds, as if the other one stayed.
     fn exchanged(&self, first: &Cell, second: &Cell, third: &Cell, fourth: &Cell) -> Option<i64>
@@ -158,6 +171,20 @@ impl<'i> GridSheet<'i> {
         let more = moved(self.instance, &self.counts, self, &from, &to);
         let other = moved(self.instance, &self.counts, self, &other_from, &other_to);
         Some(more + other)
+    }
+
+    /// What these cells add to the penalty, if one lecture goes elsewhere by them, or two do whose courses
+    /// share no curriculum.
+    fn gone_elsewhere(&self, cells: &[Cell]) -> Option<i64>
+        requires turn { is_change cells.now ≡ true }
+        requires fits { ChangeFits self.now.problem cells.now self.now.list }
+        ensures { IfSome result (λ x. x ≡ delta self.now.problem self.now.list cells.now) }
+    {
+        match cells {
+            [first, second] => self.relocated(first, second),
+            [first, second, third, fourth] => self.exchanged(first, second, third, fourth),
+            _ => None,
+        }
     }
 
     /// What a change adds to the penalty, cell by cell.
@@ -345,11 +372,7 @@ impl<'i> Timetable for GridSheet<'i> {
     fn delta(&self, change: &Change) -> i64 {
         self.lawful();
         self.instance.limits_hold();
-        let cells = change.cells();
-        let [first, second, third, fourth] = cells else {
-            return self.stepwise(change);
-        };
-        match self.exchanged(first, second, third, fourth) {
+        match self.gone_elsewhere(change.cells()) {
             Some(total) => total,
             None => self.stepwise(change),
         }

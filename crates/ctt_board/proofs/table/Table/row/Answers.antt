@@ -1,4 +1,4 @@
-use Rattle.std.proofs.Common.{◌≡◌, ◌+◌, ◌*◌, ◌<◌, ◌≤◌, ◌∙◌, length, arith, ap}
+use Rattle.std.proofs.Common.{◌≡◌, ◌+◌, ◌*◌, ◌<◌, ◌≤◌, ◌∙◌, arith, ap}
 use Rattle.ctt_board.proofs.TableLemmas.{row_inside, length_of_row, row_of}
 use Rattle.ctt_board.proofs.table.Table.row.Goals as goal
 
