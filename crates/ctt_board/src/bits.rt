@@ -83,6 +83,8 @@ impl Bits {
     }
 
     /// The bits beside a place, one by one.
+    #[cold]
+    #[inline(never)]
     fn beside_each(&self, row: usize, column: usize) -> Beside
         requires row { row < self.now.rows }
         requires column { column < self.now.width }

@@ -68,6 +68,7 @@ pub(crate) fn period_on(instance: &Instance, slot: SlotNo, day: u16) -> u16
 
 /// What a lecture would add to the costs, and take from them, where its day is this one and so many
 /// of its course are on it.
+#[inline(always)]
 pub(crate) fn joining_on(
     later: &Later,
     instance: &Instance,
@@ -98,6 +99,7 @@ pub(crate) fn joining_on(
 }
 
 /// What a lecture would add to the costs, and take from them.
+#[inline(always)]
 pub(crate) fn joining_of(later: &Later, instance: &Instance, lecture: &Placed) -> Joining
     requires fits { Fits instance.now lecture.now }
     requires sizes { HaveSizes instance.now later.now.counts.now }

@@ -78,6 +78,7 @@ fn price_reply<'i, S: Sheet<'i>>(sheet: &S, edit: &Edit) -> Reply
 }
 
 /// What a look shows.
+#[inline(always)]
 pub fn look<'i, S: Sheet<'i>>(alloc: Global, sheet: &S, look: &Look) -> Result<Reply, NoMemory>
     requires { LookFits (S.problem sheet.now) look.now }
     ensures { IfOk result (λ reply. reply ≡ shown (S.problem sheet.now) (S.list sheet.now) look.now) }

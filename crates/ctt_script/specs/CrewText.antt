@@ -1,13 +1,16 @@
 -- What a crew is answered, and what is written of it.
-use Rattle.std.specs.Prelude.{ℕ, ◌≡◌, ◌+◌, List, [], ◌∷◌, ◌++◌, codes, length}
+use Rattle.std.specs.Prelude.{ℕ, ◌≡◌, ◌+◌, List, [], ◌∷◌, ◌++◌, codes, length, Option, Some, None}
 use Rattle.std.specs.Fmt.{decimal}
 use Rattle.ctt_text.specs.Problem.{Problem}
 use Rattle.ctt_text.specs.declared.placed.Placed.{Placed}
 use Rattle.ctt_rules.specs.Penalty.{penalty}
 use Rattle.ctt_rules.specs.declared.cost.Cost.{Cost}
 use Rattle.ctt_core.specs.Runs.{Legal, after}
+use Rattle.ctt_core.specs.declared.event.Event.{Event}
+use Rattle.ctt_core.specs.declared.event.Event.TheVariants.{Open, Ask, Commit, Abandon, Show}
 use Rattle.ctt_core.specs.declared.journal.JournalEntry.{JournalEntry}
 use Rattle.ctt_core.specs.declared.answer.Answer.TheVariants.{NoMemory as OutOfMemory}
+use Rattle.ctt_edits.specs.declared.call.Call.{Call}
 use Rattle.ctt_desk.specs.declared.shared_fault.SharedFault.{SharedFault}
 use Rattle.ctt_desk.specs.declared.shared_fault.SharedFault.TheVariants.{Unlawful, NoPlace as Unplaced, NoMemory}
 use Rattle.ctt_script.specs.AnswerText.{answer_words}
@@ -22,6 +25,15 @@ abbrev pub ToldFits : Problem → Told → Type 0
 ToldFits i (Answered answer) = AnswerFits i answer
 ToldFits i (NotYours n) = Unit {0}
 ToldFits i NoPlace = Unit {0}
+
+-- the call that a line asks for
+abbrev pub call_in : Option Event → Option Call
+call_in None = None
+call_in (Some (Open p)) = None
+call_in (Some (Ask p call)) = Some call
+call_in (Some (Commit p)) = None
+call_in (Some (Abandon p)) = None
+call_in (Some (Show look)) = None
 
 -- what a planner is told where he could not read: that he had no place, or that memory was wanted
 abbrev pub told_unread : SharedFault → Told

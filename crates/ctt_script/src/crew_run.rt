@@ -5,7 +5,7 @@ ghost use Rattle.std.specs.Fmt.{decimal};
 ghost use Rattle.ctt_rules.specs.declared.cost.Cost.{Cost};
 ghost use Rattle.ctt_core.specs.Runs.{EventFits};
 ghost use Rattle.ctt_desk.specs.Names.{IsNamed};
-ghost use Rattle.ctt_script.specs.CrewText.{IsCrewText, ToldFits, told_words, crew_text};
+ghost use Rattle.ctt_script.specs.CrewText.{IsCrewText, call_in, ToldFits, told_words, crew_text};
 ghost use Rattle.ctt_script.specs.WrittenText.{line};
 
 use crate::answers::{write_answer, write_bad_line};
@@ -18,6 +18,7 @@ use crate::written::write_costs;
 use ctt_board::{GridSheet, Sheet, Timetable};
 use ctt_core::{Event, PlannerNo};
 use ctt_desk::{Closed, Named, Naming, Opened, Planner, SharedDesk, SharedFault};
+use ctt_edits::Call;
 use ctt_rules::Cost;
 use ctt_text::{Instance, NoMemory};
 use std::alloc::{AllocError, Global};
@@ -65,6 +66,16 @@ fn answer_own_line<'i, S: Sheet<'i>, J: Naming, R: Wait>(
     }
 }
 
+/// The call that a line asks for, if it asks for one.
+fn call_in(read: &Option<Event>) -> Option<Call>
+    ensures { result ≡ call_in read.now }
+{
+    match *read {
+        Some(Event::Ask(_, call)) => Some(call),
+        _ => None,
+    }
+}
+
 /// The script that a planner is to follow, of a desk of the instance.
 #[derive(Drop)]
 struct Attendance<'i, 'x, J: Naming, G: Gate> {
@@ -99,7 +110,12 @@ fn attend<'i, 'x, S: Sheet<'i>, J: Naming, R: Wait, G: Gate>(
         if read.is_some() || has_words(line) {
             at = at.saturating_add(1);
             gate.before(number, at);
-            seat = answer_own_line(rt, desk, instance, seat, number, read, &mut text)?;
+            if let Some(call) = call_in(&read) {
+                let told = seat.ask(call);
+                write_told(&mut text, instance, &told)?;
+            } else {
+                seat = answer_own_line(rt, desk, instance, seat, number, read, &mut text)?;
+            }
             gate.after(number, at);
         }
     }

@@ -64,6 +64,7 @@ fn read_step_kind(reader: &mut Reader) -> Result<StepKind, JournalFault>
 }
 
 /// What stands behind a planner's number and the word of a step.
+#[inline(always)]
 #[tactic(auto, using(crate::proofs::JournalSteps::read_bind, crate::proofs::JournalSteps::read_done), unfolding(crate::specs::ScriptPlaces::step_after))]
 fn read_step_after(
     reader: &mut Reader,

@@ -60,22 +60,17 @@ impl<'i, S: Sheet<'i>, J: Naming> Seat<'i, S, J> {
         }
     }
 
-    /// Makes a call in the draft.
-    fn ask(self, call: Call) -> (Self, Told)
+    /// Makes a call in the draft. Of all that a line may ask for, this is the most frequent; it moves no seat.
+    pub(crate) fn ask(&mut self, call: Call) -> Told
         requires { CallFits J.problem call }
-        ensures { ToldFits J.problem result.1 }
+        ensures { ToldFits J.problem result }
     {
         match self {
-            Seat::Free(planner) => (Seat::Free(planner), Told::Answer(Answer::NoDraft)),
-            Seat::Drafting(drafting) => {
-                let mut drafting = drafting;
-                let told = drafting.call(call);
-                let answer = match told {
-                    Ok(reply) => Answer::Replied(reply),
-                    Err(_) => Answer::NoMemory,
-                };
-                (Seat::Drafting(drafting), Told::Answer(answer))
-            }
+            Seat::Free(_) => Told::Answer(Answer::NoDraft),
+            Seat::Drafting(drafting) => match drafting.call(call) {
+                Ok(reply) => Told::Answer(Answer::Replied(reply)),
+                Err(_) => Told::Answer(Answer::NoMemory),
+            },
         }
     }
 
@@ -146,7 +141,11 @@ impl<'i, S: Sheet<'i>, J: Naming> Seat<'i, S, J> {
     {
         match event {
             Event::Open(_) => self.open(),
-            Event::Ask(_, call) => self.ask(call),
+            Event::Ask(_, call) => {
+                let mut seat = self;
+                let told = seat.ask(call);
+                (seat, told)
+            }
             Event::Commit(_) => self.commit(rt, desk),
             Event::Abandon(_) => self.abandon(),
             Event::Show(look) => self.show(&look),

@@ -4,8 +4,8 @@ use Rattle.ctt_edits.specs.Looks.{LookFits}
 use Rattle.ctt_core.specs.Runs.{EventFits}
 use Rattle.ctt_script.proofs.seat.Seat.take.Goals as goal
 
-pub ask-requires : goal.ask-requires
-ask-requires g c κs =
+pub ask-told-requires : goal.ask-told-requires
+ask-told-requires g c κs =
     let all = subst (EventFits g.J.Naming.problem c.requires.0) c.in-Ask.is c.requires.1 in
     let fits : CallFits g.J.Naming.problem c.in-Ask.call = all.1 in
     search rules
