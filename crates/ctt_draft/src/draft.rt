@@ -181,6 +181,7 @@ impl<'i, S: Sheet<'i>> Draft<'i, S> {
     }
 
     /// Keeps a call that changes nothing, with its reply.
+    #[inline(always)]
     fn keep(&mut self, call: Call, told: Reply) -> Result<(), NoMemory>
         requires fits { CallFits self.old.problem call }
         requires told { told ≡ reply self.old.problem (present self.old) call }
