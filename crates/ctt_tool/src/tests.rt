@@ -1,3 +1,5 @@
+//! The program over files that tell, refuse and fail.
+
 ghost use Rattle.std.specs.Prelude.{◌≡◌, false, Some, None, option_map};
 
 use crate::device_tests::{Shelf, writer_with_room};
