@@ -239,7 +239,7 @@ fn crew_report(
 ) -> Result<Vec<u8>, NoMemory>
     ensures { IfOk result (λ text. text.items ≡ crew_text (map string_bytes answers.items) entries cost.now) }
 {
-    // Each planner's answers are let go once they are copied, so both never lie in memory whole.
+    // Each planner's answers are let go once they are copied, so that all of them never lie in memory twice.
     let mut text = String::new(alloc);
     for (planner, lines) in answers.into_iter().enumerate() {
         writeln!(text, "planner {planner}")?;
