@@ -20,8 +20,9 @@ use Rattle.ctt_board.specs.Changes.{room_at, apply_at, CellFits}
 use Rattle.ctt_board.specs.Cells.{lecture_at, row_below}
 use Rattle.ctt_board.specs.Tables.{Grid, at}
 use Rattle.ctt_board.specs.Counts.{AreCounts, HaveSizes, HasSize}
-use Rattle.ctt_board.specs.Grids.{rows_below, column_below, listed, AreRooms, AreHolders, AreStanding, IsGridSheet}
+use Rattle.ctt_board.specs.Grids.{rows_below, column_below, listed, AreRooms, AreHolders, AreStanding, AreTables}
 use Rattle.ctt_board.specs.declared.counts.Counts.{Counts}
+use Rattle.ctt_board.specs.declared.tables.Tables.{Tables}
 use Rattle.ctt_board.proofs.PutLemmas.{filter_filter}
 use Rattle.ctt_board.proofs.RowLemmas.{split_at, one_slot, course_row_is}
 use Rattle.ctt_board.proofs.RoomLemmas.{room_after}
@@ -67,18 +68,19 @@ rooms_after_cell i t old new c s o h rows width wrote fits = record {
     turned : (d e : ℕ) → (d == c && e == s) ≡ (c == d && s == e)
     turned d e = grind (arith, nat_tests)
 
--- tables and costs that are those of a timetable make a sheet
-pub made : (i : Problem) (u : List Placed) (rooms courses : Grid (Option ℕ)) (standing : Grid (List ℕ)) (counts : Counts) (cost : Cost) → Lawful i u → AreRooms i u rooms → AreHolders i u courses → AreStanding i u standing → AreCounts i u counts → cost ≡ penalty i u → IsGridSheet i rooms courses standing counts cost
-made i u rooms courses standing counts cost lawful are_rooms are_courses are_standing are_counts costs =
-    let e : u ≡ listed i rooms = sym (shown i u rooms lawful.timetable are_rooms) in
-    record {
-      lawful = subst (Lawful i) e lawful;
-      rooms_are = subst (λ t. AreRooms i t rooms) e are_rooms;
-      courses_are = subst (λ t. AreHolders i t courses) e are_courses;
-      standing_are = subst (λ t. AreStanding i t standing) e are_standing;
-      counts_are = subst (λ t. AreCounts i t counts) e are_counts;
-      cost_is = costs ∙ ap (penalty i) e;
-    }
+-- tables that are each those of a timetable
+pub made : (i : Problem) (u : List Placed) (g : Tables) → Lawful i u → AreRooms i u g.rooms → AreHolders i u g.courses → AreStanding i u g.standing → AreCounts i u g.counts → AreTables i g × (listed i g.rooms ≡ u)
+made i u g lawful are_rooms are_courses are_standing are_counts =
+    let e : u ≡ listed i g.rooms = sym (shown i u g.rooms lawful.timetable are_rooms) in (
+      record {
+        lawful = subst (Lawful i) e lawful;
+        rooms_are = subst (λ t. AreRooms i t g.rooms) e are_rooms;
+        courses_are = subst (λ t. AreHolders i t g.courses) e are_courses;
+        standing_are = subst (λ t. AreStanding i t g.standing) e are_standing;
+        counts_are = subst (λ t. AreCounts i t g.counts) e are_counts;
+      },
+      sym e,
+    )
 
 pub have_sizes : (i : Problem) (t : List Placed) (c : Counts) → AreCounts i t c → HaveSizes i c
 have_sizes i t c h = record { lectures = h.lectures.size; days = h.days.size; used = h.used.size; rooms = h.rooms.size; parts = h.parts.size }

@@ -24,6 +24,7 @@ mod HeldLemmas
 mod AfterLemmas
 mod FewLemmas
 pub mod LawfulLemmas
+pub mod SettleLemmas
 pub mod FitLemmas
 mod MeetingLemmas
 mod ApartLemmas

@@ -1,5 +1,5 @@
 -- A sheet of tables after one lecture more, and after one less.
-use Rattle.std.proofs.Common.{◌≡◌, ℕ, ◌≤◌, true, false, List, Option, Some, None, is_some, ◌∙◌, ap, ap₂, arith}
+use Rattle.std.proofs.Common.{◌≡◌, ◌≤◌, true, false, List, Some, None, is_some, ◌∙◌, ap, ap₂, arith}
 use Rattle.ctt_text.specs.Problem.{Problem, IsProblem}
 use Rattle.ctt_text.specs.Timetable.{Fits, with, without}
 use Rattle.ctt_text.specs.declared.placed.Placed.{Placed}
@@ -7,15 +7,14 @@ use Rattle.ctt_rules.specs.Hard.{Lawful}
 use Rattle.ctt_rules.specs.Penalty.{penalty, total}
 use Rattle.ctt_rules.specs.declared.cost.Cost.{Cost}
 use Rattle.ctt_board.specs.Changes.{room_at}
-use Rattle.ctt_board.specs.Tables.{Grid}
-use Rattle.ctt_board.specs.Joining.{IsMore, joining, with_joining, without_joining}
-use Rattle.ctt_board.specs.Counts.{AreCounts, AddsLecture, HaveLecture}
+use Rattle.ctt_board.specs.Joining.{IsMore, Joins, joining, with_joining, without_joining}
+use Rattle.ctt_board.specs.Counts.{AddsLecture, HaveLecture}
 use Rattle.ctt_board.specs.Seen.{Sees, seen_joining}
-use Rattle.ctt_board.specs.Grids.{listed, IsGridSheet, Stands}
+use Rattle.ctt_board.specs.Grids.{listed, AreTables, IsGridSheet, Stands}
 use Rattle.ctt_board.proofs.ClashLemmas.{standing_after_cell}
 use Rattle.ctt_board.specs.declared.joining.Joining.{Joining}
 use Rattle.ctt_board.specs.declared.later.Later.{Later}
-use Rattle.ctt_board.specs.declared.counts.Counts.{Counts}
+use Rattle.ctt_board.specs.declared.tables.Tables.{Tables}
 use Rattle.ctt_board.proofs.CostLemmas.{penalty_small}
 use Rattle.ctt_board.proofs.MoreLemmas.{more_with, more_without}
 use Rattle.ctt_board.proofs.JoiningLemmas.{joins}
@@ -23,44 +22,42 @@ use Rattle.ctt_board.proofs.CountsLemmas.{counts_more, counts_less, have_lecture
 use Rattle.ctt_board.proofs.SeenLemmas.{joining_is}
 use Rattle.ctt_board.proofs.LawfulLemmas.{without_lawful}
 use Rattle.ctt_board.proofs.HolderLemmas.{WroteCourse, holders_with, holders_without}
-use Rattle.ctt_board.proofs.GridLemmas.{WroteRoom, made, shown, with_rooms, without_rooms, cost_with, cost_without}
+use Rattle.ctt_board.proofs.GridLemmas.{WroteRoom, made, with_rooms, without_rooms, cost_with, cost_without}
 
-pub cost_small : (i : Problem) (rooms courses : Grid (Option ℕ)) (standing : Grid (List ℕ)) (counts : Counts) (cost : Cost) → IsGridSheet i rooms courses standing counts cost → IsProblem i → total cost ≤ 7000000000000000
-cost_small i rooms courses standing counts cost h p = omega (arith, ap total h.cost_is, penalty_small i p (listed i rooms) h.lawful.timetable)
+pub cost_small : (i : Problem) (g : Tables) (cost : Cost) → IsGridSheet i g cost → IsProblem i → total cost ≤ 7000000000000000
+cost_small i g cost h p = omega (arith, ap total h.cost_is, penalty_small i p (listed i g.rooms) h.tables_are.lawful.timetable)
 
 -- a lecture that is there is counted
-pub has_lecture : (i : Problem) (rooms courses : Grid (Option ℕ)) (standing : Grid (List ℕ)) (counts : Counts) (cost : Cost) (l : Placed) → IsProblem i → IsGridSheet i rooms courses standing counts cost → Fits i l → room_at l.course l.slot (listed i rooms) ≡ Some l.room → HaveLecture i l counts
-has_lecture i rooms courses standing counts cost l p h fits there = have_lecture i l (without l.course l.slot (listed i rooms)) (listed i rooms) (more_without l.course l.slot l.room (listed i rooms) h.lawful.timetable.ascending there) fits counts p h.counts_are
+pub has_lecture : (i : Problem) (g : Tables) (l : Placed) → IsProblem i → AreTables i g → Fits i l → room_at l.course l.slot (listed i g.rooms) ≡ Some l.room → HaveLecture i l g.counts
+has_lecture i g l p h fits there = have_lecture i l (without l.course l.slot (listed i g.rooms)) (listed i g.rooms) (more_without l.course l.slot l.room (listed i g.rooms) h.lawful.timetable.ascending there) fits g.counts p h.counts_are
 
-module _ (i : Problem) (rooms rooms2 courses courses2 : Grid (Option ℕ)) (standing standing2 : Grid (List ℕ)) (counts counts2 : Counts) (cost cost2 : Cost) (l : Placed) (v : Later) (j : Joining)
-    (h : IsGridSheet i rooms courses standing counts cost) (fits : Fits i l) (rows : rooms2.rows ≡ rooms.rows) (width : rooms2.width ≡ rooms.width) (rows' : courses2.rows ≡ courses.rows) (width' : courses2.width ≡ courses.width) where
+module _ (i : Problem) (g g' : Tables) (l : Placed) (h : AreTables i g) (fits : Fits i l) (rows : g'.rooms.rows ≡ g.rooms.rows) (width : g'.rooms.width ≡ g.rooms.width) (rows' : g'.courses.rows ≡ g.courses.rows) (width' : g'.courses.width ≡ g.courses.width) where
   abbrev t : List Placed
-  t = listed i rooms
+  t = listed i g.rooms
 
-  pub added : is_some (room_at l.course l.slot t) ≡ false → Lawful i (with l t) → Sees i v t → j ≡ seen_joining i v l → cost2 ≡ with_joining cost j → AddsLecture i l counts counts2 → WroteRoom i rooms rooms2 l.course l.slot (Some l.room) → WroteCourse i courses courses2 l.slot l.room (Some l.course) → Stands standing standing2 l.course l.slot true → IsGridSheet i rooms2 courses2 standing2 counts2 cost2 × (listed i rooms2 ≡ with l t)
-  added empty lawful sees e costs adds wrote wrote' stood =
+  pub added : is_some (room_at l.course l.slot t) ≡ false → Lawful i (with l t) → AddsLecture i l g.counts g'.counts → WroteRoom i g.rooms g'.rooms l.course l.slot (Some l.room) → WroteCourse i g.courses g'.courses l.slot l.room (Some l.course) → Stands g.standing g'.standing l.course l.slot true → AreTables i g' × (listed i g'.rooms ≡ with l t)
+  added empty lawful adds wrote wrote' stood =
       let u : List Placed = with l t in
-      let more = more_with l t in
-      let are_rooms = with_rooms i t rooms rooms2 l h.rooms_are rows width wrote empty in
-      let are_counts = counts_more i l t u more fits counts counts2 adds h.counts_are in
-      let same : j ≡ joining i t l = e ∙ joining_is i v t sees l fits h.lawful.timetable.fits in
-      let is : cost2 ≡ penalty i u = costs ∙ ap₂ with_joining h.cost_is same ∙ cost_with i t u (joining i t l) (joins i l t u more fits h.lawful.timetable.fits lawful.timetable.fits) in
-      (made i u rooms2 courses2 standing2 counts2 cost2 lawful are_rooms (holders_with i l t courses courses2 h.courses_are rows' width' wrote' lawful) (standing_after_cell i t standing standing2 l.course l.slot (Some l.room) h.standing_are stood empty) are_counts is, shown i u rooms2 lawful.timetable are_rooms)
+      made i u g' lawful (with_rooms i t g.rooms g'.rooms l h.rooms_are rows width wrote empty) (holders_with i l t g.courses g'.courses h.courses_are rows' width' wrote' lawful)
+      (standing_after_cell i t g.standing g'.standing l.course l.slot (Some l.room) h.standing_are stood empty) (counts_more i l t u (more_with l t) fits g.counts g'.counts adds h.counts_are)
 
-  abbrev left : List Placed
-  left = without l.course l.slot t
+  pub removed : room_at l.course l.slot t ≡ Some l.room → AddsLecture i l g'.counts g.counts → WroteRoom i g.rooms g'.rooms l.course l.slot None → WroteCourse i g.courses g'.courses l.slot l.room None → Stands g.standing g'.standing l.course l.slot false → AreTables i g' × (listed i g'.rooms ≡ without l.course l.slot t)
+  removed there adds wrote wrote' stood =
+      let left : List Placed = without l.course l.slot t in
+      let more = more_without l.course l.slot l.room t h.lawful.timetable.ascending there in
+      made i left g' (without_lawful i t l.course l.slot h.lawful) (without_rooms i t g.rooms g'.rooms l.course l.slot l.room h.rooms_are rows width wrote there) (holders_without i l t g.courses g'.courses h.courses_are rows' width' wrote' h.lawful there)
+      (standing_after_cell i t g.standing g'.standing l.course l.slot None h.standing_are stood (ap is_some there)) (counts_less i l left t more fits g'.counts g.counts adds h.counts_are)
 
-  module _ (there : room_at l.course l.slot t ≡ Some l.room) where
-    more_left : IsMore l left t
-    more_left = more_without l.course l.slot l.room t h.lawful.timetable.ascending there
+-- the costs with a lecture more, and with one less
+module _ (i : Problem) (t u : List Placed) (l : Placed) (v : Later) (j : Joining) (more : IsMore l t u) (lawful : Lawful i t) (lawful' : Lawful i u) (fits : Fits i l) (sees : Sees i v t) (is : j ≡ seen_joining i v l) where
+  same : j ≡ joining i t l
+  same = is ∙ joining_is i v t sees l fits lawful.timetable.fits
 
-    pub counts_left : AddsLecture i l counts2 counts → AreCounts i left counts2
-    counts_left adds = counts_less i l left t more_left fits counts2 counts adds h.counts_are
+  joined : Joins i t u (joining i t l)
+  joined = joins i l t u more fits lawful.timetable.fits lawful'.timetable.fits
 
-    pub removed : Sees i v left → j ≡ seen_joining i v l → cost2 ≡ without_joining cost j → AddsLecture i l counts2 counts → WroteRoom i rooms rooms2 l.course l.slot None → WroteCourse i courses courses2 l.slot l.room None → Stands standing standing2 l.course l.slot false → IsGridSheet i rooms2 courses2 standing2 counts2 cost2 × (listed i rooms2 ≡ left)
-    removed sees e costs adds wrote wrote' stood =
-        let lawful = without_lawful i t l.course l.slot h.lawful in
-        let are_rooms = without_rooms i t rooms rooms2 l.course l.slot l.room h.rooms_are rows width wrote there in
-        let same : j ≡ joining i left l = e ∙ joining_is i v left sees l fits lawful.timetable.fits in
-        let is : cost2 ≡ penalty i left = costs ∙ ap₂ without_joining h.cost_is same ∙ cost_without i left t (joining i left l) (joins i l left t more_left fits lawful.timetable.fits h.lawful.timetable.fits) in
-        (made i left rooms2 courses2 standing2 counts2 cost2 lawful are_rooms (holders_without i l t courses courses2 h.courses_are rows' width' wrote' h.lawful there) (standing_after_cell i t standing standing2 l.course l.slot None h.standing_are stood (ap is_some there)) (counts_left adds) is, shown i left rooms2 lawful.timetable are_rooms)
+  pub costs_more : (cost cost' : Cost) → cost ≡ penalty i t → cost' ≡ with_joining cost j → cost' ≡ penalty i u
+  costs_more cost cost' e e' = e' ∙ ap₂ with_joining e same ∙ cost_with i t u (joining i t l) joined
+
+  pub costs_less : (cost cost' : Cost) → cost ≡ penalty i u → cost' ≡ without_joining cost j → cost' ≡ penalty i t
+  costs_less cost cost' e e' = e' ∙ ap₂ without_joining e same ∙ cost_without i t u (joining i t l) joined

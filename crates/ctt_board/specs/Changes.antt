@@ -68,6 +68,16 @@ pub record ChangeFits (i : Problem) (cells : List Cell) (t : List Placed) : Type
   pub cells_fit : CellsFit cells t
   pub lawful : Lawful i (apply cells t)
 
+-- the timetable after changes, in order
+abbrev pub apply_all : List (List Cell) → List Placed → List Placed
+apply_all [] t = t
+apply_all (x ∷ xs) t = apply_all xs (apply x t)
+
+-- each change fits when its turn comes
+abbrev pub ChangesFit : Problem → List (List Cell) → List Placed → Type 0
+ChangesFit i [] t = Unit {0}
+ChangesFit i (x ∷ xs) t = ChangeFits i x t × ChangesFit i xs (apply x t)
+
 -- the room at a place after these cells, where o is the room before them
 abbrev pub room_by : List Cell → ℕ → ℕ → Option ℕ → Option ℕ
 room_by [] c s o = o

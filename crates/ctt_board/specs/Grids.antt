@@ -10,7 +10,7 @@ use Rattle.ctt_board.specs.Changes.{room_at, holder_at}
 use Rattle.ctt_board.specs.Cells.{row_below, lecture_at}
 use Rattle.ctt_board.specs.Tables.{Grid, at}
 use Rattle.ctt_board.specs.Counts.{HasSize, AreCounts}
-use Rattle.ctt_board.specs.declared.counts.Counts.{Counts}
+use Rattle.ctt_board.specs.declared.tables.Tables.{Tables}
 
 -- the lectures of the courses below n, in m slots
 abbrev pub rows_below : (ℕ → ℕ → Option ℕ) → ℕ → ℕ → List Placed
@@ -47,11 +47,15 @@ pub record Stands (old new : Grid (List ℕ)) (course slot : ℕ) (here : Bool) 
   pub width : new.width ≡ old.width
   pub marks : (c s : ℕ) → s < old.width → is_marked (at new 0 s []) c ≡ cond (c == course && s == slot) here (is_marked (at old 0 s []) c)
 
--- each table is what the timetable says, and so are the costs
-pub record IsGridSheet (i : Problem) (rooms courses : Grid (Option ℕ)) (standing : Grid (List ℕ)) (counts : Counts) (cost : Cost) : Type 0 where
-  pub lawful : Lawful i (listed i rooms)
-  pub rooms_are : AreRooms i (listed i rooms) rooms
-  pub courses_are : AreHolders i (listed i rooms) courses
-  pub standing_are : AreStanding i (listed i rooms) standing
-  pub counts_are : AreCounts i (listed i rooms) counts
-  pub cost_is : cost ≡ penalty i (listed i rooms)
+-- each table is what the timetable says that the rooms show
+pub record AreTables (i : Problem) (g : Tables) : Type 0 where
+  pub lawful : Lawful i (listed i g.rooms)
+  pub rooms_are : AreRooms i (listed i g.rooms) g.rooms
+  pub courses_are : AreHolders i (listed i g.rooms) g.courses
+  pub standing_are : AreStanding i (listed i g.rooms) g.standing
+  pub counts_are : AreCounts i (listed i g.rooms) g.counts
+
+-- and so are the costs
+pub record IsGridSheet (i : Problem) (g : Tables) (cost : Cost) : Type 0 where
+  pub tables_are : AreTables i g
+  pub cost_is : cost ≡ penalty i (listed i g.rooms)

@@ -6,7 +6,7 @@ ghost use Rattle.ctt_text.specs.Problem.{course_count, slot_count};
 ghost use Rattle.ctt_text.specs.Timetable.{course_row, with, without, Fits};
 ghost use Rattle.ctt_rules.specs.Hard.{Lawful};
 ghost use Rattle.ctt_board.specs.Boards.{delta};
-ghost use Rattle.ctt_board.specs.Changes.{CellFits, CellsFit, ChangeFits, cell, is_change, room_at, apply_at, apply};
+ghost use Rattle.ctt_board.specs.Changes.{CellFits, CellsFit, ChangeFits, cell, is_change, room_at, apply_at, apply, apply_all, ChangesFit};
 ghost use Rattle.ctt_rules.specs.Penalty.{penalty, total};
 ghost use Rattle.ctt_board.specs.Seen.{Sees, HasPlaces};
 ghost use Rattle.ctt_board.specs.Ways.{Ready};
@@ -18,7 +18,6 @@ use crate::after::last_room;
 use crate::cell::Cell;
 use crate::change::Change;
 use crate::compact::Compact;
-use crate::counts::Counts;
 use crate::fitting::fits;
 use crate::joining::{joining_of, with_lecture, without_lecture};
 use crate::later::Later;
@@ -26,8 +25,8 @@ use crate::laws;
 use crate::moving::moved;
 use crate::same_rows::{same_course_row, same_slot_row};
 use crate::sheet::{Rooms, Sheet, Timetable};
-use crate::standing::{leave, stand};
 use crate::table::Table;
+use crate::tables::Tables;
 use ctt_rules::Cost;
 use ctt_text::{CourseNo, Instance, Marks, NoMemory, Placed, RoomNo, SlotNo};
 use std::alloc::{AllocError, Global};
@@ -38,13 +37,7 @@ use std::marker::Model;
 #[derive(Debug, Drop)]
 pub struct GridSheet<'i> {
     instance: &'i Instance,
-    /// By course and slot.
-    rooms: Table<Compact>,
-    /// By slot and room.
-    courses: Table<Compact>,
-    /// The courses that stand in each slot, in one row.
-    standing: Table<Marks>,
-    counts: Counts,
+    tables: Tables,
     cost: Cost,
     alloc: Global,
 }
@@ -55,9 +48,9 @@ impl<'i> Model for GridSheet<'i> {
 
     ghost Value = { Board };
 
-    ghost view = { λ s. record { problem = s.instance.now; list = listed s.instance.now s.rooms } };
+    ghost view = { λ s. record { problem = s.instance.now; list = listed s.instance.now s.tables.rooms } };
 
-    ghost invariant = { λ s. IsGridSheet s.instance.now s.rooms s.courses s.standing s.counts s.cost };
+    ghost invariant = { λ s. IsGridSheet s.instance.now s.tables s.cost };
 }
 
 impl<'i> GridSheet<'i> {
@@ -70,16 +63,9 @@ impl<'i> GridSheet<'i> {
         ensures list { self.new.list ≡ with lecture.now self.old.list }
     {
         self.instance.limits_hold();
-        let joining = joining_of(&Later::now(&self.counts), self.instance, lecture);
+        let joining = joining_of(&Later::now(&self.tables.counts), self.instance, lecture);
         self.cost = with_lecture(self.cost, &joining);
-        self.counts.add(self.instance, lecture);
-        let course = lecture.course.get() as usize;
-        let slot = lecture.slot.get() as usize;
-        self.rooms.set(course, slot, Compact::of_room(lecture.room));
-        let room = lecture.room.get() as usize;
-        self.courses
-            .set(slot, room, Compact::of_course(lecture.course));
-        stand(&mut self.standing, lecture.course, lecture.slot);
+        self.tables.add(self.instance, lecture);
     }
 
     /// Removes a lecture that is there.
@@ -90,16 +76,9 @@ impl<'i> GridSheet<'i> {
         ensures list { self.new.list ≡ without lecture.now.course lecture.now.slot self.old.list }
     {
         self.instance.limits_hold();
-        self.counts.take(self.instance, lecture);
-        let joining = joining_of(&Later::now(&self.counts), self.instance, lecture);
+        self.tables.remove(self.instance, lecture);
+        let joining = joining_of(&Later::now(&self.tables.counts), self.instance, lecture);
         self.cost = without_lecture(self.cost, &joining);
-        let none = Compact::none();
-        let course = lecture.course.get() as usize;
-        let slot = lecture.slot.get() as usize;
-        self.rooms.set(course, slot, none);
-        let room = lecture.room.get() as usize;
-        self.courses.set(slot, room, none);
-        leave(&mut self.standing, lecture.course, lecture.slot);
     }
 
     /// Makes a cell.
@@ -150,7 +129,7 @@ impl<'i> GridSheet<'i> {
         self.instance.limits_hold();
         let from = self.leaving(first)?;
         let to = coming(second, from.course)?;
-        Some(moved(self.instance, &self.counts, self, &from, &to))
+        Some(moved(self.instance, &self.tables.counts, self, &from, &to))
     }
 
     /// What these cells add to the penalty, if two lectures go elsewhere by them whose courses share
@@ -168,8 +147,14 @@ impl<'i> GridSheet<'i> {
         if from.course == other_from.course || self.instance.clash(from.course, other_from.course) {
             return None;
         }
-        let more = moved(self.instance, &self.counts, self, &from, &to);
-        let other = moved(self.instance, &self.counts, self, &other_from, &other_to);
+        let more = moved(self.instance, &self.tables.counts, self, &from, &to);
+        let other = moved(
+            self.instance,
+            &self.tables.counts,
+            self,
+            &other_from,
+            &other_to,
+        );
         Some(more + other)
     }
 
@@ -187,6 +172,17 @@ impl<'i> GridSheet<'i> {
         }
     }
 
+    /// Makes changes, each in its turn.
+    fn apply_each(&mut self, changes: &[Change])
+        requires { ChangesFit self.old.problem changes.now self.old.list }
+        ensures problem { self.new.problem ≡ self.old.problem }
+        ensures list { self.new.list ≡ apply_all changes.now self.old.list }
+    {
+        for change in changes {
+            self.apply(change);
+        }
+    }
+
     /// What a change adds to the penalty, cell by cell.
     fn stepwise(&self, change: &Change) -> i64
         requires { ChangeFits self.now.problem change.now self.now.list }
@@ -195,7 +191,7 @@ impl<'i> GridSheet<'i> {
         self.lawful();
         self.instance.limits_hold();
         let cells = change.cells();
-        let mut later = Later::now(&self.counts);
+        let mut later = Later::now(&self.tables.counts);
         let mut total = 0;
         for (number, cell) in cells.iter().enumerate() {
             total += step(self.instance, self, &mut later, &cells[..number], cell);
@@ -307,25 +303,27 @@ impl<'i> Rooms for GridSheet<'i> {
     ghost list = { λ s. s.list };
 
     fn lawful(&self) {
-        let _rooms = &self.rooms;
+        let _tables = &self.tables;
     }
 
     fn room_at(&self, course: CourseNo, slot: SlotNo) -> Option<RoomNo> {
-        let here = self.rooms.get(course.get() as usize, slot.get() as usize);
-        here.room()
+        self.tables.room_at(self.instance, course, slot)
     }
 
     fn holder(&self, slot: SlotNo, room: RoomNo) -> Option<CourseNo> {
-        let here = self.courses.get(slot.get() as usize, room.get() as usize);
+        let here = self
+            .tables
+            .courses
+            .get(slot.get() as usize, room.get() as usize);
         here.course()
     }
 
     fn standing(&self, slot: SlotNo) -> Marks {
-        self.standing.get(0, slot.get() as usize)
+        self.tables.standing.get(0, slot.get() as usize)
     }
 
     fn count(&self, course: CourseNo) -> u32 {
-        u32::from(self.counts.lectures.get(0, course.get() as usize))
+        u32::from(self.tables.counts.lectures.get(0, course.get() as usize))
     }
 }
 
@@ -390,6 +388,14 @@ impl<'i> Timetable for GridSheet<'i> {
         }
     }
 
+    fn apply_all(&mut self, changes: &[Change], cost: Option<Cost>) {
+        let Some(cost) = cost else {
+            return self.apply_each(changes);
+        };
+        self.tables.apply_all(self.instance, changes);
+        self.cost = cost;
+    }
+
     fn same_course_row(&self, other: &Self, course: CourseNo) -> bool {
         same_course_row(self.instance, self, other, course)
     }
@@ -401,12 +407,12 @@ impl<'i> Timetable for GridSheet<'i> {
     fn course_row(&self, course: CourseNo) -> Result<Vec<Placed>, NoMemory> {
         let count = self.count(course) as usize;
         let mut row = Vec::with_capacity(self.alloc, count)?;
-        append_row(&mut row, &self.rooms, self.instance, course)?;
+        append_row(&mut row, &self.tables.rooms, self.instance, course)?;
         Ok(row)
     }
 
     fn append_course_row(&self, course: CourseNo, list: &mut Vec<Placed>) -> Result<(), NoMemory> {
-        append_row(list, &self.rooms, self.instance, course)?;
+        append_row(list, &self.tables.rooms, self.instance, course)?;
         Ok(())
     }
 
@@ -415,7 +421,7 @@ impl<'i> Timetable for GridSheet<'i> {
         let standing = self.standing(slot);
         let count = standing.common_count(&standing) as usize;
         let mut row = Vec::with_capacity(self.alloc, count)?;
-        append_column(&mut row, &self.rooms, &standing, slot)?;
+        append_column(&mut row, &self.tables.rooms, &standing, slot)?;
         Ok(row)
     }
 
@@ -423,7 +429,12 @@ impl<'i> Timetable for GridSheet<'i> {
         self.instance.limits_hold();
         let mut list = Vec::new(self.alloc);
         for number in 0..self.instance.courses() {
-            append_row(&mut list, &self.rooms, self.instance, CourseNo::new(number))?;
+            append_row(
+                &mut list,
+                &self.tables.rooms,
+                self.instance,
+                CourseNo::new(number),
+            )?;
         }
         Ok(list)
     }
@@ -431,10 +442,7 @@ impl<'i> Timetable for GridSheet<'i> {
     fn copy(&self) -> Result<Self, NoMemory> {
         Ok(GridSheet {
             instance: self.instance,
-            rooms: self.rooms.copy()?,
-            courses: self.courses.copy()?,
-            standing: self.standing.copy()?,
-            counts: self.counts.copy()?,
+            tables: self.tables.copy()?,
             cost: self.cost,
             alloc: self.alloc,
         })
@@ -443,16 +451,9 @@ impl<'i> Timetable for GridSheet<'i> {
 
 impl<'i> Sheet<'i> for GridSheet<'i> {
     fn empty(alloc: Global, instance: &'i Instance) -> Result<Self, NoMemory> {
-        instance.limits_hold();
-        let courses = instance.courses() as usize;
-        let slots = instance.slots() as usize;
-        let none = Compact::none();
         Ok(GridSheet {
             instance,
-            rooms: Table::new(alloc, courses, slots, none)?,
-            courses: Table::new(alloc, slots, instance.rooms() as usize, none)?,
-            standing: Table::new(alloc, 1, slots, Marks::new())?,
-            counts: Counts::new(alloc, instance)?,
+            tables: Tables::new(alloc, instance)?,
             cost: ctt_rules::penalty(instance, &[]),
             alloc,
         })

@@ -22,6 +22,7 @@ mod same_rows;
 mod sheet;
 mod standing;
 mod table;
+mod tables;
 mod tally;
 
 pub use after::After;

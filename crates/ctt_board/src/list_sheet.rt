@@ -163,6 +163,12 @@ impl<'i> Timetable for ListSheet<'i> {
         make(&mut self.lectures, change.cells());
     }
 
+    fn apply_all(&mut self, changes: &[Change], _cost: Option<Cost>) {
+        for change in changes {
+            self.apply(change);
+        }
+    }
+
     fn same_course_row(&self, other: &Self, course: CourseNo) -> bool {
         same_course_row(self.instance, self, other, course)
     }

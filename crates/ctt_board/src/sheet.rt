@@ -1,12 +1,12 @@
 //! What a sheet is.
 
-ghost use Rattle.std.specs.Prelude.{◌≡◌, ◌<◌, ◌^◌, ◌↔◌, ◌++◌, ℕ, [], length, is_some, IfOk, OnOk, IsTrue};
+ghost use Rattle.std.specs.Prelude.{◌≡◌, ◌<◌, ◌^◌, ◌↔◌, ◌++◌, ℕ, [], length, is_some, IfOk, IfSome, OnOk, IsTrue};
 ghost use Rattle.ctt_text.specs.Problem.{course_count, slot_count, room_count};
 ghost use Rattle.ctt_text.specs.Marks.{is_marked};
 ghost use Rattle.ctt_text.specs.Timetable.{course_row, slot_row};
 ghost use Rattle.ctt_rules.specs.Hard.{Lawful};
 ghost use Rattle.ctt_rules.specs.Penalty.{penalty, total};
-ghost use Rattle.ctt_board.specs.Changes.{room_at, holder_at, apply, ChangeFits};
+ghost use Rattle.ctt_board.specs.Changes.{room_at, holder_at, apply, ChangeFits, apply_all, ChangesFit};
 ghost use Rattle.ctt_board.specs.Boards.{delta};
 ghost use Rattle.ctt_board.specs.Fitting.{fits};
 
@@ -77,6 +77,14 @@ pub trait Timetable: Rooms + Send + Sync {
         requires { ChangeFits (Self.problem self.old) change.now (Self.list self.old) }
         ensures problem { Self.problem self.new ≡ Self.problem self.old }
         ensures list { Self.list self.new ≡ apply change.now (Self.list self.old) };
+
+    /// Makes changes, each in its turn, after which the timetable costs this, where it is known: then no
+    /// costs are reckoned. It takes no memory.
+    fn apply_all(&mut self, changes: &[Change], cost: Option<Cost>)
+        requires fit { ChangesFit (Self.problem self.old) changes.now (Self.list self.old) }
+        requires cost { IfSome cost (λ x. x ≡ penalty (Self.problem self.old) (apply_all changes.now (Self.list self.old))) }
+        ensures problem { Self.problem self.new ≡ Self.problem self.old }
+        ensures list { Self.list self.new ≡ apply_all changes.now (Self.list self.old) };
 
     /// Whether another sheet of the instance has the same lectures of a course. It takes no memory.
     fn same_course_row(&self, other: &Self, course: CourseNo) -> bool

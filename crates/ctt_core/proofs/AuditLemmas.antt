@@ -2,19 +2,18 @@
 use Rattle.std.proofs.Common.{◌≡◌, ℕ, ◌+◌, ◌<◌, ◌≤◌, List, [], ◌∷◌, ◌++◌, take, drop, get_or, length, refl, add-one, Result, Ok, Err, IsTrue, ◌↔◌, false, true, zero, suc, ◌∙◌, sym, ap, ap₂, subst, arith, take_all}
 use Rattle.std.specs.Prelude.{IfOk}
 use Rattle.std.proofs.Math.Seq.{take-suc}
-use Rattle.std.specs.List.{AllByRecursion as Each}
 use Rattle.ctt_text.specs.Problem.{Problem}
 use Rattle.ctt_text.specs.declared.placed.Placed.{Placed}
 use Rattle.ctt_edits.specs.Calls.{CallFits, reply}
 use Rattle.ctt_edits.specs.Openings.{opening}
 use Rattle.ctt_edits.specs.declared.fault.EditFault.{EditFault}
 use Rattle.ctt_edits.specs.declared.reply.Reply.{Reply}
-use Rattle.ctt_draft.specs.Drafts.{calls_of, replies_in, replies, whole, after_call, AskedFits}
+use Rattle.ctt_draft.specs.Drafts.{calls_of, replies_in, replies, whole, after_call}
 use Rattle.ctt_draft.specs.DraftValues.{IsTold}
 use Rattle.ctt_draft.specs.declared.asked.Asked.{Asked}
 use Rattle.ctt_draft.proofs.CallRuns.{whole-push}
 use Rattle.ctt_draft.proofs.DraftSteps.{told_more, calls-push}
-use Rattle.ctt_core.specs.Audits.{DiffersIn, DiffersAt, Replayed, Finds, Opens, IsVerdict}
+use Rattle.ctt_core.specs.Audits.{DiffersIn, DiffersAt, Finds, IsVerdict}
 use Rattle.ctt_core.specs.Runs.{after, Legal}
 use Rattle.ctt_core.specs.declared.auditing.Verdict.{Verdict}
 use Rattle.ctt_core.specs.declared.auditing.Verdict.TheVariants.{Agrees, BadOpening, Differs}

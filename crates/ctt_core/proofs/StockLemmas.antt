@@ -1,5 +1,5 @@
 -- Sheets that are kept follow the changes that are accepted.
-use Rattle.std.proofs.Common.{◌≡◌, ◌==◌, ◌≤◌, ◌<◌, ◌+◌, ◌-◌, ℕ, zero, suc, true, false, List, [], ◌∷◌, ◌++◌, drop, take, replicate, set, get_or, length, Option, Some, None, Bool, IfSome, refl, ◌∙◌, sym, ap, ap₂, subst, arith, length-append, inl, inr}
+use Rattle.std.proofs.Common.{◌≡◌, ◌==◌, ◌≤◌, ◌<◌, ◌-◌, ℕ, zero, suc, true, false, List, [], ◌∷◌, ◌++◌, drop, take, replicate, set, get_or, length, Option, Some, None, Bool, cond, IfSome, refl, ◌∙◌, sym, ap, ap₂, subst, arith, length-append, inl, inr}
 use Rattle.std.specs.List.{AllByRecursion as Each}
 use Rattle.std.specs.Option.{option_eq}
 use Rattle.std.proofs.lemmas.Bool.{eqb-true, cases_eq}
@@ -8,8 +8,12 @@ use Rattle.ctt_text.proofs.TimetableLemmas.{Each-map}
 use Rattle.ctt_text.specs.Problem.{Problem}
 use Rattle.ctt_text.specs.declared.placed.Placed.{Placed}
 use Rattle.ctt_board.specs.declared.cell.Cell.{Cell}
-use Rattle.ctt_draft.specs.Drafts.{calls_of, changes, apply_all, ChangesFit}
+use Rattle.ctt_draft.specs.Drafts.{calls_of, changes}
+use Rattle.ctt_board.specs.Changes.{apply_all, ChangesFit}
 use Rattle.ctt_draft.specs.DraftValues.{DraftValue, present, Settles}
+use Rattle.ctt_draft.specs.Endings.{RemainsValue}
+use Rattle.ctt_rules.specs.Penalty.{penalty}
+use Rattle.ctt_rules.specs.declared.cost.Cost.{Cost}
 use Rattle.ctt_draft.proofs.CallRuns.{ChangesFit-append, apply_all-append, whole_is}
 use Rattle.ctt_core.specs.Desks.{DeskValue, draft_at, IsFresh}
 use Rattle.ctt_core.specs.Stocks.{StockValue, LeadsFrom, SpareValue, IsSpare, IsStock, changed, mark_at, IsMarked}
@@ -65,6 +69,14 @@ left_latest v w d mark made known h e is next =
     whole_is d.problem (calls_of d.asked) d.base
     ∙ ap₂ (λ xs t. apply_all xs t) (sym is) (latest v d mark h e)
     ∙ sym (ap (λ (x : StockValue). x.list) next)
+
+-- and costs what that one costs, if it is told
+pub cost_latest : (v : StockValue) (d : DraftValue) (r : RemainsValue) (mark : Option ℕ) (made : List (List Cell)) (b : Bool) (cost : Option Cost) → IsMarked v (Some d) mark → b ≡ option_eq (λ (x y : ℕ). x == y) mark (Some (length v.log)) → d.problem ≡ v.problem →
+    made ≡ changes d.problem d.base (calls_of d.asked) → r ≡ record { problem = d.problem; base = d.base; present = present d } → cost ≡ cond b (Some (penalty r.problem r.present)) None → IfSome cost (λ x. x ≡ penalty v.problem (apply_all made v.list))
+cost_latest v d r mark made false cost h latest problem is left told = subst (λ o. IfSome o (λ x. x ≡ penalty v.problem (apply_all made v.list))) (sym told) tt
+cost_latest v d r mark made true cost h latest problem is left told =
+    subst (λ o. IfSome o (λ x. x ≡ penalty v.problem (apply_all made v.list))) (sym told)
+    (ap₂ penalty (ap (λ (y : RemainsValue). y.problem) left ∙ problem) (ap (λ (y : RemainsValue). y.present) left ∙ left_latest v (changed v made true) d mark made true h (sym latest) is refl))
 
 pub base_followed : (v w : StockValue) (d : DraftValue) (n : ℕ) (made : List (List Cell)) (known : Bool) → LeadsFrom v n d.base → ChangesFit v.problem made v.list → known ≡ true → w ≡ changed v made known → LeadsFrom w n d.base
 base_followed v w d n made known h fit is next = subst (λ x. LeadsFrom x n d.base) (sym (next ∙ ap (changed v made) is)) (leads_more v made fit n d.base h)

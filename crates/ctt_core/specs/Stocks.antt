@@ -5,7 +5,7 @@ use Rattle.ctt_text.specs.Problem.{Problem}
 use Rattle.ctt_text.specs.declared.placed.Placed.{Placed}
 use Rattle.ctt_board.specs.Boards.{Board}
 use Rattle.ctt_board.specs.declared.cell.Cell.{Cell}
-use Rattle.ctt_draft.specs.Drafts.{apply_all, ChangesFit}
+use Rattle.ctt_board.specs.Changes.{apply_all, ChangesFit}
 use Rattle.ctt_draft.specs.DraftValues.{DraftValue}
 
 -- the timetable, and the changes that led to it lately

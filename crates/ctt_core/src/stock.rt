@@ -1,14 +1,17 @@
 //! The timetable of a desk, and what makes opening a draft on it cheap.
 
-ghost use Rattle.std.specs.Prelude.{ℕ, ◌≡◌, ◌==◌, [], length, Some, None, Ok, IfOk};
+ghost use Rattle.std.specs.Prelude.{ℕ, ◌≡◌, ◌==◌, [], length, Some, None, Ok, IfOk, IfSome};
 ghost use Rattle.std.specs.Option.{option_eq};
-ghost use Rattle.ctt_draft.specs.Drafts.{calls_of, changes, stale, ChangesFit};
+ghost use Rattle.ctt_draft.specs.Drafts.{calls_of, changes, stale};
+ghost use Rattle.ctt_board.specs.Changes.{apply_all, ChangesFit};
+ghost use Rattle.ctt_rules.specs.Penalty.{penalty};
 ghost use Rattle.ctt_draft.specs.DraftValues.{Settles};
 ghost use Rattle.ctt_core.specs.Stocks.{changed, LeadsFrom, IsMarked};
 
 use ctt_board::{Change, Rooms, Sheet, Timetable};
 use ctt_draft::{AskedCalls, Draft, Idle, Work};
 use ctt_edits::Row;
+use ctt_rules::Cost;
 use ctt_text::{Instance, NoMemory};
 use std::alloc::Global;
 use std::marker::Model;
@@ -105,7 +108,7 @@ impl<'i, S: Sheet<'i>> Stock<'i, S> {
             None => Draft::open(alloc, &self.sheet),
             Some(spare) => {
                 let mut idle = spare.idle;
-                idle.follow(&self.log[spare.seen..]);
+                idle.follow(&self.log[spare.seen..], self.sheet.cost());
                 Ok(Draft::reopen(alloc, idle))
             }
         }
@@ -156,13 +159,15 @@ impl<'i, S: Sheet<'i>> Stock<'i, S> {
         }
     }
 
-    /// Makes changes, and remembers them, or forgets all that were made where they are too many.
-    fn make(&mut self, mut work: Work) -> (AskedCalls, bool)
-        requires { ChangesFit self.old.problem work.changes.items self.old.list }
+    /// Makes changes, after which the timetable costs this, where it is known; and remembers them, or
+    /// forgets all that were made where they are too many.
+    fn make(&mut self, mut work: Work, cost: Option<Cost>) -> (AskedCalls, bool)
+        requires fit { ChangesFit self.old.problem work.changes.items self.old.list }
+        requires cost { IfSome cost (λ x. x ≡ penalty self.old.problem (apply_all work.changes.items self.old.list)) }
         ensures asked { result.0 ≡ work.asked }
         ensures changes { self.new ≡ changed self.old work.changes.items result.1 }
     {
-        work.settle(&mut self.sheet);
+        self.sheet.apply_all(&work.changes, cost);
         let left = self.limit.saturating_sub(self.log.len());
         if work.changes.len() <= left && self.log.append(&mut work.changes).is_ok() {
             return (work.asked, true);
@@ -183,7 +188,8 @@ impl<'i, S: Sheet<'i>> Stock<'i, S> {
     {
         let is_latest = self.is_latest(mark);
         let (work, remains) = draft.end();
-        let (asked, known) = self.make(work);
+        let cost = remains.cost_if(is_latest);
+        let (asked, known) = self.make(work, cost);
         if is_latest {
             let seen = self.mark();
             self.keep(remains.into_present(), seen);

@@ -1,20 +1,19 @@
 -- What a commit makes of the journal and its timetable.
-use Rattle.std.proofs.Common.{◌≡◌, ◌≤◌, ◌+◌, ◌-◌, true, ℕ, List, [], ◌∷◌, ◌++◌, length, Option, Some, refl, sym, ap, ◌∙◌, subst, arith, length-append}
-use Rattle.std.specs.Prelude.{IsSomeAnd}
+use Rattle.std.proofs.Common.{◌≡◌, ◌+◌, ◌-◌, true, false, ℕ, List, [], ◌∷◌, ◌++◌, length, Bool, cond, Option, None, Some, refl, sym, ap, ap₂, ◌∙◌, subst, arith, length-append}
+use Rattle.std.specs.Prelude.{IfSome, IsSomeAnd}
 use Rattle.ctt_draft.specs.declared.asked.Asked.{Asked}
 use Rattle.ctt_text.specs.Problem.{Problem}
 use Rattle.ctt_text.specs.declared.placed.Placed.{Placed}
 use Rattle.ctt_rules.specs.Hard.{Lawful}
-use Rattle.std.specs.List.{AllByRecursion as Each}
-use Rattle.ctt_board.specs.Changes.{is_change}
+use Rattle.ctt_rules.specs.Penalty.{penalty}
+use Rattle.ctt_rules.specs.declared.cost.Cost.{Cost}
+use Rattle.ctt_board.specs.Changes.{apply_all, ChangesFit}
 use Rattle.ctt_board.specs.declared.cell.Cell.{Cell}
-use Rattle.ctt_draft.specs.Drafts.{calls_of, replies_in, replies, whole, changes, apply_all, ChangesFit}
+use Rattle.ctt_draft.specs.Drafts.{calls_of, replies_in, replies, whole, changes}
 use Rattle.ctt_draft.specs.DraftValues.{DraftValue, IsTold, Settles}
 use Rattle.ctt_core.specs.Runs.{after, Legal}
 use Rattle.ctt_core.specs.declared.journal.JournalEntry.{JournalEntry}
 use Rattle.ctt_core.proofs.RunLemmas.{Legal-push, after-push}
-use Rattle.ctt_draft.specs.Replays.{replayed}
-use Rattle.ctt_draft.proofs.ReplayLemmas.{replay_is_settling, are_changes}
 use Rattle.ctt_draft.specs.Endings.{RemainsValue}
 use mathlib.Core.List.{IsPrefix}
 use Rattle.ctt_desk.proofs.PrefixLemmas.{prefix_whole}
@@ -29,21 +28,17 @@ told_now i t0 h front d asked of settles told is seen =
     let now : replies_in d.asked ≡ replies i (after i t0 h) calls = told.told ∙ sym settles.same.replies_same ∙ ap (λ x. replies x (after i t0 h) calls) of in
     ap replies_in is ∙ now ∙ ap (λ x. replies i (after i t0 x) calls) (sym seen) ∙ ap (λ x. replies i (after i t0 front) (calls_of x)) (sym is)
 
--- its changes, replayed on the timetable that is published, leave the opening after the longer history
-pub replayed_more : (i k : Problem) (t0 u : List Placed) (h f : List JournalEntry) (p : ℕ) (d : DraftValue) (made : List (List Cell)) → Standing i k t0 u h → d.problem ≡ i → Settles d (after i t0 h) → IsTold d.problem d.base d.asked → made ≡ changes d.problem d.base (calls_of d.asked) → f ≡ h ++ entry_of p d.asked ∷ [] → IsAfter i t0 k (replayed k made u) f
-replayed_more i k t0 u h f p d made s of settles told is longer =
+-- its changes, made on the timetable that is published, leave the opening after the longer history
+pub settled_more : (i k : Problem) (t0 u : List Placed) (h f : List JournalEntry) (p : ℕ) (d : DraftValue) (made : List (List Cell)) → Standing i k t0 u h → d.problem ≡ i → Settles d (after i t0 h) → IsTold d.problem d.base d.asked → made ≡ changes d.problem d.base (calls_of d.asked) → f ≡ h ++ entry_of p d.asked ∷ [] → IsAfter i t0 k (apply_all made u) f
+settled_more i k t0 u h f p d made s of settles told is longer =
     let now : List Placed = after i t0 h in
     let calls = calls_of d.asked in
     let e : JournalEntry = entry_of p d.asked in
-    let are : Each (λ (x : List Cell). is_change x ≡ true) made = subst (Each (λ (x : List Cell). is_change x ≡ true)) (sym is) (are_changes d.problem d.base calls) in
-    let fit : ChangesFit d.problem made now = subst (λ (xs : List (List Cell)). ChangesFit d.problem xs now) (sym is) settles.fit in
-    let fits : ChangesFit i made now = subst (λ x. ChangesFit x made now) of fit in
-    let again : replayed i made now ≡ apply_all made now = (replay_is_settling i made now (subst (λ x. Lawful i x) s.list s.lawful) are fits).0 in
     let leaves : apply_all made now ≡ whole i now calls = ap (λ xs. apply_all xs now) is ∙ sym settles.same.left ∙ ap (λ x. whole x now calls) of in
     record {
       same = s.same;
       legal = subst (Legal i t0) (sym longer) (Legal-push i t0 h e s.legal (told_now i t0 h h d d.asked of settles told refl refl));
-      list = ap (λ x. replayed x made u) s.same ∙ ap (replayed i made) s.list ∙ again ∙ leaves ∙ sym (after-push i t0 h e) ∙ ap (after i t0) (sym longer);
+      list = ap (apply_all made) s.list ∙ leaves ∙ sym (after-push i t0 h e) ∙ ap (after i t0) (sym longer);
     }
 
 -- what was published behind the history f is the opening after the journal
@@ -74,14 +69,23 @@ leads_update i t0 h before f p d made of settles is same longer =
       ends = leaves ∙ sym (after-push i t0 h (entry_of p d.asked)) ∙ ap (after i t0) (sym longer);
     })
 
+-- a draft that was opened on the journal's timetable leaves the next one
+pub left_on : (i : Problem) (t0 : List Placed) (j f : List JournalEntry) (p : ℕ) (d : DraftValue) → d.problem ≡ i → d.base ≡ after i t0 j → f ≡ j ++ entry_of p d.asked ∷ [] → whole d.problem d.base (calls_of d.asked) ≡ after i t0 f
+left_on i t0 j f p d of base longer =
+    ap (λ x. whole x d.base (calls_of d.asked)) of ∙ ap (λ t. whole i t (calls_of d.asked)) base ∙ sym (after-push i t0 j (entry_of p d.asked)) ∙ ap (after i t0) (sym longer)
+
+-- and what it costs, if that is told
+pub cost_on : (i : Problem) (t0 : List Placed) (j f : List JournalEntry) (p : ℕ) (d : DraftValue) (r : RemainsValue) (b : Bool) (cost : Option Cost) → r ≡ left_of d → d.problem ≡ i → (b ≡ true → d.base ≡ after i t0 j) → f ≡ j ++ entry_of p d.asked ∷ [] → cost ≡ cond b (Some (penalty r.problem r.present)) None → IfSome cost (λ x. x ≡ penalty i (after i t0 f))
+cost_on i t0 j f p d r false cost is of base longer told = subst (λ o. IfSome o (λ x. x ≡ penalty i (after i t0 f))) (sym told) tt
+cost_on i t0 j f p d r true cost is of base longer told =
+    subst (λ o. IfSome o (λ x. x ≡ penalty i (after i t0 f))) (sym told) (ap (λ (y : RemainsValue). penalty y.problem y.present) is ∙ ap₂ penalty of (left_on i t0 j f p d of (base refl) longer))
+
 -- what an accepted draft leaves that was committed right behind the history of its opening is the opening after the front
 pub left_present : (i : Problem) (t0 : List Placed) (before j f : List JournalEntry) (p : ℕ) (d : DraftValue) (r : RemainsValue) → r ≡ left_of d → d.problem ≡ i → d.base ≡ after i t0 before → IsPrefix before j → f ≡ j ++ entry_of p d.asked ∷ [] → Legal i t0 f → length f - length before ≡ 1 → IsAfter i t0 r.problem r.present f
 left_present i t0 before j f p d r is of base begins longer legal one =
-    let e : JournalEntry = entry_of p d.asked in
-    let size : length f ≡ length j + 1 = ap length longer ∙ length-append j (e ∷ []) in
+    let size : length f ≡ length j + 1 = ap length longer ∙ length-append j (entry_of p d.asked ∷ []) in
     let same : before ≡ j = prefix_whole before j begins (omega (arith, size, one)) in
-    let left : whole d.problem d.base (calls_of d.asked) ≡ after i t0 f =
-    ap (λ x. whole x d.base (calls_of d.asked)) of ∙ ap (λ t. whole i t (calls_of d.asked)) (base ∙ ap (after i t0) same) ∙ sym (after-push i t0 j e) ∙ ap (after i t0) (sym longer) in
+    let left : whole d.problem d.base (calls_of d.asked) ≡ after i t0 f = left_on i t0 j f p d of (base ∙ ap (after i t0) same) longer in
     subst (λ (x : RemainsValue). IsAfter i t0 x.problem x.present f) (sym is) (record { same = of; legal = legal; list = left })
 
 pub left_base : (i : Problem) (t0 : List Placed) (before : List JournalEntry) (d : DraftValue) (r : RemainsValue) → r ≡ left_of d → d.problem ≡ i → d.base ≡ after i t0 before → Legal i t0 before → IsAfter i t0 r.problem r.base before

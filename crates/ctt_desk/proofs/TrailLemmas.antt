@@ -1,13 +1,11 @@
 -- The changes that were accepted lately lead from one history to another.
-use Rattle.std.proofs.Common.{◌≡◌, ◌≤◌, ◌<◌, ◌-◌, ℕ, true, List, [], ◌∷◌, ◌++◌, drop, get_or, length, refl, sym, ap, ◌∙◌, subst, arith}
-use Rattle.std.specs.List.{AllByRecursion as Each}
+use Rattle.std.proofs.Common.{◌≡◌, ◌<◌, ℕ, List, [], ◌∷◌, ◌++◌, drop, get_or, length, refl, sym, subst, arith}
 use Rattle.ctt_text.proofs.TimetableLemmas.{Each-map, Each-at}
 use Rattle.ctt_text.specs.Problem.{Problem}
 use Rattle.ctt_text.specs.declared.placed.Placed.{Placed}
 use Rattle.ctt_board.specs.declared.cell.Cell.{Cell}
-use Rattle.ctt_draft.specs.Drafts.{apply_all, ChangesFit}
 use Rattle.ctt_core.specs.Runs.{after}
-use Rattle.ctt_core.specs.Stocks.{StockValue, LeadsFrom, changed}
+use Rattle.ctt_core.specs.Stocks.{LeadsFrom}
 use Rattle.ctt_core.specs.declared.journal.JournalEntry.{JournalEntry}
 use Rattle.ctt_core.proofs.StockLemmas.{leads_now, leads_more, Each-more}
 use Rattle.ctt_desk.specs.Trails.{led, LeadsOn, MarkValue, AreMarks}

@@ -1,11 +1,13 @@
 -- The rule over the published copies, and what a step of a reader or of the writer tells.
-use Rattle.std.specs.Prelude.{◌≡◌, ℕ, List, []}
+use Rattle.std.specs.Prelude.{◌≡◌, ◌==◌, ℕ, cond, List, length}
 use mathlib.Core.List.{IsPrefix}
 use mathlib.Core.Option.{some}
 use lib.ListN.{get_elem?}
 use Rattle.ctt_text.specs.Problem.{Problem}
 use Rattle.ctt_text.specs.declared.placed.Placed.{Placed}
+use Rattle.ctt_board.specs.Changes.{apply_all}
 use Rattle.ctt_core.specs.Runs.{after, Legal}
+use Rattle.ctt_desk.specs.Trails.{UpdateValue}
 use Rattle.ctt_core.specs.declared.journal.JournalEntry.{JournalEntry}
 use Rattle.ctt_desk.specs.declared.shown.Common.{Common}
 use Rattle.ctt_desk.specs.declared.shown.View.{View}
@@ -13,6 +15,10 @@ use Rattle.ctt_desk.specs.declared.shown.View.{View}
 -- what two copies have in common
 abbrev pub common : Problem → List Placed → List JournalEntry → Common
 common problem list history = record { problem = problem; list = list; history = history }
+
+-- what an update makes of a copy: it comes behind the history before it, and changes no other copy
+abbrev pub updated : Common → UpdateValue → Common
+updated s u = cond (length s.history == length u.before) (common s.problem (apply_all u.changes s.list) u.front) s
 
 -- the view of a seat that has seen this history
 abbrev pub seeing : List JournalEntry → View

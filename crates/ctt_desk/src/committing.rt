@@ -13,7 +13,23 @@ use crate::receipt::Receipt;
 use crate::refusal::Refusal;
 use crate::shared_desk::SharedDesk;
 use ctt_board::{Sheet, Timetable};
-use std::sync::{MutexGuard, Wait};
+use std::sync::{Mutex, MutexGuard, Wait};
+use std::thread::yield_now;
+
+/// How often a thread tries to have the lock before it sleeps.
+const TRIES: u32 = 100;
+
+/// What lies under the lock. It is held for some microseconds: a thread that lets others run meanwhile
+/// has it sooner than one that sleeps and has to be woken.
+fn held<'l, T, R: Wait>(rt: &R, lock: &'l Mutex<T>) -> MutexGuard<'l, T> {
+    for _ in 0..TRIES {
+        if let Some(guard) = lock.try_lock() {
+            return guard;
+        }
+        yield_now();
+    }
+    lock.lock(rt)
+}
 
 impl<'i, S: Sheet<'i>, J: Naming> Drafting<'i, S, J> {
     /// Commits the draft: it is accepted where no row that it read has changed since it was opened.
@@ -36,7 +52,7 @@ impl<'i, S: Sheet<'i>, J: Naming> Drafting<'i, S, J> {
             kept: _,
         } = planner;
         let before = front.again();
-        let mut locked = desk.locked.lock(rt);
+        let mut locked = held(rt, &desk.locked);
         let outcome = locked.commit(rt, number, committed, &mut front, draft);
         MutexGuard::unlock(locked);
         let seen = front.again();

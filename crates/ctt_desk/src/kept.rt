@@ -2,6 +2,7 @@
 
 ghost use Rattle.std.specs.Prelude.{◌≡◌, ◌-◌, IfSome, IfOk, [], length};
 ghost use Rattle.ctt_core.specs.Runs.{after};
+ghost use Rattle.ctt_rules.specs.Penalty.{penalty};
 ghost use Rattle.ctt_desk.specs.Published.{IsAfter};
 
 use crate::front::Front;
@@ -10,6 +11,7 @@ use crate::shown::Shown;
 use crate::trail::Trail;
 use ctt_board::{Sheet, Timetable};
 use ctt_draft::{Draft, Idle, Remains};
+use ctt_rules::Cost;
 use ctt_text::NoMemory;
 use std::alloc::Global;
 use std::marker::Model;
@@ -56,15 +58,17 @@ impl<S: Timetable, J: Naming> Kept<S, J> {
         }
     }
 
-    /// The sheet, when the changes up to another history are made, if they are known.
-    fn followed(self, trail: &Trail<J>, to: &Front<J>) -> Option<Idle<S>>
+    /// The sheet, when the changes up to another history are made, if they are known, after which it costs
+    /// this.
+    fn followed(self, trail: &Trail<J>, to: &Front<J>, cost: Cost) -> Option<Idle<S>>
+        requires { cost ≡ penalty J.problem (after J.problem J.opening to.now) }
         ensures problem { IfSome result (λ idle. idle.problem ≡ J.problem) }
         ensures list { IfSome result (λ idle. idle.list ≡ after J.problem J.opening to.now) }
     {
         let Kept { idle, front } = self;
         let mut idle = idle;
         let changes = trail.between(&front, to)?;
-        idle.follow(changes);
+        idle.follow(changes, cost);
         Some(idle)
     }
 }
@@ -87,13 +91,14 @@ pub(crate) fn draft_on<'i, S: Sheet<'i>, J: Naming>(
     shown: &Shown<S, J>,
     seen: &Front<J>,
 ) -> Result<Box<Draft<'i, S>>, NoMemory>
-    requires { IsAfter J.problem J.opening (S.problem shown.now.sheet) (S.list shown.now.sheet) seen.now }
+    requires { IsAfter J.problem J.opening shown.now.problem shown.now.list seen.now }
     ensures problem { IfOk result (λ draft. draft.value.problem ≡ J.problem) }
     ensures base { IfOk result (λ draft. draft.value.base ≡ after J.problem J.opening seen.now) }
     ensures asked { IfOk result (λ draft. draft.value.asked ≡ []) }
 {
     if let Some(kept) = kept {
-        if let Some(idle) = Box::into_inner(kept).followed(&shown.trail, seen) {
+        let cost = shown.sheet.cost();
+        if let Some(idle) = Box::into_inner(kept).followed(&shown.trail, seen, cost) {
             return Ok(Box::new(alloc, Draft::reopen(alloc, idle))?);
         }
     }

@@ -1,6 +1,6 @@
 //! What lies under the lock.
 
-ghost use Rattle.std.specs.Prelude.{◌≡◌, ◌++◌, ◌∷◌, [], ◌<◌, drop, length, None, Some, Ok, IfOk, IfErr};
+ghost use Rattle.std.specs.Prelude.{◌≡◌, ◌++◌, ◌∷◌, [], ◌<◌, drop, length, true, None, Some, Ok, IfOk, IfErr};
 ghost use mathlib.Core.List.{IsPrefix};
 ghost use Rattle.ctt_draft.specs.Drafts.{calls_of, changes, stale};
 ghost use Rattle.ctt_draft.specs.DraftValues.{IsTold, Settles};
@@ -66,7 +66,7 @@ where
 
     ghost view = { λ l. l.journal.items };
 
-    ghost invariant = { λ l. IsLocked J.problem J.opening l.opening.items J.planners l.counts.items l.journal.items × (l.front ≡ l.journal.items) × IsSomeAnd l.writer (λ w. IsPublished J.problem (S.problem w.desk.shown.value.sheet) J.opening (S.list w.desk.shown.value.sheet) l.journal.items w.desk.shown.value.front × (drop w.behind w.log.items ≡ [])) };
+    ghost invariant = { λ l. IsLocked J.problem J.opening l.opening.items J.planners l.counts.items l.journal.items × (l.front ≡ l.journal.items) × IsSomeAnd l.writer (λ w. IsPublished J.problem w.desk.shown.value.problem J.opening w.desk.shown.value.list l.journal.items w.desk.shown.value.history × (drop w.behind w.log.items ≡ [])) };
 }
 
 /// No draft for each of so many planners.
@@ -114,8 +114,8 @@ impl<S: Timetable, J: Naming> Locked<S, J> {
         requires opening { opening.items ≡ J.opening }
         requires counts { Counted J.planners counts.items [] }
         requires front { front ≡ [] }
-        requires published { IsAfter J.problem J.opening (S.problem writer.desk.shown.value.sheet) (S.list writer.desk.shown.value.sheet) writer.desk.shown.value.front }
-        requires history { writer.desk.shown.value.front ≡ [] }
+        requires published { IsAfter J.problem J.opening writer.desk.shown.value.problem writer.desk.shown.value.list writer.desk.shown.value.history }
+        requires history { writer.desk.shown.value.history ≡ [] }
         requires rests { drop writer.behind writer.log.items ≡ [] }
         ensures { result ≡ [] }
     {
@@ -132,7 +132,7 @@ impl<S: Timetable, J: Naming> Locked<S, J> {
 
     /// What is published.
     fn shown(&self) -> &Shown<S, J>
-        ensures { IsPublished J.problem (S.problem result.now.sheet) J.opening (S.list result.now.sheet) self.now result.now.front }
+        ensures { IsPublished J.problem result.now.problem J.opening result.now.list self.now result.now.history }
     {
         match &self.writer {
             Some(writer) => writer.published(),
@@ -198,7 +198,8 @@ impl<'i, S: Sheet<'i>, J: Naming> Locked<S, J> {
         }
         match self.stale(&draft, front) {
             Ok(None) => {
-                let remains = self.accept(rt, number, draft)?;
+                let is_latest = front.is(&self.front);
+                let remains = self.accept(rt, number, draft, is_latest)?;
                 *front = self.front.again();
                 Ok(remains)
             }
@@ -229,16 +230,19 @@ impl<'i, S: Sheet<'i>, J: Naming> Locked<S, J> {
         }
     }
 
-    /// Enters a draft into the journal, and publishes the timetable that it makes.
+    /// Enters a draft into the journal, and publishes the timetable that it makes, which is the draft's
+    /// where this was opened behind the journal.
     fn accept<R: Wait>(
         &mut self,
         rt: &R,
         number: PlannerNo,
         draft: Box<Draft<'i, S>>,
+        is_latest: bool,
     ) -> Result<Remains<S>, (Box<Draft<'i, S>>, Cause)>
         requires problem { draft.value.problem ≡ J.problem }
         requires planner { number < J.planners }
         requires settles { Settles draft.value (after J.problem J.opening self.old) }
+        requires latest { is_latest ≡ true → draft.value.base ≡ after J.problem J.opening self.old }
         ensures journal { IfOk result (λ _. self.new ≡ self.old ++ entry_of number draft.entry.value.asked ∷ []) }
         ensures remains { IfOk result (λ remains. remains ≡ left_of draft.entry.value) }
         ensures err { IfErr result (λ refused. (self.new ≡ self.old) × (refused.0.value ≡ draft.entry.value) × (refused.1 ≡ OutOfMemory)) }
@@ -259,7 +263,8 @@ impl<'i, S: Sheet<'i>, J: Naming> Locked<S, J> {
         let place = self.journal.len() as u64;
         prove!(count < place);
         self.counts[number.get() as usize] = count + 1;
-        let update = Update::new(changes, before, self.front.again());
+        let cost = remains.cost_if(is_latest);
+        let update = Update::new(changes, before, self.front.again(), cost);
         let writer = publish(rt, self.writer.take().unwrap(), update);
         writer.published().sheet.lawful();
         put_back(&mut self.writer, writer);

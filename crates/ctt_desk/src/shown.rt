@@ -2,7 +2,7 @@
 
 ghost use Rattle.std.specs.Prelude.{◌≡◌, ◌<◌, ◌^◌, [], drop, IfOk, IfErr};
 ghost use mathlib.Core.List.{IsPrefix};
-ghost use Rattle.ctt_draft.specs.Replays.{replayed};
+ghost use Rattle.ctt_board.specs.Changes.{apply_all};
 ghost use Rattle.ctt_desk.specs.Published.{IsAfter};
 
 use crate::front::Front;
@@ -10,7 +10,7 @@ use crate::naming::Naming;
 use crate::trail::Trail;
 use crate::update::Update;
 use crossbeam_utils::rule::{Outcome, Protocol};
-use ctt_board::{Timetable, laws};
+use ctt_board::Timetable;
 use ctt_core::JournalEntry;
 use ctt_text::{Instance, NoMemory, Placed};
 use left_right::Absorb;
@@ -18,16 +18,27 @@ use left_right::reader::{Reader, Reading};
 use left_right::writer::Writer;
 use std::alloc::{AllocError, Global};
 use std::collections::LinkedList;
-use std::marker::PhantomData;
+use std::marker::{Model, PhantomData};
 use std::sync::Wait;
 
 /// A published timetable, with the history that it comes from, and the changes that were accepted
-/// lately.
+/// lately. It is the opening after this history.
 #[derive(Drop)]
 pub struct Shown<S: Timetable, J: Naming> {
     pub(crate) sheet: S,
     pub(crate) front: Front<J>,
     pub(crate) trail: Trail<J>,
+}
+
+impl<S: Timetable, J: Naming> Model for Shown<S, J> {
+    ghost use Rattle.ctt_desk.specs.declared.shown.Common.{Common};
+    ghost use Rattle.ctt_desk.specs.Published.{IsAfter, common};
+
+    ghost Value = { Common };
+
+    ghost view = { λ s. common (S.problem s.sheet) (S.list s.sheet) s.front };
+
+    ghost invariant = { λ s. IsAfter J.problem J.opening (S.problem s.sheet) (S.list s.sheet) s.front };
 }
 
 /// What both copies have in common. No value of it is made.
@@ -37,14 +48,15 @@ pub struct Common {
     pub history: LinkedList<JournalEntry>,
 }
 
+// Each copy takes an update that comes behind its history, and no other.
 impl<S: Timetable, J: Naming> Absorb<Update<J>> for Shown<S, J> {
-    ghost use Rattle.ctt_draft.specs.Replays.{replayed};
+    ghost use Rattle.ctt_desk.specs.Published.{updated};
 
     type State = Common;
 
-    ghost state = { λ s. record { problem = S.problem s.sheet; list = S.list s.sheet; history = s.front } };
+    ghost state = { λ s. s };
 
-    ghost applied = { λ s u. record { problem = s.problem; list = replayed s.problem u.changes s.list; history = u.front } };
+    ghost applied = { updated };
 
     ghost never_fails = { Unit {0} };
 
@@ -53,20 +65,29 @@ impl<S: Timetable, J: Naming> Absorb<Update<J>> for Shown<S, J> {
         operation: &Update<J>,
         _other: &Shown<S, J>,
     ) -> Result<(), AllocError> {
-        // As `replay` does, which a trait's method cannot call over a sheet.
-        laws::fits_as_tested();
-        let changes = operation.changes();
-        for change in changes {
-            if !self.sheet.accepts(change) {
-                break;
-            }
-            self.sheet.lawful();
-            let _in_turn = change.cells();
-            self.sheet.apply(change);
+        if self.front.is(operation.before()) {
+            self.sheet.apply_all(operation.changes(), operation.cost());
+            self.front = operation.front().again();
+            self.trail.follow(operation);
         }
-        self.front = operation.front().again();
-        self.trail.follow(operation);
         Ok(())
+    }
+
+    // The other copy has taken the update already, and so knows what the timetable then costs.
+    fn absorb_second(
+        &mut self,
+        operation: Update<J>,
+        other: &Shown<S, J>,
+    ) -> Result<(), Update<J>> {
+        let operation = if other.front.is(operation.front()) {
+            operation.costing(other.sheet.cost())
+        } else {
+            operation
+        };
+        match self.absorb_first(&operation, other) {
+            Ok(()) => Ok(()),
+            Err(_) => Err(operation),
+        }
     }
 }
 
@@ -84,7 +105,7 @@ impl<S: Timetable, J: Naming> Protocol<Shown<S, J>, View> for Published<J> {
     ghost use Rattle.std.specs.Prelude.{[]};
     ghost use Rattle.ctt_desk.specs.Published.{Keeps, seeing};
 
-    ghost holds = { λ x views. Keeps J.problem J.opening (S.problem x.sheet) (S.list x.sheet) x.front views };
+    ghost holds = { λ x views. Keeps J.problem J.opening x.problem x.list x.history views };
 
     ghost first = { seeing [] };
 }
@@ -97,7 +118,7 @@ pub struct Sees<J: Naming> {
 impl<S: Timetable, J: Naming> Outcome<Shown<S, J>, View> for Sees<J> {
     ghost use Rattle.ctt_desk.specs.Published.{Shows};
 
-    ghost then = { λ v x y w. Shows J.problem J.opening v (S.problem y.sheet) (S.list y.sheet) y.front w };
+    ghost then = { λ v x y w. Shows J.problem J.opening v y.problem y.list y.history w };
 }
 
 /// A planner's place, when he is not reading.
@@ -115,7 +136,7 @@ pub(crate) fn enter<S: Timetable, J: Naming>(
     place: Place<S, J>,
     front: &Front<J>,
 ) -> Result<(Visit<S, J>, Front<J>), Place<S, J>>
-    ensures right { IfOk result (λ entered. IsAfter J.problem J.opening (S.problem entered.0.part.value.sheet) (S.list entered.0.part.value.sheet) entered.1) }
+    ensures right { IfOk result (λ entered. IsAfter J.problem J.opening entered.0.part.value.problem entered.0.part.value.list entered.1) }
     ensures begins { IfOk result (λ entered. IsPrefix front.now entered.1) }
 {
     let visit = match place.enter_as::<Sees<J>>() {
@@ -145,8 +166,8 @@ pub(crate) fn copies<S: Timetable, J: Naming>(
     requires places { (0 < places) × (places < 2 ^ 32) }
     requires opening { IsAfter J.problem J.opening (S.problem opening) (S.list opening) front.now }
     requires front { front.now ≡ [] }
-    ensures right { IfOk result (λ writer. IsAfter J.problem J.opening (S.problem writer.desk.shown.value.sheet) (S.list writer.desk.shown.value.sheet) writer.desk.shown.value.front) }
-    ensures front { IfOk result (λ writer. writer.desk.shown.value.front ≡ []) }
+    ensures right { IfOk result (λ writer. IsAfter J.problem J.opening writer.desk.shown.value.problem writer.desk.shown.value.list writer.desk.shown.value.history) }
+    ensures front { IfOk result (λ writer. writer.desk.shown.value.history ≡ []) }
     ensures rests { IfOk result (λ writer. drop writer.behind writer.log.items ≡ []) }
 {
     let second = Shown {
@@ -169,11 +190,12 @@ pub(crate) fn publish_if_room<S: Timetable, J: Naming, R: Wait>(
     update: Update<J>,
 ) -> (Publisher<S, J>, Result<(), Update<J>>)
     requires rests { drop writer.behind writer.log.items ≡ [] }
-    requires begins { IsPrefix writer.desk.shown.value.front update.front }
-    requires right { IsAfter J.problem J.opening (S.problem writer.desk.shown.value.sheet) (replayed (S.problem writer.desk.shown.value.sheet) update.changes (S.list writer.desk.shown.value.sheet)) update.front }
+    requires behind { update.before ≡ writer.desk.shown.value.history }
+    requires begins { IsPrefix writer.desk.shown.value.history update.front }
+    requires right { IsAfter J.problem J.opening writer.desk.shown.value.problem (apply_all update.changes writer.desk.shown.value.list) update.front }
     ensures rests { drop result.0.behind result.0.log.items ≡ [] }
-    ensures right { IfOk result.1 (λ _. IsAfter J.problem J.opening (S.problem result.0.desk.shown.value.sheet) (S.list result.0.desk.shown.value.sheet) update.front) }
-    ensures front { IfOk result.1 (λ _. result.0.desk.shown.value.front ≡ update.front) }
+    ensures right { IfOk result.1 (λ _. IsAfter J.problem J.opening result.0.desk.shown.value.problem result.0.desk.shown.value.list update.front) }
+    ensures front { IfOk result.1 (λ _. result.0.desk.shown.value.history ≡ update.front) }
     ensures err { IfErr result.1 (λ back. (back ≡ update) × (result.0.desk ≡ writer.desk)) }
 {
     match writer.append(update) {
@@ -194,11 +216,12 @@ pub(crate) fn publish<S: Timetable, J: Naming, R: Wait>(
     update: Update<J>,
 ) -> Publisher<S, J>
     requires rests { drop writer.behind writer.log.items ≡ [] }
-    requires begins { IsPrefix writer.desk.shown.value.front update.front }
-    requires right { IsAfter J.problem J.opening (S.problem writer.desk.shown.value.sheet) (replayed (S.problem writer.desk.shown.value.sheet) update.changes (S.list writer.desk.shown.value.sheet)) update.front }
+    requires behind { update.before ≡ writer.desk.shown.value.history }
+    requires begins { IsPrefix writer.desk.shown.value.history update.front }
+    requires right { IsAfter J.problem J.opening writer.desk.shown.value.problem (apply_all update.changes writer.desk.shown.value.list) update.front }
     ensures rests { drop result.behind result.log.items ≡ [] }
-    ensures right { IsAfter J.problem J.opening (S.problem result.desk.shown.value.sheet) (S.list result.desk.shown.value.sheet) update.front }
-    ensures front { result.desk.shown.value.front ≡ update.front }
+    ensures right { IsAfter J.problem J.opening result.desk.shown.value.problem result.desk.shown.value.list update.front }
+    ensures front { result.desk.shown.value.history ≡ update.front }
 {
     let mut writer = writer;
     let mut update = update;
@@ -220,10 +243,10 @@ fn publish_same<S: Timetable, J: Naming, R: Wait>(
     writer: Publisher<S, J>,
 ) -> (Publisher<S, J>, Result<(), NoMemory>)
     requires rests { drop writer.behind writer.log.items ≡ [] }
-    requires right { IsAfter J.problem J.opening (S.problem writer.desk.shown.value.sheet) (S.list writer.desk.shown.value.sheet) writer.desk.shown.value.front }
+    requires right { IsAfter J.problem J.opening writer.desk.shown.value.problem writer.desk.shown.value.list writer.desk.shown.value.history }
     ensures rests { drop result.0.behind result.0.log.items ≡ [] }
-    ensures right { IsAfter J.problem J.opening (S.problem result.0.desk.shown.value.sheet) (S.list result.0.desk.shown.value.sheet) result.0.desk.shown.value.front }
-    ensures front { result.0.desk.shown.value.front ≡ writer.desk.shown.value.front }
+    ensures right { IsAfter J.problem J.opening result.0.desk.shown.value.problem result.0.desk.shown.value.list result.0.desk.shown.value.history }
+    ensures front { result.0.desk.shown.value.history ≡ writer.desk.shown.value.history }
 {
     let update = Update::none(alloc, &writer.published().front);
     let (writer, published) = publish_if_room(rt, writer, update);
@@ -246,8 +269,8 @@ pub(crate) fn publisher<S: Timetable, J: Naming, R: Wait>(
     requires places { (0 < places) × (places < 2 ^ 32) }
     requires opening { IsAfter J.problem J.opening (S.problem opening) (S.list opening) front.now }
     requires front { front.now ≡ [] }
-    ensures right { IfOk result (λ writer. IsAfter J.problem J.opening (S.problem writer.desk.shown.value.sheet) (S.list writer.desk.shown.value.sheet) writer.desk.shown.value.front) }
-    ensures front { IfOk result (λ writer. writer.desk.shown.value.front ≡ []) }
+    ensures right { IfOk result (λ writer. IsAfter J.problem J.opening writer.desk.shown.value.problem writer.desk.shown.value.list writer.desk.shown.value.history) }
+    ensures front { IfOk result (λ writer. writer.desk.shown.value.history ≡ []) }
     ensures rests { IfOk result (λ writer. drop writer.behind writer.log.items ≡ []) }
 {
     let writer = copies(alloc, opening, front, places, room)?;

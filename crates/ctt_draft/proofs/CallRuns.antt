@@ -4,7 +4,7 @@ use Rattle.std.specs.List.{AllByRecursion as Each}
 use Rattle.ctt_text.specs.Problem.{Problem}
 use Rattle.ctt_text.specs.declared.placed.Placed.{Placed}
 use Rattle.ctt_rules.specs.Hard.{Lawful}
-use Rattle.ctt_board.specs.Changes.{apply}
+use Rattle.ctt_board.specs.Changes.{apply, apply_all, ChangesFit}
 use Rattle.ctt_board.specs.declared.cell.Cell.{Cell}
 use Rattle.ctt_edits.specs.Calls.{CallFits, reply, cells_of, cells_if}
 use Rattle.ctt_edits.specs.Edits.{EditFits, edit_fault, change}
@@ -14,7 +14,7 @@ use Rattle.ctt_edits.specs.declared.edit.Edit.{Edit}
 use Rattle.ctt_edits.specs.declared.edit.Edit.TheVariants.{Place, Move, Swap, Reroom, Drop}
 use Rattle.ctt_edits.specs.declared.fault.EditFault.{EditFault}
 use Rattle.ctt_edits.proofs.EditLemmas.{edits_keep_lawful, edits_fit}
-use Rattle.ctt_draft.specs.Drafts.{after_call, replies, whole, made, changes, apply_all, ChangesFit}
+use Rattle.ctt_draft.specs.Drafts.{after_call, replies, whole, made, changes}
 
 -- lawful is kept
 lawful_if : (i : Problem) (t : List Placed) (e : Edit) (o : Option EditFault) → edit_fault i t e ≡ o → Lawful i t → EditFits i e → Lawful i (apply (cells_if o (change t e)) t)

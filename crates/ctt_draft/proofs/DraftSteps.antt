@@ -5,7 +5,7 @@ use Rattle.std.proofs.lemmas.Bool.{cases_Bool}
 use Rattle.std.proofs.lemmas.List.{map-append, append-nil}
 use Rattle.ctt_text.specs.Problem.{Problem, course_count, slot_count}
 use Rattle.ctt_text.specs.declared.placed.Placed.{Placed}
-use Rattle.ctt_board.specs.Changes.{apply, ChangeFits}
+use Rattle.ctt_board.specs.Changes.{apply, ChangeFits, apply_all, ChangesFit}
 use Rattle.ctt_board.specs.declared.cell.Cell.{Cell}
 use Rattle.ctt_edits.specs.Calls.{CallFits, reply, cells_of, cells_if, reads_course, reads_slot, row}
 use Rattle.ctt_edits.specs.RowSets.{RowSet, is_in, AddsReads}
@@ -21,7 +21,7 @@ use Rattle.ctt_edits.specs.declared.reply.Reply.{Reply}
 use Rattle.ctt_edits.specs.declared.reply.Reply.TheVariants.{Done}
 use Rattle.ctt_edits.proofs.EditLemmas.{edits_fit}
 use Rattle.ctt_rules.specs.Hard.{Lawful}
-use Rattle.ctt_draft.specs.Drafts.{calls_of, after_call, replies, whole, made, changes, apply_all, ChangesFit, all_read_course, all_read_slot, all_reads, differs, stale}
+use Rattle.ctt_draft.specs.Drafts.{calls_of, after_call, replies, whole, made, changes, all_read_course, all_read_slot, all_reads, differs, stale}
 use Rattle.ctt_draft.specs.Endings.{RemainsValue, AreRemains}
 use Rattle.ctt_draft.specs.DraftValues.{DraftValue, present, asked_more, IsTold, IsDraft}
 use Rattle.ctt_draft.specs.Undo.{undo_of, put_back, Records, AreWithin, UndoValue, all_noted}

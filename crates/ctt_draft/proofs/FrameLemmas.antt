@@ -9,7 +9,7 @@ use Rattle.ctt_text.specs.declared.placed.Placed.{Placed}
 use Rattle.ctt_text.proofs.LectureLaws.{placed_same}
 use Rattle.ctt_text.proofs.TimetableLemmas.{Each-map}
 use Rattle.ctt_rules.specs.Hard.{Lawful}
-use Rattle.ctt_board.specs.Changes.{apply}
+use Rattle.ctt_board.specs.Changes.{apply, apply_all, ChangesFit}
 use Rattle.ctt_board.specs.declared.cell.Cell.{Cell}
 use Rattle.ctt_board.proofs.ApplyLemmas.{agree_apply}
 use Rattle.ctt_board.proofs.OrderLemmas.{in_order}
@@ -18,7 +18,7 @@ use Rattle.ctt_edits.specs.declared.call.Call.{Call}
 use Rattle.ctt_edits.specs.declared.row.Row.{Row}
 use Rattle.ctt_edits.proofs.CallLemmas.{reply_same, cells_same}
 use Rattle.ctt_edits.proofs.ReadLemmas.{AgreeOn, agree_on}
-use Rattle.ctt_draft.specs.Drafts.{after_call, replies, made, changes, apply_all, all_read_course, all_read_slot, all_reads, same_lecture, same_list, differs, ChangesFit}
+use Rattle.ctt_draft.specs.Drafts.{after_call, replies, made, changes, all_read_course, all_read_slot, all_reads, same_lecture, same_list, differs}
 use Rattle.ctt_draft.specs.Laws.{DraftFrame, SettlingFits}
 use Rattle.ctt_draft.proofs.CallRuns.{lawful_after_call, whole_is, changes_fit}
 

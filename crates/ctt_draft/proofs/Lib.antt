@@ -4,7 +4,6 @@ pub mod DraftSteps
 pub mod CheckLemmas
 pub mod FirstLemmas
 pub mod StaleLemmas
-pub mod SettleLemmas
 pub mod UndoLemmas
 pub mod CompareLemmas
 mod TouchedLemmas

@@ -1,17 +1,16 @@
 -- Changes that are made as far as they fit, and those of a draft.
-use Rattle.std.proofs.Common.{◌≡◌, ◌&&◌, ◌||◌, ◌==◌, leb, length, false, ℕ, Bool, true, cond, List, [], ◌∷◌, ◌++◌, Option, Some, None, is_some, is_none, refl, ◌∙◌, sym, ap, ap₂, subst}
+use Rattle.std.proofs.Common.{◌≡◌, ◌||◌, ◌==◌, leb, length, false, ℕ, true, List, [], ◌∷◌, Option, Some, None, is_some, is_none, refl, ◌∙◌, sym}
 use Rattle.std.specs.List.{AllByRecursion as Each}
 use Rattle.std.proofs.lemmas.Bool.{and_parts, or_parts}
 use Rattle.ctt_text.proofs.TimetableLemmas.{Each-append}
 use Rattle.ctt_text.specs.Problem.{Problem}
 use Rattle.ctt_text.specs.declared.placed.Placed.{Placed}
-use Rattle.ctt_rules.specs.Hard.{Lawful}
 use Rattle.ctt_text.specs.Timetable.{without}
 use Rattle.ctt_board.specs.Changes.{apply, apply_at, cell, is_change, in_turn, room_at}
 use Rattle.ctt_board.specs.Fitting.{fits}
 use Rattle.ctt_board.specs.declared.cell.Cell.{Cell}
 use Rattle.ctt_board.proofs.FitLemmas.{fits_as_tested}
-use Rattle.ctt_edits.specs.Calls.{CallFits, cells_of, cells_if}
+use Rattle.ctt_edits.specs.Calls.{cells_of, cells_if}
 use Rattle.ctt_edits.specs.Edits.{or_else, fault_if, try_room_of, edit_fault, change}
 use Rattle.ctt_edits.specs.declared.call.Call.{Call}
 use Rattle.ctt_edits.specs.declared.call.Call.TheVariants.{Look as Looks, Edit as Edits}
@@ -21,7 +20,7 @@ use Rattle.ctt_edits.specs.declared.fault.EditFault.{EditFault}
 use Rattle.ctt_edits.specs.declared.fault.EditFault.TheVariants.{NotPlaced, SameCourse}
 use Rattle.ctt_edits.proofs.EditLemmas.{is_there}
 use Rattle.ctt_edits.proofs.FaultLemmas.{fault_if_none, or_else_none}
-use Rattle.ctt_draft.specs.Drafts.{after_call, made, changes, whole, apply_all, ChangesFit}
+use Rattle.ctt_draft.specs.Drafts.{after_call, made, changes}
 use Rattle.ctt_draft.specs.Replays.{replayed, all_fit, ReplayIsSettling, DraftReplays}
 use Rattle.ctt_draft.proofs.CallRuns.{made_edit}
 use Rattle.ctt_draft.proofs.FrameLemmas.{draft_frame, settling_fits}

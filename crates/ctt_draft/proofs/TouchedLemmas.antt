@@ -1,15 +1,14 @@
 -- Which rows changes leave as they are.
-use Rattle.std.proofs.Common.{◌≡◌, ℕ, ◌<◌, ◌≤◌, Bool, true, false, ◌||◌, ◌==◌, List, [], ◌∷◌, refl, true≢false, ◌∙◌, sym, ap, arith}
+use Rattle.std.proofs.Common.{◌≡◌, ℕ, ◌<◌, true, false, ◌||◌, ◌==◌, List, [], ◌∷◌, refl, true≢false, ◌∙◌, sym, ap, arith}
 use Rattle.std.specs.List.{list_any}
 use Rattle.std.proofs.lemmas.Bool.{or_parts}
 use Rattle.ctt_text.specs.Marks.{is_marked}
-use Rattle.ctt_text.specs.Problem.{Problem, IsProblem, course_count, slot_count}
+use Rattle.ctt_text.specs.Problem.{Problem, IsProblem}
 use Rattle.ctt_text.specs.Timetable.{course_row, slot_row}
 use Rattle.ctt_text.specs.declared.placed.Placed.{Placed}
-use Rattle.ctt_board.specs.Changes.{apply}
+use Rattle.ctt_board.specs.Changes.{apply, apply_all}
 use Rattle.ctt_board.specs.Laws.{ChangesLeaveOthers}
 use Rattle.ctt_board.specs.declared.cell.Cell.{Cell}
-use Rattle.ctt_draft.specs.Drafts.{apply_all}
 use Rattle.ctt_draft.specs.Comparisons.{names_course, names_slot, TouchedRows, touches_course, touches_slot, LeavesRest}
 
 module _ (law : ChangesLeaveOthers) where

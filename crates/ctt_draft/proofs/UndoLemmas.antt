@@ -11,13 +11,13 @@ use Rattle.ctt_text.proofs.InstanceReading.{any_mapped}
 use Rattle.ctt_text.specs.Problem.{Problem, course_count, slot_count}
 use Rattle.ctt_text.specs.Timetable.{IsTimetable}
 use Rattle.ctt_text.specs.declared.placed.Placed.{Placed}
-use Rattle.ctt_board.specs.Changes.{room_at, room_by, apply}
+use Rattle.ctt_board.specs.Changes.{room_at, room_by, apply, apply_all, ChangesFit}
 use Rattle.ctt_board.specs.declared.cell.Cell.{Cell}
 use Rattle.ctt_board.specs.Tables.{Grid, at}
 use Rattle.ctt_board.proofs.CellLemmas.{cell_at}
 use Rattle.ctt_board.proofs.RoomLemmas.{rooms_after}
 use Rattle.ctt_board.proofs.GridLemmas.{timetable_is, rows_same}
-use Rattle.ctt_draft.specs.Drafts.{made, apply_all, ChangesFit}
+use Rattle.ctt_draft.specs.Drafts.{made}
 use Rattle.ctt_draft.specs.Laws.{UndoPutsBack}
 use Rattle.ctt_draft.specs.Undo.{is_of, is_named, first_named, found_in, recorded, all_cells, undo_of, put_back, Records, noted, all_noted, IsUndo}
 

@@ -9,7 +9,8 @@ use Rattle.ctt_edits.specs.Calls.{CallFits}
 use Rattle.ctt_edits.specs.RowSets.{RowSet, has_course, has_slot}
 use Rattle.ctt_edits.specs.declared.call.Call.{Call}
 use Rattle.ctt_edits.specs.declared.reply.Reply.{Reply}
-use Rattle.ctt_draft.specs.Drafts.{calls_of, replies_in, replies, whole, changes, all_read_course, all_read_slot, ChangesFit}
+use Rattle.ctt_draft.specs.Drafts.{calls_of, replies_in, replies, whole, changes, all_read_course, all_read_slot}
+use Rattle.ctt_board.specs.Changes.{ChangesFit}
 use Rattle.ctt_draft.specs.Laws.{SameOn}
 use Rattle.ctt_draft.specs.Undo.{undo_of, UndoValue}
 use Rattle.ctt_draft.specs.declared.asked.Asked.{Asked}

@@ -4,7 +4,7 @@ use Rattle.std.specs.Cmp.Lexicographic.{pointwise}
 use Rattle.std.specs.List.{list_any, find}
 use Rattle.ctt_text.specs.Problem.{Problem}
 use Rattle.ctt_text.specs.declared.placed.Placed.{Placed}
-use Rattle.ctt_board.specs.Changes.{apply, ChangeFits}
+use Rattle.ctt_board.specs.Changes.{apply}
 use Rattle.ctt_board.specs.declared.cell.Cell.{Cell}
 use Rattle.ctt_edits.specs.Calls.{CallFits, reply, cells_of, reads_course, reads_slot, rows_where, row}
 use Rattle.ctt_edits.specs.Fitting.{ReplyFits}
@@ -45,16 +45,6 @@ made (x ∷ xs) = (x ∷ xs) ∷ []
 abbrev pub changes : Problem → List Placed → List Call → List (List Cell)
 changes i t [] = []
 changes i t (call ∷ calls) = made (cells_of i t call) ++ changes i (after_call i t call) calls
-
--- the timetable after changes, in order
-abbrev pub apply_all : List (List Cell) → List Placed → List Placed
-apply_all [] t = t
-apply_all (x ∷ xs) t = apply_all xs (apply x t)
-
--- each change fits when its turn comes
-abbrev pub ChangesFit : Problem → List (List Cell) → List Placed → Type 0
-ChangesFit i [] t = Unit {0}
-ChangesFit i (x ∷ xs) t = ChangeFits i x t × ChangesFit i xs (apply x t)
 
 -- the courses and the slots whose rows some of the calls read, and these rows
 abbrev pub all_read_course : Problem → List Call → ℕ → Bool

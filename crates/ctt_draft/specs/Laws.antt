@@ -8,7 +8,8 @@ use Rattle.ctt_board.specs.declared.cell.Cell.{Cell}
 use Rattle.ctt_rules.specs.Hard.{Lawful}
 use Rattle.ctt_edits.specs.Calls.{CallFits}
 use Rattle.ctt_edits.specs.declared.call.Call.{Call}
-use Rattle.ctt_draft.specs.Drafts.{replies, whole, changes, apply_all, ChangesFit, stale}
+use Rattle.ctt_draft.specs.Drafts.{replies, whole, changes, stale}
+use Rattle.ctt_board.specs.Changes.{apply_all, ChangesFit}
 use Rattle.ctt_draft.specs.Undo.{undo_of, put_back}
 
 -- what a draft is on its base, it is on the timetable t: its replies, its changes, and what they leave

@@ -4,12 +4,12 @@ use Rattle.std.specs.List.{AllByRecursion as Each}
 use Rattle.ctt_text.specs.Problem.{Problem}
 use Rattle.ctt_text.specs.declared.placed.Placed.{Placed}
 use Rattle.ctt_rules.specs.Hard.{Lawful}
-use Rattle.ctt_board.specs.Changes.{apply, is_change}
+use Rattle.ctt_board.specs.Changes.{apply, is_change, apply_all, ChangesFit}
 use Rattle.ctt_board.specs.Fitting.{fits}
 use Rattle.ctt_board.specs.declared.cell.Cell.{Cell}
 use Rattle.ctt_edits.specs.Calls.{CallFits}
 use Rattle.ctt_edits.specs.declared.call.Call.{Call}
-use Rattle.ctt_draft.specs.Drafts.{whole, changes, apply_all, ChangesFit, stale}
+use Rattle.ctt_draft.specs.Drafts.{whole, changes, stale}
 
 -- the timetable after the changes before the first that does not fit
 abbrev pub replayed : Problem → List (List Cell) → List Placed → List Placed

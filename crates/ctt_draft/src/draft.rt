@@ -1,6 +1,7 @@
 //! A draft: what one planner asks of a timetable of his own.
 
-ghost use Rattle.std.specs.Prelude.{◌≡◌, ◌++◌, ◌∷◌, [], List, false, IfOk, OnOk, OnErr, None, Ok};
+ghost use Rattle.std.specs.Vec.{vec_len, vec_capacity};
+ghost use Rattle.std.specs.Prelude.{◌≡◌, ◌≤◌, ◌+◌, ◌++◌, ◌∷◌, [], List, false, IfOk, OnOk, OnErr, None, Ok};
 ghost use Rattle.ctt_text.specs.declared.placed.Placed.{Placed as Lecture};
 ghost use Rattle.ctt_edits.specs.Calls.{CallFits, reply, cells_of};
 ghost use Rattle.ctt_edits.specs.declared.call.Call.TheVariants.{Look as Looks, Edit as Edits};
@@ -14,9 +15,8 @@ ghost use Rattle.ctt_draft.specs.Drafts.{calls_of, changes, stale, whole};
 ghost use Rattle.ctt_draft.specs.Replays.{replayed};
 ghost use Rattle.ctt_draft.specs.DraftValues.{present, asked_more, IsTold, Settles};
 ghost use Rattle.ctt_text.specs.Problem.{course_count, slot_count};
-ghost use Rattle.ctt_board.specs.Changes.{ChangeFits, apply as applied};
+ghost use Rattle.ctt_board.specs.Changes.{ChangeFits, apply as applied, apply_all};
 ghost use Rattle.ctt_draft.specs.Undo.{undo_of, all_noted, AreWithin};
-ghost use Rattle.ctt_draft.specs.Drafts.{apply_all};
 ghost use Rattle.ctt_draft.specs.Comparisons.{LeavesRest};
 
 use crate::asked::{Asked, AskedCalls};
@@ -30,7 +30,7 @@ use crate::work::Work;
 use ctt_board::{Cell, Change, Rooms, Sheet, Timetable};
 use ctt_edits::{Call, Edit, Look, Reply, Row, RowsRead, check};
 use ctt_text::{Instance, NoMemory};
-use std::alloc::Global;
+use std::alloc::{AllocError, Global};
 use std::marker::Model;
 
 /// The timetable at the opening, the calls since then with their replies, and the timetable as these
@@ -105,6 +105,21 @@ fn no_rows(alloc: Global) -> Result<Box<RowsRead>, NoMemory>
     ensures { IfOk result (λ rows. (row : Row) → is_in rows.value row ≡ false) }
 {
     Ok(Box::new(alloc, RowsRead::new())?)
+}
+
+/// For how many calls a draft has room at first.
+const FIRST_ROOM: usize = 16;
+
+/// Makes room for a call more, and at first for several, as a draft mostly has.
+fn make_room(asked: &mut Vec<Asked>) -> Result<(), AllocError>
+    ensures items { asked.new.items ≡ asked.old.items }
+    ensures room { OnOk result (vec_len asked.new + 1 ≤ vec_capacity asked.new) }
+{
+    if asked.is_empty() {
+        asked.reserve(FIRST_ROOM)
+    } else {
+        asked.reserve(1)
+    }
 }
 
 impl<'i, S: Sheet<'i>> Draft<'i, S> {
@@ -189,7 +204,8 @@ impl<'i, S: Sheet<'i>> Draft<'i, S> {
         ensures ok { OnOk result (self.new ≡ asked_more self.old call told) }
         ensures err { OnErr result (self.new ≡ self.old) }
     {
-        self.asked.push(Asked { call, reply: told })?;
+        make_room(&mut self.asked)?;
+        self.asked.push(Asked { call, reply: told }).unwrap();
         add(&mut self.rows, self.instance, &call);
         Ok(())
     }
@@ -205,7 +221,7 @@ impl<'i, S: Sheet<'i>> Draft<'i, S> {
         let call = Call::Edit(edit);
         self.present.lawful();
         self.changes.reserve(1)?;
-        self.asked.reserve(1)?;
+        make_room(&mut self.asked)?;
         note_cells(&mut self.undo, &self.present, change.cells())?;
         apply(&mut self.present, &change);
         add(&mut self.rows, self.instance, &call);

@@ -2,12 +2,13 @@
 
 ghost use Rattle.std.specs.Prelude.{◌≡◌};
 ghost use Rattle.ctt_rules.specs.Hard.{Lawful};
-ghost use Rattle.ctt_draft.specs.Drafts.{apply_all, ChangesFit};
+ghost use Rattle.ctt_rules.specs.Penalty.{penalty};
+ghost use Rattle.ctt_board.specs.Changes.{apply_all, ChangesFit};
 
 use crate::undo::Undo;
-use crate::work::settle;
 use ctt_board::{Change, Rooms, Timetable};
 use ctt_edits::RowsRead;
+use ctt_rules::Cost;
 use std::marker::Model;
 
 /// The timetable of a draft that has ended, with its undo record, emptied: on them a draft can be
@@ -32,12 +33,14 @@ impl<S: Timetable> Model for Idle<S> {
 }
 
 impl<S: Timetable> Idle<S> {
-    /// Makes the changes of drafts that were accepted, each in its turn. It takes no memory.
-    pub fn follow(&mut self, changes: &[Change])
-        requires { ChangesFit self.old.problem changes.now self.old.list }
+    /// Makes the changes of drafts that were accepted, each in its turn, after which the timetable costs
+    /// this. It takes no memory.
+    pub fn follow(&mut self, changes: &[Change], cost: Cost)
+        requires fit { ChangesFit self.old.problem changes.now self.old.list }
+        requires cost { cost ≡ penalty self.old.problem (apply_all changes.now self.old.list) }
         ensures { self.new ≡ record { problem = self.old.problem; list = apply_all changes.now self.old.list } }
     {
-        settle(changes, &mut *self.sheet);
+        self.sheet.apply_all(changes, Some(cost));
     }
 
     /// Computes nothing: its contract says that the timetable is lawful.

@@ -1,12 +1,14 @@
 //! What is left of a draft beside its work.
 
-ghost use Rattle.std.specs.Prelude.{◌≡◌};
+ghost use Rattle.std.specs.Prelude.{◌≡◌, cond, Some, None};
+ghost use Rattle.ctt_rules.specs.Penalty.{penalty};
 
 use crate::idle::Idle;
 use crate::put_back::put_back;
 use crate::undo::Undo;
 use ctt_board::{Rooms, Timetable};
 use ctt_edits::RowsRead;
+use ctt_rules::Cost;
 use std::marker::Model;
 
 /// The timetable of a draft that has ended, and its undo record. They are dropped, where that keeps
@@ -31,6 +33,17 @@ impl<S: Timetable> Model for Remains<S> {
 }
 
 impl<S: Timetable> Remains<S> {
+    /// What the timetable costs as the draft's calls left it, if that is wanted.
+    pub fn cost_if(&self, is_wanted: bool) -> Option<Cost>
+        ensures { result ≡ cond is_wanted (Some (penalty self.now.problem self.now.present)) None }
+    {
+        if is_wanted {
+            Some(self.present.cost())
+        } else {
+            None
+        }
+    }
+
     /// The timetable at the draft's opening. It takes no memory.
     pub fn into_base(self) -> Idle<S>
         ensures { result ≡ record { problem = self.problem; list = self.base } }

@@ -1,7 +1,7 @@
 //! What a draft was, when it has ended.
 
 ghost use Rattle.std.specs.Prelude.{◌≡◌};
-ghost use Rattle.ctt_draft.specs.Drafts.{apply_all, ChangesFit};
+ghost use Rattle.ctt_board.specs.Changes.{apply_all, ChangesFit};
 
 use crate::asked::AskedCalls;
 use ctt_board::{Change, Timetable};
@@ -20,17 +20,6 @@ impl Work {
         ensures problem { S.problem sheet.new ≡ S.problem sheet.old }
         ensures list { S.list sheet.new ≡ apply_all self.now.changes.items (S.list sheet.old) }
     {
-        settle(&self.changes, sheet);
-    }
-}
-
-/// Makes changes, each in its turn.
-pub(crate) fn settle<S: Timetable>(changes: &[Change], sheet: &mut S)
-    requires { ChangesFit (S.problem sheet.old) changes.now (S.list sheet.old) }
-    ensures problem { S.problem sheet.new ≡ S.problem sheet.old }
-    ensures list { S.list sheet.new ≡ apply_all changes.now (S.list sheet.old) }
-{
-    for change in changes {
-        sheet.apply(change);
+        sheet.apply_all(&self.changes, None);
     }
 }

@@ -1,4 +1,4 @@
-use Rattle.std.proofs.Common.{All, IsTrue, List, take, rules, subst, refl}
+use Rattle.std.proofs.Common.{All, IsTrue, List, rules, subst, refl}
 use Rattle.std.proofs.lemmas.List.{take_all}
 use Rattle.std.proofs.lemmas.List.Elements.{All-more}
 use mathlib.Core.List.{IsPrefix}

@@ -9,5 +9,5 @@ use Rattle.ctt_board.proofs.grid_sheet.GridSheetRooms.standing.Goals as goal
 pub returns : goal.returns
 returns c = λ course.
     let slot : c.args.slot < slot_count c.self.inside.instance.now = subst (λ (b : Board). c.args.slot < slot_count b.problem) (sym c.self.view_is) c.requires in
-    let seen : c.get-2.result ≡ at c.self.inside.standing 0 c.args.slot [] = search rules in
-    ap (λ words. is_marked words course) seen ∙ c.self.invariant.standing_are.courses c.args.slot course slot ∙ ap (λ (b : Board). is_some (room_at course c.args.slot b.list)) c.self.view_is
+    let seen : c.get-2.result ≡ at c.self.inside.tables.standing 0 c.args.slot [] = search rules in
+    ap (λ words. is_marked words course) seen ∙ c.self.invariant.tables_are.standing_are.courses c.args.slot course slot ∙ ap (λ (b : Board). is_some (room_at course c.args.slot b.list)) c.self.view_is

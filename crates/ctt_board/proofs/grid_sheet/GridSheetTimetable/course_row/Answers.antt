@@ -9,6 +9,6 @@ use Rattle.ctt_board.proofs.grid_sheet.GridSheetTimetable.course_row.Goals as go
 pub returns : goal.returns
 returns c =
     let i = c.self.inside.instance.now in
-    let row = row_below (λ s. at c.self.inside.rooms c.args.course s None) c.args.course (slot_count i) in
+    let row = row_below (λ s. at c.self.inside.tables.rooms c.args.course s None) c.args.course (slot_count i) in
     let course : c.args.course < course_count i = subst (λ b. c.args.course < course_count b.problem) (sym c.self.view_is) c.requires in
-    rw (← c.self.view_is) (c.in_ok-append_row.ensures ∙ ap (λ xs. xs ++ row) c.in_ok-row.ensures.items ∙ row_shown i (listed i c.self.inside.rooms) c.self.inside.rooms c.args.course c.self.invariant.lawful.timetable c.self.invariant.rooms_are course)
+    rw (← c.self.view_is) (c.in_ok-append_row.ensures ∙ ap (λ xs. xs ++ row) c.in_ok-row.ensures.items ∙ row_shown i (listed i c.self.inside.tables.rooms) c.self.inside.tables.rooms c.args.course c.self.invariant.tables_are.lawful.timetable c.self.invariant.tables_are.rooms_are course)

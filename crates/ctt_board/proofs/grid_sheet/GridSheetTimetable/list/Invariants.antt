@@ -5,4 +5,4 @@ use Rattle.ctt_board.specs.Grids.{rows_below}
 use Rattle.ctt_board.proofs.grid_sheet.GridSheetTimetable.list.Given as goal
 
 abbrev pub invariant-loop-number : goal.invariant-loop-number
-invariant-loop-number l = l.list.items ≡ rows_below (λ c s. at l.self-inside.rooms c s None) (slot_count l.self-inside.instance.now) l.number
+invariant-loop-number l = l.list.items ≡ rows_below (λ c s. at l.self-inside.tables.rooms c s None) (slot_count l.self-inside.instance.now) l.number

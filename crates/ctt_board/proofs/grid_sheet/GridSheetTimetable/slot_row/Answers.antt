@@ -13,19 +13,19 @@ pub append_column-requires-clause-standing : goal.append_column-requires-clause-
 append_column-requires-clause-standing c =
     let i = c.self.inside.instance.now in
     let slot : c.args.slot < slot_count i = subst (λ b. c.args.slot < slot_count b.problem) (sym c.self.view_is) c.requires in
-    let stands : (n : ℕ) → is_marked c.standing-standing.result n ≡ is_some (room_at n c.args.slot (listed i c.self.inside.rooms)) = λ n. c.standing-standing.ensures n ∙ ap (λ (b : Board). is_some (room_at n c.args.slot b.list)) (sym c.self.view_is) in
-    column_stands i (listed i c.self.inside.rooms) c.args.slot c.self.invariant.lawful c.self.inside.rooms c.self.invariant.rooms_are slot (λ n. is_marked c.standing-standing.result n) stands
+    let stands : (n : ℕ) → is_marked c.standing-standing.result n ≡ is_some (room_at n c.args.slot (listed i c.self.inside.tables.rooms)) = λ n. c.standing-standing.ensures n ∙ ap (λ (b : Board). is_some (room_at n c.args.slot b.list)) (sym c.self.view_is) in
+    column_stands i (listed i c.self.inside.tables.rooms) c.args.slot c.self.invariant.tables_are.lawful c.self.inside.tables.rooms c.self.invariant.tables_are.rooms_are slot (λ n. is_marked c.standing-standing.result n) stands
 
 pub append_column-requires-clause-within : goal.append_column-requires-clause-within
 append_column-requires-clause-within c =
     let i = c.self.inside.instance.now in
     let slot : c.args.slot < slot_count i = subst (λ b. c.args.slot < slot_count b.problem) (sym c.self.view_is) c.requires in
-    let stands : (n : ℕ) → is_marked c.standing-standing.result n ≡ is_some (room_at n c.args.slot (listed i c.self.inside.rooms)) = λ n. c.standing-standing.ensures n ∙ ap (λ (b : Board). is_some (room_at n c.args.slot b.list)) (sym c.self.view_is) in
-    column_within i (listed i c.self.inside.rooms) c.args.slot c.self.invariant.lawful c.self.inside.rooms c.self.invariant.rooms_are slot (λ n. is_marked c.standing-standing.result n) stands
+    let stands : (n : ℕ) → is_marked c.standing-standing.result n ≡ is_some (room_at n c.args.slot (listed i c.self.inside.tables.rooms)) = λ n. c.standing-standing.ensures n ∙ ap (λ (b : Board). is_some (room_at n c.args.slot b.list)) (sym c.self.view_is) in
+    column_within i (listed i c.self.inside.tables.rooms) c.args.slot c.self.invariant.tables_are.lawful c.self.inside.tables.rooms c.self.invariant.tables_are.rooms_are slot (λ n. is_marked c.standing-standing.result n) stands
 
 pub returns : goal.returns
 returns c =
     let i = c.self.inside.instance.now in
-    let column = λ (n : ℕ). column_below (λ k. at c.self.inside.rooms k c.args.slot None) c.args.slot n in
+    let column = λ (n : ℕ). column_below (λ k. at c.self.inside.tables.rooms k c.args.slot None) c.args.slot n in
     let slot : c.args.slot < slot_count i = subst (λ b. c.args.slot < slot_count b.problem) (sym c.self.view_is) c.requires in
-    rw (← c.self.view_is) (c.in_ok-append_column.ensures ∙ ap (λ xs. xs ++ column c.self.inside.rooms.rows) c.in_ok-row.ensures.items ∙ ap column c.self.invariant.rooms_are.size.0 ∙ column_shown i (listed i c.self.inside.rooms) c.args.slot c.self.invariant.lawful.timetable c.self.inside.rooms c.self.invariant.rooms_are slot)
+    rw (← c.self.view_is) (c.in_ok-append_column.ensures ∙ ap (λ xs. xs ++ column c.self.inside.tables.rooms.rows) c.in_ok-row.ensures.items ∙ ap column c.self.invariant.tables_are.rooms_are.size.0 ∙ column_shown i (listed i c.self.inside.tables.rooms) c.args.slot c.self.invariant.tables_are.lawful.timetable c.self.inside.tables.rooms c.self.invariant.tables_are.rooms_are slot)

@@ -1,6 +1,6 @@
 use Rattle.std.proofs.Common.{rules, ◌≡◌, ◌<◌, ◌∙◌, Some, ℕ, set, sym, ap, subst, length, length-set, arith}
-use Rattle.ctt_draft.specs.Drafts.{calls_of, changes, ChangesFit}
-use Rattle.ctt_draft.specs.DraftValues.{DraftValue}
+use Rattle.ctt_draft.specs.Drafts.{calls_of, changes}
+use Rattle.ctt_board.specs.Changes.{ChangesFit}
 use Rattle.ctt_core.specs.Stocks.{StockValue, IsMarked, mark_at}
 use Rattle.ctt_core.specs.Desks.{DeskValue, draft_at}
 use Rattle.ctt_core.proofs.StepLemmas.{draft_fits, draft_read}

@@ -1,4 +1,4 @@
-use Rattle.std.proofs.Common.{rules, ◌≡◌, ◌<◌, ◌∙◌, Some, sym, ap, length, arith}
+use Rattle.std.proofs.Common.{rules, ◌≡◌, ◌∙◌, Some, sym, ap, length, arith}
 use Rattle.ctt_core.specs.Stocks.{IsMarked}
 use Rattle.ctt_core.specs.Desks.{DeskValue}
 use Rattle.ctt_core.proofs.StepLemmas.{draft_fits}

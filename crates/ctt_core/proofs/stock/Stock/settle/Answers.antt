@@ -1,14 +1,18 @@
-use Rattle.std.proofs.Common.{rules, ◌≡◌, ◌∙◌, Some, sym, ap, subst}
+use Rattle.std.proofs.Common.{rules, ◌≡◌, ◌∙◌, IfSome, Some, sym, ap, subst}
 use Rattle.ctt_board.specs.Boards.{Board}
-use Rattle.ctt_draft.specs.Drafts.{ChangesFit}
+use Rattle.ctt_board.specs.Changes.{apply_all, ChangesFit}
+use Rattle.ctt_rules.specs.Penalty.{penalty}
 use Rattle.ctt_draft.specs.Endings.{RemainsValue}
 use Rattle.ctt_core.specs.Stocks.{StockValue, LeadsFrom, IsMarked}
-use Rattle.ctt_core.proofs.StockLemmas.{leads_now, left_latest, base_followed}
+use Rattle.ctt_core.proofs.StockLemmas.{leads_now, left_latest, cost_latest, base_followed}
 use Rattle.ctt_core.proofs.stock.Stock.settle.Goals as goal
 
 pub make-asked-requires : goal.make-asked-requires
 make-asked-requires g c κs =
     let fit : ChangesFit c.args.self.now.problem c.end-work.result.0.changes.items c.args.self.now.list = subst (λ xs. ChangesFit c.args.self.now.problem xs c.args.self.now.list) (sym c.end-work.ensures.changes) c.requires.fit in
+    let cost : IfSome c.cost_if-cost.result (λ x. x ≡ penalty c.args.self.now.problem (apply_all c.end-work.result.0.changes.items c.args.self.now.list)) =
+    cost_latest c.args.self.now c.args.draft c.end-work.result.1 c.args.mark c.end-work.result.0.changes.items c.is_latest-is_latest.result c.cost_if-cost.result c.requires.marked c.is_latest-is_latest.ensures c.requires.same c.end-work.ensures.changes c.end-work.ensures.remains c.cost_if-cost.ensures
+    in
     search rules
 
 pub keep-requires : goal.keep-requires

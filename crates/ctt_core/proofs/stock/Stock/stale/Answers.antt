@@ -1,6 +1,6 @@
 use Rattle.std.proofs.Common.{rules, ◌≡◌, ◌-◌, ◌∙◌, Some, take, drop, length, sym, ap, subst}
 use Rattle.std.proofs.lemmas.List.{take_rest}
-use Rattle.ctt_draft.specs.Drafts.{apply_all}
+use Rattle.ctt_board.specs.Changes.{apply_all}
 use Rattle.ctt_core.specs.Stocks.{StockValue, LeadsFrom, IsMarked}
 use Rattle.ctt_core.proofs.stock.Stock.stale.Goals as goal
 

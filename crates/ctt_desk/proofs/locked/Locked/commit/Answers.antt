@@ -1,4 +1,4 @@
-use Rattle.std.proofs.Common.{rules, ◌≡◌, Ok, ◌∙◌, sym, ap, subst}
+use Rattle.std.proofs.Common.{rules, ◌≡◌, Ok, ◌∙◌, ap, subst}
 use Rattle.ctt_draft.specs.DraftValues.{DraftValue, Settles}
 use Rattle.ctt_core.specs.Runs.{after}
 use Rattle.ctt_desk.proofs.locked.Locked.commit.Goals as goal

@@ -1,15 +1,16 @@
-use Rattle.std.proofs.Common.{ap, subst, ◌≡◌, ◌<◌, ◌+◌, ◌*◌, ℕ, length, ◌∙◌, [], refl, arith}
+use Rattle.std.proofs.Common.{ap, subst, ◌≡◌, ◌<◌, ◌+◌, ◌*◌, ℕ, length, ◌∙◌, [], arith}
 use Rattle.std.proofs.lemmas.List.{get_or_default}
 use Rattle.ctt_text.specs.Problem.{course_count, slot_count}
 use Rattle.ctt_board.specs.Tables.{at}
-use Rattle.ctt_board.specs.Grids.{AreRooms, AreHolders, AreStanding}
+use Rattle.ctt_board.specs.Grids.{listed, AreRooms, AreHolders, AreStanding, AreTables}
 use Rattle.ctt_text.specs.Marks.{is_marked}
 use Rattle.ctt_board.proofs.ClashLemmas.{none_stand}
 use Rattle.ctt_board.proofs.HolderLemmas.{no_holders}
-use Rattle.ctt_board.proofs.GridLemmas.{made, shown, none_lawful, no_rooms}
-use Rattle.ctt_board.proofs.grid_sheet.GridSheetSheet.empty.Goals as goal
+use Rattle.ctt_board.proofs.GridLemmas.{made, none_lawful, no_rooms}
+use Rattle.ctt_board.proofs.tables.Tables.new.Goals.{In_ok-new-4}
+use Rattle.ctt_board.proofs.tables.Tables.new.Goals as goal
 
-module _ (c : goal.After-penalty) where
+module _ (c : In_ok-new-4) where
   rooms_none : AreRooms c.args.instance.now [] c.in_ok-new.field-0
   rooms_none =
       let i = c.args.instance.now in
@@ -33,8 +34,11 @@ module _ (c : goal.After-penalty) where
       none_stand c.args.instance.now c.in_ok-new-3.field-0 (g.rows.0, g.rows.1 ∙ slots)
       (λ s k ls. ap (λ words. is_marked words k) (get_or_default c.in_ok-new-3.field-0.cells (0 * c.in_ok-new-3.field-0.width + s) [] c.new-3.result (there s ls) ∙ g.cells 0 s (omega arith) (omega (arith, ls, slots))) ∙ c.new-3.ensures k)
 
-pub invariant_of-result : goal.invariant_of-result
-invariant_of-result c = made c.args.instance.now [] c.in_ok-new.field-0 c.in_ok-new-2.field-0 c.in_ok-new-3.field-0 c.in_ok-new-4.field-0 c.penalty.result (none_lawful c.args.instance.now) (rooms_none c) (courses_none c) (stand_none c) c.in_ok-new-4.ensures c.penalty.ensures.value
+  whole : AreTables c.args.instance.now (record { rooms = c.in_ok-new.field-0; courses = c.in_ok-new-2.field-0; standing = c.in_ok-new-3.field-0; counts = c.in_ok-new-4.field-0 }) × (listed c.args.instance.now c.in_ok-new.field-0 ≡ [])
+  whole = made c.args.instance.now [] _ (none_lawful c.args.instance.now) rooms_none courses_none stand_none c.in_ok-new-4.ensures
 
-pub returns : goal.returns
-returns c = (refl, shown c.args.instance.now [] c.in_ok-new.field-0 (none_lawful c.args.instance.now).timetable (rooms_none c))
+pub returns-clause-tables : goal.returns-clause-tables
+returns-clause-tables c = (whole c).0
+
+pub returns-clause-list : goal.returns-clause-list
+returns-clause-list c = (whole c).1

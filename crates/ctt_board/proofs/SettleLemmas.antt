@@ -3,7 +3,7 @@ use Rattle.std.proofs.Common.{◌≡◌, List}
 use Rattle.ctt_text.specs.Problem.{Problem}
 use Rattle.ctt_text.specs.declared.placed.Placed.{Placed}
 use Rattle.ctt_board.specs.declared.cell.Cell.{Cell}
-use Rattle.ctt_draft.specs.Drafts.{ChangesFit, apply_all}
+use Rattle.ctt_board.specs.Changes.{ChangesFit, apply_all}
 
 -- of these changes on the timetable t the rest is still to be made, on the timetable u
 pub record Settling (i j : Problem) (t u : List Placed) (all rest : List (List Cell)) : Type 0 where

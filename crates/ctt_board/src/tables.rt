@@ -1,0 +1,162 @@
+//! The tables of a sheet.
+
+ghost use Rattle.std.specs.Prelude.{◌≡◌, ◌<◌, [], false, Some, is_some, IfOk};
+ghost use Rattle.ctt_text.specs.Problem.{course_count, slot_count};
+ghost use Rattle.ctt_text.specs.Timetable.{with, without, Fits};
+ghost use Rattle.ctt_rules.specs.Hard.{Lawful};
+ghost use Rattle.ctt_board.specs.Changes.{CellFits, ChangeFits, ChangesFit, room_at, apply_at, apply, apply_all};
+ghost use Rattle.ctt_board.specs.Grids.{listed, AreTables};
+
+use crate::cell::Cell;
+use crate::change::Change;
+use crate::compact::Compact;
+use crate::counts::Counts;
+use crate::standing::{leave, stand};
+use crate::table::Table;
+use ctt_text::{CourseNo, Instance, Marks, Placed, RoomNo, SlotNo};
+use std::alloc::{AllocError, Global};
+
+/// The lectures of a timetable in a table by course and slot, beside which lie others that say the same
+/// the other way round, and the counts of which its costs are made.
+#[derive(Debug, Drop)]
+pub(crate) struct Tables {
+    /// The rooms by course and slot.
+    pub(crate) rooms: Table<Compact>,
+    /// The courses by slot and room.
+    pub(crate) courses: Table<Compact>,
+    /// The courses that stand in each slot, in one row.
+    pub(crate) standing: Table<Marks>,
+    pub(crate) counts: Counts,
+}
+
+impl Tables {
+    /// The tables of the empty timetable.
+    pub(crate) fn new(alloc: Global, instance: &Instance) -> Result<Self, AllocError>
+        ensures tables { IfOk result (AreTables instance.now) }
+        ensures list { IfOk result (λ tables. listed instance.now tables.rooms ≡ []) }
+    {
+        instance.limits_hold();
+        let courses = instance.courses() as usize;
+        let slots = instance.slots() as usize;
+        let none = Compact::none();
+        Ok(Tables {
+            rooms: Table::new(alloc, courses, slots, none)?,
+            courses: Table::new(alloc, slots, instance.rooms() as usize, none)?,
+            standing: Table::new(alloc, 1, slots, Marks::new())?,
+            counts: Counts::new(alloc, instance)?,
+        })
+    }
+
+    /// The same tables.
+    pub(crate) fn copy(&self) -> Result<Self, AllocError>
+        ensures { IfOk result (λ tables. tables ≡ self.now) }
+    {
+        Ok(Tables {
+            rooms: self.rooms.copy()?,
+            courses: self.courses.copy()?,
+            standing: self.standing.copy()?,
+            counts: self.counts.copy()?,
+        })
+    }
+
+    /// The room of the lecture of a course in a slot, if there is one.
+    pub(crate) fn room_at(
+        &self,
+        instance: &Instance,
+        course: CourseNo,
+        slot: SlotNo,
+    ) -> Option<RoomNo>
+        requires tables { AreTables instance.now self.now }
+        requires course { course < course_count instance.now }
+        requires slot { slot < slot_count instance.now }
+        ensures { result ≡ room_at course slot (listed instance.now self.now.rooms) }
+    {
+        let here = self.rooms.get(course.get() as usize, slot.get() as usize);
+        here.room()
+    }
+
+    /// Adds a lecture.
+    pub(crate) fn add(&mut self, instance: &Instance, lecture: &Placed)
+        requires tables { AreTables instance.now self.old }
+        requires fits { Fits instance.now lecture.now }
+        requires empty { is_some (room_at lecture.now.course lecture.now.slot (listed instance.now self.old.rooms)) ≡ false }
+        requires lawful { Lawful instance.now (with lecture.now (listed instance.now self.old.rooms)) }
+        ensures tables { AreTables instance.now self.new }
+        ensures list { listed instance.now self.new.rooms ≡ with lecture.now (listed instance.now self.old.rooms) }
+    {
+        instance.limits_hold();
+        self.counts.add(instance, lecture);
+        let course = lecture.course.get() as usize;
+        let slot = lecture.slot.get() as usize;
+        self.rooms.set(course, slot, Compact::of_room(lecture.room));
+        let room = lecture.room.get() as usize;
+        self.courses
+            .set(slot, room, Compact::of_course(lecture.course));
+        stand(&mut self.standing, lecture.course, lecture.slot);
+    }
+
+    /// Removes a lecture that is there.
+    pub(crate) fn remove(&mut self, instance: &Instance, lecture: &Placed)
+        requires tables { AreTables instance.now self.old }
+        requires fits { Fits instance.now lecture.now }
+        requires there { room_at lecture.now.course lecture.now.slot (listed instance.now self.old.rooms) ≡ Some lecture.now.room }
+        ensures tables { AreTables instance.now self.new }
+        ensures list { listed instance.now self.new.rooms ≡ without lecture.now.course lecture.now.slot (listed instance.now self.old.rooms) }
+    {
+        instance.limits_hold();
+        self.counts.take(instance, lecture);
+        let none = Compact::none();
+        let course = lecture.course.get() as usize;
+        let slot = lecture.slot.get() as usize;
+        self.rooms.set(course, slot, none);
+        let room = lecture.room.get() as usize;
+        self.courses.set(slot, room, none);
+        leave(&mut self.standing, lecture.course, lecture.slot);
+    }
+
+    /// Makes a cell.
+    fn make(&mut self, instance: &Instance, cell: &Cell)
+        requires tables { AreTables instance.now self.old }
+        requires fits { CellFits (listed instance.now self.old.rooms) cell.now.course cell.now.slot cell.now.room }
+        requires lawful { Lawful instance.now (apply_at cell.now.course cell.now.slot cell.now.room (listed instance.now self.old.rooms)) }
+        requires course { cell.now.course < course_count instance.now }
+        requires slot { cell.now.slot < slot_count instance.now }
+        ensures tables { AreTables instance.now self.new }
+        ensures list { listed instance.now self.new.rooms ≡ apply_at cell.now.course cell.now.slot cell.now.room (listed instance.now self.old.rooms) }
+    {
+        let course = cell.course;
+        let slot = cell.slot;
+        match cell.room {
+            None => {
+                let room = self.room_at(instance, course, slot).unwrap();
+                self.remove(instance, &Placed { course, slot, room });
+            }
+            Some(room) => self.add(instance, &Placed { course, slot, room }),
+        }
+    }
+
+    /// Makes a change.
+    fn apply(&mut self, instance: &Instance, change: &Change)
+        requires tables { AreTables instance.now self.old }
+        requires fits { ChangeFits instance.now change.now (listed instance.now self.old.rooms) }
+        ensures tables { AreTables instance.now self.new }
+        ensures list { listed instance.now self.new.rooms ≡ apply change.now (listed instance.now self.old.rooms) }
+    {
+        let cells = change.cells();
+        for cell in cells {
+            self.make(instance, cell);
+        }
+    }
+
+    /// Makes changes, each in its turn.
+    pub(crate) fn apply_all(&mut self, instance: &Instance, changes: &[Change])
+        requires tables { AreTables instance.now self.old }
+        requires fit { ChangesFit instance.now changes.now (listed instance.now self.old.rooms) }
+        ensures tables { AreTables instance.now self.new }
+        ensures list { listed instance.now self.new.rooms ≡ apply_all changes.now (listed instance.now self.old.rooms) }
+    {
+        for change in changes {
+            self.apply(instance, change);
+        }
+    }
+}
