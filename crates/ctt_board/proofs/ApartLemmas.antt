@@ -1,7 +1,6 @@
--- What two lectures add that go elsewhere, where their courses share no curriculum: what each of them adds by itself.
-use Rattle.std.proofs.Common.{◌≡◌, ℕ, ◌<◌, Bool, true, false, cond, ◌&&◌, ◌==◌, List, [], ◌∷◌, length, Some, None, is_some, ℤ, pos, ◌-ℤ◌, ◌+ℤ◌, refl, ◌∙◌, sym, ap, arith}
+-- By how much the costs change where lectures go elsewhere: two whose courses share no curriculum, each by itself.
+use Rattle.std.proofs.Common.{◌≡◌, ℕ, ◌<◌, Bool, true, false, cond, ◌&&◌, ◌==◌, List, [], ◌∷◌, length, Some, None, is_some, refl, ◌∙◌, sym, ap, subst, arith}
 use Rattle.std.specs.List.{count_by}
-use Rattle.std.proofs.lemmas.Int.{ints}
 use Rattle.std.proofs.lemmas.List.Sums.{length-filter}
 use Rattle.ctt_text.specs.Belonging.{curricula_of}
 use Rattle.ctt_text.specs.Lists.{has}
@@ -9,13 +8,14 @@ use Rattle.ctt_text.specs.Problem.{Problem, curriculum_count, members, clash, da
 use Rattle.ctt_text.specs.Timetable.{Fits, course_row, with, without}
 use Rattle.ctt_text.specs.declared.placed.Placed.{Placed}
 use Rattle.ctt_rules.specs.Hard.{Lawful}
-use Rattle.ctt_rules.specs.Penalty.{penalty, total, days_of}
+use Rattle.ctt_rules.specs.Penalty.{penalty, days_of}
 use Rattle.ctt_board.specs.Changes.{room_at, cell, ChangeFits}
-use Rattle.ctt_board.specs.Joining.{IsMore, AreApart, IsFree, on_day, in_room, in_slot, by_slot, stands_alone, alone_beside, joining, gain_of}
+use Rattle.ctt_board.specs.Joining.{IsMore, AreApart, IsFree, Joins, on_day, in_room, in_slot, by_slot, stands_alone, alone_beside, joining}
+use Rattle.ctt_board.specs.Shifts.{Shifts, both_shifts, shift_of}
 use Rattle.ctt_board.specs.declared.cell.Cell.{Cell}
+use Rattle.ctt_board.specs.declared.joining.Joining.{Joining}
 use Rattle.ctt_board.proofs.BetweenLemmas.{there_fits, comes_fits, on_the_way}
 use Rattle.ctt_board.proofs.CountedLemmas.{counted_more}
-use Rattle.ctt_board.proofs.GainLemmas.{gain_is}
 use Rattle.ctt_board.proofs.JoiningLemmas.{joins, same_used}
 use Rattle.ctt_rules.proofs.ConflictLemmas.{clash_comm}
 use Rattle.ctt_board.proofs.LawfulLemmas.{without_lawful, eqb_comm}
@@ -60,10 +60,6 @@ module _ (i : Problem) (l m : Placed) (t u : List Placed) (more : IsMore l t u) 
 none_yet : (i : Problem) (x : Placed) (a : List Placed) → Lawful i (with x a) → IsFree i a x
 none_yet i x a after q known y = omega (arith, one_there i (with x a) q x.slot after known, counted_more x a (with x a) (more_with x a) (in_slot (members i q) x.slot), ap (λ b. cond {A = ℕ} b 1 0) (mine i x q y))
 
--- a step down and a step up
-down_and_up : (a x : ℤ) (p0 p1 p2 : ℕ) → a ≡ pos p0 -ℤ pos p1 → x ≡ pos p2 -ℤ pos p1 → x -ℤ a ≡ pos p2 -ℤ pos p0
-down_and_up a x p0 p1 p2 ea ex = omega (arith, ints, ea, ex)
-
 -- the cells by which l goes to m
 abbrev pub steps_of : (l m : Placed) → List Cell
 steps_of l m = cell l.course l.slot None ∷ cell m.course m.slot (Some m.room) ∷ []
@@ -81,15 +77,25 @@ module _ (i : Problem) (t : List Placed) (l m : Placed) (h : Lawful i t) (fits :
   pub goes_free : IsFree i left m
   goes_free = none_yet i m left fits.lawful
 
-  pub goes_by : gain_of (joining i left m) -ℤ gain_of (joining i left l) ≡ pos (total (penalty i (with m left))) -ℤ pos (total (penalty i t))
+  pub goes_by : Shifts (penalty i t) (penalty i (with m left)) (shift_of (joining i left l) (joining i left m))
   goes_by =
-      down_and_up (gain_of (joining i left l)) (gain_of (joining i left m)) (total (penalty i t)) (total (penalty i left)) (total (penalty i (with m left)))
-      (gain_is i left t (joining i left l) (joins i l left t (more_without l.course l.slot l.room t h.timetable.ascending there) (there_fits i l.course l.slot l.room t h there) left_lawful.timetable.fits h.timetable.fits))
-      (gain_is i left (with m left) (joining i left m) (joins i m left (with m left) (more_with m left) goes_fits left_lawful.timetable.fits fits.lawful.timetable.fits))
+      let from : Joins i left t (joining i left l) = joins i l left t (more_without l.course l.slot l.room t h.timetable.ascending there) (there_fits i l.course l.slot l.room t h there) left_lawful.timetable.fits h.timetable.fits in
+      let to : Joins i left (with m left) (joining i left m) = joins i m left (with m left) (more_with m left) goes_fits left_lawful.timetable.fits fits.lawful.timetable.fits in
+      record {
+        capacity = omega (arith, from.capacity, to.capacity);
+        days = omega (arith, from.days, to.days);
+        compactness = omega (arith, from.compactness, to.compactness);
+        stability = omega (arith, from.stability, to.stability);
+      }
 
 -- of four steps, those of the first lecture and those of the second
-in_pairs : (a b x y : ℤ) (p0 p1 p2 p3 p4 : ℕ) → a ≡ pos p0 -ℤ pos p1 → b ≡ pos p1 -ℤ pos p2 → x ≡ pos p3 -ℤ pos p2 → y ≡ pos p4 -ℤ pos p3 → (x -ℤ a) +ℤ (y -ℤ b) ≡ pos p4 -ℤ pos p0
-in_pairs a b x y p0 p1 p2 p3 p4 ea eb ex ey = omega (arith, ints, ea, eb, ex, ey)
+in_pairs : (i : Problem) (t t1 t2 t3 t4 : List Placed) (a b x y : Joining) → Joins i t1 t a → Joins i t2 t1 b → Joins i t2 t3 x → Joins i t3 t4 y → Shifts (penalty i t) (penalty i t4) (both_shifts (shift_of a x) (shift_of b y))
+in_pairs i t t1 t2 t3 t4 a b x y ja jb jx jy = record {
+  capacity = omega (arith, ja.capacity, jb.capacity, jx.capacity, jy.capacity);
+  days = omega (arith, ja.days, jb.days, jx.days, jy.days);
+  compactness = omega (arith, ja.compactness, jb.compactness, jx.compactness, jy.compactness);
+  stability = omega (arith, ja.stability, jb.stability, jx.stability, jy.stability);
+}
 
 -- the cells by which l goes to l', and m to m'
 abbrev pub cells_of : (l m l' m' : Placed) → List Cell
@@ -182,11 +188,13 @@ module _ (i : Problem) (t : List Placed) (l m l' m' : Placed) where
         same_part i l m' t2 u more_both fits_l (other_apart m'.course l.course x.own refl) q known y m'.slot ∙ sym (same_part i l' m' t2 t3 (more_with l' t2) first_fits (other_apart m'.course l'.course x.own x.its) q known y m'.slot)
         ∙ none_yet i m' t3 change_fits.lawful q known y
 
-    pub each_by_itself : (gain_of (joining i t1 l') -ℤ gain_of (joining i t1 l)) +ℤ (gain_of (joining i u m') -ℤ gain_of (joining i u m)) ≡ pos (total (penalty i t4)) -ℤ pos (total (penalty i t))
+    pub each_by_itself : Shifts (penalty i t) (penalty i t4) (both_shifts (shift_of (joining i t1 l) (joining i t1 l')) (shift_of (joining i u m) (joining i u m')))
     each_by_itself =
-        in_pairs (gain_of (joining i t1 l)) (gain_of (joining i u m)) (gain_of (joining i t1 l')) (gain_of (joining i u m')) (total (penalty i t)) (total (penalty i t1)) (total (penalty i t2)) (total (penalty i t3)) (total (penalty i t4))
-        (gain_is i t1 t (joining i t1 l) (joins i l t1 t more_l fits_l lawful1.timetable.fits h.timetable.fits))
-        (ap gain_of (same_joining i l m t2 u more_both fits_l (other_apart m.course l.course refl refl)) ∙ gain_is i t2 t1 (joining i t2 m) (joins i m t2 t1 more_m fits_m lawful2.timetable.fits lawful1.timetable.fits))
-        (ap gain_of (same_joining i m l' t2 t1 more_m fits_m first_apart) ∙ gain_is i t2 t3 (joining i t2 l') (joins i l' t2 t3 (more_with l' t2) first_fits lawful2.timetable.fits lawful3.timetable.fits))
-        (ap gain_of (same_joining i l m' t2 u more_both fits_l (other_apart m'.course l.course x.own refl) ∙ sym (same_joining i l' m' t2 t3 (more_with l' t2) first_fits (other_apart m'.course l'.course x.own x.its)))
-        ∙ gain_is i t3 t4 (joining i t3 m') (joins i m' t3 t4 (more_with m' t3) other_fits lawful3.timetable.fits change_fits.lawful.timetable.fits))
+        let own : joining i u m ≡ joining i t2 m = same_joining i l m t2 u more_both fits_l (other_apart m.course l.course refl refl) in
+        let first_to : joining i t1 l' ≡ joining i t2 l' = same_joining i m l' t2 t1 more_m fits_m first_apart in
+        let other_to : joining i u m' ≡ joining i t3 m' = same_joining i l m' t2 u more_both fits_l (other_apart m'.course l.course x.own refl) ∙ sym (same_joining i l' m' t2 t3 (more_with l' t2) first_fits (other_apart m'.course l'.course x.own x.its)) in
+        in_pairs i t t1 t2 t3 t4 (joining i t1 l) (joining i u m) (joining i t1 l') (joining i u m')
+        (joins i l t1 t more_l fits_l lawful1.timetable.fits h.timetable.fits)
+        (subst (Joins i t2 t1) (sym own) (joins i m t2 t1 more_m fits_m lawful2.timetable.fits lawful1.timetable.fits))
+        (subst (Joins i t2 t3) (sym first_to) (joins i l' t2 t3 (more_with l' t2) first_fits lawful2.timetable.fits lawful3.timetable.fits))
+        (subst (Joins i t3 t4) (sym other_to) (joins i m' t3 t4 (more_with m' t3) other_fits lawful3.timetable.fits change_fits.lawful.timetable.fits))

@@ -1,10 +1,10 @@
 -- A change fits where the test says so.
-use Rattle.std.proofs.Common.{◌≡◌, ℕ, zero, suc, leb, take, ◌+◌, ◌<◌, ◌≤◌, Bool, true, false, cond, not, ltb, ◌&&◌, ◌||◌, ◌==◌, List, [], ◌∷◌, length, get_or, Option, Some, None, is_some, is_none, refl, ◌∙◌, ap, ap₂, subst, arith, inl, inr, ◌⊎◌}
+use Rattle.std.proofs.Common.{◌≡◌, ℕ, zero, suc, leb, take, ◌+◌, ◌<◌, ◌≤◌, Bool, true, false, cond, not, ltb, ◌&&◌, ◌||◌, ◌==◌, List, [], ◌∷◌, length, get_or, Option, Some, None, is_some, is_none, refl, ◌∙◌, sym, ap, ap₂, subst, arith, inl, inr, ◌⊎◌}
 use Rattle.std.specs.List.{filter, find, AllByRecursion as Each}
 use Rattle.std.proofs.lemmas.Bool.{cases_Bool, and_parts, le-leb, leb-true, eq-eqb, lt-ltb, ltb-true}
 use Rattle.ctt_text.specs.Lists.{Pairwise}
 use Rattle.ctt_text.specs.Problem.{Problem, course_of, course_count, slot_count, room_count, clash, is_unavailable}
-use Rattle.ctt_text.specs.Timetable.{before, Fits, course_row, slot_row, with}
+use Rattle.ctt_text.specs.Timetable.{before, Fits, course_row, slot_row, with, without}
 use Rattle.ctt_text.specs.declared.placed.Placed.{Placed}
 use Rattle.ctt_text.proofs.TimetableLemmas.{Each-map}
 use Rattle.ctt_rules.specs.Hard.{Lawful, conflicts}
@@ -13,10 +13,11 @@ use Rattle.ctt_board.specs.Fitting.{is_known, is_wanted, is_unhindered, can_come
 use Rattle.ctt_board.specs.declared.cell.Cell.{Cell}
 use Rattle.ctt_board.proofs.AfterLemmas.{one_in_row}
 use Rattle.ctt_board.proofs.BetweenLemmas.{next_lawful, turn_rest, put_has, comes_fits, there_fits, some_room}
-use Rattle.ctt_board.proofs.HolderLemmas.{is_in, holder_is, free_else, find_nowhere}
+use Rattle.ctt_board.proofs.HolderLemmas.{is_in, holder_is, free_else, find_nowhere, removed_back}
 use Rattle.ctt_rules.proofs.ConflictLemmas.{clash_comm}
 use Rattle.ctt_board.proofs.LawfulLemmas.{Free, with_lawful, without_lawful, eqb_comm}
 use Rattle.ctt_board.proofs.MoreLemmas.{more_with}
+use Rattle.ctt_board.proofs.RoomLemmas.{room_is, room_after}
 
 -- what holds of those that pass, in the list of those
 Each-to_filter : {X : Type 0} (Q : X → Type 0) (p : X → Bool) (xs : List X) → Each (λ x. p x ≡ true → Q x) xs → Each Q (filter p xs)
@@ -112,6 +113,15 @@ module _ (i : Problem) (t : List Placed) (l : Placed) where
 
     can_come_here : can_come i t l ≡ true
     can_come_here = rw (is_known_here, is_wanted_here, is_unhindered_here) refl
+
+-- where a lecture stands in a lawful timetable, it can be placed once it has left
+pub was_free : (i : Problem) (t : List Placed) (c s r : ℕ) → Lawful i t → room_at c s t ≡ Some r → Free i (without c s t) c s r
+was_free i t c s r h e =
+    let l : Placed = record { course = c; slot = s; room = r } in
+    let left : List Placed = without c s t in
+    let back : with l left ≡ t = removed_back c s r t h.timetable.ascending (sym (room_is c s t) ∙ e) in
+    let empty : is_some (room_at c s left) ≡ false = ap is_some (room_after c s None c s t (ap is_some e)) ∙ rw (eq-eqb c c refl, eq-eqb s s refl) refl in
+    free_there i left l (can_come_here i left l (subst (Lawful i) (sym back) h) empty)
 
 -- one cell
 cell_to : (i : Problem) (t : List Placed) (c s : ℕ) (o : Option ℕ) → Lawful i t → cell_fits i t c s o ≡ true → CellFits t c s o × Lawful i (apply_at c s o t)

@@ -93,7 +93,7 @@ with_rooms i t old new l h rows width wrote empty = rooms_after_cell i t old new
 pub without_rooms : (i : Problem) (t : List Placed) (old new : Grid (Option ℕ)) (c s r : ℕ) → AreRooms i t old → new.rows ≡ old.rows → new.width ≡ old.width → WroteRoom i old new c s None → room_at c s t ≡ Some r → AreRooms i (without c s t) new
 without_rooms i t old new c s r h rows width wrote there = rooms_after_cell i t old new c s None h rows width wrote (ap is_some there)
 
-cost_same : (a b : Cost) → a.capacity ≡ b.capacity → a.days ≡ b.days → a.compactness ≡ b.compactness → a.stability ≡ b.stability → a ≡ b
+pub cost_same : (a b : Cost) → a.capacity ≡ b.capacity → a.days ≡ b.days → a.compactness ≡ b.compactness → a.stability ≡ b.stability → a ≡ b
 cost_same a b e f g h =
     ap₂ (λ x y. record { capacity = x; days = y; compactness = a.compactness; stability = a.stability }) e f
     ∙ ap₂ (λ x y. record { capacity = b.capacity; days = b.days; compactness = x; stability = y }) g h

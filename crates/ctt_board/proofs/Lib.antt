@@ -18,6 +18,7 @@ pub mod GridLemmas
 mod ColumnLemmas
 pub mod BetweenLemmas
 pub mod SheetLemmas
+mod ShiftLemmas
 pub mod GainLemmas
 pub mod HolderLemmas
 mod HeldLemmas

@@ -11,4 +11,5 @@ pub mod Seen
 pub mod Grids
 pub mod Ways
 pub mod Moving
+pub mod Shifts
 pub mod Fitting

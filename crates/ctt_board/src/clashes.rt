@@ -1,11 +1,26 @@
 //! The clashes of a course with those that stand in a slot.
 
-ghost use Rattle.std.specs.Prelude.{◌≡◌, ◌<◌};
+ghost use Rattle.std.specs.Prelude.{◌≡◌, ◌<◌, ℕ, List, is_some, IsSome};
+ghost use Rattle.ctt_text.specs.Marks.{is_marked};
 ghost use Rattle.ctt_text.specs.Problem.{course_count, slot_count};
-ghost use Rattle.ctt_board.specs.Changes.{clash_at};
+ghost use Rattle.ctt_text.specs.Timetable.{without};
+ghost use Rattle.ctt_text.specs.declared.placed.Placed.{Placed};
+ghost use Rattle.ctt_rules.specs.Hard.{Lawful};
+ghost use Rattle.ctt_board.specs.Changes.{clash_at, room_at};
 
 use crate::sheet::Rooms;
-use ctt_text::{CourseNo, Instance, SlotNo};
+use ctt_text::{CourseNo, Instance, Marks, SlotNo};
+
+/// The first of the courses that stand in a slot, which are marked, that clashes with this one.
+fn first_clash_among(instance: &Instance, standing: &Marks, course: CourseNo) -> Option<CourseNo>
+    requires { course < course_count instance.now }
+    ensures { (slot : ℕ) (t : List Placed) → Lawful instance.now t → ((c : ℕ) → is_marked standing.now c ≡ is_some (room_at c slot t)) → result ≡ clash_at instance.now course slot t }
+{
+    instance.limits_hold();
+    let courses = instance.courses() as usize;
+    let number = standing.first_common_below(instance.clashing(course), courses)?;
+    Some(CourseNo::new(number as u16))
+}
 
 /// The first course with a lecture in a slot that clashes with this one.
 pub fn first_clash<R: Rooms>(
@@ -20,9 +35,28 @@ pub fn first_clash<R: Rooms>(
     ensures { result ≡ clash_at instance.now course slot (R.list rooms.now) }
 {
     rooms.lawful();
-    instance.limits_hold();
     let standing = rooms.standing(slot);
-    let courses = instance.courses() as usize;
-    let number = standing.first_common_below(instance.clashing(course), courses)?;
-    Some(CourseNo::new(number as u16))
+    first_clash_among(instance, &standing, course)
+}
+
+/// The first course with a lecture in a slot that clashes with this one, once a lecture has left it.
+pub fn first_clash_without<R: Rooms>(
+    instance: &Instance,
+    rooms: &R,
+    course: CourseNo,
+    slot: SlotNo,
+    leaving: CourseNo,
+) -> Option<CourseNo>
+    requires same { R.problem rooms.now ≡ instance.now }
+    requires course { course < course_count instance.now }
+    requires slot { slot < slot_count instance.now }
+    requires leaving { leaving < course_count instance.now }
+    requires there { IsSome (room_at leaving slot (R.list rooms.now)) }
+    ensures { result ≡ clash_at instance.now course slot (without leaving slot (R.list rooms.now)) }
+{
+    rooms.lawful();
+    instance.limits_hold();
+    let mut standing = rooms.standing(slot);
+    standing.unmark(leaving.get() as usize);
+    first_clash_among(instance, &standing, course)
 }

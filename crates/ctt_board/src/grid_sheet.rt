@@ -9,6 +9,7 @@ ghost use Rattle.ctt_board.specs.Boards.{delta};
 ghost use Rattle.ctt_board.specs.Changes.{CellFits, CellsFit, ChangeFits, cell, is_change, room_at, apply_at, apply, apply_all, ChangesFit};
 ghost use Rattle.ctt_rules.specs.Penalty.{penalty, total};
 ghost use Rattle.ctt_board.specs.Seen.{Sees, HasPlaces};
+ghost use Rattle.ctt_board.specs.Shifts.{Shifts, IsSmallShift};
 ghost use Rattle.ctt_board.specs.Ways.{Ready};
 ghost use Rattle.ctt_board.specs.Cells.{row_below, lecture_at};
 ghost use Rattle.ctt_board.specs.Grids.{column_below};
@@ -25,6 +26,7 @@ use crate::laws;
 use crate::moving::moved;
 use crate::same_rows::{same_course_row, same_slot_row};
 use crate::sheet::{Rooms, Sheet, Timetable};
+use crate::shift::Shift;
 use crate::table::Table;
 use crate::tables::Tables;
 use ctt_rules::Cost;
@@ -119,11 +121,13 @@ impl<'i> GridSheet<'i> {
         })
     }
 
-    /// What these cells add to the penalty, if one lecture goes elsewhere by them.
-    fn relocated(&self, first: &Cell, second: &Cell) -> Option<i64>
+    /// By how much the costs change by these cells, if one lecture goes elsewhere by them.
+    #[inline(always)]
+    fn relocated(&self, first: &Cell, second: &Cell) -> Option<Shift>
         requires turn { is_change (first.now ∷ second.now ∷ []) ≡ true }
         requires fits { ChangeFits self.now.problem (first.now ∷ second.now ∷ []) self.now.list }
-        ensures { IfSome result (λ x. x ≡ delta self.now.problem self.now.list (first.now ∷ second.now ∷ [])) }
+        ensures shifts { IfSome result (Shifts (penalty self.now.problem self.now.list) (penalty self.now.problem (apply (first.now ∷ second.now ∷ []) self.now.list))) }
+        ensures small { IfSome result (IsSmallShift 2000000000000000) }
     {
         self.lawful();
         self.instance.limits_hold();
@@ -132,12 +136,14 @@ impl<'i> GridSheet<'i> {
         Some(moved(self.instance, &self.tables.counts, self, &from, &to))
     }
 
-    /// What these cells add to the penalty, if two lectures go elsewhere by them whose courses share
-    /// no curriculum: what each of them adds, as if the other one stayed.
-    fn exchanged(&self, first: &Cell, second: &Cell, third: &Cell, fourth: &Cell) -> Option<i64>
+    /// By how much the costs change by these cells, if two lectures go elsewhere by them whose courses
+    /// share no curriculum: by what each of them does, as if the other one stayed.
+    #[inline(always)]
+    fn exchanged(&self, first: &Cell, second: &Cell, third: &Cell, fourth: &Cell) -> Option<Shift>
         requires turn { is_change (first.now ∷ second.now ∷ third.now ∷ fourth.now ∷ []) ≡ true }
         requires fits { ChangeFits self.now.problem (first.now ∷ second.now ∷ third.now ∷ fourth.now ∷ []) self.now.list }
-        ensures { IfSome result (λ x. x ≡ delta self.now.problem self.now.list (first.now ∷ second.now ∷ third.now ∷ fourth.now ∷ [])) }
+        ensures shifts { IfSome result (Shifts (penalty self.now.problem self.now.list) (penalty self.now.problem (apply (first.now ∷ second.now ∷ third.now ∷ fourth.now ∷ []) self.now.list))) }
+        ensures small { IfSome result (IsSmallShift 2000000000000000) }
     {
         self.lawful();
         let from = self.leaving(first)?;
@@ -147,7 +153,7 @@ impl<'i> GridSheet<'i> {
         if from.course == other_from.course || self.instance.clash(from.course, other_from.course) {
             return None;
         }
-        let more = moved(self.instance, &self.tables.counts, self, &from, &to);
+        let one = moved(self.instance, &self.tables.counts, self, &from, &to);
         let other = moved(
             self.instance,
             &self.tables.counts,
@@ -155,21 +161,49 @@ impl<'i> GridSheet<'i> {
             &other_from,
             &other_to,
         );
-        Some(more + other)
+        Some(one.and(&other))
     }
 
-    /// What these cells add to the penalty, if one lecture goes elsewhere by them, or two do whose courses
-    /// share no curriculum.
-    fn gone_elsewhere(&self, cells: &[Cell]) -> Option<i64>
+    /// By how much the costs change by these cells, if one lecture goes elsewhere by them, or two do whose
+    /// courses share no curriculum.
+    #[inline(always)]
+    fn gone_elsewhere(&self, cells: &[Cell]) -> Option<Shift>
         requires turn { is_change cells.now ≡ true }
         requires fits { ChangeFits self.now.problem cells.now self.now.list }
-        ensures { IfSome result (λ x. x ≡ delta self.now.problem self.now.list cells.now) }
+        ensures shifts { IfSome result (Shifts (penalty self.now.problem self.now.list) (penalty self.now.problem (apply cells.now self.now.list))) }
+        ensures small { IfSome result (IsSmallShift 2000000000000000) }
     {
         match cells {
             [first, second] => self.relocated(first, second),
             [first, second, third, fourth] => self.exchanged(first, second, third, fourth),
             _ => None,
         }
+    }
+
+    /// Makes cells, each in its turn.
+    fn make_each(&mut self, cells: &[Cell])
+        requires turn { is_change cells.now ≡ true }
+        requires fits { ChangeFits self.old.problem cells.now self.old.list }
+        ensures problem { self.new.problem ≡ self.old.problem }
+        ensures list { self.new.list ≡ apply cells.now self.old.list }
+    {
+        self.lawful();
+        for cell in cells {
+            self.make(cell);
+        }
+    }
+
+    /// Makes a change by which the costs change by so much.
+    fn make_by(&mut self, change: &Change, shift: &Shift)
+        requires fits { ChangeFits self.old.problem change.now self.old.list }
+        requires shifts { Shifts (penalty self.old.problem self.old.list) (penalty self.old.problem (apply change.now self.old.list)) shift.now }
+        requires small { IsSmallShift 2000000000000000 shift.now }
+        ensures problem { self.new.problem ≡ self.old.problem }
+        ensures list { self.new.list ≡ apply change.now self.old.list }
+    {
+        self.instance.limits_hold();
+        self.cost = shift.after(self.cost);
+        self.tables.apply(self.instance, change);
     }
 
     /// Makes changes, each in its turn.
@@ -371,7 +405,7 @@ impl<'i> Timetable for GridSheet<'i> {
         self.lawful();
         self.instance.limits_hold();
         match self.gone_elsewhere(change.cells()) {
-            Some(total) => total,
+            Some(shift) => shift.total(),
             None => self.stepwise(change),
         }
     }
@@ -381,10 +415,9 @@ impl<'i> Timetable for GridSheet<'i> {
     }
 
     fn apply(&mut self, change: &Change) {
-        self.lawful();
-        let cells = change.cells();
-        for cell in cells {
-            self.make(cell);
+        match self.gone_elsewhere(change.cells()) {
+            Some(shift) => self.make_by(change, &shift),
+            None => self.make_each(change.cells()),
         }
     }
 

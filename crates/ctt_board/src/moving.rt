@@ -1,6 +1,6 @@
-//! What it adds to the penalty that a lecture goes elsewhere, by the counts without it.
+//! By how much the costs change where a lecture goes elsewhere, by the counts without it.
 
-ghost use Rattle.std.specs.Prelude.{◌≡◌, ◌<◌, ◌≤◌, ◌+◌, ◌-◌, ◌*◌, ◌&&◌, ◌==◌, ◌-ℤ◌, Some, not, true, nat_lt, cond, sum_by, length};
+ghost use Rattle.std.specs.Prelude.{◌≡◌, ◌<◌, ◌≤◌, ◌+◌, ◌-◌, ◌*◌, ◌&&◌, ◌==◌, Some, not, true, nat_lt, cond, sum_by, length};
 ghost use Rattle.std.specs.List.{AllByRecursion as Each};
 ghost use Rattle.ctt_text.specs.Problem.{course_of, course_count, slot_count, room_count, day_of};
 ghost use Rattle.ctt_text.specs.Timetable.{Fits, without};
@@ -8,17 +8,19 @@ ghost use Rattle.ctt_rules.specs.Penalty.{unseated};
 ghost use Rattle.ctt_board.specs.Beside.{IsBeside};
 ghost use Rattle.ctt_board.specs.Changes.{room_at};
 ghost use Rattle.ctt_board.specs.Counts.{AreCounts, HaveSizes};
-ghost use Rattle.ctt_board.specs.Joining.{joining, gain_of, IsFree, IsSmallJoining, stands_alone, alone_beside};
+ghost use Rattle.ctt_board.specs.Joining.{joining, IsFree, stands_alone, alone_beside};
 ghost use Rattle.ctt_board.specs.Moving.{part_without, IsWindow};
+ghost use Rattle.ctt_board.specs.Shifts.{shift_of, IsSmallShift};
 ghost use Rattle.ctt_board.specs.Tables.{at};
 
 use crate::beside::{Beside, wanted};
 use crate::bits::Bits;
 use crate::counts::Counts;
 use crate::grid_sheet::GridSheet;
-use crate::joining::{Joining, gain, period_on};
+use crate::joining::{Joining, period_on};
 use crate::meeting::{Meeting, meeting_beside};
 use crate::sheet::Rooms;
+use crate::shift::Shift;
 use ctt_text::{CourseNo, CurriculumNo, Instance, Placed, RoomNo, SlotNo};
 
 /// A slot, one that a lecture leaves, and which of the slots about the first count: those of its
@@ -240,7 +242,7 @@ fn unseated(instance: &Instance, lecture: &Placed) -> u64
     u64::from(students.saturating_sub(instance.capacity(lecture.room)))
 }
 
-/// What it adds to the penalty that a lecture goes elsewhere, where no curriculum of its course has
+/// By how much the costs change where a lecture goes elsewhere, where no curriculum of its course has
 /// another one.
 pub(crate) fn moved(
     instance: &Instance,
@@ -248,16 +250,15 @@ pub(crate) fn moved(
     sheet: &GridSheet,
     from: &Placed,
     to: &Placed,
-) -> i64
+) -> Shift
     requires same { sheet.now.problem ≡ instance.now }
     requires there { room_at from.now.course from.now.slot sheet.now.list ≡ Some from.now.room }
     requires its { to.now.course ≡ from.now.course }
     requires fits { Fits instance.now to.now }
     requires free { IsFree instance.now (without from.now.course from.now.slot sheet.now.list) to.now }
     requires counts { AreCounts instance.now sheet.now.list counts.now }
-    ensures value { result ≡ gain_of (joining instance.now (without from.now.course from.now.slot sheet.now.list) to.now) -ℤ gain_of (joining instance.now (without from.now.course from.now.slot sheet.now.list) from.now) }
-    ensures more { IsSmallJoining (joining instance.now (without from.now.course from.now.slot sheet.now.list) to.now) }
-    ensures less { IsSmallJoining (joining instance.now (without from.now.course from.now.slot sheet.now.list) from.now) }
+    ensures value { result ≡ shift_of (joining instance.now (without from.now.course from.now.slot sheet.now.list) from.now) (joining instance.now (without from.now.course from.now.slot sheet.now.list) to.now) }
+    ensures small { IsSmallShift 1000000000000000 result }
 {
     sheet.lawful();
     instance.limits_hold();
@@ -283,5 +284,5 @@ pub(crate) fn moved(
         company: 2 * both.to.company,
         room: further_room(instance, counts, course, to.room, from.room),
     };
-    gain(&more) - gain(&less)
+    Shift::of(&less, &more)
 }

@@ -136,7 +136,7 @@ impl Tables {
     }
 
     /// Makes a change.
-    fn apply(&mut self, instance: &Instance, change: &Change)
+    pub(crate) fn apply(&mut self, instance: &Instance, change: &Change)
         requires tables { AreTables instance.now self.old }
         requires fits { ChangeFits instance.now change.now (listed instance.now self.old.rooms) }
         ensures tables { AreTables instance.now self.new }

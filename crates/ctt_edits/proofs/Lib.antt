@@ -1,5 +1,6 @@
 pub mod FaultLemmas
 pub mod EditLemmas
+mod SwapLemmas
 pub mod LeastLemmas
 pub mod MarkedRows
 pub mod MateLemmas

@@ -1,9 +1,9 @@
 -- No call reads rows that the instance does not have, but for looks at all courses of some kind.
-use Rattle.std.proofs.Common.{◌≡◌, ℕ, ◌<◌, ◌≤◌, Bool, true, false, ◌&&◌, ◌||◌, ◌==◌, List, [], ◌∷◌, refl, ◌∙◌, ap, ap₂, arith}
+use Rattle.std.proofs.Common.{◌≡◌, ℕ, ◌<◌, ◌≤◌, Bool, true, false, ◌&&◌, ◌||◌, List, [], ◌∷◌, refl, ap₂, arith}
 use Rattle.std.specs.List.{list_any, AllByRecursion as Each}
 use Rattle.std.proofs.lemmas.Bool.{ne_eqb}
 use Rattle.ctt_text.specs.Lists.{has}
-use Rattle.ctt_text.specs.Problem.{Problem, IsProblem, AreMembers, course_count, slot_count, curriculum_count, members, mates}
+use Rattle.ctt_text.specs.Problem.{Problem, IsProblem, AreMembers, course_count, slot_count, mates}
 use Rattle.ctt_edits.specs.Calls.{edit_courses, edit_slots, look_reads_slot}
 use Rattle.ctt_edits.specs.Edits.{EditFits}
 use Rattle.ctt_edits.specs.Looks.{LookFits}

@@ -1,5 +1,5 @@
 -- The courses of a teacher: one of them, and those of the courses that clash with it.
-use Rattle.std.proofs.Common.{◌≡◌, ℕ, ◌+◌, ◌<◌, ◌≤◌, Bool, true, false, not, ltb, ◌&&◌, ◌||◌, ◌==◌, nat_le, nat_lt, Option, Some, None, inl, inr, refl, ◌∙◌, sym, ap, arith}
+use Rattle.std.proofs.Common.{◌≡◌, ℕ, ◌+◌, ◌<◌, ◌≤◌, Bool, true, false, ltb, ◌&&◌, ◌||◌, ◌==◌, nat_le, nat_lt, Option, Some, None, inl, inr, refl, ◌∙◌, sym, ap, arith}
 use Rattle.std.proofs.lemmas.Bool.{cases_lt, cases_eq, cases_order, lt-ltb, le-ltb, eq-eqb, ne_eqb, eqb-true}
 use Rattle.std.proofs.lemmas.Bool.Decides.{nat_tests}
 use Rattle.ctt_text.specs.Marks.{IsLeast}

@@ -5,7 +5,7 @@ use Rattle.std.specs.Option.{option_map}
 use Rattle.ctt_text.specs.Problem.{Problem, course_of, course_count, slot_count, room_count, clash, is_unavailable}
 use Rattle.ctt_text.specs.Timetable.{course_row, slot_row, without}
 use Rattle.ctt_text.specs.declared.placed.Placed.{Placed}
-use Rattle.ctt_board.specs.Changes.{room_of, room_at, cell, apply, apply_at}
+use Rattle.ctt_board.specs.Changes.{room_of, room_at, clash_at, cell, apply, apply_at}
 use Rattle.ctt_board.specs.declared.cell.Cell.{Cell}
 use Rattle.ctt_edits.specs.declared.edit.Edit.{Edit}
 use Rattle.ctt_edits.specs.declared.edit.Edit.TheVariants.{Place, Move, Swap, Reroom, Drop}
@@ -48,6 +48,13 @@ try_fault i t c s r = try_in i c s r (course_row c t) (slot_row s t)
 abbrev pub try_room_of : Problem → List Placed → ℕ → ℕ → Option ℕ → Option EditFault
 try_room_of i t c s None = None
 try_room_of i t c s (Some r) = try_fault i t c s r
+
+-- the first fault of placing a lecture in the slot and room of another course's, which leaves
+abbrev pub fault_in_place_of : Problem → List Placed → ℕ → ℕ → ℕ → Option EditFault
+fault_in_place_of i t c s d =
+    or_else (fault_if (is_some (room_at c s t)) AlreadyThere)
+    (or_else (fault_if (is_unavailable i c s) Unavailable)
+    (option_map Clash (clash_at i c s (without d s t))))
 
 -- the cells that an edit removes, then the cells that it adds
 abbrev pub change : List Placed → Edit → List Cell

@@ -4,13 +4,13 @@ ghost use Rattle.std.specs.Prelude.{◌≡◌, ◌<◌, ◌==◌, false, Some, N
 ghost use Rattle.ctt_text.specs.Problem.{course_count, slot_count, room_count};
 ghost use Rattle.ctt_text.specs.Timetable.{without};
 ghost use Rattle.ctt_board.specs.Changes.{ChangeFits, cell, room_at};
-ghost use Rattle.ctt_edits.specs.Edits.{EditFits, try_fault, edit_fault, change, checked};
+ghost use Rattle.ctt_edits.specs.Edits.{EditFits, try_fault, fault_in_place_of, edit_fault, change, checked};
 ghost use Rattle.ctt_edits.specs.declared.edit.Edit.TheVariants.{Move, Swap, Reroom, Drop};
 
 use crate::edit::Edit;
 use crate::fault::EditFault;
 use crate::laws;
-use ctt_board::{After, Cell, Change, Rooms, Sheet, first_clash};
+use ctt_board::{After, Cell, Change, Rooms, Sheet, first_clash, first_clash_without};
 use ctt_text::{CourseNo, Instance, RoomNo, SlotNo};
 
 /// The first fault that holds of placing a lecture.
@@ -89,37 +89,55 @@ fn replace_fault<'i, S: Sheet<'i>>(
     place_fault(instance, &after, course, target, room)
 }
 
-/// The first fault that holds of swapping the lectures of two courses, which are there.
+/// The first fault that holds of placing a lecture in the slot and room of another one, which leaves. Its
+/// course has one lecture less than before.
+fn fault_in_place_of<'i, S: Sheet<'i>>(
+    sheet: &S,
+    course: CourseNo,
+    slot: SlotNo,
+    leaving: CourseNo,
+) -> Option<EditFault>
+    requires course { course < course_count (S.problem sheet.now) }
+    requires slot { slot < slot_count (S.problem sheet.now) }
+    requires leaving { leaving < course_count (S.problem sheet.now) }
+    requires there { IsSome (room_at leaving slot (S.list sheet.now)) }
+    ensures { result ≡ fault_in_place_of (S.problem sheet.now) (S.list sheet.now) course slot leaving }
+{
+    let instance = sheet.instance();
+    if sheet.room_at(course, slot).is_some() {
+        return Some(EditFault::AlreadyThere);
+    }
+    if instance.unavailable(course, slot) {
+        return Some(EditFault::Unavailable);
+    }
+    let other = first_clash_without(instance, sheet, course, slot, leaving)?;
+    Some(EditFault::Clash(other))
+}
+
+/// The first fault that holds of swapping the lectures of two courses, which are there. In one slot
+/// they only change rooms.
 fn exchange_fault<'i, S: Sheet<'i>>(
     sheet: &S,
     course: CourseNo,
     slot: SlotNo,
-    room: RoomNo,
     other: CourseNo,
     other_slot: SlotNo,
-    other_room: RoomNo,
 ) -> Option<EditFault>
     requires fits { EditFits (S.problem sheet.now) (Swap course slot other other_slot) }
     requires apart { (course == other) ≡ false }
-    requires there { room_at course slot (S.list sheet.now) ≡ Some room }
-    requires other_there { room_at other other_slot (S.list sheet.now) ≡ Some other_room }
+    requires there { IsSome (room_at course slot (S.list sheet.now)) }
+    requires other_there { IsSome (room_at other other_slot (S.list sheet.now)) }
     ensures { result ≡ edit_fault (S.problem sheet.now) (S.list sheet.now) (Swap course slot other other_slot) }
 {
     sheet.lawful();
-    let instance = sheet.instance();
-    let gone = [removal(course, slot), removal(other, other_slot)];
-    let without = After::new(instance, sheet, &gone);
-    let fault = place_fault(instance, &without, course, other_slot, other_room);
+    if slot == other_slot {
+        return None;
+    }
+    let fault = fault_in_place_of(sheet, course, other_slot, other);
     if fault.is_some() {
         return fault;
     }
-    let first = [
-        removal(course, slot),
-        removal(other, other_slot),
-        addition(course, other_slot, other_room),
-    ];
-    let with_first = After::new(instance, sheet, &first);
-    place_fault(instance, &with_first, other, slot, room)
+    fault_in_place_of(sheet, other, slot, course)
 }
 
 /// The first fault that holds of a swap.
@@ -133,16 +151,13 @@ fn swap_fault<'i, S: Sheet<'i>>(
     requires { EditFits (S.problem sheet.now) (Swap course slot other other_slot) }
     ensures { result ≡ edit_fault (S.problem sheet.now) (S.list sheet.now) (Swap course slot other other_slot) }
 {
-    let Some(room) = sheet.room_at(course, slot) else {
+    if sheet.room_at(course, slot).is_none() || sheet.room_at(other, other_slot).is_none() {
         return Some(EditFault::NotPlaced);
-    };
-    let Some(other_room) = sheet.room_at(other, other_slot) else {
-        return Some(EditFault::NotPlaced);
-    };
+    }
     if course == other {
         return Some(EditFault::SameCourse);
     }
-    exchange_fault(sheet, course, slot, room, other, other_slot, other_room)
+    exchange_fault(sheet, course, slot, other, other_slot)
 }
 
 /// The first fault that holds of a move.

@@ -1,16 +1,16 @@
-use Rattle.std.proofs.Common.{◌≡◌, ◌-◌, ◌*◌, ◌<◌, ◌∙◌, ◌&&◌, ◌==◌, ltb, cond, List, refl, sym, ap₂, subst, arith, ◌-ℤ◌, sum_by}
+use Rattle.std.proofs.Common.{◌≡◌, ◌-◌, ◌*◌, ◌<◌, ◌∙◌, ◌&&◌, ◌==◌, ltb, cond, List, refl, sym, ap₂, subst, arith, sum_by}
 use Rattle.std.specs.List.{AllByRecursion as Each}
 use Rattle.ctt_text.specs.Problem.{Problem, course_of, day_of}
 use Rattle.ctt_text.specs.Timetable.{Fits, without}
 use Rattle.ctt_text.specs.declared.placed.Placed.{Placed}
 use Rattle.ctt_rules.specs.Hard.{Lawful}
-use Rattle.ctt_board.specs.Joining.{joining, gain_of, IsSmallJoining, stands_alone, alone_beside}
+use Rattle.ctt_board.specs.Joining.{joining, stands_alone, alone_beside}
 use Rattle.ctt_board.specs.Moving.{part_without}
+use Rattle.ctt_board.specs.Shifts.{shift_of}
 use Rattle.ctt_board.specs.Tables.{at}
 use Rattle.ctt_board.specs.declared.counts.Counts.{Counts}
 use Rattle.ctt_board.specs.declared.joining.Joining.{Joining}
 use Rattle.ctt_board.proofs.BetweenLemmas.{there_fits}
-use Rattle.ctt_board.proofs.GainLemmas.{difference_is}
 use Rattle.ctt_board.proofs.MovedLemmas.{from_own, to_own, joining_left}
 use Rattle.ctt_board.proofs.moving.moved.Goals as goal
 
@@ -52,6 +52,16 @@ meet_both-both-requires-clause-there_own c =
     let own : Each (λ q. part_without i k.parts c.about-there.result.gone q c.about-there.result.slot ≡ 0) c.curricula_of-curricula.result.now = rw (c.about-there.ensures.gone, c.about-there.ensures.slot, c.curricula_of-curricula.ensures.exact) (to_own i t l k h c.requires.there c.requires.counts c.args.to.now c.requires.its c.requires.free) in
     own
 
+pub of-requires-clause-from : goal.of-requires-clause-from
+of-requires-clause-from c =
+    let both = c.meet_both-both in
+    record { seats = c.unseated.ensures.bound; day = c.missing_day.ensures.bound; alone = omega (arith, both.ensures.from_few); company = omega (arith, both.ensures.from_bound); room = c.further_room.ensures.bound }
+
+pub of-requires-clause-to : goal.of-requires-clause-to
+of-requires-clause-to c =
+    let both = c.meet_both-both in
+    record { seats = c.unseated-2.ensures.bound; day = c.missing_day-2.ensures.bound; alone = omega (arith, both.ensures.to_few); company = omega (arith, both.ensures.to_bound); room = c.further_room-2.ensures.bound }
+
 pub returns-clause-value : goal.returns-clause-value
 returns-clause-value c =
     let i : Problem = c.args.instance.now in
@@ -63,51 +73,13 @@ returns-clause-value c =
     let known : Fits i l = there_fits i l.course l.slot l.room t h c.requires.there in
     let both = c.meet_both-both in
     let more : Joining = record { seats = c.unseated-2.result; day = c.missing_day-2.result; alone = 2 * both.result.to.alone; company = 2 * both.result.to.company; room = c.further_room-2.result } in
-    let more_small : IsSmallJoining more = record { seats = c.unseated-2.ensures.bound; day = c.missing_day-2.ensures.bound; alone = omega (arith, both.ensures.to_few); company = omega (arith, both.ensures.to_bound); room = c.further_room-2.ensures.bound } in
     let more_day : c.missing_day-2.result ≡ cond (at k.days l.course (day_of i m.slot) 0 - cond (day_of i l.slot == day_of i m.slot) 1 0 == 0 && ltb (at k.used 0 l.course 0 - cond (at k.days l.course (day_of i l.slot) 0 == 1) 1 0) (course_of i l.course).min_days) 5 0 = rw (c.days_left-days.ensures, c.day_of-day.ensures.exact, c.day_of-to_day.ensures.exact) at c.missing_day-2.ensures.value in
     let more_alone : both.result.to.alone ≡ sum_by (λ q. stands_alone i (part_without i k.parts l.slot q) m.slot) c.curricula_of-curricula.result.now = rw (c.about-there.ensures.gone, c.about-there.ensures.slot) at both.ensures.to_alone in
     let more_company : both.result.to.company ≡ sum_by (λ q. alone_beside i (part_without i k.parts l.slot q) m.slot) c.curricula_of-curricula.result.now = rw (c.about-there.ensures.gone, c.about-there.ensures.slot) at both.ensures.to_company in
     let more_is : more ≡ joining i (without l.course l.slot t) m = joining_left i t l k h c.requires.there c.requires.counts m more c.curricula_of-curricula.result.now both.result.to.alone both.result.to.company c.requires.its c.requires.fits c.curricula_of-curricula.ensures.exact c.unseated-2.ensures.value more_day refl more_alone refl more_company c.further_room-2.ensures.value in
     let less : Joining = record { seats = c.unseated.result; day = c.missing_day.result; alone = 2 * both.result.from.alone; company = 2 * both.result.from.company; room = c.further_room.result } in
-    let less_small : IsSmallJoining less = record { seats = c.unseated.ensures.bound; day = c.missing_day.ensures.bound; alone = omega (arith, both.ensures.from_few); company = omega (arith, both.ensures.from_bound); room = c.further_room.ensures.bound } in
     let less_day : c.missing_day.result ≡ cond (at k.days l.course (day_of i l.slot) 0 - cond (day_of i l.slot == day_of i l.slot) 1 0 == 0 && ltb (at k.used 0 l.course 0 - cond (at k.days l.course (day_of i l.slot) 0 == 1) 1 0) (course_of i l.course).min_days) 5 0 = rw (c.days_left-days.ensures, c.day_of-day.ensures.exact) at c.missing_day.ensures.value in
     let less_alone : both.result.from.alone ≡ sum_by (λ q. stands_alone i (part_without i k.parts l.slot q) l.slot) c.curricula_of-curricula.result.now = rw (c.about-here.ensures.gone, c.about-here.ensures.slot) at both.ensures.from_alone in
     let less_company : both.result.from.company ≡ sum_by (λ q. alone_beside i (part_without i k.parts l.slot q) l.slot) c.curricula_of-curricula.result.now = rw (c.about-here.ensures.gone, c.about-here.ensures.slot) at both.ensures.from_company in
     let less_is : less ≡ joining i (without l.course l.slot t) l = joining_left i t l k h c.requires.there c.requires.counts l less c.curricula_of-curricula.result.now both.result.from.alone both.result.from.company refl known c.curricula_of-curricula.ensures.exact c.unseated.ensures.value less_day refl less_alone refl less_company c.further_room.ensures.value in
-    difference_is c.gain.result c.gain-2.result more less c.gain.ensures c.gain-2.ensures more_small less_small ∙ ap₂ (λ a b. gain_of a -ℤ gain_of b) more_is less_is
-
-pub returns-clause-more : goal.returns-clause-more
-returns-clause-more c =
-    let i : Problem = c.args.instance.now in
-    let t : List Placed = c.args.sheet.now.list in
-    let l : Placed = c.args.from.now in
-    let m : Placed = c.args.to.now in
-    let k : Counts = c.args.counts.now in
-    let h : Lawful i t = subst (λ p. Lawful p t) c.requires.same c.lawful.ensures in
-    let known : Fits i l = there_fits i l.course l.slot l.room t h c.requires.there in
-    let both = c.meet_both-both in
-    let more : Joining = record { seats = c.unseated-2.result; day = c.missing_day-2.result; alone = 2 * both.result.to.alone; company = 2 * both.result.to.company; room = c.further_room-2.result } in
-    let more_small : IsSmallJoining more = record { seats = c.unseated-2.ensures.bound; day = c.missing_day-2.ensures.bound; alone = omega (arith, both.ensures.to_few); company = omega (arith, both.ensures.to_bound); room = c.further_room-2.ensures.bound } in
-    let more_day : c.missing_day-2.result ≡ cond (at k.days l.course (day_of i m.slot) 0 - cond (day_of i l.slot == day_of i m.slot) 1 0 == 0 && ltb (at k.used 0 l.course 0 - cond (at k.days l.course (day_of i l.slot) 0 == 1) 1 0) (course_of i l.course).min_days) 5 0 = rw (c.days_left-days.ensures, c.day_of-day.ensures.exact, c.day_of-to_day.ensures.exact) at c.missing_day-2.ensures.value in
-    let more_alone : both.result.to.alone ≡ sum_by (λ q. stands_alone i (part_without i k.parts l.slot q) m.slot) c.curricula_of-curricula.result.now = rw (c.about-there.ensures.gone, c.about-there.ensures.slot) at both.ensures.to_alone in
-    let more_company : both.result.to.company ≡ sum_by (λ q. alone_beside i (part_without i k.parts l.slot q) m.slot) c.curricula_of-curricula.result.now = rw (c.about-there.ensures.gone, c.about-there.ensures.slot) at both.ensures.to_company in
-    let more_is : more ≡ joining i (without l.course l.slot t) m = joining_left i t l k h c.requires.there c.requires.counts m more c.curricula_of-curricula.result.now both.result.to.alone both.result.to.company c.requires.its c.requires.fits c.curricula_of-curricula.ensures.exact c.unseated-2.ensures.value more_day refl more_alone refl more_company c.further_room-2.ensures.value in
-    subst IsSmallJoining more_is more_small
-
-pub returns-clause-less : goal.returns-clause-less
-returns-clause-less c =
-    let i : Problem = c.args.instance.now in
-    let t : List Placed = c.args.sheet.now.list in
-    let l : Placed = c.args.from.now in
-    let m : Placed = c.args.to.now in
-    let k : Counts = c.args.counts.now in
-    let h : Lawful i t = subst (λ p. Lawful p t) c.requires.same c.lawful.ensures in
-    let known : Fits i l = there_fits i l.course l.slot l.room t h c.requires.there in
-    let both = c.meet_both-both in
-    let less : Joining = record { seats = c.unseated.result; day = c.missing_day.result; alone = 2 * both.result.from.alone; company = 2 * both.result.from.company; room = c.further_room.result } in
-    let less_small : IsSmallJoining less = record { seats = c.unseated.ensures.bound; day = c.missing_day.ensures.bound; alone = omega (arith, both.ensures.from_few); company = omega (arith, both.ensures.from_bound); room = c.further_room.ensures.bound } in
-    let less_day : c.missing_day.result ≡ cond (at k.days l.course (day_of i l.slot) 0 - cond (day_of i l.slot == day_of i l.slot) 1 0 == 0 && ltb (at k.used 0 l.course 0 - cond (at k.days l.course (day_of i l.slot) 0 == 1) 1 0) (course_of i l.course).min_days) 5 0 = rw (c.days_left-days.ensures, c.day_of-day.ensures.exact) at c.missing_day.ensures.value in
-    let less_alone : both.result.from.alone ≡ sum_by (λ q. stands_alone i (part_without i k.parts l.slot q) l.slot) c.curricula_of-curricula.result.now = rw (c.about-here.ensures.gone, c.about-here.ensures.slot) at both.ensures.from_alone in
-    let less_company : both.result.from.company ≡ sum_by (λ q. alone_beside i (part_without i k.parts l.slot q) l.slot) c.curricula_of-curricula.result.now = rw (c.about-here.ensures.gone, c.about-here.ensures.slot) at both.ensures.from_company in
-    let less_is : less ≡ joining i (without l.course l.slot t) l = joining_left i t l k h c.requires.there c.requires.counts l less c.curricula_of-curricula.result.now both.result.from.alone both.result.from.company refl known c.curricula_of-curricula.ensures.exact c.unseated.ensures.value less_day refl less_alone refl less_company c.further_room.ensures.value in
-    subst IsSmallJoining less_is less_small
+    c.of.ensures.value ∙ ap₂ shift_of less_is more_is

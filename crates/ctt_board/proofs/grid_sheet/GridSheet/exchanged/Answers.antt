@@ -3,13 +3,14 @@ use Rattle.ctt_text.specs.Problem.{Problem, clash}
 use Rattle.ctt_text.specs.Timetable.{without}
 use Rattle.ctt_text.specs.declared.placed.Placed.{Placed}
 use Rattle.ctt_rules.specs.Hard.{Lawful}
-use Rattle.ctt_board.specs.Boards.{Board, delta}
-use Rattle.ctt_board.specs.Changes.{cell, room_at, is_change, ChangeFits}
+use Rattle.ctt_rules.specs.Penalty.{penalty}
+use Rattle.ctt_board.specs.Boards.{Board}
+use Rattle.ctt_board.specs.Changes.{cell, room_at, apply, is_change, ChangeFits}
 use Rattle.ctt_board.specs.Joining.{joining}
+use Rattle.ctt_board.specs.Shifts.{Shifts, shift_of, both_shifts}
 use Rattle.ctt_board.specs.declared.cell.Cell.{Cell}
 use Rattle.ctt_board.proofs.ApartLemmas.{Exchange, cells_of, first_fits, other_fits, first_free, other_free, each_by_itself}
 use Rattle.ctt_board.proofs.BetweenLemmas.{OnTheWay, way_of}
-use Rattle.ctt_board.proofs.GainLemmas.{pair_fits, pair_is}
 use Rattle.ctt_board.proofs.grid_sheet.GridSheet.exchanged.Goals as goal
 
 -- the first two cells on their way
@@ -51,8 +52,8 @@ leaving-requires-2-clause-course c = (second c.args.self.now.problem c.args.self
 pub leaving-requires-2-clause-slot : goal.leaving-requires-2-clause-slot
 leaving-requires-2-clause-slot c = (second c.args.self.now.problem c.args.self.now.list c.args.first.now c.args.second.now c.args.third.now c.args.fourth.now c.lawful.ensures c.requires.turn c.requires.fits).ready.slot
 
-pub moved-more-requires-clause-fits : goal.moved-more-requires-clause-fits
-moved-more-requires-clause-fits c =
+pub moved-one-requires-clause-fits : goal.moved-one-requires-clause-fits
+moved-one-requires-clause-fits c =
     let i : Problem = c.self.inside.instance.now in
     let t : List Placed = c.args.self.now.list in
     let l : Placed = c.in_ok-from.from in
@@ -65,8 +66,8 @@ moved-more-requires-clause-fits c =
     c.in_ok-from.ensures c.in_ok-other_from.ensures c.in_ok-to.ensures c.in_ok-other_to.ensures differ (sym c.clash.ensures ∙ c.if-clash.false) in
     first_fits i t l m l' m' x
 
-pub moved-more-requires-clause-free : goal.moved-more-requires-clause-free
-moved-more-requires-clause-free c =
+pub moved-one-requires-clause-free : goal.moved-one-requires-clause-free
+moved-one-requires-clause-free c =
     let i : Problem = c.self.inside.instance.now in
     let t : List Placed = c.args.self.now.list in
     let l : Placed = c.in_ok-from.from in
@@ -107,18 +108,8 @@ moved-other-requires-clause-free c =
     c.in_ok-from.ensures c.in_ok-other_from.ensures c.in_ok-to.ensures c.in_ok-other_to.ensures differ (sym c.clash.ensures ∙ c.if-clash.false) in
     other_free i t l m l' m' x
 
-pub overflow_add-result : goal.overflow_add-result
-overflow_add-result c =
-    let i : Problem = c.self.inside.instance.now in
-    let t : List Placed = c.args.self.now.list in
-    let l : Placed = c.in_ok-from.from in
-    let m : Placed = c.in_ok-other_from.other_from in
-    let first_left : List Placed = without l.course l.slot t in
-    let other_left : List Placed = without m.course m.slot t in
-    pair_fits c.moved-more.result c.moved-other.result (joining i first_left c.in_ok-to.to) (joining i first_left l) (joining i other_left c.in_ok-other_to.other_to) (joining i other_left m) c.moved-more.ensures.value c.moved-other.ensures.value c.moved-more.ensures.more c.moved-more.ensures.less c.moved-other.ensures.more c.moved-other.ensures.less
-
-pub returns : goal.returns
-returns c =
+pub returns-clause-shifts : goal.returns-clause-shifts
+returns-clause-shifts c =
     let i : Problem = c.self.inside.instance.now in
     let t : List Placed = c.args.self.now.list in
     let l : Placed = c.in_ok-from.from in
@@ -129,8 +120,7 @@ returns c =
     let differ : (l.course == m.course) ≡ false = search rules in
     let x : Exchange i t l m l' m' = exchange_of i c.args.self.now.problem t c.args.first.now c.args.second.now c.args.third.now c.args.fourth.now l m l' m' same c.lawful.ensures c.requires.fits
     c.in_ok-from.ensures c.in_ok-other_from.ensures c.in_ok-to.ensures c.in_ok-other_to.ensures differ (sym c.clash.ensures ∙ c.if-clash.false) in
-    let first_left : List Placed = without l.course l.slot t in
-    let other_left : List Placed = without m.course m.slot t in
-    pair_is c.moved-more.result c.moved-other.result (joining i first_left c.in_ok-to.to) (joining i first_left l) (joining i other_left c.in_ok-other_to.other_to) (joining i other_left m) c.moved-more.ensures.value c.moved-other.ensures.value c.moved-more.ensures.more c.moved-more.ensures.less c.moved-other.ensures.more c.moved-other.ensures.less
-    ∙ each_by_itself i t l m l' m' x
-    ∙ ap₂ (λ q cells. delta q t cells) same (sym (cells_are c.args.first.now c.args.second.now c.args.third.now c.args.fourth.now l m l' m' c.in_ok-from.ensures.0 c.in_ok-other_from.ensures.0 c.in_ok-to.ensures.0 c.in_ok-other_to.ensures.0))
+    let value : c.and.result ≡ both_shifts (shift_of (joining i (without l.course l.slot t) l) (joining i (without l.course l.slot t) l')) (shift_of (joining i (without m.course m.slot t) m) (joining i (without m.course m.slot t) m')) = c.and.ensures.value ∙ ap₂ both_shifts c.moved-one.ensures.value c.moved-other.ensures.value in
+    let by : Shifts (penalty i t) (penalty i (apply (cells_of l m l' m') t)) c.and.result = rw value (each_by_itself i t l m l' m' x) in
+    subst (λ xs. Shifts (penalty c.args.self.now.problem t) (penalty c.args.self.now.problem (apply xs t)) c.and.result) (sym (cells_are c.args.first.now c.args.second.now c.args.third.now c.args.fourth.now l m l' m' c.in_ok-from.ensures.0 c.in_ok-other_from.ensures.0 c.in_ok-to.ensures.0 c.in_ok-other_to.ensures.0))
+    (subst (λ q. Shifts (penalty q t) (penalty q (apply (cells_of l m l' m') t)) c.and.result) same by)

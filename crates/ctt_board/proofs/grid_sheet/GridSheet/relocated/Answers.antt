@@ -1,14 +1,14 @@
-use Rattle.std.proofs.Common.{refl, ◌≡◌, ◌∷◌, [], ◌∙◌, List, Some, None, true, sym, ap, ap₂, subst, arith}
+use Rattle.std.proofs.Common.{refl, ◌≡◌, ◌∷◌, [], List, Some, None, true, sym, ap, subst, arith}
 use Rattle.ctt_text.specs.Problem.{Problem}
 use Rattle.ctt_text.specs.declared.placed.Placed.{Placed}
 use Rattle.ctt_rules.specs.Hard.{Lawful}
-use Rattle.ctt_board.specs.Boards.{Board, delta}
-use Rattle.ctt_rules.specs.Penalty.{penalty, total}
+use Rattle.ctt_board.specs.Boards.{Board}
+use Rattle.ctt_rules.specs.Penalty.{penalty}
 use Rattle.ctt_board.specs.Changes.{cell, apply, is_change, ChangeFits}
+use Rattle.ctt_board.specs.Shifts.{Shifts}
 use Rattle.ctt_board.specs.declared.cell.Cell.{Cell}
 use Rattle.ctt_board.proofs.ApartLemmas.{steps_of, goes_fits, goes_free, goes_by}
 use Rattle.ctt_board.proofs.BetweenLemmas.{OnTheWay, way_of}
-use Rattle.ctt_board.proofs.GainLemmas.{small, same_back}
 use Rattle.ctt_board.proofs.grid_sheet.GridSheet.relocated.Goals as goal
 
 -- the first cell on its way
@@ -41,8 +41,8 @@ moved-requires-clause-free c =
     let same : i ≡ c.args.self.now.problem = ap (λ (b : Board). b.problem) c.self.view_is in
     goes_free i t c.in_ok-from.from c.in_ok-to.to (subst (λ q. Lawful q t) (sym same) c.lawful.ensures) (steps_fit i c.args.self.now.problem t c.args.first.now c.args.second.now c.in_ok-from.from c.in_ok-to.to same c.in_ok-from.ensures.0 c.in_ok-to.ensures.0 c.requires.fits) c.in_ok-from.ensures.1
 
-pub returns : goal.returns
-returns c =
+pub returns-clause-shifts : goal.returns-clause-shifts
+returns-clause-shifts c =
     let i : Problem = c.self.inside.instance.now in
     let t : List Placed = c.args.self.now.list in
     let l : Placed = c.in_ok-from.from in
@@ -50,6 +50,9 @@ returns c =
     let same : i ≡ c.args.self.now.problem = ap (λ (b : Board). b.problem) c.self.view_is in
     let h : Lawful i t = subst (λ q. Lawful q t) (sym same) c.lawful.ensures in
     let fits : ChangeFits i (steps_of l m) t = steps_fit i c.args.self.now.problem t c.args.first.now c.args.second.now l m same c.in_ok-from.ensures.0 c.in_ok-to.ensures.0 c.requires.fits in
-    let value : c.moved.result ≡ delta i t (steps_of l m) = c.moved.ensures.value ∙ goes_by i t l m h fits c.in_ok-from.ensures.1 in
-    same_back c.moved.result (total (penalty i (apply (steps_of l m) t))) (total (penalty i t)) value (small i (apply (steps_of l m) t) c.limits_hold.ensures fits.lawful) (small i t c.limits_hold.ensures h)
-    ∙ ap₂ (λ q cells. delta q t cells) same (sym (steps_are c.args.first.now c.args.second.now l m c.in_ok-from.ensures.0 c.in_ok-to.ensures.0))
+    let by : Shifts (penalty i t) (penalty i (apply (steps_of l m) t)) c.moved.result = rw c.moved.ensures.value (goes_by i t l m h fits c.in_ok-from.ensures.1) in
+    subst (λ xs. Shifts (penalty c.args.self.now.problem t) (penalty c.args.self.now.problem (apply xs t)) c.moved.result) (sym (steps_are c.args.first.now c.args.second.now l m c.in_ok-from.ensures.0 c.in_ok-to.ensures.0))
+    (subst (λ q. Shifts (penalty q t) (penalty q (apply (steps_of l m) t)) c.moved.result) same by)
+
+pub returns-clause-small : goal.returns-clause-small
+returns-clause-small c = record { more = omega (arith, c.moved.ensures.small.more); less = omega (arith, c.moved.ensures.small.less) }

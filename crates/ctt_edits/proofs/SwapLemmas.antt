@@ -1,0 +1,179 @@
+-- The faults of a swap, by the two slots.
+use Rattle.std.proofs.Common.{◌≡◌, ◌∙◌, ◌<◌, ℕ, Bool, true, false, not, leb, ◌==◌, ◌&&◌, List, [], ◌∷◌, length, Option, Some, None, is_some, refl, sym, ap, ap₂, arith}
+use Rattle.std.specs.List.{filter, find, AllByRecursion as Each}
+use Rattle.std.specs.Option.{option_map}
+use Rattle.std.proofs.lemmas.Bool.{eq-eqb, lt-leb}
+use Rattle.std.proofs.lemmas.Bool.Decides.{nat_tests}
+use Rattle.ctt_text.specs.Problem.{Problem, course_of, clash, is_unavailable}
+use Rattle.ctt_text.specs.Timetable.{before, course_row, slot_row, with, without}
+use Rattle.ctt_text.specs.declared.placed.Placed.{Placed}
+use Rattle.ctt_rules.specs.Hard.{Lawful}
+use Rattle.ctt_rules.proofs.ConflictLemmas.{clash_comm}
+use Rattle.ctt_rules.proofs.ListLemmas.{Each-filter}
+use Rattle.ctt_board.specs.Changes.{room_of, room_at, clash_at, holder_at, course_named}
+use Rattle.ctt_board.proofs.ApplyLemmas.{untouched_at, untouched_slot_at}
+use Rattle.ctt_board.proofs.BetweenLemmas.{somewhere, some_room}
+use Rattle.ctt_board.proofs.FitLemmas.{was_free}
+use Rattle.ctt_board.proofs.HolderLemmas.{holder_without, find_nowhere}
+use Rattle.ctt_board.proofs.LawfulLemmas.{Free, Each-from_filter, without_lawful, eqb_comm}
+use Rattle.ctt_board.proofs.PutLemmas.{filter_filter}
+use Rattle.ctt_board.proofs.RoomLemmas.{is_at, room_is, room_after, find-filter, find_put_no}
+use Rattle.ctt_edits.specs.Edits.{or_else, fault_if, try_fault, fault_in_place_of, edit_fault}
+use Rattle.ctt_edits.specs.declared.edit.Edit.TheVariants.{Swap}
+use Rattle.ctt_edits.specs.declared.fault.EditFault.{EditFault}
+use Rattle.ctt_edits.specs.declared.fault.EditFault.TheVariants.{AlreadyThere, CourseFull, Unavailable, Clash, RoomTaken}
+
+or_none : (o : Option EditFault) → or_else o None ≡ o
+or_none None = refl
+or_none (Some f) = refl
+
+by_parts : (there closed full : Bool) (clashing taken : Option ℕ) → full ≡ false → taken ≡ None →
+    or_else (fault_if there AlreadyThere) (or_else (fault_if full CourseFull) (or_else (fault_if closed Unavailable) (or_else (option_map Clash clashing) (option_map RoomTaken taken))))
+    ≡ or_else (fault_if there AlreadyThere) (or_else (fault_if closed Unavailable) (option_map Clash clashing))
+by_parts there closed full clashing taken e h = rw (e, h) (ap (λ o. or_else (fault_if there AlreadyThere) (or_else (fault_if closed Unavailable) o)) (or_none (option_map Clash clashing)))
+
+-- the first fault in a room that nobody has, of a course that lacks a lecture
+in_free_room : (i : Problem) (t : List Placed) (c s r : ℕ) → length (course_row c t) < (course_of i c).lectures → holder_at s r t ≡ None →
+    try_fault i t c s r ≡ or_else (fault_if (is_some (room_at c s t)) AlreadyThere) (or_else (fault_if (is_unavailable i c s) Unavailable) (option_map Clash (clash_at i c s t)))
+in_free_room i t c s r fewer free = by_parts (is_some (room_at c s t)) (is_unavailable i c s) (leb (course_of i c).lectures (length (course_row c t))) (clash_at i c s t) (holder_at s r t) (lt-leb (course_of i c).lectures (length (course_row c t)) fewer) free
+
+no_fault_there : (i : Problem) (t : List Placed) (c s r : ℕ) → length (course_row c t) < (course_of i c).lectures → holder_at s r t ≡ None → room_at c s t ≡ None → is_unavailable i c s ≡ false → clash_at i c s t ≡ None → try_fault i t c s r ≡ None
+no_fault_there i t c s r fewer free empty available clear = in_free_room i t c s r fewer free ∙ rw (empty, available, clear) refl
+
+-- two lectures of two courses, each with its room, and the timetable without them
+module _ (i : Problem) (t : List Placed) (c s r d e q : ℕ) (lawful : Lawful i t) (there : room_at c s t ≡ Some r) (other_there : room_at d e t ≡ Some q) (apart : (c == d) ≡ false) where
+  abbrev left : List Placed
+  left = without c s t
+
+  abbrev gone : List Placed
+  gone = without d e left
+
+  -- the first one in the place of the other
+  abbrev first : List Placed
+  first = with (record { course = c; slot = e; room = q }) gone
+
+  left_lawful : Lawful i left
+  left_lawful = without_lawful i t c s lawful
+
+  turned : (d == c) ≡ false
+  turned = eqb_comm d c ∙ apart
+
+  stays : room_at d e left ≡ Some q
+  stays = room_after c s None d e t (ap is_some there) ∙ rw apart other_there
+
+  free : Free i left c s r
+  free = was_free i t c s r lawful there
+
+  other_free : Free i gone d e q
+  other_free = was_free i left d e q left_lawful stays
+
+  own_fewer : length (course_row c gone) < (course_of i c).lectures
+  own_fewer = rw (untouched_at (λ x. x == c) d e None left turned) free.fewer
+
+  other_row : course_row d first ≡ course_row d gone
+  other_row = untouched_at (λ x. x == d) c e (Some q) gone apart
+
+  other_fewer : length (course_row d first) < (course_of i d).lectures
+  other_fewer = rw other_row other_free.fewer
+
+  nobody : holder_at e q gone ≡ None
+  nobody = holder_without i (record { course = d; slot = e; room = q }) left e q left_lawful stays ∙ rw (eq-eqb e e refl, eq-eqb q q refl) refl
+
+  nobody_left : holder_at s r left ≡ None
+  nobody_left = holder_without i (record { course = c; slot = s; room = r }) t s r lawful there ∙ rw (eq-eqb s s refl, eq-eqb r r refl) refl
+
+  -- in two slots each slot loses one and gets one
+  module _ (differ : (s == e) ≡ false) where
+    back : (e == s) ≡ false
+    back = eqb_comm e s ∙ differ
+
+    here : slot_row e gone ≡ slot_row e (without d e t)
+    here = ap (slot_row e) (filter_filter (λ l. not (l.course == d && l.slot == e)) (λ l. not (l.course == c && l.slot == s)) t) ∙ untouched_slot_at (λ x. x == e) c s None (without d e t) differ
+
+    own_room : room_at c e gone ≡ room_at c e t
+    own_room = room_after d e None c e left (ap is_some stays) ∙ rw turned (room_after c s None c e t (ap is_some there) ∙ rw (eq-eqb c c refl, differ) refl)
+
+    first_is : fault_in_place_of i t c e d ≡ try_fault i gone c e q
+    first_is = ap₂ (λ o x. or_else (fault_if (is_some o) AlreadyThere) (or_else (fault_if (is_unavailable i c e) Unavailable) (option_map Clash x))) (sym own_room) (ap (λ ls. course_named (find (λ l. clash i c l.course) ls)) (sym here)) ∙ sym (in_free_room i gone c e q own_fewer nobody)
+
+    there_row : slot_row s first ≡ slot_row s left
+    there_row = untouched_slot_at (λ x. x == s) c e (Some q) gone back ∙ untouched_slot_at (λ x. x == s) d e None left back
+
+    other_room : room_at d s first ≡ room_at d s t
+    other_room = ap (λ ls. room_of (find (λ l. l.slot == s) ls)) other_row ∙ room_after d e None d s left (ap is_some stays) ∙ rw (eq-eqb d d refl, back) (room_after c s None d s t (ap is_some there) ∙ rw apart refl)
+
+    second_is : fault_in_place_of i t d s c ≡ try_fault i first d s r
+    second_is = ap₂ (λ o x. or_else (fault_if (is_some o) AlreadyThere) (or_else (fault_if (is_unavailable i d s) Unavailable) (option_map Clash x))) (sym other_room) (ap (λ ls. course_named (find (λ l. clash i d l.course) ls)) (sym there_row))
+        ∙ sym (in_free_room i first d s r other_fewer (ap (λ ls. course_named (find (λ l. l.room == r) ls)) there_row ∙ nobody_left))
+
+    by_slots : edit_fault i t (Swap c s d e) ≡ or_else (fault_in_place_of i t c e d) (fault_in_place_of i t d s c)
+    by_slots = rw (there, other_there, apart) (ap₂ or_else (sym first_is) (sym second_is))
+
+  -- in one slot they only take each other's room
+  module _ (same : e ≡ s) where
+    both : Each (λ (l : Placed). (l.slot == s) ≡ true → (clash i c l.course ≡ false) × ((l.room == r) ≡ false)) left
+    both = Each-from_filter (λ (l : Placed). (clash i c l.course ≡ false) × ((l.room == r) ≡ false)) (λ l. l.slot == s) left (Each-both (slot_row s left) free.no_clash free.room_free)
+      where
+        Each-both : (xs : List Placed) → Each (λ (l : Placed). clash i c l.course ≡ false) xs → Each (λ (l : Placed). (l.room == r) ≡ false) xs → Each (λ (l : Placed). (clash i c l.course ≡ false) × ((l.room == r) ≡ false)) xs
+        Each-both [] g h = tt
+        Each-both (x ∷ xs) g h = ((g.0, h.0), Each-both xs g.1 h.1)
+
+    unlike : (clash i c d ≡ false) × ((q == r) ≡ false)
+    unlike =
+        let found = somewhere (λ (l : Placed). (l.slot == s) ≡ true → (clash i c l.course ≡ false) × ((l.room == r) ≡ false)) (is_at d e) left q both (sym (room_is d e left) ∙ stays) in
+        let l : Placed = found.0 in
+        let course : l.course ≡ d = grind (arith, nat_tests, found.2) in
+        let slot : (l.slot == s) ≡ true = grind (arith, nat_tests, found.2, same) in
+        let it = found.1 slot in
+        (ap (clash i c) (sym course) ∙ it.0, ap (λ x. x == r) (sym found.3) ∙ it.1)
+
+    without_them : (p : Placed → Bool) → Each (λ l. p l ≡ false) (slot_row s left) → find p (slot_row s gone) ≡ None
+    without_them p h = ap (find p) (filter_filter (λ l. l.slot == s) (λ l. not (l.course == d && l.slot == e)) left) ∙ find_nowhere p (filter (λ l. not (l.course == d && l.slot == e)) (slot_row s left)) (Each-filter (λ l. p l ≡ false) (λ l. not (l.course == d && l.slot == e)) (slot_row s left) h)
+
+    own_empty : room_at c e gone ≡ None
+    own_empty = room_after d e None c e left (ap is_some stays) ∙ rw turned (room_after c s None c e t (ap is_some there) ∙ rw (eq-eqb c c refl, eq-eqb s e (sym same)) refl)
+
+    own_clear : clash_at i c e gone ≡ None
+    own_clear = ap (λ x. course_named (find (λ l. clash i c l.course) (slot_row x gone))) same ∙ ap course_named (without_them (λ l. clash i c l.course) free.no_clash)
+
+    first_none : try_fault i gone c e q ≡ None
+    first_none = no_fault_there i gone c e q own_fewer nobody own_empty (rw same free.available) own_clear
+
+    -- what none in the slot passes, nor the lecture that has come, none passes now
+    with_first : (p : Placed → Bool) → p (record { course = c; slot = e; room = q }) ≡ false → find p (slot_row s gone) ≡ None → find p (slot_row s first) ≡ None
+    with_first p own none =
+        find-filter (λ l. l.slot == s) p first
+        ∙ find_put_no (λ l. (l.slot == s) && p l) before (record { course = c; slot = e; room = q }) gone (rw own (and_no (e == s)))
+        ∙ sym (find-filter (λ l. l.slot == s) p gone) ∙ none
+      where
+        and_no : (b : Bool) → (b && false) ≡ false
+        and_no true = refl
+        and_no false = refl
+
+    other_empty : room_at d s first ≡ None
+    other_empty = ap (λ ls. room_of (find (λ l. l.slot == s) ls)) other_row ∙ room_after d e None d s left (ap is_some stays) ∙ rw (eq-eqb d d refl, eq-eqb e s same) refl
+
+    other_clear : clash_at i d s first ≡ None
+    other_clear = ap course_named (with_first (λ l. clash i d l.course) (clash_comm i d c ∙ unlike.0) (ap (λ x. find (λ l. clash i d l.course) (slot_row x gone)) (sym same) ∙ find_nowhere (λ l. clash i d l.course) (slot_row e gone) other_free.no_clash))
+
+    other_nobody : holder_at s r first ≡ None
+    other_nobody = ap course_named (with_first (λ l. l.room == r) unlike.1 (without_them (λ l. l.room == r) free.room_free))
+
+    second_none : try_fault i first d s r ≡ None
+    second_none = no_fault_there i first d s r other_fewer other_nobody other_empty (rw (← same) other_free.available) other_clear
+
+    within : edit_fault i t (Swap c s d e) ≡ None
+    within = rw (there, other_there, apart) (ap₂ or_else first_none second_none)
+
+-- the fault of a swap of two lectures that are there, in two slots and in one
+pub in_two_slots : (i : Problem) (t : List Placed) (c s d e : ℕ) → Lawful i t → is_some (room_at c s t) ≡ true → is_some (room_at d e t) ≡ true → (c == d) ≡ false → (s == e) ≡ false → edit_fault i t (Swap c s d e) ≡ or_else (fault_in_place_of i t c e d) (fault_in_place_of i t d s c)
+in_two_slots i t c s d e lawful there other_there apart differ =
+    let own = some_room (room_at c s t) there in
+    let other = some_room (room_at d e t) other_there in
+    by_slots i t c s own.0 d e other.0 lawful own.1 other.1 apart differ
+
+pub in_one_slot : (i : Problem) (t : List Placed) (c s d e : ℕ) → Lawful i t → is_some (room_at c s t) ≡ true → is_some (room_at d e t) ≡ true → (c == d) ≡ false → e ≡ s → edit_fault i t (Swap c s d e) ≡ None
+in_one_slot i t c s d e lawful there other_there apart same =
+    let own = some_room (room_at c s t) there in
+    let other = some_room (room_at d e t) other_there in
+    within i t c s own.0 d e other.0 lawful own.1 other.1 apart same
