@@ -6,3 +6,4 @@ pub mod Comparisons
 pub mod Replays
 pub mod PutBack
 pub mod Endings
+pub mod Logs

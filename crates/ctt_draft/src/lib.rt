@@ -4,8 +4,10 @@
 mod asked;
 mod comparing;
 mod draft;
+mod ghost_list;
 mod idle;
 pub mod laws;
+mod log;
 mod put_back;
 mod remains;
 mod replaying;
@@ -15,7 +17,9 @@ mod work;
 
 pub use asked::{Asked, AskedCalls};
 pub use draft::Draft;
+pub use ghost_list::{GhostList, Tells};
 pub use idle::Idle;
+pub use log::{Keeping, Kept, Log, Unkept};
 pub use remains::Remains;
 pub use replaying::replay;
 pub use work::Work;

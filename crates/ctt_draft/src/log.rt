@@ -1,0 +1,136 @@
+//! A list that grows at its end, and that is kept, or not.
+
+ghost use Rattle.std.specs.Prelude.{◌≡◌, Bool, true, false, [], ◌∷◌, ◌++◌, length, OnOk, OnErr};
+
+use crate::ghost_list::{GhostList, Tells};
+use std::alloc::{AllocError, Global};
+use std::marker::{Model, PhantomData};
+
+/// Whether what is added to a log is kept.
+pub trait Keeping {
+    ghost keeps: { Bool };
+
+    /// Whether it is.
+    fn keeps() -> bool
+        ensures { result ≡ Self.keeps };
+}
+
+/// It is kept, and can be read.
+pub struct Kept;
+
+impl Keeping for Kept {
+    ghost use Rattle.std.specs.Prelude.{true};
+
+    ghost keeps = { true };
+
+    fn keeps() -> bool {
+        true
+    }
+}
+
+/// It is not kept: contracts alone speak of it.
+pub struct Unkept;
+
+impl Keeping for Unkept {
+    ghost use Rattle.std.specs.Prelude.{false};
+
+    ghost keeps = { false };
+
+    fn keeps() -> bool {
+        false
+    }
+}
+
+/// A list that grows at its end, and its length. Where it is not kept it takes no memory.
+#[derive(Drop)]
+pub struct Log<E, K: Keeping> {
+    kept: Vec<E>,
+    len: u64,
+    all: GhostList<E>,
+    keeping: PhantomData<K>,
+}
+
+impl<E, K: Keeping> Model for Log<E, K> {
+    ghost use Rattle.ctt_draft.specs.Logs.{LogValue, has_room, IsLog};
+    ghost use Rattle.std.specs.Vec.{vec_len, vec_capacity};
+
+    ghost Value = { LogValue E };
+
+    ghost view = { λ l. record { list = l.all; has_room = has_room K.keeps l.len (vec_len l.kept) (vec_capacity l.kept) } };
+
+    ghost invariant = { λ l. IsLog K.keeps l.kept.items l.len l.all };
+}
+
+/// An element tells of itself.
+struct Itself;
+
+impl<E> Tells<E, E> for Itself {
+    ghost element = { λ e. e };
+}
+
+impl<E: Drop, K: Keeping> Log<E, K> {
+    /// Nothing was added.
+    pub fn new(alloc: Global) -> Self
+        ensures { result.list ≡ [] }
+    {
+        Log {
+            kept: Vec::new(alloc),
+            len: 0,
+            all: GhostList::new(),
+            keeping: PhantomData,
+        }
+    }
+
+    /// How many were added.
+    pub fn len(&self) -> u64
+        ensures { result ≡ length self.now.list }
+    {
+        self.len
+    }
+
+    /// Makes room for one more, and at first for so many.
+    pub fn reserve(&mut self, first: usize) -> Result<(), AllocError>
+        ensures list { self.new.list ≡ self.old.list }
+        ensures room { OnOk result (self.new.has_room ≡ true) }
+    {
+        if self.len == u64::MAX {
+            return Err(AllocError);
+        }
+        if K::keeps() {
+            let more = if self.len == 0 { first.max(1) } else { 1 };
+            self.kept.reserve(more)?;
+        }
+        Ok(())
+    }
+
+    /// Adds an element at the end.
+    pub fn push(&mut self, element: E)
+        requires { self.old.has_room ≡ true }
+        ensures { self.new.list ≡ self.old.list ++ element ∷ [] }
+    {
+        self.all.push::<E, Itself>(&element);
+        self.len += 1;
+        if K::keeps() {
+            self.kept.push(element).unwrap();
+        }
+    }
+
+    /// Adds an element that is not kept.
+    pub fn note<X, M: Tells<X, E>>(&mut self, teller: &X)
+        requires unkept { K.keeps ≡ false }
+        requires room { self.old.has_room ≡ true }
+        ensures { self.new.list ≡ self.old.list ++ M.element teller.now ∷ [] }
+    {
+        self.all.push::<X, M>(teller);
+        self.len += 1;
+    }
+}
+
+impl<E: Drop> Log<E, Kept> {
+    /// All that was added, in order.
+    pub fn as_slice(&self) -> &[E]
+        ensures { result.now ≡ self.now.list }
+    {
+        self.kept.as_slice()
+    }
+}
