@@ -1,6 +1,5 @@
 //! A draft: what one planner asks of a timetable of his own.
 
-ghost use Rattle.std.specs.Vec.{vec_len, vec_capacity};
 ghost use Rattle.std.specs.Prelude.{◌≡◌, ◌≤◌, ◌+◌, ◌++◌, ◌∷◌, [], List, false, IfOk, OnOk, OnErr, None, Ok};
 ghost use Rattle.ctt_text.specs.declared.placed.Placed.{Placed as Lecture};
 ghost use Rattle.ctt_edits.specs.Calls.{CallFits, reply, cells_of};
@@ -19,10 +18,11 @@ ghost use Rattle.ctt_board.specs.Changes.{ChangeFits, apply as applied, apply_al
 ghost use Rattle.ctt_draft.specs.Undo.{undo_of, all_noted, AreWithin};
 ghost use Rattle.ctt_draft.specs.Comparisons.{LeavesRest};
 
-use crate::asked::{Asked, AskedCalls};
+use crate::asked::{Asked, note_told};
 use crate::comparing::Comparison;
 use crate::idle::Idle;
 use crate::laws;
+use crate::log::{Keeping, Kept, Log};
 use crate::remains::Remains;
 use crate::touched::Touched;
 use crate::undo::Undo;
@@ -30,31 +30,31 @@ use crate::work::Work;
 use ctt_board::{Cell, Change, Rooms, Sheet, Timetable};
 use ctt_edits::{Call, Edit, Look, Reply, Row, RowsRead, check};
 use ctt_text::{Instance, NoMemory};
-use std::alloc::{AllocError, Global};
+use std::alloc::Global;
 use std::marker::Model;
 
 /// The timetable at the opening, the calls since then with their replies, and the timetable as these
 /// leave it. Nobody else's work is seen in it. Only the last of these timetables is kept; the undo
 /// record leads from it back to the first, the base.
 #[derive(Drop)]
-pub struct Draft<'i, S: Timetable> {
+pub struct Draft<'i, S: Timetable, K: Keeping> {
     instance: &'i Instance,
     present: Box<S>,
     undo: Undo,
-    asked: Vec<Asked>,
+    asked: Log<Asked, K>,
     changes: Vec<Change>,
     rows: Box<RowsRead>,
 }
 
-impl<'i, S: Timetable> Model for Draft<'i, S> {
+impl<'i, S: Timetable, K: Keeping> Model for Draft<'i, S, K> {
     ghost use Rattle.ctt_draft.specs.DraftValues.{DraftValue, IsDraft};
     ghost use Rattle.ctt_draft.specs.Undo.{put_back};
 
     ghost Value = { DraftValue };
 
-    ghost view = { λ d. record { problem = d.instance.now; base = put_back d.instance.now d.undo.cells (S.list d.present.value); asked = d.asked.items } };
+    ghost view = { λ d. record { problem = d.instance.now; base = put_back d.instance.now d.undo.cells (S.list d.present.value); asked = d.asked.list } };
 
-    ghost invariant = { λ d. IsDraft d.instance.now (S.problem d.present.value) (put_back d.instance.now d.undo.cells (S.list d.present.value)) (S.list d.present.value) d.asked.items d.changes.items d.undo d.rows.value };
+    ghost invariant = { λ d. IsDraft d.instance.now (S.problem d.present.value) (put_back d.instance.now d.undo.cells (S.list d.present.value)) (S.list d.present.value) d.asked.list d.changes.items d.undo d.rows.value };
 }
 
 /// An equal sheet, boxed: drafts are moved often, and sheets are large.
@@ -107,22 +107,10 @@ fn no_rows(alloc: Global) -> Result<Box<RowsRead>, NoMemory>
     Ok(Box::new(alloc, RowsRead::new())?)
 }
 
-/// For how many calls a draft has room at first.
+/// For how many calls a draft has room at first, as it mostly has several.
 const FIRST_ROOM: usize = 16;
 
-/// Makes room for a call more, and at first for several, as a draft mostly has.
-fn make_room(asked: &mut Vec<Asked>) -> Result<(), AllocError>
-    ensures items { asked.new.items ≡ asked.old.items }
-    ensures room { OnOk result (vec_len asked.new + 1 ≤ vec_capacity asked.new) }
-{
-    if asked.is_empty() {
-        asked.reserve(FIRST_ROOM)
-    } else {
-        asked.reserve(1)
-    }
-}
-
-impl<'i, S: Sheet<'i>> Draft<'i, S> {
+impl<'i, S: Sheet<'i>, K: Keeping> Draft<'i, S, K> {
     /// A draft on the timetable of a sheet, in which nothing was asked yet.
     pub fn open(alloc: Global, sheet: &S) -> Result<Self, NoMemory>
         ensures problem { IfOk result (λ draft. draft.problem ≡ S.problem sheet.now) }
@@ -138,7 +126,7 @@ impl<'i, S: Sheet<'i>> Draft<'i, S> {
             instance,
             present,
             undo,
-            asked: Vec::new(alloc),
+            asked: Log::new(alloc),
             changes: Vec::new(alloc),
             rows,
         })
@@ -157,7 +145,7 @@ impl<'i, S: Sheet<'i>> Draft<'i, S> {
             instance: idle.sheet.instance(),
             present: idle.sheet,
             undo: idle.undo,
-            asked: Vec::new(alloc),
+            asked: Log::new(alloc),
             changes: Vec::new(alloc),
             rows,
         }
@@ -168,13 +156,6 @@ impl<'i, S: Sheet<'i>> Draft<'i, S> {
         ensures { result.now ≡ self.now.problem }
     {
         self.instance
-    }
-
-    /// The calls with their replies, in order.
-    pub fn asked(&self) -> &[Asked]
-        ensures { result.now ≡ self.now.asked }
-    {
-        self.asked.as_slice()
     }
 
     /// The changes that the calls made, in order. Replayed on a timetable on which the draft is not
@@ -195,17 +176,17 @@ impl<'i, S: Sheet<'i>> Draft<'i, S> {
         self.undo.cells()
     }
 
-    /// Keeps a call that changes nothing, with its reply.
+    /// Adds a call that changes nothing, and what was told.
     #[inline(always)]
-    fn keep(&mut self, call: Call, told: Reply) -> Result<(), NoMemory>
+    fn keep(&mut self, call: Call, told: &Reply) -> Result<(), NoMemory>
         requires fits { CallFits self.old.problem call }
-        requires told { told ≡ reply self.old.problem (present self.old) call }
+        requires told { told.now ≡ reply self.old.problem (present self.old) call }
         requires still { cells_of self.old.problem (present self.old) call ≡ [] }
-        ensures ok { OnOk result (self.new ≡ asked_more self.old call told) }
+        ensures ok { OnOk result (self.new ≡ asked_more self.old call told.now) }
         ensures err { OnErr result (self.new ≡ self.old) }
     {
-        make_room(&mut self.asked)?;
-        self.asked.push(Asked { call, reply: told }).unwrap();
+        self.asked.reserve(FIRST_ROOM)?;
+        note_told(&mut self.asked, call, told)?;
         add(&mut self.rows, self.instance, &call);
         Ok(())
     }
@@ -221,12 +202,12 @@ impl<'i, S: Sheet<'i>> Draft<'i, S> {
         let call = Call::Edit(edit);
         self.present.lawful();
         self.changes.reserve(1)?;
-        make_room(&mut self.asked)?;
+        self.asked.reserve(FIRST_ROOM)?;
         note_cells(&mut self.undo, &self.present, change.cells())?;
         apply(&mut self.present, &change);
         add(&mut self.rows, self.instance, &call);
         let reply = Reply::Done;
-        self.asked.push(Asked { call, reply }).unwrap();
+        self.asked.push(Asked { call, reply });
         self.changes.push(change).unwrap();
         Ok(())
     }
@@ -245,9 +226,8 @@ impl<'i, S: Sheet<'i>> Draft<'i, S> {
         ensures ok { IfOk result (λ told. (told ≡ shown self.old.problem (present self.old) look) × (self.new ≡ asked_more self.old (Looks look) told)) }
         ensures err { OnErr result (self.new ≡ self.old) }
     {
-        let told = ctt_edits::look(*self.asked.allocator(), self.present(), &look)?;
-        let kept = told.copy()?;
-        self.keep(Call::Look(look), kept)?;
+        let told = ctt_edits::look(*self.changes.allocator(), self.present(), &look)?;
+        self.keep(Call::Look(look), &told)?;
         Ok(told)
     }
 
@@ -265,8 +245,7 @@ impl<'i, S: Sheet<'i>> Draft<'i, S> {
             }
             Err(fault) => {
                 let told = Reply::Refused(fault);
-                let kept = told.copy()?;
-                self.keep(Call::Edit(*edit), kept)?;
+                self.keep(Call::Edit(*edit), &told)?;
                 Ok(told)
             }
         }
@@ -340,8 +319,8 @@ impl<'i, S: Sheet<'i>> Draft<'i, S> {
     }
 
     /// Ends the draft: its calls with their replies, and the changes that they made.
-    pub fn finish(self) -> Work
-        ensures asked { result.asked ≡ self.entry.asked }
+    pub fn finish(self) -> Work<K>
+        ensures asked { result.asked.list ≡ self.entry.asked }
         ensures changes { result.changes.items ≡ changes self.entry.problem self.entry.base (calls_of self.entry.asked) }
         ensures told { IsTold self.entry.problem self.entry.base self.entry.asked }
     {
@@ -351,14 +330,14 @@ impl<'i, S: Sheet<'i>> Draft<'i, S> {
 
     /// Ends the draft, as `finish` does, and gives what remains of it beside its work, for who would
     /// not drop it here.
-    pub fn end(self) -> (Work, Remains<S>)
-        ensures asked { result.0.asked ≡ self.entry.asked }
+    pub fn end(self) -> (Work<K>, Remains<S>)
+        ensures asked { result.0.asked.list ≡ self.entry.asked }
         ensures changes { result.0.changes.items ≡ changes self.entry.problem self.entry.base (calls_of self.entry.asked) }
         ensures told { IsTold self.entry.problem self.entry.base self.entry.asked }
         ensures remains { result.1 ≡ record { problem = self.entry.problem; base = self.entry.base; present = present self.entry } }
     {
         let work = Work {
-            asked: AskedCalls::new(self.asked),
+            asked: self.asked,
             changes: self.changes,
         };
         let remains = Remains {
@@ -386,5 +365,14 @@ impl<'i, S: Sheet<'i>> Draft<'i, S> {
         laws::draft_frame();
         laws::settling_fits();
         let _present = &self.present;
+    }
+}
+
+impl<'i, S: Sheet<'i>> Draft<'i, S, Kept> {
+    /// The calls with their replies, in order.
+    pub fn asked(&self) -> &[Asked]
+        ensures { result.now ≡ self.now.asked }
+    {
+        self.asked.as_slice()
     }
 }

@@ -7,7 +7,7 @@ use std::alloc::{AllocError, Global};
 use std::marker::{Model, PhantomData};
 
 /// Whether what is added to a log is kept.
-pub trait Keeping {
+pub trait Keeping: Drop {
     ghost keeps: { Bool };
 
     /// Whether it is.
@@ -16,6 +16,7 @@ pub trait Keeping {
 }
 
 /// It is kept, and can be read.
+#[derive(Drop)]
 pub struct Kept;
 
 impl Keeping for Kept {
@@ -29,6 +30,7 @@ impl Keeping for Kept {
 }
 
 /// It is not kept: contracts alone speak of it.
+#[derive(Drop)]
 pub struct Unkept;
 
 impl Keeping for Unkept {
@@ -115,7 +117,7 @@ impl<E: Drop, K: Keeping> Log<E, K> {
         }
     }
 
-    /// Adds an element that is not kept.
+    /// Adds an element of which something tells, where it is not kept.
     pub fn note<X, M: Tells<X, E>>(&mut self, teller: &X)
         requires unkept { K.keeps ≡ false }
         requires room { self.old.has_room ≡ true }
@@ -123,6 +125,14 @@ impl<E: Drop, K: Keeping> Log<E, K> {
     {
         self.all.push::<X, M>(teller);
         self.len += 1;
+    }
+
+    /// All that was added, in order, where it is kept.
+    pub fn into_vec(self) -> Vec<E>
+        requires { K.keeps ≡ true }
+        ensures { result.items ≡ self.list }
+    {
+        self.kept
     }
 }
 

@@ -3,17 +3,18 @@
 ghost use Rattle.std.specs.Prelude.{◌≡◌};
 ghost use Rattle.ctt_board.specs.Changes.{apply_all, ChangesFit};
 
-use crate::asked::AskedCalls;
+use crate::asked::Asked;
+use crate::log::{Keeping, Log};
 use ctt_board::{Change, Timetable};
 
 /// The calls of a draft with their replies, and the changes that they made.
-#[derive(Debug, Drop)]
-pub struct Work {
-    pub asked: AskedCalls,
+#[derive(Drop)]
+pub struct Work<K: Keeping> {
+    pub asked: Log<Asked, K>,
     pub changes: Vec<Change>,
 }
 
-impl Work {
+impl<K: Keeping> Work<K> {
     /// Makes its changes on a sheet. It takes no memory.
     pub fn settle<S: Timetable>(&self, sheet: &mut S)
         requires { ChangesFit (S.problem sheet.old) self.now.changes.items (S.list sheet.old) }

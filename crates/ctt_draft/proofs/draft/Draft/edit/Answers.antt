@@ -23,7 +23,7 @@ make-requires g c κs =
 pub keep-requires : goal.keep-requires
 keep-requires g c κs =
     let both : (Refused c.in-Err.fault ≡ reply c.args.self.now.problem (present c.args.self.now) (Edits c.args.edit.now)) × (cells_of c.args.self.now.problem (present c.args.self.now) (Edits c.args.edit.now) ≡ []) = refused _ _ _ _ _ _ c.in-Err.ensures.change c.present.ensures.problem c.present.ensures.list in
-    let told : c.in_ok-kept-in-Err.kept ≡ reply c.args.self.now.problem (present c.args.self.now) (Edits c.args.edit.now) = c.in_ok-kept-in-Err.ensures ∙ both.0 in
+    let told : Refused c.in-Err.fault ≡ reply c.args.self.now.problem (present c.args.self.now) (Edits c.args.edit.now) = both.0 in
     let still = both.1 in
     let fits = c.requires.fits in
     search rules

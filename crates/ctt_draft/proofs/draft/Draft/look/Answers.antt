@@ -10,5 +10,5 @@ look-requires g c κs =
 
 pub keep-requires : goal.keep-requires
 keep-requires g c κs =
-    let told : c.in_ok-kept.kept ≡ shown c.args.self.now.problem (present c.args.self.now) c.args.look = c.in_ok-kept.ensures ∙ c.in_ok-told.ensures ∙ ap₂ (λ i t. shown i t c.args.look) c.present.ensures.problem c.present.ensures.list in
+    let told : c.in_ok-told.told ≡ shown c.args.self.now.problem (present c.args.self.now) c.args.look = c.in_ok-told.ensures ∙ ap₂ (λ i t. shown i t c.args.look) c.present.ensures.problem c.present.ensures.list in
     search rules

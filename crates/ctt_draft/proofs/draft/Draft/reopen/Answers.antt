@@ -7,11 +7,11 @@ use Rattle.ctt_draft.proofs.draft.Draft.reopen.Goals as goal
 pub invariant_of-result : goal.invariant_of-result
 invariant_of-result g c =
     let instance = c.instance.ensures ∙ ap g.S.Rooms.problem c.deref.ensures in
-    draft_opened _ _ _ _ _ _ _ _ _ c.lawful.ensures (instance ∙ ap (λ (b : Board). b.problem) c.idle.view_is) (ap (λ (b : Board). b.problem) c.idle.view_is) (ap (λ (b : Board). b.list) c.idle.view_is) c.new.ensures.items c.new-2.ensures.items
+    draft_opened _ _ _ _ _ _ _ _ _ c.lawful.ensures (instance ∙ ap (λ (b : Board). b.problem) c.idle.view_is) (ap (λ (b : Board). b.problem) c.idle.view_is) (ap (λ (b : Board). b.list) c.idle.view_is) c.new.ensures c.new-2.ensures.items
     (subst (λ i. IsEmpty i c.idle.inside.undo) (sym instance) c.idle.invariant) c.clear.ensures
 
 pub returns-clause-base : goal.returns-clause-base
 returns-clause-base g c =
     let instance = c.instance.ensures ∙ ap g.S.Rooms.problem c.deref.ensures in
-    opened_on _ _ _ _ _ _ _ _ _ c.lawful.ensures (instance ∙ ap (λ (b : Board). b.problem) c.idle.view_is) (ap (λ (b : Board). b.problem) c.idle.view_is) (ap (λ (b : Board). b.list) c.idle.view_is) c.new.ensures.items c.new-2.ensures.items
+    opened_on _ _ _ _ _ _ _ _ _ c.lawful.ensures (instance ∙ ap (λ (b : Board). b.problem) c.idle.view_is) (ap (λ (b : Board). b.problem) c.idle.view_is) (ap (λ (b : Board). b.list) c.idle.view_is) c.new.ensures c.new-2.ensures.items
     (subst (λ i. IsEmpty i c.idle.inside.undo) (sym instance) c.idle.invariant) c.clear.ensures
