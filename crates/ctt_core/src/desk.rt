@@ -20,13 +20,13 @@ ghost use Rattle.ctt_core.specs.declared.event.Event.TheVariants.{Open, Ask, Com
 use crate::answer::Answer;
 use crate::desk_fault::DeskFault;
 use crate::event::{Event, all_fit};
-use crate::journal::JournalEntry;
+use crate::journal::{JournalEntry, enter};
 use crate::laws;
 use crate::opening::placed;
 use crate::planner::PlannerNo;
 use crate::stock::Stock;
 use ctt_board::{Rooms, Sheet, Timetable};
-use ctt_draft::Draft;
+use ctt_draft::{Draft, Keeping, Kept, Log};
 use ctt_edits::{Call, Look};
 use ctt_rules::Cost;
 use ctt_text::{Instance, NoMemory, Placed};
@@ -35,32 +35,32 @@ use std::marker::Model;
 
 /// A timetable on which planners have drafts, and the drafts that were accepted since its opening.
 #[derive(Drop)]
-pub struct Desk<'i, S: Timetable> {
+pub struct Desk<'i, S: Timetable, K: Keeping> {
     instance: &'i Instance,
     opening: Vec<Placed>,
     stock: Stock<'i, S>,
-    journal: Vec<JournalEntry>,
-    drafts: Vec<Option<Draft<'i, S>>>,
+    journal: Log<JournalEntry, K>,
+    drafts: Vec<Option<Draft<'i, S, K>>>,
     /// How many of the changes that the stock knows were made before a planner's draft was opened.
     marks: Vec<Option<usize>>,
     planners: u16,
 }
 
-impl<'i, S: Timetable> Model for Desk<'i, S> {
+impl<'i, S: Timetable, K: Keeping> Model for Desk<'i, S, K> {
     ghost use Rattle.ctt_core.specs.Desks.{DeskValue, IsDesk};
 
     ghost Value = { DeskValue };
 
-    ghost view = { λ d. record { problem = d.instance.now; opening = d.opening.items; list = d.stock.list; journal = d.journal.items; drafts = d.drafts.items } };
+    ghost view = { λ d. record { problem = d.instance.now; opening = d.opening.items; list = d.stock.list; journal = d.journal.list; drafts = d.drafts.items } };
 
     ghost invariant = { λ d. IsDesk d.instance.now d.stock d.opening.items d.drafts.items d.marks.items d.planners };
 }
 
 /// No draft for each of so many planners.
-fn no_drafts<'i, S: Timetable>(
+fn no_drafts<'i, S: Timetable, K: Keeping>(
     alloc: Global,
     planners: u16,
-) -> Result<Vec<Option<Draft<'i, S>>>, AllocError>
+) -> Result<Vec<Option<Draft<'i, S, K>>>, AllocError>
     ensures planners { IfOk result (λ drafts. length drafts.items ≡ planners) }
     ensures none { IfOk result (λ drafts. (p : ℕ) → draft_at drafts.items p ≡ None) }
 {
@@ -85,7 +85,7 @@ fn forget_unless(known: bool, marks: &mut Vec<Option<usize>>)
     }
 }
 
-impl<'i, S: Sheet<'i>> Desk<'i, S> {
+impl<'i, S: Sheet<'i>, K: Keeping> Desk<'i, S, K> {
     /// A desk whose opening timetable has these lectures, which are placed in their order, whatever it
     /// is, for so many planners. It is refused at the first lecture that cannot be placed.
     pub fn new(
@@ -111,7 +111,7 @@ impl<'i, S: Sheet<'i>> Desk<'i, S> {
             instance,
             opening,
             stock: Stock::new(alloc, sheet),
-            journal: Vec::new(alloc),
+            journal: Log::new(alloc),
             drafts,
             marks,
             planners,
@@ -153,13 +153,6 @@ impl<'i, S: Sheet<'i>> Desk<'i, S> {
         self.stock.sheet().cost()
     }
 
-    /// The accepted drafts, in the order of their commits.
-    pub fn journal(&self) -> &[JournalEntry]
-        ensures { result.now ≡ self.now.journal }
-    {
-        self.journal.as_slice()
-    }
-
     /// Opens a draft.
     fn open(&mut self, planner: PlannerNo) -> Answer
         requires { planner < length self.old.drafts }
@@ -170,7 +163,7 @@ impl<'i, S: Sheet<'i>> Desk<'i, S> {
         if self.drafts[place].is_some() {
             return Answer::AlreadyOpen;
         }
-        match self.stock.open(*self.journal.allocator()) {
+        match self.stock.open(*self.opening.allocator()) {
             Ok(draft) => {
                 self.drafts[place] = Some(draft);
                 self.marks[place] = Some(self.stock.mark());
@@ -229,7 +222,7 @@ impl<'i, S: Sheet<'i>> Desk<'i, S> {
         ensures answer { Answers self.now (Show look.now) result }
         ensures goes_on { self.now ≡ goes_on self.now (Show look.now) result }
     {
-        match ctt_edits::look(*self.journal.allocator(), self.stock.sheet(), look) {
+        match ctt_edits::look(*self.opening.allocator(), self.stock.sheet(), look) {
             Ok(told) => Answer::Replied(told),
             Err(_) => Answer::NoMemory,
         }
@@ -249,11 +242,10 @@ impl<'i, S: Sheet<'i>> Desk<'i, S> {
         let Some(draft) = self.drafts[place].take() else {
             return Answer::NoDraft;
         };
-        let (mut asked, known) = self.stock.settle(draft, self.marks[place]);
-        asked.shrink_to_fit();
+        let (asked, known) = self.stock.settle(draft, self.marks[place]);
         forget_unless(known, &mut self.marks);
-        self.journal.push(JournalEntry { planner, asked }).unwrap();
-        Answer::Committed(self.journal.len() as u64)
+        enter(&mut self.journal, planner, asked);
+        Answer::Committed(self.journal.len())
     }
 
     /// Accepts a draft, or refuses it where it is stale.
@@ -341,12 +333,21 @@ impl<'i, S: Sheet<'i>> Desk<'i, S> {
     {
         laws::desk_is_serial();
         self.lawful();
-        let mut answers = Vec::with_capacity(*self.journal.allocator(), events.len())?;
+        let mut answers = Vec::with_capacity(*self.opening.allocator(), events.len())?;
         for event in events {
             let answer = self.step(*event);
             answers.push(answer).unwrap();
         }
         self.lawful();
         Ok(answers)
+    }
+}
+
+impl<'i, S: Sheet<'i>> Desk<'i, S, Kept> {
+    /// The accepted drafts, in the order of their commits.
+    pub fn journal(&self) -> &[JournalEntry]
+        ensures { result.now ≡ self.now.journal }
+    {
+        self.journal.as_slice()
     }
 }

@@ -9,7 +9,7 @@ ghost use Rattle.ctt_draft.specs.DraftValues.{Settles};
 ghost use Rattle.ctt_core.specs.Stocks.{changed, LeadsFrom, IsMarked};
 
 use ctt_board::{Change, Rooms, Sheet, Timetable};
-use ctt_draft::{AskedCalls, Draft, Idle, Work};
+use ctt_draft::{Asked, Draft, Idle, Keeping, Log, Work};
 use ctt_edits::Row;
 use ctt_rules::Cost;
 use ctt_text::{Instance, NoMemory};
@@ -98,7 +98,7 @@ impl<'i, S: Sheet<'i>> Stock<'i, S> {
     }
 
     /// A draft on the timetable, in which nothing was asked yet. Where a sheet is kept it takes no memory.
-    pub(crate) fn open(&mut self, alloc: Global) -> Result<Draft<'i, S>, NoMemory>
+    pub(crate) fn open<K: Keeping>(&mut self, alloc: Global) -> Result<Draft<'i, S, K>, NoMemory>
         ensures problem { IfOk result (λ draft. draft.problem ≡ self.old.problem) }
         ensures base { IfOk result (λ draft. draft.base ≡ self.old.list) }
         ensures asked { IfOk result (λ draft. draft.asked ≡ []) }
@@ -117,9 +117,9 @@ impl<'i, S: Sheet<'i>> Stock<'i, S> {
     /// The least row that a draft read and that is not the same on the timetable, if there is one. Where
     /// nothing was accepted since the draft was opened there is nothing to compare, and else, where it is
     /// known what was, only the rows that it touched.
-    pub(crate) fn stale(
+    pub(crate) fn stale<K: Keeping>(
         &self,
-        draft: &Draft<'i, S>,
+        draft: &Draft<'i, S, K>,
         mark: Option<usize>,
     ) -> Result<Option<Row>, NoMemory>
         requires same { draft.now.problem ≡ self.now.problem }
@@ -149,7 +149,7 @@ impl<'i, S: Sheet<'i>> Stock<'i, S> {
     }
 
     /// Keeps the base of a draft that is given up, if it is known what was accepted since.
-    pub(crate) fn retire(&mut self, draft: Draft<'i, S>, mark: Option<usize>)
+    pub(crate) fn retire<K: Keeping>(&mut self, draft: Draft<'i, S, K>, mark: Option<usize>)
         requires same { draft.problem ≡ self.old.problem }
         requires marked { IsMarked self.old (Some draft) mark }
         ensures { self.new ≡ self.old }
@@ -161,7 +161,7 @@ impl<'i, S: Sheet<'i>> Stock<'i, S> {
 
     /// Makes changes, after which the timetable costs this, where it is known; and remembers them, or
     /// forgets all that were made where they are too many.
-    fn make(&mut self, mut work: Work, cost: Option<Cost>) -> (AskedCalls, bool)
+    fn make<K: Keeping>(&mut self, mut work: Work<K>, cost: Option<Cost>) -> (Log<Asked, K>, bool)
         requires fit { ChangesFit self.old.problem work.changes.items self.old.list }
         requires cost { IfSome cost (λ x. x ≡ penalty self.old.problem (apply_all work.changes.items self.old.list)) }
         ensures asked { result.0 ≡ work.asked }
@@ -179,11 +179,11 @@ impl<'i, S: Sheet<'i>> Stock<'i, S> {
 
     /// Settles a draft that is not stale. Gives its calls with their replies, and whether the changes
     /// are still known that were made on the bases of others.
-    pub(crate) fn settle(&mut self, draft: Draft<'i, S>, mark: Option<usize>) -> (AskedCalls, bool)
+    pub(crate) fn settle<K: Keeping>(&mut self, draft: Draft<'i, S, K>, mark: Option<usize>) -> (Log<Asked, K>, bool)
         requires same { draft.problem ≡ self.old.problem }
         requires marked { IsMarked self.old (Some draft) mark }
         requires fit { ChangesFit self.old.problem (changes draft.problem draft.base (calls_of draft.asked)) self.old.list }
-        ensures asked { result.0 ≡ draft.entry.asked }
+        ensures asked { result.0.list ≡ draft.entry.asked }
         ensures changes { self.new ≡ changed self.old (changes draft.entry.problem draft.entry.base (calls_of draft.entry.asked)) result.1 }
     {
         let is_latest = self.is_latest(mark);
