@@ -26,7 +26,7 @@ use crate::opening::placed;
 use crate::planner::PlannerNo;
 use crate::stock::Stock;
 use ctt_board::{Rooms, Sheet, Timetable};
-use ctt_draft::{Draft, Keeping, Kept, Log};
+use ctt_draft::{Draft, Keeping, KeepAll, Log};
 use ctt_edits::{Call, Look};
 use ctt_rules::Cost;
 use ctt_text::{Instance, NoMemory, Placed};
@@ -343,7 +343,7 @@ impl<'i, S: Sheet<'i>, K: Keeping> Desk<'i, S, K> {
     }
 }
 
-impl<'i, S: Sheet<'i>> Desk<'i, S, Kept> {
+impl<'i, S: Sheet<'i>> Desk<'i, S, KeepAll> {
     /// The accepted drafts, in the order of their commits.
     pub fn journal(&self) -> &[JournalEntry]
         ensures { result.now ≡ self.now.journal }

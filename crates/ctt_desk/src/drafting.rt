@@ -9,7 +9,7 @@ use crate::kept::Kept;
 use crate::naming::Naming;
 use crate::planner::Planner;
 use ctt_board::{Sheet, Timetable};
-use ctt_draft::Draft;
+use ctt_draft::{Draft, KeepAll};
 use ctt_edits::{Call, Reply, laws};
 use ctt_text::{Instance, NoMemory};
 use std::marker::Model;
@@ -19,7 +19,7 @@ use std::marker::Model;
 #[derive(Drop)]
 pub struct Drafting<'i, S: Timetable, J: Naming> {
     pub(crate) planner: Planner<S, J>,
-    pub(crate) draft: Box<Draft<'i, S>>,
+    pub(crate) draft: Box<Draft<'i, S, KeepAll>>,
 }
 
 impl<'i, S: Timetable, J: Naming> Model for Drafting<'i, S, J> {

@@ -10,7 +10,7 @@ use crate::naming::Naming;
 use crate::shown::Shown;
 use crate::trail::Trail;
 use ctt_board::{Sheet, Timetable};
-use ctt_draft::{Draft, Idle, Remains};
+use ctt_draft::{Draft, Idle, KeepAll, Remains};
 use ctt_rules::Cost;
 use ctt_text::NoMemory;
 use std::alloc::Global;
@@ -75,7 +75,7 @@ impl<S: Timetable, J: Naming> Kept<S, J> {
 
 impl<'i, S: Sheet<'i>, J: Naming> Kept<S, J> {
     /// The base of a draft, which is the opening after a history.
-    pub(crate) fn of_base(draft: Box<Draft<'i, S>>, front: Front<J>) -> Self
+    pub(crate) fn of_base(draft: Box<Draft<'i, S, KeepAll>>, front: Front<J>) -> Self
         requires { IsAfter J.problem J.opening draft.value.problem draft.value.base front }
         ensures { result ≡ front }
     {
@@ -90,7 +90,7 @@ pub(crate) fn draft_on<'i, S: Sheet<'i>, J: Naming>(
     kept: Option<Box<Kept<S, J>>>,
     shown: &Shown<S, J>,
     seen: &Front<J>,
-) -> Result<Box<Draft<'i, S>>, NoMemory>
+) -> Result<Box<Draft<'i, S, KeepAll>>, NoMemory>
     requires { IsAfter J.problem J.opening shown.now.problem shown.now.list seen.now }
     ensures problem { IfOk result (λ draft. draft.value.problem ≡ J.problem) }
     ensures base { IfOk result (λ draft. draft.value.base ≡ after J.problem J.opening seen.now) }

@@ -14,9 +14,9 @@ use crate::front::{Front, Head};
 use crate::naming::Naming;
 use crate::shown::{Common, Publisher, Shown, publish};
 use crate::update::Update;
-use ctt_board::{Sheet, Timetable};
+use ctt_board::{Change, Sheet, Timetable};
 use ctt_core::{JournalEntry, PlannerNo};
-use ctt_draft::{Draft, Remains, Work};
+use ctt_draft::{AskedCalls, Draft, KeepAll, Remains, Work};
 use ctt_edits::Row;
 use ctt_text::{NoMemory, Placed};
 use left_right::Absorb;
@@ -90,15 +90,19 @@ fn put_back<S: Timetable, J: Naming>(slot: &mut Option<Publisher<S, J>>, writer:
 }
 
 /// Ends a draft whose calls are to stay as they are.
-fn end<'i, S: Sheet<'i>>(draft: Box<Draft<'i, S>>) -> (Work, Remains<S>)
-    ensures asked { result.0.asked ≡ draft.entry.value.asked }
-    ensures changes { result.0.changes.items ≡ changes draft.entry.value.problem draft.entry.value.base (calls_of draft.entry.value.asked) }
+fn end<'i, S: Sheet<'i>>(
+    draft: Box<Draft<'i, S, KeepAll>>,
+) -> (AskedCalls, Vec<Change>, Remains<S>)
+    ensures asked { result.0 ≡ draft.entry.value.asked }
+    ensures changes { result.1.items ≡ changes draft.entry.value.problem draft.entry.value.base (calls_of draft.entry.value.asked) }
     ensures told { IsTold draft.entry.value.problem draft.entry.value.base draft.entry.value.asked }
-    ensures remains { result.1 ≡ left_of draft.entry.value }
+    ensures remains { result.2 ≡ left_of draft.entry.value }
 {
-    let (mut work, remains) = Box::into_inner(draft).end();
-    work.asked.shrink_to_fit();
-    (work, remains)
+    let (work, remains) = Box::into_inner(draft).end();
+    let Work { asked, changes } = work;
+    let mut calls = AskedCalls::new(asked.into_vec());
+    calls.shrink_to_fit();
+    (calls, changes, remains)
 }
 
 impl<S: Timetable, J: Naming> Locked<S, J> {
@@ -174,8 +178,8 @@ impl<'i, S: Sheet<'i>, J: Naming> Locked<S, J> {
         number: PlannerNo,
         committed: u64,
         front: &mut Front<J>,
-        draft: Box<Draft<'i, S>>,
-    ) -> Result<Remains<S>, (Box<Draft<'i, S>>, Cause)>
+        draft: Box<Draft<'i, S, KeepAll>>,
+    ) -> Result<Remains<S>, (Box<Draft<'i, S, KeepAll>>, Cause)>
         requires problem { draft.value.problem ≡ J.problem }
         requires base { draft.value.base ≡ after J.problem J.opening front.old }
         requires planner { number < J.planners }
@@ -213,7 +217,7 @@ impl<'i, S: Sheet<'i>, J: Naming> Locked<S, J> {
 
     /// The least row that a draft read and that has changed since a history, behind which it was opened. Where that is
     /// the journal there is nothing to compare, and where the changes since are known only the rows that they touch.
-    fn stale(&self, draft: &Draft<'i, S>, front: &Front<J>) -> Result<Option<Row>, NoMemory>
+    fn stale(&self, draft: &Draft<'i, S, KeepAll>, front: &Front<J>) -> Result<Option<Row>, NoMemory>
         requires problem { draft.now.problem ≡ J.problem }
         requires base { draft.now.base ≡ after J.problem J.opening front.now }
         ensures row { result ≡ Ok (stale J.problem draft.now.base (after J.problem J.opening self.now) (calls_of draft.now.asked)) }
@@ -236,9 +240,9 @@ impl<'i, S: Sheet<'i>, J: Naming> Locked<S, J> {
         &mut self,
         rt: &R,
         number: PlannerNo,
-        draft: Box<Draft<'i, S>>,
+        draft: Box<Draft<'i, S, KeepAll>>,
         is_latest: bool,
-    ) -> Result<Remains<S>, (Box<Draft<'i, S>>, Cause)>
+    ) -> Result<Remains<S>, (Box<Draft<'i, S, KeepAll>>, Cause)>
         requires problem { draft.value.problem ≡ J.problem }
         requires planner { number < J.planners }
         requires settles { Settles draft.value (after J.problem J.opening self.old) }
@@ -250,8 +254,7 @@ impl<'i, S: Sheet<'i>, J: Naming> Locked<S, J> {
         if self.journal.reserve(1).is_err() {
             return Err((draft, Cause::NoMemory));
         }
-        let (work, remains) = end(draft);
-        let Work { asked, changes } = work;
+        let (asked, changes, remains) = end(draft);
         let entry = JournalEntry {
             planner: number,
             asked,

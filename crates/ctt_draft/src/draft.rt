@@ -22,7 +22,7 @@ use crate::asked::{Asked, note_told};
 use crate::comparing::Comparison;
 use crate::idle::Idle;
 use crate::laws;
-use crate::log::{Keeping, Kept, Log};
+use crate::log::{Keeping, KeepAll, Log};
 use crate::remains::Remains;
 use crate::touched::Touched;
 use crate::undo::Undo;
@@ -368,7 +368,7 @@ impl<'i, S: Sheet<'i>, K: Keeping> Draft<'i, S, K> {
     }
 }
 
-impl<'i, S: Sheet<'i>> Draft<'i, S, Kept> {
+impl<'i, S: Sheet<'i>> Draft<'i, S, KeepAll> {
     /// The calls with their replies, in order.
     pub fn asked(&self) -> &[Asked]
         ensures { result.now ≡ self.now.asked }

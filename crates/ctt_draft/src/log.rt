@@ -17,9 +17,9 @@ pub trait Keeping: Drop {
 
 /// It is kept, and can be read.
 #[derive(Drop)]
-pub struct Kept;
+pub struct KeepAll;
 
-impl Keeping for Kept {
+impl Keeping for KeepAll {
     ghost use Rattle.std.specs.Prelude.{true};
 
     ghost keeps = { true };
@@ -31,9 +31,9 @@ impl Keeping for Kept {
 
 /// It is not kept: contracts alone speak of it.
 #[derive(Drop)]
-pub struct Unkept;
+pub struct KeepNone;
 
-impl Keeping for Unkept {
+impl Keeping for KeepNone {
     ghost use Rattle.std.specs.Prelude.{false};
 
     ghost keeps = { false };
@@ -136,7 +136,7 @@ impl<E: Drop, K: Keeping> Log<E, K> {
     }
 }
 
-impl<E: Drop> Log<E, Kept> {
+impl<E: Drop> Log<E, KeepAll> {
     /// All that was added, in order.
     pub fn as_slice(&self) -> &[E]
         ensures { result.now ≡ self.now.list }

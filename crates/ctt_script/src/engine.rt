@@ -26,6 +26,7 @@ use crate::sink::{Sink, put_all};
 use crate::source::{Failed, Source};
 use ctt_board::Sheet;
 use ctt_core::{Answer, Desk, Event};
+use ctt_draft::Keeping;
 use ctt_text::{Instance, NoMemory, Placed};
 use std::alloc::{AllocError, Global};
 
@@ -39,8 +40,8 @@ const LIMIT: usize = 67_108_864;
 const PIECE: usize = 32_768;
 
 /// Answers an event, and adds the line of the answer.
-fn answer_event<'i, S: Sheet<'i>>(
-    desk: &mut Desk<'i, S>,
+fn answer_event<'i, S: Sheet<'i>, K: Keeping>(
+    desk: &mut Desk<'i, S, K>,
     instance: &Instance,
     event: Event,
     answers: &mut String,
@@ -62,8 +63,8 @@ fn answer_event<'i, S: Sheet<'i>>(
 }
 
 /// Adds the answer to a line, if the line has words.
-fn answer_line<'i, S: Sheet<'i>>(
-    desk: &mut Desk<'i, S>,
+fn answer_line<'i, S: Sheet<'i>, K: Keeping>(
+    desk: &mut Desk<'i, S, K>,
     instance: &Instance,
     line: &[u8],
     answers: &mut String,
@@ -96,9 +97,9 @@ fn write_full<W: Sink>(writer: &mut W, answers: &mut String) -> Result<(), Faile
 }
 
 /// Answers the lines of a script, and writes the answers.
-fn answer_lines<'i, S: Sheet<'i>, W: Sink>(
+fn answer_lines<'i, S: Sheet<'i>, K: Keeping, W: Sink>(
     alloc: Global,
-    desk: &mut Desk<'i, S>,
+    desk: &mut Desk<'i, S, K>,
     instance: &Instance,
     text: &[u8],
     writer: &mut W,
@@ -123,17 +124,17 @@ fn answer_lines<'i, S: Sheet<'i>, W: Sink>(
 
 /// Runs a script of 64 planners on a desk whose opening timetable has these lectures, placed in their
 /// order, and writes the answers: a line for each line that has words. The desk is handed back as the
-/// script leaves it.
+/// script leaves it; whether it keeps its journal is the caller's choice.
 ///
 /// The script is read whole before anything is written, and it is not read where the opening is
 /// refused. Where a write fails, or memory is wanted, a front of the answers may have been written.
-pub fn run_script<'i, S: Sheet<'i>, R: Source, W: Sink>(
+pub fn run_script<'i, S: Sheet<'i>, K: Keeping, R: Source, W: Sink>(
     alloc: Global,
     instance: &'i Instance,
     lectures: &[Placed],
     reader: &mut R,
     writer: &mut W,
-) -> Result<Desk<'i, S>, ScriptFault>
+) -> Result<Desk<'i, S, K>, ScriptFault>
     requires fit { Each (Fits instance.now) lectures.now }
     requires unmarked { R.has_failed reader.old ≡ false }
 
@@ -158,7 +159,7 @@ pub fn run_script<'i, S: Sheet<'i>, R: Source, W: Sink>(
         → IfSome (R.left reader.old) (λ text. AppendsFront (W.taken writer.old) (W.taken writer.new) (answer_text instance.now t0 text))) }
 {
     instance.limits_hold();
-    let mut desk: Desk<'i, S> = Desk::new(alloc, instance, lectures, PLANNERS)?;
+    let mut desk: Desk<'i, S, K> = Desk::new(alloc, instance, lectures, PLANNERS)?;
     desk.lawful();
     let text = read_all(alloc, reader, LIMIT)?;
     answer_lines(alloc, &mut desk, instance, &text, writer)?;

@@ -1,6 +1,6 @@
 //! The command `run`.
 
-ghost use Rattle.std.specs.Prelude.{◌≡◌, ◌⊎◌, ◌<◌, ℕ, [], ◌∷◌, ◌++◌, length, true, false, Ok, Err, OnOk, IfOk, IfErr, IfSome};
+ghost use Rattle.std.specs.Prelude.{◌≡◌, ◌⊎◌, ◌<◌, ℕ, [], ◌∷◌, ◌++◌, length, true, false, Some, Ok, Err, OnOk, IfOk, IfErr, IfSome};
 ghost use Rattle.std.specs.Io.KnownBytes.{Appends};
 ghost use Rattle.std.specs.List.{AllByRecursion as Each};
 ghost use Rattle.std.specs.String.{string_bytes};
@@ -24,6 +24,7 @@ use crate::output::pass_on;
 use crate::texts::{fetch_instance, fetch_start};
 use ctt_board::{GridSheet, Sheet};
 use ctt_core::{Desk, JournalEntry};
+use ctt_draft::{KeepAll, KeepNone, Keeping};
 use ctt_script::{ScriptFault, Sink, Source, run_script, write_journal};
 use ctt_text::{Instance, Placed};
 use std::alloc::Global;
@@ -44,14 +45,14 @@ fn fault_of_run(alloc: Global, instance: &Instance, fault: ScriptFault, script: 
 
 /// Runs a script on a desk that opens with these lectures, and prints the answers. The script is read
 /// from a file of this name.
-fn answer<'i, S: Sheet<'i>, R: Source, W: Sink>(
+fn answer<'i, S: Sheet<'i>, K: Keeping, R: Source, W: Sink>(
     alloc: Global,
     instance: &'i Instance,
     lectures: &[Placed],
     script: &mut R,
     name: String,
     out: &mut W,
-) -> Result<Desk<'i, S>, Fault>
+) -> Result<Desk<'i, S, K>, Fault>
     requires fit { Each (Fits instance.now) lectures.now }
     requires unread { R.has_failed script.old ≡ false }
 
@@ -80,26 +81,23 @@ fn answer<'i, S: Sheet<'i>, R: Source, W: Sink>(
     }
 }
 
-/// Stores a journal where a file is given for it.
+/// Stores a journal.
 fn store_journal<F: Files>(
     alloc: Global,
     files: &mut F,
     instance: &Instance,
-    journal: Option<String>,
+    journal: String,
     entries: &[JournalEntry],
 ) -> Result<(), Fault>
     requires { IsWritable instance.now entries.now }
-    ensures stores { OnOk result (Stores journal (F.held files.old) (F.held files.new) (λ bytes.
+    ensures stores { OnOk result (Stores (Some journal) (F.held files.old) (F.held files.new) (λ bytes.
         bytes ≡ journal_text instance.now entries.now)) }
     ensures fault { IfErr result (λ fault. IfUnwritten fault
-        (IsGiven journal)
+        (IsGiven (Some journal))
         ((fault ≡ NoMemory) × (F.held files.new ≡ F.held files.old))) }
 {
-    let Some(name) = journal else {
-        return Ok(());
-    };
     let text = write_journal(alloc, instance, entries)?;
-    match files.store(&name, &text) {
+    match files.store(&journal, &text) {
         Ok(()) => Ok(()),
         Err(_) => Err(Fault::CannotWrite),
     }
@@ -134,8 +132,18 @@ fn run_on<'i, S: Sheet<'i>, F: Files, W: Sink>(
         return Err(Fault::CannotRead(script));
     };
     let lectures = fetch_start(alloc, files, instance, start)?;
-    let desk: Desk<'i, S> = answer(alloc, instance, &lectures, &mut input, script, out)?;
-    store_journal(alloc, files, instance, journal, desk.journal())
+    match journal {
+        Some(journal) => {
+            let desk: Desk<'i, S, KeepAll> =
+                answer(alloc, instance, &lectures, &mut input, script, out)?;
+            store_journal(alloc, files, instance, journal, desk.journal())
+        }
+        None => {
+            let _desk: Desk<'i, S, KeepNone> =
+                answer(alloc, instance, &lectures, &mut input, script, out)?;
+            Ok(())
+        }
+    }
 }
 
 /// Runs a script on a desk of an instance, and prints the answers; then stores the journal of the drafts

@@ -14,7 +14,7 @@ use Rattle.ctt_desk.proofs.locked.Locked.accept.Goals as goal
 
 pub prove-unreachable-requires : goal.prove-unreachable-requires
 prove-unreachable-requires g c =
-    let entry : JournalEntry = entry_of c.args.number c.end-work.result.0.asked in
+    let entry : JournalEntry = entry_of c.args.number c.end-asked.result.0 in
     let all : c.push.new.self.items ≡ c.self.inside.journal.items ++ entry ∷ [] = search rules in
     let count : c.index-count.result.now ≡ length (own c.args.number c.self.inside.journal.items) = count_read g.J.Naming.planners c.args.number _ _ c.self.inside.counts.items c.self.inside.journal.items c.self.invariant.0.counted c.requires.planner c.get.ensures c.index-count.ensures in
     let less : c.index-count.result.now < length c.push.new.self.items = fewer c.args.number _ c.self.inside.journal.items c.push.new.self.items entry all count in
@@ -26,10 +26,10 @@ new-update-requires-clause-leads g c =
     let t0 = g.J.Naming.opening in
     let h : List JournalEntry = c.self.inside.journal.items in
     let longer : c.again.result ≡ h ++ entry_of c.args.number c.args.draft.value.asked ∷ [] =
-    c.again.ensures.same ∙ c.extend.ensures ∙ ap (λ (l : List JournalEntry). l ++ entry_of c.args.number c.end-work.result.0.asked ∷ []) c.self.invariant.1 ∙ ap (λ (xs : List Asked). h ++ entry_of c.args.number xs ∷ []) c.end-work.ensures.asked
+    c.again.ensures.same ∙ c.extend.ensures ∙ ap (λ (l : List JournalEntry). l ++ entry_of c.args.number c.end-asked.result.0 ∷ []) c.self.invariant.1 ∙ ap (λ (xs : List Asked). h ++ entry_of c.args.number xs ∷ []) c.end-asked.ensures.asked
     in
     let settles : Settles c.args.draft.value (after i t0 h) = subst (λ (j : List JournalEntry). Settles c.args.draft.value (after i t0 j)) (sym c.self.view_is) c.requires.settles in
-    leads_update i t0 h c.again-before.result c.again.result c.args.number c.args.draft.value c.end-work.result.0.changes.items c.requires.problem settles c.end-work.ensures.changes (c.again-before.ensures.same ∙ c.self.invariant.1) longer
+    leads_update i t0 h c.again-before.result c.again.result c.args.number c.args.draft.value c.end-asked.result.1.items c.requires.problem settles c.end-asked.ensures.changes (c.again-before.ensures.same ∙ c.self.invariant.1) longer
 
 pub new-update-requires-clause-cost : goal.new-update-requires-clause-cost
 new-update-requires-clause-cost g c =
@@ -37,10 +37,10 @@ new-update-requires-clause-cost g c =
     let t0 = g.J.Naming.opening in
     let h : List JournalEntry = c.self.inside.journal.items in
     let longer : c.again.result ≡ h ++ entry_of c.args.number c.args.draft.value.asked ∷ [] =
-    c.again.ensures.same ∙ c.extend.ensures ∙ ap (λ (l : List JournalEntry). l ++ entry_of c.args.number c.end-work.result.0.asked ∷ []) c.self.invariant.1 ∙ ap (λ (xs : List Asked). h ++ entry_of c.args.number xs ∷ []) c.end-work.ensures.asked
+    c.again.ensures.same ∙ c.extend.ensures ∙ ap (λ (l : List JournalEntry). l ++ entry_of c.args.number c.end-asked.result.0 ∷ []) c.self.invariant.1 ∙ ap (λ (xs : List Asked). h ++ entry_of c.args.number xs ∷ []) c.end-asked.ensures.asked
     in
     let latest : c.args.is_latest ≡ true → c.args.draft.value.base ≡ after i t0 h = λ is. c.requires.latest is ∙ ap (after i t0) (sym c.self.view_is) in
-    cost_on i t0 h c.again.result c.args.number c.args.draft.value c.end-work.result.1 c.args.is_latest c.cost_if-cost.result c.end-work.ensures.remains c.requires.problem latest longer c.cost_if-cost.ensures
+    cost_on i t0 h c.again.result c.args.number c.args.draft.value c.end-asked.result.2 c.args.is_latest c.cost_if-cost.result c.end-asked.ensures.remains c.requires.problem latest longer c.cost_if-cost.ensures
 
 pub publish-writer-requires-clause-behind : goal.publish-writer-requires-clause-behind
 publish-writer-requires-clause-behind g c κs within =
@@ -59,11 +59,11 @@ publish-writer-requires-clause-right g c κs within =
     let shown = c.unwrap-2.result.desk.shown.value in
     let copy : IsPublished i shown.problem t0 shown.list h shown.history = search rules in
     let longer : c.again.result ≡ h ++ entry_of c.args.number c.args.draft.value.asked ∷ [] =
-    c.again.ensures.same ∙ c.extend.ensures ∙ ap (λ (l : List JournalEntry). l ++ entry_of c.args.number c.end-work.result.0.asked ∷ []) c.self.invariant.1 ∙ ap (λ (xs : List Asked). h ++ entry_of c.args.number xs ∷ []) c.end-work.ensures.asked
+    c.again.ensures.same ∙ c.extend.ensures ∙ ap (λ (l : List JournalEntry). l ++ entry_of c.args.number c.end-asked.result.0 ∷ []) c.self.invariant.1 ∙ ap (λ (xs : List Asked). h ++ entry_of c.args.number xs ∷ []) c.end-asked.ensures.asked
     in
     let settles : Settles c.args.draft.value (after i t0 h) = subst (λ (j : List JournalEntry). Settles c.args.draft.value (after i t0 j)) (sym c.self.view_is) c.requires.settles in
     subst (λ (u : UpdateValue). IsAfter i t0 shown.problem (apply_all u.changes shown.list) u.front) (sym c.new-update.ensures)
-    (settled_more i shown.problem t0 shown.list h c.again.result c.args.number c.args.draft.value c.end-work.result.0.changes.items copy.standing c.requires.problem settles c.end-work.ensures.told c.end-work.ensures.changes longer)
+    (settled_more i shown.problem t0 shown.list h c.again.result c.args.number c.args.draft.value c.end-asked.result.1.items copy.standing c.requires.problem settles c.end-asked.ensures.told c.end-asked.ensures.changes longer)
 
 pub invariant_of-self-2 : goal.invariant_of-self-2
 invariant_of-self-2 g c =
@@ -71,10 +71,10 @@ invariant_of-self-2 g c =
     let t0 = g.J.Naming.opening in
     let h : List JournalEntry = c.self.inside.journal.items in
     let shown = c.publish-writer.result.desk.shown.value in
-    let asked : c.end-work.result.0.asked ≡ c.args.draft.value.asked = c.end-work.ensures.asked in
-    let entered : c.push.new.self.items ≡ h ++ entry_of c.args.number c.end-work.result.0.asked ∷ [] = search rules in
+    let asked : c.end-asked.result.0 ≡ c.args.draft.value.asked = c.end-asked.ensures.asked in
+    let entered : c.push.new.self.items ≡ h ++ entry_of c.args.number c.end-asked.result.0 ∷ [] = search rules in
     let all : c.push.new.self.items ≡ h ++ entry_of c.args.number c.args.draft.value.asked ∷ [] = entered ∙ ap (λ (xs : List Asked). h ++ entry_of c.args.number xs ∷ []) asked in
-    let front : c.extend.new.self ≡ c.push.new.self.items = c.extend.ensures ∙ ap (λ (l : List JournalEntry). l ++ entry_of c.args.number c.end-work.result.0.asked ∷ []) c.self.invariant.1 ∙ sym entered in
+    let front : c.extend.new.self ≡ c.push.new.self.items = c.extend.ensures ∙ ap (λ (l : List JournalEntry). l ++ entry_of c.args.number c.end-asked.result.0 ∷ []) c.self.invariant.1 ∙ sym entered in
     let count : c.index-count.result.now ≡ length (own c.args.number h) = count_read g.J.Naming.planners c.args.number _ _ c.self.inside.counts.items h c.self.invariant.0.counted c.requires.planner c.get.ensures c.index-count.ensures in
     let lawful : Lawful shown.problem shown.list = search rules in
     let p = c.publish-writer.ensures in
