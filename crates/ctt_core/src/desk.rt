@@ -26,7 +26,7 @@ use crate::opening::placed;
 use crate::planner::PlannerNo;
 use crate::stock::Stock;
 use ctt_board::{Rooms, Sheet, Timetable};
-use ctt_draft::{Draft, Keeping, KeepAll, Log};
+use ctt_draft::{Draft, KeepAll, Keeping, Log};
 use ctt_edits::{Call, Look};
 use ctt_rules::Cost;
 use ctt_text::{Instance, NoMemory, Placed};

@@ -179,7 +179,11 @@ impl<'i, S: Sheet<'i>> Stock<'i, S> {
 
     /// Settles a draft that is not stale. Gives its calls with their replies, and whether the changes
     /// are still known that were made on the bases of others.
-    pub(crate) fn settle<K: Keeping>(&mut self, draft: Draft<'i, S, K>, mark: Option<usize>) -> (Log<Asked, K>, bool)
+    pub(crate) fn settle<K: Keeping>(
+        &mut self,
+        draft: Draft<'i, S, K>,
+        mark: Option<usize>,
+    ) -> (Log<Asked, K>, bool)
         requires same { draft.problem ≡ self.old.problem }
         requires marked { IsMarked self.old (Some draft) mark }
         requires fit { ChangesFit self.old.problem (changes draft.problem draft.base (calls_of draft.asked)) self.old.list }

@@ -90,9 +90,7 @@ fn put_back<S: Timetable, J: Naming>(slot: &mut Option<Publisher<S, J>>, writer:
 }
 
 /// Ends a draft whose calls are to stay as they are.
-fn end<'i, S: Sheet<'i>>(
-    draft: Box<Draft<'i, S, KeepAll>>,
-) -> (AskedCalls, Vec<Change>, Remains<S>)
+fn end<'i, S: Sheet<'i>>(draft: Box<Draft<'i, S, KeepAll>>) -> (AskedCalls, Vec<Change>, Remains<S>)
     ensures asked { result.0 ≡ draft.entry.value.asked }
     ensures changes { result.1.items ≡ changes draft.entry.value.problem draft.entry.value.base (calls_of draft.entry.value.asked) }
     ensures told { IsTold draft.entry.value.problem draft.entry.value.base draft.entry.value.asked }
@@ -217,7 +215,11 @@ impl<'i, S: Sheet<'i>, J: Naming> Locked<S, J> {
 
     /// The least row that a draft read and that has changed since a history, behind which it was opened. Where that is
     /// the journal there is nothing to compare, and where the changes since are known only the rows that they touch.
-    fn stale(&self, draft: &Draft<'i, S, KeepAll>, front: &Front<J>) -> Result<Option<Row>, NoMemory>
+    fn stale(
+        &self,
+        draft: &Draft<'i, S, KeepAll>,
+        front: &Front<J>,
+    ) -> Result<Option<Row>, NoMemory>
         requires problem { draft.now.problem ≡ J.problem }
         requires base { draft.now.base ≡ after J.problem J.opening front.now }
         ensures row { result ≡ Ok (stale J.problem draft.now.base (after J.problem J.opening self.now) (calls_of draft.now.asked)) }

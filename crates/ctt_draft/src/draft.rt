@@ -22,7 +22,7 @@ use crate::asked::{Asked, note_told};
 use crate::comparing::Comparison;
 use crate::idle::Idle;
 use crate::laws;
-use crate::log::{Keeping, KeepAll, Log};
+use crate::log::{KeepAll, Keeping, Log};
 use crate::remains::Remains;
 use crate::touched::Touched;
 use crate::undo::Undo;

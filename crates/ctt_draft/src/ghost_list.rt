@@ -86,7 +86,11 @@ impl<E> GhostList<E> {
             list: &*self,
             teller,
         };
-        let (list, _pens) = Seen::open_row::<Longer<E, X>, Lengthening<M>>(&longer, Start::alone(), 0);
+        let (list, _pens) = Seen::open_row::<Longer<E, X>, Lengthening<M>>(
+            &longer,
+            Start::alone(),
+            0,
+        );
         self.list = list;
     }
 }

@@ -19,7 +19,7 @@ pub use asked::{Asked, AskedCalls};
 pub use draft::Draft;
 pub use ghost_list::{GhostList, Tells};
 pub use idle::Idle;
-pub use log::{Keeping, KeepAll, Log, KeepNone};
+pub use log::{KeepAll, KeepNone, Keeping, Log};
 pub use remains::Remains;
 pub use replaying::replay;
 pub use work::Work;
