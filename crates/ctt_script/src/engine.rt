@@ -1,7 +1,8 @@
 //! Running a script.
 
-ghost use Rattle.std.specs.Prelude.{◌≡◌, ◌⊎◌, ◌↔◌, ℕ, ◌++◌, ◌∷◌, [], ◌<◌, List, length, true, false, Ok, Err, IfOk, IfErr, OnOk, OnErr, IfSome, Some, string_bytes};
+ghost use Rattle.std.specs.Prelude.{◌≡◌, ◌⊎◌, ◌↔◌, ℕ, ◌++◌, ◌∷◌, [], ◌<◌, List, length, true, false, Ok, Err, IfOk, IfErr, OnOk, OnErr, IfSome, Some, is_some, string_bytes};
 ghost use Rattle.std.specs.List.{AllByRecursion as Each};
+ghost use Rattle.std.specs.Option.{option_map};
 ghost use Rattle.std.specs.Io.KnownBytes.{Appends, Keeps};
 ghost use Rattle.ctt_text.specs.Timetable.{Fits};
 ghost use Rattle.ctt_text.specs.declared.placed.Placed.{Placed as Lecture};
@@ -10,16 +11,19 @@ ghost use Rattle.ctt_core.specs.Runs.{EventFits};
 ghost use Rattle.ctt_core.specs.Laws.{Stands};
 ghost use Rattle.ctt_edits.specs.Openings.{opening};
 ghost use Rattle.ctt_core.specs.declared.desk_fault.DeskFault.TheVariants as desk_fault;
-ghost use Rattle.ctt_script.specs.AnswerText.{answer_text, script_run};
+ghost use Rattle.ctt_script.specs.AnswerText.{answer_text, answer_words, script_run};
 ghost use Rattle.ctt_script.specs.Answering.{Answered, AppendsFront, IsAtRun, WritesOut, Wrote, WroteFront};
-ghost use Rattle.ctt_script.specs.Entries.{IsWritable};
+ghost use Rattle.ctt_script.specs.Entries.{AnswerFits, IsWritable};
+ghost use Rattle.ctt_script.specs.Minutes.{IsMinuted, blank, noted};
 ghost use Rattle.ctt_script.specs.RunFaults.{IsCauseOf, MayHaveWritten};
 ghost use Rattle.ctt_script.specs.ScriptText.{items_of, script};
+ghost use Rattle.ctt_script.specs.WrittenText.{line};
 ghost use Rattle.ctt_script.specs.declared.script_fault.ScriptFault.TheVariants as script_fault;
 
 use crate::answers::{write_answer, write_bad_line};
 use crate::input::read_all;
 use crate::lines::Lines;
+use crate::minutes::Minutes;
 use crate::script::{has_words, read_line};
 use crate::script_fault::ScriptFault;
 use crate::sink::{Sink, put_all};
@@ -31,7 +35,7 @@ use ctt_text::{Instance, NoMemory, Placed};
 use std::alloc::{AllocError, Global};
 
 /// How many planners a script has.
-const PLANNERS: u16 = 64;
+pub const PLANNERS: u16 = 64;
 
 /// How many bytes a script has at most.
 const LIMIT: usize = 67_108_864;
@@ -39,26 +43,51 @@ const LIMIT: usize = 67_108_864;
 /// From how many bytes on answers are written out: few writes, and little room.
 const PIECE: usize = 32_768;
 
+/// Adds the line of an answer, and notes it where there are minutes.
+fn tell(
+    answers: &mut String,
+    minutes: &mut Option<Minutes>,
+    instance: &Instance,
+    event: &Event,
+    answer: &Answer,
+) -> Result<(), NoMemory>
+    requires event { IfSome minutes.old (λ m. EventFits instance.now (length m.drafts) event.now) }
+    requires answer { AnswerFits instance.now answer.now }
+    ensures written { OnOk result (string_bytes answers.new ≡ string_bytes answers.old ++ line (answer_words instance.now answer.now)) }
+    ensures noted { OnOk result (minutes.new ≡ option_map (noted instance.now event.now answer.now) minutes.old) }
+    ensures given { OnOk result (is_some minutes.new ≡ is_some minutes.old) }
+{
+    write_answer(answers, instance, answer)?;
+    match minutes {
+        Some(minutes) => minutes.note(instance, event, answer),
+        None => Ok(()),
+    }
+}
+
 /// Answers an event, and adds the line of the answer.
 fn answer_event<'i, S: Sheet<'i>, K: Keeping>(
     desk: &mut Desk<'i, S, K>,
     instance: &Instance,
-    event: Event,
+    event: &Event,
     answers: &mut String,
+    minutes: &mut Option<Minutes>,
 ) -> Result<(), NoMemory>
     requires same { desk.old.problem ≡ instance.now }
     requires planners { length desk.old.drafts ≡ 64 }
-    requires fits { EventFits instance.now 64 event }
+    requires fits { EventFits instance.now 64 event.now }
     requires stands { IsAtRun desk.old }
-    ensures { OnOk result (Answered desk.old desk.new (string_bytes answers.old) (string_bytes answers.new) (Some event ∷ [])) }
+    requires minuted { IsMinuted instance.now desk.old minutes.old }
+    ensures answered { OnOk result (Answered desk.old desk.new (string_bytes answers.old) (string_bytes answers.new) (Some event.now ∷ [])) }
+    ensures minuted { OnOk result (IsMinuted instance.now desk.new minutes.new) }
+    ensures given { OnOk result (is_some minutes.new ≡ is_some minutes.old) }
 {
     instance.limits_hold();
     desk.lawful();
-    let answer = desk.step(event);
+    let answer = desk.step(*event);
     if let Answer::NoMemory = answer {
         return Err(NoMemory);
     }
-    write_answer(answers, instance, &answer)?;
+    tell(answers, minutes, instance, event, &answer)?;
     Ok(())
 }
 
@@ -68,14 +97,18 @@ fn answer_line<'i, S: Sheet<'i>, K: Keeping>(
     instance: &Instance,
     line: &[u8],
     answers: &mut String,
+    minutes: &mut Option<Minutes>,
 ) -> Result<(), NoMemory>
     requires same { desk.old.problem ≡ instance.now }
     requires planners { length desk.old.drafts ≡ 64 }
     requires stands { IsAtRun desk.old }
-    ensures { OnOk result (Answered desk.old desk.new (string_bytes answers.old) (string_bytes answers.new) (items_of instance.now (line.now ∷ []))) }
+    requires minuted { IsMinuted instance.now desk.old minutes.old }
+    ensures answered { OnOk result (Answered desk.old desk.new (string_bytes answers.old) (string_bytes answers.new) (items_of instance.now (line.now ∷ []))) }
+    ensures minuted { OnOk result (IsMinuted instance.now desk.new minutes.new) }
+    ensures given { OnOk result (is_some minutes.new ≡ is_some minutes.old) }
 {
     match read_line(instance, line) {
-        Some(event) => answer_event(desk, instance, event, answers),
+        Some(event) => answer_event(desk, instance, &event, answers, minutes),
         None if has_words(line) => Ok(write_bad_line(answers)?),
         None => Ok(()),
     }
@@ -103,10 +136,14 @@ fn answer_lines<'i, S: Sheet<'i>, K: Keeping, W: Sink>(
     instance: &Instance,
     text: &[u8],
     writer: &mut W,
+    minutes: &mut Option<Minutes>,
 ) -> Result<(), ScriptFault>
     requires same { desk.old.problem ≡ instance.now }
     requires planners { length desk.old.drafts ≡ 64 }
     requires stands { IsAtRun desk.old }
+    requires minuted { IsMinuted instance.now desk.old minutes.old }
+    ensures minuted { OnOk result (IsMinuted instance.now desk.new minutes.new) }
+    ensures given { OnOk result (is_some minutes.new ≡ is_some minutes.old) }
     ensures written { OnOk result (Wrote desk.old desk.new (script instance.now text.now) (W.taken writer.old) (W.taken writer.new)) }
     ensures part { OnErr result (WroteFront desk.old (script instance.now text.now) (W.taken writer.old) (W.taken writer.new)) }
     ensures fault { IfErr result (λ fault. (fault ≡ script_fault.Write) ⊎ (fault ≡ script_fault.NoMemory)) }
@@ -115,7 +152,7 @@ fn answer_lines<'i, S: Sheet<'i>, K: Keeping, W: Sink>(
 {
     let mut answers = String::new(alloc);
     for line in Lines::new(text) {
-        answer_line(desk, instance, line, &mut answers)?;
+        answer_line(desk, instance, line, &mut answers, minutes)?;
         write_full(writer, &mut answers)?;
     }
     put_all(writer, answers.as_bytes())?;
@@ -124,7 +161,8 @@ fn answer_lines<'i, S: Sheet<'i>, K: Keeping, W: Sink>(
 
 /// Runs a script of 64 planners on a desk whose opening timetable has these lectures, placed in their
 /// order, and writes the answers: a line for each line that has words. The desk is handed back as the
-/// script leaves it; whether it keeps its journal is the caller's choice.
+/// script leaves it; whether it keeps its journal is the caller's choice, and so is whether minutes are written,
+/// which begin blank for 64 planners and are then those of the desk.
 ///
 /// The script is read whole before anything is written, and it is not read where the opening is
 /// refused. Where a write fails, or memory is wanted, a front of the answers may have been written.
@@ -134,9 +172,11 @@ pub fn run_script<'i, S: Sheet<'i>, K: Keeping, R: Source, W: Sink>(
     lectures: &[Placed],
     reader: &mut R,
     writer: &mut W,
+    minutes: &mut Option<Minutes>,
 ) -> Result<Desk<'i, S, K>, ScriptFault>
     requires fit { Each (Fits instance.now) lectures.now }
     requires unmarked { R.has_failed reader.old ≡ false }
+    requires blank { IfSome minutes.old (λ m. m ≡ blank 64) }
 
     ensures problem { IfOk result (λ desk. desk.problem ≡ instance.now) }
     ensures opening { IfOk result (λ desk. opening instance.now lectures.now ≡ Ok desk.opening) }
@@ -145,6 +185,8 @@ pub fn run_script<'i, S: Sheet<'i>, K: Keeping, R: Source, W: Sink>(
     ensures stands { IfOk result (λ desk. IfSome (R.left reader.old) (λ text.
         Stands desk (script_run instance.now desk.opening text))) }
     ensures entries { IfOk result (λ desk. IsWritable instance.now desk.journal) }
+    ensures minutes { IfOk result (λ desk. IsMinuted instance.now desk minutes.new) }
+    ensures given { OnOk result (is_some minutes.new ≡ is_some minutes.old) }
 
     ensures cause { IfErr result (λ fault. IsCauseOf instance.now lectures.now (R.left reader.old) fault) }
     ensures refused { (at : ℕ) (fault : EditFault) → opening instance.now lectures.now ≡ Err (at, fault)
@@ -162,6 +204,6 @@ pub fn run_script<'i, S: Sheet<'i>, K: Keeping, R: Source, W: Sink>(
     let mut desk: Desk<'i, S, K> = Desk::new(alloc, instance, lectures, PLANNERS)?;
     desk.lawful();
     let text = read_all(alloc, reader, LIMIT)?;
-    answer_lines(alloc, &mut desk, instance, &text, writer)?;
+    answer_lines(alloc, &mut desk, instance, &text, writer, minutes)?;
     Ok(desk)
 }

@@ -23,7 +23,7 @@ use crate::gathered::{Gathered, add_lecture, write_lecture};
 use crate::pieces::{
     end_with_number, end_with_slot, end_with_word, push_number, push_signed, push_slot, push_word,
 };
-use ctt_core::JournalEntry;
+use ctt_core::{JournalEntry, PlannerNo};
 use ctt_draft::Asked;
 use ctt_edits::{Call, Edit, EditFault, Look, Reply};
 use ctt_rules::Cost;
@@ -241,6 +241,19 @@ fn write_asked(text: &mut String, instance: &Instance, asked: &Asked) -> Result<
     write_reply(text, instance, &asked.reply)
 }
 
+/// Adds the first line of an entry.
+pub(crate) fn write_entry_head(
+    text: &mut String,
+    planner: PlannerNo,
+    calls: u64,
+) -> Result<(), AllocError>
+    ensures { OnOk result (string_bytes text.new ≡ string_bytes text.old ++ line (codes "entry" ∷ decimal planner ∷ decimal calls ∷ [])) }
+{
+    text.push_str("entry")?;
+    push_number(text, u64::from(planner.get()))?;
+    end_with_number(text, calls)
+}
+
 /// Adds the lines of an entry.
 fn write_entry(
     text: &mut String,
@@ -251,11 +264,7 @@ fn write_entry(
     ensures { OnOk result (string_bytes text.new ≡ string_bytes text.old ++ entry_text instance.now entry.now) }
 {
     let asked = entry.asked.as_slice();
-    let planner = entry.planner.get();
-    let count = asked.len();
-    text.push_str("entry")?;
-    push_number(text, u64::from(planner))?;
-    end_with_number(text, count as u64)?;
+    write_entry_head(text, entry.planner, asked.len() as u64)?;
     for one in asked {
         write_asked(text, instance, one)?;
     }

@@ -1,6 +1,6 @@
 //! The command `run`.
 
-ghost use Rattle.std.specs.Prelude.{◌≡◌, ◌⊎◌, ◌<◌, ℕ, [], ◌∷◌, ◌++◌, length, true, false, Some, Ok, Err, OnOk, IfOk, IfErr, IfSome};
+ghost use Rattle.std.specs.Prelude.{◌≡◌, ◌⊎◌, ◌<◌, ℕ, [], ◌∷◌, ◌++◌, length, true, false, is_some, Ok, Err, OnOk, IfOk, IfErr, IfSome};
 ghost use Rattle.std.specs.Io.KnownBytes.{Appends};
 ghost use Rattle.std.specs.List.{AllByRecursion as Each};
 ghost use Rattle.std.specs.String.{string_bytes};
@@ -9,13 +9,12 @@ ghost use Rattle.ctt_edits.specs.Openings.{opening};
 ghost use Rattle.ctt_edits.specs.declared.fault.EditFault.{EditFault};
 ghost use Rattle.ctt_core.specs.Runs.{accepted_of};
 ghost use Rattle.ctt_script.specs.AnswerText.{answer_text, script_run};
-ghost use Rattle.ctt_script.specs.Entries.{IsWritable};
-ghost use Rattle.ctt_script.specs.WrittenText.{journal_text};
+ghost use Rattle.ctt_script.specs.Minutes.{IsMinuted, blank, minutes_text};
 ghost use Rattle.ctt_tool.specs.Faults.{IfUnwritten, IsOfFiles, IsOfTexts, IsRunFault, KeptUnless, MayHaveWritten, RunFaultFits, status_of};
 ghost use Rattle.ctt_tool.specs.Jobs.{IsGiven, given};
 ghost use Rattle.ctt_tool.specs.Runs.{IsRefusedRun, RunsOn, RunsScript, Stores};
 ghost use Rattle.ctt_tool.specs.Texts.{IsRefusedStart};
-ghost use Rattle.ctt_tool.specs.declared.fault.Fault.TheVariants.{NoMemory};
+ghost use Rattle.ctt_tool.specs.declared.fault.Fault.TheVariants.{NoMemory as OutOfMemory};
 
 use crate::fault::Fault;
 use crate::files::Files;
@@ -23,10 +22,10 @@ use crate::opening::refused_opening;
 use crate::output::pass_on;
 use crate::texts::{fetch_instance, fetch_start};
 use ctt_board::{GridSheet, Sheet};
-use ctt_core::{Desk, JournalEntry};
-use ctt_draft::{KeepAll, KeepNone, Keeping};
-use ctt_script::{ScriptFault, Sink, Source, run_script, write_journal};
-use ctt_text::{Instance, Placed};
+use ctt_core::Desk;
+use ctt_draft::KeepNone;
+use ctt_script::{Minutes, PLANNERS, ScriptFault, Sink, Source, run_script};
+use ctt_text::{Instance, NoMemory, Placed};
 use std::alloc::Global;
 
 /// The fault of the run of the script in a file.
@@ -44,24 +43,27 @@ fn fault_of_run(alloc: Global, instance: &Instance, fault: ScriptFault, script: 
 }
 
 /// Runs a script on a desk that opens with these lectures, and prints the answers. The script is read
-/// from a file of this name.
-fn answer<'i, S: Sheet<'i>, K: Keeping, R: Source, W: Sink>(
+/// from a file of this name. The desk keeps no journal: where one is wanted the minutes are it.
+fn answer<'i, S: Sheet<'i>, R: Source, W: Sink>(
     alloc: Global,
     instance: &'i Instance,
     lectures: &[Placed],
     script: &mut R,
     name: String,
     out: &mut W,
-) -> Result<Desk<'i, S, K>, Fault>
+    minutes: &mut Option<Minutes>,
+) -> Result<Desk<'i, S, KeepNone>, Fault>
     requires fit { Each (Fits instance.now) lectures.now }
     requires unread { R.has_failed script.old ≡ false }
+    requires blank { IfSome minutes.old (λ m. m ≡ blank 64) }
 
     ensures opening { IfOk result (λ desk. opening instance.now lectures.now ≡ Ok desk.opening) }
     ensures prints { IfOk result (λ desk. IfSome (R.left script.old) (λ text.
         Appends (W.taken out.old) (W.taken out.new) (answer_text instance.now desk.opening text))) }
     ensures journal { IfOk result (λ desk. IfSome (R.left script.old) (λ text.
         desk.journal ≡ accepted_of (script_run instance.now desk.opening text))) }
-    ensures entries { IfOk result (λ desk. IsWritable instance.now desk.journal) }
+    ensures minutes { IfOk result (λ desk. IsMinuted instance.now desk minutes.new) }
+    ensures given { OnOk result (is_some minutes.new ≡ is_some minutes.old) }
     ensures unmarked { OnOk result (W.has_failed out.new ≡ W.has_failed out.old) }
 
     ensures fault { IfErr result (λ fault. IfUnwritten fault
@@ -72,7 +74,7 @@ fn answer<'i, S: Sheet<'i>, K: Keeping, R: Source, W: Sink>(
     ensures cause { IfErr result (λ fault. status_of fault ≡ 1
         → (at : ℕ) × (found : EditFault) × (opening instance.now lectures.now ≡ Err (at, found))) }
 {
-    match run_script(alloc, instance, lectures, script, out) {
+    match run_script(alloc, instance, lectures, script, out, minutes) {
         Ok(desk) => {
             pass_on(out)?;
             Ok(desk)
@@ -81,23 +83,39 @@ fn answer<'i, S: Sheet<'i>, K: Keeping, R: Source, W: Sink>(
     }
 }
 
-/// Stores a journal.
-fn store_journal<F: Files>(
-    alloc: Global,
-    files: &mut F,
-    instance: &Instance,
-    journal: String,
-    entries: &[JournalEntry],
-) -> Result<(), Fault>
-    requires { IsWritable instance.now entries.now }
-    ensures stores { OnOk result (Stores (Some journal) (F.held files.old) (F.held files.new) (λ bytes.
-        bytes ≡ journal_text instance.now entries.now)) }
-    ensures fault { IfErr result (λ fault. IfUnwritten fault
-        (IsGiven (Some journal))
-        ((fault ≡ NoMemory) × (F.held files.new ≡ F.held files.old))) }
+/// Blank minutes for the planners of a script, where a file is given for a journal.
+fn minutes_for(alloc: Global, journal: &Option<String>) -> Result<Option<Minutes>, NoMemory>
+    ensures blank { IfOk result (λ minutes. IfSome minutes (λ m. m ≡ blank 64)) }
+    ensures given { IfOk result (λ minutes. is_some minutes ≡ is_some journal.now) }
 {
-    let text = write_journal(alloc, instance, entries)?;
-    match files.store(&journal, &text) {
+    if journal.is_some() {
+        Ok(Some(Minutes::new(alloc, PLANNERS)?))
+    } else {
+        Ok(None)
+    }
+}
+
+/// Stores a journal where a file is given for it.
+fn store_journal<F: Files>(
+    files: &mut F,
+    journal: Option<String>,
+    minutes: Option<Minutes>,
+) -> Result<(), Fault>
+    requires { is_some minutes ≡ is_some journal }
+    ensures stores { OnOk result (Stores journal (F.held files.old) (F.held files.new) (λ bytes.
+        IfSome minutes (λ m. bytes ≡ minutes_text m))) }
+    ensures fault { IfErr result (λ fault. IfUnwritten fault
+        (IsGiven journal)
+        ((fault ≡ OutOfMemory) × (F.held files.new ≡ F.held files.old))) }
+{
+    let Some(name) = journal else {
+        return Ok(());
+    };
+    let Some(minutes) = minutes else {
+        unreachable!()
+    };
+    let text = minutes.into_text()?;
+    match files.store(&name, &text) {
         Ok(()) => Ok(()),
         Err(_) => Err(Fault::CannotWrite),
     }
@@ -132,18 +150,17 @@ fn run_on<'i, S: Sheet<'i>, F: Files, W: Sink>(
         return Err(Fault::CannotRead(script));
     };
     let lectures = fetch_start(alloc, files, instance, start)?;
-    match journal {
-        Some(journal) => {
-            let desk: Desk<'i, S, KeepAll> =
-                answer(alloc, instance, &lectures, &mut input, script, out)?;
-            store_journal(alloc, files, instance, journal, desk.journal())
-        }
-        None => {
-            let _desk: Desk<'i, S, KeepNone> =
-                answer(alloc, instance, &lectures, &mut input, script, out)?;
-            Ok(())
-        }
-    }
+    let mut minutes = minutes_for(alloc, &journal)?;
+    let _desk: Desk<'i, S, KeepNone> = answer(
+        alloc,
+        instance,
+        &lectures,
+        &mut input,
+        script,
+        out,
+        &mut minutes,
+    )?;
+    store_journal(files, journal, minutes)
 }
 
 /// Runs a script on a desk of an instance, and prints the answers; then stores the journal of the drafts

@@ -1,4 +1,5 @@
-use Rattle.std.proofs.Common.{◌≡◌, string_bytes}
+use Rattle.std.proofs.Common.{◌≡◌, is_some, string_bytes}
+use Rattle.ctt_script.specs.Minutes.{IsMinuted}
 use Rattle.ctt_script.specs.Answering.{Answering}
 use Rattle.ctt_script.specs.ScriptText.{lines_of}
 use Rattle.ctt_script.proofs.engine.answer_lines.Given as goal
@@ -7,5 +8,7 @@ use Rattle.ctt_script.proofs.engine.answer_lines.Given as goal
 abbrev pub invariant-loop-line : goal.invariant-loop-line
 invariant-loop-line g l = record {
   answering : Answering l.initial.desk l.desk (lines_of l.text) l.line-iterator (g.W.Sink.taken l.fn.writer) (g.W.Sink.taken l.writer) (string_bytes l.answers);
+  minuted : IsMinuted l.instance l.desk l.minutes;
+  given : is_some l.minutes ≡ is_some l.fn.minutes;
   unmarked : g.W.Sink.has_failed l.writer ≡ g.W.Sink.has_failed l.fn.writer;
 }

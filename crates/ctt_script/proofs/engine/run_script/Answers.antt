@@ -1,5 +1,7 @@
 use Rattle.std.proofs.Common.{rules, ◌≡◌, ◌∙◌, [], ℕ, length, Result, Ok, Err, OnErr, sym}
 use Rattle.ctt_script.specs.Answering.{IsAtRun}
+use Rattle.ctt_script.specs.Minutes.{IsMinuted}
+use Rattle.ctt_script.proofs.MinutesLemmas.{begin_blank}
 use Rattle.ctt_text.proofs.FormLaws.{ok_same}
 use Rattle.ctt_edits.specs.declared.fault.EditFault.{EditFault}
 use Rattle.ctt_script.proofs.ScriptRuns.{all_said, front_said, journal_can, script_done}
@@ -19,6 +21,7 @@ answer_lines-requires g c κs =
     let same : c.in_ok-desk.desk.problem ≡ c.args.instance.now = c.in_ok-desk.ensures.problem in
     let planners : length c.in_ok-desk.desk.drafts ≡ 64 = c.in_ok-desk.ensures.planners in
     let at : IsAtRun c.in_ok-desk.desk = ([], c.in_ok-desk.ensures.stands) in
+    let minuted : IsMinuted c.args.instance.now c.in_ok-desk.desk c.args.minutes.now = begin_blank _ _ c.args.minutes.now c.in_ok-desk.ensures.stands c.in_ok-desk.ensures.planners c.requires.blank in
     search rules
 
 pub returns-in_err-answer_lines-clause-front : goal.returns-in_err-answer_lines-clause-front
