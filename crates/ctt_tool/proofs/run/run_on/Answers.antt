@@ -10,7 +10,7 @@ use Rattle.ctt_script.specs.AnswerText.{script_run}
 use Rattle.ctt_tool.specs.Faults.{status_of}
 use Rattle.ctt_tool.specs.Texts.{Held, Holds, IsRefusedStart, IsStart}
 use Rattle.ctt_tool.proofs.Causes.{unstored_refuses_none}
-use Rattle.ctt_tool.proofs.Desks.{journal_stored, told_through}
+use Rattle.ctt_tool.proofs.Desks.{journal_stored, minutes_stored, told_through}
 use Rattle.ctt_tool.proofs.Known.{on_ok_weaker, passed_on}
 use Rattle.ctt_tool.proofs.run.run_on.Goals as goal
 
@@ -18,13 +18,14 @@ pub answer-requires : goal.answer-requires
 answer-requires g c κs =
     let fit : Each (Fits c.args.instance.now) c.deref-2.result.now = subst (Each (Fits c.args.instance.now)) (sym c.deref-2.ensures.value) c.in_ok-lectures.ensures.fit in
     let unread : g.F.Input.Source.has_failed c.in-Ok.input ≡ false = c.in-Ok.ensures.unmarked in
+    let blank = c.in_ok-minutes.ensures.blank in
     search rules
 
-pub returns-in_err-desk-clause-cause : goal.returns-in_err-desk-clause-cause
-returns-in_err-desk-clause-cause g c =
+pub returns-in_err-_desk-clause-cause : goal.returns-in_err-_desk-clause-cause
+returns-in_err-_desk-clause-cause g c =
     let problem : Problem = c.args.instance.now in
-    passed_on c.from_residual-in_err-desk.result c.in_err-desk.field-0.0 (λ fault. status_of fault ≡ 1 → IsRefusedStart problem (g.F.Files.held c.args.files.now) c.args.start) c.from_residual-in_err-desk.ensures.1 (λ one.
-    let why = c.in_err-desk.ensures.cause one in
+    passed_on c.from_residual-in_err-_desk.result c.in_err-_desk.field-0.0 (λ fault. status_of fault ≡ 1 → IsRefusedStart problem (g.F.Files.held c.args.files.now) c.args.start) c.from_residual-in_err-_desk.ensures.1 (λ one.
+    let why = c.in_err-_desk.ensures.cause one in
     inr (
       why.0,
       why.1,
@@ -39,17 +40,18 @@ pub returns-clause-runs : goal.returns-clause-runs
 returns-clause-runs g c =
     let problem : Problem = c.args.instance.now in
     let held : Held = g.F.Files.held c.args.files.now in
-    let opened : List Placed = c.in_ok-desk.desk.opening in
+    let opened : List Placed = c.in_ok-_desk._desk.opening in
     let whole : Holds held c.args.script (λ text. g.F.Input.Source.left c.in-Ok.input ≡ Some text) = subst (λ name. IfSome (held name) (λ text. g.F.Input.Source.left c.in-Ok.input ≡ Some text)) c.deref.ensures c.in-Ok.ensures.whole in
-    let entries : Holds held c.args.script (λ text. c.in_ok-desk.desk.journal ≡ accepted_of (script_run problem opened text)) = told_through _ _ _ whole c.in_ok-desk.ensures.journal in
+    let given = c.in_ok-_desk.ensures.given ∙ c.in_ok-minutes.ensures.given in
+    let entries : Holds held c.args.script (λ text. c.in_ok-_desk._desk.journal ≡ accepted_of (script_run problem opened text)) = told_through _ _ _ whole c.in_ok-_desk.ensures.journal in
     on_ok_weaker c.store_journal.result _ _ (λ stores. record {
       lectures = c.in_ok-lectures.lectures.items;
       is_start = subst (λ known. IsStart problem known c.args.start c.in_ok-lectures.lectures.items) c.in-Ok.ensures.kept c.in_ok-lectures.ensures.spelled;
       opened = opened;
-      opens = ap (opening problem) (sym c.deref-2.ensures.value) ∙ c.in_ok-desk.ensures.opening;
-      prints = told_through _ _ _ whole c.in_ok-desk.ensures.prints;
-      stores = journal_stored c.args.journal held _ _ (held (string_bytes c.args.script)) problem c.journal.result.now c.in_ok-desk.desk.journal (λ text. accepted_of (script_run problem opened text))
-          (c.in_ok-lectures.ensures.kept ∙ c.in-Ok.ensures.kept) c.journal.ensures entries stores;
+      opens = ap (opening problem) (sym c.deref-2.ensures.value) ∙ c.in_ok-_desk.ensures.opening;
+      prints = told_through _ _ _ whole c.in_ok-_desk.ensures.prints;
+      stores = journal_stored c.args.journal held _ _ (held (string_bytes c.args.script)) problem c.in_ok-_desk._desk.journal c.in_ok-_desk._desk.journal (λ text. accepted_of (script_run problem opened text))
+          (c.in_ok-lectures.ensures.kept ∙ c.in-Ok.ensures.kept) refl entries (minutes_stored c.args.journal _ _ _ problem c.in_ok-_desk._desk given c.in_ok-_desk.ensures.minutes stores);
     }) c.store_journal.ensures.stores
 
 pub returns-clause-cause : goal.returns-clause-cause
