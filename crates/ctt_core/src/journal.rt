@@ -51,8 +51,7 @@ pub(crate) fn enter<K: Keeping>(
     ensures { journal.new.list ≡ journal.old.list ++ record { planner = planner; asked = asked.list } ∷ [] }
 {
     if K::keeps() {
-        let mut asked = AskedCalls::new(asked.into_vec());
-        asked.shrink_to_fit();
+        let asked = AskedCalls::of(asked);
         journal.push(JournalEntry { planner, asked });
     } else {
         let entering = Entering {

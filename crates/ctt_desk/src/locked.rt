@@ -98,9 +98,7 @@ fn end<'i, S: Sheet<'i>>(draft: Box<Draft<'i, S, KeepAll>>) -> (AskedCalls, Vec<
 {
     let (work, remains) = Box::into_inner(draft).end();
     let Work { asked, changes } = work;
-    let mut calls = AskedCalls::new(asked.into_vec());
-    calls.shrink_to_fit();
-    (calls, changes, remains)
+    (AskedCalls::of(asked), changes, remains)
 }
 
 impl<S: Timetable, J: Naming> Locked<S, J> {

@@ -86,18 +86,21 @@ impl AskedCalls {
         AskedCalls { list }
     }
 
+    /// The calls that a log has kept, in no more memory than they need.
+    pub fn of<K: Keeping>(asked: Log<Asked, K>) -> Self
+        requires { K.keeps ≡ true }
+        ensures { result ≡ asked.list }
+    {
+        let mut list = asked.into_vec();
+        list.shrink_to_fit();
+        AskedCalls { list }
+    }
+
     /// The list.
     pub fn as_slice(&self) -> &[Asked]
         ensures { result.now ≡ self.now }
     {
         self.list.as_slice()
-    }
-
-    /// Gives back the memory in which nothing stands, for a list to which nothing is added any more.
-    pub fn shrink_to_fit(&mut self)
-        ensures { self.new ≡ self.old }
-    {
-        self.list.shrink_to_fit();
     }
 
     /// Whether each call and each reply fits.
