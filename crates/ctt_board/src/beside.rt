@@ -3,7 +3,7 @@
 ghost use Rattle.std.specs.Prelude.{◌≡◌, ◌<◌, ◌≤◌, ◌+◌, ◌-◌, cond, true};
 ghost use Rattle.ctt_text.specs.Problem.{slot_count, curriculum_count, period_of};
 ghost use Rattle.ctt_board.specs.Joining.{count_before, count_after};
-ghost use Rattle.ctt_board.specs.Beside.{IsBeside};
+ghost use Rattle.ctt_board.specs.Beside.{IsBeside, beside_of};
 ghost use Rattle.ctt_board.specs.Counts.{HaveSizes};
 ghost use Rattle.ctt_board.specs.Seen.{seen_part, StandApart};
 
@@ -21,6 +21,18 @@ pub(crate) struct Beside {
     pub(crate) after: u64,
     /// Two slots after.
     pub(crate) later: u64,
+}
+
+/// Those that five bits about a slot show.
+pub(crate) fn beside_in(bits: u64) -> Beside
+    ensures { result ≡ beside_of bits }
+{
+    Beside {
+        earlier: bits & 1,
+        before: (bits >> 1) & 1,
+        after: (bits >> 3) & 1,
+        later: (bits >> 4) & 1,
+    }
 }
 
 /// The lectures of a curriculum in the slot before this one, on its day.

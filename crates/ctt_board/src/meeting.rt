@@ -5,10 +5,11 @@ ghost use Rattle.std.specs.Prelude.{◌≡◌, ◌<◌, ◌≤◌, ◌+◌, ◌*
 ghost use Rattle.std.specs.List.{AllByRecursion as Each};
 ghost use Rattle.ctt_text.specs.Problem.{slot_count, curriculum_count, period_of};
 ghost use Rattle.ctt_board.specs.Joining.{alone_beside, stands_alone};
+ghost use Rattle.ctt_board.specs.Beside.{beside_of};
 ghost use Rattle.ctt_board.specs.Counts.{HaveSizes};
 ghost use Rattle.ctt_board.specs.Seen.{seen_part, StandApart};
 
-use crate::beside::{Beside, count_beside};
+use crate::beside::{Beside, count_beside, wanted};
 use crate::later::Later;
 use ctt_text::{CurriculumNo, Instance, SlotNo};
 
@@ -42,6 +43,23 @@ pub(crate) fn meeting_beside(beside: Beside) -> Meeting
         alone: unless_some(beside.before + beside.after, 1),
         company: unless_some(beside.earlier, beside.before)
             + unless_some(beside.later, beside.after),
+    }
+}
+
+/// What a lecture does to a curriculum, by the five bits about its slot.
+pub(crate) fn meeting_in(bits: u64) -> Meeting
+    requires { bits < 32 }
+    ensures alone { result.alone ≡ cond (nat_lt 0 ((beside_of bits).before + (beside_of bits).after)) 0 1 }
+    ensures company { result.company ≡ cond (nat_lt 0 (beside_of bits).earlier) 0 (beside_of bits).before + cond (nat_lt 0 (beside_of bits).later) 0 (beside_of bits).after }
+    ensures few { result.alone ≤ 1 }
+    ensures bound { result.company ≤ 2 }
+{
+    let is_alone = bits & 0b01010 == 0;
+    let is_behind_one = bits & 0b00011 == 0b00010;
+    let is_ahead_of_one = bits & 0b11000 == 0b01000;
+    Meeting {
+        alone: wanted(is_alone, 1),
+        company: wanted(is_behind_one, 1) + wanted(is_ahead_of_one, 1),
     }
 }
 
