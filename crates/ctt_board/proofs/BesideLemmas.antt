@@ -215,5 +215,8 @@ passed p (suc n) k h lt = elim (cases_lt k n) [
 pub alone_bits : (n : ℕ) → n < 32 → ◌≡◌ {A = ℕ} (cond (bit_and n 10 == 0) 1 0) (cond (ltb 0 (bit_at n 1 + bit_at n 3)) 0 1)
 alone_bits n lt = eqb-true _ _ (passed (λ k. cond {A = ℕ} (bit_and k 10 == 0) 1 0 == cond (ltb 0 (bit_at k 1 + bit_at k 3)) 0 1) 32 n refl lt)
 
-pub company_bits : (n : ℕ) → n < 32 → cond (bit_and n 3 == 2) 1 0 + cond (bit_and n 24 == 8) 1 0 ≡ cond (ltb 0 (bit_at n 0)) 0 (bit_at n 1) + cond (ltb 0 (bit_at n 4)) 0 (bit_at n 3)
-company_bits n lt = eqb-true _ _ (passed (λ k. (cond (bit_and k 3 == 2) 1 0 + cond (bit_and k 24 == 8) 1 0) == (cond (ltb 0 (bit_at k 0)) 0 (bit_at k 1) + cond (ltb 0 (bit_at k 4)) 0 (bit_at k 3))) 32 n refl lt)
+pub company_bits : (n : ℕ) → n < 32 → bit_and (1157442766840860688 / 2 ^ (2 * n)) 3 ≡ cond (ltb 0 (bit_at n 0)) 0 (bit_at n 1) + cond (ltb 0 (bit_at n 4)) 0 (bit_at n 3)
+company_bits n lt = eqb-true _ _ (passed (λ k. bit_and (1157442766840860688 / 2 ^ (2 * k)) 3 == (cond (ltb 0 (bit_at k 0)) 0 (bit_at k 1) + cond (ltb 0 (bit_at k 4)) 0 (bit_at k 3))) 32 n refl lt)
+
+pub company_few : (n : ℕ) → n < 32 → bit_and (1157442766840860688 / 2 ^ (2 * n)) 3 ≤ 2
+company_few n lt = omega (arith, eqb-true _ _ (passed (λ k. bit_and (1157442766840860688 / 2 ^ (2 * k)) 3 - 2 == 0) 32 n refl lt))

@@ -46,6 +46,10 @@ pub(crate) fn meeting_beside(beside: Beside) -> Meeting
     }
 }
 
+/// For each of the 32 ways in which the five bits about a slot can stand, two bits from the lowest on:
+/// how many of the lectures beside it stand alone.
+const ALONE_BESIDE: u64 = 0x1010_1010_6565_1010;
+
 /// What a lecture does to a curriculum, by the five bits about its slot.
 pub(crate) fn meeting_in(bits: u64) -> Meeting
     requires { bits < 32 }
@@ -55,11 +59,9 @@ pub(crate) fn meeting_in(bits: u64) -> Meeting
     ensures bound { result.company ≤ 2 }
 {
     let is_alone = bits & 0b01010 == 0;
-    let is_behind_one = bits & 0b00011 == 0b00010;
-    let is_ahead_of_one = bits & 0b11000 == 0b01000;
     Meeting {
         alone: wanted(is_alone, 1),
-        company: wanted(is_behind_one, 1) + wanted(is_ahead_of_one, 1),
+        company: (ALONE_BESIDE >> (2 * bits)) & 3,
     }
 }
 

@@ -17,10 +17,11 @@ use crate::beside::wanted;
 use crate::bits::Bits;
 use crate::counts::Counts;
 use crate::grid_sheet::GridSheet;
-use crate::joining::{Joining, period_on};
+use crate::joining::period_on;
 use crate::meeting::{Meeting, meeting_in};
 use crate::sheet::Rooms;
 use crate::shift::Shift;
+use ctt_rules::Cost;
 use ctt_text::{CourseNo, CurriculumNo, Instance, Placed, RoomNo, SlotNo};
 
 /// A slot, and what is known of it whatever stands there.
@@ -41,14 +42,15 @@ pub(crate) struct Window {
     pub(crate) near: u64,
 }
 
-/// What a lecture does to its curricula where it leaves, and where it comes.
+/// What the compactness costs more and less where a lecture goes elsewhere, by halves.
 #[derive(Clone, Copy, Debug, PartialEq, Eq)]
-struct Ends {
-    from: Meeting,
-    to: Meeting,
+struct Halves {
+    more: u64,
+    less: u64,
 }
 
 /// What is known of a slot.
+#[inline(always)]
 pub(crate) fn spot_of(instance: &Instance, slot: SlotNo) -> Spot
     requires slot { slot < slot_count instance.now }
     ensures slot { result.slot ≡ slot }
@@ -99,6 +101,7 @@ fn about(instance: &Instance, spot: &Spot, gone: SlotNo) -> Window
 }
 
 /// What a lecture does to a curriculum of which another one leaves.
+#[inline(always)]
 fn met(instance: &Instance, parts: &Bits, part: CurriculumNo, window: &Window) -> Meeting
     requires part { part < parts.now.rows }
     requires width { parts.now.width ≡ slot_count instance.now }
@@ -108,20 +111,20 @@ fn met(instance: &Instance, parts: &Bits, part: CurriculumNo, window: &Window) -
     ensures alone { result.alone ≡ stands_alone instance.now (part_without instance.now parts.now window.now.gone part) window.now.slot }
     ensures company { result.company ≡ alone_beside instance.now (part_without instance.now parts.now window.now.gone part) window.now.slot }
     ensures few { result.alone ≤ 1 }
-    ensures bound { result.company ≤ 10000000000 }
+    ensures bound { result.company ≤ 2 }
 {
     let bits = parts.around(part.get() as usize, window.slot.get() as usize);
     meeting_in(bits & window.near)
 }
 
-/// What a lecture does to these curricula together, where it leaves and where it comes.
+/// What these curricula together cost more and less where a lecture of each goes elsewhere.
 fn meet_both(
     instance: &Instance,
     parts: &Bits,
     curricula: &[CurriculumNo],
     here: &Window,
     there: &Window,
-) -> Ends
+) -> Halves
     requires curricula { Each (λ q. q < parts.now.rows) curricula.now }
     requires few { length curricula.now ≤ 20000 }
     requires width { parts.now.width ≡ slot_count instance.now }
@@ -131,37 +134,20 @@ fn meet_both(
     requires there_window { IsWindow instance.now there.now }
     requires here_own { Each (λ q. part_without instance.now parts.now here.now.gone q here.now.slot ≡ 0) curricula.now }
     requires there_own { Each (λ q. part_without instance.now parts.now there.now.gone q there.now.slot ≡ 0) curricula.now }
-    ensures from_alone { result.from.alone ≡ sum_by (λ q. stands_alone instance.now (part_without instance.now parts.now here.now.gone q) here.now.slot) curricula.now }
-    ensures from_company { result.from.company ≡ sum_by (λ q. alone_beside instance.now (part_without instance.now parts.now here.now.gone q) here.now.slot) curricula.now }
-    ensures to_alone { result.to.alone ≡ sum_by (λ q. stands_alone instance.now (part_without instance.now parts.now there.now.gone q) there.now.slot) curricula.now }
-    ensures to_company { result.to.company ≡ sum_by (λ q. alone_beside instance.now (part_without instance.now parts.now there.now.gone q) there.now.slot) curricula.now }
-    ensures from_few { result.from.alone ≤ 20000 }
-    ensures to_few { result.to.alone ≤ 20000 }
-    ensures from_bound { result.from.company ≤ 20000 * 10000000000 }
-    ensures to_bound { result.to.company ≤ 20000 * 10000000000 }
+    ensures more { result.more ≡ sum_by (λ q. stands_alone instance.now (part_without instance.now parts.now there.now.gone q) there.now.slot) curricula.now + sum_by (λ q. alone_beside instance.now (part_without instance.now parts.now here.now.gone q) here.now.slot) curricula.now }
+    ensures less { result.less ≡ sum_by (λ q. stands_alone instance.now (part_without instance.now parts.now here.now.gone q) here.now.slot) curricula.now + sum_by (λ q. alone_beside instance.now (part_without instance.now parts.now there.now.gone q) there.now.slot) curricula.now }
+    ensures more_few { result.more ≤ 60000 }
+    ensures less_few { result.less ≤ 60000 }
 {
-    let mut from_alone = 0;
-    let mut from_company = 0;
-    let mut to_alone = 0;
-    let mut to_company = 0;
+    let mut more = 0;
+    let mut less = 0;
     for part in curricula {
         let left = met(instance, parts, *part, here);
-        from_alone += left.alone;
-        from_company += left.company;
         let found = met(instance, parts, *part, there);
-        to_alone += found.alone;
-        to_company += found.company;
+        more += found.alone + left.company;
+        less += left.alone + found.company;
     }
-    Ends {
-        from: Meeting {
-            alone: from_alone,
-            company: from_company,
-        },
-        to: Meeting {
-            alone: to_alone,
-            company: to_company,
-        },
-    }
+    Halves { more, less }
 }
 
 /// A count, without one if that is counted.
@@ -249,6 +235,7 @@ fn unseated(instance: &Instance, lecture: &Placed) -> u64
 
 /// By how much the costs change where a lecture goes elsewhere, where no curriculum of its course has
 /// another one.
+#[inline(always)]
 pub(crate) fn moved(
     instance: &Instance,
     counts: &Counts,
@@ -279,19 +266,18 @@ pub(crate) fn moved(
     let curricula = instance.curricula_of(course);
     let both = meet_both(instance, &counts.parts, curricula, &left, &found);
     let days = days_left(instance, counts, course, here.day);
-    let less = Joining {
-        seats: unseated(instance, from),
-        day: missing_day(instance, counts, course, here.day, here.day, days),
-        alone: 2 * both.from.alone,
-        company: 2 * both.from.company,
-        room: further_room(instance, counts, course, from.room, from.room),
-    };
-    let more = Joining {
-        seats: unseated(instance, to),
-        day: missing_day(instance, counts, course, there.day, here.day, days),
-        alone: 2 * both.to.alone,
-        company: 2 * both.to.company,
-        room: further_room(instance, counts, course, to.room, from.room),
-    };
-    Shift::of(&less, &more)
+    Shift {
+        more: Cost {
+            capacity: unseated(instance, to),
+            days: missing_day(instance, counts, course, here.day, here.day, days),
+            compactness: 2 * both.more,
+            stability: further_room(instance, counts, course, to.room, from.room),
+        },
+        less: Cost {
+            capacity: unseated(instance, from),
+            days: missing_day(instance, counts, course, there.day, here.day, days),
+            compactness: 2 * both.less,
+            stability: further_room(instance, counts, course, from.room, from.room),
+        },
+    }
 }
