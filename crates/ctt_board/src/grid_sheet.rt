@@ -144,8 +144,8 @@ impl<'i> GridSheet<'i> {
         ))
     }
 
-    /// By how much the costs change by these cells, if two lectures go elsewhere by them whose courses
-    /// share no curriculum: by what each of them does, as if the other one stayed.
+    /// By how much the costs change by these cells, if two lectures go by them each to the slot of the
+    /// other, whose courses share no curriculum: by what each of them does, as if the other one stayed.
     #[inline(always)]
     fn exchanged(&self, first: &Cell, second: &Cell, third: &Cell, fourth: &Cell) -> Option<Shift>
         requires turn { is_change (first.now ∷ second.now ∷ third.now ∷ fourth.now ∷ []) ≡ true }
