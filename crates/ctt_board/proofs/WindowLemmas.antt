@@ -7,14 +7,16 @@ use Rattle.std.proofs.lemmas.Bool.Decides.{nat_tests}
 use Rattle.std.proofs.lemmas.Nat.Bits.{bit_at-lt, bit_at_and, bit_at_clear_same, bit_at_clear_other}
 use Rattle.ctt_text.proofs.TableLemmas.{bool_case}
 use Rattle.ctt_text.specs.Problem.{Problem, slot_count, period_of}
-use Rattle.ctt_board.specs.Beside.{IsBeside, AreBeside, beside_of}
+use Rattle.ctt_board.specs.Beside.{IsBeside, AreBeside, beside_of, near_of, near_in}
+use Rattle.ctt_board.specs.Seen.{seen_part, StandApart}
 use Rattle.ctt_board.specs.Joining.{count_before, count_after}
-use Rattle.ctt_board.specs.Moving.{part_without, near_of, IsSpot, IsWindow}
+use Rattle.ctt_board.specs.Moving.{part_without, IsSpot, IsWindow}
 use Rattle.ctt_board.specs.Tables.{Grid, at}
 use Rattle.ctt_board.specs.declared.beside.Beside.{Beside}
+use Rattle.ctt_board.specs.declared.later.Later.{Later}
 use Rattle.ctt_board.specs.declared.moving.Spot.{Spot}
 use Rattle.ctt_board.specs.declared.moving.Window.{Window}
-use Rattle.ctt_board.proofs.BesideLemmas.{five_bits}
+use Rattle.ctt_board.proofs.BesideLemmas.{five_bits, read_beside}
 use Rattle.ctt_board.proofs.SlotFacts.{later_slot, earlier_fits, next_slot, period_after, period_before}
 
 -- a bit that is not counted where it leaves
@@ -138,6 +140,17 @@ near_bits e b a l = rw (times b 2, times a 8, times l 16) (
     one : (x : Bool) → cond x 1 0 ≤ 1
     one true = omega arith
     one false = omega arith
+
+-- what is read under them, where nothing that comes or leaves is near
+pub read_masked : (i : Problem) (v : Later) (q s x : ℕ) → StandApart v s → s < slot_count i → v.counts.now.parts.width ≡ slot_count i → AreBeside v.counts.now.parts q s (beside_of x)
+    → IsBeside i (seen_part i v q) s (beside_of (bit_and x (near_in (period_of i s) i.periods)))
+read_masked i v q s x far lt width h =
+    let near : ℕ = near_in (period_of i s) i.periods in
+    let bits = near_bits (ltb 1 (period_of i s)) (ltb 0 (period_of i s)) (ltb (period_of i s + 1) i.periods) (ltb (period_of i s + 2) i.periods) in
+    read_beside i v q s far (beside_of x) (beside_of (bit_and x near)) lt width h (masked x near 0 _ bits.0) (masked x near 1 _ bits.1) (masked x near 3 _ bits.2) (masked x near 4 _ bits.3)
+
+pub near_few : (period periods : ℕ) → near_in period periods < 32
+near_few period periods = (near_bits (ltb 1 period) (ltb 0 period) (ltb (period + 1) periods) (ltb (period + 2) periods)).4
 
 pub spot_few : (i : Problem) (p : Spot) → IsSpot i p → p.near < 32
 spot_few i p is = rw is.near (near_bits (ltb 1 (period_of i p.slot)) (ltb 0 (period_of i p.slot)) (ltb (period_of i p.slot + 1) i.periods) (ltb (period_of i p.slot + 2) i.periods)).4

@@ -1,7 +1,8 @@
 -- The lectures about a slot, without one that leaves another slot.
-use Rattle.std.specs.Prelude.{◌≡◌, ◌<◌, ℕ, ◌+◌, ◌-◌, ◌==◌, ◌&&◌, Bool, not, cond, nat_lt}
+use Rattle.std.specs.Prelude.{◌≡◌, ◌<◌, ℕ, ◌+◌, ◌-◌, ◌==◌, ◌&&◌, not, cond, nat_lt}
 use Rattle.std.specs.Int.{bit_at}
 use Rattle.ctt_text.specs.Problem.{Problem, slot_count, day_of, period_of}
+use Rattle.ctt_board.specs.Beside.{near_in}
 use Rattle.ctt_board.specs.Tables.{Grid, at}
 use Rattle.ctt_board.specs.declared.moving.Spot.{Spot}
 use Rattle.ctt_board.specs.declared.moving.Window.{Window}
@@ -10,15 +11,11 @@ use Rattle.ctt_board.specs.declared.moving.Window.{Window}
 abbrev pub part_without : Problem → Grid ℕ → ℕ → ℕ → ℕ → ℕ
 part_without i parts g q s = cond (nat_lt s (slot_count i)) (at parts q s 0 - cond (g == s) 1 0) 0
 
--- some of the slots about one, as five bits: two before it, its own, two after it
-abbrev pub near_of : Bool → Bool → Bool → Bool → ℕ
-near_of earlier before after later = (cond earlier 1 0 + cond before 2 0) + (cond after 8 0 + cond later 16 0)
-
 -- the slots about one that are others of its day
 pub record IsSpot (i : Problem) (s : Spot) : Type 0 where
   pub slot : s.slot < slot_count i
   pub day : s.day ≡ day_of i s.slot
-  pub near : s.near ≡ near_of (nat_lt 1 (period_of i s.slot)) (nat_lt 0 (period_of i s.slot)) (nat_lt (period_of i s.slot + 1) i.periods) (nat_lt (period_of i s.slot + 2) i.periods)
+  pub near : s.near ≡ near_in (period_of i s.slot) i.periods
 
 -- the slots about one that count: those of its day, without the one that a lecture leaves
 pub record IsWindow (i : Problem) (w : Window) : Type 0 where

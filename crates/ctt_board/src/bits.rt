@@ -4,7 +4,6 @@ ghost use Rattle.std.specs.Prelude.{◌≡◌, ℕ, ◌<◌, ◌≤◌, ◌+◌,
 ghost use Rattle.ctt_board.specs.Tables.{at, Adds, one_at};
 ghost use Rattle.ctt_board.specs.Beside.{AreBeside, beside_of};
 
-use crate::beside::{Beside, beside_in};
 use std::alloc::{AllocError, Global};
 use std::marker::Model;
 
@@ -109,16 +108,6 @@ impl Bits {
             return self.around_each(row, column);
         }
         self.words[number / 64] >> (place - 2)
-    }
-
-    /// The bits in the two columns before a place and in the two after it, where there are such
-    /// columns.
-    pub(crate) fn beside(&self, row: usize, column: usize) -> Beside
-        requires row { row < self.now.rows }
-        requires column { column < self.now.width }
-        ensures { AreBeside self.now row column result }
-    {
-        beside_in(self.around(row, column))
     }
 
     /// Sets a bit that is zero.

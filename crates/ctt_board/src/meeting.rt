@@ -5,11 +5,11 @@ ghost use Rattle.std.specs.Prelude.{◌≡◌, ◌<◌, ◌≤◌, ◌+◌, ◌*
 ghost use Rattle.std.specs.List.{AllByRecursion as Each};
 ghost use Rattle.ctt_text.specs.Problem.{slot_count, curriculum_count, period_of};
 ghost use Rattle.ctt_board.specs.Joining.{alone_beside, stands_alone};
-ghost use Rattle.ctt_board.specs.Beside.{beside_of};
+ghost use Rattle.ctt_board.specs.Beside.{beside_of, near_in};
 ghost use Rattle.ctt_board.specs.Counts.{HaveSizes};
 ghost use Rattle.ctt_board.specs.Seen.{seen_part, StandApart};
 
-use crate::beside::{Beside, count_beside, wanted};
+use crate::beside::{Beside, looked_up, near_in, read_at_once, wanted};
 use crate::later::Later;
 use ctt_text::{CurriculumNo, Instance, SlotNo};
 
@@ -72,12 +72,14 @@ fn meeting_of(
     part: CurriculumNo,
     slot: SlotNo,
     period: u16,
+    near: u64,
     is_apart: bool,
 ) -> Meeting
     requires part { part < curriculum_count instance.now }
     requires slot { slot < slot_count instance.now }
     requires period { period ≡ period_of instance.now slot }
     requires sizes { HaveSizes instance.now later.now.counts.now }
+    requires near { near ≡ near_in (period_of instance.now slot) instance.now.periods }
     requires own { seen_part instance.now later.now part slot ≡ 0 }
     requires apart { is_apart ≡ true → StandApart later.now slot }
     ensures alone { result.alone ≡ stands_alone instance.now (seen_part instance.now later.now part) slot }
@@ -85,7 +87,11 @@ fn meeting_of(
     ensures few { result.alone ≤ 1 }
     ensures bound { result.company ≤ 10000000000 }
 {
-    meeting_beside(count_beside(later, instance, part, slot, period, is_apart))
+    if is_apart {
+        meeting_in(read_at_once(later, instance, part, slot, near))
+    } else {
+        meeting_beside(looked_up(later, instance, part, slot, period))
+    }
 }
 
 /// What a lecture does to these curricula together.
@@ -107,11 +113,13 @@ pub(crate) fn meetings(
     ensures few { result.alone ≤ 20000 }
     ensures bound { result.company ≤ 20000 * 10000000000 }
 {
+    instance.limits_hold();
     let is_apart = later.is_apart(slot);
+    let near = near_in(period, instance.periods());
     let mut alone = 0;
     let mut company = 0;
     for part in parts {
-        let met = meeting_of(later, instance, *part, slot, period, is_apart);
+        let met = meeting_of(later, instance, *part, slot, period, near, is_apart);
         alone += met.alone;
         company += met.company;
     }

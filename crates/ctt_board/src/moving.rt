@@ -13,7 +13,7 @@ ghost use Rattle.ctt_board.specs.Moving.{part_without, IsSpot, IsWindow};
 ghost use Rattle.ctt_board.specs.Shifts.{shift_of, IsSmallShift};
 ghost use Rattle.ctt_board.specs.Tables.{at};
 
-use crate::beside::wanted;
+use crate::beside::near_in;
 use crate::bits::Bits;
 use crate::counts::Counts;
 use crate::grid_sheet::GridSheet;
@@ -59,13 +59,10 @@ pub(crate) fn spot_of(instance: &Instance, slot: SlotNo) -> Spot
     instance.limits_hold();
     let day = instance.day_of(slot);
     let period = period_on(instance, slot, day);
-    let periods = instance.periods();
-    let before = wanted(period > 1, 1) + wanted(period > 0, 2);
-    let after = wanted(period + 1 < periods, 8) + wanted(period + 2 < periods, 16);
     Spot {
         slot,
         day,
-        near: before + after,
+        near: near_in(period, instance.periods()),
     }
 }
 
