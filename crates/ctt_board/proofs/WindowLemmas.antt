@@ -158,12 +158,12 @@ spot_few i p is = rw is.near (near_bits (ltb 1 (period_of i p.slot)) (ltb 0 (per
 pub window_of : (i : Problem) (p : Spot) (w : Window) → IsSpot i p → w.slot ≡ p.slot → w.near < 32
     → ((k : ℕ) → k < 5 → bit_at w.near k ≡ cond (w.gone + 2 == p.slot + k) 0 (bit_at p.near k)) → IsWindow i w
 window_of i p w is slot few bits = rw slot (record {
-    few = few;
-    earlier = kept 0 (omega arith) (w.gone + 2 == p.slot) (ltb 1 (period_of i p.slot)) (back 2 0 (omega arith)) of.0;
-    before = kept 1 (omega arith) (w.gone + 1 == p.slot) (ltb 0 (period_of i p.slot)) (back 1 1 (omega arith)) of.1;
-    after = kept 3 (omega arith) (p.slot + 1 == w.gone) (ltb (period_of i p.slot + 1) i.periods) (ahead 1 3 (omega arith)) of.2;
-    later = kept 4 (omega arith) (p.slot + 2 == w.gone) (ltb (period_of i p.slot + 2) i.periods) (ahead 2 4 (omega arith)) of.3;
-  })
+  few = few;
+  earlier = kept 0 (omega arith) (w.gone + 2 == p.slot) (ltb 1 (period_of i p.slot)) (back 2 0 (omega arith)) of.0;
+  before = kept 1 (omega arith) (w.gone + 1 == p.slot) (ltb 0 (period_of i p.slot)) (back 1 1 (omega arith)) of.1;
+  after = kept 3 (omega arith) (p.slot + 1 == w.gone) (ltb (period_of i p.slot + 1) i.periods) (ahead 1 3 (omega arith)) of.2;
+  later = kept 4 (omega arith) (p.slot + 2 == w.gone) (ltb (period_of i p.slot + 2) i.periods) (ahead 2 4 (omega arith)) of.3;
+})
   where
     of : (bit_at p.near 0 ≡ cond (ltb 1 (period_of i p.slot)) 1 0) × (bit_at p.near 1 ≡ cond (ltb 0 (period_of i p.slot)) 1 0) × (bit_at p.near 3 ≡ cond (ltb (period_of i p.slot + 1) i.periods) 1 0) × (bit_at p.near 4 ≡ cond (ltb (period_of i p.slot + 2) i.periods) 1 0) × (p.near < 32)
     of = rw is.near (near_bits (ltb 1 (period_of i p.slot)) (ltb 0 (period_of i p.slot)) (ltb (period_of i p.slot + 1) i.periods) (ltb (period_of i p.slot + 2) i.periods))

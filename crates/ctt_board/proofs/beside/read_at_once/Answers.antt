@@ -1,9 +1,7 @@
-use Rattle.std.proofs.Common.{rules, ◌≡◌, ℕ, ap, arith, subst}
-use Rattle.std.specs.Prelude.{bit_and}
+use Rattle.std.proofs.Common.{rules, ◌≡◌, ℕ, arith, subst}
 use Rattle.std.proofs.lemmas.Nat.{and_le_r}
 use Rattle.ctt_text.specs.Problem.{Problem, period_of}
-use Rattle.ctt_board.specs.Beside.{AreBeside, IsBeside, beside_of}
-use Rattle.ctt_board.specs.Seen.{seen_part}
+use Rattle.ctt_board.specs.Beside.{AreBeside, beside_of}
 use Rattle.ctt_board.specs.Tables.{Grid}
 use Rattle.ctt_board.proofs.WindowLemmas.{read_masked, near_few}
 use Rattle.ctt_board.proofs.beside.read_at_once.Goals as goal
