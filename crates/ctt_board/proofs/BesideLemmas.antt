@@ -1,17 +1,19 @@
 -- The lectures beside a slot: what one more does to them, and where they are read at once.
-use Rattle.std.proofs.Common.{◌≡◌, ◌≢◌, ℕ, ◌+◌, ◌-◌, ◌*◌, ◌/◌, ◌%◌, ◌^◌, ◌<◌, ◌≤◌, Bool, true, false, cond, ◌==◌, ltb, List, [], ◌∷◌, get_or, refl, ◌∙◌, sym, ap, ap₂, arith, inl, inr}
+use Rattle.std.proofs.Common.{◌≡◌, ◌≢◌, ℕ, zero, suc, ◌&&◌, ◌+◌, ◌-◌, ◌*◌, ◌/◌, ◌%◌, ◌^◌, ◌<◌, ◌≤◌, Bool, true, false, cond, ◌==◌, ltb, List, [], ◌∷◌, get_or, refl, ◌∙◌, sym, ap, ap₂, arith, inl, inr}
 use Rattle.std.specs.Prelude.{bit_and}
+use Rattle.std.specs.Int.{bit_at}
 use Rattle.std.specs.List.{count_by, AllByRecursion as Each}
-use Rattle.std.proofs.lemmas.Bool.{cases_lt, lt-ltb, le-ltb}
+use Rattle.std.proofs.lemmas.Bool.{cases_lt, lt-ltb, le-ltb, eqb-true}
 use Rattle.std.proofs.lemmas.Bool.Decides.{nat_tests}
+use Rattle.std.proofs.lemmas.Nat.{shr-shr}
 use Rattle.std.proofs.lemmas.Nat.Bits.{bit_at-lt, shr_and_one}
 use Rattle.ctt_text.specs.Problem.{Problem, slot_count, members, period_of}
 use Rattle.ctt_text.specs.declared.placed.Placed.{Placed}
 use Rattle.ctt_rules.proofs.SumLemmas.{count_by-cons}
-use Rattle.ctt_board.specs.Beside.{IsBeside, AreBeside}
+use Rattle.ctt_board.specs.Beside.{IsBeside, AreBeside, beside_of}
 use Rattle.ctt_board.specs.Joining.{in_slot, alone_at, alone_beside, stands_alone, count_before, count_after}
 use Rattle.ctt_board.specs.Seen.{seen_part, is_apart, StandApart}
-use Rattle.ctt_board.specs.Tables.{at, AreBits}
+use Rattle.ctt_board.specs.Tables.{Grid, at, AreBits}
 use Rattle.ctt_board.specs.declared.beside.Beside.{Beside}
 use Rattle.ctt_board.specs.declared.later.Later.{Later}
 use Rattle.ctt_board.proofs.BitLemmas.{table, read_bit}
@@ -129,9 +131,6 @@ module _ (rows width row column : ℕ) (words : List ℕ) (less : row < rows) (l
   bit_near w column2 k lt2 is word place =
       ap (λ n. bit_and (w / 2 ^ n) 1) (sym place) ∙ read_bit rows width row column2 words less lt2 are w (is ∙ ap (λ n. get_or words n 0) (sym word))
 
-  pub bit_small : (w k : ℕ) → bit_and (w / 2 ^ k) 1 ≤ 1
-  bit_small w k = omega (arith, shr_and_one w k, bit_at-lt w k)
-
 -- places in the word of another place
 pub near_back : (m k : ℕ) → k ≤ m % 64 → ((m - k) / 64 ≡ m / 64) × ((m - k) % 64 ≡ m % 64 - k)
 near_back m k le = (omega (arith, le), omega (arith, le))
@@ -141,19 +140,25 @@ near_ahead m k lt = (omega (arith, lt), omega (arith, lt))
 
 -- the four bits about a place, of which all are in its word
 module _ (rows width row column : ℕ) (words : List ℕ) (less : row < rows) (lt : column < width) (are : AreBits (rows * width) words) where
+  abbrev place : ℕ
+  place = (row * width + column) % 64
+
   pub word_beside : (w : ℕ) → w ≡ get_or words ((row * width + column) / 64) 0 → 2 ≤ (row * width + column) % 64 → (row * width + column) % 64 ≤ 61
-      → AreBeside (table rows width words) row column (record { earlier = bit_and (w / 2 ^ ((row * width + column) % 64 - 2)) 1; before = bit_and (w / 2 ^ ((row * width + column) % 64 - 1)) 1; after = bit_and (w / 2 ^ ((row * width + column) % 64 + 1)) 1; later = bit_and (w / 2 ^ ((row * width + column) % 64 + 2)) 1 })
+      → AreBeside (table rows width words) row column (beside_of (w / 2 ^ ((row * width + column) % 64 - 2)))
   word_beside w is low high = record {
-    earlier = λ le. back 2 le (omega (arith, low));
-    before = λ le. back 1 le (omega (arith, low));
-    after = λ more. ahead 1 more (omega (arith, high));
-    later = λ more. ahead 2 more (omega (arith, high));
-    bit_earlier = bit_small rows width row column words less lt are w ((row * width + column) % 64 - 2);
-    bit_before = bit_small rows width row column words less lt are w ((row * width + column) % 64 - 1);
-    bit_after = bit_small rows width row column words less lt are w ((row * width + column) % 64 + 1);
-    bit_later = bit_small rows width row column words less lt are w ((row * width + column) % 64 + 2);
+    earlier = λ le. shifted 0 (place - 2) (omega (arith, low)) ∙ back 2 le (omega (arith, low));
+    before = λ le. shifted 1 (place - 1) (omega (arith, low)) ∙ back 1 le (omega (arith, low));
+    after = λ more. shifted 3 (place + 1) (omega (arith, low)) ∙ ahead 1 more (omega (arith, high));
+    later = λ more. shifted 4 (place + 2) (omega (arith, low)) ∙ ahead 2 more (omega (arith, high));
+    bit_earlier = omega (arith, bit_at-lt (w / 2 ^ (place - 2)) 0);
+    bit_before = omega (arith, bit_at-lt (w / 2 ^ (place - 2)) 1);
+    bit_after = omega (arith, bit_at-lt (w / 2 ^ (place - 2)) 3);
+    bit_later = omega (arith, bit_at-lt (w / 2 ^ (place - 2)) 4);
   }
     where
+      shifted : (k j : ℕ) → (place - 2) + k ≡ j → bit_at (w / 2 ^ (place - 2)) k ≡ bit_and (w / 2 ^ j) 1
+      shifted k j e = ap (λ n. n % 2) (shr-shr w (place - 2) k) ∙ sym (shr_and_one w ((place - 2) + k)) ∙ ap (λ n. bit_and (w / 2 ^ n) 1) e
+
       back : (k : ℕ) → k ≤ column → k ≤ (row * width + column) % 64 → bit_and (w / 2 ^ ((row * width + column) % 64 - k)) 1 ≡ at (table rows width words) row (column - k) 0
       back k le there =
           let place : row * width + (column - k) ≡ (row * width + column) - k = omega (arith, le) in
@@ -165,3 +170,53 @@ module _ (rows width row column : ℕ) (words : List ℕ) (less : row < rows) (l
           let place : row * width + (column + k) ≡ (row * width + column) + k = omega arith in
           let parts = near_ahead (row * width + column) k there in
           bit_near rows width row column words less lt are w (column + k) ((row * width + column) % 64 + k) more is (ap (λ n. n / 64) place ∙ parts.0) (ap (λ n. n % 64) place ∙ parts.1)
+
+-- the bits of a number that is put together of them
+pub five_bits : (e b a l : ℕ) → e ≤ 1 → b ≤ 1 → a ≤ 1 → l ≤ 1
+    → (bit_at ((e + 2 * b) + (8 * a + 16 * l)) 0 ≡ e) × (bit_at ((e + 2 * b) + (8 * a + 16 * l)) 1 ≡ b) × (bit_at ((e + 2 * b) + (8 * a + 16 * l)) 3 ≡ a) × (bit_at ((e + 2 * b) + (8 * a + 16 * l)) 4 ≡ l)
+five_bits e b a l he hb ha hl = (omega (arith, he), omega (arith, he, hb), omega (arith, he, hb, ha), omega (arith, he, hb, ha, hl))
+
+pub beside_by : (g : Grid ℕ) (row column e b a l : ℕ) → AreBeside g row column (record { earlier = e; before = b; after = a; later = l }) → AreBeside g row column (beside_of ((e + 2 * b) + (8 * a + 16 * l)))
+beside_by g row column e b a l h =
+    let bits = five_bits e b a l h.bit_earlier h.bit_before h.bit_after h.bit_later in
+    let n = (e + 2 * b) + (8 * a + 16 * l) in
+    record {
+      earlier = λ le. bits.0 ∙ h.earlier le;
+      before = λ le. bits.1 ∙ h.before le;
+      after = λ more. bits.2 ∙ h.after more;
+      later = λ more. bits.3 ∙ h.later more;
+      bit_earlier = omega (arith, bit_at-lt n 0);
+      bit_before = omega (arith, bit_at-lt n 1);
+      bit_after = omega (arith, bit_at-lt n 3);
+      bit_later = omega (arith, bit_at-lt n 4);
+    }
+
+-- a test that all numbers below n pass
+abbrev all_below : (ℕ → Bool) → ℕ → Bool
+all_below p zero = true
+all_below p (suc n) = p n && all_below p n
+
+passed : (p : ℕ → Bool) (n k : ℕ) → all_below p n ≡ true → k < n → p k ≡ true
+passed p zero k h lt = absurd (omega (arith, lt))
+passed p (suc n) k h lt = elim (cases_lt k n) [
+  | inl less ↦ passed p n k (second (p n) (all_below p n) h) less
+  | inr le ↦ (let e : k ≡ n = omega (arith, lt, le) in ap p e ∙ first (p n) (all_below p n) h)
+]
+  where
+    first : (x y : Bool) → (x && y) ≡ true → x ≡ true
+    first true y h = refl
+    first false y h = h
+
+    second : (x y : Bool) → (x && y) ≡ true → y ≡ true
+    second true y h = h
+    second false y h = grind (arith, h)
+
+-- what a lecture does, by five bits
+pub alone_bits : (n : ℕ) → n < 32 → ◌≡◌ {A = ℕ} (cond (bit_and n 10 == 0) 1 0) (cond (ltb 0 (bit_at n 1 + bit_at n 3)) 0 1)
+alone_bits n lt = eqb-true _ _ (passed (λ k. cond {A = ℕ} (bit_and k 10 == 0) 1 0 == cond (ltb 0 (bit_at k 1 + bit_at k 3)) 0 1) 32 n refl lt)
+
+pub company_bits : (n : ℕ) → n < 32 → bit_and (1157442766840860688 / 2 ^ (2 * n)) 3 ≡ cond (ltb 0 (bit_at n 0)) 0 (bit_at n 1) + cond (ltb 0 (bit_at n 4)) 0 (bit_at n 3)
+company_bits n lt = eqb-true _ _ (passed (λ k. bit_and (1157442766840860688 / 2 ^ (2 * k)) 3 == (cond (ltb 0 (bit_at k 0)) 0 (bit_at k 1) + cond (ltb 0 (bit_at k 4)) 0 (bit_at k 3))) 32 n refl lt)
+
+pub company_few : (n : ℕ) → n < 32 → bit_and (1157442766840860688 / 2 ^ (2 * n)) 3 ≤ 2
+company_few n lt = omega (arith, eqb-true _ _ (passed (λ k. bit_and (1157442766840860688 / 2 ^ (2 * k)) 3 - 2 == 0) 32 n refl lt))

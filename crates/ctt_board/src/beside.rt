@@ -3,7 +3,7 @@
 ghost use Rattle.std.specs.Prelude.{◌≡◌, ◌<◌, ◌≤◌, ◌+◌, ◌-◌, cond, true};
 ghost use Rattle.ctt_text.specs.Problem.{slot_count, curriculum_count, period_of};
 ghost use Rattle.ctt_board.specs.Joining.{count_before, count_after};
-ghost use Rattle.ctt_board.specs.Beside.{IsBeside};
+ghost use Rattle.ctt_board.specs.Beside.{IsBeside, beside_of, near_in};
 ghost use Rattle.ctt_board.specs.Counts.{HaveSizes};
 ghost use Rattle.ctt_board.specs.Seen.{seen_part, StandApart};
 
@@ -116,7 +116,7 @@ fn two_after(
 }
 
 /// Those beside a slot, each looked up through what comes and leaves.
-fn looked_up(
+pub(crate) fn looked_up(
     later: &Later,
     instance: &Instance,
     part: CurriculumNo,
@@ -144,54 +144,33 @@ pub(crate) fn wanted(is_wanted: bool, count: u64) -> u64
     if is_wanted { count } else { 0 }
 }
 
-/// Those beside a slot that nothing which comes or leaves is near, read at once.
-fn read_at_once(
-    later: &Later,
-    instance: &Instance,
-    part: CurriculumNo,
-    slot: SlotNo,
-    period: u16,
-) -> Beside
-    requires part { part < curriculum_count instance.now }
-    requires slot { slot < slot_count instance.now }
-    requires period { period ≡ period_of instance.now slot }
-    requires sizes { HaveSizes instance.now later.now.counts.now }
-    requires apart { StandApart later.now slot }
-    ensures { IsBeside instance.now (seen_part instance.now later.now part) slot result }
+/// Which of the five slots about one are others of its day, as bits, by its period.
+pub(crate) fn near_in(period: u16, periods: u16) -> u64
+    requires { period ≤ 2000 }
+    ensures { result ≡ near_in period periods }
 {
-    instance.limits_hold();
-    let periods = instance.periods();
-    let bits = later
-        .counts
-        .parts
-        .beside(part.get() as usize, slot.get() as usize);
-    Beside {
-        earlier: wanted(period > 1, bits.earlier),
-        before: wanted(period > 0, bits.before),
-        after: wanted(period + 1 < periods, bits.after),
-        later: wanted(period + 2 < periods, bits.later),
-    }
+    let before = wanted(period > 1, 1) + wanted(period > 0, 2);
+    let after = wanted(period + 1 < periods, 8) + wanted(period + 2 < periods, 16);
+    before + after
 }
 
-/// Those beside a slot, which may be known to be apart from all that comes and leaves.
-pub(crate) fn count_beside(
+/// Those beside a slot that nothing which comes or leaves is near, read at once, as bits.
+#[inline(always)]
+pub(crate) fn read_at_once(
     later: &Later,
     instance: &Instance,
     part: CurriculumNo,
     slot: SlotNo,
-    period: u16,
-    is_apart: bool,
-) -> Beside
+    near: u64,
+) -> u64
     requires part { part < curriculum_count instance.now }
     requires slot { slot < slot_count instance.now }
-    requires period { period ≡ period_of instance.now slot }
+    requires near { near ≡ near_in (period_of instance.now slot) instance.now.periods }
     requires sizes { HaveSizes instance.now later.now.counts.now }
-    requires apart { is_apart ≡ true → StandApart later.now slot }
-    ensures { IsBeside instance.now (seen_part instance.now later.now part) slot result }
+    requires apart { StandApart later.now slot }
+    ensures beside { IsBeside instance.now (seen_part instance.now later.now part) slot (beside_of result) }
+    ensures few { result < 32 }
 {
-    if is_apart {
-        read_at_once(later, instance, part, slot, period)
-    } else {
-        looked_up(later, instance, part, slot, period)
-    }
+    let parts = &later.counts.parts;
+    parts.around(part.get() as usize, slot.get() as usize) & near
 }

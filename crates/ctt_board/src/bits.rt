@@ -2,9 +2,8 @@
 
 ghost use Rattle.std.specs.Prelude.{◌≡◌, ℕ, ◌<◌, ◌≤◌, ◌+◌, ◌-◌, ◌*◌, true, IfOk};
 ghost use Rattle.ctt_board.specs.Tables.{at, Adds, one_at};
-ghost use Rattle.ctt_board.specs.Beside.{AreBeside};
+ghost use Rattle.ctt_board.specs.Beside.{AreBeside, beside_of};
 
-use crate::beside::Beside;
 use std::alloc::{AllocError, Global};
 use std::marker::Model;
 
@@ -82,41 +81,33 @@ impl Bits {
         }
     }
 
-    /// The bits beside a place, one by one.
+    /// The bits about a place, put together one by one.
     #[cold]
     #[inline(never)]
-    fn beside_each(&self, row: usize, column: usize) -> Beside
+    fn around_each(&self, row: usize, column: usize) -> u64
         requires row { row < self.now.rows }
         requires column { column < self.now.width }
-        ensures { AreBeside self.now row column result }
+        ensures { AreBeside self.now row column (beside_of result) }
     {
-        Beside {
-            earlier: self.back(row, column, 2),
-            before: self.back(row, column, 1),
-            after: self.ahead(row, column, 1),
-            later: self.ahead(row, column, 2),
-        }
+        let before = self.back(row, column, 2) + 2 * self.back(row, column, 1);
+        let after = 8 * self.ahead(row, column, 1) + 16 * self.ahead(row, column, 2);
+        before + after
     }
 
-    /// The bits in the two columns before a place and in the two after it, where there are such
-    /// columns. Mostly all are in one word.
-    pub(crate) fn beside(&self, row: usize, column: usize) -> Beside
+    /// The bits about a place: as the lowest five those of the two columns before it, its own, and those
+    /// of the two after it, where there are such columns. Mostly all are in one word.
+    #[inline(always)]
+    pub(crate) fn around(&self, row: usize, column: usize) -> u64
         requires row { row < self.now.rows }
         requires column { column < self.now.width }
-        ensures { AreBeside self.now row column result }
+        ensures { AreBeside self.now row column (beside_of result) }
     {
         let number = row * self.width + column;
         let place = number % 64;
         if place < 2 || place > 61 {
-            return self.beside_each(row, column);
+            return self.around_each(row, column);
         }
-        let word = self.words[number / 64];
-        Beside {
-            earlier: (word >> (place - 2)) & 1,
-            before: (word >> (place - 1)) & 1,
-            after: (word >> (place + 1)) & 1,
-            later: (word >> (place + 2)) & 1,
-        }
+        self.words[number / 64] >> (place - 2)
     }
 
     /// Sets a bit that is zero.

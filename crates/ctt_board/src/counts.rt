@@ -59,6 +59,7 @@ impl Counts {
     }
 
     /// Counts one lecture more.
+    #[inline(always)]
     pub(crate) fn add(&mut self, instance: &Instance, lecture: &Placed)
         requires fits { Fits instance.now lecture.now }
         requires sizes { HaveSizes instance.now self.old }
@@ -79,6 +80,7 @@ impl Counts {
     }
 
     /// Counts one lecture less.
+    #[inline(always)]
     pub(crate) fn take(&mut self, instance: &Instance, lecture: &Placed)
         requires fits { Fits instance.now lecture.now }
         requires sizes { HaveSizes instance.now self.old }

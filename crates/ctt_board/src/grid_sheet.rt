@@ -23,7 +23,7 @@ use crate::fitting::fits;
 use crate::joining::{joining_of, with_lecture, without_lecture};
 use crate::later::Later;
 use crate::laws;
-use crate::moving::moved;
+use crate::moving::{moved, spot_of};
 use crate::same_rows::{same_course_row, same_slot_row};
 use crate::sheet::{Rooms, Sheet, Timetable};
 use crate::shift::Shift;
@@ -133,11 +133,19 @@ impl<'i> GridSheet<'i> {
         self.instance.limits_hold();
         let from = self.leaving(first)?;
         let to = coming(second, from.course)?;
-        Some(moved(self.instance, &self.tables.counts, self, &from, &to))
+        Some(moved(
+            self.instance,
+            &self.tables.counts,
+            self,
+            &from,
+            &to,
+            &spot_of(self.instance, from.slot),
+            &spot_of(self.instance, to.slot),
+        ))
     }
 
-    /// By how much the costs change by these cells, if two lectures go elsewhere by them whose courses
-    /// share no curriculum: by what each of them does, as if the other one stayed.
+    /// By how much the costs change by these cells, if two lectures go by them each to the slot of the
+    /// other, whose courses share no curriculum: by what each of them does, as if the other one stayed.
     #[inline(always)]
     fn exchanged(&self, first: &Cell, second: &Cell, third: &Cell, fourth: &Cell) -> Option<Shift>
         requires turn { is_change (first.now ∷ second.now ∷ third.now ∷ fourth.now ∷ []) ≡ true }
@@ -150,16 +158,31 @@ impl<'i> GridSheet<'i> {
         let other_from = self.leaving(second)?;
         let to = coming(third, from.course)?;
         let other_to = coming(fourth, other_from.course)?;
+        if to.slot != other_from.slot || other_to.slot != from.slot {
+            return None;
+        }
         if from.course == other_from.course || self.instance.clash(from.course, other_from.course) {
             return None;
         }
-        let one = moved(self.instance, &self.tables.counts, self, &from, &to);
+        let here = spot_of(self.instance, from.slot);
+        let there = spot_of(self.instance, other_from.slot);
+        let one = moved(
+            self.instance,
+            &self.tables.counts,
+            self,
+            &from,
+            &to,
+            &here,
+            &there,
+        );
         let other = moved(
             self.instance,
             &self.tables.counts,
             self,
             &other_from,
             &other_to,
+            &there,
+            &here,
         );
         Some(one.and(&other))
     }

@@ -1,100 +1,104 @@
 //! By how much the costs change where a lecture goes elsewhere, by the counts without it.
 
-ghost use Rattle.std.specs.Prelude.{◌≡◌, ◌<◌, ◌≤◌, ◌+◌, ◌-◌, ◌*◌, ◌&&◌, ◌==◌, Some, not, true, nat_lt, cond, sum_by, length};
+ghost use Rattle.std.specs.Prelude.{◌≡◌, ℕ, ◌<◌, ◌≤◌, ◌+◌, ◌-◌, ◌*◌, ◌&&◌, ◌==◌, Some, not, true, nat_lt, cond, sum_by, length};
 ghost use Rattle.std.specs.List.{AllByRecursion as Each};
+ghost use Rattle.std.specs.Int.{bit_at};
 ghost use Rattle.ctt_text.specs.Problem.{course_of, course_count, slot_count, room_count, day_of};
 ghost use Rattle.ctt_text.specs.Timetable.{Fits, without};
 ghost use Rattle.ctt_rules.specs.Penalty.{unseated};
-ghost use Rattle.ctt_board.specs.Beside.{IsBeside};
 ghost use Rattle.ctt_board.specs.Changes.{room_at};
 ghost use Rattle.ctt_board.specs.Counts.{AreCounts, HaveSizes};
 ghost use Rattle.ctt_board.specs.Joining.{joining, IsFree, stands_alone, alone_beside};
-ghost use Rattle.ctt_board.specs.Moving.{part_without, IsWindow};
+ghost use Rattle.ctt_board.specs.Moving.{part_without, IsSpot, IsWindow};
 ghost use Rattle.ctt_board.specs.Shifts.{shift_of, IsSmallShift};
 ghost use Rattle.ctt_board.specs.Tables.{at};
 
-use crate::beside::{Beside, wanted};
+use crate::beside::near_in;
 use crate::bits::Bits;
 use crate::counts::Counts;
 use crate::grid_sheet::GridSheet;
-use crate::joining::{Joining, period_on};
-use crate::meeting::{Meeting, meeting_beside};
+use crate::joining::period_on;
+use crate::meeting::{Meeting, meeting_in};
 use crate::sheet::Rooms;
 use crate::shift::Shift;
+use ctt_rules::Cost;
 use ctt_text::{CourseNo, CurriculumNo, Instance, Placed, RoomNo, SlotNo};
 
-/// A slot, one that a lecture leaves, and which of the slots about the first count: those of its
-/// day, without the one that the lecture leaves.
+/// A slot, and what is known of it whatever stands there.
+#[derive(Clone, Copy, Debug, PartialEq, Eq)]
+pub(crate) struct Spot {
+    pub(crate) slot: SlotNo,
+    pub(crate) day: u16,
+    /// Which of the five slots about it are others of its day, as bits.
+    pub(crate) near: u64,
+}
+
+/// A slot, one that a lecture leaves, and which of the five slots about the first count, as bits:
+/// the others of its day, without the one that the lecture leaves.
 #[derive(Clone, Copy, Debug, PartialEq, Eq)]
 pub(crate) struct Window {
     pub(crate) slot: SlotNo,
     pub(crate) gone: SlotNo,
-    /// Whether the one two slots before counts.
-    pub(crate) earlier: bool,
-    /// The slot before.
-    pub(crate) before: bool,
-    /// The slot after.
-    pub(crate) after: bool,
-    /// Two slots after.
-    pub(crate) later: bool,
+    pub(crate) near: u64,
 }
 
-/// What a lecture does to its curricula where it leaves, and where it comes.
+/// What the compactness costs more and less where a lecture goes elsewhere, by halves.
 #[derive(Clone, Copy, Debug, PartialEq, Eq)]
-struct Ends {
-    from: Meeting,
-    to: Meeting,
+struct Halves {
+    more: u64,
+    less: u64,
 }
 
-/// Whether a slot counts, which is on the day, and may be the one that is left.
-fn counts(is_on_day: bool, is_left: bool) -> bool
-    ensures { result ≡ (is_on_day && not is_left) }
+/// What is known of a slot.
+#[inline(always)]
+pub(crate) fn spot_of(instance: &Instance, slot: SlotNo) -> Spot
+    requires slot { slot < slot_count instance.now }
+    ensures slot { result.slot ≡ slot }
+    ensures is { IsSpot instance.now result }
 {
-    is_on_day && !is_left
+    instance.limits_hold();
+    let day = instance.day_of(slot);
+    let period = period_on(instance, slot, day);
+    Spot {
+        slot,
+        day,
+        near: near_in(period, instance.periods()),
+    }
+}
+
+/// The bits about a slot without that of another one.
+fn near_without(near: u64, here: u16, there: u16) -> u64
+    requires here { here ≤ 2000 }
+    requires there { there ≤ 2000 }
+    requires few { near < 32 }
+    ensures few { result < 32 }
+    ensures bits { (k : ℕ) → k < 5 → bit_at result k ≡ cond (there + 2 == here + k) 0 (bit_at near k) }
+{
+    if here <= there + 2 && there <= here + 2 {
+        near & !(1 << (there + 2 - here))
+    } else {
+        near
+    }
 }
 
 /// The slots about one that count, where a lecture leaves a slot.
-fn about(instance: &Instance, slot: SlotNo, day: u16, gone: SlotNo) -> Window
-    requires slot { slot < slot_count instance.now }
+fn about(instance: &Instance, spot: &Spot, gone: SlotNo) -> Window
+    requires spot { IsSpot instance.now spot.now }
     requires gone { gone < slot_count instance.now }
-    requires day { day ≡ day_of instance.now slot }
-    ensures slot { result.slot ≡ slot }
+    ensures slot { result.slot ≡ spot.now.slot }
     ensures gone { result.gone ≡ gone }
     ensures is { IsWindow instance.now result }
 {
     instance.limits_hold();
-    let period = period_on(instance, slot, day);
-    let periods = instance.periods();
-    let here = slot.get();
-    let there = gone.get();
     Window {
-        slot,
+        slot: spot.slot,
         gone,
-        earlier: counts(period > 1, there + 2 == here),
-        before: counts(period > 0, there + 1 == here),
-        after: counts(period + 1 < periods, here + 1 == there),
-        later: counts(period + 2 < periods, here + 2 == there),
-    }
-}
-
-/// The lectures of a curriculum in the slots of a window, without the one that leaves.
-fn seen_through(instance: &Instance, parts: &Bits, part: CurriculumNo, window: &Window) -> Beside
-    requires part { part < parts.now.rows }
-    requires width { parts.now.width ≡ slot_count instance.now }
-    requires slot { window.now.slot < slot_count instance.now }
-    requires window { IsWindow instance.now window.now }
-    ensures { IsBeside instance.now (part_without instance.now parts.now window.now.gone part) window.now.slot result }
-{
-    let bits = parts.beside(part.get() as usize, window.slot.get() as usize);
-    Beside {
-        earlier: wanted(window.earlier, bits.earlier),
-        before: wanted(window.before, bits.before),
-        after: wanted(window.after, bits.after),
-        later: wanted(window.later, bits.later),
+        near: near_without(spot.near, spot.slot.get(), gone.get()),
     }
 }
 
 /// What a lecture does to a curriculum of which another one leaves.
+#[inline(always)]
 fn met(instance: &Instance, parts: &Bits, part: CurriculumNo, window: &Window) -> Meeting
     requires part { part < parts.now.rows }
     requires width { parts.now.width ≡ slot_count instance.now }
@@ -104,19 +108,20 @@ fn met(instance: &Instance, parts: &Bits, part: CurriculumNo, window: &Window) -
     ensures alone { result.alone ≡ stands_alone instance.now (part_without instance.now parts.now window.now.gone part) window.now.slot }
     ensures company { result.company ≡ alone_beside instance.now (part_without instance.now parts.now window.now.gone part) window.now.slot }
     ensures few { result.alone ≤ 1 }
-    ensures bound { result.company ≤ 10000000000 }
+    ensures bound { result.company ≤ 2 }
 {
-    meeting_beside(seen_through(instance, parts, part, window))
+    let bits = parts.around(part.get() as usize, window.slot.get() as usize);
+    meeting_in(bits & window.near)
 }
 
-/// What a lecture does to these curricula together, where it leaves and where it comes.
+/// What these curricula together cost more and less where a lecture of each goes elsewhere.
 fn meet_both(
     instance: &Instance,
     parts: &Bits,
     curricula: &[CurriculumNo],
     here: &Window,
     there: &Window,
-) -> Ends
+) -> Halves
     requires curricula { Each (λ q. q < parts.now.rows) curricula.now }
     requires few { length curricula.now ≤ 20000 }
     requires width { parts.now.width ≡ slot_count instance.now }
@@ -126,37 +131,20 @@ fn meet_both(
     requires there_window { IsWindow instance.now there.now }
     requires here_own { Each (λ q. part_without instance.now parts.now here.now.gone q here.now.slot ≡ 0) curricula.now }
     requires there_own { Each (λ q. part_without instance.now parts.now there.now.gone q there.now.slot ≡ 0) curricula.now }
-    ensures from_alone { result.from.alone ≡ sum_by (λ q. stands_alone instance.now (part_without instance.now parts.now here.now.gone q) here.now.slot) curricula.now }
-    ensures from_company { result.from.company ≡ sum_by (λ q. alone_beside instance.now (part_without instance.now parts.now here.now.gone q) here.now.slot) curricula.now }
-    ensures to_alone { result.to.alone ≡ sum_by (λ q. stands_alone instance.now (part_without instance.now parts.now there.now.gone q) there.now.slot) curricula.now }
-    ensures to_company { result.to.company ≡ sum_by (λ q. alone_beside instance.now (part_without instance.now parts.now there.now.gone q) there.now.slot) curricula.now }
-    ensures from_few { result.from.alone ≤ 20000 }
-    ensures to_few { result.to.alone ≤ 20000 }
-    ensures from_bound { result.from.company ≤ 20000 * 10000000000 }
-    ensures to_bound { result.to.company ≤ 20000 * 10000000000 }
+    ensures more { result.more ≡ sum_by (λ q. stands_alone instance.now (part_without instance.now parts.now there.now.gone q) there.now.slot) curricula.now + sum_by (λ q. alone_beside instance.now (part_without instance.now parts.now here.now.gone q) here.now.slot) curricula.now }
+    ensures less { result.less ≡ sum_by (λ q. stands_alone instance.now (part_without instance.now parts.now here.now.gone q) here.now.slot) curricula.now + sum_by (λ q. alone_beside instance.now (part_without instance.now parts.now there.now.gone q) there.now.slot) curricula.now }
+    ensures more_few { result.more ≤ 60000 }
+    ensures less_few { result.less ≤ 60000 }
 {
-    let mut from_alone = 0;
-    let mut from_company = 0;
-    let mut to_alone = 0;
-    let mut to_company = 0;
+    let mut more = 0;
+    let mut less = 0;
     for part in curricula {
         let left = met(instance, parts, *part, here);
-        from_alone += left.alone;
-        from_company += left.company;
         let found = met(instance, parts, *part, there);
-        to_alone += found.alone;
-        to_company += found.company;
+        more += found.alone + left.company;
+        less += left.alone + found.company;
     }
-    Ends {
-        from: Meeting {
-            alone: from_alone,
-            company: from_company,
-        },
-        to: Meeting {
-            alone: to_alone,
-            company: to_company,
-        },
-    }
+    Halves { more, less }
 }
 
 /// A count, without one if that is counted.
@@ -244,18 +232,25 @@ fn unseated(instance: &Instance, lecture: &Placed) -> u64
 
 /// By how much the costs change where a lecture goes elsewhere, where no curriculum of its course has
 /// another one.
+#[inline(always)]
 pub(crate) fn moved(
     instance: &Instance,
     counts: &Counts,
     sheet: &GridSheet,
     from: &Placed,
     to: &Placed,
+    here: &Spot,
+    there: &Spot,
 ) -> Shift
     requires same { sheet.now.problem ≡ instance.now }
     requires there { room_at from.now.course from.now.slot sheet.now.list ≡ Some from.now.room }
     requires its { to.now.course ≡ from.now.course }
     requires fits { Fits instance.now to.now }
     requires free { IsFree instance.now (without from.now.course from.now.slot sheet.now.list) to.now }
+    requires here { here.now.slot ≡ from.now.slot }
+    requires here_is { IsSpot instance.now here.now }
+    requires there_slot { there.now.slot ≡ to.now.slot }
+    requires there_is { IsSpot instance.now there.now }
     requires counts { AreCounts instance.now sheet.now.list counts.now }
     ensures value { result ≡ shift_of (joining instance.now (without from.now.course from.now.slot sheet.now.list) from.now) (joining instance.now (without from.now.course from.now.slot sheet.now.list) to.now) }
     ensures small { IsSmallShift 1000000000000000 result }
@@ -263,26 +258,23 @@ pub(crate) fn moved(
     sheet.lawful();
     instance.limits_hold();
     let course = from.course;
-    let day = instance.day_of(from.slot);
-    let to_day = instance.day_of(to.slot);
-    let here = about(instance, from.slot, day, from.slot);
-    let there = about(instance, to.slot, to_day, from.slot);
+    let left = about(instance, here, from.slot);
+    let found = about(instance, there, from.slot);
     let curricula = instance.curricula_of(course);
-    let both = meet_both(instance, &counts.parts, curricula, &here, &there);
-    let days = days_left(instance, counts, course, day);
-    let less = Joining {
-        seats: unseated(instance, from),
-        day: missing_day(instance, counts, course, day, day, days),
-        alone: 2 * both.from.alone,
-        company: 2 * both.from.company,
-        room: further_room(instance, counts, course, from.room, from.room),
-    };
-    let more = Joining {
-        seats: unseated(instance, to),
-        day: missing_day(instance, counts, course, to_day, day, days),
-        alone: 2 * both.to.alone,
-        company: 2 * both.to.company,
-        room: further_room(instance, counts, course, to.room, from.room),
-    };
-    Shift::of(&less, &more)
+    let both = meet_both(instance, &counts.parts, curricula, &left, &found);
+    let days = days_left(instance, counts, course, here.day);
+    Shift {
+        more: Cost {
+            capacity: unseated(instance, to),
+            days: missing_day(instance, counts, course, here.day, here.day, days),
+            compactness: 2 * both.more,
+            stability: further_room(instance, counts, course, to.room, from.room),
+        },
+        less: Cost {
+            capacity: unseated(instance, from),
+            days: missing_day(instance, counts, course, there.day, here.day, days),
+            compactness: 2 * both.less,
+            stability: further_room(instance, counts, course, from.room, from.room),
+        },
+    }
 }

@@ -2,10 +2,8 @@
 
 ghost use Rattle.std.specs.Prelude.{◌≡◌, ◌≤◌, pos, ◌-ℤ◌};
 ghost use Rattle.ctt_rules.specs.Penalty.{total};
-ghost use Rattle.ctt_board.specs.Joining.{IsSmallJoining};
-ghost use Rattle.ctt_board.specs.Shifts.{both_costs, both_shifts, shift_of, shifted, IsSmallShift};
+ghost use Rattle.ctt_board.specs.Shifts.{both_costs, both_shifts, shifted, IsSmallShift};
 
-use crate::joining::Joining;
 use ctt_rules::Cost;
 
 /// The costs that come, and those that go.
@@ -16,29 +14,6 @@ pub(crate) struct Shift {
 }
 
 impl Shift {
-    /// That of a lecture that goes from one place to another, by what it adds in each.
-    pub(crate) fn of(from: &Joining, to: &Joining) -> Shift
-        requires from { IsSmallJoining from.now }
-        requires to { IsSmallJoining to.now }
-        ensures value { result ≡ shift_of from.now to.now }
-        ensures small { IsSmallShift 1000000000000000 result }
-    {
-        Shift {
-            more: Cost {
-                capacity: to.seats,
-                days: from.day,
-                compactness: to.alone + from.company,
-                stability: to.room,
-            },
-            less: Cost {
-                capacity: from.seats,
-                days: to.day,
-                compactness: from.alone + to.company,
-                stability: from.room,
-            },
-        }
-    }
-
     /// That of two, one after the other.
     pub(crate) fn and(&self, other: &Shift) -> Shift
         requires small { IsSmallShift 1000000000000000 self.now }

@@ -76,6 +76,7 @@ impl Tables {
     }
 
     /// Adds a lecture.
+    #[inline(always)]
     pub(crate) fn add(&mut self, instance: &Instance, lecture: &Placed)
         requires tables { AreTables instance.now self.old }
         requires fits { Fits instance.now lecture.now }
@@ -96,6 +97,7 @@ impl Tables {
     }
 
     /// Removes a lecture that is there.
+    #[inline(always)]
     pub(crate) fn remove(&mut self, instance: &Instance, lecture: &Placed)
         requires tables { AreTables instance.now self.old }
         requires fits { Fits instance.now lecture.now }
@@ -115,6 +117,7 @@ impl Tables {
     }
 
     /// Makes a cell.
+    #[inline(always)]
     fn make(&mut self, instance: &Instance, cell: &Cell)
         requires tables { AreTables instance.now self.old }
         requires fits { CellFits (listed instance.now self.old.rooms) cell.now.course cell.now.slot cell.now.room }

@@ -28,12 +28,8 @@ loop-part-preserved c =
     let was = c.loop-part.invariant in
     let qs = c.args.curricula.now in
     record {
-      left_alone = omega (arith, was.left_alone, sum_by_more a qs k q c.loop-part-test.true, ap a c.part-item.is, c.met-left.ensures.alone);
-      left_company = omega (arith, was.left_company, sum_by_more b qs k q c.loop-part-test.true, ap b c.part-item.is, c.met-left.ensures.company);
-      found_alone = omega (arith, was.found_alone, sum_by_more d qs k q c.loop-part-test.true, ap d c.part-item.is, c.met-found.ensures.alone);
-      found_company = omega (arith, was.found_company, sum_by_more e qs k q c.loop-part-test.true, ap e c.part-item.is, c.met-found.ensures.company);
-      left_few = omega (arith, was.left_few, c.met-left.ensures.few);
-      left_bound = omega (arith, was.left_bound, c.met-left.ensures.bound);
-      found_few = omega (arith, was.found_few, c.met-found.ensures.few);
-      found_bound = omega (arith, was.found_bound, c.met-found.ensures.bound);
+      more = omega (arith, was.more, sum_by_more d qs k q c.loop-part-test.true, ap d c.part-item.is, c.met-found.ensures.alone, sum_by_more b qs k q c.loop-part-test.true, ap b c.part-item.is, c.met-left.ensures.company);
+      less = omega (arith, was.less, sum_by_more a qs k q c.loop-part-test.true, ap a c.part-item.is, c.met-left.ensures.alone, sum_by_more e qs k q c.loop-part-test.true, ap e c.part-item.is, c.met-found.ensures.company);
+      more_few = omega (arith, was.more_few, c.met-found.ensures.few, c.met-left.ensures.bound);
+      less_few = omega (arith, was.less_few, c.met-left.ensures.few, c.met-found.ensures.bound);
     }

@@ -1,4 +1,4 @@
-use Rattle.std.proofs.Common.{◌≡◌, ◌-◌, ◌*◌, ◌<◌, ◌∙◌, ◌&&◌, ◌==◌, ltb, cond, List, refl, sym, ap₂, subst, arith, sum_by}
+use Rattle.std.proofs.Common.{◌≡◌, ℕ, ◌+◌, ◌-◌, ◌*◌, ◌<◌, ◌∙◌, ◌&&◌, ◌==◌, ltb, cond, List, refl, sym, ap, ap₂, subst, arith, sum_by}
 use Rattle.std.specs.List.{AllByRecursion as Each}
 use Rattle.ctt_text.specs.Problem.{Problem, course_of, day_of}
 use Rattle.ctt_text.specs.Timetable.{Fits, without}
@@ -12,20 +12,16 @@ use Rattle.ctt_board.specs.declared.counts.Counts.{Counts}
 use Rattle.ctt_board.specs.declared.joining.Joining.{Joining}
 use Rattle.ctt_board.proofs.BetweenLemmas.{there_fits}
 use Rattle.ctt_board.proofs.MovedLemmas.{from_own, to_own, joining_left}
+use Rattle.ctt_board.proofs.ShiftLemmas.{shift_by}
 use Rattle.ctt_board.proofs.moving.moved.Goals as goal
 
-pub day_of-day-requires : goal.day_of-day-requires
-day_of-day-requires c =
-    let l : Placed = c.args.from.now in
-    (there_fits c.args.instance.now l.course l.slot l.room c.args.sheet.now.list (subst (λ p. Lawful p c.args.sheet.now.list) c.requires.same c.lawful.ensures) c.requires.there).1
-
-pub unseated-requires : goal.unseated-requires
-unseated-requires c =
+pub unseated-requires-2 : goal.unseated-requires-2
+unseated-requires-2 c =
     let l : Placed = c.args.from.now in
     there_fits c.args.instance.now l.course l.slot l.room c.args.sheet.now.list (subst (λ p. Lawful p c.args.sheet.now.list) c.requires.same c.lawful.ensures) c.requires.there
 
-pub further_room-requires-clause-room : goal.further_room-requires-clause-room
-further_room-requires-clause-room c =
+pub further_room-requires-2-clause-room : goal.further_room-requires-2-clause-room
+further_room-requires-2-clause-room c =
     let l : Placed = c.args.from.now in
     (there_fits c.args.instance.now l.course l.slot l.room c.args.sheet.now.list (subst (λ p. Lawful p c.args.sheet.now.list) c.requires.same c.lawful.ensures) c.requires.there).2
 
@@ -39,7 +35,7 @@ meet_both-both-requires-clause-here_own c =
     let l : Placed = c.args.from.now in
     let k : Counts = c.args.counts.now in
     let h : Lawful i t = subst (λ p. Lawful p t) c.requires.same c.lawful.ensures in
-    let own : Each (λ q. part_without i k.parts c.about-here.result.gone q c.about-here.result.slot ≡ 0) c.curricula_of-curricula.result.now = rw (c.about-here.ensures.gone, c.about-here.ensures.slot, c.curricula_of-curricula.ensures.exact) (from_own i t l k h c.requires.there c.requires.counts) in
+    let own : Each (λ q. part_without i k.parts c.about-left.result.gone q c.about-left.result.slot ≡ 0) c.curricula_of-curricula.result.now = rw (c.about-left.ensures.gone, c.about-left.ensures.slot, c.requires.here, c.curricula_of-curricula.ensures.exact) (from_own i t l k h c.requires.there c.requires.counts) in
     own
 
 pub meet_both-both-requires-clause-there_own : goal.meet_both-both-requires-clause-there_own
@@ -49,18 +45,8 @@ meet_both-both-requires-clause-there_own c =
     let l : Placed = c.args.from.now in
     let k : Counts = c.args.counts.now in
     let h : Lawful i t = subst (λ p. Lawful p t) c.requires.same c.lawful.ensures in
-    let own : Each (λ q. part_without i k.parts c.about-there.result.gone q c.about-there.result.slot ≡ 0) c.curricula_of-curricula.result.now = rw (c.about-there.ensures.gone, c.about-there.ensures.slot, c.curricula_of-curricula.ensures.exact) (to_own i t l k h c.requires.there c.requires.counts c.args.to.now c.requires.its c.requires.free) in
+    let own : Each (λ q. part_without i k.parts c.about-found.result.gone q c.about-found.result.slot ≡ 0) c.curricula_of-curricula.result.now = rw (c.about-found.ensures.gone, c.about-found.ensures.slot, c.requires.there_slot, c.curricula_of-curricula.ensures.exact) (to_own i t l k h c.requires.there c.requires.counts c.args.to.now c.requires.its c.requires.free) in
     own
-
-pub of-requires-clause-from : goal.of-requires-clause-from
-of-requires-clause-from c =
-    let both = c.meet_both-both in
-    record { seats = c.unseated.ensures.bound; day = c.missing_day.ensures.bound; alone = omega (arith, both.ensures.from_few); company = omega (arith, both.ensures.from_bound); room = c.further_room.ensures.bound }
-
-pub of-requires-clause-to : goal.of-requires-clause-to
-of-requires-clause-to c =
-    let both = c.meet_both-both in
-    record { seats = c.unseated-2.ensures.bound; day = c.missing_day-2.ensures.bound; alone = omega (arith, both.ensures.to_few); company = omega (arith, both.ensures.to_bound); room = c.further_room-2.ensures.bound }
 
 pub returns-clause-value : goal.returns-clause-value
 returns-clause-value c =
@@ -71,15 +57,20 @@ returns-clause-value c =
     let k : Counts = c.args.counts.now in
     let h : Lawful i t = subst (λ p. Lawful p t) c.requires.same c.lawful.ensures in
     let known : Fits i l = there_fits i l.course l.slot l.room t h c.requires.there in
+    let here_day : c.args.here.now.day ≡ day_of i l.slot = c.requires.here_is.day ∙ ap (day_of i) c.requires.here in
+    let there_day : c.args.there.now.day ≡ day_of i m.slot = c.requires.there_is.day ∙ ap (day_of i) c.requires.there_slot in
     let both = c.meet_both-both in
-    let more : Joining = record { seats = c.unseated-2.result; day = c.missing_day-2.result; alone = 2 * both.result.to.alone; company = 2 * both.result.to.company; room = c.further_room-2.result } in
-    let more_day : c.missing_day-2.result ≡ cond (at k.days l.course (day_of i m.slot) 0 - cond (day_of i l.slot == day_of i m.slot) 1 0 == 0 && ltb (at k.used 0 l.course 0 - cond (at k.days l.course (day_of i l.slot) 0 == 1) 1 0) (course_of i l.course).min_days) 5 0 = rw (c.days_left-days.ensures, c.day_of-day.ensures.exact, c.day_of-to_day.ensures.exact) at c.missing_day-2.ensures.value in
-    let more_alone : both.result.to.alone ≡ sum_by (λ q. stands_alone i (part_without i k.parts l.slot q) m.slot) c.curricula_of-curricula.result.now = rw (c.about-there.ensures.gone, c.about-there.ensures.slot) at both.ensures.to_alone in
-    let more_company : both.result.to.company ≡ sum_by (λ q. alone_beside i (part_without i k.parts l.slot q) m.slot) c.curricula_of-curricula.result.now = rw (c.about-there.ensures.gone, c.about-there.ensures.slot) at both.ensures.to_company in
-    let more_is : more ≡ joining i (without l.course l.slot t) m = joining_left i t l k h c.requires.there c.requires.counts m more c.curricula_of-curricula.result.now both.result.to.alone both.result.to.company c.requires.its c.requires.fits c.curricula_of-curricula.ensures.exact c.unseated-2.ensures.value more_day refl more_alone refl more_company c.further_room-2.ensures.value in
-    let less : Joining = record { seats = c.unseated.result; day = c.missing_day.result; alone = 2 * both.result.from.alone; company = 2 * both.result.from.company; room = c.further_room.result } in
-    let less_day : c.missing_day.result ≡ cond (at k.days l.course (day_of i l.slot) 0 - cond (day_of i l.slot == day_of i l.slot) 1 0 == 0 && ltb (at k.used 0 l.course 0 - cond (at k.days l.course (day_of i l.slot) 0 == 1) 1 0) (course_of i l.course).min_days) 5 0 = rw (c.days_left-days.ensures, c.day_of-day.ensures.exact) at c.missing_day.ensures.value in
-    let less_alone : both.result.from.alone ≡ sum_by (λ q. stands_alone i (part_without i k.parts l.slot q) l.slot) c.curricula_of-curricula.result.now = rw (c.about-here.ensures.gone, c.about-here.ensures.slot) at both.ensures.from_alone in
-    let less_company : both.result.from.company ≡ sum_by (λ q. alone_beside i (part_without i k.parts l.slot q) l.slot) c.curricula_of-curricula.result.now = rw (c.about-here.ensures.gone, c.about-here.ensures.slot) at both.ensures.from_company in
-    let less_is : less ≡ joining i (without l.course l.slot t) l = joining_left i t l k h c.requires.there c.requires.counts l less c.curricula_of-curricula.result.now both.result.from.alone both.result.from.company refl known c.curricula_of-curricula.ensures.exact c.unseated.ensures.value less_day refl less_alone refl less_company c.further_room.ensures.value in
-    c.of.ensures.value ∙ ap₂ shift_of less_is more_is
+    let qs = c.curricula_of-curricula.result.now in
+    let alone_here : ℕ = sum_by (λ q. stands_alone i (part_without i k.parts l.slot q) l.slot) qs in
+    let beside_here : ℕ = sum_by (λ q. alone_beside i (part_without i k.parts l.slot q) l.slot) qs in
+    let alone_there : ℕ = sum_by (λ q. stands_alone i (part_without i k.parts l.slot q) m.slot) qs in
+    let beside_there : ℕ = sum_by (λ q. alone_beside i (part_without i k.parts l.slot q) m.slot) qs in
+    let more_sum : both.result.more ≡ alone_there + beside_here = rw (c.about-left.ensures.gone, c.about-left.ensures.slot, c.requires.here, c.about-found.ensures.gone, c.about-found.ensures.slot, c.requires.there_slot) at both.ensures.more in
+    let less_sum : both.result.less ≡ alone_here + beside_there = rw (c.about-left.ensures.gone, c.about-left.ensures.slot, c.requires.here, c.about-found.ensures.gone, c.about-found.ensures.slot, c.requires.there_slot) at both.ensures.less in
+    let to : Joining = record { seats = c.unseated.result; day = c.missing_day-2.result; alone = 2 * alone_there; company = 2 * beside_there; room = c.further_room.result } in
+    let to_day : c.missing_day-2.result ≡ cond (at k.days l.course (day_of i m.slot) 0 - cond (day_of i l.slot == day_of i m.slot) 1 0 == 0 && ltb (at k.used 0 l.course 0 - cond (at k.days l.course (day_of i l.slot) 0 == 1) 1 0) (course_of i l.course).min_days) 5 0 = rw (c.days_left-days.ensures, here_day, there_day) at c.missing_day-2.ensures.value in
+    let to_is : to ≡ joining i (without l.course l.slot t) m = joining_left i t l k h c.requires.there c.requires.counts m to qs alone_there beside_there c.requires.its c.requires.fits c.curricula_of-curricula.ensures.exact c.unseated.ensures.value to_day refl refl refl refl c.further_room.ensures.value in
+    let from : Joining = record { seats = c.unseated-2.result; day = c.missing_day.result; alone = 2 * alone_here; company = 2 * beside_here; room = c.further_room-2.result } in
+    let from_day : c.missing_day.result ≡ cond (at k.days l.course (day_of i l.slot) 0 - cond (day_of i l.slot == day_of i l.slot) 1 0 == 0 && ltb (at k.used 0 l.course 0 - cond (at k.days l.course (day_of i l.slot) 0 == 1) 1 0) (course_of i l.course).min_days) 5 0 = rw (c.days_left-days.ensures, here_day) at c.missing_day.ensures.value in
+    let from_is : from ≡ joining i (without l.course l.slot t) l = joining_left i t l k h c.requires.there c.requires.counts l from qs alone_here beside_here refl known c.curricula_of-curricula.ensures.exact c.unseated-2.ensures.value from_day refl refl refl refl c.further_room-2.ensures.value in
+    shift_by _ from to refl refl (omega (arith, more_sum)) refl refl refl (omega (arith, less_sum)) refl ∙ ap₂ shift_of from_is to_is

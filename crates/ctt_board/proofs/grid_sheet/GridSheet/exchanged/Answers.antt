@@ -10,7 +10,7 @@ use Rattle.ctt_board.specs.Joining.{joining}
 use Rattle.ctt_board.specs.Shifts.{Shifts, shift_of, both_shifts}
 use Rattle.ctt_board.specs.declared.cell.Cell.{Cell}
 use Rattle.ctt_board.proofs.ApartLemmas.{Exchange, cells_of, first_fits, other_fits, first_free, other_free, each_by_itself}
-use Rattle.ctt_board.proofs.BetweenLemmas.{OnTheWay, way_of}
+use Rattle.ctt_board.proofs.BetweenLemmas.{OnTheWay, way_of, there_fits}
 use Rattle.ctt_board.proofs.grid_sheet.GridSheet.exchanged.Goals as goal
 
 -- the first two cells on their way
@@ -51,6 +51,22 @@ leaving-requires-2-clause-course c = (second c.args.self.now.problem c.args.self
 
 pub leaving-requires-2-clause-slot : goal.leaving-requires-2-clause-slot
 leaving-requires-2-clause-slot c = (second c.args.self.now.problem c.args.self.now.list c.args.first.now c.args.second.now c.args.third.now c.args.fourth.now c.lawful.ensures c.requires.turn c.requires.fits).ready.slot
+
+pub spot_of-here-requires : goal.spot_of-here-requires
+spot_of-here-requires c =
+    let i : Problem = c.self.inside.instance.now in
+    let t : List Placed = c.args.self.now.list in
+    let l : Placed = c.in_ok-from.from in
+    let same : i ≡ c.args.self.now.problem = ap (λ (b : Board). b.problem) c.self.view_is in
+    record { slot = (there_fits i l.course l.slot l.room t (subst (λ q. Lawful q t) (sym same) c.lawful.ensures) c.in_ok-from.ensures.1).1 }
+
+pub spot_of-there-requires : goal.spot_of-there-requires
+spot_of-there-requires c =
+    let i : Problem = c.self.inside.instance.now in
+    let t : List Placed = c.args.self.now.list in
+    let l : Placed = c.in_ok-other_from.other_from in
+    let same : i ≡ c.args.self.now.problem = ap (λ (b : Board). b.problem) c.self.view_is in
+    record { slot = (there_fits i l.course l.slot l.room t (subst (λ q. Lawful q t) (sym same) c.lawful.ensures) c.in_ok-other_from.ensures.1).1 }
 
 pub moved-one-requires-clause-fits : goal.moved-one-requires-clause-fits
 moved-one-requires-clause-fits c =

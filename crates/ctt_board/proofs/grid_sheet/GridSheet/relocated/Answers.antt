@@ -8,7 +8,7 @@ use Rattle.ctt_board.specs.Changes.{cell, apply, is_change, ChangeFits}
 use Rattle.ctt_board.specs.Shifts.{Shifts}
 use Rattle.ctt_board.specs.declared.cell.Cell.{Cell}
 use Rattle.ctt_board.proofs.ApartLemmas.{steps_of, goes_fits, goes_free, goes_by}
-use Rattle.ctt_board.proofs.BetweenLemmas.{OnTheWay, way_of}
+use Rattle.ctt_board.proofs.BetweenLemmas.{OnTheWay, way_of, there_fits}
 use Rattle.ctt_board.proofs.grid_sheet.GridSheet.relocated.Goals as goal
 
 -- the first cell on its way
@@ -26,6 +26,21 @@ leaving-requires-clause-course c = (first c.args.self.now.problem c.args.self.no
 
 pub leaving-requires-clause-slot : goal.leaving-requires-clause-slot
 leaving-requires-clause-slot c = (first c.args.self.now.problem c.args.self.now.list c.args.first.now c.args.second.now c.lawful.ensures c.requires.turn c.requires.fits).ready.slot
+
+pub spot_of-requires : goal.spot_of-requires
+spot_of-requires c =
+    let i : Problem = c.self.inside.instance.now in
+    let t : List Placed = c.args.self.now.list in
+    let l : Placed = c.in_ok-from.from in
+    let same : i ≡ c.args.self.now.problem = ap (λ (b : Board). b.problem) c.self.view_is in
+    record { slot = (there_fits i l.course l.slot l.room t (subst (λ q. Lawful q t) (sym same) c.lawful.ensures) c.in_ok-from.ensures.1).1 }
+
+pub spot_of-requires-2 : goal.spot_of-requires-2
+spot_of-requires-2 c =
+    let i : Problem = c.self.inside.instance.now in
+    let t : List Placed = c.args.self.now.list in
+    let same : i ≡ c.args.self.now.problem = ap (λ (b : Board). b.problem) c.self.view_is in
+    record { slot = (goes_fits i t c.in_ok-from.from c.in_ok-to.to (subst (λ q. Lawful q t) (sym same) c.lawful.ensures) (steps_fit i c.args.self.now.problem t c.args.first.now c.args.second.now c.in_ok-from.from c.in_ok-to.to same c.in_ok-from.ensures.0 c.in_ok-to.ensures.0 c.requires.fits) c.in_ok-from.ensures.1).1 }
 
 pub moved-requires-clause-fits : goal.moved-requires-clause-fits
 moved-requires-clause-fits c =

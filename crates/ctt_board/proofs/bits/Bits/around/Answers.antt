@@ -3,7 +3,7 @@ use Rattle.ctt_text.proofs.TableLemmas.{same_element}
 use Rattle.ctt_board.specs.Tables.{Grid}
 use Rattle.ctt_board.proofs.BitLemmas.{there}
 use Rattle.ctt_board.proofs.BesideLemmas.{word_beside}
-use Rattle.ctt_board.proofs.bits.Bits.beside.Goals as goal
+use Rattle.ctt_board.proofs.bits.Bits.around.Goals as goal
 
 pub returns : goal.returns
 returns c =
@@ -13,4 +13,4 @@ returns c =
     let at_word = there v.rows v.width c.args.row c.args.column v.words.items row column c.self.invariant in
     let low : 2 ≤ (c.args.row * v.width + c.args.column) % 64 = omega (arith, c.if-place-lt2.false) in
     let high : (c.args.row * v.width + c.args.column) % 64 ≤ 61 = omega (arith, c.if-place-gt61.false) in
-    rw (← c.self.view_is) (word_beside v.rows v.width c.args.row c.args.column v.words.items row column c.self.invariant _ (c.index-word.ensures ∙ same_element v.words.items ((c.args.row * v.width + c.args.column) / 64) _ 0 at_word) low high)
+    rw (← c.self.view_is) (word_beside v.rows v.width c.args.row c.args.column v.words.items row column c.self.invariant _ (c.index.ensures ∙ same_element v.words.items ((c.args.row * v.width + c.args.column) / 64) _ 0 at_word) low high)
