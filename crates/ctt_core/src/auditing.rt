@@ -177,6 +177,13 @@ impl<'a, 'i, S: Sheet<'i>> Auditor<'a, S> {
         })
     }
 
+    /// The instance.
+    pub fn instance(&self) -> &'i Instance
+        ensures { result.now ≡ self.now.problem }
+    {
+        self.sheet.instance()
+    }
+
     /// Takes the next call of the entry that comes, with its reply.
     pub fn ask(&mut self, alloc: Global, asked: &Asked) -> Result<(), NoMemory>
         requires { CallFits self.old.problem asked.now.call }

@@ -17,3 +17,4 @@ pub mod ScriptPlaces
 pub mod ScriptText
 pub mod WrittenText
 pub mod WrittenWords
+pub mod AuditedText
