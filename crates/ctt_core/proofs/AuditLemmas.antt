@@ -1,104 +1,215 @@
 -- Drafts that are run anew, call by call and entry by entry.
-use Rattle.std.proofs.Common.{◌≡◌, ℕ, ◌+◌, ◌<◌, ◌≤◌, List, [], ◌∷◌, ◌++◌, take, drop, get_or, length, refl, add-one, Result, Ok, Err, IsTrue, ◌↔◌, false, true, zero, suc, ◌∙◌, sym, ap, ap₂, subst, arith, take_all}
+use Rattle.std.proofs.Common.{◌≡◌, ℕ, zero, suc, ◌+◌, ◌<◌, ◌≤◌, List, [], ◌∷◌, ◌++◌, Option, Some, None, length, refl, Result, Ok, Err, IsTrue, ◌↔◌, false, true, ◌∙◌, sym, ap, ap₂, subst, append_assoc, append-nil, length-append, get_or, drop, arith}
+use Rattle.std.proofs.lemmas.List.{map-append}
+use Rattle.std.specs.List.{AllByRecursion as Each}
 use Rattle.std.specs.Prelude.{IfOk}
-use Rattle.std.proofs.Math.Seq.{take-suc}
 use Rattle.ctt_text.specs.Problem.{Problem}
 use Rattle.ctt_text.specs.declared.placed.Placed.{Placed}
 use Rattle.ctt_edits.specs.Calls.{CallFits, reply}
 use Rattle.ctt_edits.specs.Openings.{opening}
 use Rattle.ctt_edits.specs.declared.fault.EditFault.{EditFault}
 use Rattle.ctt_edits.specs.declared.reply.Reply.{Reply}
-use Rattle.ctt_draft.specs.Drafts.{calls_of, replies_in, replies, whole, after_call}
-use Rattle.ctt_draft.specs.DraftValues.{IsTold}
+use Rattle.ctt_draft.specs.Drafts.{AskedFits, calls_of, replies_in, replies, whole, after_call}
 use Rattle.ctt_draft.specs.declared.asked.Asked.{Asked}
-use Rattle.ctt_draft.proofs.CallRuns.{whole-push}
-use Rattle.ctt_draft.proofs.DraftSteps.{told_more, calls-push}
-use Rattle.ctt_core.specs.Audits.{DiffersIn, DiffersAt, Finds, IsVerdict}
+use Rattle.ctt_draft.proofs.CallRuns.{replies-push, whole-push}
+use Rattle.ctt_draft.proofs.DraftSteps.{calls-push}
+use Rattle.ctt_core.specs.Auditors.{AuditorValue, IsAuditor}
+use Rattle.ctt_core.specs.Audits.{DiffersIn, DiffersAt, Finds, IsNext, IsVerdict, found_more}
+use Rattle.ctt_core.specs.Entries.{EntryFits}
 use Rattle.ctt_core.specs.Runs.{after, Legal}
 use Rattle.ctt_core.specs.declared.auditing.Verdict.{Verdict}
 use Rattle.ctt_core.specs.declared.auditing.Verdict.TheVariants.{Agrees, BadOpening, Differs}
 use Rattle.ctt_core.specs.declared.journal.JournalEntry.{JournalEntry}
 use Rattle.ctt_core.proofs.RunLemmas.{Legal-push, after-push, legal_joins}
 
--- the first k calls were told what they are told on t, and u is left of it
-pub record Replaying (i j : Problem) (t u : List Placed) (asked : List Asked) (k : ℕ) : Type 0 where
-  pub same : j ≡ i
-  pub told : IsTold i t (take k asked)
-  pub list : u ≡ whole i t (calls_of (take k asked))
+-- what is found of the timetable that the lectures make
+pub opened : (i j : Problem) (ls t : List Placed) (h : List JournalEntry) (v : Verdict) → j ≡ i → opening i ls ≡ Ok t → Finds j t h v → IsVerdict i ls h v
+opened i j ls t h Agrees same e f = record { t0 = t; opens = e; finds = subst (λ p. Legal p t h) same f }
+opened i j ls t h (BadOpening at x) same e f = absurd f
+opened i j ls t h (Differs n c) same e f = record { t0 = t; opens = e; finds = subst (λ p. DiffersAt p t h n c) same f }
 
-one_longer : {X : Type 0} (xs : List X) (k : ℕ) (x : X) → k < length xs → x ≡ get_or xs k x → take (k + 1) xs ≡ take k xs ++ x ∷ []
-one_longer xs k x lt is = ap (λ n. take n xs) (add-one k) ∙ take-suc xs k x lt ∙ ap (λ y. take k xs ++ y ∷ []) (sym is)
-
-behind : (k : ℕ) → suc k + 1 ≡ suc (k + 1)
-behind k = omega arith
-
-split_at : {X : Type 0} (xs : List X) (k : ℕ) (x : X) → k < length xs → x ≡ get_or xs k x → xs ≡ take k xs ++ x ∷ drop (k + 1) xs
-split_at [] k x lt is = absurd (omega (arith, lt))
-split_at (y ∷ ys) zero x lt is = ap (λ z. z ∷ ys) (sym is)
-split_at (y ∷ ys) (suc k) x lt is = rw (behind k) (ap (λ zs. y ∷ zs) (split_at ys k x (omega (arith, lt)) is))
-
-length_taken : {X : Type 0} (xs : List X) (k : ℕ) → k ≤ length xs → length (take k xs) ≡ k
-length_taken xs zero le = refl
-length_taken [] (suc k) le = absurd (omega (arith, le))
-length_taken (x ∷ xs) (suc k) le = omega (arith, length_taken xs k (omega (arith, le)))
+-- a call that comes behind a difference changes nothing
+pub differs_more : (i : Problem) (u : List Placed) (this : Asked) (number n : ℕ) → IsNext i u u this number (Some n) (Some n)
+differs_more i u this number n = λ t earlier counted d. record {
+  earlier = d.earlier;
+  this = d.this;
+  later = d.later ++ this ∷ [];
+  split = ap (λ xs. xs ++ this ∷ []) d.split ∙ append_assoc d.earlier (d.this ∷ d.later) (this ∷ []);
+  counted = d.counted;
+  told = d.told;
+  other = d.other;
+}
 
 -- the next call is told what it was told
-pub replayed_more : (i j l : Problem) (t u v : List Placed) (asked : List Asked) (k : ℕ) (x : Asked) (told : Reply) → Replaying i j t u asked k → k < length asked → x ≡ get_or asked k x → CallFits i x.call → told ≡ reply j u x.call → told ≡ x.reply → l ≡ j → v ≡ after_call j u x.call → Replaying i l t v asked (k + 1)
-replayed_more i j l t u v asked k x told r lt is fits tells same of left =
-    let longer : take (k + 1) asked ≡ take k asked ++ x ∷ [] = one_longer asked k x lt is in
-    let here : x.reply ≡ reply i (whole i t (calls_of (take k asked))) x.call = sym same ∙ tells ∙ ap₂ (λ p w. reply p w x.call) r.same r.list in
-    record {
-      same = of ∙ r.same;
-      told = subst (IsTold i t) (sym longer) (told_more i t (take k asked) x r.told fits here);
-      list = left ∙ ap₂ (λ p w. after_call p w x.call) r.same r.list ∙ sym (whole-push i t (calls_of (take k asked)) x.call) ∙ ap (whole i t) (sym (ap calls_of longer ∙ calls-push (take k asked) x));
-    }
+pub next_same : (i : Problem) (u v : List Placed) (x : Asked) (number : ℕ) (told : Reply) → told ≡ reply i u x.call → told ≡ x.reply → v ≡ after_call i u x.call → IsNext i u v x number None None
+next_same i u v x number told tells same left = λ t earlier counted r. (
+  map-append (λ (a : Asked). a.reply) earlier (x ∷ [])
+      ∙ ap₂ (λ rs one. rs ++ one ∷ []) r.0 (sym same ∙ tells ∙ ap (λ w. reply i w x.call) r.1)
+      ∙ sym (replies-push i t (calls_of earlier) x.call)
+      ∙ ap (replies i t) (sym (calls-push earlier x)),
+  left ∙ ap (λ w. after_call i w x.call) r.1 ∙ sym (whole-push i t (calls_of earlier) x.call) ∙ ap (whole i t) (sym (calls-push earlier x)),
+)
 
 -- or something else
-pub replayed_other : (i j : Problem) (t u : List Placed) (asked : List Asked) (k : ℕ) (x : Asked) (told : Reply) → Replaying i j t u asked k → k < length asked → x ≡ get_or asked k x → told ≡ reply j u x.call → (told ≡ x.reply → ⊥) → DiffersIn i t asked (k + 1)
-replayed_other i j t u asked k x told r lt is tells other = record {
-  earlier = take k asked;
+pub next_other : (i : Problem) (u v : List Placed) (x : Asked) (number : ℕ) (told : Reply) → told ≡ reply i u x.call → (told ≡ x.reply → ⊥) → IsNext i u v x number None (Some number)
+next_other i u v x number told tells other = λ t earlier counted r. record {
+  earlier = earlier;
   this = x;
-  later = drop (k + 1) asked;
-  split = split_at asked k x lt is;
-  counted = ap (λ n. n + 1) (sym (length_taken asked k (omega (arith, lt))));
-  told = r.told.told;
-  other = λ e. other (tells ∙ ap₂ (λ p w. reply p w x.call) r.same r.list ∙ sym e);
+  later = [];
+  split = refl;
+  counted = counted;
+  told = r.0;
+  other = λ e. other (tells ∙ ap (λ w. reply i w x.call) r.1 ∙ sym e);
 }
 
-pub replayed_all : (i j : Problem) (t u : List Placed) (asked : List Asked) (k : ℕ) → Replaying i j t u asked k → length asked ≤ k → (replies_in asked ≡ replies i t (calls_of asked)) × (u ≡ whole i t (calls_of asked))
-replayed_all i j t u asked k r le =
-    let all : take k asked ≡ asked = take_all k asked le in
-    (subst (λ xs. replies_in xs ≡ replies i t (calls_of xs)) all r.told.told, r.list ∙ ap (λ xs. whole i t (calls_of xs)) all)
+-- nothing was taken yet
+pub auditor_opened : (i j : Problem) (ls u : List Placed) (entries : List JournalEntry) (asked : List Asked) → opening i ls ≡ Ok u → j ≡ i → entries ≡ [] → asked ≡ [] → IsAuditor j ls u Agrees None 0 0 entries asked
+auditor_opened i j ls u entries asked e same none none_asked = rw (same, none, none_asked) record { t0 = u; opens = e; ended_is = refl; begun_is = refl; finds = tt; goes_on = λ same. (refl, refl) }
 
--- the first k entries are legal, and u is left of them
-pub record Auditing (i j : Problem) (t u : List Placed) (h : List JournalEntry) (k : ℕ) : Type 0 where
-  pub same : j ≡ i
-  pub legal : Legal i t (take k h)
-  pub list : u ≡ after i t (take k h)
+-- one call more
+pub auditor_asked : (i j : Problem) (ls u v : List Placed) (found : Verdict) (differs now : Option ℕ) (ended begun number : ℕ) (entries : List JournalEntry) (asked longer : List Asked) (x : Asked) → IsAuditor i ls u found differs ended begun entries asked
+    → number ≡ begun + 1 → j ≡ i → IsNext i u v x number differs now → longer ≡ asked ++ x ∷ [] → IsAuditor j ls v found now ended number entries longer
+auditor_asked i j ls u v found differs now ended begun number entries asked longer x a is same next more = rw (more, same) record {
+  t0 = a.t0;
+  opens = a.opens;
+  ended_is = a.ended_is;
+  begun_is = is ∙ ap (λ n. n + 1) a.begun_is ∙ sym (length-append asked (x ∷ []));
+  finds = a.finds;
+  goes_on = λ agrees. next (after i a.t0 entries) asked (is ∙ ap (λ n. n + 1) a.begun_is) (a.goes_on agrees);
+}
 
-pub audited_more : (i j l : Problem) (t u v : List Placed) (h : List JournalEntry) (k : ℕ) (x : JournalEntry) → Auditing i j t u h k → k < length h → x ≡ get_or h k x → (replies_in x.asked ≡ replies j u (calls_of x.asked)) × (v ≡ whole j u (calls_of x.asked)) → l ≡ j → Auditing i l t v h (k + 1)
-audited_more i j l t u v h k x a lt is found of =
-    let longer : take (k + 1) h ≡ take k h ++ x ∷ [] = one_longer h k x lt is in
-    let told : replies_in x.asked ≡ replies i (after i t (take k h)) (calls_of x.asked) = found.0 ∙ ap₂ (λ p w. replies p w (calls_of x.asked)) a.same a.list in
+-- one entry more
+auditor_ended : (i : Problem) (ls u : List Placed) (found : Verdict) (differs : Option ℕ) (ended begun : ℕ) (entries : List JournalEntry) (asked : List Asked) (e : JournalEntry) → e.asked ≡ asked → IsAuditor i ls u found differs ended begun entries asked
+    → IsAuditor i ls u (found_more found (ended + 1) differs) differs (ended + 1) 0 (entries ++ e ∷ []) []
+auditor_ended i ls u Agrees None ended begun entries asked e same a =
+    let run = subst (λ xs. (replies_in xs ≡ replies i (after i a.t0 entries) (calls_of xs)) × (u ≡ whole i (after i a.t0 entries) (calls_of xs))) (sym same) (a.goes_on refl) in
     record {
-      same = of ∙ a.same;
-      legal = subst (Legal i t) (sym longer) (Legal-push i t (take k h) x a.legal told);
-      list = found.1 ∙ ap₂ (λ p w. whole p w (calls_of x.asked)) a.same a.list ∙ sym (after-push i t (take k h) x) ∙ ap (after i t) (sym longer);
+      t0 = a.t0;
+      opens = a.opens;
+      ended_is = ap (λ n. n + 1) a.ended_is ∙ sym (length-append entries (e ∷ []));
+      begun_is = refl;
+      finds = Legal-push i a.t0 entries e a.finds run.0;
+      goes_on = λ agrees. (refl, run.1 ∙ sym (after-push i a.t0 entries e));
     }
-
-pub audited_other : (i j : Problem) (t u : List Placed) (h : List JournalEntry) (k n : ℕ) (x : JournalEntry) → Auditing i j t u h k → k < length h → x ≡ get_or h k x → DiffersIn j u x.asked n → DiffersAt i t h (k + 1) n
-audited_other i j t u h k n x a lt is d = record {
-  earlier = take k h;
-  this = x;
-  later = drop (k + 1) h;
-  split = split_at h k x lt is;
-  counted = ap (λ m. m + 1) (sym (length_taken h k (omega (arith, lt))));
-  legal = a.legal;
-  differs = subst (λ p. DiffersIn p (after i t (take k h)) x.asked n) a.same (subst (λ w. DiffersIn j w x.asked n) a.list d);
+auditor_ended i ls u Agrees (Some call) ended begun entries asked e same a = record {
+  t0 = a.t0;
+  opens = a.opens;
+  ended_is = ap (λ n. n + 1) a.ended_is ∙ sym (length-append entries (e ∷ []));
+  begun_is = refl;
+  finds = record {
+    earlier = entries;
+    this = e;
+    later = [];
+    split = refl;
+    counted = ap (λ n. n + 1) a.ended_is;
+    legal = a.finds;
+    differs = subst (λ xs. DiffersIn i (after i a.t0 entries) xs call) (sym same) (a.goes_on refl);
+  };
+  goes_on = λ (agrees : Differs (ended + 1) call ≡ Agrees). cc;
+}
+auditor_ended i ls u (BadOpening at f) differs ended begun entries asked e same a = absurd a.finds
+auditor_ended i ls u (Differs entry call) differs ended begun entries asked e same a = record {
+  t0 = a.t0;
+  opens = a.opens;
+  ended_is = ap (λ n. n + 1) a.ended_is ∙ sym (length-append entries (e ∷ []));
+  begun_is = refl;
+  finds = record {
+    earlier = a.finds.earlier;
+    this = a.finds.this;
+    later = a.finds.later ++ e ∷ [];
+    split = ap (λ xs. xs ++ e ∷ []) a.finds.split ∙ append_assoc a.finds.earlier (a.finds.this ∷ a.finds.later) (e ∷ []);
+    counted = a.finds.counted;
+    legal = a.finds.legal;
+    differs = a.finds.differs;
+  };
+  goes_on = λ (agrees : Differs entry call ≡ Agrees). cc;
 }
 
-pub audited_all : (i j : Problem) (t u : List Placed) (h : List JournalEntry) (k : ℕ) → Auditing i j t u h k → length h ≤ k → Legal i t h
-audited_all i j t u h k a le = subst (Legal i t) (take_all k h le) a.legal
+pub auditor_more : (i : Problem) (ls u : List Placed) (found more : Verdict) (differs : Option ℕ) (ended begun number : ℕ) (entries longer : List JournalEntry) (asked none : List Asked) (e : JournalEntry) → IsAuditor i ls u found differs ended begun entries asked
+    → number ≡ ended + 1 → more ≡ found_more found number differs → e.asked ≡ asked → longer ≡ entries ++ e ∷ [] → none ≡ [] → IsAuditor i ls u more differs number 0 longer none
+auditor_more i ls u found more differs ended begun number entries longer asked none e a is found_is same list empty = rw (found_is, is, list, empty) (auditor_ended i ls u found differs ended begun entries asked e same a)
+
+-- what is found of the entries that have ended
+pub auditor_finds : (i : Problem) (ls u : List Placed) (found : Verdict) (differs : Option ℕ) (ended begun : ℕ) (entries : List JournalEntry) (asked : List Asked) → IsAuditor i ls u found differs ended begun entries asked → IsVerdict i ls entries found
+auditor_finds i ls u found differs ended begun entries asked a = opened i i ls a.t0 entries found refl a.opens a.finds
+
+-- calls that an auditor takes one by one, and entries
+abbrev pub ran : List Asked → AuditorValue → AuditorValue
+ran [] v = v
+ran (x ∷ xs) v = ran xs (record v { asked = v.asked ++ x ∷ [] })
+
+abbrev pub heard : List JournalEntry → AuditorValue → AuditorValue
+heard [] v = v
+heard (e ∷ es) v = heard es (record v { entries = v.entries ++ e ∷ [] })
+
+ran_is : (asked : List Asked) (v : AuditorValue) → ran asked v ≡ record v { asked = v.asked ++ asked }
+ran_is [] v = ap (λ xs. record v { asked = xs }) (sym (append-nil v.asked))
+ran_is (x ∷ xs) v = ran_is xs (record v { asked = v.asked ++ x ∷ [] }) ∙ ap (λ ys. record v { asked = ys }) (append_assoc v.asked (x ∷ []) xs)
+
+heard_is : (entries : List JournalEntry) (v : AuditorValue) → heard entries v ≡ record v { entries = v.entries ++ entries }
+heard_is [] v = ap (λ xs. record v { entries = xs }) (sym (append-nil v.entries))
+heard_is (e ∷ es) v = heard_is es (record v { entries = v.entries ++ e ∷ [] }) ∙ ap (λ ys. record v { entries = ys }) (append_assoc v.entries (e ∷ []) es)
+
+left_at : {X : Type 0} (xs : List X) (k : ℕ) (x : X) → k < length xs → x ≡ get_or xs k x → drop k xs ≡ x ∷ drop (k + 1) xs
+left_at [] k x lt is = absurd (omega (arith, lt))
+left_at (y ∷ ys) zero x lt is = ap (λ z. z ∷ ys) (sym is)
+left_at (y ∷ ys) (suc k) x lt is = rw (behind k) (left_at ys k x (omega (arith, lt)) is)
+  where
+    behind : (k : ℕ) → suc k + 1 ≡ suc (k + 1)
+    behind k = omega arith
+
+none_left : {X : Type 0} (xs : List X) (k : ℕ) → length xs ≤ k → drop k xs ≡ []
+none_left [] zero le = refl
+none_left [] (suc k) le = refl
+none_left (x ∷ xs) zero le = absurd (omega (arith, le))
+none_left (x ∷ xs) (suc k) le = none_left xs k (omega (arith, le))
+
+-- the calls that are left fit, and with them it is all calls
+pub record Running (v0 v : AuditorValue) (asked left : List Asked) : Type 0 where
+  pub goes_on : ran left v ≡ ran asked v0
+  pub fit : Each (AskedFits v.problem) left
+
+module _ (v0 v : AuditorValue) (asked items : List Asked) (k : ℕ) (r : Running v0 v asked (drop k items)) where
+  pub running_fits : (x : Asked) → k < length items → x ≡ get_or items k x → CallFits v.problem x.call
+  running_fits x lt is = (subst (Each (AskedFits v.problem)) (left_at items k x lt is) r.fit).0.0
+
+  pub running_more : (x : Asked) (w : AuditorValue) → k < length items → x ≡ get_or items k x → w ≡ record v { asked = v.asked ++ x ∷ [] } → Running v0 w asked (drop (k + 1) items)
+  running_more x w lt is more = rw more record {
+    goes_on = ap (λ xs. ran xs v) (sym (left_at items k x lt is)) ∙ r.goes_on;
+    fit = (subst (Each (AskedFits v.problem)) (left_at items k x lt is) r.fit).1;
+  }
+
+  running_done : length items ≤ k → v ≡ record v0 { asked = v0.asked ++ asked }
+  running_done le = ap (λ xs. ran xs v) (sym (none_left items k le)) ∙ r.goes_on ∙ ran_is asked v0
+
+  -- the entry has ended
+  pub running_ended : (e : JournalEntry) (w : AuditorValue) → length items ≤ k → asked ≡ e.asked → v0.asked ≡ [] → w ≡ record v { entries = v.entries ++ record { planner = e.planner; asked = v.asked } ∷ []; asked = [] } → w ≡ record v0 { entries = v0.entries ++ e ∷ [] }
+  running_ended e w le same none ends =
+      ends
+      ∙ ap (λ (u : AuditorValue). record u { entries = u.entries ++ record { planner = e.planner; asked = u.asked } ∷ []; asked = [] }) (running_done le)
+      ∙ ap (λ xs. record v0 { entries = v0.entries ++ record { planner = e.planner; asked = v0.asked ++ xs } ∷ []; asked = [] }) same
+      ∙ ap (λ xs. record v0 { entries = v0.entries ++ record { planner = e.planner; asked = xs ++ e.asked } ∷ []; asked = [] }) none
+      ∙ ap (λ xs. record v0 { entries = v0.entries ++ e ∷ []; asked = xs }) (sym none)
+
+-- the entries that are left fit, and with them it is all entries
+pub record Hearing (v0 v : AuditorValue) (entries left : List JournalEntry) : Type 0 where
+  pub goes_on : heard left v ≡ heard entries v0
+  pub fit : Each (EntryFits v.problem) left
+  pub begun : v.asked ≡ []
+
+module _ (v0 v : AuditorValue) (entries : List JournalEntry) (k : ℕ) (r : Hearing v0 v entries (drop k entries)) where
+  pub hearing_fits : (e : JournalEntry) → k < length entries → e ≡ get_or entries k e → EntryFits v.problem e
+  hearing_fits e lt is = (subst (Each (EntryFits v.problem)) (left_at entries k e lt is) r.fit).0
+
+  pub hearing_more : (e : JournalEntry) (w : AuditorValue) → k < length entries → e ≡ get_or entries k e → w ≡ record v { entries = v.entries ++ e ∷ [] } → Hearing v0 w entries (drop (k + 1) entries)
+  hearing_more e w lt is more = rw more record {
+    goes_on = ap (λ xs. heard xs v) (sym (left_at entries k e lt is)) ∙ r.goes_on;
+    fit = (subst (Each (EntryFits v.problem)) (left_at entries k e lt is) r.fit).1;
+    begun = r.begun;
+  }
+
+  pub hearing_done : length entries ≤ k → v ≡ record v0 { entries = v0.entries ++ entries }
+  hearing_done le = ap (λ xs. heard xs v) (sym (none_left entries k le)) ∙ r.goes_on ∙ heard_is entries v0
 
 -- where the entries are legal nothing differs
 head_told : (i : Problem) (t : List Placed) (earlier later : List Asked) (this : Asked) → replies_in (earlier ++ this ∷ later) ≡ replies i t (calls_of (earlier ++ this ∷ later)) → this.reply ≡ reply i (whole i t (calls_of earlier)) this.call
@@ -121,12 +232,6 @@ pub agrees : (i : Problem) (ls : List Placed) (h : List JournalEntry) (v : Verdi
 agrees i ls h Agrees is t e legal = refl
 agrees i ls h (BadOpening at f) is t e legal = (let both : ◌≡◌ {A = Result (List Placed) (ℕ × EditFault)} (Ok t) (Err (at, f)) = sym e ∙ is in cc)
 agrees i ls h (Differs n c) is t e legal = absurd (legal_same i is.t0 h n c (subst (λ u. Legal i u h) (same_opening i ls t is.t0 e is.opens) legal) is.finds)
-
--- what is found of the timetable that the lectures make
-pub opened : (i j : Problem) (ls t : List Placed) (h : List JournalEntry) (v : Verdict) → j ≡ i → opening i ls ≡ Ok t → Finds j t h v → IsVerdict i ls h v
-opened i j ls t h Agrees same e f = record { t0 = t; opens = e; finds = subst (λ p. Legal p t h) same f }
-opened i j ls t h (BadOpening at x) same e f = absurd f
-opened i j ls t h (Differs n c) same e f = record { t0 = t; opens = e; finds = subst (λ p. DiffersAt p t h n c) same f }
 
 -- a test that fails
 pub fails : (P : Type 0) → (IsTrue false ↔ P) → P → ⊥

@@ -5,3 +5,4 @@ pub mod Openings
 pub mod Entries
 pub mod Audits
 pub mod Stocks
+pub mod Auditors

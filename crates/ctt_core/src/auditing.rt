@@ -1,6 +1,6 @@
 //! The audit of a journal: its drafts are run whole, one after another, and told anew.
 
-ghost use Rattle.std.specs.Prelude.{◌≡◌, IfOk, OnOk, Ok, List};
+ghost use Rattle.std.specs.Prelude.{◌≡◌, IfOk, IfErr, OnOk, OnErr, Ok, List, [], ◌∷◌, ◌++◌};
 ghost use Rattle.std.specs.List.{AllByRecursion as Each};
 ghost use Rattle.ctt_text.specs.Timetable.{Fits};
 ghost use Rattle.ctt_text.specs.declared.placed.Placed.{Placed};
@@ -8,20 +8,23 @@ ghost use Rattle.ctt_edits.specs.Calls.{CallFits, reply};
 ghost use Rattle.ctt_edits.specs.Edits.{EditFits};
 ghost use Rattle.ctt_edits.specs.Openings.{opening};
 ghost use Rattle.ctt_edits.specs.declared.call.Call.TheVariants.{Edit as Edits};
-ghost use Rattle.ctt_draft.specs.Drafts.{AskedFits, after_call};
+ghost use Rattle.ctt_draft.specs.Drafts.{after_call};
 ghost use Rattle.ctt_core.specs.Entries.{EntryFits};
 ghost use Rattle.ctt_core.specs.Runs.{Legal};
-ghost use Rattle.ctt_core.specs.Audits.{Replayed, Finds, IsVerdict};
+ghost use Rattle.ctt_core.specs.Audits.{IsNext, IsVerdict, found_more};
+ghost use Rattle.ctt_core.specs.Openings.{IsOpeningFault};
 ghost use Rattle.ctt_core.specs.declared.auditing.Verdict.TheVariants.{Agrees};
 
 use crate::desk_fault::DeskFault;
 use crate::journal::JournalEntry;
 use crate::opening::placed;
+use crate::planner::PlannerNo;
 use ctt_board::{Rooms, Sheet, Timetable};
-use ctt_draft::Asked;
+use ctt_draft::{Asked, GhostList, Tells};
 use ctt_edits::{Call, Edit, EditFault, Reply, check};
 use ctt_text::{Instance, NoMemory, Placed};
 use std::alloc::Global;
+use std::marker::Model;
 
 /// What an audit finds.
 #[derive(Clone, Copy, Debug, PartialEq, Eq)]
@@ -58,6 +61,7 @@ fn answer<'i, S: Sheet<'i>>(alloc: Global, sheet: &mut S, call: &Call) -> Result
     ensures told { IfOk result (λ told. told ≡ reply (S.problem sheet.old) (S.list sheet.old) call.now) }
     ensures problem { S.problem sheet.new ≡ S.problem sheet.old }
     ensures list { OnOk result (S.list sheet.new ≡ after_call (S.problem sheet.old) (S.list sheet.old) call.now) }
+    ensures kept { OnErr result (S.list sheet.new ≡ S.list sheet.old) }
 {
     match call {
         Call::Look(look) => ctt_edits::look(alloc, sheet, look),
@@ -65,40 +69,195 @@ fn answer<'i, S: Sheet<'i>>(alloc: Global, sheet: &mut S, call: &Call) -> Result
     }
 }
 
-/// Makes calls on a sheet, up to the first that was told something else: its number, from 1.
-fn replay<'i, S: Sheet<'i>>(
+/// Makes a call on a sheet and compares what it is told with what it was told, unless a call before it
+/// was told something else; and answers the number of the first call that was, if one was.
+fn compare<'i, S: Sheet<'i>>(
     alloc: Global,
     sheet: &mut S,
-    asked: &[Asked],
+    differs: Option<u64>,
+    number: u64,
+    asked: &Asked,
 ) -> Result<Option<u64>, NoMemory>
-    requires { Each (AskedFits (S.problem sheet.old)) asked.now }
+    requires { CallFits (S.problem sheet.old) asked.now.call }
     ensures problem { S.problem sheet.new ≡ S.problem sheet.old }
-    ensures found { IfOk result (Replayed (S.problem sheet.old) (S.list sheet.old) (S.list sheet.new) asked.now) }
+    ensures kept { OnErr result (S.list sheet.new ≡ S.list sheet.old) }
+    ensures found { IfOk result (λ after. IsNext (S.problem sheet.old) (S.list sheet.old) (S.list sheet.new) asked.now number differs after) }
 {
-    for (at, one) in asked.iter().enumerate() {
-        let told = answer(alloc, sheet, &one.call)?;
-        if !told.is_same(&one.reply) {
-            return Ok(Some(at as u64 + 1));
+    match differs {
+        Some(_) => Ok(differs),
+        None => {
+            let told = answer(alloc, sheet, &asked.call)?;
+            if !told.is_same(&asked.reply) {
+                return Ok(Some(number));
+            }
+            Ok(None)
         }
     }
-    Ok(None)
 }
 
-/// Makes the calls of all entries on a sheet, up to the first that was told something else.
-fn replay_all<'i, S: Sheet<'i>>(
-    alloc: Global,
-    sheet: &mut S,
-    entries: &[JournalEntry],
-) -> Result<Verdict, NoMemory>
-    requires { Each (EntryFits (S.problem sheet.old)) entries.now }
-    ensures { IfOk result (Finds (S.problem sheet.old) (S.list sheet.old) entries.now) }
+/// What is found with an entry more, of which this call was told something else, if one was.
+fn found_with(found: Verdict, entry: u64, differs: Option<u64>) -> Verdict
+    ensures { result ≡ found_more found entry differs }
 {
-    for (at, entry) in entries.iter().enumerate() {
-        if let Some(call) = replay(alloc, sheet, entry.asked.as_slice())? {
-            return Ok(Verdict::Differs(at as u64 + 1, call));
-        }
+    match found {
+        Verdict::Agrees => match differs {
+            Some(call) => Verdict::Differs(entry, call),
+            None => Verdict::Agrees,
+        },
+        _ => found,
     }
-    Ok(Verdict::Agrees)
+}
+
+/// A call with its reply tells of itself.
+struct Itself;
+
+impl Tells<Asked, Asked> for Itself {
+    ghost element = { λ asked. asked };
+}
+
+/// An entry that ends: whose it is, and its calls.
+#[derive(Drop)]
+struct Ended<'a> {
+    planner: PlannerNo,
+    asked: &'a GhostList<Asked>,
+}
+
+struct WholeEntry;
+
+impl<'a> Tells<Ended<'a>, JournalEntry> for WholeEntry {
+    ghost element = { λ e. record { planner = e.planner; asked = e.asked.now } };
+}
+
+/// An audit in progress. The entries are run as they come, call by call, and none of them is kept; behind the
+/// first call that was told something else none is run.
+#[derive(Drop)]
+pub struct Auditor<'a, S: Timetable> {
+    opening: &'a [Placed],
+    sheet: S,
+    found: Verdict,
+    differs: Option<u64>,
+    ended: u64,
+    begun: u64,
+    entries: GhostList<JournalEntry>,
+    asked: GhostList<Asked>,
+}
+
+impl<'a, S: Timetable> Model for Auditor<'a, S> {
+    ghost use Rattle.ctt_core.specs.Auditors.{AuditorValue, IsAuditor};
+
+    ghost Value = { AuditorValue };
+
+    ghost view = { λ a. record { problem = S.problem a.sheet; lectures = a.opening.now; entries = a.entries; asked = a.asked } };
+
+    ghost invariant = { λ a. IsAuditor (S.problem a.sheet) a.opening.now (S.list a.sheet) a.found a.differs a.ended a.begun a.entries a.asked };
+}
+
+impl<'a, 'i, S: Sheet<'i>> Auditor<'a, S> {
+    /// An audit on the opening with these lectures, which are placed in their order. It is refused at the
+    /// first lecture that cannot be placed.
+    pub fn open(
+        alloc: Global,
+        instance: &'i Instance,
+        lectures: &'a [Placed],
+    ) -> Result<Self, DeskFault>
+        requires { Each (Fits instance.now) lectures.now }
+        ensures opened { IfOk result (λ auditor. auditor ≡ record { problem = instance.now; lectures = lectures.now; entries = []; asked = [] }) }
+        ensures fault { IfErr result (IsOpeningFault instance.now lectures.now) }
+    {
+        let sheet = placed::<S>(alloc, instance, lectures)?;
+        Ok(Auditor {
+            opening: lectures,
+            sheet,
+            found: Verdict::Agrees,
+            differs: None,
+            ended: 0,
+            begun: 0,
+            entries: GhostList::new(),
+            asked: GhostList::new(),
+        })
+    }
+
+    /// The instance.
+    pub fn instance(&self) -> &'i Instance
+        ensures { result.now ≡ self.now.problem }
+    {
+        self.sheet.instance()
+    }
+
+    /// Takes the next call of the entry that comes, with its reply.
+    pub fn ask(&mut self, alloc: Global, asked: &Asked) -> Result<(), NoMemory>
+        requires { CallFits self.old.problem asked.now.call }
+        ensures ok { OnOk result (self.new ≡ record self.old { asked = self.old.asked ++ asked.now ∷ [] }) }
+        ensures err { OnErr result (self.new ≡ self.old) }
+    {
+        if self.begun == u64::MAX {
+            return Err(NoMemory);
+        }
+        let number = self.begun + 1;
+        self.differs = compare(alloc, &mut self.sheet, self.differs, number, asked)?;
+        self.begun = number;
+        self.asked.push::<Asked, Itself>(asked);
+        Ok(())
+    }
+
+    /// Ends the entry, which is this planner's.
+    pub fn end(&mut self, planner: PlannerNo) -> Result<(), NoMemory>
+        ensures ok { OnOk result (self.new ≡ record self.old { entries = self.old.entries ++ record { planner = planner; asked = self.old.asked } ∷ []; asked = [] }) }
+        ensures err { OnErr result (self.new ≡ self.old) }
+    {
+        if self.ended == u64::MAX {
+            return Err(NoMemory);
+        }
+        self.ended += 1;
+        self.found = found_with(self.found, self.ended, self.differs);
+        self.begun = 0;
+        let ended = Ended {
+            planner,
+            asked: &self.asked,
+        };
+        self.entries.push::<Ended, WholeEntry>(&ended);
+        self.asked = GhostList::new();
+        Ok(())
+    }
+
+    /// What is found of the entries that have ended.
+    pub fn verdict(&self) -> Verdict
+        ensures { IsVerdict self.now.problem self.now.lectures self.now.entries result }
+    {
+        self.found
+    }
+}
+
+/// Runs an entry.
+fn run_entry<'i, S: Sheet<'i>>(
+    alloc: Global,
+    auditor: &mut Auditor<S>,
+    entry: &JournalEntry,
+) -> Result<(), NoMemory>
+    requires fits { EntryFits auditor.old.problem entry.now }
+    requires begun { auditor.old.asked ≡ [] }
+    ensures { OnOk result (auditor.new ≡ record auditor.old { entries = auditor.old.entries ++ entry.now ∷ [] }) }
+{
+    for asked in entry.asked.as_slice() {
+        auditor.ask(alloc, asked)?;
+    }
+    auditor.end(entry.planner)
+}
+
+/// Runs entries.
+fn run_entries<'i, S: Sheet<'i>>(
+    alloc: Global,
+    auditor: &mut Auditor<S>,
+    entries: &[JournalEntry],
+) -> Result<(), NoMemory>
+    requires fit { Each (EntryFits auditor.old.problem) entries.now }
+    requires begun { auditor.old.asked ≡ [] }
+    ensures { OnOk result (auditor.new ≡ record auditor.old { entries = auditor.old.entries ++ entries.now }) }
+{
+    for entry in entries {
+        run_entry(alloc, auditor, entry)?;
+    }
+    Ok(())
 }
 
 /// What is found, on a sheet of this kind.
@@ -112,8 +271,11 @@ fn found_on<'i, S: Sheet<'i>>(
     requires entries { Each (EntryFits instance.now) entries.now }
     ensures { IfOk result (IsVerdict instance.now lectures.now entries.now) }
 {
-    match placed::<S>(alloc, instance, lectures) {
-        Ok(mut sheet) => replay_all(alloc, &mut sheet, entries),
+    match Auditor::<S>::open(alloc, instance, lectures) {
+        Ok(mut auditor) => {
+            run_entries(alloc, &mut auditor, entries)?;
+            Ok(auditor.verdict())
+        }
         Err(DeskFault::Unlawful(at, fault)) => Ok(Verdict::BadOpening(at, fault)),
         Err(DeskFault::NoMemory) => Err(NoMemory),
     }

@@ -120,7 +120,7 @@ module _ (i : Problem) (is : IsProblem i) where
   unfolding reply_form
   yields_reply = yields_bind _ (IsReply i) _ _ (yields_any _ _) (λ k t. yields_reply_after k)
 
-  yields_asked : Yields (IsAsked i) (asked_form i)
+  pub yields_asked : Yields (IsAsked i) (asked_form i)
   unfolding asked_form
   yields_asked = yields_bind _ (IsAsked i) _ _ (yields_call i is) (λ c fc. yields_bind _ (IsAsked i) _ _ yields_reply (λ r fr. yields_done JournalFault (IsAsked i) _ ((fc, fr.0), fr.1)))
 

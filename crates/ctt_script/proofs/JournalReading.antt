@@ -8,7 +8,7 @@ use Rattle.ctt_text.specs.Problem.{Problem, IsProblem}
 use Rattle.ctt_text.specs.Forms.{Form, ◌>>=◌, one_more, list_of}
 use Rattle.ctt_text.specs.Places.{one, known, broken_unless, known_name, fixed, number}
 use Rattle.ctt_text.specs.Reading.{Gives, Fails}
-use Rattle.ctt_text.proofs.FormLaws.{answer_fills, fills_answer, answer_breaks, breaks_answer, ok_same, ok_is_err, err_same}
+use Rattle.ctt_text.proofs.FormLaws.{read_fills, answer_fills, fills_answer, answer_breaks, breaks_answer, ok_same, ok_is_err, err_same}
 use Rattle.ctt_text.proofs.FaultLaws.{FormFaults, bind_faults, times_faults, answer_faults}
 use Rattle.ctt_script.specs.declared.journal_fault.JournalFault.{JournalFault}
 use Rattle.ctt_script.specs.declared.journal_fault.JournalFault.TheVariants.{NotText, Missing, BadWord, NoMemory}
@@ -24,14 +24,21 @@ use Rattle.ctt_script.specs.declared.kinds.FaultKind.{FaultKind}
 use Rattle.ctt_script.specs.declared.kinds.FaultKind.TheVariants as fault
 use Rattle.ctt_core.specs.declared.journal.JournalEntry.{JournalEntry}
 use Rattle.ctt_edits.specs.Fitting.{AreFew}
+use Rattle.ctt_text.specs.Left.{Left}
+use Rattle.ctt_text.specs.declared.placed.Placed.{Placed}
+use Rattle.ctt_draft.specs.Drafts.{AskedFits}
+use Rattle.ctt_draft.specs.declared.asked.Asked.{Asked}
+use Rattle.ctt_core.specs.Audits.{IsVerdict}
+use Rattle.ctt_core.specs.declared.auditing.Verdict.{Verdict}
 use Rattle.ctt_core.specs.Entries.{EntryFits}
 use Rattle.ctt_script.specs.Entries.{IsShort, IsEntry}
-use Rattle.ctt_script.specs.JournalWords.{word, missing, wants_memory}
+use Rattle.ctt_script.specs.AuditedText.{AuditsText, GivesVerdict}
+use Rattle.ctt_script.specs.JournalWords.{word, missing, reads, wants_memory}
 use Rattle.ctt_script.specs.CallPlaces.{course, room, teacher, curriculum, slot, edit_after, edit_form, look_after, call_after, call_form}
 use Rattle.ctt_script.specs.ReplyPlaces.{fault_after, fault_form, lecture, lectures, count, amount, costs, reply_after, reply_form}
 use Rattle.ctt_script.specs.JournalPlaces.{asked_form, entry_form, journal_form}
 use Rattle.ctt_script.specs.JournalText.{JournalSpells, JournalBreaksAt, journal_answer, IsJournalCauseOf}
-use Rattle.ctt_script.proofs.EntryFits.{yields_journal}
+use Rattle.ctt_script.proofs.EntryFits.{yields_asked, yields_journal}
 
 -- a fault of a place, which names a word
 abbrev IsOfWord : JournalFault → Type 0
@@ -145,6 +152,12 @@ has_cause i text utf8 NoMemory h = tt
 has_cause i text utf8 (Missing n) h = (utf8, answer_breaks missing (journal_form i) (words text) (Missing n) h)
 has_cause i text utf8 (BadWord n) h = (utf8, answer_breaks missing (journal_form i) (words text) (BadWord n) h)
 
+-- what is read as a call with its reply fits
+pub asked_fits : (i : Problem) → IsProblem i → (left after : Left) (asked : Asked) → reads (asked_form i) left ≡ Ok (asked, after) → AskedFits i asked
+asked_fits i is left after asked h =
+    let r = read_fills missing (asked_form i) left.words left.next (asked, after) h in
+    (yields_asked i is r.front asked r.fills).0
+
 -- a fault that is not the one that reading meets is want of memory
 fault_or_memory : (e : JournalFault) (x : Result (List JournalEntry) JournalFault) → Fails wants_memory e x → (x ≡ Err e) ⊎ (e ≡ NoMemory)
 fault_or_memory (NotText n) x h = inl h
@@ -184,12 +197,37 @@ module _ (i : Problem) (text : List ℕ) where
   gives_cause utf8 (Ok list) h = tt
   gives_cause utf8 (Err e) h = has_cause i text utf8 e h
 
+  -- a fault of a reader stands against each journal, and is the one at the word that breaks the form
+  refuses : (e : JournalFault) → Fails wants_memory e (journal_answer i (words text)) → (t : List JournalEntry) → JournalSpells i (words text) t → e ≡ NoMemory
+  refuses e h t s = ⊎_elim (λ met. ok_is_err (e ≡ NoMemory) t e (sym ((reads_journals i (words text) t).1 s) ∙ met)) (λ memory. memory) (fault_or_memory e (journal_answer i (words text)) h)
+
+  breaks : {X : Type 0} (e : JournalFault) → Fails wants_memory e (journal_answer i (words text)) → (k : ℕ) (fault : JournalFault) → JournalBreaksAt i (words text) k fault → ◌⊎◌ (◌≡◌ {A = Result X JournalFault} (Err e) (Err fault)) (◌≡◌ {A = Result X JournalFault} (Err e) (Err NoMemory))
+  breaks e h k fault b = ⊎_elim
+      (λ met. inl (ap (λ q. Err q) (err_same e fault (sym met ∙ breaks_answer missing (journal_form i) (words text) k fault b))))
+      (λ memory. inr (ap (λ q. Err q) memory)) (fault_or_memory e (journal_answer i (words text)) h)
+
   pub gives_accepted : (r : Result (Vec JournalEntry Global) JournalFault) → Returns r → (t : List JournalEntry) → JournalSpells i (words text) t → MatchResult r (λ list. list.items ≡ t) (λ fault. fault ≡ NoMemory)
   gives_accepted (Ok list) h t s = ok_same {F = JournalFault} list.items t (sym h ∙ (reads_journals i (words text) t).1 s)
-  gives_accepted (Err e) h t s = ⊎_elim (λ met. ok_is_err (e ≡ NoMemory) t e (sym ((reads_journals i (words text) t).1 s) ∙ met)) (λ memory. memory) (fault_or_memory e (journal_answer i (words text)) h)
+  gives_accepted (Err e) h t s = refuses e h t s
 
   pub gives_broken : (r : Result (Vec JournalEntry Global) JournalFault) → Returns r → (k : ℕ) (fault : JournalFault) → JournalBreaksAt i (words text) k fault → (r ≡ Err fault) ⊎ (r ≡ Err NoMemory)
   gives_broken (Ok list) h k fault b = ok_is_err _ list.items fault (sym h ∙ breaks_answer missing (journal_form i) (words text) k fault b)
-  gives_broken (Err e) h k fault b = ⊎_elim
-      (λ met. inl (ap (λ q. Err q) (err_same e fault (sym met ∙ breaks_answer missing (journal_form i) (words text) k fault b))))
-      (λ memory. inr (ap (λ q. Err q) memory)) (fault_or_memory e (journal_answer i (words text)) h)
+  gives_broken (Err e) h k fault b = breaks e h k fault b
+
+  module _ (ls : List Placed) where
+    -- the same of what an audit finds
+    pub found_spelled : (r : Result Verdict JournalFault) → GivesVerdict i ls (words text) r → IfOk r (AuditsText i ls (words text))
+    found_spelled (Ok v) h = record { entries = h.0; spells = (reads_journals i (words text) h.0).0 h.1; found = h.2 }
+    found_spelled (Err e) h = tt
+
+    pub found_accepted : (r : Result Verdict JournalFault) → GivesVerdict i ls (words text) r → (t : List JournalEntry) → JournalSpells i (words text) t → MatchResult r (IsVerdict i ls t) (λ fault. fault ≡ NoMemory)
+    found_accepted (Ok v) h t s = subst (λ es. IsVerdict i ls es v) (ok_same {F = JournalFault} h.0 t (sym h.1 ∙ (reads_journals i (words text) t).1 s)) h.2
+    found_accepted (Err e) h t s = refuses e h t s
+
+    pub found_cause : IsUtf8 text → (r : Result Verdict JournalFault) → GivesVerdict i ls (words text) r → IfErr r (IsJournalCauseOf i text)
+    found_cause utf8 (Ok v) h = tt
+    found_cause utf8 (Err e) h = has_cause i text utf8 e h
+
+    pub found_broken : (r : Result Verdict JournalFault) → GivesVerdict i ls (words text) r → (k : ℕ) (fault : JournalFault) → JournalBreaksAt i (words text) k fault → (r ≡ Err fault) ⊎ (r ≡ Err NoMemory)
+    found_broken (Ok v) h k fault b = ok_is_err _ h.0 fault (sym h.1 ∙ breaks_answer missing (journal_form i) (words text) k fault b)
+    found_broken (Err e) h k fault b = breaks e h k fault b

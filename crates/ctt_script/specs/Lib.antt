@@ -18,3 +18,4 @@ pub mod ScriptText
 pub mod WrittenText
 pub mod WrittenWords
 pub mod Minutes
+pub mod AuditedText

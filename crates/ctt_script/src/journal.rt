@@ -28,7 +28,7 @@ use std::alloc::Global;
 
 /// The words of a call and of its reply.
 #[tactic(auto, using(crate::proofs::JournalSteps::read_bind, crate::proofs::JournalSteps::read_done), unfolding(crate::specs::JournalPlaces::asked_form))]
-fn read_asked(
+pub(crate) fn read_asked(
     alloc: Global,
     reader: &mut Reader,
     instance: &Instance,
@@ -138,7 +138,7 @@ fn read_entries(
 }
 
 /// Reads a journal from a text.
-fn read_text(
+pub(crate) fn read_text(
     alloc: Global,
     instance: &Instance,
     text: &str,

@@ -3,7 +3,7 @@
 ghost use Rattle.std.specs.Prelude.{◌≡◌};
 ghost use Rattle.ctt_script.specs.declared.journal_fault.JournalFault.TheVariants as journal_fault;
 
-use ctt_text::{FixedFault, PlaceFault, RoomFault};
+use ctt_text::{FixedFault, NoMemory, PlaceFault, RoomFault};
 use std::alloc::{AllocError, AllocFailed};
 
 /// Why a journal could not be read. A fault names a word, counted from 1, or `NotText` a byte.
@@ -23,6 +23,14 @@ impl From<AllocError> for JournalFault {
     ghost from_gives = { λ _ e. e ≡ journal_fault.NoMemory };
 
     fn from(_e: AllocError) -> JournalFault {
+        JournalFault::NoMemory
+    }
+}
+
+impl From<NoMemory> for JournalFault {
+    ghost from_gives = { λ _ e. e ≡ journal_fault.NoMemory };
+
+    fn from(_e: NoMemory) -> JournalFault {
         JournalFault::NoMemory
     }
 }

@@ -3,6 +3,7 @@
 
 mod amounts;
 mod answers;
+mod audited;
 mod calls;
 mod crew_fault;
 mod crew_run;
@@ -28,6 +29,7 @@ mod source;
 mod written;
 
 pub use answers::write_answer;
+pub use audited::audit_journal;
 pub use calls::{read_call, read_look};
 pub use crew_fault::CrewFault;
 pub use crew_run::crew;

@@ -9,3 +9,4 @@ pub mod Causes
 pub mod Desks
 pub mod Scripts
 pub mod Ends
+pub mod Audited

@@ -27,6 +27,14 @@ abbrev pub VerdictFits : Problem → Verdict → Type 0
 VerdictFits problem (verdict.BadOpening at fault) = FaultFits problem fault
 VerdictFits problem _ = Unit {0}
 
+-- of an instance, this is found of the journal in the file, on the opening with the start
+pub record FindsIn (problem : Problem) (journal : String Global) (start : Option (String Global)) (held : Held) (verdict : Verdict) : Type 0 where
+  pub entries : List JournalEntry
+  pub is_journal : Holds held journal (λ text. IsJournalText problem text entries)
+  pub lectures : List Placed
+  pub is_start : IsStart problem held start lectures
+  pub found : IsVerdict problem lectures entries verdict
+
 -- of an instance, the journal in the file is audited on the opening with the start, and the verdict is printed
 pub record AuditsOn (problem : Problem) (journal : String Global) (start : Option (String Global)) (outcome : Outcome) (held : Held) (old new : Option (List ℕ)) : Type 0 where
   pub entries : List JournalEntry

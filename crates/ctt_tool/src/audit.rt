@@ -1,22 +1,28 @@
 //! The command `audit`.
 
 ghost use Rattle.std.specs.Prelude.{◌≡◌, ◌⊎◌, ℕ, [], ◌∷◌, true, None, OnOk, IfOk, IfErr};
+ghost use Rattle.std.specs.List.{AllByRecursion as Each};
+ghost use Rattle.std.specs.Str.{IsUtf8};
+ghost use Rattle.ctt_text.specs.Timetable.{Fits};
+ghost use Rattle.ctt_text.specs.Words.{words};
 ghost use Rattle.ctt_edits.specs.declared.fault.EditFault.{EditFault};
 ghost use Rattle.ctt_core.specs.declared.auditing.Verdict.TheVariants.{BadOpening};
-ghost use Rattle.ctt_tool.specs.Audits.{AuditsJournal, AuditsOn, IsRefusedAudit, IsRefusedJournal, PrintsVerdict, VerdictFits};
+ghost use Rattle.ctt_script.specs.AuditedText.{AuditsText};
+ghost use Rattle.ctt_tool.specs.Audits.{AuditsJournal, AuditsOn, FindsIn, IsRefusedAudit, IsRefusedJournal, PrintsVerdict, VerdictFits};
 ghost use Rattle.ctt_tool.specs.Faults.{IfUnwritten, IsOfFiles, IsOfTexts, status_of};
 ghost use Rattle.ctt_tool.specs.Jobs.{given};
+ghost use Rattle.ctt_tool.specs.Texts.{IsNoJournal};
 
 use crate::fault::Fault;
-use crate::files::Files;
+use crate::files::{Files, read_file};
 use crate::opening::refused_opening;
 use crate::outcome::Outcome;
 use crate::output::print;
-use crate::texts::{fetch_instance, fetch_journal, fetch_start};
+use crate::texts::{fetch_instance, fetch_start};
 use ctt_board::{GridSheet, Sheet};
 use ctt_core::Verdict;
-use ctt_script::Sink;
-use ctt_text::Instance;
+use ctt_script::{Sink, audit_journal, read_journal};
+use ctt_text::{Instance, Placed};
 use std::alloc::Global;
 
 /// Prints a verdict, unless it is that the opening is refused.
@@ -50,8 +56,61 @@ fn print_verdict<W: Sink>(
     }
 }
 
-/// Audits the journal in a file on this kind of sheet. The file of the start is read behind that of the
-/// journal.
+/// What is found of the journal of a text.
+fn verdict_of<'i, S: Sheet<'i>>(
+    alloc: Global,
+    instance: &'i Instance,
+    lectures: &[Placed],
+    text: &[u8],
+) -> Result<Verdict, Fault>
+    requires { Each (Fits instance.now) lectures.now }
+    ensures text { OnOk result (IsUtf8 text.now) }
+    ensures found { IfOk result (AuditsText instance.now lectures.now (words text.now)) }
+    ensures fault { IfErr result IsOfTexts }
+    ensures file { IfErr result (IsOfFiles [] (λ _. None)) }
+    ensures cause { IfErr result (λ fault. status_of fault ≡ 1 → IsNoJournal instance.now text.now) }
+{
+    Ok(audit_journal::<S>(alloc, instance, lectures, text)?)
+}
+
+/// Refuses a text that is no journal.
+fn check_journal(alloc: Global, instance: &Instance, text: &[u8]) -> Result<(), Fault>
+    ensures fault { IfErr result IsOfTexts }
+    ensures file { IfErr result (IsOfFiles [] (λ _. None)) }
+    ensures cause { IfErr result (λ fault. status_of fault ≡ 1 → IsNoJournal instance.now text.now) }
+{
+    read_journal(alloc, instance, text)?;
+    Ok(())
+}
+
+/// What is found of the journal in a file, which is audited as it is read. The file of the start is read behind that of
+/// the journal, and refused behind it.
+fn fetch_verdict<'i, S: Sheet<'i>, F: Files>(
+    alloc: Global,
+    files: &mut F,
+    instance: &'i Instance,
+    journal: String,
+    start: Option<String>,
+) -> Result<Verdict, Fault>
+    ensures found { IfOk result (FindsIn instance.now journal start (F.held files.old)) }
+    ensures fits { IfOk result (VerdictFits instance.now) }
+    ensures kept { F.held files.new ≡ F.held files.old }
+    ensures fault { IfErr result IsOfTexts }
+    ensures file { IfErr result (IsOfFiles (journal ∷ given start) (F.held files.old)) }
+    ensures cause { IfErr result (λ fault. status_of fault ≡ 1
+        → IsRefusedJournal instance.now (F.held files.old) journal start) }
+{
+    let text = read_file(alloc, files, journal)?;
+    match fetch_start(alloc, files, instance, start) {
+        Ok(lectures) => verdict_of::<S>(alloc, instance, &lectures, &text),
+        Err(fault) => {
+            check_journal(alloc, instance, &text)?;
+            Err(fault)
+        }
+    }
+}
+
+/// Audits the journal in a file on this kind of sheet.
 fn audit_on<'i, S: Sheet<'i>, F: Files, W: Sink>(
     alloc: Global,
     files: &mut F,
@@ -71,9 +130,7 @@ fn audit_on<'i, S: Sheet<'i>, F: Files, W: Sink>(
     ensures cause { IfErr result (λ fault. status_of fault ≡ 1
         → IsRefusedJournal instance.now (F.held files.old) journal start) }
 {
-    let entries = fetch_journal(alloc, files, instance, journal)?;
-    let lectures = fetch_start(alloc, files, instance, start)?;
-    let verdict = ctt_core::audit::<S>(alloc, instance, &lectures, &entries)?;
+    let verdict = fetch_verdict::<S, F>(alloc, files, instance, journal, start)?;
     print_verdict(alloc, out, instance, verdict)
 }
 

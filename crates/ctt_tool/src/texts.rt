@@ -1,18 +1,15 @@
-//! Instances, solutions and journals by the names of their files.
+//! Instances and solutions by the names of their files.
 
 ghost use Rattle.std.specs.Prelude.{◌≡◌, [], ◌∷◌, IfOk, IfErr, IfSome};
 ghost use Rattle.std.specs.String.{string_bytes};
 ghost use Rattle.std.specs.List.{AllByRecursion as Each};
 ghost use Rattle.ctt_text.specs.Timetable.{Fits, IsTimetable};
-ghost use Rattle.ctt_core.specs.Entries.{EntryFits};
 ghost use Rattle.ctt_tool.specs.Faults.{IsOfFiles, IsOfTexts, status_of};
 ghost use Rattle.ctt_tool.specs.Jobs.{given};
-ghost use Rattle.ctt_tool.specs.Texts.{IsInstanceText, IsJournalText, IsNoInstance, IsNoJournal, IsNoSolution, IsNoStart, IsSolutionText, IsStart};
+ghost use Rattle.ctt_tool.specs.Texts.{IsInstanceText, IsNoInstance, IsNoSolution, IsNoStart, IsSolutionText, IsStart};
 
 use crate::fault::Fault;
 use crate::files::{Files, read_file};
-use ctt_core::JournalEntry;
-use ctt_script::read_journal;
 use ctt_text::{Instance, Placed, read_instance, read_solution};
 use std::alloc::Global;
 
@@ -73,24 +70,4 @@ pub fn fetch_start<F: Files>(
         Some(name) => fetch_solution(alloc, files, instance, name),
         None => Ok(Vec::new(alloc)),
     }
-}
-
-/// The journal that a file holds, of drafts on timetables of the instance.
-pub fn fetch_journal<F: Files>(
-    alloc: Global,
-    files: &mut F,
-    instance: &Instance,
-    name: String,
-) -> Result<Vec<JournalEntry>, Fault>
-    ensures spelled { IfOk result (λ entries. IfSome (F.held files.old (string_bytes name)) (λ text.
-        IsJournalText instance.now text entries.items)) }
-    ensures fit { IfOk result (λ entries. Each (EntryFits instance.now) entries.items) }
-    ensures kept { F.held files.new ≡ F.held files.old }
-    ensures fault { IfErr result IsOfTexts }
-    ensures file { IfErr result (IsOfFiles (name ∷ []) (F.held files.old)) }
-    ensures cause { IfErr result (λ fault. status_of fault ≡ 1
-        → IfSome (F.held files.old (string_bytes name)) (IsNoJournal instance.now)) }
-{
-    let text = read_file(alloc, files, name)?;
-    Ok(read_journal(alloc, instance, &text)?)
 }

@@ -1,9 +1,11 @@
-use Rattle.std.proofs.Common.{rules, sym, subst}
+use Rattle.std.proofs.Common.{rules, ◌≡◌, [], ap, sym, subst}
 use Rattle.std.specs.List.{AllByRecursion as Each}
+use Rattle.ctt_core.specs.Auditors.{AuditorValue}
 use Rattle.ctt_core.specs.Entries.{EntryFits}
 use Rattle.ctt_core.proofs.auditing.found_on.Goals as goal
 
-pub replay_all-requires : goal.replay_all-requires
-replay_all-requires g c κs =
-    let fits : Each (EntryFits (g.S.Rooms.problem c.in-Ok.sheet)) c.args.entries.now = subst (λ i. Each (EntryFits i) c.args.entries.now) (sym c.in-Ok.ensures.problem) c.requires.entries in
+pub run_entries-requires : goal.run_entries-requires
+run_entries-requires g c κs =
+    let fit : Each (EntryFits c.in-Ok.auditor.problem) c.args.entries.now = subst (λ i. Each (EntryFits i) c.args.entries.now) (sym (ap (λ (v : AuditorValue). v.problem) c.in-Ok.ensures.opened)) c.requires.entries in
+    let begun : c.in-Ok.auditor.asked ≡ [] = ap (λ (v : AuditorValue). v.asked) c.in-Ok.ensures.opened in
     search rules

@@ -1,5 +1,0 @@
-use Rattle.ctt_core.proofs.AuditLemmas.{Replaying}
-use Rattle.ctt_core.proofs.auditing.replay.Given as goal
-
-abbrev pub invariant-loop-at : goal.invariant-loop-at
-invariant-loop-at g l = Replaying (g.S.Rooms.problem l.initial.sheet) (g.S.Rooms.problem l.sheet) (g.S.Rooms.list l.initial.sheet) (g.S.Rooms.list l.sheet) l.asked l.at

@@ -1,5 +1,0 @@
-use Rattle.ctt_core.proofs.AuditLemmas.{Auditing}
-use Rattle.ctt_core.proofs.auditing.replay_all.Given as goal
-
-abbrev pub invariant-loop-at : goal.invariant-loop-at
-invariant-loop-at g l = Auditing (g.S.Rooms.problem l.initial.sheet) (g.S.Rooms.problem l.sheet) (g.S.Rooms.list l.initial.sheet) (g.S.Rooms.list l.sheet) l.entries l.at

@@ -1,0 +1,41 @@
+use Rattle.std.proofs.Common.{rules, ◌≡◌, [], sym, subst}
+use Rattle.std.specs.List.{AllByRecursion as Each}
+use Rattle.std.specs.String.{string_bytes}
+use Rattle.ctt_text.specs.Timetable.{Fits}
+use Rattle.ctt_tool.specs.Faults.{status_of}
+use Rattle.ctt_tool.specs.Texts.{Holds, IsNoJournal, IsStart}
+use Rattle.ctt_tool.proofs.Audited.{finds_in, finds_fit, passed_on, refused_in, told_of}
+use Rattle.ctt_tool.proofs.audit.fetch_verdict.Goals as goal
+
+pub verdict_of-requires : goal.verdict_of-requires
+verdict_of-requires g c κs =
+    let lectures : Each (Fits c.args.instance.now) c.deref.result.now = subst (Each (Fits c.args.instance.now)) (sym c.deref.ensures.value) c.in-Ok.ensures.fit in
+    search rules
+
+pub returns-in-Ok-clause-found : goal.returns-in-Ok-clause-found
+returns-in-Ok-clause-found g c =
+    let problem = c.args.instance.now in
+    let held = g.F.Files.held c.args.files.now in
+    let told : Holds held c.args.journal (λ text. c.deref-in-Ok.result.now ≡ text) = told_of (held (string_bytes c.args.journal)) c.deref-in-Ok.result.now c.in_ok-text.text.items c.deref-in-Ok.ensures.value c.in_ok-text.ensures.all in
+    let start : IsStart problem held c.args.start c.in-Ok.lectures.items = subst (λ held. IsStart problem held c.args.start c.in-Ok.lectures.items) c.in_ok-text.ensures.kept c.in-Ok.ensures.spelled in
+    finds_in problem c.deref.result.now c.deref-in-Ok.result.now c.verdict_of.result c.args.journal c.args.start held c.verdict_of.ensures.text c.verdict_of.ensures.found told
+    (subst (IsStart problem held c.args.start) (sym c.deref.ensures.value) start)
+
+pub returns-in-Ok-clause-fits : goal.returns-in-Ok-clause-fits
+returns-in-Ok-clause-fits g c =
+    let lectures : Each (Fits c.args.instance.now) c.deref.result.now = subst (Each (Fits c.args.instance.now)) (sym c.deref.ensures.value) c.in-Ok.ensures.fit in
+    finds_fit c.args.instance.now c.deref.result.now c.deref-in-Ok.result.now c.verdict_of.result lectures c.verdict_of.ensures.found
+
+pub returns-in-Ok-clause-cause : goal.returns-in-Ok-clause-cause
+returns-in-Ok-clause-cause g c =
+    let held = g.F.Files.held c.args.files.now in
+    let told : Holds held c.args.journal (λ text. c.deref-in-Ok.result.now ≡ text) = told_of (held (string_bytes c.args.journal)) c.deref-in-Ok.result.now c.in_ok-text.text.items c.deref-in-Ok.ensures.value c.in_ok-text.ensures.all in
+    refused_in c.args.instance.now c.deref.result.now c.deref-in-Ok.result.now c.verdict_of.result c.args.journal c.args.start held c.verdict_of.ensures.cause told
+
+pub returns-in_err-check_journal-in-Err-clause-cause : goal.returns-in_err-check_journal-in-Err-clause-cause
+returns-in_err-check_journal-in-Err-clause-cause g c =
+    let held = g.F.Files.held c.args.files.now in
+    let bytes = c.deref-in-Err.result.now in
+    let told : Holds held c.args.journal (λ text. bytes ≡ text) = told_of (held (string_bytes c.args.journal)) bytes c.in_ok-text.text.items c.deref-in-Err.ensures.value c.in_ok-text.ensures.all in
+    refused_in c.args.instance.now [] bytes c.from_residual-in_err-check_journal-in-Err.result c.args.journal c.args.start held
+    (passed_on c.from_residual-in_err-check_journal-in-Err.result c.in_err-check_journal-in-Err.field-0.0 (λ fault. status_of fault ≡ 1 → IsNoJournal c.args.instance.now bytes) c.from_residual-in_err-check_journal-in-Err.ensures.1 c.in_err-check_journal-in-Err.ensures.cause) told
