@@ -20,7 +20,7 @@ use crate::journal::JournalEntry;
 use crate::opening::placed;
 use crate::planner::PlannerNo;
 use ctt_board::{Rooms, Sheet, Timetable};
-use ctt_draft::{Asked, GhostList, Tells};
+use ctt_draft::{Asked, GhostList, Itself, Tells};
 use ctt_edits::{Call, Edit, EditFault, Reply, check};
 use ctt_text::{Instance, NoMemory, Placed};
 use std::alloc::Global;
@@ -106,13 +106,6 @@ fn found_with(found: Verdict, entry: u64, differs: Option<u64>) -> Verdict
         },
         _ => found,
     }
-}
-
-/// A call with its reply tells of itself.
-struct Itself;
-
-impl Tells<Asked, Asked> for Itself {
-    ghost element = { λ asked. asked };
 }
 
 /// An entry that ends: whose it is, and its calls.

@@ -30,6 +30,13 @@ pub trait Tells<X, E> {
     ghost element: { X → E };
 }
 
+/// An element tells of itself.
+pub struct Itself;
+
+impl<E> Tells<E, E> for Itself {
+    ghost element = { λ e. e };
+}
+
 /// A list that contracts see. It has no bytes, and nothing can be read from it.
 #[derive(Drop)]
 pub struct GhostList<E> {

@@ -17,7 +17,7 @@ mod work;
 
 pub use asked::{Asked, AskedCalls};
 pub use draft::Draft;
-pub use ghost_list::{GhostList, Tells};
+pub use ghost_list::{GhostList, Itself, Tells};
 pub use idle::Idle;
 pub use log::{KeepAll, KeepNone, Keeping, Log};
 pub use remains::Remains;

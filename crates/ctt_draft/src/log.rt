@@ -2,7 +2,7 @@
 
 ghost use Rattle.std.specs.Prelude.{◌≡◌, Bool, true, false, [], ◌∷◌, ◌++◌, length, OnOk, OnErr};
 
-use crate::ghost_list::{GhostList, Tells};
+use crate::ghost_list::{GhostList, Itself, Tells};
 use std::alloc::{AllocError, Global};
 use std::marker::{Model, PhantomData};
 
@@ -61,13 +61,6 @@ impl<E, K: Keeping> Model for Log<E, K> {
     ghost view = { λ l. record { list = l.all; has_room = has_room K.keeps l.len (vec_len l.kept) (vec_capacity l.kept) } };
 
     ghost invariant = { λ l. IsLog K.keeps l.kept.items l.len l.all };
-}
-
-/// An element tells of itself.
-struct Itself;
-
-impl<E> Tells<E, E> for Itself {
-    ghost element = { λ e. e };
 }
 
 impl<E: Drop, K: Keeping> Log<E, K> {
