@@ -10,40 +10,41 @@ trap 'rm -rf -- "$room"' EXIT
 cat >"$room/refuse.c" <<'C'
 #define _GNU_SOURCE
 #include <dlfcn.h>
-#include <stdio.h>
+#include <fcntl.h>
 #include <stdlib.h>
+#include <sys/mman.h>
+#include <unistd.h>
 
-static long asked, number;
+static long own, number;
+/* how many requests there were: in a file, since the program may end without a word to the C library */
+static long *asked = &own;
 static int later;
 static void *(*next_malloc)(size_t);
 static void *(*next_realloc)(void *, size_t);
 
 __attribute__((constructor)) static void begin(void) {
+    const char *name = getenv("ASKED");
     next_malloc = dlsym(RTLD_NEXT, "malloc");
     next_realloc = dlsym(RTLD_NEXT, "realloc");
     number = getenv("REFUSE") ? atol(getenv("REFUSE")) : 0;
     later = getenv("REFUSE_LATER") != 0;
-    asked = 0;
+    if (name) {
+        int file = open(name, O_RDWR | O_CREAT | O_TRUNC, 0600);
+        if (file >= 0 && ftruncate(file, sizeof own) == 0) {
+            void *shared = mmap(0, sizeof own, PROT_READ | PROT_WRITE, MAP_SHARED, file, 0);
+            asked = shared == MAP_FAILED ? &own : shared;
+        }
+    }
+    *asked = 0;
 }
 
 static int refused(void) {
-    asked++;
-    return number > 0 && (later ? asked >= number : asked == number);
+    ++*asked;
+    return number > 0 && (later ? *asked >= number : *asked == number);
 }
 
 void *malloc(size_t size) { return next_malloc && refused() ? 0 : next_malloc ? next_malloc(size) : 0; }
 void *realloc(void *old, size_t size) { return refused() ? 0 : next_realloc(old, size); }
-
-__attribute__((destructor)) static void end(void) {
-    const char *name = getenv("ASKED");
-    long all = asked;
-    number = 0;
-    FILE *file = name ? fopen(name, "w") : 0;
-    if (file) {
-        fprintf(file, "%ld\n", all);
-        fclose(file);
-    }
-}
 C
 cc -O1 -shared -fPIC -o "$room/refuse.so" "$room/refuse.c" -ldl || exit 1
 cp -- "$here"/examples/*.ctt "$here"/examples/*.sol "$here"/examples/*.txt "$room"
@@ -58,8 +59,9 @@ for words in 'check small.ctt s.sol' 'check small.ctt s.sol --json' 'check comp0
     --help frobnicate; do
     LD_PRELOAD=$room/refuse.so ASKED=$room/asked "$program" $words >out 2>err
     wanted=$?
+    asked=$(od -An -t d8 asked)
     for later in '' REFUSE_LATER=1; do
-        for ((number = 1; number <= $(<asked); number++)); do
+        for ((number = 1; number <= asked; number++)); do
             rm -f journal
             env LD_PRELOAD="$room/refuse.so" REFUSE=$number $later "$program" $words >out.now 2>err.now
             status=$?
