@@ -106,11 +106,11 @@ impl Tables {
         ensures list { listed instance.now self.new.rooms ≡ without lecture.now.course lecture.now.slot (listed instance.now self.old.rooms) }
     {
         instance.limits_hold();
-        self.counts.take(instance, lecture);
         let none = Compact::none();
         let course = lecture.course.get() as usize;
         let slot = lecture.slot.get() as usize;
         self.rooms.set(course, slot, none);
+        self.counts.take(instance, lecture);
         let room = lecture.room.get() as usize;
         self.courses.set(slot, room, none);
         leave(&mut self.standing, lecture.course, lecture.slot);
