@@ -139,6 +139,7 @@ impl Tables {
     }
 
     /// Makes a change.
+    #[inline(always)]
     pub(crate) fn apply(&mut self, instance: &Instance, change: &Change)
         requires tables { AreTables instance.now self.old }
         requires fits { ChangeFits instance.now change.now (listed instance.now self.old.rooms) }
