@@ -7,7 +7,7 @@ ghost use Rattle.ctt_board.specs.Counts.{AreCounts, HaveSizes, HaveRoom, HaveNon
 
 use crate::bits::Bits;
 use crate::table::Table;
-use crate::tally::{add, add_column, take, take_column};
+use crate::tally::{add, add_column, add_one, take, take_column, take_one};
 use ctt_text::{CourseNo, Instance, Placed, SlotNo};
 use std::alloc::{AllocError, Global};
 
@@ -70,10 +70,9 @@ impl Counts {
         instance.limits_hold();
         let course = lecture.course.get() as usize;
         let day = instance.day_of(lecture.slot) as usize;
-        let is_new = self.days.get(course, day) == 0;
+        let before = add_one(&mut self.days, course, day);
         add(&mut self.lectures, 0, course, true);
-        add(&mut self.days, course, day, true);
-        add(&mut self.used, 0, course, is_new);
+        add(&mut self.used, 0, course, before == 0);
         add(&mut self.rooms, course, lecture.room.get() as usize, true);
         let curricula = instance.curricula_of(lecture.course);
         add_column(&mut self.parts, curricula, lecture.slot.get() as usize);
@@ -90,10 +89,9 @@ impl Counts {
         instance.limits_hold();
         let course = lecture.course.get() as usize;
         let day = instance.day_of(lecture.slot) as usize;
+        let left = take_one(&mut self.days, course, day);
         take(&mut self.lectures, 0, course, true);
-        take(&mut self.days, course, day, true);
-        let was_new = self.days.get(course, day) == 0;
-        take(&mut self.used, 0, course, was_new);
+        take(&mut self.used, 0, course, left == 0);
         take(&mut self.rooms, course, lecture.room.get() as usize, true);
         let curricula = instance.curricula_of(lecture.course);
         take_column(&mut self.parts, curricula, lecture.slot.get() as usize);

@@ -115,6 +115,7 @@ fn met(instance: &Instance, parts: &Bits, part: CurriculumNo, window: &Window) -
 }
 
 /// What these curricula together cost more and less where a lecture of each goes elsewhere.
+#[inline(always)]
 fn meet_both(
     instance: &Instance,
     parts: &Bits,

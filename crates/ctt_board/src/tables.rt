@@ -106,11 +106,11 @@ impl Tables {
         ensures list { listed instance.now self.new.rooms ≡ without lecture.now.course lecture.now.slot (listed instance.now self.old.rooms) }
     {
         instance.limits_hold();
-        self.counts.take(instance, lecture);
         let none = Compact::none();
         let course = lecture.course.get() as usize;
         let slot = lecture.slot.get() as usize;
         self.rooms.set(course, slot, none);
+        self.counts.take(instance, lecture);
         let room = lecture.room.get() as usize;
         self.courses.set(slot, room, none);
         leave(&mut self.standing, lecture.course, lecture.slot);
@@ -139,6 +139,7 @@ impl Tables {
     }
 
     /// Makes a change.
+    #[inline(always)]
     pub(crate) fn apply(&mut self, instance: &Instance, change: &Change)
         requires tables { AreTables instance.now self.old }
         requires fits { ChangeFits instance.now change.now (listed instance.now self.old.rooms) }

@@ -8,6 +8,32 @@ use crate::bits::Bits;
 use crate::table::Table;
 use ctt_text::CurriculumNo;
 
+/// Counts one more at a place. Answers how many were there.
+pub(crate) fn add_one(counts: &mut Table<u16>, row: usize, column: usize) -> u16
+    requires row { row < counts.old.rows }
+    requires column { column < counts.old.width }
+    requires few { at counts.old row column 0 ≤ 65534 }
+    ensures adds { Adds counts.old counts.new (one_at true row column) }
+    ensures value { result ≡ at counts.old row column 0 }
+{
+    let count = counts.get(row, column);
+    counts.set(row, column, count + 1);
+    count
+}
+
+/// Counts one less at a place. Answers how many are left there.
+pub(crate) fn take_one(counts: &mut Table<u16>, row: usize, column: usize) -> u16
+    requires row { row < counts.old.rows }
+    requires column { column < counts.old.width }
+    requires some { 1 ≤ at counts.old row column 0 }
+    ensures adds { Adds counts.new counts.old (one_at true row column) }
+    ensures value { result ≡ at counts.new row column 0 }
+{
+    let left = counts.get(row, column) - 1;
+    counts.set(row, column, left);
+    left
+}
+
 /// Counts one more at a place, if it is wanted.
 pub(crate) fn add(counts: &mut Table<u16>, row: usize, column: usize, wanted: bool)
     requires row { row < counts.old.rows }
