@@ -83,7 +83,8 @@ impl<E: Drop, K: Keeping> Log<E, K> {
         self.len
     }
 
-    /// Makes room for one more, and at first for so many.
+    /// Makes room for one more, and at first for so many. It fails where memory is wanted, or where the length
+    /// could not be counted any more; the list is as it was.
     pub fn reserve(&mut self, first: usize) -> Result<(), AllocError>
         ensures list { self.new.list ≡ self.old.list }
         ensures room { OnOk result (self.new.has_room ≡ true) }

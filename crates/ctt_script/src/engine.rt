@@ -165,7 +165,8 @@ fn answer_lines<'i, S: Sheet<'i>, K: Keeping, W: Sink>(
 /// which begin blank for 64 planners and are then those of the desk.
 ///
 /// The script is read whole before anything is written, and it is not read where the opening is
-/// refused. Where a write fails, or memory is wanted, a front of the answers may have been written.
+/// refused. Where a write fails, or memory is wanted, a front of the answers may have been written, and the
+/// minutes are not to be used.
 pub fn run_script<'i, S: Sheet<'i>, K: Keeping, R: Source, W: Sink>(
     alloc: Global,
     instance: &'i Instance,
