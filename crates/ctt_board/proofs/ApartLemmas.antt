@@ -1,5 +1,5 @@
 -- By how much the costs change where lectures go elsewhere: two whose courses share no curriculum, each by itself.
-use Rattle.std.proofs.Common.{◌≡◌, ℕ, ◌<◌, Bool, true, false, cond, ◌&&◌, ◌==◌, List, [], ◌∷◌, length, Some, None, is_some, refl, ◌∙◌, sym, ap, subst, arith}
+use Rattle.std.proofs.Common.{◌≡◌, ℕ, ◌<◌, Bool, true, false, cond, ◌&&◌, ◌==◌, List, length, Some, None, is_some, refl, ◌∙◌, sym, ap, subst, arith}
 use Rattle.std.specs.List.{count_by}
 use Rattle.std.proofs.lemmas.List.Sums.{length-filter}
 use Rattle.ctt_text.specs.Belonging.{curricula_of}
@@ -9,7 +9,7 @@ use Rattle.ctt_text.specs.Timetable.{Fits, course_row, with, without}
 use Rattle.ctt_text.specs.declared.placed.Placed.{Placed}
 use Rattle.ctt_rules.specs.Hard.{Lawful}
 use Rattle.ctt_rules.specs.Penalty.{penalty, days_of}
-use Rattle.ctt_board.specs.Changes.{room_at, cell, ChangeFits}
+use Rattle.ctt_board.specs.Changes.{room_at, cell, steps_of, cells_of, ChangeFits}
 use Rattle.ctt_board.specs.Joining.{IsMore, AreApart, IsFree, Joins, on_day, in_room, in_slot, by_slot, stands_alone, alone_beside, joining}
 use Rattle.ctt_board.specs.Shifts.{Shifts, both_shifts, shift_of}
 use Rattle.ctt_board.specs.declared.cell.Cell.{Cell}
@@ -57,12 +57,8 @@ module _ (i : Problem) (l m : Placed) (t u : List Placed) (more : IsMore l t u) 
       rw (same_day (day_of i m.slot), same_days, same_length, same_room m.room, alone, company) refl
 
 -- at most one in the slot with the one that comes, so none before it comes
-none_yet : (i : Problem) (x : Placed) (a : List Placed) → Lawful i (with x a) → IsFree i a x
+pub none_yet : (i : Problem) (x : Placed) (a : List Placed) → Lawful i (with x a) → IsFree i a x
 none_yet i x a after q known y = omega (arith, one_there i (with x a) q x.slot after known, counted_more x a (with x a) (more_with x a) (in_slot (members i q) x.slot), ap (λ b. cond {A = ℕ} b 1 0) (mine i x q y))
-
--- the cells by which l goes to m
-abbrev pub steps_of : (l m : Placed) → List Cell
-steps_of l m = cell l.course l.slot None ∷ cell m.course m.slot (Some m.room) ∷ []
 
 module _ (i : Problem) (t : List Placed) (l m : Placed) (h : Lawful i t) (fits : ChangeFits i (steps_of l m) t) (there : room_at l.course l.slot t ≡ Some l.room) where
   abbrev left : List Placed
@@ -97,11 +93,7 @@ in_pairs i t t1 t2 t3 t4 a b x y ja jb jx jy = record {
   stability = omega (arith, ja.stability, jb.stability, jx.stability, jy.stability);
 }
 
--- the cells by which l goes to l', and m to m'
-abbrev pub cells_of : (l m l' m' : Placed) → List Cell
-cells_of l m l' m' = cell l.course l.slot None ∷ cell m.course m.slot None ∷ cell l'.course l'.slot (Some l'.room) ∷ cell m'.course m'.slot (Some m'.room) ∷ []
-
--- they fit, and the courses do not clash
+-- two lectures that go elsewhere by cells that fit, and the courses do not clash
 pub record Exchange (i : Problem) (t : List Placed) (l m l' m' : Placed) : Type 0 where
   pub lawful : Lawful i t
   pub fits : ChangeFits i (cells_of l m l' m') t
@@ -116,16 +108,16 @@ module _ (i : Problem) (t : List Placed) (l m l' m' : Placed) where
   abbrev cells : List Cell
   cells = cells_of l m l' m'
 
-  abbrev t1 : List Placed
+  abbrev pub t1 : List Placed
   t1 = without l.course l.slot t
 
-  abbrev t2 : List Placed
+  abbrev pub t2 : List Placed
   t2 = without m.course m.slot t1
 
-  abbrev t3 : List Placed
+  abbrev pub t3 : List Placed
   t3 = with l' t2
 
-  abbrev t4 : List Placed
+  abbrev pub t4 : List Placed
   t4 = with m' t3
 
   abbrev u : List Placed
@@ -144,22 +136,22 @@ module _ (i : Problem) (t : List Placed) (l m l' m' : Placed) where
     other_apart : (c d : ℕ) → c ≡ m.course → d ≡ l.course → AreApart i c d
     other_apart c d ec ed = rw (ec, ed) (are_apart i m.course l.course (eqb_comm m.course l.course ∙ x.differ) (clash_comm i m.course l.course ∙ x.clear))
 
-    lawful1 : Lawful i t1
+    pub lawful1 : Lawful i t1
     lawful1 = without_lawful i t l.course l.slot h
 
-    lawful2 : Lawful i t2
+    pub lawful2 : Lawful i t2
     lawful2 = without_lawful i t1 m.course m.slot lawful1
 
-    lawful3 : Lawful i t3
+    pub lawful3 : Lawful i t3
     lawful3 = (on_the_way i cells t 3 (cell m'.course m'.slot (Some m'.room)) (omega arith) refl h refl change_fits.cells_fit change_fits.lawful).now
 
-    also1 : room_at m.course m.slot t1 ≡ Some m.room
+    pub also1 : room_at m.course m.slot t1 ≡ Some m.room
     also1 = room_after l.course l.slot None m.course m.slot t (ap is_some x.there) ∙ ap (λ b. cond (b && l.slot == m.slot) None (room_at m.course m.slot t)) x.differ ∙ x.also
 
-    fits_l : Fits i l
+    pub fits_l : Fits i l
     fits_l = there_fits i l.course l.slot l.room t h x.there
 
-    fits_m : Fits i m
+    pub fits_m : Fits i m
     fits_m = there_fits i m.course m.slot m.room t h x.also
 
     pub first_fits : Fits i l'
@@ -168,10 +160,10 @@ module _ (i : Problem) (t : List Placed) (l m l' m' : Placed) where
     pub other_fits : Fits i m'
     other_fits = comes_fits i m' t3 change_fits.lawful
 
-    more_l : IsMore l t1 t
+    pub more_l : IsMore l t1 t
     more_l = more_without l.course l.slot l.room t h.timetable.ascending x.there
 
-    more_m : IsMore m t2 t1
+    pub more_m : IsMore m t2 t1
     more_m = more_without m.course m.slot m.room t1 lawful1.timetable.ascending also1
 
     more_u : IsMore m u t

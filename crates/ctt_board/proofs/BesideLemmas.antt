@@ -124,12 +124,12 @@ module _ (i : Problem) (v : Later) (q s : ℕ) (far : StandApart v s) where
           ]
 
 -- bits of one word
-module _ (rows width row column : ℕ) (words : List ℕ) (less : row < rows) (lt : column < width) (are : AreBits (rows * width) words) where
+module _ (rows width stride row column : ℕ) (words : List ℕ) (less : row < rows) (lt : column < width) (are : AreBits rows width stride words) where
   -- the place k of the word of another place is the bit of a column
-  pub bit_near : (w column2 k : ℕ) → column2 < width → w ≡ get_or words ((row * width + column) / 64) 0 → (row * width + column2) / 64 ≡ (row * width + column) / 64
-      → (row * width + column2) % 64 ≡ k → bit_and (w / 2 ^ k) 1 ≡ at (table rows width words) row column2 0
+  pub bit_near : (w column2 k : ℕ) → column2 < width → w ≡ get_or words (row * stride + (column + 2) / 64) 0 → (column2 + 2) / 64 ≡ (column + 2) / 64
+      → (column2 + 2) % 64 ≡ k → bit_and (w / 2 ^ k) 1 ≡ at (table rows width stride words) row column2 0
   bit_near w column2 k lt2 is word place =
-      ap (λ n. bit_and (w / 2 ^ n) 1) (sym place) ∙ read_bit rows width row column2 words less lt2 are w (is ∙ ap (λ n. get_or words n 0) (sym word))
+      ap (λ n. bit_and (w / 2 ^ n) 1) (sym place) ∙ read_bit rows width stride row column2 words less lt2 are w (is ∙ ap (λ n. get_or words (row * stride + n) 0) (sym word))
 
 -- places in the word of another place
 pub near_back : (m k : ℕ) → k ≤ m % 64 → ((m - k) / 64 ≡ m / 64) × ((m - k) % 64 ≡ m % 64 - k)
@@ -139,12 +139,12 @@ pub near_ahead : (m k : ℕ) → m % 64 + k < 64 → ((m + k) / 64 ≡ m / 64) �
 near_ahead m k lt = (omega (arith, lt), omega (arith, lt))
 
 -- the four bits about a place, of which all are in its word
-module _ (rows width row column : ℕ) (words : List ℕ) (less : row < rows) (lt : column < width) (are : AreBits (rows * width) words) where
+module _ (rows width stride row column : ℕ) (words : List ℕ) (less : row < rows) (lt : column < width) (are : AreBits rows width stride words) where
   abbrev place : ℕ
-  place = (row * width + column) % 64
+  place = (column + 2) % 64
 
-  pub word_beside : (w : ℕ) → w ≡ get_or words ((row * width + column) / 64) 0 → 2 ≤ (row * width + column) % 64 → (row * width + column) % 64 ≤ 61
-      → AreBeside (table rows width words) row column (beside_of (w / 2 ^ ((row * width + column) % 64 - 2)))
+  pub word_beside : (w : ℕ) → w ≡ get_or words (row * stride + (column + 2) / 64) 0 → 2 ≤ (column + 2) % 64 → (column + 2) % 64 ≤ 61
+      → AreBeside (table rows width stride words) row column (beside_of (w / 2 ^ ((column + 2) % 64 - 2)))
   word_beside w is low high = record {
     earlier = λ le. shifted 0 (place - 2) (omega (arith, low)) ∙ back 2 le (omega (arith, low));
     before = λ le. shifted 1 (place - 1) (omega (arith, low)) ∙ back 1 le (omega (arith, low));
@@ -159,17 +159,17 @@ module _ (rows width row column : ℕ) (words : List ℕ) (less : row < rows) (l
       shifted : (k j : ℕ) → (place - 2) + k ≡ j → bit_at (w / 2 ^ (place - 2)) k ≡ bit_and (w / 2 ^ j) 1
       shifted k j e = ap (λ n. n % 2) (shr-shr w (place - 2) k) ∙ sym (shr_and_one w ((place - 2) + k)) ∙ ap (λ n. bit_and (w / 2 ^ n) 1) e
 
-      back : (k : ℕ) → k ≤ column → k ≤ (row * width + column) % 64 → bit_and (w / 2 ^ ((row * width + column) % 64 - k)) 1 ≡ at (table rows width words) row (column - k) 0
+      back : (k : ℕ) → k ≤ column → k ≤ (column + 2) % 64 → bit_and (w / 2 ^ ((column + 2) % 64 - k)) 1 ≡ at (table rows width stride words) row (column - k) 0
       back k le there =
-          let place : row * width + (column - k) ≡ (row * width + column) - k = omega (arith, le) in
-          let parts = near_back (row * width + column) k there in
-          bit_near rows width row column words less lt are w (column - k) ((row * width + column) % 64 - k) (omega (arith, lt)) is (ap (λ n. n / 64) place ∙ parts.0) (ap (λ n. n % 64) place ∙ parts.1)
+          let place : (column - k) + 2 ≡ (column + 2) - k = omega (arith, le) in
+          let parts = near_back (column + 2) k there in
+          bit_near rows width stride row column words less lt are w (column - k) ((column + 2) % 64 - k) (omega (arith, lt)) is (ap (λ n. n / 64) place ∙ parts.0) (ap (λ n. n % 64) place ∙ parts.1)
 
-      ahead : (k : ℕ) → column + k < width → (row * width + column) % 64 + k < 64 → bit_and (w / 2 ^ ((row * width + column) % 64 + k)) 1 ≡ at (table rows width words) row (column + k) 0
+      ahead : (k : ℕ) → column + k < width → (column + 2) % 64 + k < 64 → bit_and (w / 2 ^ ((column + 2) % 64 + k)) 1 ≡ at (table rows width stride words) row (column + k) 0
       ahead k more there =
-          let place : row * width + (column + k) ≡ (row * width + column) + k = omega arith in
-          let parts = near_ahead (row * width + column) k there in
-          bit_near rows width row column words less lt are w (column + k) ((row * width + column) % 64 + k) more is (ap (λ n. n / 64) place ∙ parts.0) (ap (λ n. n % 64) place ∙ parts.1)
+          let place : (column + k) + 2 ≡ (column + 2) + k = omega arith in
+          let parts = near_ahead (column + 2) k there in
+          bit_near rows width stride row column words less lt are w (column + k) ((column + 2) % 64 + k) more is (ap (λ n. n / 64) place ∙ parts.0) (ap (λ n. n % 64) place ∙ parts.1)
 
 -- the bits of a number that is put together of them
 pub five_bits : (e b a l : ℕ) → e ≤ 1 → b ≤ 1 → a ≤ 1 → l ≤ 1
@@ -220,3 +220,10 @@ company_bits n lt = eqb-true _ _ (passed (λ k. bit_and (1157442766840860688 / 2
 
 pub company_few : (n : ℕ) → n < 32 → bit_and (1157442766840860688 / 2 ^ (2 * n)) 3 ≤ 2
 company_few n lt = omega (arith, eqb-true _ _ (passed (λ k. bit_and (1157442766840860688 / 2 ^ (2 * k)) 3 - 2 == 0) 32 n refl lt))
+
+-- what a lecture does, in one word
+abbrev pub words_met : List ℕ
+words_met = 4294967296 ∷ 4294967296 ∷ 1 ∷ 0 ∷ 4294967296 ∷ 4294967296 ∷ 1 ∷ 0 ∷ 1 ∷ 1 ∷ 2 ∷ 1 ∷ 1 ∷ 1 ∷ 2 ∷ 1 ∷ 4294967296 ∷ 4294967296 ∷ 1 ∷ 0 ∷ 4294967296 ∷ 4294967296 ∷ 1 ∷ 0 ∷ 0 ∷ 0 ∷ 1 ∷ 0 ∷ 0 ∷ 0 ∷ 1 ∷ 0 ∷ []
+
+pub met_bits : (n : ℕ) → n < 32 → get_or words_met n 0 ≡ 4294967296 * cond (ltb 0 (bit_at n 1 + bit_at n 3)) 0 1 + (cond (ltb 0 (bit_at n 0)) 0 (bit_at n 1) + cond (ltb 0 (bit_at n 4)) 0 (bit_at n 3))
+met_bits n lt = eqb-true _ _ (passed (λ k. get_or words_met k 0 == 4294967296 * cond (ltb 0 (bit_at k 1 + bit_at k 3)) 0 1 + (cond (ltb 0 (bit_at k 0)) 0 (bit_at k 1) + cond (ltb 0 (bit_at k 4)) 0 (bit_at k 3))) 32 n refl lt)

@@ -20,7 +20,7 @@ use Rattle.ctt_board.proofs.CountedLemmas.{counted_more, days_counted}
 use Rattle.ctt_board.proofs.JoiningLemmas.{more_days, same_used, at_least}
 
 -- each of the numbers that pass stands once among them
-named_once : (p : ℕ → Bool) (r n : ℕ) → count_by (λ q. q == r) (below p n) ≡ cond (p r && ltb r n) 1 0
+pub named_once : (p : ℕ → Bool) (r n : ℕ) → count_by (λ q. q == r) (below p n) ≡ cond (p r && ltb r n) 1 0
 named_once p r zero = rw (le-ltb r 0 (omega arith)) (by (p r))
   where
     by : (b : Bool) → ◌≡◌ {A = ℕ} 0 (cond (b && false) 1 0)
@@ -60,19 +60,19 @@ counted_down a b w f g rows width adds e h = record {
 }
 
 module _ (i : Problem) (l : Placed) (t u : List Placed) (more : IsMore l t u) (fits : Fits i l) where
-  lectures_step : (r k : ℕ) → r < 1 → length (course_row k u) ≡ one_at true 0 l.course r k + length (course_row k t)
+  pub lectures_step : (r k : ℕ) → r < 1 → length (course_row k u) ≡ one_at true 0 l.course r k + length (course_row k t)
   lectures_step r k lr = length-filter (λ x. x.course == k) u ∙ counted_more l t u more (λ x. x.course == k) ∙ ap₂ (λ b n. cond b 1 0 + n) test (sym (length-filter (λ x. x.course == k) t))
     where
       test : (l.course == k) ≡ (true && (r == 0 && k == l.course))
       test = grind (arith, nat_tests)
 
-  days_step : (r k : ℕ) → count_by (on_day i r k) u ≡ one_at true l.course (day_of i l.slot) r k + count_by (on_day i r k) t
+  pub days_step : (r k : ℕ) → count_by (on_day i r k) u ≡ one_at true l.course (day_of i l.slot) r k + count_by (on_day i r k) t
   days_step r k = counted_more l t u more (on_day i r k) ∙ ap (λ b. cond b 1 0 + count_by (on_day i r k) t) test
     where
       test : (l.course == r && day_of i l.slot == k) ≡ (true && (r == l.course && k == day_of i l.slot))
       test = grind (arith, nat_tests)
 
-  rooms_step : (r k : ℕ) → count_by (in_room r k) u ≡ one_at true l.course l.room r k + count_by (in_room r k) t
+  pub rooms_step : (r k : ℕ) → count_by (in_room r k) u ≡ one_at true l.course l.room r k + count_by (in_room r k) t
   rooms_step r k = counted_more l t u more (in_room r k) ∙ ap (λ b. cond b 1 0 + count_by (in_room r k) t) test
     where
       test : (l.course == r && l.room == k) ≡ (true && (r == l.course && k == l.room))
@@ -96,7 +96,7 @@ module _ (i : Problem) (l : Placed) (t u : List Placed) (more : IsMore l t u) (f
       none true false n = omega arith
       none false b n = omega arith
 
-  parts_step : (r k : ℕ) → r < curriculum_count i → count_by (in_slot (members i r) k) u ≡ in_column (curricula_of i l.course) l.slot r k + count_by (in_slot (members i r) k) t
+  pub parts_step : (r k : ℕ) → r < curriculum_count i → count_by (in_slot (members i r) k) u ≡ in_column (curricula_of i l.course) l.slot r k + count_by (in_slot (members i r) k) t
   parts_step r k lr = counted_more l t u more (in_slot (members i r) k) ∙ ap (λ n. n + count_by (in_slot (members i r) k) t) (by (has l.course (members i r)) (named_once (λ q. has l.course (members i q)) r (curriculum_count i)))
     where
       turned : (l.slot == k) ≡ (k == l.slot)

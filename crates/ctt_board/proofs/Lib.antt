@@ -34,3 +34,6 @@ mod WindowLemmas
 mod MovedLemmas
 mod ClashLemmas
 pub mod SameLemmas
+mod FilledLemmas
+pub mod RelocatedLemmas
+pub mod ExchangedLemmas

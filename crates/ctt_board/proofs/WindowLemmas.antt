@@ -1,22 +1,23 @@
 -- The lectures about a slot that are read from the table, without one that leaves another slot.
-use Rattle.std.proofs.Common.{◌≡◌, ◌≢◌, ℕ, zero, suc, min, ◌+◌, ◌-◌, ◌*◌, ◌%◌, ◌^◌, ◌<◌, ◌≤◌, Bool, true, false, not, ◌&&◌, cond, ◌==◌, ltb, ◌⊎◌, refl, ◌∙◌, sym, ap, subst, arith, w64, inl, inr}
+use Rattle.std.proofs.Common.{◌≡◌, ◌≢◌, ℕ, zero, suc, min, get_or, ap₂, ◌+◌, ◌-◌, ◌*◌, ◌%◌, ◌^◌, ◌<◌, ◌≤◌, Bool, true, false, not, ◌&&◌, cond, ◌==◌, ltb, ◌⊎◌, refl, ◌∙◌, sym, ap, subst, arith, w64, inl, inr}
 use Rattle.std.specs.Prelude.{bit_and}
 use Rattle.std.specs.Int.{bit_at, bit_not}
 use Rattle.std.proofs.lemmas.Bool.{cases_lt, lt-ltb, le-ltb, eq-eqb, eqb-true}
 use Rattle.std.proofs.lemmas.Bool.Decides.{nat_tests}
+use Rattle.std.proofs.lemmas.Nat.{and_le_r}
 use Rattle.std.proofs.lemmas.Nat.Bits.{bit_at-lt, bit_at_and, bit_at_clear_same, bit_at_clear_other}
 use Rattle.ctt_text.proofs.TableLemmas.{bool_case}
 use Rattle.ctt_text.specs.Problem.{Problem, slot_count, period_of}
 use Rattle.ctt_board.specs.Beside.{IsBeside, AreBeside, beside_of, near_of, near_in}
 use Rattle.ctt_board.specs.Seen.{seen_part, StandApart}
-use Rattle.ctt_board.specs.Joining.{count_before, count_after}
+use Rattle.ctt_board.specs.Joining.{count_before, count_after, stands_alone, alone_beside}
 use Rattle.ctt_board.specs.Moving.{part_without, IsSpot, IsWindow}
 use Rattle.ctt_board.specs.Tables.{Grid, at}
 use Rattle.ctt_board.specs.declared.beside.Beside.{Beside}
 use Rattle.ctt_board.specs.declared.later.Later.{Later}
 use Rattle.ctt_board.specs.declared.moving.Spot.{Spot}
 use Rattle.ctt_board.specs.declared.moving.Window.{Window}
-use Rattle.ctt_board.proofs.BesideLemmas.{five_bits, read_beside}
+use Rattle.ctt_board.proofs.BesideLemmas.{five_bits, read_beside, alone_is, company_is, company_bits, company_few, met_bits, words_met}
 use Rattle.ctt_board.proofs.SlotFacts.{later_slot, earlier_fits, next_slot, period_after, period_before}
 
 -- a bit that is not counted where it leaves
@@ -198,3 +199,20 @@ cleared near here there k low high lt = elim (eq_or (there + 2) (here + k)) [
 
     other : (there + 2 == here + k) ≡ false → k ≢ (there + 2) - here
     other ne e = grind (arith, nat_tests, ne, e, low)
+
+-- what a lecture does to a curriculum, in one word
+module _ (i : Problem) (g : Grid ℕ) (q : ℕ) (w : Window) (x : ℕ) (lt : w.slot < slot_count i) (width : g.width ≡ slot_count i) (is : IsWindow i w) (h : AreBeside g q w.slot (beside_of x)) (own : part_without i g w.gone q w.slot ≡ 0) where
+  seen_few : bit_and x w.near < 32
+  seen_few = omega (arith, and_le_r x w.near, is.few)
+
+  stands : cond (ltb 0 (bit_at (bit_and x w.near) 1 + bit_at (bit_and x w.near) 3)) 0 1 ≡ stands_alone i (part_without i g w.gone q) w.slot
+  stands = alone_is i (part_without i g w.gone q) w.slot (beside_of (bit_and x w.near)) own (window_beside i g q w x lt width is h)
+
+  company : cond (ltb 0 (bit_at (bit_and x w.near) 0)) 0 (bit_at (bit_and x w.near) 1) + cond (ltb 0 (bit_at (bit_and x w.near) 4)) 0 (bit_at (bit_and x w.near) 3) ≡ alone_beside i (part_without i g w.gone q) w.slot
+  company = company_is i (part_without i g w.gone q) w.slot (beside_of (bit_and x w.near)) own (window_beside i g q w x lt width is h)
+
+  pub met_word : get_or words_met (bit_and x w.near) 0 ≡ 4294967296 * stands_alone i (part_without i g w.gone q) w.slot + alone_beside i (part_without i g w.gone q) w.slot
+  met_word = met_bits (bit_and x w.near) seen_few ∙ ap₂ (λ a b. 4294967296 * a + b) stands company
+
+  pub met_few : alone_beside i (part_without i g w.gone q) w.slot ≤ 2
+  met_few = omega (arith, company_few (bit_and x w.near) seen_few, company_bits (bit_and x w.near) seen_few, company)

@@ -47,6 +47,17 @@ pub record Stands (old new : Grid (List ℕ)) (course slot : ℕ) (here : Bool) 
   pub width : new.width ≡ old.width
   pub marks : (c s : ℕ) → s < old.width → is_marked (at new 0 s []) c ≡ cond (c == course && s == slot) here (is_marked (at old 0 s []) c)
 
+-- the tables that say where the lectures are
+pub record ArePlaces (i : Problem) (t : List Placed) (g : Tables) : Type 0 where
+  pub rooms_are : AreRooms i t g.rooms
+  pub courses_are : AreHolders i t g.courses
+  pub standing_are : AreStanding i t g.standing
+
+pub record HavePlaceSizes (i : Problem) (g : Tables) : Type 0 where
+  pub rooms : HasSize g.rooms (course_count i) (slot_count i)
+  pub courses : HasSize g.courses (slot_count i) (room_count i)
+  pub standing : HasSize g.standing 1 (slot_count i)
+
 -- each table is what the timetable says that the rooms show
 pub record AreTables (i : Problem) (g : Tables) : Type 0 where
   pub lawful : Lawful i (listed i g.rooms)

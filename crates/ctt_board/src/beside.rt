@@ -1,6 +1,6 @@
 //! How many lectures of a curriculum there are beside a slot, and beyond.
 
-ghost use Rattle.std.specs.Prelude.{◌≡◌, ◌<◌, ◌≤◌, ◌+◌, ◌-◌, cond, true};
+ghost use Rattle.std.specs.Prelude.{◌≡◌, ◌<◌, ◌≤◌, ◌+◌, ◌-◌, cond, nat_lt, true};
 ghost use Rattle.ctt_text.specs.Problem.{slot_count, curriculum_count, period_of};
 ghost use Rattle.ctt_board.specs.Joining.{count_before, count_after};
 ghost use Rattle.ctt_board.specs.Beside.{IsBeside, beside_of, near_in};
@@ -144,14 +144,28 @@ pub(crate) fn wanted(is_wanted: bool, count: u64) -> u64
     if is_wanted { count } else { 0 }
 }
 
+/// Which of the two slots before one are of its day, as bits, by its period.
+fn near_before(period: u16) -> u64
+    ensures value { result ≡ cond (nat_lt 1 period) 1 0 + cond (nat_lt 0 period) 2 0 }
+    ensures bound { result ≤ 3 }
+{
+    if period < 2 { 2 * u64::from(period) } else { 3 }
+}
+
+/// Which of the two slots after one are of its day, as bits, by the periods that are left of it.
+fn near_after(left: u16) -> u64
+    ensures value { result ≡ cond (nat_lt 0 left) 8 0 + cond (nat_lt 1 left) 16 0 }
+    ensures bound { result ≤ 24 }
+{
+    if left < 2 { 8 * u64::from(left) } else { 24 }
+}
+
 /// Which of the five slots about one are others of its day, as bits, by its period.
 pub(crate) fn near_in(period: u16, periods: u16) -> u64
     requires { period ≤ 2000 }
     ensures { result ≡ near_in period periods }
 {
-    let before = wanted(period > 1, 1) + wanted(period > 0, 2);
-    let after = wanted(period + 1 < periods, 8) + wanted(period + 2 < periods, 16);
-    before + after
+    near_before(period) + near_after(periods.saturating_sub(period + 1))
 }
 
 /// Those beside a slot that nothing which comes or leaves is near, read at once, as bits.

@@ -1,6 +1,7 @@
 //! A room or a course, or none, in two bytes.
 
 ghost use Rattle.std.specs.Prelude.{◌≡◌, ◌<◌, Some, None};
+ghost use Rattle.ctt_text.specs.RoomTable.{room_by_code};
 
 use ctt_text::{CourseNo, RoomNo};
 use std::marker::Model;
@@ -63,6 +64,13 @@ impl Compact {
         } else {
             Some(RoomNo::new(self.code - 1))
         }
+    }
+
+    /// The number that says it: 0 for none.
+    pub(crate) fn code(self) -> u16
+        ensures { self ≡ room_by_code result }
+    {
+        self.code
     }
 
     /// The course, if there is one.

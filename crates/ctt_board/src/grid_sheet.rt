@@ -6,10 +6,12 @@ ghost use Rattle.ctt_text.specs.Problem.{course_count, slot_count};
 ghost use Rattle.ctt_text.specs.Timetable.{course_row, with, without, Fits};
 ghost use Rattle.ctt_rules.specs.Hard.{Lawful};
 ghost use Rattle.ctt_board.specs.Boards.{delta};
-ghost use Rattle.ctt_board.specs.Changes.{CellFits, CellsFit, ChangeFits, cell, is_change, room_at, apply_at, apply, apply_all, ChangesFit};
+ghost use Rattle.ctt_board.specs.Changes.{CellFits, CellsFit, ChangeFits, cell, steps_of, cells_of, is_change, room_at, apply_at, apply, apply_all, ChangesFit};
+ghost use Rattle.ctt_board.specs.Joining.{IsFree, joining};
+ghost use Rattle.ctt_board.specs.Moving.{IsGoing, IsExchange};
 ghost use Rattle.ctt_rules.specs.Penalty.{penalty, total};
 ghost use Rattle.ctt_board.specs.Seen.{Sees, HasPlaces};
-ghost use Rattle.ctt_board.specs.Shifts.{Shifts, IsSmallShift};
+ghost use Rattle.ctt_board.specs.Shifts.{Shifts, IsSmallShift, shift_of};
 ghost use Rattle.ctt_board.specs.Ways.{Ready};
 ghost use Rattle.ctt_board.specs.Cells.{row_below, lecture_at};
 ghost use Rattle.ctt_board.specs.Grids.{column_below};
@@ -19,11 +21,12 @@ use crate::after::last_room;
 use crate::cell::Cell;
 use crate::change::Change;
 use crate::compact::Compact;
+use crate::course_rows::{append_here, append_slots};
 use crate::fitting::fits;
 use crate::joining::{joining_of, with_lecture, without_lecture};
 use crate::later::Later;
 use crate::laws;
-use crate::moving::{moved, spot_of};
+use crate::moving::{Going, going_by, moved, spot_of};
 use crate::same_rows::{same_course_row, same_slot_row};
 use crate::sheet::{Rooms, Sheet, Timetable};
 use crate::shift::Shift;
@@ -121,43 +124,43 @@ impl<'i> GridSheet<'i> {
         })
     }
 
-    /// By how much the costs change by these cells, if one lecture goes elsewhere by them.
+    /// The lecture that goes elsewhere by these cells, if one does.
     #[inline(always)]
-    fn relocated(&self, first: &Cell, second: &Cell) -> Option<Shift>
+    fn going(&self, first: &Cell, second: &Cell) -> Option<Going>
         requires turn { is_change (first.now ∷ second.now ∷ []) ≡ true }
         requires fits { ChangeFits self.now.problem (first.now ∷ second.now ∷ []) self.now.list }
-        ensures shifts { IfSome result (Shifts (penalty self.now.problem self.now.list) (penalty self.now.problem (apply (first.now ∷ second.now ∷ []) self.now.list))) }
-        ensures small { IfSome result (IsSmallShift 2000000000000000) }
+        ensures goes { IfSome result (IsGoing self.now.problem self.now.list) }
+        ensures cells { IfSome result (λ g. (first.now ∷ second.now ∷ []) ≡ steps_of g.from g.to) }
     {
         self.lawful();
-        self.instance.limits_hold();
         let from = self.leaving(first)?;
         let to = coming(second, from.course)?;
-        Some(moved(
-            self.instance,
-            &self.tables.counts,
-            self,
-            &from,
-            &to,
-            &spot_of(self.instance, from.slot),
-            &spot_of(self.instance, to.slot),
-        ))
+        Some(Going {
+            from,
+            to,
+            here: spot_of(self.instance, from.slot),
+            there: spot_of(self.instance, to.slot),
+        })
     }
 
-    /// By how much the costs change by these cells, if two lectures go by them each to the slot of the
-    /// other, whose courses share no curriculum: by what each of them does, as if the other one stayed.
+    /// Two lectures that go elsewhere, if each goes to the slot of the other and their courses share no
+    /// curriculum.
     #[inline(always)]
-    fn exchanged(&self, first: &Cell, second: &Cell, third: &Cell, fourth: &Cell) -> Option<Shift>
-        requires turn { is_change (first.now ∷ second.now ∷ third.now ∷ fourth.now ∷ []) ≡ true }
-        requires fits { ChangeFits self.now.problem (first.now ∷ second.now ∷ third.now ∷ fourth.now ∷ []) self.now.list }
-        ensures shifts { IfSome result (Shifts (penalty self.now.problem self.now.list) (penalty self.now.problem (apply (first.now ∷ second.now ∷ third.now ∷ fourth.now ∷ []) self.now.list))) }
-        ensures small { IfSome result (IsSmallShift 2000000000000000) }
+    fn crossed(
+        &self,
+        from: &Placed,
+        other_from: &Placed,
+        to: &Placed,
+        other_to: &Placed,
+    ) -> Option<(Going, Going)>
+        requires from { room_at from.now.course from.now.slot self.now.list ≡ Some from.now.room }
+        requires other_from { room_at other_from.now.course other_from.now.slot self.now.list ≡ Some other_from.now.room }
+        requires to { to.now.course ≡ from.now.course }
+        requires other_to { other_to.now.course ≡ other_from.now.course }
+        ensures go { IfSome result (λ x. IsExchange self.now.problem self.now.list x.0 x.1) }
+        ensures cells { IfSome result (λ x. cells_of from.now other_from.now to.now other_to.now ≡ cells_of x.0.from x.1.from x.0.to x.1.to) }
     {
         self.lawful();
-        let from = self.leaving(first)?;
-        let other_from = self.leaving(second)?;
-        let to = coming(third, from.course)?;
-        let other_to = coming(fourth, other_from.course)?;
         if to.slot != other_from.slot || other_to.slot != from.slot {
             return None;
         }
@@ -166,25 +169,78 @@ impl<'i> GridSheet<'i> {
         }
         let here = spot_of(self.instance, from.slot);
         let there = spot_of(self.instance, other_from.slot);
-        let one = moved(
+        let one = going_by(from, to, &here, &there);
+        let other = going_by(other_from, other_to, &there, &here);
+        Some((one, other))
+    }
+
+    /// The two lectures that go by these cells each to the slot of the other, if two do whose courses share
+    /// no curriculum.
+    #[inline(always)]
+    fn exchange(
+        &self,
+        first: &Cell,
+        second: &Cell,
+        third: &Cell,
+        fourth: &Cell,
+    ) -> Option<(Going, Going)>
+        requires turn { is_change (first.now ∷ second.now ∷ third.now ∷ fourth.now ∷ []) ≡ true }
+        requires fits { ChangeFits self.now.problem (first.now ∷ second.now ∷ third.now ∷ fourth.now ∷ []) self.now.list }
+        ensures go { IfSome result (λ x. IsExchange self.now.problem self.now.list x.0 x.1) }
+        ensures cells { IfSome result (λ x. (first.now ∷ second.now ∷ third.now ∷ fourth.now ∷ []) ≡ cells_of x.0.from x.1.from x.0.to x.1.to) }
+    {
+        self.lawful();
+        let from = self.leaving(first)?;
+        let other_from = self.leaving(second)?;
+        let to = coming(third, from.course)?;
+        let other_to = coming(fourth, other_from.course)?;
+        self.crossed(&from, &other_from, &to, &other_to)
+    }
+
+    /// By how much the costs change where a lecture goes elsewhere.
+    #[inline(always)]
+    fn moved(&self, going: &Going) -> Shift
+        requires goes { IsGoing self.now.problem self.now.list going.now }
+        requires fits { Fits self.now.problem going.now.to }
+        requires free { IsFree self.now.problem (without going.now.from.course going.now.from.slot self.now.list) going.now.to }
+        ensures value { result ≡ shift_of (joining self.now.problem (without going.now.from.course going.now.from.slot self.now.list) going.now.from) (joining self.now.problem (without going.now.from.course going.now.from.slot self.now.list) going.now.to) }
+        ensures small { IsSmallShift 1000000000000000 result }
+    {
+        self.lawful();
+        moved(
             self.instance,
             &self.tables.counts,
             self,
-            &from,
-            &to,
-            &here,
-            &there,
-        );
-        let other = moved(
-            self.instance,
-            &self.tables.counts,
-            self,
-            &other_from,
-            &other_to,
-            &there,
-            &here,
-        );
-        Some(one.and(&other))
+            &going.from,
+            &going.to,
+            &going.here,
+            &going.there,
+        )
+    }
+
+    /// By how much the costs change where a lecture goes elsewhere and that is all.
+    #[inline(always)]
+    fn moved_alone(&self, going: &Going) -> Shift
+        requires goes { IsGoing self.now.problem self.now.list going.now }
+        requires fits { ChangeFits self.now.problem (steps_of going.now.from going.now.to) self.now.list }
+        ensures shifts { Shifts (penalty self.now.problem self.now.list) (penalty self.now.problem (apply (steps_of going.now.from going.now.to) self.now.list)) result }
+        ensures small { IsSmallShift 2000000000000000 result }
+    {
+        self.lawful();
+        self.moved(going)
+    }
+
+    /// By how much the costs change where two lectures go elsewhere whose courses share no curriculum: by
+    /// what each of them does, as if the other one stayed.
+    #[inline(always)]
+    fn exchanged(&self, one: &Going, other: &Going) -> Shift
+        requires go { IsExchange self.now.problem self.now.list one.now other.now }
+        requires fits { ChangeFits self.now.problem (cells_of one.now.from other.now.from one.now.to other.now.to) self.now.list }
+        ensures shifts { Shifts (penalty self.now.problem self.now.list) (penalty self.now.problem (apply (cells_of one.now.from other.now.from one.now.to other.now.to) self.now.list)) result }
+        ensures small { IsSmallShift 2000000000000000 result }
+    {
+        self.lawful();
+        self.moved(one).and(&self.moved(other))
     }
 
     /// By how much the costs change by these cells, if one lecture goes elsewhere by them, or two do whose
@@ -197,10 +253,44 @@ impl<'i> GridSheet<'i> {
         ensures small { IfSome result (IsSmallShift 2000000000000000) }
     {
         match cells {
-            [first, second] => self.relocated(first, second),
-            [first, second, third, fourth] => self.exchanged(first, second, third, fourth),
+            [first, second] => {
+                let going = self.going(first, second)?;
+                Some(self.moved_alone(&going))
+            }
+            [first, second, third, fourth] => {
+                let (one, other) = self.exchange(first, second, third, fourth)?;
+                Some(self.exchanged(&one, &other))
+            }
             _ => None,
         }
+    }
+
+    /// Lets a lecture go elsewhere.
+    #[inline(always)]
+    fn relocate(&mut self, going: &Going)
+        requires goes { IsGoing self.old.problem self.old.list going.now }
+        requires fits { ChangeFits self.old.problem (steps_of going.now.from going.now.to) self.old.list }
+        ensures problem { self.new.problem ≡ self.old.problem }
+        ensures list { self.new.list ≡ apply (steps_of going.now.from going.now.to) self.old.list }
+    {
+        self.instance.limits_hold();
+        let shift = self.moved_alone(going);
+        self.cost = shift.after(self.cost);
+        self.tables.relocate(self.instance, going);
+    }
+
+    /// Lets two lectures go elsewhere whose courses share no curriculum.
+    #[inline(always)]
+    fn swap(&mut self, one: &Going, other: &Going)
+        requires go { IsExchange self.old.problem self.old.list one.now other.now }
+        requires fits { ChangeFits self.old.problem (cells_of one.now.from other.now.from one.now.to other.now.to) self.old.list }
+        ensures problem { self.new.problem ≡ self.old.problem }
+        ensures list { self.new.list ≡ apply (cells_of one.now.from other.now.from one.now.to other.now.to) self.old.list }
+    {
+        self.instance.limits_hold();
+        let both = self.exchanged(one, other);
+        self.cost = both.after(self.cost);
+        self.tables.exchange(self.instance, one, other);
     }
 
     /// Makes cells, each in its turn.
@@ -216,17 +306,41 @@ impl<'i> GridSheet<'i> {
         }
     }
 
-    /// Makes a change by which the costs change by so much.
-    fn make_by(&mut self, change: &Change, shift: &Shift)
-        requires fits { ChangeFits self.old.problem change.now self.old.list }
-        requires shifts { Shifts (penalty self.old.problem self.old.list) (penalty self.old.problem (apply change.now self.old.list)) shift.now }
-        requires small { IsSmallShift 2000000000000000 shift.now }
+    /// Makes two cells, by which mostly a lecture goes elsewhere.
+    #[inline(always)]
+    fn make_two(&mut self, cells: &[Cell], first: &Cell, second: &Cell)
+        requires turn { is_change cells.now ≡ true }
+        requires fits { ChangeFits self.old.problem cells.now self.old.list }
+        requires are { cells.now ≡ first.now ∷ second.now ∷ [] }
         ensures problem { self.new.problem ≡ self.old.problem }
-        ensures list { self.new.list ≡ apply change.now self.old.list }
+        ensures list { self.new.list ≡ apply cells.now self.old.list }
     {
-        self.instance.limits_hold();
-        self.cost = shift.after(self.cost);
-        self.tables.apply(self.instance, change);
+        match self.going(first, second) {
+            Some(going) => self.relocate(&going),
+            None => self.make_each(cells),
+        }
+    }
+
+    /// Makes four cells, by which mostly two lectures go elsewhere.
+    #[inline(never)]
+    fn make_four(
+        &mut self,
+        cells: &[Cell],
+        first: &Cell,
+        second: &Cell,
+        third: &Cell,
+        fourth: &Cell,
+    )
+        requires turn { is_change cells.now ≡ true }
+        requires fits { ChangeFits self.old.problem cells.now self.old.list }
+        requires are { cells.now ≡ first.now ∷ second.now ∷ third.now ∷ fourth.now ∷ [] }
+        ensures problem { self.new.problem ≡ self.old.problem }
+        ensures list { self.new.list ≡ apply cells.now self.old.list }
+    {
+        match self.exchange(first, second, third, fourth) {
+            Some((one, other)) => self.swap(&one, &other),
+            None => self.make_each(cells),
+        }
     }
 
     /// Makes changes, each in its turn.
@@ -238,6 +352,26 @@ impl<'i> GridSheet<'i> {
         for change in changes {
             self.apply(change);
         }
+    }
+
+    /// The courses that stand in a slot.
+    fn standing_at(&self, slot: SlotNo) -> &Marks
+        requires { slot < slot_count self.now.problem }
+        ensures { (course : ℕ) → is_marked result.now course ≡ is_some (room_at course slot self.now.list) }
+    {
+        self.tables.standing.lent(0, slot.get() as usize)
+    }
+
+    /// Appends the lectures of a course. Where it has none, none of its cells is looked at.
+    #[inline(always)]
+    fn append_if_any(&self, list: &mut Vec<Placed>, course: CourseNo) -> Result<(), AllocError>
+        requires { course < course_count self.now.problem }
+        ensures { OnOk result (list.new.items ≡ list.old.items ++ course_row course self.now.list) }
+    {
+        if self.count(course) == 0 {
+            return Ok(());
+        }
+        append_row(list, &self.tables.rooms, self.instance, course)
     }
 
     /// What a change adds to the penalty, cell by cell.
@@ -272,21 +406,6 @@ fn coming(come: &Cell, course: CourseNo) -> Option<Placed>
     })
 }
 
-/// Appends the lecture of a course in a slot, if it has a room there.
-fn append_here(
-    list: &mut Vec<Placed>,
-    here: Compact,
-    course: CourseNo,
-    slot: SlotNo,
-) -> Result<(), AllocError>
-    ensures { OnOk result (list.new.items ≡ list.old.items ++ lecture_at course slot here) }
-{
-    if let Some(room) = here.room() {
-        list.push(Placed { course, slot, room })?;
-    }
-    Ok(())
-}
-
 /// Appends the lecture of a course in a slot that a table of rooms shows.
 fn append_lecture(
     list: &mut Vec<Placed>,
@@ -300,21 +419,6 @@ fn append_lecture(
 {
     let here = rooms.get(course.get() as usize, slot.get() as usize);
     append_here(list, here, course, slot)
-}
-
-/// Appends the lectures of a course whose rooms, or none, are told slot by slot.
-fn append_slots(
-    list: &mut Vec<Placed>,
-    rooms: &[Compact],
-    course: CourseNo,
-) -> Result<(), AllocError>
-    requires { length rooms.now ≤ 2000 }
-    ensures { OnOk result (list.new.items ≡ list.old.items ++ row_below (λ s. get_or rooms.now s None) course (length rooms.now)) }
-{
-    for (number, here) in rooms.iter().enumerate() {
-        append_here(list, *here, course, SlotNo::new(number as u16))?;
-    }
-    Ok(())
 }
 
 /// Appends the lectures of a course that a table of rooms shows.
@@ -333,13 +437,24 @@ fn append_row(
     append_slots(list, rooms.row(course.get() as usize), course)
 }
 
+/// Whether no course of an instance is marked.
+fn none_marked(instance: &Instance, marks: &Marks) -> bool
+    ensures { result ≡ true → (course : ℕ) → course < course_count instance.now → is_marked marks.now course ≡ false }
+{
+    instance.limits_hold();
+    let courses = instance.courses() as usize;
+    marks.first_common_below(marks, courses).is_none()
+}
+
 /// Appends the lectures in a slot that a table of rooms shows, of the courses that stand there.
 fn append_column(
     list: &mut Vec<Placed>,
     rooms: &Table<Compact>,
     standing: &Marks,
+    courses: usize,
     slot: SlotNo,
 ) -> Result<(), AllocError>
+    requires courses { courses ≡ rooms.now.rows }
     requires few { rooms.now.rows ≤ 2000 }
     requires width { slot < rooms.now.width }
     requires standing { (c : ℕ) → c < rooms.now.rows → is_marked standing.now c ≡ is_some (at rooms.now c slot None) }
@@ -347,7 +462,7 @@ fn append_column(
     ensures { OnOk result (list.new.items ≡ list.old.items ++ column_below (λ c. at rooms.now c slot None) slot rooms.now.rows) }
 {
     let mut from = 0;
-    while let Some(number) = standing.next_from(from) {
+    while let Some(number) = standing.next_between(from, courses) {
         append_lecture(list, rooms, CourseNo::new(number as u16), slot)?;
         from = number + 1;
     }
@@ -376,7 +491,7 @@ impl<'i> Rooms for GridSheet<'i> {
     }
 
     fn standing(&self, slot: SlotNo) -> Marks {
-        self.tables.standing.get(0, slot.get() as usize)
+        *self.standing_at(slot)
     }
 
     fn count(&self, course: CourseNo) -> u32 {
@@ -438,9 +553,11 @@ impl<'i> Timetable for GridSheet<'i> {
     }
 
     fn apply(&mut self, change: &Change) {
-        match self.gone_elsewhere(change.cells()) {
-            Some(shift) => self.make_by(change, &shift),
-            None => self.make_each(change.cells()),
+        let cells = change.cells();
+        match cells {
+            [first, second] => self.make_two(cells, first, second),
+            [first, second, third, fourth] => self.make_four(cells, first, second, third, fourth),
+            _ => self.make_each(cells),
         }
     }
 
@@ -463,21 +580,25 @@ impl<'i> Timetable for GridSheet<'i> {
     fn course_row(&self, course: CourseNo) -> Result<Vec<Placed>, NoMemory> {
         let count = self.count(course) as usize;
         let mut row = Vec::with_capacity(self.alloc, count)?;
-        append_row(&mut row, &self.tables.rooms, self.instance, course)?;
+        self.append_if_any(&mut row, course)?;
         Ok(row)
     }
 
     fn append_course_row(&self, course: CourseNo, list: &mut Vec<Placed>) -> Result<(), NoMemory> {
-        append_row(list, &self.tables.rooms, self.instance, course)?;
+        self.append_if_any(list, course)?;
         Ok(())
     }
 
     fn slot_row(&self, slot: SlotNo) -> Result<Vec<Placed>, NoMemory> {
         self.instance.limits_hold();
-        let standing = self.standing(slot);
-        let count = standing.common_count(&standing) as usize;
-        let mut row = Vec::with_capacity(self.alloc, count)?;
-        append_column(&mut row, &self.tables.rooms, &standing, slot)?;
+        let standing = self.standing_at(slot);
+        if none_marked(self.instance, standing) {
+            return Ok(Vec::new(self.alloc));
+        }
+        // No two lectures of a slot share a room.
+        let mut row = Vec::with_capacity(self.alloc, self.instance.rooms() as usize)?;
+        let courses = self.instance.courses() as usize;
+        append_column(&mut row, &self.tables.rooms, standing, courses, slot)?;
         Ok(row)
     }
 

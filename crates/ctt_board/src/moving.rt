@@ -17,10 +17,9 @@ use crate::beside::near_in;
 use crate::bits::Bits;
 use crate::counts::Counts;
 use crate::grid_sheet::GridSheet;
-use crate::joining::period_on;
-use crate::meeting::{Meeting, meeting_in};
 use crate::sheet::Rooms;
 use crate::shift::Shift;
+use crate::tally::without_one;
 use ctt_rules::Cost;
 use ctt_text::{CourseNo, CurriculumNo, Instance, Placed, RoomNo, SlotNo};
 
@@ -31,6 +30,15 @@ pub(crate) struct Spot {
     pub(crate) day: u16,
     /// Which of the five slots about it are others of its day, as bits.
     pub(crate) near: u64,
+}
+
+/// A lecture that goes elsewhere, and what is known of both slots.
+#[derive(Clone, Copy, Debug, PartialEq, Eq)]
+pub(crate) struct Going {
+    pub(crate) from: Placed,
+    pub(crate) to: Placed,
+    pub(crate) here: Spot,
+    pub(crate) there: Spot,
 }
 
 /// A slot, one that a lecture leaves, and which of the five slots about the first count, as bits:
@@ -49,6 +57,19 @@ struct Halves {
     less: u64,
 }
 
+/// A lecture that goes elsewhere.
+#[inline(always)]
+pub(crate) fn going_by(from: &Placed, to: &Placed, here: &Spot, there: &Spot) -> Going
+    ensures { result ≡ record { from = from.now; to = to.now; here = here.now; there = there.now } }
+{
+    Going {
+        from: *from,
+        to: *to,
+        here: *here,
+        there: *there,
+    }
+}
+
 /// What is known of a slot.
 #[inline(always)]
 pub(crate) fn spot_of(instance: &Instance, slot: SlotNo) -> Spot
@@ -58,7 +79,7 @@ pub(crate) fn spot_of(instance: &Instance, slot: SlotNo) -> Spot
 {
     instance.limits_hold();
     let day = instance.day_of(slot);
-    let period = period_on(instance, slot, day);
+    let period = instance.period_of(slot);
     Spot {
         slot,
         day,
@@ -97,21 +118,31 @@ fn about(instance: &Instance, spot: &Spot, gone: SlotNo) -> Window
     }
 }
 
-/// What a lecture does to a curriculum of which another one leaves.
+/// What a lecture that stands alone does, in one word.
+const ALONE: u64 = 1 << 32;
+
+/// For each of the 32 ways in which the five bits about a slot can stand, what a lecture does to a
+/// curriculum, in one word: the upper half is one if it stands alone, and the lower one says how many of
+/// the lectures beside it stand alone.
+static MET: [u64; 32] = [
+    ALONE, ALONE, 1, 0, ALONE, ALONE, 1, 0, 1, 1, 2, 1, 1, 1, 2, 1, ALONE, ALONE, 1, 0, ALONE,
+    ALONE, 1, 0, 0, 0, 1, 0, 0, 0, 1, 0,
+];
+
+/// What a lecture does to a curriculum of which another one leaves, in one word.
 #[inline(always)]
-fn met(instance: &Instance, parts: &Bits, part: CurriculumNo, window: &Window) -> Meeting
+fn met(instance: &Instance, parts: &Bits, part: CurriculumNo, window: &Window) -> u64
     requires part { part < parts.now.rows }
     requires width { parts.now.width ≡ slot_count instance.now }
     requires slot { window.now.slot < slot_count instance.now }
     requires window { IsWindow instance.now window.now }
     requires own { part_without instance.now parts.now window.now.gone part window.now.slot ≡ 0 }
-    ensures alone { result.alone ≡ stands_alone instance.now (part_without instance.now parts.now window.now.gone part) window.now.slot }
-    ensures company { result.company ≡ alone_beside instance.now (part_without instance.now parts.now window.now.gone part) window.now.slot }
-    ensures few { result.alone ≤ 1 }
-    ensures bound { result.company ≤ 2 }
+    ensures value { result ≡ 4294967296 * stands_alone instance.now (part_without instance.now parts.now window.now.gone part) window.now.slot + alone_beside instance.now (part_without instance.now parts.now window.now.gone part) window.now.slot }
+    ensures few { stands_alone instance.now (part_without instance.now parts.now window.now.gone part) window.now.slot ≤ 1 }
+    ensures bound { alone_beside instance.now (part_without instance.now parts.now window.now.gone part) window.now.slot ≤ 2 }
 {
     let bits = parts.around(part.get() as usize, window.slot.get() as usize);
-    meeting_in(bits & window.near)
+    MET[(bits & window.near) as usize]
 }
 
 /// What these curricula together cost more and less where a lecture of each goes elsewhere.
@@ -137,25 +168,17 @@ fn meet_both(
     ensures more_few { result.more ≤ 60000 }
     ensures less_few { result.less ≤ 60000 }
 {
-    let mut more = 0;
-    let mut less = 0;
+    let mut left = 0;
+    let mut found = 0;
     for part in curricula {
-        let left = met(instance, parts, *part, here);
-        let found = met(instance, parts, *part, there);
-        more += found.alone + left.company;
-        less += left.alone + found.company;
+        let gone = met(instance, parts, *part, here);
+        let come = met(instance, parts, *part, there);
+        left += gone;
+        found += come;
     }
-    Halves { more, less }
-}
-
-/// A count, without one if that is counted.
-fn without_one(count: u16, is_counted: bool) -> u16
-    ensures { result ≡ count - cond is_counted 1 0 }
-{
-    if is_counted {
-        count.saturating_sub(1)
-    } else {
-        count
+    Halves {
+        more: found / ALONE + left % ALONE,
+        less: left / ALONE + found % ALONE,
     }
 }
 

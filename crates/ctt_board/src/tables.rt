@@ -1,16 +1,19 @@
 //! The tables of a sheet.
 
-ghost use Rattle.std.specs.Prelude.{◌≡◌, ◌<◌, [], false, Some, is_some, IfOk};
+ghost use Rattle.std.specs.Prelude.{◌≡◌, ◌<◌, [], List, false, Some, is_some, IfOk};
 ghost use Rattle.ctt_text.specs.Problem.{course_count, slot_count};
 ghost use Rattle.ctt_text.specs.Timetable.{with, without, Fits};
+ghost use Rattle.ctt_text.specs.declared.placed.Placed.{Placed};
 ghost use Rattle.ctt_rules.specs.Hard.{Lawful};
-ghost use Rattle.ctt_board.specs.Changes.{CellFits, ChangeFits, ChangesFit, room_at, apply_at, apply, apply_all};
-ghost use Rattle.ctt_board.specs.Grids.{listed, AreTables};
+ghost use Rattle.ctt_board.specs.Changes.{CellFits, ChangeFits, ChangesFit, room_at, apply_at, apply, apply_all, steps_of, cells_of};
+ghost use Rattle.ctt_board.specs.Grids.{listed, AreTables, ArePlaces, HavePlaceSizes};
+ghost use Rattle.ctt_board.specs.Moving.{IsGoing, IsExchange};
 
 use crate::cell::Cell;
 use crate::change::Change;
 use crate::compact::Compact;
 use crate::counts::Counts;
+use crate::moving::Going;
 use crate::standing::{leave, stand};
 use crate::table::Table;
 use ctt_text::{CourseNo, Instance, Marks, Placed, RoomNo, SlotNo};
@@ -75,6 +78,42 @@ impl Tables {
         here.room()
     }
 
+    /// Writes a lecture where lectures are looked up.
+    #[inline(always)]
+    fn lay(&mut self, instance: &Instance, lecture: &Placed)
+        requires fits { Fits instance.now lecture.now }
+        requires sizes { HavePlaceSizes instance.now self.old }
+        ensures places { (t : List Placed) → ArePlaces instance.now t self.old → is_some (room_at lecture.now.course lecture.now.slot t) ≡ false → Lawful instance.now (with lecture.now t) → ArePlaces instance.now (with lecture.now t) self.new }
+        ensures counts { self.new.counts ≡ self.old.counts }
+    {
+        instance.limits_hold();
+        let course = lecture.course.get() as usize;
+        let slot = lecture.slot.get() as usize;
+        self.rooms.set(course, slot, Compact::of_room(lecture.room));
+        let room = lecture.room.get() as usize;
+        self.courses
+            .set(slot, room, Compact::of_course(lecture.course));
+        stand(&mut self.standing, lecture.course, lecture.slot);
+    }
+
+    /// Takes a lecture away from there.
+    #[inline(always)]
+    fn lift(&mut self, instance: &Instance, lecture: &Placed)
+        requires fits { Fits instance.now lecture.now }
+        requires sizes { HavePlaceSizes instance.now self.old }
+        ensures places { (t : List Placed) → ArePlaces instance.now t self.old → room_at lecture.now.course lecture.now.slot t ≡ Some lecture.now.room → Lawful instance.now t → ArePlaces instance.now (without lecture.now.course lecture.now.slot t) self.new }
+        ensures counts { self.new.counts ≡ self.old.counts }
+    {
+        instance.limits_hold();
+        let none = Compact::none();
+        let course = lecture.course.get() as usize;
+        let slot = lecture.slot.get() as usize;
+        self.rooms.set(course, slot, none);
+        let room = lecture.room.get() as usize;
+        self.courses.set(slot, room, none);
+        leave(&mut self.standing, lecture.course, lecture.slot);
+    }
+
     /// Adds a lecture.
     #[inline(always)]
     pub(crate) fn add(&mut self, instance: &Instance, lecture: &Placed)
@@ -87,13 +126,7 @@ impl Tables {
     {
         instance.limits_hold();
         self.counts.add(instance, lecture);
-        let course = lecture.course.get() as usize;
-        let slot = lecture.slot.get() as usize;
-        self.rooms.set(course, slot, Compact::of_room(lecture.room));
-        let room = lecture.room.get() as usize;
-        self.courses
-            .set(slot, room, Compact::of_course(lecture.course));
-        stand(&mut self.standing, lecture.course, lecture.slot);
+        self.lay(instance, lecture);
     }
 
     /// Removes a lecture that is there.
@@ -106,14 +139,41 @@ impl Tables {
         ensures list { listed instance.now self.new.rooms ≡ without lecture.now.course lecture.now.slot (listed instance.now self.old.rooms) }
     {
         instance.limits_hold();
-        let none = Compact::none();
-        let course = lecture.course.get() as usize;
-        let slot = lecture.slot.get() as usize;
-        self.rooms.set(course, slot, none);
         self.counts.take(instance, lecture);
-        let room = lecture.room.get() as usize;
-        self.courses.set(slot, room, none);
-        leave(&mut self.standing, lecture.course, lecture.slot);
+        self.lift(instance, lecture);
+    }
+
+    /// Lets a lecture go elsewhere.
+    #[inline(always)]
+    pub(crate) fn relocate(&mut self, instance: &Instance, going: &Going)
+        requires tables { AreTables instance.now self.old }
+        requires goes { IsGoing instance.now (listed instance.now self.old.rooms) going.now }
+        requires fits { ChangeFits instance.now (steps_of going.now.from going.now.to) (listed instance.now self.old.rooms) }
+        ensures tables { AreTables instance.now self.new }
+        ensures list { listed instance.now self.new.rooms ≡ apply (steps_of going.now.from going.now.to) (listed instance.now self.old.rooms) }
+    {
+        instance.limits_hold();
+        self.counts.relocate(instance, going);
+        self.lift(instance, &going.from);
+        self.lay(instance, &going.to);
+    }
+
+    /// Lets two lectures go elsewhere whose courses share no curriculum.
+    #[inline(always)]
+    pub(crate) fn exchange(&mut self, instance: &Instance, one: &Going, other: &Going)
+        requires tables { AreTables instance.now self.old }
+        requires go { IsExchange instance.now (listed instance.now self.old.rooms) one.now other.now }
+        requires fits { ChangeFits instance.now (cells_of one.now.from other.now.from one.now.to other.now.to) (listed instance.now self.old.rooms) }
+        ensures tables { AreTables instance.now self.new }
+        ensures list { listed instance.now self.new.rooms ≡ apply (cells_of one.now.from other.now.from one.now.to other.now.to) (listed instance.now self.old.rooms) }
+    {
+        instance.limits_hold();
+        self.counts.relocate(instance, one);
+        self.counts.relocate(instance, other);
+        self.lift(instance, &one.from);
+        self.lift(instance, &other.from);
+        self.lay(instance, &one.to);
+        self.lay(instance, &other.to);
     }
 
     /// Makes a cell.

@@ -1,5 +1,5 @@
 -- The lectures of the courses that pass, gathered course by course.
-use Rattle.std.proofs.Common.{◌≡◌, ℕ, ◌+◌, ◌<◌, ◌≤◌, Bool, true, false, ltb, ◌&&◌, ◌||◌, List, [], ◌∷◌, ◌++◌, Some, None, refl, ◌∙◌, sym, ap, ap₂, arith, inl, inr}
+use Rattle.std.proofs.Common.{◌≡◌, ℕ, ◌+◌, ◌<◌, ◌≤◌, Bool, true, false, ltb, ◌&&◌, List, [], ◌∷◌, ◌++◌, Some, None, refl, ◌∙◌, sym, ap, ap₂, arith, inl, inr}
 use Rattle.std.specs.List.{filter, AllByRecursion as Each}
 use Rattle.std.proofs.lemmas.Bool.{cases_Bool, cases_lt, cases_eq, lt-ltb, le-ltb, eq-eqb, ne_eqb}
 use Rattle.std.proofs.lemmas.Bool.Decides.{nat_tests}
@@ -8,13 +8,7 @@ use Rattle.ctt_text.specs.Timetable.{before, Ascending, course_row}
 use Rattle.ctt_text.specs.declared.placed.Placed.{Placed}
 use Rattle.ctt_rules.proofs.ListLemmas.{filter_none}
 use Rattle.ctt_text.proofs.TimetableLemmas.{Each-map}
-use Rattle.ctt_text.specs.Problem.{Problem, course_count}
-use Rattle.ctt_edits.specs.Calls.{look_reads_course}
-use Rattle.ctt_edits.specs.RowSets.{RowSet, has_course, is_in, AddsReads, between}
-use Rattle.ctt_edits.specs.declared.call.Call.TheVariants.{Look as Looks}
-use Rattle.ctt_edits.specs.declared.looks.Look.{Look}
-use Rattle.ctt_edits.specs.declared.row.Row.{Row}
-use Rattle.ctt_edits.specs.declared.row.Row.TheVariants.{Course as CourseRow}
+use Rattle.ctt_edits.specs.RowSets.{between}
 
 -- those of them whose courses are below n
 abbrev pub part_below : (ℕ → Bool) → ℕ → List Placed → List Placed
@@ -104,16 +98,13 @@ part_none p t = none_below p 0 t (every t)
     every [] = tt
     every (l ∷ ls) = (omega arith, every ls)
 
--- the rows that a look reads, added to none
-pub part_read : (i : Problem) (look : Look) (none all : RowSet) (t : List Placed) → Each (λ (l : Placed). l.course < course_count i) t → ((r : Row) → is_in none r ≡ false) → AddsReads i (Looks look) none all
-    → filter (λ (l : Placed). has_course all l.course) t ≡ filter (λ (l : Placed). look_reads_course i look l.course) t
-part_read i look none all [] fit empty h = refl
-part_read i look none all (x ∷ xs) fit empty h =
-    let same : has_course all x.course ≡ look_reads_course i look x.course = h.courses x.course fit.0 ∙ ap (λ b. b || look_reads_course i look x.course) (empty (CourseRow x.course)) in
-    elim (cases_Bool (look_reads_course i look x.course)) [
-      | inl y ↦ rw (same, y) (ap (λ ls. x ∷ ls) (part_read i look none all xs fit.1 empty h))
-      | inr n ↦ rw (same, n) (part_read i look none all xs fit.1 empty h)
-    ]
+-- the lectures of marked courses, by a test that says of each course of the instance whether it is marked
+pub part_marked : (count : ℕ) (p q : ℕ → Bool) (t : List Placed) → Each (λ (l : Placed). l.course < count) t → ((c : ℕ) → c < count → p c ≡ q c) → filter (λ (l : Placed). p l.course) t ≡ filter (λ (l : Placed). q l.course) t
+part_marked count p q [] fit same = refl
+part_marked count p q (x ∷ xs) fit same = elim (cases_Bool (q x.course)) [
+  | inl y ↦ rw (same x.course fit.0, y) (ap (λ ls. x ∷ ls) (part_marked count p q xs fit.1 same))
+  | inr n ↦ rw (same x.course fit.0, n) (part_marked count p q xs fit.1 same)
+]
 
 pub part_within : (p : ℕ → Bool) (from end c : ℕ) → IsLeast (between from end p) (Some c) → c < end
 part_within p from end c least = (found p from end c least.0).1

@@ -1,12 +1,9 @@
 -- The courses of a teacher: one of them, and those of the courses that clash with it.
-use Rattle.std.proofs.Common.{◌≡◌, ℕ, ◌+◌, ◌<◌, ◌≤◌, Bool, true, false, ltb, ◌&&◌, ◌||◌, ◌==◌, nat_le, nat_lt, Option, Some, None, inl, inr, refl, ◌∙◌, sym, ap, arith}
-use Rattle.std.proofs.lemmas.Bool.{cases_lt, cases_eq, cases_order, lt-ltb, le-ltb, eq-eqb, ne_eqb, eqb-true}
+use Rattle.std.proofs.Common.{◌≡◌, ℕ, ◌+◌, ◌<◌, ◌≤◌, Bool, true, false, ltb, ◌&&◌, ◌||◌, ◌==◌, nat_le, nat_lt, Some, None, inl, inr, refl, ◌∙◌, sym, ap, arith}
+use Rattle.std.proofs.lemmas.Bool.{cases_lt, cases_eq, cases_order, lt-ltb, le-ltb, eq-eqb, ne_eqb}
 use Rattle.std.proofs.lemmas.Bool.Decides.{nat_tests}
 use Rattle.ctt_text.specs.Marks.{IsLeast}
 use Rattle.ctt_text.specs.Problem.{Problem, course_of, course_count, clash}
-use Rattle.std.specs.Prelude.{IfSome}
-use Rattle.ctt_edits.specs.RowSets.{between}
-use Rattle.ctt_edits.proofs.PartLemmas.{found}
 
 pub or_false : (b : Bool) → (b || false) ≡ b
 or_false true = refl
@@ -29,39 +26,6 @@ below_all a n m count e lt = ap (λ b. a || b) (ap (nat_lt n) e ∙ lt-ltb n cou
 
 pub above_none : (a : Bool) (n m count : ℕ) → m ≡ count → count ≤ n → (a || nat_lt n m) ≡ a
 above_none a n m count e le = ap (λ b. a || b) (ap (nat_lt n) e ∙ le-ltb n count le) ∙ or_false a
-
--- the first that passes, and none
-pub least_at : (p : ℕ → Bool) (from end k : ℕ) → from ≤ k → k < end → ((n : ℕ) → from ≤ n → n < k → p n ≡ false) → p k ≡ true → IsLeast (between from end p) (Some k)
-least_at p from end k le lt before here = (
-  grind (arith, nat_tests),
-  λ m less. elim (cases_lt m from) [
-    | inl early ↦ grind (arith, nat_tests)
-    | inr late ↦ (let none : p m ≡ false = before m late less in grind (arith, nat_tests))
-  ],
-)
-
-pub least_none : (p : ℕ → Bool) (from end k : ℕ) → end ≤ k → ((n : ℕ) → from ≤ n → n < k → p n ≡ false) → IsLeast (between from end p) None
-least_none p from end k le before = λ n. elim (cases_lt n from) [
-  | inl early ↦ grind (arith, nat_tests)
-  | inr late ↦ elim (cases_lt n end) [
-    | inl less ↦ (let none : p n ≡ false = before n late (omega (arith, less, le)) in grind (arith, nat_tests))
-    | inr past ↦ grind (arith, nat_tests)
-  ]
-]
-
--- a number passes neither from here on nor below
-pub nowhere : (p : ℕ → Bool) (here end n : ℕ) → IsLeast (between here end p) None → IsLeast (between 0 here p) None → n < end → p n ≡ false
-nowhere p here end n late early lt =
-    let a : between here end p n ≡ false = late n in
-    let b : between 0 here p n ≡ false = early n in
-    grind (arith, nat_tests)
-
--- a course of the teacher, if one was found
-pub some_taught : (i : Problem) (h from end : ℕ) (found_one : Option ℕ) → end ≤ course_count i → IsLeast (between from end (λ n. (course_of i n).teacher == h)) found_one → IfSome found_one (λ c. (c < course_count i) × ((course_of i c).teacher ≡ h))
-some_taught i h from end None few least = tt
-some_taught i h from end (Some c) few least =
-    let f = found (λ n. (course_of i n).teacher == h) from end c least.0 in
-    (omega (arith, f.1, few), eqb-true (course_of i c).teacher h f.2)
 
 -- of the marked numbers those that pass, from one to the next
 not_marked : (from n : ℕ) (b : Bool) → (nat_le from n && b) ≡ false → from ≤ n → b ≡ false

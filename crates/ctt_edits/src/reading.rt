@@ -1,14 +1,13 @@
 //! The rows that calls read: each call marks its own.
 
-ghost use Rattle.std.specs.Prelude.{◌≡◌, ◌<◌, ◌≤◌, ◌==◌, ◌||◌, ◌&&◌, ◌∷◌, [], ℕ, false, true, None, IfOk, IfSome};
+ghost use Rattle.std.specs.Prelude.{◌≡◌, ◌<◌, ◌≤◌, ◌==◌, ◌||◌, ◌&&◌, ◌∷◌, [], ℕ, false, true, nat_lt, None, IfOk, IfSome};
 ghost use Rattle.std.specs.List.{list_any, AllByRecursion as Each};
 ghost use Rattle.ctt_text.specs.Lists.{has};
-ghost use Rattle.ctt_text.specs.Marks.{is_marked, IsLeast};
+ghost use Rattle.ctt_text.specs.Marks.{is_marked};
 ghost use Rattle.ctt_text.specs.Problem.{course_of, course_count, slot_count, teacher_count, mates};
 ghost use Rattle.ctt_edits.specs.Calls.{CallFits, edit_courses, edit_slots, look_reads_course, look_reads_slot, reads_course, reads_slot, reads};
 ghost use Rattle.ctt_edits.specs.Edits.{EditFits};
 ghost use Rattle.ctt_edits.specs.Looks.{LookFits};
-ghost use Rattle.ctt_edits.specs.RowSets.{between};
 
 use crate::call::Call;
 use crate::edit::Edit;
@@ -37,7 +36,7 @@ fn mark_slot(instance: &Instance, slot: SlotNo, marks: &mut Marks)
 }
 
 /// Marks some courses.
-fn mark_courses(instance: &Instance, courses: &[CourseNo], marks: &mut Marks)
+pub(crate) fn mark_courses(instance: &Instance, courses: &[CourseNo], marks: &mut Marks)
     requires { Each (λ c. c < course_count instance.now) courses.now }
     ensures { (n : ℕ) → is_marked marks.new n ≡ (is_marked marks.old n || has n courses.now) }
 {
@@ -75,32 +74,60 @@ fn is_taught(instance: &Instance, number: u16, teacher: TeacherNo) -> bool
     instance.teacher(CourseNo::new(number)) == teacher
 }
 
-/// The first course of a teacher from a number on, and below another one.
-fn first_taught(instance: &Instance, teacher: TeacherNo, from: u16, end: u16) -> Option<CourseNo>
-    requires { end ≤ course_count instance.now }
-    ensures { IsLeast (between from end (λ n. (course_of instance.now n).teacher == teacher)) result }
+/// Whether a number is that of a course which a teacher has.
+fn is_taught_course(instance: &Instance, number: u16, teacher: TeacherNo) -> bool
+    ensures { result ≡ (nat_lt number (course_count instance.now) && (course_of instance.now number).teacher == teacher) }
 {
-    for number in from..end {
-        if is_taught(instance, number, teacher) {
-            return Some(CourseNo::new(number));
+    number < instance.courses() && is_taught(instance, number, teacher)
+}
+
+/// About where a teacher's first course stands. Teachers are numbered in the order in which the courses
+/// name them first: behind the first course of an earlier one, each number between takes a course.
+fn about_first_taught(instance: &Instance, teacher: TeacherNo) -> u16
+    requires { teacher < teacher_count instance.now }
+    ensures { result ≤ course_count instance.now }
+{
+    instance.limits_hold();
+    let courses = instance.courses();
+    let mut place = teacher.get();
+    while place < courses {
+        let here = instance.teacher(CourseNo::new(place)).get();
+        if teacher.get() <= here {
+            return place;
+        }
+        place += teacher.get() - here;
+    }
+    courses
+}
+
+/// A course of a teacher, looked for on both sides of a place, farther and farther.
+fn taught_around(instance: &Instance, teacher: TeacherNo, place: u16) -> Option<CourseNo>
+    requires { place ≤ course_count instance.now }
+    ensures some { IfSome result (λ c. (c < course_count instance.now) × ((course_of instance.now c).teacher ≡ teacher)) }
+    ensures none { result ≡ None → (n : ℕ) → n < course_count instance.now → ((course_of instance.now n).teacher == teacher) ≡ false }
+{
+    instance.limits_hold();
+    for distance in 0..instance.courses() {
+        let ahead = place + distance;
+        if is_taught_course(instance, ahead, teacher) {
+            return Some(CourseNo::new(ahead));
+        }
+        // Before the first course it wraps, to a number past the last one.
+        let back = place.wrapping_sub(distance + 1);
+        if is_taught_course(instance, back, teacher) {
+            return Some(CourseNo::new(back));
         }
     }
     None
 }
 
-/// A course of a teacher. Teachers are numbered in the order in which the courses name them first,
-/// so it is looked for from the course with the teacher's number on.
+/// A course of a teacher.
 fn any_taught(instance: &Instance, teacher: TeacherNo) -> Option<CourseNo>
     requires { teacher < teacher_count instance.now }
     ensures some { IfSome result (λ c. (c < course_count instance.now) × ((course_of instance.now c).teacher ≡ teacher)) }
     ensures none { result ≡ None → (n : ℕ) → n < course_count instance.now → ((course_of instance.now n).teacher == teacher) ≡ false }
 {
-    instance.limits_hold();
-    let number = teacher.get();
-    match first_taught(instance, teacher, number, instance.courses()) {
-        Some(course) => Some(course),
-        None => first_taught(instance, teacher, 0, number),
-    }
+    taught_around(instance, teacher, about_first_taught(instance, teacher))
 }
 
 /// Marks those of some courses that a teacher has.
@@ -108,8 +135,10 @@ fn mark_taught_of(instance: &Instance, courses: &Marks, teacher: TeacherNo, mark
     requires { (n : ℕ) → is_marked courses.now n ≡ true → n < course_count instance.now }
     ensures { (n : ℕ) → is_marked marks.new n ≡ (is_marked marks.old n || (is_marked courses.now n && (course_of instance.now n).teacher == teacher)) }
 {
+    instance.limits_hold();
+    let end = instance.courses() as usize;
     let mut from = 0;
-    while let Some(number) = courses.next_from(from) {
+    while let Some(number) = courses.next_between(from, end) {
         let taught = is_taught(instance, number as u16, teacher);
         mark_if(taught, number, marks);
         from = number + 1;
@@ -129,7 +158,7 @@ fn mark_colleagues(instance: &Instance, course: CourseNo, marks: &mut Marks)
 }
 
 /// Marks the courses of a teacher.
-fn mark_taught(instance: &Instance, teacher: TeacherNo, marks: &mut Marks)
+pub(crate) fn mark_taught(instance: &Instance, teacher: TeacherNo, marks: &mut Marks)
     requires { teacher < teacher_count instance.now }
     ensures marked { (n : ℕ) → n < course_count instance.now → is_marked marks.new n ≡ (is_marked marks.old n || (course_of instance.now n).teacher == teacher) }
     ensures past { (n : ℕ) → course_count instance.now ≤ n → is_marked marks.new n ≡ is_marked marks.old n }

@@ -1,6 +1,6 @@
 //! The rows that some calls read, as one value.
 
-ghost use Rattle.std.specs.Prelude.{◌≡◌, ◌++◌, map, false, IfOk, OnOk};
+ghost use Rattle.std.specs.Prelude.{◌≡◌, ◌≤◌, ◌++◌, map, false, IfOk, OnOk};
 ghost use Rattle.ctt_text.specs.Lists.{below};
 ghost use Rattle.ctt_text.specs.Marks.{is_marked, IsLeast};
 ghost use Rattle.ctt_text.specs.Problem.{course_count, slot_count};
@@ -121,12 +121,10 @@ impl RowsRead {
 }
 
 /// The first marked number from a number on, and below another one.
-fn next_marked(marks: &Marks, from: u16, end: u16) -> Option<u16>
+pub(crate) fn next_marked(marks: &Marks, from: u16, end: u16) -> Option<u16>
+    requires { end ≤ 2000 }
     ensures { IsLeast (between from end (is_marked marks.now)) result }
 {
-    let number = marks.next_from(from as usize)?;
-    if number < end as usize {
-        return Some(number as u16);
-    }
-    None
+    let number = marks.next_between(from as usize, end as usize)?;
+    Some(number as u16)
 }

@@ -1,59 +1,73 @@
 //! What a look shows.
 
 ghost use Rattle.std.specs.Prelude.{◌≡◌, ◌<◌, IfOk, filter};
-ghost use Rattle.ctt_text.specs.Problem.{course_count};
-ghost use Rattle.ctt_rules.specs.Penalty.{course_cost};
+ghost use Rattle.ctt_text.specs.Marks.{is_marked};
+ghost use Rattle.ctt_text.specs.Problem.{course_count, teacher_count, curriculum_count, members};
+ghost use Rattle.ctt_rules.specs.Penalty.{course_cost, part_of};
 ghost use Rattle.ctt_edits.specs.Edits.{EditFits, edit_fault};
-ghost use Rattle.ctt_edits.specs.Calls.{look_reads_course};
-ghost use Rattle.ctt_edits.specs.Looks.{LookFits, price, told_or, shown};
-ghost use Rattle.ctt_edits.specs.RowSets.{has_course};
+ghost use Rattle.ctt_edits.specs.Looks.{LookFits, price, teacher_row, told_or, shown};
 ghost use Rattle.ctt_edits.specs.declared.reply.Reply.TheVariants.{Price as Priced};
 
-use crate::call::Call;
 use crate::edit::Edit;
 use crate::lectures::Lectures;
 use crate::looks::Look;
 use crate::pricing::price;
+use crate::reading::{mark_courses, mark_taught};
 use crate::reply::Reply;
-use crate::rows_read::RowsRead;
+use crate::rows_read::next_marked;
 use ctt_board::Sheet;
 use ctt_rules::Cost;
-use ctt_text::{CourseNo, NoMemory, Placed};
+use ctt_text::{CourseNo, CurriculumNo, Marks, NoMemory, Placed, TeacherNo};
 use std::alloc::Global;
 
-/// The lectures of the courses whose rows are read, course by course.
+/// The lectures of the courses that are marked, course by course.
 fn gather<'i, S: Sheet<'i>>(
     alloc: Global,
     sheet: &S,
-    rows: &RowsRead,
+    courses: &Marks,
 ) -> Result<Vec<Placed>, NoMemory>
-    ensures { IfOk result (λ lectures. lectures.items ≡ filter (λ l. has_course rows.now l.course) (S.list sheet.now)) }
+    ensures { IfOk result (λ lectures. lectures.items ≡ filter (λ l. is_marked courses.now l.course) (S.list sheet.now)) }
 {
     sheet.lawful();
-    let instance = sheet.instance();
-    instance.limits_hold();
+    let end = sheet.instance().courses();
     let mut lectures = Vec::new(alloc);
     let mut from = 0;
-    while let Some(course) = rows.next_course(instance, from) {
-        sheet.append_course_row(course, &mut lectures)?;
-        from = course.get() + 1;
+    while let Some(number) = next_marked(courses, from, end) {
+        sheet.append_course_row(CourseNo::new(number), &mut lectures)?;
+        from = number + 1;
     }
     Ok(lectures)
 }
 
-/// The lectures of the courses whose rows a look reads.
-fn lectures_read<'i, S: Sheet<'i>>(
+/// The lectures of a teacher's courses.
+fn teacher_lectures<'i, S: Sheet<'i>>(
     alloc: Global,
     sheet: &S,
-    look: &Look,
+    teacher: TeacherNo,
 ) -> Result<Vec<Placed>, NoMemory>
-    requires { LookFits (S.problem sheet.now) look.now }
-    ensures { IfOk result (λ lectures. lectures.items ≡ filter (λ l. look_reads_course (S.problem sheet.now) look.now l.course) (S.list sheet.now)) }
+    requires { teacher < teacher_count (S.problem sheet.now) }
+    ensures { IfOk result (λ lectures. lectures.items ≡ teacher_row (S.problem sheet.now) teacher (S.list sheet.now)) }
 {
     sheet.lawful();
-    let mut rows = RowsRead::new();
-    rows.add(sheet.instance(), &Call::Look(*look));
-    gather(alloc, sheet, &rows)
+    let mut courses = Marks::new();
+    mark_taught(sheet.instance(), teacher, &mut courses);
+    gather(alloc, sheet, &courses)
+}
+
+/// The lectures of a curriculum's members.
+fn curriculum_lectures<'i, S: Sheet<'i>>(
+    alloc: Global,
+    sheet: &S,
+    curriculum: CurriculumNo,
+) -> Result<Vec<Placed>, NoMemory>
+    requires { curriculum < curriculum_count (S.problem sheet.now) }
+    ensures { IfOk result (λ lectures. lectures.items ≡ part_of (members (S.problem sheet.now) curriculum) (S.list sheet.now)) }
+{
+    sheet.lawful();
+    let instance = sheet.instance();
+    let mut courses = Marks::new();
+    mark_courses(instance, instance.members(curriculum), &mut courses);
+    gather(alloc, sheet, &courses)
 }
 
 /// What a course costs by itself.
@@ -86,7 +100,8 @@ pub fn look<'i, S: Sheet<'i>>(alloc: Global, sheet: &S, look: &Look) -> Result<R
     let lectures = match *look {
         Look::Course(course) => sheet.course_row(course)?,
         Look::Slot(slot) => sheet.slot_row(slot)?,
-        Look::Teacher(_) | Look::Curriculum(_) => lectures_read(alloc, sheet, look)?,
+        Look::Teacher(teacher) => teacher_lectures(alloc, sheet, teacher)?,
+        Look::Curriculum(curriculum) => curriculum_lectures(alloc, sheet, curriculum)?,
         Look::CourseCost(course) => return Ok(Reply::Costs(own_cost(sheet, course)?)),
         Look::Cost => return Ok(Reply::Costs(sheet.cost())),
         Look::Price(edit) => return Ok(price_reply(sheet, &edit)),

@@ -1,76 +1,94 @@
 //! Lectures as words of a line. Their words are gathered in the function's own frame, and added to the text
 //! together: a short copy into a text costs more than its bytes.
 
-ghost use Rattle.std.specs.Prelude.{◌≡◌, ◌<◌, ◌≤◌, ◌+◌, ◌++◌, OnOk, true, false, length, codes, string_bytes};
-ghost use Rattle.std.specs.Fmt.{decimal};
-ghost use Rattle.arrayvec.specs.ArrayString.{array_string_len};
+ghost use Rattle.std.specs.Prelude.{◌≡◌, ◌<◌, ◌≤◌, ◌+◌, ◌++◌, OnOk, true, false, length, take, [], codes, string_bytes};
 ghost use Rattle.ctt_text.specs.Timetable.{Fits};
 ghost use Rattle.ctt_script.specs.WrittenText.{lecture_part};
 
 use crate::pieces::{push_slot, push_word};
-use arrayvec::ArrayString;
-use ctt_text::{Instance, Placed};
+use ctt_text::{Instance, Label, Placed};
 use std::alloc::AllocError;
+use std::marker::Model;
 
 /// How many bytes are gathered.
 const ROOM: usize = 256;
 
+/// How many bytes the three labels of a lecture overwrite at most.
+const LECTURE: usize = 48;
+
 /// What was gathered of a line.
-pub(crate) type Gathered = ArrayString<ROOM>;
-
-/// Adds a blank and a word.
-fn gather_word(gathered: &mut Gathered, word: &str)
-    requires { array_string_len gathered.old + 1 + length word.now ≤ 256 }
-    ensures bytes { gathered.new.bytes ≡ gathered.old.bytes ++ (codes " " ++ word.now) }
-    ensures len { array_string_len gathered.new ≡ array_string_len gathered.old + 1 + length word.now }
-{
-    gathered.push_str(" ");
-    gathered.push_str(word);
+#[derive(Drop)]
+pub(crate) struct Gathered {
+    bytes: [u8; ROOM],
+    len: usize,
 }
 
-/// Adds a number of one digit.
-#[tactic(auto, using(crate::proofs::WrittenText::digit_text))]
-fn push_digit(gathered: &mut Gathered, digit: u8)
-    requires small { digit < 10 }
-    requires room { array_string_len gathered.old + 1 ≤ 256 }
-    ensures bytes { gathered.new.bytes ≡ gathered.old.bytes ++ decimal digit }
-    ensures len { array_string_len gathered.new ≡ array_string_len gathered.old + 1 }
-{
-    gathered.push(char::from(b'0' + digit));
+impl Model for Gathered {
+    ghost use Rattle.std.specs.Prelude.{List, ℕ, ◌≤◌, take};
+    ghost use Rattle.std.specs.Str.{IsUtf8};
+
+    ghost Value = { List ℕ };
+
+    ghost view = { λ g. take g.len g.bytes };
+
+    ghost invariant = { λ g. (g.len ≤ 256) × IsUtf8 (take g.len g.bytes) };
 }
 
-/// Adds a blank and a number of one digit.
-fn gather_digit(gathered: &mut Gathered, digit: u16)
-    requires small { digit < 10 }
-    requires room { array_string_len gathered.old + 2 ≤ 256 }
-    ensures bytes { gathered.new.bytes ≡ gathered.old.bytes ++ (codes " " ++ decimal digit) }
-    ensures len { array_string_len gathered.new ≡ array_string_len gathered.old + 2 }
-{
-    gathered.push_str(" ");
-    push_digit(gathered, digit as u8);
+impl Gathered {
+    /// Nothing.
+    pub(crate) fn new() -> Self
+        ensures { result ≡ [] }
+    {
+        Gathered {
+            bytes: [0; ROOM],
+            len: 0,
+        }
+    }
+
+    /// Forgets what was gathered.
+    fn clear(&mut self)
+        ensures { self.new ≡ [] }
+    {
+        self.len = 0;
+    }
+
+    /// What was gathered, as text.
+    pub(crate) fn as_str(&self) -> &str
+        ensures { result.now ≡ self.now }
+    {
+        str::from_utf8(&self.bytes[..self.len]).unwrap()
+    }
+
+    /// Adds a label.
+    fn add_label(&mut self, label: &Label)
+        requires { length self.old + 16 ≤ 256 }
+        ensures bytes { self.new ≡ self.old ++ label.now }
+        ensures room { length label.now ≤ 16 }
+    {
+        self.len = label.put(&mut self.bytes, self.len);
+    }
 }
 
-/// Gathers the words of a lecture, each behind a blank, if there is room for them and its day and its
-/// period have one digit each, and answers whether it did.
+/// Gathers the words of a lecture, each behind a blank, if there is room for them and they have labels, and
+/// answers whether it did.
 fn gather(gathered: &mut Gathered, instance: &Instance, lecture: &Placed) -> bool
     requires { Fits instance.now lecture.now }
-    ensures added { result ≡ true → gathered.new.bytes ≡ gathered.old.bytes ++ lecture_part instance.now lecture.now }
+    ensures added { result ≡ true → gathered.new ≡ gathered.old ++ lecture_part instance.now lecture.now }
     ensures kept { result ≡ false → gathered.new ≡ gathered.old }
 {
-    let course = instance.course_name(lecture.course);
-    let room = instance.room_name(lecture.room);
-    let (day, period) = (
-        instance.day_of(lecture.slot),
-        instance.period_of(lecture.slot),
-    );
-    let left = gathered.remaining_capacity();
-    if day > 9 || period > 9 || course.len() > left || room.len() + 6 > left - course.len() {
+    if gathered.len > ROOM - LECTURE {
         return false;
     }
-    gather_word(gathered, course);
-    gather_word(gathered, room);
-    gather_digit(gathered, day);
-    gather_digit(gathered, period);
+    let (Some(course), Some(room), Some(slot)) = (
+        instance.course_label(lecture.course),
+        instance.room_label(lecture.room),
+        instance.slot_label(lecture.slot),
+    ) else {
+        return false;
+    };
+    gathered.add_label(course);
+    gathered.add_label(room);
+    gathered.add_label(slot);
     true
 }
 
@@ -96,7 +114,7 @@ pub(crate) fn add_lecture(
     lecture: &Placed,
 ) -> Result<(), AllocError>
     requires { Fits instance.now lecture.now }
-    ensures { OnOk result (string_bytes text.new ++ gathered.new.bytes ≡ (string_bytes text.old ++ gathered.old.bytes) ++ lecture_part instance.now lecture.now) }
+    ensures { OnOk result (string_bytes text.new ++ gathered.new ≡ (string_bytes text.old ++ gathered.old) ++ lecture_part instance.now lecture.now) }
 {
     if gather(gathered, instance, lecture) {
         return Ok(());

@@ -1,12 +1,12 @@
 -- Marks on numbers, by the words that hold them.
-use Rattle.std.proofs.Common.{◌≡◌, ℕ, zero, suc, ◌+◌, ◌-◌, ◌*◌, ◌/◌, ◌%◌, ◌^◌, ◌<◌, ◌≤◌, ◌≢◌, List, length, get_or, Bool, true, false, not, cond, ◌==◌, ◌&&◌, ◌||◌, nat_le, nat_lt, Some, refl, sym, ap, ap₂, ◌∙◌, arith, true≢false, w64, add-zero, zero-add, one-add, add-suc, add_assoc}
+use Rattle.std.proofs.Common.{◌≡◌, ℕ, zero, suc, ◌+◌, ◌-◌, ◌*◌, ◌/◌, ◌%◌, ◌^◌, ◌<◌, ◌≤◌, ◌≢◌, List, length, get_or, Bool, true, false, not, cond, ◌==◌, ◌&&◌, ◌||◌, nat_le, nat_lt, Option, Some, None, refl, sym, ap, ap₂, ◌∙◌, arith, true≢false, w64, add-zero, zero-add, one-add, add-suc, add_assoc}
 use Rattle.std.specs.Prelude.{replicate, slice_set, bit_and, bit_or, IfSome}
 use Rattle.std.specs.Bool.{then_some}
 use Rattle.std.specs.Int.{bit_at, bit_not, trailing_zeros}
 use Rattle.std.specs.Int.Count.{ones, ones_step}
 use Rattle.std.proofs.lemmas.List.{get_or-set_other, get_or_past, length-set}
 use Rattle.std.proofs.lemmas.Grind.{get_or-set_at}
-use Rattle.std.proofs.lemmas.Bool.{eqb-true, eqb-false}
+use Rattle.std.proofs.lemmas.Bool.{eqb-true, eqb-false, and_parts}
 use Rattle.std.proofs.lemmas.Bool.Decides.{nat_tests, Decides-ltb}
 use Rattle.std.proofs.lemmas.Nat.{div-add-mod', div_below, mod_below, pow_below, pow_pos, div-mul-add, mod-mul-add}
 use Rattle.std.proofs.Math.Nat.{mod-eq_of_lt, one-mul, zero-mul, pow-suc}
@@ -376,12 +376,13 @@ none_past a are first n large = ap (λ b. nat_le first n && b) (are.within n lar
     and_none true = refl
     and_none false = refl
 
-pub none_from : (a : List ℕ) → AreMarks a → (first n : ℕ) → 2000 ≤ first → marked_from first a n ≡ false
-none_from a are first n large = bool_case _ (nat_lt n 2000)
-    (λ is. ap (λ b. b && is_marked a n) (before first n ((Decides-ltb n 2000).0 is) large))
-    (λ isnt. none_past a are first n (not_below n 2000 isnt))
+-- none stands between a number and one that is no greater
+pub none_between : (a : List ℕ) (first end n : ℕ) → end ≤ first → (nat_lt n end && marked_from first a n) ≡ false
+none_between a first end n le = bool_case _ (nat_lt n end)
+    (λ is. rw is (ap (λ b. b && is_marked a n) (before first n ((Decides-ltb n end).0 is) le)))
+    (λ isnt. rw isnt refl)
   where
-    before : (first n : ℕ) → n < 2000 → 2000 ≤ first → nat_le first n ≡ false
+    before : (first n : ℕ) → n < end → end ≤ first → nat_le first n ≡ false
     before first n lt le = grind (arith, nat_tests)
 
 -- one of the later words, which all stand from the first number on
@@ -462,6 +463,24 @@ least_within count n = by (nat_lt n count) refl
     by : (b : Bool) → nat_lt n count ≡ b → IfSome (then_some b n) (λ k. k < count)
     by true e = (Decides-ltb n count).0 e
     by false e = tt
+
+-- the least that passes a test is the least that passes an equal one
+pub least_same : (f g : ℕ → Bool) → ((n : ℕ) → f n ≡ g n) → (found : Option ℕ) → IsLeast f found → IsLeast g found
+least_same f g same None h = λ n. sym (same n) ∙ h n
+least_same f g same (Some k) h = (sym (same k) ∙ h.0, λ m lt. sym (same m) ∙ h.1 m lt)
+
+-- where none passes from a bound on, the least below the bound is the least of all
+pub least_of_all : (test : ℕ → Bool) (end : ℕ) → ((n : ℕ) → test n ≡ true → n < end) → (found : Option ℕ) → IsLeast (λ n. nat_lt n end && test n) found → IsLeast test found
+least_of_all test end within found least = least_same (λ n. nat_lt n end && test n) test (λ n. either n (test n) refl) found least
+  where
+    either : (n : ℕ) (b : Bool) → test n ≡ b → (nat_lt n end && test n) ≡ test n
+    either n true e = let lt : n < end = within n e in let yes : nat_lt n end ≡ true = grind (arith, nat_tests) in ap (λ a. a && test n) yes
+    either n false e = and_no (nat_lt n end) (test n) e ∙ sym e
+
+-- the same of the marked numbers from one on, where all are below the bound
+pub next_of_all : (marks : ℕ → Bool) (first end : ℕ) → ((n : ℕ) → marks n ≡ true → n < end) → (found : Option ℕ)
+    → IsLeast (λ n. nat_lt n end && (nat_le first n && marks n)) found → IsLeast (λ n. nat_le first n && marks n) found
+next_of_all marks first end within = least_of_all (λ n. nat_le first n && marks n) end (λ n h. within n (and_parts (nat_le first n) (marks n) h).1)
 
 -- none passes where none of so many words has one
 pub none_below : (test : ℕ → Bool) (count p : ℕ) → count ≤ p * 64 → ((n : ℕ) → n / 64 < p → test n ≡ false) → (n : ℕ) → (nat_lt n count && test n) ≡ false

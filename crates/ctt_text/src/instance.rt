@@ -2,10 +2,12 @@
 
 ghost use Rattle.std.specs.Prelude.{◌≡◌, ◌<◌, ◌≤◌, ◌*◌, ◌&&◌, ℕ, [], length, nat_lt, slice_index_or, IfSome};
 ghost use Rattle.std.specs.List.{AllByRecursion as Each};
+ghost use Rattle.std.specs.Option.{option_map};
 ghost use Rattle.ctt_text.specs.Problem.{IsProblem, course_of, capacity_of, members, course_count, room_count, teacher_count, curriculum_count, slot_count, slot_of, day_of, period_of, clash, is_unavailable, number_in, IsSmall, AreMembers};
 ghost use Rattle.ctt_text.specs.Marks.{is_marked};
 ghost use Rattle.ctt_text.specs.Named.{IsNamed};
 ghost use Rattle.ctt_text.specs.Belonging.{curricula_of};
+ghost use Rattle.ctt_text.specs.Labels.{IsLabelOf, IsLabelOfDigits};
 
 mod belonging;
 mod clashes;
@@ -21,6 +23,7 @@ mod unavailable;
 
 use crate::course_facts::CourseFacts;
 use crate::ids::{CourseNo, CurriculumNo, RoomNo, SlotNo, TeacherNo};
+use crate::label::Label;
 use crate::marks::Marks;
 use crate::names::Names;
 pub use read::read_instance;
@@ -47,6 +50,12 @@ pub struct Instance {
     clashes: Vec<Marks>,
     /// For each course, its curricula.
     belonging: Vec<Vec<CurriculumNo>>,
+    /// The names of the courses, ready to be copied.
+    course_labels: Vec<Option<Label>>,
+    /// Those of the rooms.
+    room_labels: Vec<Option<Label>>,
+    /// The day and the period of each slot, ready to be copied.
+    slot_labels: Vec<Option<Label>>,
 }
 
 impl Model for Instance {
@@ -155,6 +164,30 @@ impl Instance {
         ensures { result.now ≡ slice_index_or self.now.room_names room [] }
     {
         self.room_names.name(room.get() as usize)
+    }
+
+    /// The label of a course's name; only a long name has none.
+    pub fn course_label(&self, course: CourseNo) -> Option<&Label>
+        requires { course < course_count self.now }
+        ensures { IsLabelOf (slice_index_or self.now.course_names course []) (option_map (λ l. l.now) result) }
+    {
+        self.course_labels[course.get() as usize].as_ref()
+    }
+
+    /// The label of a room's name; only a long name has none.
+    pub fn room_label(&self, room: RoomNo) -> Option<&Label>
+        requires { room < room_count self.now }
+        ensures { IsLabelOf (slice_index_or self.now.room_names room []) (option_map (λ l. l.now) result) }
+    {
+        self.room_labels[room.get() as usize].as_ref()
+    }
+
+    /// The label of a slot's day and period; only where one of them has two digits or more there is none.
+    pub fn slot_label(&self, slot: SlotNo) -> Option<&Label>
+        requires { slot < slot_count self.now }
+        ensures { IsLabelOfDigits (day_of self.now slot) (period_of self.now slot) (option_map (λ l. l.now) result) }
+    {
+        self.slot_labels[slot.get() as usize].as_ref()
     }
 
     /// The name of a teacher.

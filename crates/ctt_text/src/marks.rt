@@ -134,23 +134,26 @@ impl Marks {
         None
     }
 
-    /// The least marked number from `first` on.
-    pub fn next_from(&self, first: usize) -> Option<usize>
-        ensures least { IsLeast (λ n. nat_le first n && is_marked self.now n) result }
-        ensures within { IfSome result (λ n. n < 2000) }
+    /// The least marked number from `first` on and below `end`.
+    pub fn next_between(&self, first: usize, end: usize) -> Option<usize>
+        requires { end ≤ 2000 }
+        ensures least { IsLeast (λ n. nat_lt n end && (nat_le first n && is_marked self.now n)) result }
+        ensures within { IfSome result (λ n. n < end) }
     {
         let words = &self.words;
-        if first >= 2000 {
+        if first >= end {
             return None;
         }
         let here = words[first / 64] & (u64::MAX << (first % 64));
         if here != 0 {
-            return Some(first / 64 * 64 + here.trailing_zeros() as usize);
+            let number = first / 64 * 64 + here.trailing_zeros() as usize;
+            return (number < end).then_some(number);
         }
-        for place in first / 64 + 1..32 {
+        for place in first / 64 + 1..(end + 63) / 64 {
             let word = words[place];
             if word != 0 {
-                return Some(place * 64 + word.trailing_zeros() as usize);
+                let number = place * 64 + word.trailing_zeros() as usize;
+                return (number < end).then_some(number);
             }
         }
         None

@@ -6,11 +6,12 @@ ghost use Rattle.std.specs.String.{string_bytes};
 ghost use Rattle.std.specs.Str.Lossy.{utf8_valid_len};
 ghost use Rattle.ctt_text.specs.Words.{words};
 ghost use Rattle.ctt_text.specs.Reading.{Gives};
-ghost use Rattle.ctt_text.specs.Problem.{Problem, IsProblem};
+ghost use Rattle.ctt_text.specs.Problem.{Problem, IsProblem, slot_count};
 ghost use Rattle.ctt_text.specs.Named.{IsNamed};
 ghost use Rattle.ctt_text.specs.Ranked.{AreRanked};
 ghost use Rattle.ctt_text.specs.Instance.{AreClashes};
 ghost use Rattle.ctt_text.specs.Belonging.{AreCurricula};
+ghost use Rattle.ctt_text.specs.Labels.{AreLabels, AreSlotLabels};
 ghost use Rattle.ctt_text.specs.InstancePlaces.{GivesRead, reads, wants_memory, instance};
 ghost use Rattle.ctt_text.specs.LastSections.{last_sections};
 ghost use Rattle.ctt_text.specs.InstanceText.{Spells, InstanceBreaksAt};
@@ -30,6 +31,7 @@ use crate::instance::places::read_fixed;
 use crate::instance::rooms::{RoomSection, read_room_section};
 use crate::instance::unavailability::read_unavailability_section;
 use crate::instance::unavailable::Unavailable;
+use crate::label::{Label, labels, slot_labels};
 use crate::marks::Marks;
 use crate::reader::Reader;
 use std::alloc::{AllocError, Global};
@@ -64,6 +66,9 @@ struct Tables {
     name: String,
     clashes: Vec<Marks>,
     belonging: Vec<Vec<CurriculumNo>>,
+    course_labels: Vec<Option<Label>>,
+    room_labels: Vec<Option<Label>>,
+    slot_labels: Vec<Option<Label>>,
 }
 
 /// What stands behind the rooms.
@@ -122,12 +127,18 @@ impl<'a> Sections<'a> {
         name: String,
         clashes: Vec<Marks>,
         belonging: Vec<Vec<CurriculumNo>>,
+        course_labels: Vec<Option<Label>>,
+        room_labels: Vec<Option<Label>>,
+        slot_labels: Vec<Option<Label>>,
     ) -> Instance
         requires problem { IsProblem self }
         requires named { IsNamed self }
         requires name { string_bytes name ≡ self.name }
         requires clashes { AreClashes self clashes.items }
         requires belonging { AreCurricula self (map (λ q. q.items) belonging.items) }
+        requires course_labels { AreLabels self.course_names course_labels.items }
+        requires room_labels { AreLabels self.room_names room_labels.items }
+        requires slot_labels { AreSlotLabels (slot_count self) self.periods slot_labels.items }
         ensures { result ≡ self.entry }
     {
         let Sections {
@@ -151,6 +162,9 @@ impl<'a> Sections<'a> {
             unavailable,
             clashes,
             belonging,
+            course_labels,
+            room_labels,
+            slot_labels,
         }
     }
 
@@ -173,6 +187,17 @@ impl<'a> Sections<'a> {
         Ok(lists)
     }
 
+    /// The labels of the slots.
+    fn slot_labels(&self, alloc: Global) -> Result<Vec<Option<Label>>, AllocError>
+        requires problem { IsProblem self.now }
+        ensures { IfOk result (λ labels. AreSlotLabels (slot_count self.now) self.now.periods labels.items) }
+    {
+        let periods = self.header.periods as u16;
+        let slots = self.header.days as u16 * periods;
+        let labels = slot_labels(alloc, slots, periods)?;
+        Ok(labels)
+    }
+
     /// What the instance has beside the sections, which are lent: where memory is refused, none of
     /// them is let go here.
     fn tables(&self, alloc: Global) -> Result<Tables, AllocError>
@@ -181,18 +206,27 @@ impl<'a> Sections<'a> {
         ensures name { IfOk result (λ t. string_bytes t.name ≡ self.now.name) }
         ensures clashes { IfOk result (λ t. AreClashes self.now t.clashes.items) }
         ensures belonging { IfOk result (λ t. AreCurricula self.now (map (λ q. q.items) t.belonging.items)) }
+        ensures course_labels { IfOk result (λ t. AreLabels self.now.course_names t.course_labels.items) }
+        ensures room_labels { IfOk result (λ t. AreLabels self.now.room_names t.room_labels.items) }
+        ensures slot_labels { IfOk result (λ t. AreSlotLabels (slot_count self.now) self.now.periods t.slot_labels.items) }
     {
         let clashes = self.clashes(alloc)?;
         let belonging = self.belonging(alloc)?;
+        let course_labels = labels(alloc, &self.courses.names)?;
+        let room_labels = labels(alloc, &self.rooms.names)?;
+        let slot_labels = self.slot_labels(alloc)?;
         let name = String::from_str(alloc, self.header.name)?;
         Ok(Tables {
             name,
             clashes,
             belonging,
+            course_labels,
+            room_labels,
+            slot_labels,
         })
     }
 
-    /// The instance, with the rows of its clashes.
+    /// The instance, with its tables.
     fn into_instance(self, alloc: Global) -> Result<Instance, AllocError>
         requires problem { IsProblem self }
         requires named { IsNamed self }
@@ -204,8 +238,18 @@ impl<'a> Sections<'a> {
             name,
             clashes,
             belonging,
+            course_labels,
+            room_labels,
+            slot_labels,
         } = tables;
-        Ok(self.with_tables(name, clashes, belonging))
+        Ok(self.with_tables(
+            name,
+            clashes,
+            belonging,
+            course_labels,
+            room_labels,
+            slot_labels,
+        ))
     }
 }
 

@@ -1,5 +1,5 @@
 use Rattle.std.proofs.Common.{rules, ◌<◌}
-use Rattle.ctt_text.specs.Problem.{course_count}
+use Rattle.ctt_text.specs.Problem.{course_count, teacher_count, curriculum_count}
 use Rattle.ctt_edits.specs.Edits.{EditFits}
 use Rattle.ctt_edits.proofs.showing.look.Goals as goal
 
@@ -11,4 +11,14 @@ own_cost-requires g c κs =
 pub price_reply-requires : goal.price_reply-requires
 price_reply-requires g c κs =
     let fits : EditFits (g.S.Rooms.problem c.args.sheet.now) c.in-Price.edit = rw c.in-Price.is at c.requires in
+    search rules
+
+pub teacher_lectures-requires : goal.teacher_lectures-requires
+teacher_lectures-requires g c κs =
+    let fits : c.in-Teacher.teacher < teacher_count (g.S.Rooms.problem c.args.sheet.now) = rw c.in-Teacher.is at c.requires in
+    search rules
+
+pub curriculum_lectures-requires : goal.curriculum_lectures-requires
+curriculum_lectures-requires g c κs =
+    let fits : c.in-Curriculum.curriculum < curriculum_count (g.S.Rooms.problem c.args.sheet.now) = rw c.in-Curriculum.is at c.requires in
     search rules

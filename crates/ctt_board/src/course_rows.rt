@@ -1,0 +1,94 @@
+//! Appending the lectures of a course, whose rooms, or none, are told slot by slot.
+
+ghost use Rattle.std.specs.Prelude.{◌≡◌, ◌≤◌, ◌+◌, ◌++◌, get_or, None, is_some, length, map, OnOk};
+ghost use Rattle.std.specs.Simd.Lanes.{mask_l};
+ghost use Rattle.ctt_board.specs.Cells.{row_below, row_from, lecture_at};
+
+use crate::compact::Compact;
+use crate::filled::{GROUP, filled};
+use ctt_text::{CourseNo, Placed, SlotNo};
+use std::alloc::AllocError;
+
+/// Appends the lecture of a course in a slot, if it has a room there.
+pub(crate) fn append_here(
+    list: &mut Vec<Placed>,
+    here: Compact,
+    course: CourseNo,
+    slot: SlotNo,
+) -> Result<(), AllocError>
+    ensures { OnOk result (list.new.items ≡ list.old.items ++ lecture_at course slot here) }
+{
+    if let Some(room) = here.room() {
+        list.push(Placed { course, slot, room })?;
+    }
+    Ok(())
+}
+
+/// Appends the lectures of a course slot by slot, as where its row is shorter than a group.
+fn append_each(
+    list: &mut Vec<Placed>,
+    cells: &[Compact],
+    course: CourseNo,
+) -> Result<(), AllocError>
+    requires { length cells.now ≤ 2000 }
+    ensures { OnOk result (list.new.items ≡ list.old.items ++ row_below (λ s. get_or cells.now s None) course (length cells.now)) }
+{
+    for (number, here) in cells.iter().enumerate() {
+        append_here(list, *here, course, SlotNo::new(number as u16))?;
+    }
+    Ok(())
+}
+
+/// Appends the lectures of a course in the slots from `start` on, going from each filled cell to the next.
+#[inline(always)]
+fn append_filled(
+    list: &mut Vec<Placed>,
+    cells: &[Compact],
+    course: CourseNo,
+    start: usize,
+    filled: u64,
+) -> Result<(), AllocError>
+    requires filled { filled ≡ mask_l (map is_some cells.now) }
+    requires few { length cells.now ≤ GROUP }
+    requires slots { start + length cells.now ≤ 2000 }
+    ensures { OnOk result (list.new.items ≡ list.old.items ++ row_from cells.now course start) }
+{
+    let mut left = filled;
+    let mut place = 0;
+    while left != 0 {
+        let gap = left.trailing_zeros() as usize;
+        place += gap;
+        append_here(
+            list,
+            cells[place],
+            course,
+            SlotNo::new((start + place) as u16),
+        )?;
+        left = left >> (gap + 1);
+        place += 1;
+    }
+    Ok(())
+}
+
+/// Appends the lectures of a course. The last group of slots overlaps the one before it.
+pub(crate) fn append_slots(
+    list: &mut Vec<Placed>,
+    rooms: &[Compact],
+    course: CourseNo,
+) -> Result<(), AllocError>
+    requires { length rooms.now ≤ 2000 }
+    ensures { OnOk result (list.new.items ≡ list.old.items ++ row_below (λ s. get_or rooms.now s None) course (length rooms.now)) }
+{
+    if rooms.len() < GROUP {
+        return append_each(list, rooms, course);
+    }
+    let mut start = 0;
+    while start < rooms.len() {
+        let first = start.min(rooms.len() - GROUP);
+        let end = first + GROUP;
+        let left = filled(&rooms[first..end]) >> (start - first);
+        append_filled(list, &rooms[start..end], course, start, left)?;
+        start = end;
+    }
+    Ok(())
+}

@@ -1,0 +1,12 @@
+use Rattle.std.proofs.Common.{◌≡◌, ◌+◌, ◌++◌, length, take, sym, ap, ◌∙◌, subst, arith}
+use Rattle.std.proofs.lemmas.List.{length-take-le}
+use lib.Lanes.{put_chunk}
+use Rattle.ctt_text.proofs.LabelLemmas.{take_put}
+use Rattle.ctt_text.proofs.label.Label.put.Goals as goal
+
+pub returns-clause-bytes : goal.returns-clause-bytes
+returns-clause-bytes c =
+    let len = c.self.inside.len in
+    let bytes = c.self.inside.bytes in
+    let long : length (take len bytes) ≡ len = length-take-le len bytes (omega (arith, c.self.told, c.self.invariant.0)) in
+    rw (← c.self.view_is) (rw long (take_put c.args.at len c.args.bytes.now bytes (omega (arith, c.self.told, c.self.invariant.0)) (omega (arith, c.self.told, c.requires))))

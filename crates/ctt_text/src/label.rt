@@ -1,0 +1,103 @@
+//! Short words that are copied whole.
+
+ghost use Rattle.std.specs.Prelude.{◌≡◌, ◌<◌, ◌≤◌, ◌+◌, ◌++◌, length, take, IfOk};
+ghost use Rattle.std.specs.Str.{IsUtf8};
+ghost use Rattle.ctt_text.specs.Labels.{IsLabelOf, IsLabelOfDigits, AreLabels, AreSlotLabels};
+
+use crate::names::Names;
+use std::alloc::{AllocError, Global};
+use std::marker::Model;
+use std::simd::prelude::*;
+
+/// A word behind a blank, in front of sixteen bytes, which are copied together: that is one step, whatever
+/// the length of the word.
+#[derive(Debug, Drop)]
+pub struct Label {
+    bytes: [u8; 16],
+    len: usize,
+}
+
+impl Model for Label {
+    ghost use Rattle.std.specs.Prelude.{List, ℕ, ◌≤◌, take};
+    ghost use Rattle.std.specs.Str.{IsUtf8};
+
+    ghost Value = { List ℕ };
+
+    ghost view = { λ l. take l.len l.bytes };
+
+    ghost invariant = { λ l. (l.len ≤ 16) × IsUtf8 (take l.len l.bytes) };
+}
+
+impl Label {
+    /// The label of a word, unless the word has more than 15 bytes.
+    pub(crate) fn of(word: &str) -> Option<Self>
+        ensures { IsLabelOf word.now result }
+    {
+        let len = word.len();
+        if len > 15 {
+            return None;
+        }
+        let mut bytes = [0; 16];
+        bytes[0] = b' ';
+        bytes[1..len + 1].copy_from_slice(word.as_bytes());
+        Some(Label {
+            bytes,
+            len: len + 1,
+        })
+    }
+
+    /// The label of two words that are numbers of one digit each; other numbers have none.
+    pub(crate) fn of_digits(first: u16, second: u16) -> Option<Self>
+        ensures { IsLabelOfDigits first second result }
+    {
+        if first > 9 || second > 9 {
+            return None;
+        }
+        let mut bytes = [b' '; 16];
+        bytes[1] = b'0' + first as u8;
+        bytes[3] = b'0' + second as u8;
+        Some(Label { bytes, len: 4 })
+    }
+
+    /// Puts the blank and the word among some bytes, from a place on, and answers where they end. What stands
+    /// within sixteen bytes of the place is overwritten.
+    #[inline(always)]
+    pub fn put(&self, bytes: &mut [u8], at: usize) -> usize
+        requires { at + 16 ≤ length bytes.old }
+        ensures size { length bytes.new ≡ length bytes.old }
+        ensures end { result ≡ at + length self.now }
+        ensures room { length self.now ≤ 16 }
+        ensures bytes { take (at + length self.now) bytes.new ≡ take at bytes.old ++ self.now }
+        ensures utf8 { IsUtf8 self.now }
+    {
+        u8x16::from_array(self.bytes).copy_to_slice(&mut bytes[at..]);
+        at + self.len
+    }
+}
+
+/// The labels of some names.
+pub(crate) fn labels(alloc: Global, names: &Names) -> Result<Vec<Option<Label>>, AllocError>
+    ensures { IfOk result (λ labels. AreLabels names.now labels.items) }
+{
+    let mut labels = Vec::with_capacity(alloc, names.len())?;
+    for number in 0..names.len() {
+        labels.push(Label::of(names.name(number)))?;
+    }
+    Ok(labels)
+}
+
+/// The labels of the slots: of the day and the period of each.
+pub(crate) fn slot_labels(
+    alloc: Global,
+    slots: u16,
+    periods: u16,
+) -> Result<Vec<Option<Label>>, AllocError>
+    requires { 0 < slots → 0 < periods }
+    ensures { IfOk result (λ labels. AreSlotLabels slots periods labels.items) }
+{
+    let mut labels = Vec::with_capacity(alloc, slots as usize)?;
+    for slot in 0..slots {
+        labels.push(Label::of_digits(slot / periods, slot % periods))?;
+    }
+    Ok(labels)
+}
