@@ -1,20 +1,24 @@
 -- Drafts that are run anew, call by call and entry by entry.
-use Rattle.std.proofs.Common.{◌≡◌, ℕ, zero, suc, ◌+◌, ◌<◌, ◌≤◌, List, [], ◌∷◌, ◌++◌, Option, Some, None, length, refl, Result, Ok, Err, IsTrue, ◌↔◌, false, true, ◌∙◌, sym, ap, ap₂, subst, append_assoc, append-nil, length-append, get_or, drop, arith}
+use Rattle.std.proofs.Common.{◌≡◌, ℕ, zero, suc, ◌+◌, ◌^◌, ◌<◌, ◌≤◌, List, [], ◌∷◌, ◌++◌, Option, Some, None, length, refl, Result, Ok, Err, IsTrue, ◌↔◌, false, true, ◌∙◌, sym, ap, ap₂, subst, append_assoc, append-nil, length-append, get_or, drop, arith}
 use Rattle.std.proofs.lemmas.List.{map-append}
 use Rattle.std.specs.List.{AllByRecursion as Each}
 use Rattle.std.specs.Prelude.{IfOk}
-use Rattle.ctt_text.specs.Problem.{Problem}
+use Rattle.ctt_text.specs.Problem.{Problem, IsProblem}
 use Rattle.ctt_text.specs.declared.placed.Placed.{Placed}
+use Rattle.ctt_rules.specs.Hard.{Lawful}
 use Rattle.ctt_edits.specs.Calls.{CallFits, reply}
+use Rattle.ctt_edits.specs.Fitting.{IsReply}
+use Rattle.ctt_edits.proofs.ReplyLemmas.{replies_fit}
 use Rattle.ctt_edits.specs.Openings.{opening}
+use Rattle.ctt_edits.specs.declared.call.Call.{Call}
 use Rattle.ctt_edits.specs.declared.fault.EditFault.{EditFault}
 use Rattle.ctt_edits.specs.declared.reply.Reply.{Reply}
 use Rattle.ctt_draft.specs.Drafts.{AskedFits, calls_of, replies_in, replies, whole, after_call}
 use Rattle.ctt_draft.specs.declared.asked.Asked.{Asked}
 use Rattle.ctt_draft.proofs.CallRuns.{replies-push, whole-push}
 use Rattle.ctt_draft.proofs.DraftSteps.{calls-push}
-use Rattle.ctt_core.specs.Auditors.{AuditorValue, IsAuditor}
-use Rattle.ctt_core.specs.Audits.{DiffersIn, DiffersAt, Finds, IsNext, IsVerdict, found_more}
+use Rattle.ctt_core.specs.Auditors.{AuditorValue, IsAuditor, MadeOn, with_heard}
+use Rattle.ctt_core.specs.Audits.{DiffersIn, DiffersAt, Finds, IsNext, IsVerdict, Replayed, found_more}
 use Rattle.ctt_core.specs.Entries.{EntryFits}
 use Rattle.ctt_core.specs.Runs.{after, Legal}
 use Rattle.ctt_core.specs.declared.auditing.Verdict.{Verdict}
@@ -63,24 +67,110 @@ next_other i u v x number told tells other = λ t earlier counted r. record {
 }
 
 -- nothing was taken yet
-pub auditor_opened : (i j : Problem) (ls u : List Placed) (entries : List JournalEntry) (asked : List Asked) → opening i ls ≡ Ok u → j ≡ i → entries ≡ [] → asked ≡ [] → IsAuditor j ls u Agrees None 0 0 entries asked
-auditor_opened i j ls u entries asked e same none none_asked = rw (same, none, none_asked) record { t0 = u; opens = e; ended_is = refl; begun_is = refl; finds = tt; goes_on = λ same. (refl, refl) }
+pub auditor_opened : (i j : Problem) (ls u : List Placed) (entries : List JournalEntry) (asked : List Asked) → opening i ls ≡ Ok u → j ≡ i → entries ≡ [] → asked ≡ [] → IsAuditor j ls u Agrees None 0 0 entries asked None None
+auditor_opened i j ls u entries asked e same none none_asked = rw (same, none, none_asked) record { t0 = u; opens = e; ended_is = refl; begun_is = refl; counts = tt; untold = λ m. refl; finds = tt; goes_on = λ same. (refl, refl) }
 
--- one call more
-pub auditor_asked : (i j : Problem) (ls u v : List Placed) (found : Verdict) (differs now : Option ℕ) (ended begun number : ℕ) (entries : List JournalEntry) (asked longer : List Asked) (x : Asked) → IsAuditor i ls u found differs ended begun entries asked
-    → number ≡ begun + 1 → j ≡ i → IsNext i u v x number differs now → longer ≡ asked ++ x ∷ [] → IsAuditor j ls v found now ended number entries longer
-auditor_asked i j ls u v found differs now ended begun number entries asked longer x a is same next more = rw (more, same) record {
-  t0 = a.t0;
-  opens = a.opens;
-  ended_is = a.ended_is;
-  begun_is = is ∙ ap (λ n. n + 1) a.begun_is ∙ sym (length-append asked (x ∷ []));
-  finds = a.finds;
-  goes_on = λ agrees. next (after i a.t0 entries) asked (is ∙ ap (λ n. n + 1) a.begun_is) (a.goes_on agrees);
-}
+-- a call that was made was told the same
+made_same : (i : Problem) (t u : List Placed) (asked : List Asked) (differs : Option ℕ) (x : Asked) (number : ℕ) → number ≡ length asked + 1 → MadeOn i t u asked differs (Some x.call) (Some x.reply) → Replayed i t u (asked ++ x ∷ []) differs
+made_same i t u asked None x number counted m = next_same i m.0 u x number x.reply (only m.2) refl m.3 t asked counted m.1
+  where
+    only : {r q : Reply} → Some r ≡ Some q → r ≡ q
+    only e = cc
+made_same i t u asked (Some n) x number counted m = cc
+
+-- or something else
+made_other : (i : Problem) (t u : List Placed) (asked : List Asked) (differs : Option ℕ) (x : Asked) (told : Reply) (number : ℕ) → (told ≡ x.reply → ⊥) → number ≡ length asked + 1 → MadeOn i t u asked differs (Some x.call) (Some told) → Replayed i t u (asked ++ x ∷ []) (Some number)
+made_other i t u asked None x told number other counted m = next_other i m.0 u x number told (only m.2) other t asked counted m.1
+  where
+    only : {r q : Reply} → Some r ≡ Some q → r ≡ q
+    only e = cc
+made_other i t u asked (Some n) x told number other counted m = cc
+
+-- or one before it was
+made_untold : (i : Problem) (t u : List Placed) (asked : List Asked) (differs : Option ℕ) (x : Asked) (number : ℕ) → number ≡ length asked + 1 → MadeOn i t u asked differs (Some x.call) None → Replayed i t u (asked ++ x ∷ []) differs
+made_untold i t u asked None x number counted m = cc
+made_untold i t u asked (Some n) x number counted m = differs_more i u x number n t asked counted m.0
+
+made_none : (i : Problem) (t u : List Placed) (asked : List Asked) (differs : Option ℕ) (made : Option Call) → MadeOn i t u asked differs made None → Replayed i t u asked differs
+made_none i t u asked differs None m = m
+made_none i t u asked None (Some call) m = cc
+made_none i t u asked (Some n) (Some call) m = m.0
+
+-- what a call is told can be written
+pub told_fits : (i j : Problem) (u : List Placed) (call : Call) (told : Reply) → IsProblem j → j ≡ i → Lawful i u → CallFits i call → told ≡ reply i u call → IsReply i told
+told_fits i j u call told is same lawful fits tells = subst (IsReply i) (sym tells) (replies_fit i u call (subst IsProblem same is) lawful fits)
+
+module _ (i : Problem) (ls u : List Placed) (found : Verdict) (ended begun : ℕ) (entries : List JournalEntry) (asked : List Asked) where
+  -- a call is made
+  pub auditor_made : (j : Problem) (v : List Placed) (call : Call) (told : Reply) (before : Option Reply) → IsAuditor i ls u found None ended begun entries asked None before
+      → begun + 1 < 2 ^ 64 → j ≡ i → told ≡ reply i u call → v ≡ after_call i u call → IsAuditor j ls v found None ended begun entries asked (Some call) (Some told)
+  auditor_made j v call told before a room same tells left = rw same record {
+    t0 = a.t0;
+    opens = a.opens;
+    ended_is = a.ended_is;
+    begun_is = a.begun_is;
+    counts = room;
+    untold = λ m. cc;
+    finds = a.finds;
+    goes_on = λ agrees. (u, a.goes_on agrees, ap (λ r. Some r) tells, left);
+  }
+
+  -- or not, behind a difference
+  pub auditor_passed : (n : ℕ) (call : Call) (told : Option Reply) → IsAuditor i ls u found (Some n) ended begun entries asked None told → begun + 1 < 2 ^ 64 → IsAuditor i ls u found (Some n) ended begun entries asked (Some call) told
+  auditor_passed n call told a room = record {
+    t0 = a.t0;
+    opens = a.opens;
+    ended_is = a.ended_is;
+    begun_is = a.begun_is;
+    counts = room;
+    untold = λ m. cc;
+    finds = a.finds;
+    goes_on = λ agrees. (a.goes_on agrees, a.untold refl);
+  }
+
+  -- nothing is heard
+  pub auditor_unheard : (differs : Option ℕ) (made : Option Call) (told : Option Reply) → IsAuditor i ls u found differs ended begun entries asked made told → told ≡ None → IsAuditor i ls u found differs ended begun entries asked None None
+  auditor_unheard differs made told a none = record {
+    t0 = a.t0;
+    opens = a.opens;
+    ended_is = a.ended_is;
+    begun_is = a.begun_is;
+    counts = tt;
+    untold = λ m. refl;
+    finds = a.finds;
+    goes_on = λ agrees. made_none i (after i a.t0 entries) u asked differs made (subst (MadeOn i (after i a.t0 entries) u asked differs made) none (a.goes_on agrees));
+  }
+
+  module _ (differs : Option ℕ) (number : ℕ) (longer : List Asked) (x : Asked) (is : number ≡ begun + 1) (more : longer ≡ asked ++ x ∷ []) where
+    auditor_next : (now : Option ℕ) (told : Option Reply) → IsAuditor i ls u found differs ended begun entries asked (Some x.call) told
+        → ((t : List Placed) → number ≡ length asked + 1 → MadeOn i t u asked differs (Some x.call) told → Replayed i t u (asked ++ x ∷ []) now) → IsAuditor i ls u found now ended number entries longer None None
+    auditor_next now told a next = rw more record {
+      t0 = a.t0;
+      opens = a.opens;
+      ended_is = a.ended_is;
+      begun_is = is ∙ ap (λ n. n + 1) a.begun_is ∙ sym (length-append asked (x ∷ []));
+      counts = tt;
+      untold = λ m. refl;
+      finds = a.finds;
+      goes_on = λ agrees. next (after i a.t0 entries) (is ∙ ap (λ n. n + 1) a.begun_is) (a.goes_on agrees);
+    }
+
+    module _ (made : Option Call) (told : Option Reply) (is_made : made ≡ Some x.call) (a : IsAuditor i ls u found differs ended begun entries asked made told) where
+      -- it was told the same
+      pub auditor_same : told ≡ Some x.reply → IsAuditor i ls u found differs ended number entries longer None None
+      auditor_same same = auditor_next differs (Some x.reply) (rw (is_made, same) at a) (λ t counted m. made_same i t u asked differs x number counted m)
+
+      -- or something else
+      pub auditor_other : (here : Reply) → told ≡ Some here → (here ≡ x.reply → ⊥) → IsAuditor i ls u found (Some number) ended number entries longer None None
+      auditor_other here is_told other = auditor_next (Some number) (Some here) (rw (is_made, is_told) at a) (λ t counted m. made_other i t u asked differs x here number other counted m)
+
+      -- or one before it was
+      pub auditor_untold : told ≡ None → IsAuditor i ls u found differs ended number entries longer None None
+      auditor_untold none = auditor_next differs None (rw (is_made, none) at a) (λ t counted m. made_untold i t u asked differs x number counted m)
 
 -- one entry more
-auditor_ended : (i : Problem) (ls u : List Placed) (found : Verdict) (differs : Option ℕ) (ended begun : ℕ) (entries : List JournalEntry) (asked : List Asked) (e : JournalEntry) → e.asked ≡ asked → IsAuditor i ls u found differs ended begun entries asked
-    → IsAuditor i ls u (found_more found (ended + 1) differs) differs (ended + 1) 0 (entries ++ e ∷ []) []
+auditor_ended : (i : Problem) (ls u : List Placed) (found : Verdict) (differs : Option ℕ) (ended begun : ℕ) (entries : List JournalEntry) (asked : List Asked) (e : JournalEntry) → e.asked ≡ asked → IsAuditor i ls u found differs ended begun entries asked None None
+    → IsAuditor i ls u (found_more found (ended + 1) differs) differs (ended + 1) 0 (entries ++ e ∷ []) [] None None
 auditor_ended i ls u Agrees None ended begun entries asked e same a =
     let run = subst (λ xs. (replies_in xs ≡ replies i (after i a.t0 entries) (calls_of xs)) × (u ≡ whole i (after i a.t0 entries) (calls_of xs))) (sym same) (a.goes_on refl) in
     record {
@@ -88,6 +178,8 @@ auditor_ended i ls u Agrees None ended begun entries asked e same a =
       opens = a.opens;
       ended_is = ap (λ n. n + 1) a.ended_is ∙ sym (length-append entries (e ∷ []));
       begun_is = refl;
+      counts = tt;
+      untold = λ m. refl;
       finds = Legal-push i a.t0 entries e a.finds run.0;
       goes_on = λ agrees. (refl, run.1 ∙ sym (after-push i a.t0 entries e));
     }
@@ -96,6 +188,8 @@ auditor_ended i ls u Agrees (Some call) ended begun entries asked e same a = rec
   opens = a.opens;
   ended_is = ap (λ n. n + 1) a.ended_is ∙ sym (length-append entries (e ∷ []));
   begun_is = refl;
+  counts = tt;
+  untold = λ m. refl;
   finds = record {
     earlier = entries;
     this = e;
@@ -113,6 +207,8 @@ auditor_ended i ls u (Differs entry call) differs ended begun entries asked e sa
   opens = a.opens;
   ended_is = ap (λ n. n + 1) a.ended_is ∙ sym (length-append entries (e ∷ []));
   begun_is = refl;
+  counts = tt;
+  untold = λ m. refl;
   finds = record {
     earlier = a.finds.earlier;
     this = a.finds.this;
@@ -125,13 +221,22 @@ auditor_ended i ls u (Differs entry call) differs ended begun entries asked e sa
   goes_on = λ (agrees : Differs entry call ≡ Agrees). cc;
 }
 
-pub auditor_more : (i : Problem) (ls u : List Placed) (found more : Verdict) (differs : Option ℕ) (ended begun number : ℕ) (entries longer : List JournalEntry) (asked none : List Asked) (e : JournalEntry) → IsAuditor i ls u found differs ended begun entries asked
-    → number ≡ ended + 1 → more ≡ found_more found number differs → e.asked ≡ asked → longer ≡ entries ++ e ∷ [] → none ≡ [] → IsAuditor i ls u more differs number 0 longer none
-auditor_more i ls u found more differs ended begun number entries longer asked none e a is found_is same list empty = rw (found_is, is, list, empty) (auditor_ended i ls u found differs ended begun entries asked e same a)
+pub auditor_more : (i : Problem) (ls u : List Placed) (found more : Verdict) (differs : Option ℕ) (ended begun number : ℕ) (entries longer : List JournalEntry) (asked none : List Asked) (made : Option Call) (told : Option Reply) (e : JournalEntry) → made ≡ None → IsAuditor i ls u found differs ended begun entries asked made told
+    → number ≡ ended + 1 → more ≡ found_more found number differs → e.asked ≡ asked → longer ≡ entries ++ e ∷ [] → none ≡ [] → IsAuditor i ls u more differs number 0 longer none made told
+auditor_more i ls u found more differs ended begun number entries longer asked none made told e ready a is found_is same list empty =
+    let free : IsAuditor i ls u found differs ended begun entries asked None None = auditor_unheard i ls u found ended begun entries asked differs made told a (a.untold ready) in
+    rw (found_is, is, list, empty, ready, a.untold ready) (auditor_ended i ls u found differs ended begun entries asked e same free)
 
 -- what is found of the entries that have ended
-pub auditor_finds : (i : Problem) (ls u : List Placed) (found : Verdict) (differs : Option ℕ) (ended begun : ℕ) (entries : List JournalEntry) (asked : List Asked) → IsAuditor i ls u found differs ended begun entries asked → IsVerdict i ls entries found
-auditor_finds i ls u found differs ended begun entries asked a = opened i i ls a.t0 entries found refl a.opens a.finds
+pub auditor_finds : (i : Problem) (ls u : List Placed) (found : Verdict) (differs : Option ℕ) (ended begun : ℕ) (entries : List JournalEntry) (asked : List Asked) (made : Option Call) (told : Option Reply) → IsAuditor i ls u found differs ended begun entries asked made told → IsVerdict i ls entries found
+auditor_finds i ls u found differs ended begun entries asked made told a = opened i i ls a.t0 entries found refl a.opens a.finds
+
+-- a call is made, and what it was told is heard
+pub made_heard : (v w z : AuditorValue) (x : Asked) → v.made ≡ None → v.told ≡ None → w ≡ record v { made = Some x.call; told = w.told } → z ≡ with_heard w (Some x.reply) → z ≡ record v { asked = v.asked ++ x ∷ [] }
+made_heard v w z x ready untold makes hears =
+    hears
+    ∙ ap (λ (a : AuditorValue). with_heard a (Some x.reply)) makes
+    ∙ ap₂ (λ m t. record v { asked = v.asked ++ x ∷ []; made = m; told = t }) (sym ready) (sym untold)
 
 -- calls that an auditor takes one by one, and entries
 abbrev pub ran : List Asked → AuditorValue → AuditorValue
@@ -168,6 +273,7 @@ none_left (x ∷ xs) (suc k) le = none_left xs k (omega (arith, le))
 pub record Running (v0 v : AuditorValue) (asked left : List Asked) : Type 0 where
   pub goes_on : ran left v ≡ ran asked v0
   pub fit : Each (AskedFits v.problem) left
+  pub ready : v.made ≡ None
 
 module _ (v0 v : AuditorValue) (asked items : List Asked) (k : ℕ) (r : Running v0 v asked (drop k items)) where
   pub running_fits : (x : Asked) → k < length items → x ≡ get_or items k x → CallFits v.problem x.call
@@ -177,6 +283,7 @@ module _ (v0 v : AuditorValue) (asked items : List Asked) (k : ℕ) (r : Running
   running_more x w lt is more = rw more record {
     goes_on = ap (λ xs. ran xs v) (sym (left_at items k x lt is)) ∙ r.goes_on;
     fit = (subst (Each (AskedFits v.problem)) (left_at items k x lt is) r.fit).1;
+    ready = r.ready;
   }
 
   running_done : length items ≤ k → v ≡ record v0 { asked = v0.asked ++ asked }
@@ -196,6 +303,7 @@ pub record Hearing (v0 v : AuditorValue) (entries left : List JournalEntry) : Ty
   pub goes_on : heard left v ≡ heard entries v0
   pub fit : Each (EntryFits v.problem) left
   pub begun : v.asked ≡ []
+  pub ready : v.made ≡ None
 
 module _ (v0 v : AuditorValue) (entries : List JournalEntry) (k : ℕ) (r : Hearing v0 v entries (drop k entries)) where
   pub hearing_fits : (e : JournalEntry) → k < length entries → e ≡ get_or entries k e → EntryFits v.problem e
@@ -206,6 +314,7 @@ module _ (v0 v : AuditorValue) (entries : List JournalEntry) (k : ℕ) (r : Hear
     goes_on = ap (λ xs. heard xs v) (sym (left_at entries k e lt is)) ∙ r.goes_on;
     fit = (subst (Each (EntryFits v.problem)) (left_at entries k e lt is) r.fit).1;
     begun = r.begun;
+    ready = r.ready;
   }
 
   pub hearing_done : length entries ≤ k → v ≡ record v0 { entries = v0.entries ++ entries }

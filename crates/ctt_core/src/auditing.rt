@@ -1,17 +1,20 @@
 //! The audit of a journal: its drafts are run whole, one after another, and told anew.
 
-ghost use Rattle.std.specs.Prelude.{◌≡◌, IfOk, IfErr, OnOk, OnErr, Ok, List, [], ◌∷◌, ◌++◌};
+ghost use Rattle.std.specs.Prelude.{◌≡◌, IfOk, IfErr, IfSome, OnOk, OnErr, Ok, Some, None, List, [], ◌∷◌, ◌++◌};
 ghost use Rattle.std.specs.List.{AllByRecursion as Each};
+ghost use Rattle.std.specs.Option.{option_map};
 ghost use Rattle.ctt_text.specs.Timetable.{Fits};
 ghost use Rattle.ctt_text.specs.declared.placed.Placed.{Placed};
 ghost use Rattle.ctt_edits.specs.Calls.{CallFits, reply};
 ghost use Rattle.ctt_edits.specs.Edits.{EditFits};
+ghost use Rattle.ctt_edits.specs.Fitting.{IsReply};
 ghost use Rattle.ctt_edits.specs.Openings.{opening};
 ghost use Rattle.ctt_edits.specs.declared.call.Call.TheVariants.{Edit as Edits};
 ghost use Rattle.ctt_draft.specs.Drafts.{after_call};
 ghost use Rattle.ctt_core.specs.Entries.{EntryFits};
 ghost use Rattle.ctt_core.specs.Runs.{Legal};
-ghost use Rattle.ctt_core.specs.Audits.{IsNext, IsVerdict, found_more};
+ghost use Rattle.ctt_core.specs.Auditors.{with_heard};
+ghost use Rattle.ctt_core.specs.Audits.{IsVerdict, found_more};
 ghost use Rattle.ctt_core.specs.Openings.{IsOpeningFault};
 ghost use Rattle.ctt_core.specs.declared.auditing.Verdict.TheVariants.{Agrees};
 
@@ -69,32 +72,6 @@ fn answer<'i, S: Sheet<'i>>(alloc: Global, sheet: &mut S, call: &Call) -> Result
     }
 }
 
-/// Makes a call on a sheet and compares what it is told with what it was told, unless a call before it
-/// was told something else; and answers the number of the first call that was, if one was.
-fn compare<'i, S: Sheet<'i>>(
-    alloc: Global,
-    sheet: &mut S,
-    differs: Option<u64>,
-    number: u64,
-    asked: &Asked,
-) -> Result<Option<u64>, NoMemory>
-    requires { CallFits (S.problem sheet.old) asked.now.call }
-    ensures problem { S.problem sheet.new ≡ S.problem sheet.old }
-    ensures kept { OnErr result (S.list sheet.new ≡ S.list sheet.old) }
-    ensures found { IfOk result (λ after. IsNext (S.problem sheet.old) (S.list sheet.old) (S.list sheet.new) asked.now number differs after) }
-{
-    match differs {
-        Some(_) => Ok(differs),
-        None => {
-            let told = answer(alloc, sheet, &asked.call)?;
-            if !told.is_same(&asked.reply) {
-                return Ok(Some(number));
-            }
-            Ok(None)
-        }
-    }
-}
-
 /// What is found with an entry more, of which this call was told something else, if one was.
 fn found_with(found: Verdict, entry: u64, differs: Option<u64>) -> Verdict
     ensures { result ≡ found_more found entry differs }
@@ -117,12 +94,25 @@ struct Ended<'a> {
 
 struct WholeEntry;
 
+/// A call, and what it was told.
+#[derive(Drop)]
+struct Heard<'a> {
+    call: Call,
+    reply: &'a Reply,
+}
+
+struct WholeCall;
+
+impl<'a> Tells<Heard<'a>, Asked> for WholeCall {
+    ghost element = { λ h. record { call = h.call; reply = h.reply.now } };
+}
+
 impl<'a> Tells<Ended<'a>, JournalEntry> for WholeEntry {
     ghost element = { λ e. record { planner = e.planner; asked = e.asked.now } };
 }
 
 /// An audit in progress. The entries are run as they come, call by call, and none of them is kept; behind the
-/// first call that was told something else none is run.
+/// first call that was told something else none is run. A call is made first, and what it was told is heard then.
 #[derive(Drop)]
 pub struct Auditor<'a, S: Timetable> {
     opening: &'a [Placed],
@@ -131,6 +121,10 @@ pub struct Auditor<'a, S: Timetable> {
     differs: Option<u64>,
     ended: u64,
     begun: u64,
+    /// The call that was made last, until what it was told is heard.
+    made: Option<Call>,
+    /// What it is told here.
+    told: Option<Reply>,
     entries: GhostList<JournalEntry>,
     asked: GhostList<Asked>,
 }
@@ -140,9 +134,9 @@ impl<'a, S: Timetable> Model for Auditor<'a, S> {
 
     ghost Value = { AuditorValue };
 
-    ghost view = { λ a. record { problem = S.problem a.sheet; lectures = a.opening.now; entries = a.entries; asked = a.asked } };
+    ghost view = { λ a. record { problem = S.problem a.sheet; lectures = a.opening.now; entries = a.entries; asked = a.asked; made = a.made; told = a.told } };
 
-    ghost invariant = { λ a. IsAuditor (S.problem a.sheet) a.opening.now (S.list a.sheet) a.found a.differs a.ended a.begun a.entries a.asked };
+    ghost invariant = { λ a. IsAuditor (S.problem a.sheet) a.opening.now (S.list a.sheet) a.found a.differs a.ended a.begun a.entries a.asked a.made a.told };
 }
 
 impl<'a, 'i, S: Sheet<'i>> Auditor<'a, S> {
@@ -154,7 +148,7 @@ impl<'a, 'i, S: Sheet<'i>> Auditor<'a, S> {
         lectures: &'a [Placed],
     ) -> Result<Self, DeskFault>
         requires { Each (Fits instance.now) lectures.now }
-        ensures opened { IfOk result (λ auditor. auditor ≡ record { problem = instance.now; lectures = lectures.now; entries = []; asked = [] }) }
+        ensures opened { IfOk result (λ auditor. auditor ≡ record { problem = instance.now; lectures = lectures.now; entries = []; asked = []; made = None; told = None }) }
         ensures fault { IfErr result (IsOpeningFault instance.now lectures.now) }
     {
         let sheet = placed::<S>(alloc, instance, lectures)?;
@@ -165,6 +159,8 @@ impl<'a, 'i, S: Sheet<'i>> Auditor<'a, S> {
             differs: None,
             ended: 0,
             begun: 0,
+            made: None,
+            told: None,
             entries: GhostList::new(),
             asked: GhostList::new(),
         })
@@ -177,24 +173,82 @@ impl<'a, 'i, S: Sheet<'i>> Auditor<'a, S> {
         self.sheet.instance()
     }
 
-    /// Takes the next call of the entry that comes, with its reply.
-    pub fn ask(&mut self, alloc: Global, asked: &Asked) -> Result<(), NoMemory>
-        requires { CallFits self.old.problem asked.now.call }
-        ensures ok { OnOk result (self.new ≡ record self.old { asked = self.old.asked ++ asked.now ∷ [] }) }
+    /// Makes the next call of the entry that comes, unless a call before it was told something else.
+    pub fn tell(&mut self, alloc: Global, call: Call) -> Result<(), NoMemory>
+        requires fits { CallFits self.old.problem call }
+        requires ready { self.old.made ≡ None }
+        ensures ok { OnOk result (self.new ≡ record self.old { made = Some call; told = self.new.told }) }
+        ensures told { OnOk result (IfSome self.new.told (IsReply self.old.problem)) }
         ensures err { OnErr result (self.new ≡ self.old) }
     {
         if self.begun == u64::MAX {
             return Err(NoMemory);
         }
-        let number = self.begun + 1;
-        self.differs = compare(alloc, &mut self.sheet, self.differs, number, asked)?;
-        self.begun = number;
-        self.asked.push::<Asked, Itself>(asked);
+        if self.differs.is_none() {
+            self.sheet.instance().limits_hold();
+            self.sheet.lawful();
+            self.told = Some(answer(alloc, &mut self.sheet, &call)?);
+        }
+        self.made = Some(call);
+        Ok(())
+    }
+
+    /// What the call that was made is told, if it was made.
+    pub fn told(&self) -> Option<&Reply>
+        ensures { option_map (λ r. r.now) result ≡ self.now.told }
+    {
+        self.told.as_ref()
+    }
+
+    /// Hears that the call was told what it is told.
+    pub fn hear_same(&mut self)
+        ensures { self.new ≡ with_heard self.old self.old.told }
+    {
+        if let Some(call) = self.made {
+            if let Some(told) = &self.told {
+                let heard = Heard { call, reply: told };
+                self.begun += 1;
+                self.asked.push::<Heard, WholeCall>(&heard);
+            }
+        }
+        self.made = None;
+        self.told = None;
+    }
+
+    /// Hears what the call was told.
+    pub fn hear(&mut self, reply: &Reply)
+        ensures { self.new ≡ with_heard self.old (Some reply.now) }
+    {
+        if let Some(call) = self.made {
+            self.begun += 1;
+            if let Some(told) = &self.told {
+                if !told.is_same(reply) {
+                    self.differs = Some(self.begun);
+                }
+            }
+            let heard = Heard { call, reply };
+            self.asked.push::<Heard, WholeCall>(&heard);
+        }
+        self.made = None;
+        self.told = None;
+    }
+
+    /// Takes the next call of the entry that comes, with its reply.
+    pub fn ask(&mut self, alloc: Global, asked: &Asked) -> Result<(), NoMemory>
+        requires fits { CallFits self.old.problem asked.now.call }
+        requires ready { self.old.made ≡ None }
+        ensures ok { OnOk result (self.new ≡ record self.old { asked = self.old.asked ++ asked.now ∷ [] }) }
+        ensures err { OnErr result (self.new ≡ self.old) }
+    {
+        let _opening = self.opening;
+        self.tell(alloc, asked.call)?;
+        self.hear(&asked.reply);
         Ok(())
     }
 
     /// Ends the entry, which is this planner's.
     pub fn end(&mut self, planner: PlannerNo) -> Result<(), NoMemory>
+        requires { self.old.made ≡ None }
         ensures ok { OnOk result (self.new ≡ record self.old { entries = self.old.entries ++ record { planner = planner; asked = self.old.asked } ∷ []; asked = [] }) }
         ensures err { OnErr result (self.new ≡ self.old) }
     {
@@ -229,6 +283,7 @@ fn run_entry<'i, S: Sheet<'i>>(
 ) -> Result<(), NoMemory>
     requires fits { EntryFits auditor.old.problem entry.now }
     requires begun { auditor.old.asked ≡ [] }
+    requires ready { auditor.old.made ≡ None }
     ensures { OnOk result (auditor.new ≡ record auditor.old { entries = auditor.old.entries ++ entry.now ∷ [] }) }
 {
     for asked in entry.asked.as_slice() {
@@ -245,6 +300,7 @@ fn run_entries<'i, S: Sheet<'i>>(
 ) -> Result<(), NoMemory>
     requires fit { Each (EntryFits auditor.old.problem) entries.now }
     requires begun { auditor.old.asked ≡ [] }
+    requires ready { auditor.old.made ≡ None }
     ensures { OnOk result (auditor.new ≡ record auditor.old { entries = auditor.old.entries ++ entries.now }) }
 {
     for entry in entries {

@@ -26,8 +26,8 @@ use Rattle.ctt_core.specs.declared.journal.JournalEntry.{JournalEntry}
 use Rattle.ctt_edits.specs.Fitting.{AreFew}
 use Rattle.ctt_text.specs.Left.{Left}
 use Rattle.ctt_text.specs.declared.placed.Placed.{Placed}
-use Rattle.ctt_draft.specs.Drafts.{AskedFits}
-use Rattle.ctt_draft.specs.declared.asked.Asked.{Asked}
+use Rattle.ctt_edits.specs.Calls.{CallFits}
+use Rattle.ctt_edits.specs.declared.call.Call.{Call}
 use Rattle.ctt_core.specs.Audits.{IsVerdict}
 use Rattle.ctt_core.specs.declared.auditing.Verdict.{Verdict}
 use Rattle.ctt_core.specs.Entries.{EntryFits}
@@ -38,7 +38,8 @@ use Rattle.ctt_script.specs.CallPlaces.{course, room, teacher, curriculum, slot,
 use Rattle.ctt_script.specs.ReplyPlaces.{fault_after, fault_form, lecture, lectures, count, amount, costs, reply_after, reply_form}
 use Rattle.ctt_script.specs.JournalPlaces.{asked_form, entry_form, journal_form}
 use Rattle.ctt_script.specs.JournalText.{JournalSpells, JournalBreaksAt, journal_answer, IsJournalCauseOf}
-use Rattle.ctt_script.proofs.EntryFits.{yields_asked, yields_journal}
+use Rattle.ctt_script.proofs.CallFits.{yields_call}
+use Rattle.ctt_script.proofs.EntryFits.{yields_journal}
 
 -- a fault of a place, which names a word
 abbrev IsOfWord : JournalFault → Type 0
@@ -152,11 +153,11 @@ has_cause i text utf8 NoMemory h = tt
 has_cause i text utf8 (Missing n) h = (utf8, answer_breaks missing (journal_form i) (words text) (Missing n) h)
 has_cause i text utf8 (BadWord n) h = (utf8, answer_breaks missing (journal_form i) (words text) (BadWord n) h)
 
--- what is read as a call with its reply fits
-pub asked_fits : (i : Problem) → IsProblem i → (left after : Left) (asked : Asked) → reads (asked_form i) left ≡ Ok (asked, after) → AskedFits i asked
-asked_fits i is left after asked h =
-    let r = read_fills missing (asked_form i) left.words left.next (asked, after) h in
-    (yields_asked i is r.front asked r.fills).0
+-- what is read as a call fits
+pub call_fits : (i : Problem) → IsProblem i → (left after : Left) (call : Call) → reads (call_form i) left ≡ Ok (call, after) → CallFits i call
+call_fits i is left after call h =
+    let r = read_fills missing (call_form i) left.words left.next (call, after) h in
+    yields_call i is r.front call r.fills
 
 -- a fault that is not the one that reading meets is want of memory
 fault_or_memory : (e : JournalFault) (x : Result (List JournalEntry) JournalFault) → Fails wants_memory e x → (x ≡ Err e) ⊎ (e ≡ NoMemory)

@@ -1,6 +1,6 @@
 //! Auditing a journal while it is read.
 
-ghost use Rattle.std.specs.Prelude.{◌≡◌, ◌⊎◌, ℕ, List, [], IfOk, IfErr, OnOk, MatchResult, Err};
+ghost use Rattle.std.specs.Prelude.{◌≡◌, ◌⊎◌, ℕ, List, [], None, IfSome, IfOk, IfErr, OnOk, MatchResult, Err};
 ghost use Rattle.std.specs.List.{AllByRecursion as Each};
 ghost use Rattle.std.specs.Str.{IsUtf8};
 ghost use Rattle.std.specs.Str.Lossy.{utf8_valid_len};
@@ -8,56 +8,92 @@ ghost use Rattle.ctt_text.specs.Words.{words};
 ghost use Rattle.ctt_text.specs.Timetable.{Fits};
 ghost use Rattle.ctt_core.specs.Audits.{IsVerdict};
 ghost use Rattle.ctt_core.specs.declared.journal.JournalEntry.{JournalEntry};
+ghost use Rattle.ctt_edits.specs.Fitting.{IsReply};
 ghost use Rattle.ctt_text.specs.Forms.{list_of, one_more};
-ghost use Rattle.ctt_script.specs.JournalWords.{reads, GivesRead};
+ghost use Rattle.ctt_text.specs.Reading.{Fails};
+ghost use Rattle.ctt_script.specs.JournalWords.{reads, wants_memory, GivesRead};
+ghost use Rattle.ctt_script.specs.ReplyPlaces.{reply_form};
 ghost use Rattle.ctt_script.specs.JournalPlaces.{asked_form, entry_form, journal_form};
 ghost use Rattle.ctt_script.specs.JournalText.{JournalSpells, JournalBreaksAt, IsJournalCauseOf};
-ghost use Rattle.ctt_script.specs.AuditedText.{AuditsText, GivesVerdict};
+ghost use Rattle.ctt_script.specs.AuditedText.{AuditsText, GivesVerdict, HeardReply};
 ghost use Rattle.ctt_script.specs.declared.journal_fault.JournalFault.{JournalFault};
 ghost use Rattle.ctt_script.specs.declared.journal_fault.JournalFault.TheVariants.{NotText, NoMemory};
 
-use crate::journal::{read_asked, read_text};
+use crate::calls::read_call;
+use crate::expected::take_reply;
+use crate::journal::read_text;
 use crate::journal_fault::JournalFault;
 use crate::places::{read_count, read_label, read_number_below};
+use crate::replies::read_reply;
 use ctt_board::{Rooms, Sheet, Timetable};
 use ctt_core::{Auditor, DeskFault, PlannerNo, Verdict};
 use ctt_text::{Instance, Placed, Reader};
 use std::alloc::Global;
 
+/// Hears what the call that was made was told.
+fn audit_reply<'i, S: Sheet<'i>>(
+    alloc: Global,
+    reader: &mut Reader,
+    text: &mut String,
+    auditor: &mut Auditor<S>,
+) -> Result<(), JournalFault>
+    requires { IfSome auditor.old.told (IsReply auditor.old.problem) }
+    ensures heard { OnOk result (HeardReply auditor.old reader.old auditor.new reader.new) }
+    ensures fault { IfErr result (λ fault. Fails wants_memory fault (reads (reply_form auditor.old.problem) reader.old)) }
+    ensures problem { auditor.new.problem ≡ auditor.old.problem }
+    ensures lectures { auditor.new.lectures ≡ auditor.old.lectures }
+    ensures entries { auditor.new.entries ≡ auditor.old.entries }
+    ensures made { OnOk result (auditor.new.made ≡ None) }
+{
+    let instance = auditor.instance();
+    if take_reply(reader, instance, text, auditor.told())? {
+        auditor.hear_same();
+        return Ok(());
+    }
+    let reply = read_reply(alloc, reader, instance)?;
+    auditor.hear(&reply);
+    Ok(())
+}
+
 /// One more call with its reply.
-#[tactic(auto, using(crate::proofs::JournalSteps::read_one_more))]
 fn audit_one_asked<'i, S: Sheet<'i>>(
     alloc: Global,
     reader: &mut Reader,
+    text: &mut String,
     auditor: &mut Auditor<S>,
 ) -> Result<(), JournalFault>
+    requires { auditor.old.made ≡ None }
     ensures read { GivesRead (λ _. (auditor.new.asked, reader.new)) result (reads (one_more (asked_form auditor.old.problem) auditor.old.asked) reader.old) }
     ensures problem { auditor.new.problem ≡ auditor.old.problem }
     ensures lectures { auditor.new.lectures ≡ auditor.old.lectures }
     ensures entries { auditor.new.entries ≡ auditor.old.entries }
+    ensures heard { OnOk result (auditor.new.made ≡ None) }
 {
     let instance = auditor.instance();
     instance.limits_hold();
-    let one = read_asked(alloc, reader, instance)?;
-    auditor.ask(alloc, &one)?;
-    Ok(())
+    let call = read_call(reader, instance)?;
+    auditor.tell(alloc, call)?;
+    audit_reply(alloc, reader, text, auditor)
 }
 
 /// So many calls with their replies.
 fn audit_so_many_asked<'i, S: Sheet<'i>>(
     alloc: Global,
     reader: &mut Reader,
+    text: &mut String,
     auditor: &mut Auditor<S>,
     count: u32,
 ) -> Result<(), JournalFault>
-    requires { auditor.old.asked ≡ [] }
+    requires asked { auditor.old.asked ≡ [] }
+    requires made { auditor.old.made ≡ None }
     ensures read { GivesRead (λ _. (auditor.new.asked, reader.new)) result (reads (list_of (asked_form auditor.old.problem) count) reader.old) }
     ensures problem { auditor.new.problem ≡ auditor.old.problem }
     ensures lectures { auditor.new.lectures ≡ auditor.old.lectures }
     ensures entries { auditor.new.entries ≡ auditor.old.entries }
+    ensures heard { OnOk result (auditor.new.made ≡ None) }
 {
     for _ in 0..count {
-        audit_one_asked(alloc, reader, auditor)?;
+        audit_one_asked(alloc, reader, text, auditor)?;
     }
     Ok(())
 }
@@ -67,18 +103,21 @@ fn audit_so_many_asked<'i, S: Sheet<'i>>(
 fn audit_one_entry<'i, S: Sheet<'i>>(
     alloc: Global,
     reader: &mut Reader,
+    text: &mut String,
     auditor: &mut Auditor<S>,
 ) -> Result<(), JournalFault>
-    requires { auditor.old.asked ≡ [] }
+    requires asked { auditor.old.asked ≡ [] }
+    requires made { auditor.old.made ≡ None }
     ensures read { GivesRead (λ _. (auditor.new.entries, reader.new)) result (reads (one_more (entry_form auditor.old.problem) auditor.old.entries) reader.old) }
     ensures problem { auditor.new.problem ≡ auditor.old.problem }
     ensures lectures { auditor.new.lectures ≡ auditor.old.lectures }
     ensures asked { OnOk result (auditor.new.asked ≡ []) }
+    ensures heard { OnOk result (auditor.new.made ≡ None) }
 {
     read_label(reader, "entry")?;
     let planner = read_number_below(reader, 1000)?;
     let count = read_count(reader)?;
-    audit_so_many_asked(alloc, reader, auditor, count)?;
+    audit_so_many_asked(alloc, reader, text, auditor, count)?;
     auditor.end(PlannerNo::new(planner))?;
     Ok(())
 }
@@ -87,17 +126,19 @@ fn audit_one_entry<'i, S: Sheet<'i>>(
 fn audit_so_many_entries<'i, S: Sheet<'i>>(
     alloc: Global,
     reader: &mut Reader,
+    text: &mut String,
     auditor: &mut Auditor<S>,
     count: u32,
 ) -> Result<(), JournalFault>
     requires entries { auditor.old.entries ≡ [] }
     requires asked { auditor.old.asked ≡ [] }
+    requires made { auditor.old.made ≡ None }
     ensures read { GivesRead (λ _. (auditor.new.entries, reader.new)) result (reads (list_of (entry_form auditor.old.problem) count) reader.old) }
     ensures problem { auditor.new.problem ≡ auditor.old.problem }
     ensures lectures { auditor.new.lectures ≡ auditor.old.lectures }
 {
     for _ in 0..count {
-        audit_one_entry(alloc, reader, auditor)?;
+        audit_one_entry(alloc, reader, text, auditor)?;
     }
     Ok(())
 }
@@ -107,17 +148,19 @@ fn audit_so_many_entries<'i, S: Sheet<'i>>(
 fn audit_entries<'i, S: Sheet<'i>>(
     alloc: Global,
     reader: &mut Reader,
+    text: &mut String,
     auditor: &mut Auditor<S>,
 ) -> Result<(), JournalFault>
     requires entries { auditor.old.entries ≡ [] }
     requires asked { auditor.old.asked ≡ [] }
+    requires made { auditor.old.made ≡ None }
     ensures read { GivesRead (λ _. (auditor.new.entries, reader.new)) result (reads (journal_form auditor.old.problem) reader.old) }
     ensures problem { auditor.new.problem ≡ auditor.old.problem }
     ensures lectures { auditor.new.lectures ≡ auditor.old.lectures }
 {
     read_label(reader, "journal")?;
     let count = read_count(reader)?;
-    audit_so_many_entries(alloc, reader, auditor, count)?;
+    audit_so_many_entries(alloc, reader, text, auditor, count)?;
     read_label(reader, "END.")?;
     Ok(())
 }
@@ -130,10 +173,12 @@ fn audit_words<'i, S: Sheet<'i>>(
 ) -> Result<Verdict, JournalFault>
     requires entries { auditor.entries ≡ [] }
     requires asked { auditor.asked ≡ [] }
+    requires made { auditor.made ≡ None }
     ensures { GivesVerdict auditor.entry.problem auditor.entry.lectures (words text.now) result }
 {
     let mut reader = Reader::new(text);
-    audit_entries(alloc, &mut reader, &mut auditor)?;
+    let mut expected = String::new(alloc);
+    audit_entries(alloc, &mut reader, &mut expected, &mut auditor)?;
     Ok(auditor.verdict())
 }
 

@@ -28,7 +28,7 @@ use std::alloc::Global;
 
 /// The words of a call and of its reply.
 #[tactic(auto, using(crate::proofs::JournalSteps::read_bind, crate::proofs::JournalSteps::read_done), unfolding(crate::specs::JournalPlaces::asked_form))]
-pub(crate) fn read_asked(
+fn read_asked(
     alloc: Global,
     reader: &mut Reader,
     instance: &Instance,

@@ -9,6 +9,7 @@ mod crew_fault;
 mod crew_run;
 mod device;
 mod engine;
+mod expected;
 mod gate;
 mod gathered;
 mod input;

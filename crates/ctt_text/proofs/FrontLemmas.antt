@@ -1,11 +1,13 @@
 -- Whether a word stands at the front of a text.
-use Rattle.std.proofs.Common.{◌≡◌, ℕ, suc, ◌<◌, ◌≤◌, ◌+◌, ◌-◌, List, [], ◌∷◌, length, take, drop, get_or, position, cond, nat_lt, Some, None, Bool, true, false, not, add-zero, length-drop, refl, sym, ◌∙◌, ap, arith, one-add, true≢false}
+use Rattle.std.proofs.Common.{◌≡◌, ℕ, suc, ◌<◌, ◌≤◌, ◌+◌, ◌-◌, ◌^◌, List, [], ◌∷◌, ◌++◌, length, length-append, subst, take, drop, get_or, position, cond, nat_lt, Some, None, Bool, true, false, not, add-zero, length-drop, refl, sym, ◌∙◌, ap, arith, one-add, true≢false}
 use Rattle.std.specs.List.{position_or_len, AllByRecursion as Each}
-use Rattle.std.specs.Str.{bytes_eq}
+use Rattle.std.specs.Str.{bytes_eq, IsUtf8, IsCharBoundary}
+use Rattle.std.proofs.lemmas.Str.{IsCharBoundary-from_take}
 use Rattle.std.proofs.lemmas.Bool.Decides.{Decides-ltb}
-use Rattle.std.proofs.lemmas.List.{get_or-drop}
+use Rattle.std.proofs.lemmas.List.{get_or-drop, take-append-drop}
 use Rattle.std.proofs.lemmas.Grind.{common_steps}
 use Rattle.std.proofs.lemmas.List.Sums.{prefix_len-le-length, passes_at_first}
+use Rattle.ctt_text.specs.Left.{AreNextWords}
 use Rattle.ctt_text.specs.Words.{words, is_blank, front_word, IsFirst}
 use Rattle.ctt_text.proofs.ListLaws.{bytes_sound, same_bytes}
 use Rattle.ctt_text.proofs.WordLemmas.{stands, first_word_at}
@@ -102,3 +104,21 @@ pub blank_next : (bs rest : List ℕ) (end : ℕ) → rest ≡ drop end bs → (
 blank_next bs rest end e after some =
     let lt : end < length bs = omega (arith, ap length e, length-drop end bs, some) in
     ap (λ r. is_blank (get_or r 0 0)) e ∙ ap is_blank (get_or-drop end bs 0 0) ∙ ap (λ k. is_blank (get_or bs k 0)) (add-zero end) ∙ after lt
+
+-- a text that the bytes begin with, and behind which no word goes on
+module _ (text bs : List ℕ) (same : bytes_eq text (take (length text) bs) ≡ true) where
+  text_at : take (length text) bs ≡ text
+  text_at = sym (bytes_sound text (take (length text) bs) same)
+
+  pub text_cut : IsUtf8 text → IsUtf8 bs → length text ≤ length bs → IsCharBoundary bs (length text)
+  text_cut is all le = IsCharBoundary-from_take bs (length text) all le (subst IsUtf8 (sym text_at) is)
+
+  module _ (rest : List ℕ) (behind : rest ≡ drop (length text) bs) (apart : (r : List ℕ) → words (text ++ r) ≡ words text ++ words r) where
+    text_words : words bs ≡ words text ++ words rest
+    text_words = ap words (sym (take-append-drop (length text) bs) ∙ ap (λ f. f ++ drop (length text) bs) text_at ∙ ap (λ r. text ++ r) (sym behind)) ∙ apart rest
+
+    pub text_counted : length (words bs) ≡ length (words text) + length (words rest)
+    text_counted = ap length text_words ∙ length-append (words text) (words rest)
+
+    pub text_taken : (next count : ℕ) → count ≡ length (words text) → AreNextWords (words text) (record { words = words bs; next = next }) (record { words = words rest; next = next + count })
+    text_taken next count counted = record { words = text_words; next = ap (λ n. next + n) counted }

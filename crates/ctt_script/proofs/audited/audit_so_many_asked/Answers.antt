@@ -1,4 +1,4 @@
-use Rattle.std.proofs.Common.{◌≡◌, [], Ok, ◌∙◌, subst}
+use Rattle.std.proofs.Common.{rules, ◌≡◌, [], Ok, ◌∙◌, subst}
 use Rattle.ctt_text.specs.Forms.{times, one_more, list_of}
 use Rattle.ctt_text.specs.Reading.{Fails}
 use Rattle.ctt_text.proofs.Steps.{goes_on, ends, is_done}
@@ -24,7 +24,7 @@ loop-preserved g c =
       reads_on = goes_on missing step c.args.count c.loop.counter c.loop.auditor.asked c.loop.reader (reads (times step c.args.count []) c.args.reader.now) c.loop.invariant.reads_on c.audit_one_asked.new.auditor.asked c.audit_one_asked.new.reader c.loop-test.true next;
       problem = c.in_ok-audit_one_asked.ensures.problem ∙ c.loop.invariant.problem;
       lectures = c.in_ok-audit_one_asked.ensures.lectures ∙ c.loop.invariant.lectures;
-      other = c.in_ok-audit_one_asked.ensures.entries ∙ c.loop.invariant.other;
+      other = (c.in_ok-audit_one_asked.ensures.entries ∙ c.loop.invariant.other.0, c.in_ok-audit_one_asked.ensures.heard);
     }
 
 pub returns-clause-read : goal.returns-clause-read
@@ -32,3 +32,8 @@ unfolding list_of
 returns-clause-read g c =
     let step = one_more (asked_form c.args.auditor.now.problem) in
     is_done missing step c.args.count c.loop.counter c.loop.auditor.asked c.loop.reader (reads (times step c.args.count []) c.args.reader.now) c.loop.invariant.reads_on c.loop-test.false
+
+pub audit_one_asked-requires : goal.audit_one_asked-requires
+audit_one_asked-requires g c κs =
+    let ready = c.loop.invariant.other.1 in
+    search rules

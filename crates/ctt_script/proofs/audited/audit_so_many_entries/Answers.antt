@@ -24,7 +24,7 @@ loop-preserved g c =
       reads_on = goes_on missing step c.args.count c.loop.counter c.loop.auditor.entries c.loop.reader (reads (times step c.args.count []) c.args.reader.now) c.loop.invariant.reads_on c.audit_one_entry.new.auditor.entries c.audit_one_entry.new.reader c.loop-test.true next;
       problem = c.in_ok-audit_one_entry.ensures.problem ∙ c.loop.invariant.problem;
       lectures = c.in_ok-audit_one_entry.ensures.lectures ∙ c.loop.invariant.lectures;
-      other = c.in_ok-audit_one_entry.ensures.asked;
+      other = (c.in_ok-audit_one_entry.ensures.asked, c.in_ok-audit_one_entry.ensures.heard);
     }
 
 pub returns-clause-read : goal.returns-clause-read
@@ -35,5 +35,6 @@ returns-clause-read g c =
 
 pub audit_one_entry-requires : goal.audit_one_entry-requires
 audit_one_entry-requires g c κs =
-    let none = c.loop.invariant.other in
+    let none = c.loop.invariant.other.0 in
+    let ready = c.loop.invariant.other.1 in
     search rules

@@ -5,4 +5,4 @@ use Rattle.ctt_script.proofs.written.write_lectures.Given as goal
 
 -- the lectures so far
 abbrev pub invariant-loop-lecture : goal.invariant-loop-lecture
-invariant-loop-lecture l = string_bytes l.text ++ l.gathered.bytes ≡ string_bytes l.fn.text ++ ((codes "lectures " ++ decimal (length l.lectures)) ++ flat_map (lecture_part l.instance) (take l.lecture-index l.lectures))
+invariant-loop-lecture l = string_bytes l.text ++ l.gathered ≡ string_bytes l.fn.text ++ ((codes "lectures " ++ decimal (length l.lectures)) ++ flat_map (lecture_part l.instance) (take l.lecture-index l.lectures))
