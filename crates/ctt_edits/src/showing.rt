@@ -20,6 +20,10 @@ use ctt_rules::Cost;
 use ctt_text::{CourseNo, CurriculumNo, Marks, NoMemory, Placed, TeacherNo};
 use std::alloc::Global;
 
+/// How many lectures are gathered before the list has to move: as many as most courses of a teacher, or of a
+/// curriculum, have together.
+const ROOM: usize = 16;
+
 /// The lectures of the courses that are marked, course by course.
 fn gather<'i, S: Sheet<'i>>(
     alloc: Global,
@@ -30,7 +34,7 @@ fn gather<'i, S: Sheet<'i>>(
 {
     sheet.lawful();
     let end = sheet.instance().courses();
-    let mut lectures = Vec::new(alloc);
+    let mut lectures = Vec::with_capacity(alloc, ROOM)?;
     let mut from = 0;
     while let Some(number) = next_marked(courses, from, end) {
         sheet.append_course_row(CourseNo::new(number), &mut lectures)?;

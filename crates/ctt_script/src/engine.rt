@@ -4,6 +4,7 @@ ghost use Rattle.std.specs.Prelude.{◌≡◌, ◌⊎◌, ◌↔◌, ℕ, ◌++�
 ghost use Rattle.std.specs.List.{AllByRecursion as Each};
 ghost use Rattle.std.specs.Option.{option_map};
 ghost use Rattle.std.specs.Io.KnownBytes.{Appends, Keeps};
+ghost use Rattle.std.specs.Str.{IsUtf8};
 ghost use Rattle.ctt_text.specs.Timetable.{Fits};
 ghost use Rattle.ctt_text.specs.declared.placed.Placed.{Placed as Lecture};
 ghost use Rattle.ctt_edits.specs.declared.fault.EditFault.{EditFault};
@@ -24,7 +25,7 @@ use crate::answers::{write_answer, write_bad_line};
 use crate::input::read_all;
 use crate::lines::Lines;
 use crate::minutes::Minutes;
-use crate::script::{has_words, read_line};
+use crate::script::{has_words, read_line_of};
 use crate::script_fault::ScriptFault;
 use crate::sink::{Sink, put_all};
 use crate::source::{Failed, Source};
@@ -96,9 +97,11 @@ fn answer_line<'i, S: Sheet<'i>, K: Keeping>(
     desk: &mut Desk<'i, S, K>,
     instance: &Instance,
     line: &[u8],
+    is_text: bool,
     answers: &mut String,
     minutes: &mut Option<Minutes>,
 ) -> Result<(), NoMemory>
+    requires text { is_text ≡ true → IsUtf8 line.now }
     requires same { desk.old.problem ≡ instance.now }
     requires planners { length desk.old.drafts ≡ 64 }
     requires stands { IsAtRun desk.old }
@@ -107,7 +110,7 @@ fn answer_line<'i, S: Sheet<'i>, K: Keeping>(
     ensures minuted { OnOk result (IsMinuted instance.now desk.new minutes.new) }
     ensures given { OnOk result (is_some minutes.new ≡ is_some minutes.old) }
 {
-    match read_line(instance, line) {
+    match read_line_of(instance, line, is_text) {
         Some(event) => answer_event(desk, instance, &event, answers, minutes),
         None if has_words(line) => Ok(write_bad_line(answers)?),
         None => Ok(()),
@@ -150,9 +153,10 @@ fn answer_lines<'i, S: Sheet<'i>, K: Keeping, W: Sink>(
     ensures failed { (result ≡ Err script_fault.Write) → W.has_failed writer.new ≡ true }
     ensures unmarked { (result ≡ Err script_fault.Write) ⊎ (W.has_failed writer.new ≡ W.has_failed writer.old) }
 {
+    let is_text = str::from_utf8(text).is_ok();
     let mut answers = String::new(alloc);
     for line in Lines::new(text) {
-        answer_line(desk, instance, line, &mut answers, minutes)?;
+        answer_line(desk, instance, line, is_text, &mut answers, minutes)?;
         write_full(writer, &mut answers)?;
     }
     put_all(writer, answers.as_bytes())?;

@@ -6,7 +6,7 @@ ghost use Rattle.ctt_text.specs.Timetable.{Fits};
 ghost use Rattle.ctt_script.specs.WrittenText.{lecture_part};
 
 use crate::pieces::{push_slot, push_word};
-use ctt_text::{Instance, Label, Placed};
+use ctt_text::{Instance, Placed};
 use std::alloc::AllocError;
 use std::marker::Model;
 
@@ -56,16 +56,8 @@ impl Gathered {
     pub(crate) fn as_str(&self) -> &str
         ensures { result.now ≡ self.now }
     {
-        str::from_utf8(&self.bytes[..self.len]).unwrap()
-    }
-
-    /// Adds a label.
-    fn add_label(&mut self, label: &Label)
-        requires { length self.old + 16 ≤ 256 }
-        ensures bytes { self.new ≡ self.old ++ label.now }
-        ensures room { length label.now ≤ 16 }
-    {
-        self.len = label.put(&mut self.bytes, self.len);
+        // SAFETY: labels are text, so what was gathered of them is.
+        unsafe { str::from_utf8_unchecked(&self.bytes[..self.len]) }
     }
 }
 
@@ -76,7 +68,8 @@ fn gather(gathered: &mut Gathered, instance: &Instance, lecture: &Placed) -> boo
     ensures added { result ≡ true → gathered.new ≡ gathered.old ++ lecture_part instance.now lecture.now }
     ensures kept { result ≡ false → gathered.new ≡ gathered.old }
 {
-    if gathered.len > ROOM - LECTURE {
+    let at = gathered.len;
+    if at > ROOM - LECTURE {
         return false;
     }
     let (Some(course), Some(room), Some(slot)) = (
@@ -86,9 +79,9 @@ fn gather(gathered: &mut Gathered, instance: &Instance, lecture: &Placed) -> boo
     ) else {
         return false;
     };
-    gathered.add_label(course);
-    gathered.add_label(room);
-    gathered.add_label(slot);
+    let at = course.put(&mut gathered.bytes, at);
+    let at = room.put(&mut gathered.bytes, at);
+    gathered.len = slot.put(&mut gathered.bytes, at);
     true
 }
 

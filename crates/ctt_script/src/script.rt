@@ -1,6 +1,7 @@
 //! Reading the lines of a script.
 
-ghost use Rattle.std.specs.Prelude.{◌≡◌, ℕ, ◌<◌, Result, IfOk, IfSome, OnSome, true};
+ghost use Rattle.std.specs.Prelude.{◌≡◌, ℕ, ◌<◌, Result, IfOk, IfSome, IfNone, OnSome, true};
+ghost use Rattle.std.specs.Str.{IsUtf8};
 ghost use Rattle.ctt_text.specs.Left.{Left};
 ghost use Rattle.ctt_core.specs.Runs.{EventFits};
 ghost use Rattle.ctt_core.specs.declared.event.Event.{Event};
@@ -183,19 +184,42 @@ fn only_event(reader: &Reader, read: Result<Event, JournalFault>) -> Option<Even
     }
 }
 
+/// A line as text, if it is text; that may be known before.
+fn text_of(line: &[u8], is_text: bool) -> Option<&str>
+    requires { is_text ≡ true → IsUtf8 line.now }
+    ensures text { IfSome result (λ text. text.now ≡ line.now) }
+    ensures utf8 { OnSome result (IsUtf8 line.now) }
+    ensures none { IfNone result (¬ IsUtf8 line.now) }
+{
+    if is_text {
+        // SAFETY: the caller knows that it is text.
+        return Some(unsafe { str::from_utf8_unchecked(line) });
+    }
+    str::from_utf8(line).ok()
+}
+
+/// The event that a line asks for; none for a line of any other form. That the line is text may be known
+/// before, of a whole script at once.
+pub(crate) fn read_line_of(instance: &Instance, line: &[u8], is_text: bool) -> Option<Event>
+    requires { is_text ≡ true → IsUtf8 line.now }
+    ensures item { result ≡ item instance.now line.now }
+    ensures words { OnSome result (has_words line.now ≡ true) }
+    ensures fits { IfSome result (EventFits instance.now 64) }
+{
+    instance.limits_hold();
+    let text = text_of(line, is_text)?;
+    let mut reader = Reader::new(text);
+    let read = read_event(&mut reader, instance);
+    only_event(&reader, read)
+}
+
 /// The event that a line asks for; none for a line of any other form.
 pub fn read_line(instance: &Instance, line: &[u8]) -> Option<Event>
     ensures item { result ≡ item instance.now line.now }
     ensures words { OnSome result (has_words line.now ≡ true) }
     ensures fits { IfSome result (EventFits instance.now 64) }
 {
-    instance.limits_hold();
-    let Ok(text) = str::from_utf8(line) else {
-        return None;
-    };
-    let mut reader = Reader::new(text);
-    let read = read_event(&mut reader, instance);
-    only_event(&reader, read)
+    read_line_of(instance, line, false)
 }
 
 /// The event that a line asks for in a script of one planner, where no line names him; none for a
@@ -206,9 +230,7 @@ pub fn read_own_line(instance: &Instance, planner: PlannerNo, line: &[u8]) -> Op
     ensures fits { (planners : ℕ) → planner < planners → IfSome result (EventFits instance.now planners) }
 {
     instance.limits_hold();
-    let Ok(text) = str::from_utf8(line) else {
-        return None;
-    };
+    let text = text_of(line, false)?;
     let mut reader = Reader::new(text);
     let read = read_own_event(&mut reader, instance, planner);
     only_event(&reader, read)

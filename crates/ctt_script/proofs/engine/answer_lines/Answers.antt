@@ -1,16 +1,24 @@
-use Rattle.std.proofs.Common.{rules, ◌≡◌, ◌∷◌, [], ◌∙◌, List, ℕ, length, Option, Result, Ok, Err, OnErr, sym, subst, refl, string_bytes, take}
+use Rattle.std.proofs.Common.{rules, ◌≡◌, true, ◌∷◌, [], ◌∙◌, List, ℕ, length, Option, Result, Ok, Err, OnErr, MatchResult, sym, subst, refl, string_bytes, take}
 use Rattle.std.specs.Io.KnownBytes.{Appends}
+use Rattle.std.specs.List.{AllByRecursion as Each}
+use Rattle.std.specs.Result.{is_ok}
+use Rattle.std.specs.Str.{IsUtf8}
 use Rattle.std.proofs.KnownBytes.{Appends-nil}
 use Rattle.ctt_core.specs.Desks.{DeskValue}
-use Rattle.ctt_script.specs.Answering.{Answered, Answering, AppendsFront, IsAtRun, WroteFront}
+use Rattle.ctt_script.specs.Answering.{Answered, Answering, AppendsFront, IsAtRun, Wrote, WroteFront}
 use Rattle.ctt_script.specs.Output.{AppendsPart}
 use Rattle.ctt_script.specs.ScriptText.{lines_of, items_of}
-use Rattle.ctt_script.proofs.AnsweringLemmas.{begins, one_more_line, more_written, front_written, still_at_run}
+use Rattle.ctt_script.proofs.ScriptLaws.{lines_are_text}
+use Rattle.ctt_script.proofs.AnsweringLemmas.{begins, all_written, one_more_line, more_written, front_written, still_at_run}
 use Rattle.ctt_script.proofs.engine.answer_lines.Goals as goal
 
 on_err : {T E : Type 0} {P : Type 0} (r : Result T E) → P → OnErr r P
 on_err (Ok x) p = tt
 on_err (Err e) p = p
+
+ok_part : {T E : Type 0} {P : Type 0} (A : T → Type 0) (B : E → Type 0) (r : Result T E) → is_ok r ≡ true → MatchResult r (λ t. A t × P) B → P
+ok_part A B (Ok t) is m = m.1
+ok_part A B (Err e) is m = cc
 
 part_of : (old new : Option (List ℕ)) (bytes text : List ℕ) → bytes ≡ text → AppendsPart old new bytes → AppendsFront old new text
 part_of old new bytes text e part = (part.0, subst (λ bs. Appends old new (take part.0 bs)) e part.2)
@@ -25,6 +33,7 @@ loop-line-init g c =
       answering = subst (λ ls. Answering v v all ls taken taken (string_bytes c.new-answers.result)) (sym first) (begins v all taken (string_bytes c.new-answers.result) c.new-answers.ensures.bytes);
       minuted = c.requires.minuted;
       given = refl;
+      texts = λ e. subst (Each IsUtf8) (sym first) (lines_are_text c.args.text.now (ok_part _ _ c.from_utf8.result (sym c.is_ok-is_text.ensures.value ∙ e) c.from_utf8.ensures.cases));
       unmarked = refl;
     }
 
@@ -35,6 +44,8 @@ answer_line-requires g c κs =
     let same : c.loop-line.desk.problem ≡ c.args.instance.now = h.answered.same.problem ∙ c.requires.same in
     let planners : length c.loop-line.desk.drafts ≡ 64 = h.answered.same.planners ∙ c.requires.planners in
     let minuted = c.loop-line.invariant.minuted in
+    let step : c.loop-line.line-iterator ≡ c.in-Some.line.now ∷ c.next.new.self = search rules in
+    let text : c.is_ok-is_text.result ≡ true → IsUtf8 c.in-Some.line.now = λ e. (subst (Each IsUtf8) step (c.loop-line.invariant.texts e)).0 in
     let at : IsAtRun c.loop-line.desk = still_at_run v (lines_of c.args.text.now) (g.W.Sink.taken c.args.writer.now) c.loop-line.desk c.loop-line.line-iterator (g.W.Sink.taken c.loop-line.writer) (string_bytes c.loop-line.answers) c.requires.stands h in
     search rules
 
@@ -59,6 +70,7 @@ loop-line-preserved g c =
       answering = more_written v all before c.answer_line.new.desk c.next.new.self taken (g.W.Sink.taken c.write_full.new.writer) (string_bytes c.answer_line.new.answers) next (string_bytes c.write_full.new.answers) c.in_ok-write_full.ensures.written;
       minuted = c.in_ok-answer_line.ensures.minuted;
       given = c.in_ok-answer_line.ensures.given ∙ c.loop-line.invariant.given;
+      texts = λ e. (subst (Each IsUtf8) step (c.loop-line.invariant.texts e)).1;
       unmarked = c.in_ok-write_full.ensures.unmarked ∙ c.loop-line.invariant.unmarked;
     }
 
@@ -84,3 +96,14 @@ returns-in_err-put_all-clause-part g c =
     let part : AppendsFront taken later (string_bytes c.loop-line.answers) = part_of taken later c.as_bytes.result.now (string_bytes c.loop-line.answers) c.as_bytes.ensures.value c.in_err-put_all.ensures.part in
     on_err c.from_residual-in_err-put_all.result (subst (λ i. WroteFront v (items_of i all) before later) c.requires.same
     (front_written v all before c.loop-line.desk c.loop-line.line-iterator taken later (string_bytes c.loop-line.answers) c.loop-line.invariant.answering part))
+
+pub returns-clause-written : goal.returns-clause-written
+returns-clause-written g c =
+    let v : DeskValue = c.args.desk.now in
+    let all : List (List ℕ) = lines_of c.args.text.now in
+    let before : Option (List ℕ) = g.W.Sink.taken c.args.writer.now in
+    let taken : Option (List ℕ) = g.W.Sink.taken c.loop-line.writer in
+    let later : Option (List ℕ) = g.W.Sink.taken c.put_all.new.writer in
+    let none : c.loop-line.line-iterator ≡ [] = search rules in
+    let written : Appends taken later (string_bytes c.loop-line.answers) = subst (λ bs. Appends taken later bs) c.as_bytes.ensures.value c.in_ok-put_all.ensures.all in
+    subst (λ i. Wrote v c.loop-line.desk (items_of i all) before later) c.requires.same (all_written v all before c.loop-line.desk c.loop-line.line-iterator taken later (string_bytes c.loop-line.answers) none c.loop-line.invariant.answering written)

@@ -12,15 +12,20 @@ answer-requires g c κs =
     search rules
 
 pub returns-clause-told : goal.returns-clause-told
-returns-clause-told g c = elim c.if-is_none.branch [ then-is_none+in_ok-answer+in-Some+in-Lectures-1 w ↦ (
+returns-clause-told g c = elim c.if-is_none.branch [
+  | then-is_none+in_ok-answer+in-Some+in-Lectures-1 w ↦ (
       let v = c.self.inside in
       let same = ap (λ (a : AuditorValue). a.problem) c.self.view_is in
-      rw w.self-inside-is (subst (λ i. IsReply i w.in_ok-answer.field-0) same (told_fits (g.S.Rooms.problem v.sheet) w.instance.result.now (g.S.Rooms.list v.sheet) c.args.call w.in_ok-answer.field-0 w.limits_hold.ensures w.instance.ensures w.lawful.ensures (subst (λ i. CallFits i c.args.call) (sym same) c.requires.fits) w.in_ok-answer.ensures.told))) | then-is_none+in_ok-answer+in-Some+in-Done-1 w ↦ (
+      rw w.self-inside-is (subst (λ i. IsReply i w.in_ok-answer.field-0) same (told_fits (g.S.Rooms.problem v.sheet) w.instance.result.now (g.S.Rooms.list v.sheet) c.args.call w.in_ok-answer.field-0 w.limits_hold.ensures w.instance.ensures w.lawful.ensures (subst (λ i. CallFits i c.args.call) (sym same) c.requires.fits) w.in_ok-answer.ensures.told)))
+  | then-is_none+in_ok-answer+in-Some+in-Done-1 w ↦ (
       let v = c.self.inside in
       let same = ap (λ (a : AuditorValue). a.problem) c.self.view_is in
-      rw w.self-inside-is (subst (λ i. IsReply i w.in_ok-answer.field-0) same (told_fits (g.S.Rooms.problem v.sheet) w.instance.result.now (g.S.Rooms.list v.sheet) c.args.call w.in_ok-answer.field-0 w.limits_hold.ensures w.instance.ensures w.lawful.ensures (subst (λ i. CallFits i c.args.call) (sym same) c.requires.fits) w.in_ok-answer.ensures.told))) | then-is_none+in_ok-answer+in-None-1 w ↦ (
+      rw w.self-inside-is (subst (λ i. IsReply i w.in_ok-answer.field-0) same (told_fits (g.S.Rooms.problem v.sheet) w.instance.result.now (g.S.Rooms.list v.sheet) c.args.call w.in_ok-answer.field-0 w.limits_hold.ensures w.instance.ensures w.lawful.ensures (subst (λ i. CallFits i c.args.call) (sym same) c.requires.fits) w.in_ok-answer.ensures.told)))
+  | then-is_none+in_ok-answer+in-None-1 w ↦ (
       let v = c.self.inside in
       let same = ap (λ (a : AuditorValue). a.problem) c.self.view_is in
-      rw w.self-inside-is (subst (λ i. IsReply i w.in_ok-answer.field-0) same (told_fits (g.S.Rooms.problem v.sheet) w.instance.result.now (g.S.Rooms.list v.sheet) c.args.call w.in_ok-answer.field-0 w.limits_hold.ensures w.instance.ensures w.lawful.ensures (subst (λ i. CallFits i c.args.call) (sym same) c.requires.fits) w.in_ok-answer.ensures.told))) | else-is_none w ↦ (
+      rw w.self-inside-is (subst (λ i. IsReply i w.in_ok-answer.field-0) same (told_fits (g.S.Rooms.problem v.sheet) w.instance.result.now (g.S.Rooms.list v.sheet) c.args.call w.in_ok-answer.field-0 w.limits_hold.ensures w.instance.ensures w.lawful.ensures (subst (λ i. CallFits i c.args.call) (sym same) c.requires.fits) w.in_ok-answer.ensures.told)))
+  | else-is_none w ↦ (
       let none : c.self.inside.told ≡ None = c.self.invariant.untold (ap (λ (a : AuditorValue). a.made) c.self.view_is ∙ c.requires.ready) in
-      rw (w.self-inside-is, none) tt) ]
+      rw (w.self-inside-is, none) tt)
+]
