@@ -1,5 +1,5 @@
 -- The bits of a word.
-use Rattle.std.proofs.Common.{◌≡◌, ℕ, zero, suc, ◌+◌, ◌-◌, ◌*◌, ◌/◌, ◌%◌, ◌^◌, ◌<◌, ◌≤◌, Bool, true, cond, not, ◌&&◌, ◌||◌, ◌==◌, ltb, refl, ◌∙◌, sym, ap, ap₂, arith, inl, inr, ◌⊎◌}
+use Rattle.std.proofs.Common.{◌≡◌, ℕ, zero, suc, ◌+◌, ◌-◌, ◌*◌, ◌/◌, ◌%◌, ◌^◌, ◌<◌, ◌≤◌, Bool, true, cond, not, ◌&&◌, ◌||◌, ◌==◌, ltb, refl, ◌∙◌, sym, ap, ap₂, arith, inl, inr}
 use Rattle.std.specs.Prelude.{count_ones, bit_and, bit_or}
 use Rattle.std.specs.Int.{bit_at, bit_not, w64}
 use Rattle.std.proofs.lemmas.Nat.{ones-le, div-add-mod', mod_below, pow_pos, or_lt, and_le_r}

@@ -1,5 +1,5 @@
 -- What each lecture adds to those before it in a list.
-use Rattle.std.specs.Prelude.{ℕ, ◌+◌, ◌-◌, Bool, cond, List, [], ◌∷◌, ◌++◌, count_by, ◌==◌, ◌&&◌, nat_le, nat_lt, slice_index_or}
+use Rattle.std.specs.Prelude.{ℕ, ◌+◌, Bool, cond, List, [], ◌∷◌, ◌++◌, count_by, ◌&&◌, nat_le, nat_lt, slice_index_or}
 use Rattle.std.specs.List.{list_any}
 use Rattle.ctt_text.specs.Marks.{is_marked}
 use Rattle.ctt_text.specs.Problem.{Problem, course_count, clash}

@@ -1,5 +1,5 @@
 -- Lectures of courses in a window of 64 slots, a bit each.
-use Rattle.std.specs.Prelude.{ℕ, ◌+◌, Bool, List, [], ◌∷◌, slice_index_or, ◌==◌, ◌&&◌, nat_le, nat_lt}
+use Rattle.std.specs.Prelude.{ℕ, ◌+◌, Bool, List, slice_index_or, ◌==◌, ◌&&◌, nat_le, nat_lt}
 use Rattle.std.specs.Int.{bit_at}
 use Rattle.ctt_text.specs.Problem.{Problem, day_of}
 use Rattle.ctt_text.specs.declared.placed.Placed.{Placed}

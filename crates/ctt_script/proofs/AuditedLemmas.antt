@@ -1,5 +1,5 @@
 -- A journal that is audited as it is read.
-use Rattle.std.proofs.Common.{◌≡◌, List, [], ◌∷◌, ◌++◌, Bool, true, false, Some, Result, Ok, Err, IfErr, OnOk, IsErrAnd, sym, subst, ap, ap₂, ◌∙◌}
+use Rattle.std.proofs.Common.{◌≡◌, List, ◌++◌, Bool, true, false, Some, Result, Ok, Err, IfErr, OnOk, IsErrAnd, sym, subst, ap, ap₂, ◌∙◌}
 use Rattle.std.specs.Bool.{OnFalse}
 use Rattle.ctt_text.specs.Forms.{one_more}
 use Rattle.ctt_edits.specs.declared.call.Call.{Call}

@@ -1,5 +1,5 @@
 -- The planners of a crew.
-use Rattle.std.proofs.Common.{◌≡◌, ◌∙◌, ◌+◌, ◌++◌, ◌∷◌, [], ℕ, zero, suc, length, refl, ap, arith, subst, Result, Ok, Err}
+use Rattle.std.proofs.Common.{◌≡◌, ◌∙◌, ◌+◌, ◌∷◌, [], ℕ, zero, suc, length, refl, ap, arith, subst, Result, Ok, Err}
 use Rattle.std.specs.Prelude.{IfOk, IsOkAnd}
 use Rattle.std.proofs.lemmas.List.{length-append}
 use Rattle.ctt_desk.specs.Planners.{new_planner, new_planners}

@@ -1,5 +1,5 @@
 -- A reply that comes next as it is written.
-use Rattle.std.proofs.Common.{◌≡◌, ℕ, ◌+◌, ◌*◌, List, [], ◌∷◌, ◌++◌, length, flat_map, refl, sym, ◌∙◌, ap, ap₂, subst, Result, Ok, Err, arith, append-nil, append_assoc}
+use Rattle.std.proofs.Common.{◌≡◌, ℕ, ◌*◌, List, [], ◌∷◌, ◌++◌, length, flat_map, refl, sym, ◌∙◌, ap, subst, Result, Ok, Err, arith, append-nil}
 use Rattle.std.specs.Prelude.{codes}
 use Rattle.ctt_text.specs.Left.{Left, AreNextWords}
 use Rattle.ctt_text.specs.Words.{words, is_blank}

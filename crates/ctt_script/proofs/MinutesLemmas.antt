@@ -1,13 +1,12 @@
 -- Minutes that are written while a desk answers are those of the desk.
-use Rattle.std.proofs.Common.{◌≡◌, ℕ, ◌+◌, ◌<◌, List, [], ◌∷◌, ◌++◌, set, length, length-set, length-append, get_or, is_some, Option, Some, None, IfSome, refl, sym, subst, ap, ap₂, ◌∙◌, inl, inr, append_assoc, append-nil, flat_map, arith}
+use Rattle.std.proofs.Common.{◌≡◌, ℕ, ◌+◌, ◌<◌, List, [], ◌∷◌, ◌++◌, set, length, length-set, length-append, is_some, Option, Some, None, IfSome, refl, sym, subst, ap, ap₂, ◌∙◌, inl, inr, append-nil, flat_map, arith}
 use Rattle.std.proofs.lemmas.Bool.{cases_eq}
 use Rattle.std.proofs.lemmas.List.{get_or-set_same, get_or-set_other, length-replicate}
 use Rattle.std.proofs.lemmas.Grind.{flat_map-append}
 use Rattle.ctt_text.specs.Problem.{Problem}
 use Rattle.ctt_edits.specs.declared.call.Call.{Call}
 use Rattle.ctt_edits.specs.declared.reply.Reply.{Reply}
-use Rattle.ctt_draft.specs.DraftValues.{DraftValue, asked_more}
-use Rattle.ctt_draft.specs.Drafts.{calls_of, stale}
+use Rattle.ctt_draft.specs.DraftValues.{DraftValue}
 use Rattle.ctt_draft.specs.declared.asked.Asked.{Asked}
 use Rattle.ctt_core.specs.Runs.{EventFits, is_commit}
 use Rattle.ctt_core.specs.declared.event.Event.{Event}
@@ -17,9 +16,9 @@ use Rattle.ctt_core.specs.declared.answer.Answer.TheVariants.{Opened, AlreadyOpe
 use Rattle.ctt_core.specs.declared.journal.JournalEntry.{JournalEntry}
 use Rattle.std.specs.Option.{option_map}
 use Rattle.ctt_core.specs.Laws.{Stands}
-use Rattle.ctt_core.specs.Desks.{DeskValue, draft_at, with_draft, asks, settled, goes_on, Answers, answer_of, commits_to}
+use Rattle.ctt_core.specs.Desks.{DeskValue, draft_at, with_draft, asks, settled, goes_on, Answers, commits_to}
 use Rattle.ctt_script.specs.WrittenText.{asked_text, entry_text}
-use Rattle.ctt_script.specs.Minutes.{NotesValue, MinutesValue, no_notes, notes_at, noted_call, noted, noted_open, noted_ask, noted_commit, entry_head, with_entry, with_notes, AreNotes, AreMinutes, IsMinuted, blank}
+use Rattle.ctt_script.specs.Minutes.{NotesValue, MinutesValue, no_notes, notes_at, noted_call, noted, entry_head, with_entry, with_notes, AreNotes, AreMinutes, IsMinuted, blank}
 
 module _ (i : Problem) where
   -- planner p has another draft with its notes, and the others have what they had

@@ -1,6 +1,6 @@
 -- What was written of a script's answers, and the journal of the desk that gave them.
 use Rattle.std.proofs.Common.{◌≡◌, ℕ, ◌+◌, ◌≤◌, List, [], ◌∷◌, filter, ◌==◌, length, Option, Some, None, sym, subst, ap, ◌∙◌, arith}
-use Rattle.std.specs.Prelude.{◌++◌, IfSome}
+use Rattle.std.specs.Prelude.{IfSome}
 use Rattle.std.specs.Io.KnownBytes.{Appends}
 use Rattle.std.specs.List.{AllByRecursion as Each}
 use Rattle.std.proofs.lemmas.List.{length-map}

@@ -1,5 +1,5 @@
 -- The journal of a desk as a text that is written while the desk answers.
-use Rattle.std.specs.Prelude.{ℕ, ◌≡◌, ◌<◌, ◌+◌, List, [], ◌∷◌, ◌++◌, length, replicate, flat_map, codes, Option, Some, None, IfSome, slice_index_or, slice_set}
+use Rattle.std.specs.Prelude.{ℕ, ◌≡◌, ◌+◌, List, [], ◌∷◌, ◌++◌, length, replicate, flat_map, codes, Option, IfSome, slice_index_or, slice_set}
 use Rattle.std.specs.Fmt.{decimal}
 use Rattle.ctt_text.specs.Problem.{Problem}
 use Rattle.ctt_edits.specs.declared.call.Call.{Call}

@@ -1,5 +1,5 @@
 -- Whether a word stands at the front of a text.
-use Rattle.std.proofs.Common.{◌≡◌, ℕ, suc, ◌<◌, ◌≤◌, ◌+◌, ◌-◌, ◌^◌, List, [], ◌∷◌, ◌++◌, length, length-append, subst, take, drop, get_or, position, cond, nat_lt, Some, None, Bool, true, false, not, add-zero, length-drop, refl, sym, ◌∙◌, ap, arith, one-add, true≢false}
+use Rattle.std.proofs.Common.{◌≡◌, ℕ, suc, ◌<◌, ◌≤◌, ◌+◌, ◌-◌, List, [], ◌∷◌, ◌++◌, length, length-append, subst, take, drop, get_or, position, cond, nat_lt, Some, None, Bool, true, false, not, add-zero, length-drop, refl, sym, ◌∙◌, ap, arith, one-add, true≢false}
 use Rattle.std.specs.List.{position_or_len, AllByRecursion as Each}
 use Rattle.std.specs.Str.{bytes_eq, IsUtf8, IsCharBoundary}
 use Rattle.std.proofs.lemmas.Str.{IsCharBoundary-from_take}

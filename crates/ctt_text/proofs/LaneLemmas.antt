@@ -9,7 +9,6 @@ use Rattle.std.proofs.lemmas.List.Folds.{prefix_len-append}
 use Rattle.std.proofs.lemmas.List.Sums.{prefix_len-le-length}
 use lib.Lanes.{zip2, Each1, mask_l, top, chunk}
 use lib.Count.{count_trailing_zeros}
-use Rattle.ctt_text.specs.Words.{is_blank}
 
 -- what a test leaves in a lane
 abbrev pub set_if : Bool → ℕ

@@ -1,5 +1,5 @@
 -- The last sections of an instance, read as one.
-use Rattle.std.proofs.Common.{◌≡◌, List, ℕ, Bool, Result, Ok, Err, refl, sym, ap, ◌∙◌, codes}
+use Rattle.std.proofs.Common.{◌≡◌, List, Bool, Result, Ok, Err, refl, sym, ap, ◌∙◌, codes}
 use Rattle.ctt_text.specs.Left.{Left}
 use Rattle.ctt_text.specs.Forms.{Form, done, ◌>>=◌, times}
 use Rattle.ctt_text.specs.Places.{after, fixed}

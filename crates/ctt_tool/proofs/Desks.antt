@@ -1,5 +1,5 @@
 -- Openings that are refused, and what is printed and stored of a desk.
-use Rattle.std.proofs.Common.{◌≡◌, ◌∙◌, ◌∷◌, [], ◌++◌, ap, ap₂, subst, sym, ℕ, List, IfSome, Option, Some, None, is_some, codes, true, false, cond, arith}
+use Rattle.std.proofs.Common.{◌≡◌, ◌∙◌, ◌∷◌, [], ◌++◌, ap, ap₂, subst, ℕ, List, IfSome, Option, Some, None, is_some, codes, true, false, cond, arith}
 use Rattle.std.specs.Fmt.{decimal}
 use Rattle.std.specs.Global.{Global}
 use Rattle.std.specs.List.{AllByRecursion as Each}
@@ -19,7 +19,7 @@ use Rattle.ctt_core.specs.declared.journal.JournalEntry.{JournalEntry}
 use Rattle.ctt_core.specs.Desks.{DeskValue}
 use Rattle.ctt_script.specs.Minutes.{IsMinuted, MinutesValue, minutes_text}
 use Rattle.ctt_script.specs.RunFaults.{IsCauseOf}
-use Rattle.ctt_script.specs.WrittenText.{journal_text, entry_text, line}
+use Rattle.ctt_script.specs.WrittenText.{journal_text, line}
 use Rattle.ctt_script.specs.declared.script_fault.ScriptFault.{ScriptFault}
 use Rattle.ctt_script.specs.declared.script_fault.ScriptFault.TheVariants as script
 use Rattle.ctt_tool.specs.Audits.{VerdictFits}

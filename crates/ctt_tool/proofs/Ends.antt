@@ -1,5 +1,5 @@
 -- How the program ends, by its status.
-use Rattle.std.proofs.Common.{◌≡◌, ◌≢◌, ◌∙◌, ◌⊎◌, sym, inl, inr, ⊎_elim, refl, ℕ, List, [], Option, arith}
+use Rattle.std.proofs.Common.{◌≡◌, ◌≢◌, ◌∙◌, ◌⊎◌, sym, inl, inr, ⊎_elim, ℕ, List, [], Option, arith}
 use Rattle.ctt_tool.specs.Faults.{KeptUnless, MayHaveWritten, SaysFault, status_of}
 use Rattle.ctt_tool.specs.Jobs.{faults_of}
 use Rattle.ctt_tool.specs.Outcomes.{outcome_status}

@@ -1,5 +1,5 @@
 -- Words in which `clap` finds no fault enter one of the commands, whose matches have all that it requires. Of any program with commands.
-use Rattle.std.proofs.Common.{◌≡◌, ◌∙◌, ◌⊎◌, ◌&&◌, ◌||◌, ⊎_elim, Bool, true, false, not, refl, sym, ap, subst, inl, inr, List, [], ◌∷◌, Option, Some, None, cond, codes, is_some, option_map, IsSome, true≢false}
+use Rattle.std.proofs.Common.{◌≡◌, ◌∙◌, ◌&&◌, ◌||◌, ⊎_elim, Bool, true, false, not, refl, sym, ap, subst, inl, inr, List, [], ◌∷◌, Option, Some, None, cond, codes, is_some, option_map, IsSome, true≢false}
 use Rattle.std.specs.Prelude.{option_and_then, slice_get}
 use Rattle.std.specs.List.{find, list_all, list_any}
 use Rattle.std.specs.Option.{option_map_or}
@@ -20,7 +20,7 @@ use Rattle.clap.specs.declared.builder.value_parser.ValueParser.{ValueParser}
 use Rattle.clap.specs.declared.builder.value_parser.ValueParser.TheVariants.{Bool as Switch}
 use Rattle.clap.proofs.OnLiterals.{clap_on_literals}
 use Rattle.ctt_tool.specs.CommandLine.{IsOnOrOff}
-use Rattle.ctt_tool.proofs.Rows.{AreRows, FirstPasses, HasOne, IsIn, IsRow, all_in, found_holds, found_in, is_giving, none_in, one_in}
+use Rattle.ctt_tool.proofs.Rows.{AreRows, FirstPasses, IsIn, IsRow, all_in, found_holds, found_in, is_giving, none_in, one_in}
 use Rattle.ctt_tool.proofs.Walks.{MayStop, level_below, level_checked, level_rows, level_stops}
 
 -- ---- the checks after the walk

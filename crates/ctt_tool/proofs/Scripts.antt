@@ -1,5 +1,5 @@
 -- The files of a crew's scripts: as the words give them, and as they are read.
-use Rattle.std.proofs.Common.{◌≡◌, ◌∙◌, ◌⊎◌, ⊎_elim, ◌++◌, ◌+◌, ◌≤◌, ◌<◌, ℕ, true, List, [], ◌∷◌, Option, Some, None, IfSome, IsSome, inl, inr, refl, sym, ap, subst, map, length, arith, option_map, is_some, string_bytes}
+use Rattle.std.proofs.Common.{◌≡◌, ◌⊎◌, ⊎_elim, ◌++◌, ◌+◌, ◌≤◌, ◌<◌, ℕ, true, List, [], ◌∷◌, Option, Some, None, IfSome, IsSome, inl, inr, refl, sym, ap, subst, map, length, arith, option_map, is_some, string_bytes}
 use Rattle.std.specs.Prelude.{option_and_then, slice_get, find}
 use Rattle.std.specs.Global.{Global}
 use Rattle.std.specs.Str.{bytes_eq}

@@ -1,5 +1,5 @@
 -- Words in which `clap` finds no fault ask for one of the program's commands, with all that it needs. Each command has its rows here, and no lemma of its own.
-use Rattle.std.proofs.Common.{◌≡◌, ◌∙◌, ◌⊎◌, Bool, true, false, refl, sym, ap, subst, inl, inr, ⊎_elim, List, [], ◌∷◌, Option, Some, None, codes}
+use Rattle.std.proofs.Common.{◌≡◌, ◌∙◌, Bool, true, false, refl, sym, ap, subst, inl, inr, ⊎_elim, List, [], Option, Some, None, codes}
 use Rattle.std.specs.List.{list_all, list_any}
 use Rattle.std.specs.Str.{bytes_eq}
 use Rattle.clap.specs.Faults.{level_fault}
@@ -10,7 +10,7 @@ use Rattle.clap.proofs.OnLiterals.{clap_on_literals}
 use Rattle.ctt_tool.specs.CommandLine.{IsOnOrOff, audit, check, crew, is_on, run, timedesk}
 use Rattle.ctt_tool.specs.Jobs.{IsWhole, IsWholeAs, NamesFiles, NamesJournal, NamesScript, NamesScripts}
 use Rattle.ctt_tool.proofs.Rows.{is_giving}
-use Rattle.ctt_tool.proofs.Entered.{Enters, enters, has_flag, has_required, is_flag, is_required, not_help}
+use Rattle.ctt_tool.proofs.Entered.{enters, has_flag, has_required, is_flag, is_required, not_help}
 
 command_required : (built timedesk).top.subcommand_required ≡ true
 unfolding clap_on_literals timedesk check run audit crew

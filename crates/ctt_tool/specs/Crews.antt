@@ -1,5 +1,5 @@
 -- What the command `crew` prints.
-use Rattle.std.specs.Prelude.{◌≤◌, ℕ, List, [], Option, length}
+use Rattle.std.specs.Prelude.{◌≤◌, ℕ, List, [], Option}
 use Rattle.std.specs.Global.{Global}
 use Rattle.std.specs.Io.KnownBytes.{Appends}
 use Rattle.std.specs.declared.string.String.{String}

@@ -1,4 +1,4 @@
-use Rattle.std.proofs.Common.{◌≡◌, ◌≤◌, ◌∙◌, arith}
+use Rattle.std.proofs.Common.{◌∙◌, arith}
 use Rattle.ctt_rules.specs.Penalty.{is_alone, part_of}
 use Rattle.ctt_rules.proofs.WindowLemmas.{none_before, window_more, all_before, alone_few}
 use Rattle.ctt_rules.proofs.compactness.compactness.Goals as goal

@@ -1,4 +1,4 @@
-use Rattle.std.proofs.Common.{◌≡◌, ◌==◌, ◌&&◌, ◌∙◌, ℕ, true, sym, ap}
+use Rattle.std.proofs.Common.{◌≡◌, ◌==◌, ◌&&◌, ◌∙◌, true, sym, ap}
 use Rattle.std.proofs.lemmas.Bool.{both_ways, eqb-true, eq-eqb, and_from, and_parts}
 use Rattle.ctt_rules.specs.Hard.{Lawful}
 use Rattle.ctt_rules.proofs.CountLemmas.{NoneCounted, counted, lawful}

@@ -1,4 +1,4 @@
-use Rattle.std.proofs.Common.{◌≡◌, ◌+◌, ◌-◌, ◌*◌, ◌<◌, ◌≤◌, ◌==◌, ◌&&◌, ◌∙◌, ℕ, cond, leb, ltb, [], ap, arith}
+use Rattle.std.proofs.Common.{◌≡◌, ◌+◌, ◌-◌, ◌==◌, ◌&&◌, ◌∙◌, ℕ, cond, leb, ltb, [], ap, arith}
 use Rattle.std.proofs.lemmas.List.{take_all}
 use Rattle.ctt_text.specs.Marks.{count_marked}
 use Rattle.ctt_text.specs.Timetable.{Fits}

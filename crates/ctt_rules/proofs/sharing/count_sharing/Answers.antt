@@ -1,4 +1,4 @@
-use Rattle.std.proofs.Common.{◌≤◌, ◌+◌, ◌∙◌, [], sym, arith}
+use Rattle.std.proofs.Common.{◌+◌, ◌∙◌, [], sym, arith}
 use Rattle.ctt_rules.specs.Earlier.{new_conflicts, room_taken}
 use Rattle.ctt_rules.proofs.ConflictLemmas.{all_blocks, block_more, no_block, conflicts_tallied, rooms_tallied}
 use Rattle.ctt_rules.proofs.sharing.count_sharing.Goals as goal

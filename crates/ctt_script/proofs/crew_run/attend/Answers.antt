@@ -1,4 +1,4 @@
-use Rattle.std.proofs.Common.{rules, ◌≡◌, ◌∙◌, ℕ, ◌+◌, ◌<◌, Option, Some, None, arith, sym, subst}
+use Rattle.std.proofs.Common.{rules, ◌∙◌, ℕ, ◌+◌, ◌<◌, Option, Some, None, arith, sym, subst}
 use Rattle.std.specs.Prelude.{IfSome}
 use Rattle.ctt_text.specs.Problem.{Problem}
 use Rattle.ctt_edits.specs.Calls.{CallFits}

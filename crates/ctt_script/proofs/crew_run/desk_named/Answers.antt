@@ -1,4 +1,4 @@
-use Rattle.std.proofs.Common.{◌≡◌, ◌∙◌, ap, length}
+use Rattle.std.proofs.Common.{◌∙◌, ap, length}
 use Rattle.ctt_script.proofs.CrewLemmas.{planners_many}
 use Rattle.ctt_script.proofs.crew_run.desk_named.Goals as goal
 

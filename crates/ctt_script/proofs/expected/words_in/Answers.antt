@@ -1,4 +1,4 @@
-use Rattle.std.proofs.Common.{◌≡◌, ◌+◌, ◌*◌, length, arith}
+use Rattle.std.proofs.Common.{arith}
 use Rattle.ctt_script.proofs.ExpectedLemmas.{lectures_count}
 use Rattle.ctt_script.proofs.expected.words_in.Goals as goal
 

@@ -1,4 +1,4 @@
-use Rattle.std.proofs.Common.{[], ◌∷◌, inr, subst, IfErr}
+use Rattle.std.proofs.Common.{◌∷◌, inr, subst, IfErr}
 use Rattle.std.proofs.lemmas.Result.{IfErr-weaker, IfOk-weaker}
 use Rattle.ctt_text.specs.Problem.{Problem}
 use Rattle.ctt_tool.specs.Audits.{AuditsOn, IsRefusedJournal}

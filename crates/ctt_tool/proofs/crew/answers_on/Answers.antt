@@ -1,4 +1,4 @@
-use Rattle.std.proofs.Common.{◌≡◌, ◌≤◌, ◌∙◌, [], ap, length, refl, subst, sym, IfErr, IfOk}
+use Rattle.std.proofs.Common.{◌≡◌, ◌≤◌, ◌∙◌, [], ap, length, refl, subst, sym, IfOk}
 use Rattle.std.proofs.lemmas.Result.{IfErr-weaker}
 use Rattle.ctt_script.specs.CrewText.{IsCrewText}
 use Rattle.ctt_tool.specs.Faults.{IsOfCrew, IsOfFiles, status_of}

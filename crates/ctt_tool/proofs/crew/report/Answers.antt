@@ -1,4 +1,4 @@
-use Rattle.std.proofs.Common.{◌≡◌, ◌∷◌, inr, length, subst, IfErr}
+use Rattle.std.proofs.Common.{◌∷◌, inr, length, subst, IfErr}
 use Rattle.std.proofs.lemmas.Result.{IfErr-weaker, IfOk-weaker}
 use Rattle.ctt_tool.specs.Faults.{IsOfCrew, IsOfFiles}
 use Rattle.ctt_tool.proofs.Known.{of_more_files, passed_on}

@@ -1,8 +1,6 @@
-use Rattle.std.proofs.Common.{rules, ◌≡◌, ◌∙◌, ◌∷◌, [], ◌<◌, ℕ, List, ap, length, refl, subst, sym, IfSome, Err}
-use Rattle.std.specs.Global.{Global}
+use Rattle.std.proofs.Common.{rules, ◌≡◌, ◌∙◌, ◌∷◌, ◌<◌, ap, length, refl, subst, sym, IfSome, Err}
 use Rattle.std.specs.String.{string_bytes}
 use Rattle.std.specs.Vec.Iter.{into_iter_items, into_iter_len}
-use Rattle.std.specs.declared.string.String.{String}
 use Rattle.ctt_tool.specs.Faults.{IsOfFiles, IsOfReading}
 use Rattle.ctt_tool.specs.Texts.{Held}
 use Rattle.ctt_tool.proofs.Known.{passed_on}

@@ -1,4 +1,4 @@
-use Rattle.std.proofs.Common.{◌∙◌, ap, refl, sym, codes, List, Some, is_some, map, option_map, string_bytes, Bor, ℕ, Option}
+use Rattle.std.proofs.Common.{◌∙◌, ap, refl, sym, codes, List, Some, is_some, map, option_map, Bor, ℕ, Option}
 use Rattle.clap.specs.Words.{found_of, first_value, matched_of, raw_values, rows_of}
 use Rattle.clap.proofs.CallerLemmas.{some_of_text}
 use Rattle.clap.proofs.WalkLemmas.{first_value-rows, raw_values-rows}

@@ -1,6 +1,5 @@
-use Rattle.std.proofs.Common.{[], ◌∷◌, ◌∙◌, inr, subst, IfErr}
+use Rattle.std.proofs.Common.{◌∷◌, ◌∙◌, inr, subst, IfErr}
 use Rattle.std.proofs.lemmas.Result.{IfErr-weaker}
-use Rattle.std.specs.String.{string_bytes}
 use Rattle.ctt_text.specs.Problem.{Problem}
 use Rattle.ctt_tool.specs.Faults.{IsOfFiles}
 use Rattle.ctt_tool.specs.Jobs.{given}

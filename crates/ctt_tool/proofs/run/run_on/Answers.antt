@@ -1,4 +1,4 @@
-use Rattle.std.proofs.Common.{rules, ◌≡◌, ◌∙◌, ap, subst, sym, false, inr, refl, List, ℕ, IfSome, Some}
+use Rattle.std.proofs.Common.{rules, ◌≡◌, ◌∙◌, ap, subst, sym, false, inr, refl, List, IfSome, Some}
 use Rattle.std.specs.List.{AllByRecursion as Each}
 use Rattle.std.specs.String.{string_bytes}
 use Rattle.ctt_text.specs.Problem.{Problem}

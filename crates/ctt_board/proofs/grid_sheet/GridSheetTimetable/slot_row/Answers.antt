@@ -1,4 +1,4 @@
-use Rattle.std.proofs.Common.{ℕ, ◌≡◌, ◌<◌, ◌++◌, None, is_some, true, false, rules, ◌∙◌, sym, ap, subst}
+use Rattle.std.proofs.Common.{ℕ, ◌≡◌, ◌<◌, ◌++◌, None, is_some, false, rules, ◌∙◌, sym, ap, subst}
 use Rattle.ctt_text.specs.Marks.{is_marked}
 use Rattle.ctt_text.specs.Problem.{course_count, slot_count}
 use Rattle.ctt_board.specs.Boards.{Board}

@@ -1,4 +1,4 @@
-use Rattle.std.proofs.Common.{◌≡◌, Some, None, ◌+◌, refl, sym, ap, ◌∙◌, true≢false}
+use Rattle.std.proofs.Common.{Some, ◌+◌, refl, sym, ap, ◌∙◌, true≢false}
 use Rattle.ctt_core.proofs.AuditLemmas.{auditor_same, auditor_other, auditor_untold, auditor_unheard}
 use Rattle.ctt_core.proofs.auditing.Auditor.hear.Goals.{in-Some, in-Some-told+then-not-is_same, in-Some-told+else-not-is_same, in_default-told, in_default}
 use Rattle.ctt_core.proofs.auditing.Auditor.hear.Goals as goal

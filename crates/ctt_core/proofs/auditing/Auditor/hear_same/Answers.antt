@@ -1,4 +1,4 @@
-use Rattle.std.proofs.Common.{◌≡◌, Some, None, ◌+◌, refl}
+use Rattle.std.proofs.Common.{◌+◌, refl}
 use Rattle.ctt_core.proofs.AuditLemmas.{auditor_same, auditor_unheard}
 use Rattle.ctt_core.proofs.auditing.Auditor.hear_same.Goals.{in-Some+in-Some-told, in-Some+in_default-told, in_default}
 use Rattle.ctt_core.proofs.auditing.Auditor.hear_same.Goals as goal

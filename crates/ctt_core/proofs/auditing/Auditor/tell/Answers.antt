@@ -1,4 +1,4 @@
-use Rattle.std.proofs.Common.{rules, ◌≡◌, Some, None, sym, ap, subst, ◌∙◌}
+use Rattle.std.proofs.Common.{rules, ◌≡◌, None, sym, ap, subst, ◌∙◌}
 use Rattle.ctt_edits.specs.Calls.{CallFits}
 use Rattle.ctt_edits.specs.Fitting.{IsReply}
 use Rattle.ctt_core.specs.Auditors.{AuditorValue}

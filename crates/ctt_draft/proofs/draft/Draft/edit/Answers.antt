@@ -1,4 +1,4 @@
-use Rattle.std.proofs.Common.{rules, ◌≡◌, ◌∙◌, [], None, sym, subst}
+use Rattle.std.proofs.Common.{rules, ◌≡◌, [], None, sym, subst}
 use Rattle.ctt_edits.specs.Calls.{reply, cells_of}
 use Rattle.ctt_edits.specs.Edits.{EditFits, edit_fault, change}
 use Rattle.ctt_edits.specs.declared.call.Call.TheVariants.{Edit as Edits}

@@ -1,4 +1,4 @@
-use Rattle.std.proofs.Common.{arith, ◌∙◌}
+use Rattle.std.proofs.Common.{arith}
 use Rattle.ctt_rules.proofs.WindowLemmas.{bit_set_in}
 use Rattle.ctt_rules.proofs.compactness.Words.set.Goals as goal
 

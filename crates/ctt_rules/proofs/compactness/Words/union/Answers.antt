@@ -1,4 +1,4 @@
-use Rattle.std.proofs.Common.{◌≡◌, ◌||◌, ◌∙◌, ℕ, sym, ap, ap₂}
+use Rattle.std.proofs.Common.{◌||◌, ◌∙◌, sym, ap, ap₂}
 use Rattle.std.proofs.lemmas.List.Folds.{list_any_more}
 use Rattle.ctt_rules.specs.Windows.{has_bit, word_of}
 use Rattle.ctt_text.proofs.MarkLemmas.{either_bit}

@@ -1,4 +1,4 @@
-use Rattle.std.proofs.Common.{rules, ℕ, ◌<◌, subst}
+use Rattle.std.proofs.Common.{rules, subst}
 use Rattle.ctt_edits.specs.Calls.{CallFits}
 use Rattle.ctt_edits.specs.Looks.{LookFits}
 use Rattle.ctt_core.specs.Runs.{EventFits}

@@ -1,4 +1,4 @@
-use Rattle.std.proofs.Common.{◌≡◌, ◌∙◌, arith}
+use Rattle.std.proofs.Common.{◌∙◌, arith}
 use Rattle.ctt_text.proofs.LabelLemmas.{spaced, label_is_text}
 use Rattle.ctt_text.proofs.label.Label.of.Goals as goal
 

@@ -1,6 +1,5 @@
-use Rattle.std.proofs.Common.{◌≡◌, ◌+◌, ◌++◌, length, take, sym, ap, ◌∙◌, subst, arith}
+use Rattle.std.proofs.Common.{◌≡◌, length, take, arith}
 use Rattle.std.proofs.lemmas.List.{length-take-le}
-use lib.Lanes.{put_chunk}
 use Rattle.ctt_text.proofs.LabelLemmas.{take_put}
 use Rattle.ctt_text.proofs.label.Label.put.Goals as goal
 

@@ -1,4 +1,4 @@
-use Rattle.std.proofs.Common.{rules, ◌<◌, ◌≤◌, ◌^◌, ◌+◌, ◌*◌, ◌/◌, ◌%◌, ◌-◌, get_or, bit_and, arith, w64}
+use Rattle.std.proofs.Common.{rules, ◌<◌, ◌^◌, ◌+◌, ◌*◌, ◌/◌, ◌%◌, ◌-◌, get_or, bit_and, arith, w64}
 use Rattle.std.specs.Int.{trailing_zeros}
 use Rattle.std.proofs.lemmas.Nat.{and_le_l}
 use Rattle.ctt_text.proofs.MarkLemmas.{least_in_word, none_in_word, marked_from, from_word, later_word, none_before, least_below, least_within, none_below, none_between}

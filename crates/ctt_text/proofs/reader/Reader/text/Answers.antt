@@ -1,6 +1,5 @@
-use Rattle.std.proofs.Common.{◌≡◌, ◌+◌, length, take, sym, ◌∙◌, true, arith}
+use Rattle.std.proofs.Common.{◌≡◌, length, take, sym, ◌∙◌, true, arith}
 use Rattle.std.specs.Str.{bytes_eq}
-use Rattle.ctt_text.specs.Words.{words}
 use Rattle.ctt_text.proofs.FrontLemmas.{text_cut, text_counted, text_taken}
 use Rattle.ctt_text.proofs.reader.Reader.text.Goals as goal
 
