@@ -142,6 +142,7 @@ pub(crate) fn call_kind(word: &str) -> Option<CallKind>
 }
 
 /// The step that a word begins.
+#[inline(always)]
 #[tactic(auto, unfolding(crate::specs::Kinds::step_kind))]
 pub(crate) fn step_kind(word: &str) -> Option<StepKind>
     ensures { result ≡ step_kind word.now }
