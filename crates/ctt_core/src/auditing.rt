@@ -23,7 +23,7 @@ use crate::journal::JournalEntry;
 use crate::opening::placed;
 use crate::planner::PlannerNo;
 use ctt_board::{Rooms, Sheet, Timetable};
-use ctt_draft::{Asked, GhostList, Itself, Tells};
+use ctt_draft::{Asked, GhostList, Tells};
 use ctt_edits::{Call, Edit, EditFault, Reply, check};
 use ctt_text::{Instance, NoMemory, Placed};
 use std::alloc::Global;
@@ -94,6 +94,10 @@ struct Ended<'a> {
 
 struct WholeEntry;
 
+impl<'a> Tells<Ended<'a>, JournalEntry> for WholeEntry {
+    ghost element = { λ e. record { planner = e.planner; asked = e.asked.now } };
+}
+
 /// A call, and what it was told.
 #[derive(Drop)]
 struct Heard<'a> {
@@ -105,10 +109,6 @@ struct WholeCall;
 
 impl<'a> Tells<Heard<'a>, Asked> for WholeCall {
     ghost element = { λ h. record { call = h.call; reply = h.reply.now } };
-}
-
-impl<'a> Tells<Ended<'a>, JournalEntry> for WholeEntry {
-    ghost element = { λ e. record { planner = e.planner; asked = e.asked.now } };
 }
 
 /// An audit in progress. The entries are run as they come, call by call, and none of them is kept; behind the

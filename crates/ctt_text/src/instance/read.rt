@@ -122,23 +122,15 @@ fn read_sections<'a>(alloc: Global, reader: &mut Reader<'a>) -> Result<Sections<
 
 impl<'a> Sections<'a> {
     /// The instance, with these tables.
-    fn with_tables(
-        self,
-        name: String,
-        clashes: Vec<Marks>,
-        belonging: Vec<Vec<CurriculumNo>>,
-        course_labels: Vec<Option<Label>>,
-        room_labels: Vec<Option<Label>>,
-        slot_labels: Vec<Option<Label>>,
-    ) -> Instance
+    fn with_tables(self, tables: Tables) -> Instance
         requires problem { IsProblem self }
         requires named { IsNamed self }
-        requires name { string_bytes name ≡ self.name }
-        requires clashes { AreClashes self clashes.items }
-        requires belonging { AreCurricula self (map (λ q. q.items) belonging.items) }
-        requires course_labels { AreLabels self.course_names course_labels.items }
-        requires room_labels { AreLabels self.room_names room_labels.items }
-        requires slot_labels { AreSlotLabels (slot_count self) self.periods slot_labels.items }
+        requires name { string_bytes tables.name ≡ self.name }
+        requires clashes { AreClashes self tables.clashes.items }
+        requires belonging { AreCurricula self (map (λ q. q.items) tables.belonging.items) }
+        requires course_labels { AreLabels self.course_names tables.course_labels.items }
+        requires room_labels { AreLabels self.room_names tables.room_labels.items }
+        requires slot_labels { AreSlotLabels (slot_count self) self.periods tables.slot_labels.items }
         ensures { result ≡ self.entry }
     {
         let Sections {
@@ -149,7 +141,7 @@ impl<'a> Sections<'a> {
             unavailable,
         } = self;
         Instance {
-            name,
+            name: tables.name,
             course_names: courses.names,
             courses: courses.facts,
             teacher_names: courses.teachers,
@@ -160,11 +152,11 @@ impl<'a> Sections<'a> {
             days: header.days as u16,
             periods: header.periods as u16,
             unavailable,
-            clashes,
-            belonging,
-            course_labels,
-            room_labels,
-            slot_labels,
+            clashes: tables.clashes,
+            belonging: tables.belonging,
+            course_labels: tables.course_labels,
+            room_labels: tables.room_labels,
+            slot_labels: tables.slot_labels,
         }
     }
 
@@ -234,22 +226,7 @@ impl<'a> Sections<'a> {
         ensures { IfOk result (λ i. i ≡ self.entry) }
     {
         let tables = self.tables(alloc)?;
-        let Tables {
-            name,
-            clashes,
-            belonging,
-            course_labels,
-            room_labels,
-            slot_labels,
-        } = tables;
-        Ok(self.with_tables(
-            name,
-            clashes,
-            belonging,
-            course_labels,
-            room_labels,
-            slot_labels,
-        ))
+        Ok(self.with_tables(tables))
     }
 }
 
