@@ -27,7 +27,7 @@ use crate::planner::PlannerNo;
 use crate::stock::Stock;
 use ctt_board::{Rooms, Sheet, Timetable};
 use ctt_draft::{Draft, KeepAll, Keeping, Log};
-use ctt_edits::{Call, Look};
+use ctt_edits::{Call, Look, Reply, look_in};
 use ctt_rules::Cost;
 use ctt_text::{Instance, NoMemory, Placed};
 use std::alloc::{AllocError, Global};
@@ -44,6 +44,8 @@ pub struct Desk<'i, S: Timetable, K: Keeping> {
     /// How many of the changes that the stock knows were made before a planner's draft was opened.
     marks: Vec<Option<usize>>,
     planners: u16,
+    /// A list of no meaning, in whose memory lectures are listed that are told.
+    spare: Vec<Placed>,
 }
 
 impl<'i, S: Timetable, K: Keeping> Model for Desk<'i, S, K> {
@@ -115,6 +117,7 @@ impl<'i, S: Sheet<'i>, K: Keeping> Desk<'i, S, K> {
             drafts,
             marks,
             planners,
+            spare: Vec::new(alloc),
         })
     }
 
@@ -184,7 +187,7 @@ impl<'i, S: Sheet<'i>, K: Keeping> Desk<'i, S, K> {
         let draft = &mut self.drafts[place];
         match draft {
             None => Answer::NoDraft,
-            Some(draft) => match draft.call(call) {
+            Some(draft) => match draft.call_in(call, &mut self.spare) {
                 Ok(told) => Answer::Replied(told),
                 Err(_) => Answer::NoMemory,
             },
@@ -217,12 +220,12 @@ impl<'i, S: Sheet<'i>, K: Keeping> Desk<'i, S, K> {
     }
 
     /// Looks at the timetable as it stands.
-    fn show(&self, look: &Look) -> Answer
-        requires { LookFits self.now.problem look.now }
-        ensures answer { Answers self.now (Show look.now) result }
-        ensures goes_on { self.now ≡ goes_on self.now (Show look.now) result }
+    fn show(&mut self, look: &Look) -> Answer
+        requires { LookFits self.old.problem look.now }
+        ensures answer { Answers self.old (Show look.now) result }
+        ensures goes_on { self.new ≡ goes_on self.old (Show look.now) result }
     {
-        match ctt_edits::look(*self.opening.allocator(), self.stock.sheet(), look) {
+        match look_in(&mut self.spare, self.stock.sheet(), look) {
             Ok(told) => Answer::Replied(told),
             Err(_) => Answer::NoMemory,
         }
@@ -315,6 +318,15 @@ impl<'i, S: Sheet<'i>, K: Keeping> Desk<'i, S, K> {
         let answer = self.answer(event);
         self.lawful();
         answer
+    }
+
+    /// Takes an answer back whose lectures nobody needs any more: in its memory later ones are listed.
+    pub fn reuse(&mut self, answer: Answer)
+        ensures { self.new ≡ self.old }
+    {
+        if let Answer::Replied(Reply::Lectures(lectures)) = answer {
+            self.spare = lectures.into_vec();
+        }
     }
 
     /// Answers events one after another. Where there is no memory for the answers no event was taken.

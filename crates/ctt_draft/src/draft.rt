@@ -28,8 +28,8 @@ use crate::touched::Touched;
 use crate::undo::Undo;
 use crate::work::Work;
 use ctt_board::{Cell, Change, Rooms, Sheet, Timetable};
-use ctt_edits::{Call, Edit, Look, Reply, Row, RowsRead, check};
-use ctt_text::{Instance, NoMemory};
+use ctt_edits::{Call, Edit, Look, Reply, Row, RowsRead, check, look_in};
+use ctt_text::{Instance, NoMemory, Placed};
 use std::alloc::Global;
 use std::marker::Model;
 
@@ -221,12 +221,12 @@ impl<'i, S: Sheet<'i>, K: Keeping> Draft<'i, S, K> {
     }
 
     /// Looks, and keeps what is shown.
-    fn look(&mut self, look: Look) -> Result<Reply, NoMemory>
+    fn look(&mut self, look: Look, spare: &mut Vec<Placed>) -> Result<Reply, NoMemory>
         requires fits { LookFits self.old.problem look }
         ensures ok { IfOk result (λ told. (told ≡ shown self.old.problem (present self.old) look) × (self.new ≡ asked_more self.old (Looks look) told)) }
         ensures err { OnErr result (self.new ≡ self.old) }
     {
-        let told = ctt_edits::look(*self.changes.allocator(), self.present(), &look)?;
+        let told = look_in(spare, self.present(), &look)?;
         self.keep(Call::Look(look), &told)?;
         Ok(told)
     }
@@ -251,16 +251,28 @@ impl<'i, S: Sheet<'i>, K: Keeping> Draft<'i, S, K> {
         }
     }
 
-    /// Makes a call. Where memory is wanted the call was not made, and nothing more was read.
-    pub fn call(&mut self, call: Call) -> Result<Reply, NoMemory>
+    /// Makes a call. Where memory is wanted the call was not made, and nothing more was read. Lectures that
+    /// it is told are listed in the memory of a spare list, as `ctt_edits::look_in` does it.
+    pub fn call_in(&mut self, call: Call, spare: &mut Vec<Placed>) -> Result<Reply, NoMemory>
         requires { CallFits self.old.problem call }
         ensures ok { IfOk result (λ told. (told ≡ reply self.old.problem (present self.old) call) × (self.new ≡ asked_more self.old call told)) }
         ensures err { OnErr result (self.new ≡ self.old) }
     {
         match call {
-            Call::Look(look) => self.look(look),
+            Call::Look(look) => self.look(look, spare),
             Call::Edit(edit) => self.edit(&edit),
         }
+    }
+
+    /// Makes a call, which is told in memory of its own. Where memory is wanted the call was not made, and
+    /// nothing more was read.
+    pub fn call(&mut self, call: Call) -> Result<Reply, NoMemory>
+        requires { CallFits self.old.problem call }
+        ensures ok { IfOk result (λ told. (told ≡ reply self.old.problem (present self.old) call) × (self.new ≡ asked_more self.old call told)) }
+        ensures err { OnErr result (self.new ≡ self.old) }
+    {
+        let mut spare = Vec::new(*self.changes.allocator());
+        self.call_in(call, &mut spare)
     }
 
     /// The least row that the calls read and that is not the same on a sheet of the instance, if there

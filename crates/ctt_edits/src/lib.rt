@@ -26,7 +26,7 @@ pub use reading::reads;
 pub use reply::Reply;
 pub use row::Row;
 pub use rows_read::RowsRead;
-pub use showing::look;
+pub use showing::{look, look_in};
 
 #[cfg(test)]
 mod drawn_tests;

@@ -89,6 +89,7 @@ fn answer_event<'i, S: Sheet<'i>, K: Keeping>(
         return Err(NoMemory);
     }
     tell(answers, minutes, instance, event, &answer)?;
+    desk.reuse(answer);
     Ok(())
 }
 

@@ -5,7 +5,7 @@ use Rattle.ctt_edits.proofs.PartLemmas.{part_below}
 use Rattle.ctt_edits.proofs.showing.gather.Given as goal
 
 abbrev pub invariant-loop-number : goal.invariant-loop-number
-invariant-loop-number g l = (l.lectures.items ≡ part_below (is_marked l.courses) l.from (g.S.Rooms.list l.sheet)) × (l.from ≤ course_count (g.S.Rooms.problem l.sheet))
+invariant-loop-number g l = (l.list.items ≡ part_below (is_marked l.courses) l.from (g.S.Rooms.list l.sheet)) × (l.from ≤ course_count (g.S.Rooms.problem l.sheet))
 
 abbrev pub decreases-loop-number : goal.decreases-loop-number
 decreases-loop-number g l = course_count (g.S.Rooms.problem l.sheet) - l.from

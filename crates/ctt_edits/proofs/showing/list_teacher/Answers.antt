@@ -1,10 +1,10 @@
-use Rattle.std.proofs.Common.{◌≡◌, ◌<◌, ◌||◌, ◌==◌, ◌∙◌, ℕ, IfOk, List, ap, subst}
+use Rattle.std.proofs.Common.{◌≡◌, ◌<◌, ◌||◌, ◌==◌, ◌∙◌, ℕ, OnOk, List, ap, subst}
 use Rattle.ctt_text.specs.Marks.{is_marked}
 use Rattle.ctt_text.specs.Problem.{Problem, course_of, course_count}
 use Rattle.ctt_text.specs.declared.placed.Placed.{Placed}
 use Rattle.ctt_rules.proofs.TimetableLemmas.{courses_fit}
 use Rattle.ctt_edits.proofs.PartLemmas.{part_marked}
-use Rattle.ctt_edits.proofs.showing.teacher_lectures.Goals as goal
+use Rattle.ctt_edits.proofs.showing.list_teacher.Goals as goal
 
 pub returns : goal.returns
 returns g c =
@@ -15,4 +15,4 @@ returns g c =
     let h : ℕ = c.args.teacher in
     let marked : (n : ℕ) → n < course_count i → is_marked marks n ≡ (is_marked before n || (course_of i n).teacher == h) = subst (λ j. (n : ℕ) → n < course_count j → is_marked marks n ≡ (is_marked before n || (course_of j n).teacher == h)) c.instance.ensures c.mark_taught.ensures.marked in
     let is : (n : ℕ) → n < course_count i → is_marked marks n ≡ ((course_of i n).teacher == h) = λ n lt. marked n lt ∙ ap (λ b. b || (course_of i n).teacher == h) (c.new-courses.ensures n) in
-    subst (λ (ls : List Placed). IfOk c.gather.result (λ lectures. lectures.items ≡ ls)) (part_marked (course_count i) (is_marked marks) (λ n. (course_of i n).teacher == h) t (courses_fit i t c.lawful.ensures.timetable) is) c.gather.ensures
+    subst (λ (ls : List Placed). OnOk c.gather.result (c.gather.new.list.items ≡ ls)) (part_marked (course_count i) (is_marked marks) (λ n. (course_of i n).teacher == h) t (courses_fit i t c.lawful.ensures.timetable) is) c.gather.ensures

@@ -2,7 +2,7 @@ use Rattle.std.proofs.Common.{rules, subst}
 use Rattle.ctt_edits.specs.Calls.{CallFits}
 use Rattle.ctt_edits.specs.Edits.{EditFits}
 use Rattle.ctt_edits.specs.Looks.{LookFits}
-use Rattle.ctt_draft.proofs.draft.Draft.call.Goals as goal
+use Rattle.ctt_draft.proofs.draft.Draft.call_in.Goals as goal
 
 pub look-requires : goal.look-requires
 look-requires g c κs =

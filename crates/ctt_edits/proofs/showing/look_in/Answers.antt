@@ -1,7 +1,7 @@
 use Rattle.std.proofs.Common.{rules, ◌<◌}
 use Rattle.ctt_text.specs.Problem.{course_count, teacher_count, curriculum_count}
 use Rattle.ctt_edits.specs.Edits.{EditFits}
-use Rattle.ctt_edits.proofs.showing.look.Goals as goal
+use Rattle.ctt_edits.proofs.showing.look_in.Goals as goal
 
 pub own_cost-requires : goal.own_cost-requires
 own_cost-requires g c κs =
@@ -13,12 +13,12 @@ price_reply-requires g c κs =
     let fits : EditFits (g.S.Rooms.problem c.args.sheet.now) c.in-Price.edit = rw c.in-Price.is at c.requires in
     search rules
 
-pub teacher_lectures-requires : goal.teacher_lectures-requires
-teacher_lectures-requires g c κs =
+pub list_teacher-requires : goal.list_teacher-requires
+list_teacher-requires g c κs =
     let fits : c.in-Teacher.teacher < teacher_count (g.S.Rooms.problem c.args.sheet.now) = rw c.in-Teacher.is at c.requires in
     search rules
 
-pub curriculum_lectures-requires : goal.curriculum_lectures-requires
-curriculum_lectures-requires g c κs =
+pub list_curriculum-requires : goal.list_curriculum-requires
+list_curriculum-requires g c κs =
     let fits : c.in-Curriculum.curriculum < curriculum_count (g.S.Rooms.problem c.args.sheet.now) = rw c.in-Curriculum.is at c.requires in
     search rules
