@@ -1,5 +1,5 @@
 use Rattle.std.proofs.Common.{rules, ◌<◌}
-use Rattle.ctt_text.specs.Problem.{course_count, teacher_count, curriculum_count}
+use Rattle.ctt_text.specs.Problem.{course_count, slot_count, teacher_count, curriculum_count}
 use Rattle.ctt_edits.specs.Edits.{EditFits}
 use Rattle.ctt_edits.proofs.showing.look_in.Goals as goal
 
@@ -21,4 +21,14 @@ list_teacher-requires g c κs =
 pub list_curriculum-requires : goal.list_curriculum-requires
 list_curriculum-requires g c κs =
     let fits : c.in-Curriculum.curriculum < curriculum_count (g.S.Rooms.problem c.args.sheet.now) = rw c.in-Curriculum.is at c.requires in
+    search rules
+
+pub list_course-requires : goal.list_course-requires
+list_course-requires g c κs =
+    let fits : c.in-Course.course < course_count (g.S.Rooms.problem c.args.sheet.now) = rw c.in-Course.is at c.requires in
+    search rules
+
+pub list_slot-requires : goal.list_slot-requires
+list_slot-requires g c κs =
+    let fits : c.in-Slot.slot < slot_count (g.S.Rooms.problem c.args.sheet.now) = rw c.in-Slot.is at c.requires in
     search rules
