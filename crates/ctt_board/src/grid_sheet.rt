@@ -3,7 +3,7 @@
 ghost use Rattle.std.specs.Prelude.{◌≡◌, ◌≤◌, ◌<◌, ◌+◌, pos, ◌-ℤ◌, ◌*◌, ◌++◌, ◌∷◌, ℕ, cond, get_or, [], true, false, Some, None, is_some, length, IfOk, IfSome, OnOk};
 ghost use Rattle.ctt_text.specs.Marks.{is_marked};
 ghost use Rattle.ctt_text.specs.Problem.{course_count, slot_count};
-ghost use Rattle.ctt_text.specs.Timetable.{course_row, with, without, Fits};
+ghost use Rattle.ctt_text.specs.Timetable.{course_row, slot_row, with, without, Fits};
 ghost use Rattle.ctt_rules.specs.Hard.{Lawful};
 ghost use Rattle.ctt_board.specs.Boards.{delta};
 ghost use Rattle.ctt_board.specs.Changes.{CellFits, CellsFit, ChangeFits, cell, steps_of, cells_of, is_change, room_at, apply_at, apply, apply_all, ChangesFit};
@@ -374,6 +374,18 @@ impl<'i> GridSheet<'i> {
         append_row(list, &self.tables.rooms, self.instance, course)
     }
 
+    /// Appends the lectures of the courses that stand in a slot.
+    #[inline(always)]
+    fn append_standing(&self, list: &mut Vec<Placed>, slot: SlotNo) -> Result<(), AllocError>
+        requires { slot < slot_count self.now.problem }
+        ensures { OnOk result (list.new.items ≡ list.old.items ++ slot_row slot self.now.list) }
+    {
+        self.instance.limits_hold();
+        let courses = self.instance.courses() as usize;
+        let standing = self.standing_at(slot);
+        append_column(list, &self.tables.rooms, standing, courses, slot)
+    }
+
     /// What a change adds to the penalty, cell by cell.
     fn stepwise(&self, change: &Change) -> i64
         requires { ChangeFits self.now.problem change.now self.now.list }
@@ -435,15 +447,6 @@ fn append_row(
 {
     instance.limits_hold();
     append_slots(list, rooms.row(course.get() as usize), course)
-}
-
-/// Whether no course of an instance is marked.
-fn none_marked(instance: &Instance, marks: &Marks) -> bool
-    ensures { result ≡ true → (course : ℕ) → course < course_count instance.now → is_marked marks.now course ≡ false }
-{
-    instance.limits_hold();
-    let courses = instance.courses() as usize;
-    marks.first_common_below(marks, courses).is_none()
 }
 
 /// Appends the lectures in a slot that a table of rooms shows, of the courses that stand there.
@@ -591,15 +594,18 @@ impl<'i> Timetable for GridSheet<'i> {
 
     fn slot_row(&self, slot: SlotNo) -> Result<Vec<Placed>, NoMemory> {
         self.instance.limits_hold();
-        let standing = self.standing_at(slot);
-        if none_marked(self.instance, standing) {
-            return Ok(Vec::new(self.alloc));
-        }
-        // No two lectures of a slot share a room.
-        let mut row = Vec::with_capacity(self.alloc, self.instance.rooms() as usize)?;
         let courses = self.instance.courses() as usize;
-        append_column(&mut row, &self.tables.rooms, standing, courses, slot)?;
+        let first = self.standing_at(slot).next_between(0, courses);
+        // No two lectures of a slot share a room.
+        let most = first.map_or(0, |_| self.instance.rooms() as usize);
+        let mut row = Vec::with_capacity(self.alloc, most)?;
+        self.append_standing(&mut row, slot)?;
         Ok(row)
+    }
+
+    fn append_slot_row(&self, slot: SlotNo, list: &mut Vec<Placed>) -> Result<(), NoMemory> {
+        self.append_standing(list, slot)?;
+        Ok(())
     }
 
     fn list(&self) -> Result<Vec<Placed>, NoMemory> {

@@ -113,6 +113,11 @@ pub trait Timetable: Rooms + Send + Sync {
         requires { slot < slot_count (Self.problem self.now) }
         ensures { IfOk result (λ row. row.items ≡ slot_row slot (Self.list self.now)) };
 
+    /// Appends the lectures in a slot, by course, to a list.
+    fn append_slot_row(&self, slot: SlotNo, list: &mut Vec<Placed>) -> Result<(), NoMemory>
+        requires { slot < slot_count (Self.problem self.now) }
+        ensures { OnOk result (list.new.items ≡ list.old.items ++ slot_row slot (Self.list self.now)) };
+
     /// All lectures, by course and slot.
     fn list(&self) -> Result<Vec<Placed>, NoMemory>
         ensures { IfOk result (λ all. all.items ≡ Self.list self.now) };

@@ -1,13 +1,15 @@
-use Rattle.std.proofs.Common.{ℕ, ◌≡◌, ◌<◌, ◌++◌, None, is_some, false, rules, ◌∙◌, sym, ap, subst}
+use Rattle.std.proofs.Common.{OnOk, List, ℕ, ◌≡◌, ◌<◌, ◌++◌, None, is_some, ◌∙◌, sym, ap, subst}
 use Rattle.ctt_text.specs.Marks.{is_marked}
-use Rattle.ctt_text.specs.Problem.{course_count, slot_count}
+use Rattle.ctt_text.specs.Problem.{slot_count}
+use Rattle.ctt_text.specs.Timetable.{slot_row}
+use Rattle.ctt_text.specs.declared.placed.Placed.{Placed}
 use Rattle.ctt_board.specs.Boards.{Board}
 use Rattle.ctt_board.specs.Changes.{room_at}
 use Rattle.ctt_board.specs.Tables.{at}
 use Rattle.ctt_board.specs.Grids.{listed, column_below}
 use Rattle.ctt_board.proofs.GridLemmas.{column_shown}
-use Rattle.ctt_board.proofs.ColumnLemmas.{column_none, column_stands, column_within}
-use Rattle.ctt_board.proofs.grid_sheet.GridSheetTimetable.slot_row.Goals as goal
+use Rattle.ctt_board.proofs.ColumnLemmas.{column_stands, column_within}
+use Rattle.ctt_board.proofs.grid_sheet.GridSheet.append_standing.Goals as goal
 
 pub append_column-requires-clause-standing : goal.append_column-requires-clause-standing
 append_column-requires-clause-standing c =
@@ -23,18 +25,12 @@ append_column-requires-clause-within c =
     let stands : (n : ℕ) → is_marked c.standing_at-standing.result.now n ≡ is_some (room_at n c.args.slot (listed i c.self.inside.tables.rooms)) = λ n. c.standing_at-standing.ensures n ∙ ap (λ (b : Board). is_some (room_at n c.args.slot b.list)) (sym c.self.view_is) in
     column_within i (listed i c.self.inside.tables.rooms) c.args.slot c.self.invariant.tables_are.lawful c.self.inside.tables.rooms c.self.invariant.tables_are.rooms_are slot (λ n. is_marked c.standing_at-standing.result.now n) stands
 
-pub returns-then-none_marked : goal.returns-then-none_marked
-returns-then-none_marked c =
-    let i = c.self.inside.instance.now in
-    let t = listed i c.self.inside.tables.rooms in
-    let are = c.self.invariant.tables_are.rooms_are in
-    let slot : c.args.slot < slot_count i = subst (λ b. c.args.slot < slot_count b.problem) (sym c.self.view_is) c.requires in
-    let free : (k : ℕ) → k < course_count i → is_some (at c.self.inside.tables.rooms k c.args.slot None) ≡ false = λ k lt. (ap is_some (are.rooms k c.args.slot lt slot) ∙ ap (λ (b : Board). is_some (room_at k c.args.slot b.list)) c.self.view_is ∙ sym (c.standing_at-standing.ensures k) ∙ c.none_marked.ensures (search rules) k lt) in
-    rw (← c.self.view_is) (c.new.ensures.items ∙ sym (column_none (λ k. at c.self.inside.tables.rooms k c.args.slot None) c.args.slot (course_count i) free) ∙ column_shown i t c.args.slot c.self.invariant.tables_are.lawful.timetable c.self.inside.tables.rooms are slot)
-
 pub returns : goal.returns
 returns c =
     let i = c.self.inside.instance.now in
+    let t = listed i c.self.inside.tables.rooms in
+    let are = c.self.invariant.tables_are.rooms_are in
     let column = λ (n : ℕ). column_below (λ k. at c.self.inside.tables.rooms k c.args.slot None) c.args.slot n in
     let slot : c.args.slot < slot_count i = subst (λ b. c.args.slot < slot_count b.problem) (sym c.self.view_is) c.requires in
-    rw (← c.self.view_is) (c.in_ok-append_column.ensures ∙ ap (λ xs. xs ++ column c.self.inside.tables.rooms.rows) c.in_ok-row.ensures.items ∙ ap column c.self.invariant.tables_are.rooms_are.size.0 ∙ column_shown i (listed i c.self.inside.tables.rooms) c.args.slot c.self.invariant.tables_are.lawful.timetable c.self.inside.tables.rooms c.self.invariant.tables_are.rooms_are slot)
+    let row : column c.self.inside.tables.rooms.rows ≡ slot_row c.args.slot t = ap column are.size.0 ∙ column_shown i t c.args.slot c.self.invariant.tables_are.lawful.timetable c.self.inside.tables.rooms are slot in
+    rw (← c.self.view_is) (subst (λ (xs : List Placed). OnOk c.append_column.result (c.append_column.new.list.items ≡ c.args.list.now.items ++ xs)) row c.append_column.ensures)
