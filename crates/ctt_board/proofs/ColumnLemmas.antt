@@ -1,5 +1,5 @@
 -- The lectures in a slot, from one course that stands there to the next one.
-use Rattle.std.proofs.Common.{◌≡◌, ℕ, zero, suc, ◌+◌, ◌<◌, ◌≤◌, Bool, true, false, ◌&&◌, nat_le, List, [], ◌++◌, Option, Some, None, is_some, inl, inr, append_assoc, append-nil, refl, ◌∙◌, sym, ap, ap₂, arith}
+use Rattle.std.proofs.Common.{◌≡◌, ℕ, zero, suc, ◌+◌, ◌<◌, ◌≤◌, Bool, true, false, ◌&&◌, nat_le, List, ◌++◌, Option, Some, None, is_some, inl, inr, append_assoc, append-nil, refl, ◌∙◌, sym, ap, arith}
 use Rattle.std.proofs.lemmas.Bool.{cases_lt}
 use Rattle.std.proofs.lemmas.Bool.Decides.{nat_tests}
 use Rattle.ctt_text.specs.Marks.{IsLeast}
@@ -20,15 +20,6 @@ column_skip f s n (suc m) le none = elim (cases_lt m n) [
   | inl past ↦ (let same : suc m ≡ n = omega (arith, le, past) in ap (column_below f s) same)
   | inr more ↦ rw (none m more (omega arith)) (append-nil (column_below f s m) ∙ column_skip f s n m more (λ k a b. none k a (omega (arith, b))))
 ]
-
--- where no course stands, there is no lecture
-pub column_none : (f : ℕ → Option ℕ) (s n : ℕ) → ((k : ℕ) → k < n → is_some (f k) ≡ false) → column_below f s n ≡ []
-column_none f s zero none = refl
-column_none f s (suc n) none = ap₂ (λ a b. a ++ b) (column_none f s n (λ k lt. none k (omega (arith, lt)))) (empty (f n) (none n (omega arith)))
-  where
-    empty : (o : Option ℕ) → is_some o ≡ false → lecture_at n s o ≡ []
-    empty None e = refl
-    empty (Some r) e = cc
 
 module _ (f : ℕ → Option ℕ) (s end : ℕ) (marked : ℕ → Bool) (stands : (c : ℕ) → c < end → marked c ≡ is_some (f c)) (within : (c : ℕ) → marked c ≡ true → c < end) where
   unmarked : (from k : ℕ) → (nat_le from k && marked k) ≡ false → from ≤ k → k < end → f k ≡ None

@@ -1,6 +1,6 @@
 //! A sheet that keeps the list of its lectures.
 
-ghost use Rattle.std.specs.Prelude.{◌≡◌, ◌==◌, ◌&&◌, ◌≤◌, ◌<◌, ◌*◌, ℕ, true, false, length, IfOk, []};
+ghost use Rattle.std.specs.Prelude.{◌≡◌, ◌==◌, ◌&&◌, ◌≤◌, ◌<◌, ◌*◌, ℕ, ◌++◌, true, false, length, IfOk, OnOk, []};
 ghost use Rattle.std.specs.List.{position_or_len};
 ghost use Rattle.std.specs.Vec.{vec_len, vec_capacity};
 ghost use Rattle.ctt_text.specs.Problem.{course_count, slot_count};
@@ -116,6 +116,22 @@ fn holder_in(lectures: &[Placed], slot: SlotNo, room: RoomNo) -> Option<CourseNo
     None
 }
 
+/// Appends those of the lectures that are in a slot.
+fn append_in_slot(
+    list: &mut Vec<Placed>,
+    lectures: &[Placed],
+    slot: SlotNo,
+) -> Result<(), AllocError>
+    ensures { OnOk result (list.new.items ≡ list.old.items ++ slot_row slot lectures.now) }
+{
+    for lecture in lectures {
+        if lecture.slot == slot {
+            list.push(*lecture)?;
+        }
+    }
+    Ok(())
+}
+
 impl<'i> Rooms for ListSheet<'i> {
     ghost problem = { λ s. s.problem };
 
@@ -188,12 +204,13 @@ impl<'i> Timetable for ListSheet<'i> {
     }
 
     fn slot_row(&self, slot: SlotNo) -> Result<Vec<Placed>, NoMemory> {
-        let lectures = self.lectures.iter().copied();
-        Ok(
-            lectures
-                .filter(|l| l.slot == slot)
-                .collect(*self.lectures.allocator())?,
-        )
+        let mut row = Vec::new(*self.lectures.allocator());
+        self.append_slot_row(slot, &mut row)?;
+        Ok(row)
+    }
+
+    fn append_slot_row(&self, slot: SlotNo, list: &mut Vec<Placed>) -> Result<(), NoMemory> {
+        Ok(append_in_slot(list, &self.lectures, slot)?)
     }
 
     fn append_slot_row(&self, slot: SlotNo, list: &mut Vec<Placed>) -> Result<(), NoMemory> {
