@@ -213,11 +213,6 @@ impl<'i> Timetable for ListSheet<'i> {
         Ok(append_in_slot(list, &self.lectures, slot)?)
     }
 
-    fn append_slot_row(&self, slot: SlotNo, list: &mut Vec<Placed>) -> Result<(), NoMemory> {
-        let row = self.slot_row(slot)?;
-        Ok(list.extend_from_slice(&row)?)
-    }
-
     fn list(&self) -> Result<Vec<Placed>, NoMemory> {
         Ok(self.lectures.as_slice().to_vec(*self.lectures.allocator())?)
     }
