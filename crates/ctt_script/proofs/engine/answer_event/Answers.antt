@@ -1,7 +1,8 @@
-use Rattle.std.proofs.Common.{rules, Option, ◌≡◌, ◌++◌, sym, subst, length, string_bytes}
+use Rattle.std.proofs.Common.{rules, Option, Some, ◌≡◌, ◌∷◌, [], ◌++◌, sym, subst, length, string_bytes}
 use Rattle.ctt_core.specs.Runs.{EventFits}
 use Rattle.ctt_core.specs.Desks.{DeskValue}
 use Rattle.ctt_script.specs.AnswerText.{answer_words}
+use Rattle.ctt_script.specs.Answering.{Answered}
 use Rattle.ctt_script.specs.Entries.{AnswerFits}
 use Rattle.ctt_script.specs.WrittenText.{line}
 use Rattle.ctt_script.proofs.AnsweringLemmas.{answer_can, event_answered}
@@ -29,7 +30,8 @@ pub returns-clause-answered : goal.returns-clause-answered
 returns-clause-answered g c =
     let v : DeskValue = c.args.desk.now in
     let grown : string_bytes c.tell.new.answers ≡ string_bytes c.args.answers.now ++ line (answer_words v.problem c.step-answer.result) = subst (λ i. string_bytes c.tell.new.answers ≡ string_bytes c.args.answers.now ++ line (answer_words i c.step-answer.result)) (sym c.requires.same) c.in_ok-tell.ensures.written in
-    event_answered v c.step-answer.new.self c.args.event.now c.step-answer.result c.step-answer.ensures.same c.step-answer.ensures.stands c.in_default.not-NoMemory (string_bytes c.args.answers.now) (string_bytes c.tell.new.answers) grown
+    subst (λ w. Answered v w (string_bytes c.args.answers.now) (string_bytes c.tell.new.answers) (Some c.args.event.now ∷ [])) (sym c.reuse.ensures)
+    (event_answered v c.step-answer.new.self c.args.event.now c.step-answer.result c.step-answer.ensures.same c.step-answer.ensures.stands c.in_default.not-NoMemory (string_bytes c.args.answers.now) (string_bytes c.tell.new.answers) grown)
 
 pub returns-clause-minuted : goal.returns-clause-minuted
 returns-clause-minuted g c =
@@ -38,4 +40,4 @@ returns-clause-minuted g c =
     let fits : EventFits i (length v.drafts) c.args.event.now = subst (λ n. EventFits i n c.args.event.now) (sym c.requires.planners) c.requires.fits in
     let later : Option MinutesValue = option_map (noted i c.args.event.now c.step-answer.result) c.args.minutes.now in
     let next : IsMinuted i c.step-answer.new.self later = subst (λ w. IsMinuted i w later) (sym c.step-answer.ensures.goes_on) (minuted_on i v c.args.minutes.now c.args.event.now c.step-answer.result fits c.step-answer.ensures.answer c.requires.minuted) in
-    subst (IsMinuted i c.step-answer.new.self) (sym c.in_ok-tell.ensures.noted) next
+    subst (λ w. IsMinuted i w c.tell.new.minutes) (sym c.reuse.ensures) (subst (IsMinuted i c.step-answer.new.self) (sym c.in_ok-tell.ensures.noted) next)
