@@ -1,8 +1,9 @@
 -- Drafts that are run anew, call by call and entry by entry.
-use Rattle.std.proofs.Common.{◌≡◌, ℕ, zero, suc, ◌+◌, ◌^◌, ◌<◌, ◌≤◌, List, [], ◌∷◌, ◌++◌, Option, Some, None, length, refl, Result, Ok, Err, IsTrue, ◌↔◌, false, true, ◌∙◌, sym, ap, ap₂, subst, append_assoc, append-nil, length-append, get_or, drop, arith}
+use Rattle.std.proofs.Common.{◌≡◌, ℕ, zero, suc, ◌+◌, ◌^◌, ◌<◌, ◌≤◌, List, [], ◌∷◌, ◌++◌, Option, Some, None, length, refl, Result, Ok, Err, IsTrue, ◌↔◌, false, true, ◌∙◌, sym, ap, ap₂, subst, append_assoc, append-nil, length-append, get_or, drop, arith, true≢false}
 use Rattle.std.proofs.lemmas.List.{map-append}
 use Rattle.std.specs.List.{AllByRecursion as Each}
 use Rattle.std.specs.Prelude.{IfOk}
+use Rattle.std.specs.Option.{is_some}
 use Rattle.ctt_text.specs.Problem.{Problem, IsProblem}
 use Rattle.ctt_text.specs.declared.placed.Placed.{Placed}
 use Rattle.ctt_rules.specs.Hard.{Lawful}
@@ -17,7 +18,7 @@ use Rattle.ctt_draft.specs.Drafts.{AskedFits, calls_of, replies_in, replies, who
 use Rattle.ctt_draft.specs.declared.asked.Asked.{Asked}
 use Rattle.ctt_draft.proofs.CallRuns.{replies-push, whole-push}
 use Rattle.ctt_draft.proofs.DraftSteps.{calls-push}
-use Rattle.ctt_core.specs.Auditors.{AuditorValue, IsAuditor, MadeOn, with_heard}
+use Rattle.ctt_core.specs.Auditors.{AuditorValue, IsAuditor, IsToldHere, MadeOn, with_heard}
 use Rattle.ctt_core.specs.Audits.{DiffersIn, DiffersAt, Finds, IsNext, IsVerdict, Replayed, found_more}
 use Rattle.ctt_core.specs.Entries.{EntryFits}
 use Rattle.ctt_core.specs.Runs.{after, Legal}
@@ -68,7 +69,7 @@ next_other i u v x number told tells other = λ t earlier counted r. record {
 
 -- nothing was taken yet
 pub auditor_opened : (i j : Problem) (ls u : List Placed) (entries : List JournalEntry) (asked : List Asked) → opening i ls ≡ Ok u → j ≡ i → entries ≡ [] → asked ≡ [] → IsAuditor j ls u Agrees None 0 0 entries asked None None
-auditor_opened i j ls u entries asked e same none none_asked = rw (same, none, none_asked) record { t0 = u; opens = e; ended_is = refl; begun_is = refl; counts = tt; untold = λ m. refl; finds = tt; goes_on = λ same. (refl, refl) }
+auditor_opened i j ls u entries asked e same none none_asked = rw (same, none, none_asked) record { t0 = u; opens = e; ended_is = refl; begun_is = refl; counts = tt; untold = λ m. refl; finds = tt; agrees = λ none_differs. refl; goes_on = λ same. (refl, refl) }
 
 -- a call that was made was told the same
 made_same : (i : Problem) (t u : List Placed) (asked : List Asked) (differs : Option ℕ) (x : Asked) (number : ℕ) → number ≡ length asked + 1 → MadeOn i t u asked differs (Some x.call) (Some x.reply) → Replayed i t u (asked ++ x ∷ []) differs
@@ -112,6 +113,7 @@ module _ (i : Problem) (ls u : List Placed) (found : Verdict) (ended begun : ℕ
     counts = room;
     untold = λ m. cc;
     finds = a.finds;
+    agrees = a.agrees;
     goes_on = λ agrees. (u, a.goes_on agrees, ap (λ r. Some r) tells, left);
   }
 
@@ -125,6 +127,7 @@ module _ (i : Problem) (ls u : List Placed) (found : Verdict) (ended begun : ℕ
     counts = room;
     untold = λ m. cc;
     finds = a.finds;
+    agrees = a.agrees;
     goes_on = λ agrees. (a.goes_on agrees, a.untold refl);
   }
 
@@ -138,13 +141,14 @@ module _ (i : Problem) (ls u : List Placed) (found : Verdict) (ended begun : ℕ
     counts = tt;
     untold = λ m. refl;
     finds = a.finds;
+    agrees = a.agrees;
     goes_on = λ agrees. made_none i (after i a.t0 entries) u asked differs made (subst (MadeOn i (after i a.t0 entries) u asked differs made) none (a.goes_on agrees));
   }
 
   module _ (differs : Option ℕ) (number : ℕ) (longer : List Asked) (x : Asked) (is : number ≡ begun + 1) (more : longer ≡ asked ++ x ∷ []) where
     auditor_next : (now : Option ℕ) (told : Option Reply) → IsAuditor i ls u found differs ended begun entries asked (Some x.call) told
-        → ((t : List Placed) → number ≡ length asked + 1 → MadeOn i t u asked differs (Some x.call) told → Replayed i t u (asked ++ x ∷ []) now) → IsAuditor i ls u found now ended number entries longer None None
-    auditor_next now told a next = rw more record {
+        → ((t : List Placed) → number ≡ length asked + 1 → MadeOn i t u asked differs (Some x.call) told → Replayed i t u (asked ++ x ∷ []) now) → (now ≡ None → differs ≡ None) → IsAuditor i ls u found now ended number entries longer None None
+    auditor_next now told a next stays = rw more record {
       t0 = a.t0;
       opens = a.opens;
       ended_is = a.ended_is;
@@ -152,21 +156,22 @@ module _ (i : Problem) (ls u : List Placed) (found : Verdict) (ended begun : ℕ
       counts = tt;
       untold = λ m. refl;
       finds = a.finds;
+      agrees = λ none. a.agrees (stays none);
       goes_on = λ agrees. next (after i a.t0 entries) (is ∙ ap (λ n. n + 1) a.begun_is) (a.goes_on agrees);
     }
 
     module _ (made : Option Call) (told : Option Reply) (is_made : made ≡ Some x.call) (a : IsAuditor i ls u found differs ended begun entries asked made told) where
       -- it was told the same
       pub auditor_same : told ≡ Some x.reply → IsAuditor i ls u found differs ended number entries longer None None
-      auditor_same same = auditor_next differs (Some x.reply) (rw (is_made, same) at a) (λ t counted m. made_same i t u asked differs x number counted m)
+      auditor_same same = auditor_next differs (Some x.reply) (rw (is_made, same) at a) (λ t counted m. made_same i t u asked differs x number counted m) (λ none. none)
 
       -- or something else
       pub auditor_other : (here : Reply) → told ≡ Some here → (here ≡ x.reply → ⊥) → IsAuditor i ls u found (Some number) ended number entries longer None None
-      auditor_other here is_told other = auditor_next (Some number) (Some here) (rw (is_made, is_told) at a) (λ t counted m. made_other i t u asked differs x here number other counted m)
+      auditor_other here is_told other = auditor_next (Some number) (Some here) (rw (is_made, is_told) at a) (λ t counted m. made_other i t u asked differs x here number other counted m) (λ (none : ◌≡◌ {A = Option ℕ} (Some number) None). cc)
 
       -- or one before it was
       pub auditor_untold : told ≡ None → IsAuditor i ls u found differs ended number entries longer None None
-      auditor_untold none = auditor_next differs None (rw (is_made, none) at a) (λ t counted m. made_untold i t u asked differs x number counted m)
+      auditor_untold none = auditor_next differs None (rw (is_made, none) at a) (λ t counted m. made_untold i t u asked differs x number counted m) (λ none. none)
 
 -- one entry more
 auditor_ended : (i : Problem) (ls u : List Placed) (found : Verdict) (differs : Option ℕ) (ended begun : ℕ) (entries : List JournalEntry) (asked : List Asked) (e : JournalEntry) → e.asked ≡ asked → IsAuditor i ls u found differs ended begun entries asked None None
@@ -181,6 +186,7 @@ auditor_ended i ls u Agrees None ended begun entries asked e same a =
       counts = tt;
       untold = λ m. refl;
       finds = Legal-push i a.t0 entries e a.finds run.0;
+      agrees = λ none. refl;
       goes_on = λ agrees. (refl, run.1 ∙ sym (after-push i a.t0 entries e));
     }
 auditor_ended i ls u Agrees (Some call) ended begun entries asked e same a = record {
@@ -199,6 +205,7 @@ auditor_ended i ls u Agrees (Some call) ended begun entries asked e same a = rec
     legal = a.finds;
     differs = subst (λ xs. DiffersIn i (after i a.t0 entries) xs call) (sym same) (a.goes_on refl);
   };
+  agrees = λ (none : ◌≡◌ {A = Option ℕ} (Some call) None). cc;
   goes_on = λ (agrees : Differs (ended + 1) call ≡ Agrees). cc;
 }
 auditor_ended i ls u (BadOpening at f) differs ended begun entries asked e same a = absurd a.finds
@@ -218,6 +225,7 @@ auditor_ended i ls u (Differs entry call) differs ended begun entries asked e sa
     legal = a.finds.legal;
     differs = a.finds.differs;
   };
+  agrees = a.agrees;
   goes_on = λ (agrees : Differs entry call ≡ Agrees). cc;
 }
 
@@ -327,12 +335,40 @@ head_told i t (x ∷ xs) later this e =
     let rest : replies_in (xs ++ this ∷ later) ≡ replies i (after_call i t x.call) (calls_of (xs ++ this ∷ later)) = cc in
     head_told i (after_call i t x.call) xs later this rest
 
+told_same : (i : Problem) (t : List Placed) (asked : List Asked) (n : ℕ) → replies_in asked ≡ replies i t (calls_of asked) → DiffersIn i t asked n → ⊥
+told_same i t asked n same d = d.other (head_told i t d.earlier d.later d.this (subst (λ xs. replies_in xs ≡ replies i t (calls_of xs)) d.split same))
+
 legal_same : (i : Problem) (t : List Placed) (h : List JournalEntry) (e c : ℕ) → Legal i t h → DiffersAt i t h e c → ⊥
 legal_same i t h e c legal d =
     let all : Legal i t (d.earlier ++ d.this ∷ d.later) = subst (Legal i t) d.split legal in
     let here = ((legal_joins i t d.earlier (d.this ∷ d.later)).0 all).1 in
-    let told : replies_in d.this.asked ≡ replies i (after i t d.earlier) (calls_of d.this.asked) = here.0 in
-    d.differs.other (head_told i (after i t d.earlier) d.differs.earlier d.differs.later d.differs.this (subst (λ xs. replies_in xs ≡ replies i (after i t d.earlier) (calls_of xs)) d.differs.split told))
+    told_same i (after i t d.earlier) d.this.asked c here.0 d.differs
+
+-- so a difference that was found, or heard behind the entries, is one
+differed : (i : Problem) (t : List Placed) (found : Verdict) (n : ℕ) (entries : List JournalEntry) (asked : List Asked) → Finds i t entries found → (found ≡ Agrees → DiffersIn i (after i t entries) asked n)
+    → Legal i t entries → replies_in asked ≡ replies i (after i t entries) (calls_of asked) → ⊥
+differed i t Agrees n entries asked finds differs legal same = told_same i (after i t entries) asked n same (differs refl)
+differed i t (BadOpening at f) n entries asked finds differs legal same = absurd finds
+differed i t (Differs e c) n entries asked finds differs legal same = legal_same i t entries e c legal finds
+
+module _ (i : Problem) (ls u : List Placed) (found : Verdict) (ended begun : ℕ) (entries : List JournalEntry) (asked : List Asked) (made : Option Call) (before : Option Reply) (ready : made ≡ None) (call : Call) where
+  -- what is held of a call: what it is told
+  pub told_here : (differs : Option ℕ) (told : Reply) → is_some differs ≡ false → IsAuditor i ls u found differs ended begun entries asked made before → told ≡ reply i u call
+      → IsToldHere (record { problem = i; lectures = ls; entries = entries; asked = asked; made = made; told = before }) call (Some told)
+  told_here None told none a tells =
+      let agreed : found ≡ Agrees = a.agrees refl in
+      let run : Replayed i (after i a.t0 entries) u asked None = subst (λ m. MadeOn i (after i a.t0 entries) u asked None m before) ready (a.goes_on agreed) in
+      record { t0 = a.t0; opens = a.opens; holds = ((subst (Finds i a.t0 entries) agreed a.finds, run.0), tells ∙ ap (λ w. reply i w call) run.1) }
+  told_here (Some n) told none a tells = absurd (true≢false none)
+
+  -- or nothing, behind a difference
+  pub untold_here : (differs : Option ℕ) → is_some differs ≡ true → IsAuditor i ls u found differs ended begun entries asked made before → IsToldHere (record { problem = i; lectures = ls; entries = entries; asked = asked; made = made; told = before }) call None
+  untold_here None some a = absurd (true≢false (sym some))
+  untold_here (Some n) some a = record {
+    t0 = a.t0;
+    opens = a.opens;
+    holds = λ so_far. differed i a.t0 found n entries asked a.finds (λ agreed. subst (λ m. MadeOn i (after i a.t0 entries) u asked (Some n) m before) ready (a.goes_on agreed)) so_far.0 so_far.1;
+  }
 
 same_opening : (i : Problem) (ls t u : List Placed) → opening i ls ≡ Ok t → opening i ls ≡ Ok u → t ≡ u
 same_opening i ls t u e f = (let both : ◌≡◌ {A = Result (List Placed) (ℕ × EditFault)} (Ok t) (Ok u) = sym e ∙ f in cc)

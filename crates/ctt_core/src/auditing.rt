@@ -13,7 +13,7 @@ ghost use Rattle.ctt_edits.specs.declared.call.Call.TheVariants.{Edit as Edits};
 ghost use Rattle.ctt_draft.specs.Drafts.{after_call};
 ghost use Rattle.ctt_core.specs.Entries.{EntryFits};
 ghost use Rattle.ctt_core.specs.Runs.{Legal};
-ghost use Rattle.ctt_core.specs.Auditors.{with_heard};
+ghost use Rattle.ctt_core.specs.Auditors.{IsToldHere, with_heard};
 ghost use Rattle.ctt_core.specs.Audits.{IsVerdict, found_more};
 ghost use Rattle.ctt_core.specs.Openings.{IsOpeningFault};
 ghost use Rattle.ctt_core.specs.declared.auditing.Verdict.TheVariants.{Agrees};
@@ -173,12 +173,14 @@ impl<'a, 'i, S: Sheet<'i>> Auditor<'a, S> {
         self.sheet.instance()
     }
 
-    /// Makes the next call of the entry that comes, unless a call before it was told something else.
+    /// Makes the next call of the entry that comes, and holds ready what it is told here. Where some entry or call
+    /// before it was told something else, it is not made, and nothing is held.
     pub fn tell(&mut self, alloc: Global, call: Call) -> Result<(), NoMemory>
         requires fits { CallFits self.old.problem call }
         requires ready { self.old.made ≡ None }
         ensures ok { OnOk result (self.new ≡ record self.old { made = Some call; told = self.new.told }) }
         ensures told { OnOk result (IfSome self.new.told (IsReply self.old.problem)) }
+        ensures here { OnOk result (IsToldHere self.old call self.new.told) }
         ensures err { OnErr result (self.new ≡ self.old) }
     {
         if self.begun == u64::MAX {
