@@ -1,5 +1,5 @@
 -- The curricula of each course.
-use Rattle.std.specs.Prelude.{◌≡◌, ◌<◌, ℕ, List, [], ◌∷◌, ◌++◌, Bool, cond, length, get_or}
+use Rattle.std.specs.Prelude.{◌≡◌, ◌<◌, ℕ, List, [], length, get_or}
 use Rattle.ctt_text.specs.Lists.{below, has}
 use Rattle.ctt_text.specs.Problem.{Problem, course_count, curriculum_count, members}
 
@@ -11,8 +11,3 @@ curricula_of i c = below (λ q. has c (members i q)) (curriculum_count i)
 pub record AreCurricula (p : Problem) (lists : List (List ℕ)) : Type 0 where
   pub size : length lists ≡ course_count p
   pub list : (c : ℕ) → c < course_count p → get_or lists c [] ≡ curricula_of p c
-
--- behind the numbers of each course that passes, one number more
-pub record AddsNumber (old new : List (List ℕ)) (q : ℕ) (test : ℕ → Bool) : Type 0 where
-  pub size : length new ≡ length old
-  pub lists : (c : ℕ) → c < length old → get_or new c [] ≡ get_or old c [] ++ cond (test c) (q ∷ []) []

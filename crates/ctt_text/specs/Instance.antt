@@ -5,6 +5,7 @@ use Rattle.ctt_text.specs.Problem.{Problem, IsProblem, course_count, slot_count,
 use Rattle.ctt_text.specs.Named.{IsNamed}
 use Rattle.ctt_text.specs.Tables.{mark_at, IsTableOf}
 use Rattle.ctt_text.specs.Belonging.{AreCurricula}
+use Rattle.ctt_text.specs.Taught.{AreTaught}
 use Rattle.ctt_text.specs.Labels.{AreLabels, AreSlotLabels}
 use Rattle.ctt_text.specs.declared.instance.Instance.TheInside.{Inside}
 
@@ -34,6 +35,7 @@ pub record IsInstance (i : Inside) : Type 0 where
   pub clashes : AreClashes (problem_in i) i.clashes.items
   pub available : IsTableOf (course_count (problem_in i)) (slot_count (problem_in i)) i.unavailable
   pub belonging : AreCurricula (problem_in i) (map (λ q. q.items) i.belonging.items)
+  pub taught : AreTaught (problem_in i) (map (λ q. q.items) i.taught.items)
   pub course_labels : AreLabels i.course_names i.course_labels.items
   pub room_labels : AreLabels i.room_names i.room_labels.items
   pub slot_labels : AreSlotLabels (slot_count (problem_in i)) i.periods i.slot_labels.items

@@ -7,6 +7,7 @@ ghost use Rattle.ctt_text.specs.Problem.{IsProblem, course_of, capacity_of, memb
 ghost use Rattle.ctt_text.specs.Marks.{is_marked};
 ghost use Rattle.ctt_text.specs.Named.{IsNamed};
 ghost use Rattle.ctt_text.specs.Belonging.{curricula_of};
+ghost use Rattle.ctt_text.specs.Taught.{courses_taught_by};
 ghost use Rattle.ctt_text.specs.Labels.{IsLabelOf, IsLabelOfDigits};
 
 mod belonging;
@@ -15,9 +16,11 @@ mod courses;
 mod curricula;
 mod header;
 mod members;
+mod number_lists;
 mod places;
 mod read;
 mod rooms;
+mod taught;
 mod unavailability;
 mod unavailable;
 
@@ -50,6 +53,8 @@ pub struct Instance {
     clashes: Vec<Marks>,
     /// For each course, its curricula.
     belonging: Vec<Vec<CurriculumNo>>,
+    /// For each teacher, his courses.
+    taught: Vec<Vec<CourseNo>>,
     /// The names of the courses, ready to be copied.
     course_labels: Vec<Option<Label>>,
     /// Those of the rooms.
@@ -268,6 +273,15 @@ impl Instance {
         ensures few { length result.now ≤ 20000 }
     {
         &self.belonging[course.get() as usize]
+    }
+
+    /// The courses of a teacher, ascending.
+    pub fn taught_by(&self, teacher: TeacherNo) -> &[CourseNo]
+        requires { teacher < teacher_count self.now }
+        ensures exact { result.now ≡ courses_taught_by self.now teacher }
+        ensures within { Each (λ course. course < course_count self.now) result.now }
+    {
+        &self.taught[teacher.get() as usize]
     }
 
     /// Whether two different courses have the same teacher or are members of one curriculum.

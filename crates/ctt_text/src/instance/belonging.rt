@@ -1,26 +1,14 @@
 //! Which curricula each course belongs to.
 
-ghost use Rattle.std.specs.Prelude.{◌≡◌, ℕ, ◌<◌, ◌≤◌, ◌==◌, [], length, map, get_or, IfOk, OnOk};
+ghost use Rattle.std.specs.Prelude.{◌≡◌, ℕ, ◌<◌, ◌≤◌, [], length, map, get_or, IfOk, OnOk};
 ghost use Rattle.ctt_text.specs.Lists.{below, has};
 ghost use Rattle.ctt_text.specs.Problem.{AreMembers};
-ghost use Rattle.ctt_text.specs.Belonging.{AddsNumber};
+ghost use Rattle.ctt_text.specs.NumberLists.{AddsNumber};
 
 use crate::course_facts::CourseFacts;
 use crate::ids::{CourseNo, CurriculumNo};
+use crate::instance::number_lists::{add_to, empty_lists};
 use std::alloc::{AllocError, Global};
-
-/// Adds a curriculum to the list of a course.
-fn add_to(
-    lists: &mut [Vec<CurriculumNo>],
-    course: CourseNo,
-    curriculum: CurriculumNo,
-) -> Result<(), AllocError>
-    requires { course < length lists.old }
-    ensures { OnOk result (AddsNumber (map (λ v. v.items) lists.old) (map (λ v. v.items) lists.new) curriculum (λ c. c == course)) }
-{
-    lists[course.get() as usize].push(curriculum)?;
-    Ok(())
-}
 
 /// Adds a curriculum to the lists of its members.
 fn add_to_members(
@@ -32,7 +20,7 @@ fn add_to_members(
     ensures { OnOk result (AddsNumber (map (λ v. v.items) lists.old) (map (λ v. v.items) lists.new) curriculum (λ c. has c members.now)) }
 {
     for member in members {
-        add_to(lists, *member, curriculum)?;
+        add_to(lists, member.get() as usize, curriculum)?;
     }
     Ok(())
 }
@@ -49,18 +37,6 @@ fn add_all(lists: &mut [Vec<CurriculumNo>], curricula: &[Vec<CourseNo>]) -> Resu
         add_to_members(lists, members, CurriculumNo::new(number as u16))?;
     }
     Ok(())
-}
-
-/// For each of so many courses, no curriculum.
-fn empty_lists(alloc: Global, count: usize) -> Result<Vec<Vec<CurriculumNo>>, AllocError>
-    ensures size { IfOk result (λ v. length v.items ≡ count) }
-    ensures empty { IfOk result (λ v. (c : ℕ) → get_or (map (λ v. v.items) v.items) c [] ≡ []) }
-{
-    let mut lists = Vec::new(alloc);
-    for _ in 0..count {
-        lists.push(Vec::new(alloc))?;
-    }
-    Ok(lists)
 }
 
 /// For each course, the curricula of which it is a member, ascending.

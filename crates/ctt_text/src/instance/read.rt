@@ -11,6 +11,7 @@ ghost use Rattle.ctt_text.specs.Named.{IsNamed};
 ghost use Rattle.ctt_text.specs.Ranked.{AreRanked};
 ghost use Rattle.ctt_text.specs.Instance.{AreClashes};
 ghost use Rattle.ctt_text.specs.Belonging.{AreCurricula};
+ghost use Rattle.ctt_text.specs.Taught.{AreTaught};
 ghost use Rattle.ctt_text.specs.Labels.{AreLabels, AreSlotLabels};
 ghost use Rattle.ctt_text.specs.InstancePlaces.{GivesRead, reads, wants_memory, instance};
 ghost use Rattle.ctt_text.specs.LastSections.{last_sections};
@@ -20,7 +21,7 @@ ghost use Rattle.ctt_text.specs.declared.fault.ReadFault.{ReadFault};
 ghost use Rattle.ctt_text.specs.declared.fault.ReadFault.TheVariants.{NoMemory, NotText};
 
 use crate::fault::ReadFault;
-use crate::ids::CurriculumNo;
+use crate::ids::{CourseNo, CurriculumNo};
 use crate::instance::Instance;
 use crate::instance::belonging::belonging;
 use crate::instance::clashes::clash_rows;
@@ -29,6 +30,7 @@ use crate::instance::curricula::{CurriculumSection, read_curriculum_section};
 use crate::instance::header::{Header, read_header};
 use crate::instance::places::read_fixed;
 use crate::instance::rooms::{RoomSection, read_room_section};
+use crate::instance::taught::taught;
 use crate::instance::unavailability::read_unavailability_section;
 use crate::instance::unavailable::Unavailable;
 use crate::label::{Label, labels, slot_labels};
@@ -66,6 +68,7 @@ struct Tables {
     name: String,
     clashes: Vec<Marks>,
     belonging: Vec<Vec<CurriculumNo>>,
+    taught: Vec<Vec<CourseNo>>,
     course_labels: Vec<Option<Label>>,
     room_labels: Vec<Option<Label>>,
     slot_labels: Vec<Option<Label>>,
@@ -128,6 +131,7 @@ impl<'a> Sections<'a> {
         requires name { string_bytes tables.name ≡ self.name }
         requires clashes { AreClashes self tables.clashes.items }
         requires belonging { AreCurricula self (map (λ q. q.items) tables.belonging.items) }
+        requires taught { AreTaught self (map (λ q. q.items) tables.taught.items) }
         requires course_labels { AreLabels self.course_names tables.course_labels.items }
         requires room_labels { AreLabels self.room_names tables.room_labels.items }
         requires slot_labels { AreSlotLabels (slot_count self) self.periods tables.slot_labels.items }
@@ -154,6 +158,7 @@ impl<'a> Sections<'a> {
             unavailable,
             clashes: tables.clashes,
             belonging: tables.belonging,
+            taught: tables.taught,
             course_labels: tables.course_labels,
             room_labels: tables.room_labels,
             slot_labels: tables.slot_labels,
@@ -179,6 +184,16 @@ impl<'a> Sections<'a> {
         Ok(lists)
     }
 
+    /// For each teacher, his courses.
+    fn taught(&self, alloc: Global) -> Result<Vec<Vec<CourseNo>>, AllocError>
+        requires problem { IsProblem self.now }
+        ensures { IfOk result (λ lists. AreTaught self.now (map (λ q. q.items) lists.items)) }
+    {
+        let teachers = self.courses.teachers.len();
+        let lists = taught(alloc, &self.courses.facts, teachers)?;
+        Ok(lists)
+    }
+
     /// The labels of the slots.
     fn slot_labels(&self, alloc: Global) -> Result<Vec<Option<Label>>, AllocError>
         requires problem { IsProblem self.now }
@@ -198,12 +213,14 @@ impl<'a> Sections<'a> {
         ensures name { IfOk result (λ t. string_bytes t.name ≡ self.now.name) }
         ensures clashes { IfOk result (λ t. AreClashes self.now t.clashes.items) }
         ensures belonging { IfOk result (λ t. AreCurricula self.now (map (λ q. q.items) t.belonging.items)) }
+        ensures taught { IfOk result (λ t. AreTaught self.now (map (λ q. q.items) t.taught.items)) }
         ensures course_labels { IfOk result (λ t. AreLabels self.now.course_names t.course_labels.items) }
         ensures room_labels { IfOk result (λ t. AreLabels self.now.room_names t.room_labels.items) }
         ensures slot_labels { IfOk result (λ t. AreSlotLabels (slot_count self.now) self.now.periods t.slot_labels.items) }
     {
         let clashes = self.clashes(alloc)?;
         let belonging = self.belonging(alloc)?;
+        let taught = self.taught(alloc)?;
         let course_labels = labels(alloc, &self.courses.names)?;
         let room_labels = labels(alloc, &self.rooms.names)?;
         let slot_labels = self.slot_labels(alloc)?;
@@ -212,6 +229,7 @@ impl<'a> Sections<'a> {
             name,
             clashes,
             belonging,
+            taught,
             course_labels,
             room_labels,
             slot_labels,

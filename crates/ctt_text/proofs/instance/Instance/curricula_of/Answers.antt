@@ -1,6 +1,7 @@
 use Rattle.std.proofs.Common.{◌≡◌, ◌∙◌, refl, map, List, ℕ}
 use Rattle.ctt_text.specs.Belonging.{curricula_of, AreCurricula}
-use Rattle.ctt_text.proofs.BelongingLemmas.{curricula_fit, curricula_few, list_read}
+use Rattle.ctt_text.proofs.BelongingLemmas.{curricula_fit, curricula_few}
+use Rattle.ctt_text.proofs.NumberListLemmas.{list_read}
 use Rattle.ctt_text.proofs.instance.Instance.curricula_of.Goals as goal
 
 module _ (c : goal.After-deref) where

@@ -1,5 +1,6 @@
 use Rattle.std.proofs.Common.{ap}
-use Rattle.ctt_text.proofs.BelongingLemmas.{are_members, list_read}
+use Rattle.ctt_text.proofs.BelongingLemmas.{are_members}
+use Rattle.ctt_text.proofs.NumberListLemmas.{list_read}
 use Rattle.ctt_text.proofs.instance.Instance.members.Goals as goal
 
 pub returns-clause-within : goal.returns-clause-within

@@ -2,7 +2,7 @@ use Rattle.std.proofs.Common.{rules, ◌≡◌, ◌∙◌, ℕ, [], ◌∷◌, �
 use Rattle.std.proofs.lemmas.List.{get_or-map, length-map}
 use Rattle.ctt_text.specs.Lists.{below, has}
 use Rattle.ctt_text.specs.Problem.{AreMembers}
-use Rattle.ctt_text.proofs.BelongingLemmas.{below_more}
+use Rattle.ctt_text.proofs.NumberListLemmas.{below_more}
 use Rattle.ctt_text.proofs.instance.belonging.add_all.Goals as goal
 
 pub add_to_members-requires : goal.add_to_members-requires

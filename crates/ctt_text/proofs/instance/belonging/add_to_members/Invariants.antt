@@ -1,6 +1,6 @@
 use Rattle.std.proofs.Common.{map, take}
 use Rattle.ctt_text.specs.Lists.{has}
-use Rattle.ctt_text.specs.Belonging.{AddsNumber}
+use Rattle.ctt_text.specs.NumberLists.{AddsNumber}
 use Rattle.ctt_text.proofs.instance.belonging.add_to_members.Given as goal
 
 abbrev pub invariant-loop-member : goal.invariant-loop-member

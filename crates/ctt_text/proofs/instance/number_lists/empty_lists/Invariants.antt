@@ -1,8 +1,8 @@
 use Rattle.std.proofs.Common.{◌≡◌, ℕ, [], map, get_or, length}
-use Rattle.ctt_text.proofs.instance.belonging.empty_lists.Given as goal
+use Rattle.ctt_text.proofs.instance.number_lists.empty_lists.Given as goal
 
 abbrev pub invariant-loop : goal.invariant-loop
-invariant-loop l = record {
+invariant-loop g l = record {
   size : length l.lists.items ≡ l.counter;
   empty : (c : ℕ) → get_or (map (λ v. v.items) l.lists.items) c [] ≡ [];
 }

@@ -1,0 +1,13 @@
+-- The courses of each teacher.
+use Rattle.std.specs.Prelude.{◌≡◌, ◌<◌, ◌==◌, ℕ, List, [], length, get_or}
+use Rattle.ctt_text.specs.Lists.{below}
+use Rattle.ctt_text.specs.Problem.{Problem, course_of, course_count, teacher_count}
+
+-- the courses of a teacher, ascending
+abbrev pub courses_taught_by : Problem → ℕ → List ℕ
+courses_taught_by i h = below (λ c. (course_of i c).teacher == h) (course_count i)
+
+-- these, for each teacher
+pub record AreTaught (p : Problem) (lists : List (List ℕ)) : Type 0 where
+  pub size : length lists ≡ teacher_count p
+  pub list : (h : ℕ) → h < teacher_count p → get_or lists h [] ≡ courses_taught_by p h

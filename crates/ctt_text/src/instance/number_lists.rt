@@ -1,0 +1,31 @@
+//! Lists of numbers, one in each place, to which numbers are added.
+
+ghost use Rattle.std.specs.Prelude.{◌≡◌, ℕ, ◌<◌, ◌==◌, [], length, map, get_or, IfOk, OnOk};
+ghost use Rattle.ctt_text.specs.NumberLists.{AddsNumber};
+
+use std::alloc::{AllocError, Global};
+
+/// Adds a number to the list in a place.
+pub(crate) fn add_to<N: Drop>(
+    lists: &mut [Vec<N>],
+    place: usize,
+    number: N,
+) -> Result<(), AllocError>
+    requires { place < length lists.old }
+    ensures { OnOk result (AddsNumber (map (λ v. v.items) lists.old) (map (λ v. v.items) lists.new) number (λ p. place == p)) }
+{
+    lists[place].push(number)?;
+    Ok(())
+}
+
+/// In each of so many places, no number.
+pub(crate) fn empty_lists<N: Drop>(alloc: Global, count: usize) -> Result<Vec<Vec<N>>, AllocError>
+    ensures size { IfOk result (λ v. length v.items ≡ count) }
+    ensures empty { IfOk result (λ v. (p : ℕ) → get_or (map (λ v. v.items) v.items) p [] ≡ []) }
+{
+    let mut lists = Vec::new(alloc);
+    for _ in 0..count {
+        lists.push(Vec::new(alloc))?;
+    }
+    Ok(lists)
+}
