@@ -1,6 +1,6 @@
 //! The rows that calls read: each call marks its own.
 
-ghost use Rattle.std.specs.Prelude.{◌≡◌, ◌<◌, ◌≤◌, ◌==◌, ◌||◌, ◌&&◌, ◌∷◌, [], ℕ, false, true, nat_lt, None, IfOk, IfSome};
+ghost use Rattle.std.specs.Prelude.{◌≡◌, ◌<◌, ◌≤◌, ◌==◌, ◌||◌, ◌∷◌, [], ℕ, true, IfOk};
 ghost use Rattle.std.specs.List.{list_any, AllByRecursion as Each};
 ghost use Rattle.ctt_text.specs.Lists.{has};
 ghost use Rattle.ctt_text.specs.Marks.{is_marked};
@@ -56,117 +56,13 @@ fn mark_mates(instance: &Instance, course: CourseNo, marks: &mut Marks)
     }
 }
 
-/// Marks a number, if the condition holds.
-fn mark_if(condition: bool, number: usize, marks: &mut Marks)
-    requires { number < 2000 }
-    ensures { (n : ℕ) → is_marked marks.new n ≡ (is_marked marks.old n || (condition && n == number)) }
-{
-    if condition {
-        marks.mark(number);
-    }
-}
-
-/// Whether a teacher has a course.
-fn is_taught(instance: &Instance, number: u16, teacher: TeacherNo) -> bool
-    requires { number < course_count instance.now }
-    ensures { result ≡ ((course_of instance.now number).teacher == teacher) }
-{
-    instance.teacher(CourseNo::new(number)) == teacher
-}
-
-/// Whether a number is that of a course which a teacher has.
-fn is_taught_course(instance: &Instance, number: u16, teacher: TeacherNo) -> bool
-    ensures { result ≡ (nat_lt number (course_count instance.now) && (course_of instance.now number).teacher == teacher) }
-{
-    number < instance.courses() && is_taught(instance, number, teacher)
-}
-
-/// About where a teacher's first course stands. Teachers are numbered in the order in which the courses
-/// name them first: behind the first course of an earlier one, each number between takes a course.
-fn about_first_taught(instance: &Instance, teacher: TeacherNo) -> u16
-    requires { teacher < teacher_count instance.now }
-    ensures { result ≤ course_count instance.now }
-{
-    instance.limits_hold();
-    let courses = instance.courses();
-    let mut place = teacher.get();
-    while place < courses {
-        let here = instance.teacher(CourseNo::new(place)).get();
-        if teacher.get() <= here {
-            return place;
-        }
-        place += teacher.get() - here;
-    }
-    courses
-}
-
-/// A course of a teacher, looked for on both sides of a place, farther and farther.
-fn taught_around(instance: &Instance, teacher: TeacherNo, place: u16) -> Option<CourseNo>
-    requires { place ≤ course_count instance.now }
-    ensures some { IfSome result (λ c. (c < course_count instance.now) × ((course_of instance.now c).teacher ≡ teacher)) }
-    ensures none { result ≡ None → (n : ℕ) → n < course_count instance.now → ((course_of instance.now n).teacher == teacher) ≡ false }
-{
-    instance.limits_hold();
-    for distance in 0..instance.courses() {
-        let ahead = place + distance;
-        if is_taught_course(instance, ahead, teacher) {
-            return Some(CourseNo::new(ahead));
-        }
-        // Before the first course it wraps, to a number past the last one.
-        let back = place.wrapping_sub(distance + 1);
-        if is_taught_course(instance, back, teacher) {
-            return Some(CourseNo::new(back));
-        }
-    }
-    None
-}
-
-/// A course of a teacher.
-fn any_taught(instance: &Instance, teacher: TeacherNo) -> Option<CourseNo>
-    requires { teacher < teacher_count instance.now }
-    ensures some { IfSome result (λ c. (c < course_count instance.now) × ((course_of instance.now c).teacher ≡ teacher)) }
-    ensures none { result ≡ None → (n : ℕ) → n < course_count instance.now → ((course_of instance.now n).teacher == teacher) ≡ false }
-{
-    taught_around(instance, teacher, about_first_taught(instance, teacher))
-}
-
-/// Marks those of some courses that a teacher has.
-fn mark_taught_of(instance: &Instance, courses: &Marks, teacher: TeacherNo, marks: &mut Marks)
-    requires { (n : ℕ) → is_marked courses.now n ≡ true → n < course_count instance.now }
-    ensures { (n : ℕ) → is_marked marks.new n ≡ (is_marked marks.old n || (is_marked courses.now n && (course_of instance.now n).teacher == teacher)) }
-{
-    instance.limits_hold();
-    let end = instance.courses() as usize;
-    let mut from = 0;
-    while let Some(number) = courses.next_between(from, end) {
-        let taught = is_taught(instance, number as u16, teacher);
-        mark_if(taught, number, marks);
-        from = number + 1;
-    }
-}
-
-/// Marks a course and its teacher's other ones, which all clash with it.
-fn mark_colleagues(instance: &Instance, course: CourseNo, marks: &mut Marks)
-    requires { course < course_count instance.now }
-    ensures marked { (n : ℕ) → n < course_count instance.now → is_marked marks.new n ≡ (is_marked marks.old n || (course_of instance.now n).teacher == (course_of instance.now course).teacher) }
-    ensures past { (n : ℕ) → course_count instance.now ≤ n → is_marked marks.new n ≡ is_marked marks.old n }
-{
-    instance.limits_hold();
-    let teacher = instance.teacher(course);
-    mark_taught_of(instance, instance.clashing(course), teacher, marks);
-    marks.mark(course.get() as usize);
-}
-
 /// Marks the courses of a teacher.
 pub(crate) fn mark_taught(instance: &Instance, teacher: TeacherNo, marks: &mut Marks)
     requires { teacher < teacher_count instance.now }
     ensures marked { (n : ℕ) → n < course_count instance.now → is_marked marks.new n ≡ (is_marked marks.old n || (course_of instance.now n).teacher == teacher) }
     ensures past { (n : ℕ) → course_count instance.now ≤ n → is_marked marks.new n ≡ is_marked marks.old n }
 {
-    match any_taught(instance, teacher) {
-        Some(course) => mark_colleagues(instance, course, marks),
-        None => {}
-    }
+    mark_courses(instance, instance.taught_by(teacher), marks);
 }
 
 /// Marks all courses.
