@@ -45,6 +45,7 @@ has_below p (suc n) k lt = has_both k (below p n) (cond (p n) (n ∷ []) []) ∙
     without true b = refl
     without false true = refl
     without false false = refl
+
     with_last : (b : Bool) → (false || (b && true)) ≡ b
     with_last true = refl
     with_last false = refl
