@@ -3,6 +3,7 @@ use Rattle.std.proofs.Common.{◌≡◌, ℕ, zero, ◌+◌, ◌*◌, ◌/◌, �
 use Rattle.std.specs.Prelude.{slice_set, bit_and, bit_or}
 use Rattle.std.specs.Int.{bit_at, bit_not}
 use Rattle.std.proofs.lemmas.Bool.{cases_eq, cases_lt, cases_order, eq-eqb, ne_eqb, eqb-true}
+use Rattle.std.proofs.lemmas.Bool.Decides.{nat_tests}
 use Rattle.std.proofs.lemmas.List.{get_or_past, length-set}
 use Rattle.std.proofs.Math.Nat.{mul-le-mul_right}
 use Rattle.std.proofs.lemmas.List.FromFn.{length-map-range_with_len, get_or-map-range_with_len}
@@ -37,20 +38,26 @@ past rows width stride words row column d le =
     get_or_past (bits_of rows width stride words) (row * width + column) d (omega (arith, all, bits_length rows width stride words))
 
 -- the bits of two places are the same one only where the places are
-before_row : (stride r row k column : ℕ) → k + 2 < stride * 64 → r < row → place_in stride r k ≢ place_in stride row column
+before_row : (stride r row k column : ℕ) → k < stride * 64 → r < row → (r * stride) * 64 + k ≢ (row * stride) * 64 + column
 before_row stride r row k column small less e = (let rows : suc r * stride ≤ row * stride = mul-le-mul_right stride less in omega (arith, rows, e, small))
 
-same_place : (stride r row k column : ℕ) → k + 2 < stride * 64 → column + 2 < stride * 64 → (place_in stride r k == place_in stride row column) ≡ (r == row && k == column)
-same_place stride r row k column small small' = elim (cases_order r row) [
+pub same_bit : (stride r row k column : ℕ) → k < stride * 64 → column < stride * 64 → ((r * stride) * 64 + k == (row * stride) * 64 + column) ≡ (r == row && k == column)
+same_bit stride r row k column small small' = elim (cases_order r row) [
   | inl same ↦ elim (cases_eq k column) [
-    | inl too ↦ rw (eq-eqb (place_in stride r k) (place_in stride row column) (ap₂ (place_in stride) same too), eq-eqb r row same, eq-eqb k column too) refl
+    | inl too ↦ rw (eq-eqb ((r * stride) * 64 + k) ((row * stride) * 64 + column) (ap₂ (λ a b. (a * stride) * 64 + b) same too), eq-eqb r row same, eq-eqb k column too) refl
     | inr other ↦ (
         let start : r * stride ≡ row * stride = ap (λ x. x * stride) same in
-        rw (ne_eqb (place_in stride r k) (place_in stride row column) (λ e. other (omega (arith, e, start))), eq-eqb r row same, ne_eqb k column other) refl)
+        rw (ne_eqb ((r * stride) * 64 + k) ((row * stride) * 64 + column) (λ e. other (omega (arith, e, start))), eq-eqb r row same, ne_eqb k column other) refl)
   ]
-  | inr (inl less) ↦ rw (ne_eqb (place_in stride r k) (place_in stride row column) (before_row stride r row k column small less), ne_eqb r row (λ e. omega (arith, e, less))) refl
-  | inr (inr more) ↦ rw (ne_eqb (place_in stride r k) (place_in stride row column) (λ e. before_row stride row r column k small' more (sym e)), ne_eqb r row (λ e. omega (arith, e, more))) refl
+  | inr (inl less) ↦ rw (ne_eqb ((r * stride) * 64 + k) ((row * stride) * 64 + column) (before_row stride r row k column small less), ne_eqb r row (λ e. omega (arith, e, less))) refl
+  | inr (inr more) ↦ rw (ne_eqb ((r * stride) * 64 + k) ((row * stride) * 64 + column) (λ e. before_row stride row r column k small' more (sym e)), ne_eqb r row (λ e. omega (arith, e, more))) refl
 ]
+
+same_place : (stride r row k column : ℕ) → k + 2 < stride * 64 → column + 2 < stride * 64 → (place_in stride r k == place_in stride row column) ≡ (r == row && k == column)
+same_place stride r row k column small small' = same_bit stride r row (k + 2) (column + 2) small small' ∙ ap (λ b. r == row && b) (shifted k column)
+  where
+    shifted : (k column : ℕ) → (k + 2 == column + 2) ≡ (k == column)
+    shifted k column = grind (arith, nat_tests)
 
 -- of two tables that differ in one place the second has a one more there
 one_more : (rows width stride row column : ℕ) (words next : List ℕ) → row < rows → column < width → width + 2 ≤ stride * 64 → at (table rows width stride words) row column 0 ≡ 0
@@ -72,13 +79,13 @@ one_more rows width stride row column words next less lt wide none wrote = set_m
     ]
 
 -- one bit of a word, by the number of the bit among all
-marked_set : (words : List ℕ) (n number low w : ℕ) → number ≡ n / 64 → low ≡ n % 64 → number < length words → w ≡ get_or words number 0 → (k : ℕ) → is_marked (slice_set words number (bit_or w (1 * 2 ^ low % 2 ^ 64))) k ≡ cond (k == n) true (is_marked words k)
+pub marked_set : (words : List ℕ) (n number low w : ℕ) → number ≡ n / 64 → low ≡ n % 64 → number < length words → w ≡ get_or words number 0 → (k : ℕ) → is_marked (slice_set words number (bit_or w (1 * 2 ^ low % 2 ^ 64))) k ≡ cond (k == n) true (is_marked words k)
 marked_set words n number low w en el within is =
     rw (en, el) (one_changed words n (bit_or w (1 * 2 ^ (n % 64) % 2 ^ 64)) true (omega (arith, within, en))
     (ap (λ b. b == 1) (bit_at_set_same w64 w (n % 64) (mod_below n 64 (omega arith))))
     (λ k small other. bit_at_set_other w64 w (n % 64) (mod_below n 64 (omega arith)) k other ∙ ap (λ v. bit_at v k) (is ∙ ap (λ m. get_or words m 0) en)))
 
-marked_clear : (words : List ℕ) (n number low w : ℕ) → number ≡ n / 64 → low ≡ n % 64 → number < length words → w ≡ get_or words number 0 → (k : ℕ) → is_marked (slice_set words number (bit_and w (bit_not w64 (1 * 2 ^ low % 2 ^ 64)))) k ≡ cond (k == n) false (is_marked words k)
+pub marked_clear : (words : List ℕ) (n number low w : ℕ) → number ≡ n / 64 → low ≡ n % 64 → number < length words → w ≡ get_or words number 0 → (k : ℕ) → is_marked (slice_set words number (bit_and w (bit_not w64 (1 * 2 ^ low % 2 ^ 64)))) k ≡ cond (k == n) false (is_marked words k)
 marked_clear words n number low w en el within is =
     rw (en, el) (one_changed words n (bit_and w (bit_not w64 (1 * 2 ^ (n % 64) % 2 ^ 64))) false (omega (arith, within, en))
     (ap (λ b. b == 1) (bit_at_clear_same w64 w (n % 64) (mod_below n 64 (omega arith))))

@@ -27,6 +27,7 @@ mod FewLemmas
 pub mod LawfulLemmas
 pub mod SettleLemmas
 pub mod FitLemmas
+mod MarkRowLemmas
 mod MeetingLemmas
 mod ApartLemmas
 mod BesideLemmas

@@ -1,6 +1,5 @@
 -- A sheet of tables.
 use Rattle.std.specs.Prelude.{◌≡◌, ◌<◌, ℕ, zero, suc, ◌==◌, ◌&&◌, Bool, cond, List, [], ◌++◌, Option, None, is_some}
-use Rattle.ctt_text.specs.Marks.{is_marked}
 use Rattle.ctt_text.specs.Problem.{Problem, course_count, slot_count, room_count}
 use Rattle.ctt_text.specs.declared.placed.Placed.{Placed}
 use Rattle.ctt_rules.specs.Hard.{Lawful}
@@ -9,6 +8,7 @@ use Rattle.ctt_rules.specs.declared.cost.Cost.{Cost}
 use Rattle.ctt_board.specs.Changes.{room_at, holder_at}
 use Rattle.ctt_board.specs.Cells.{row_below, lecture_at}
 use Rattle.ctt_board.specs.Tables.{Grid, at}
+use Rattle.ctt_board.specs.MarkRows.{RowsOfMarks, is_marked_in}
 use Rattle.ctt_board.specs.Counts.{HasSize, AreCounts}
 use Rattle.ctt_board.specs.declared.tables.Tables.{Tables}
 
@@ -36,16 +36,14 @@ pub record AreHolders (i : Problem) (t : List Placed) (g : Grid (Option ℕ)) : 
   pub size : HasSize g (slot_count i) (room_count i)
   pub courses : (s r : ℕ) → s < slot_count i → r < room_count i → at g s r None ≡ holder_at s r t
 
--- the courses that stand in each slot, as marks in one row
-pub record AreStanding (i : Problem) (t : List Placed) (g : Grid (List ℕ)) : Type 0 where
-  pub size : HasSize g 1 (slot_count i)
-  pub courses : (s c : ℕ) → s < slot_count i → is_marked (at g 0 s []) c ≡ is_some (room_at c s t)
+-- there is a row of marks on the courses for each slot
+abbrev pub HaveRows : RowsOfMarks → Problem → Type 0
+HaveRows g i = (g.rows ≡ slot_count i) × (g.numbers ≡ course_count i)
 
--- one course comes into a slot, or leaves it
-pub record Stands (old new : Grid (List ℕ)) (course slot : ℕ) (here : Bool) : Type 0 where
-  pub rows : new.rows ≡ old.rows
-  pub width : new.width ≡ old.width
-  pub marks : (c s : ℕ) → s < old.width → is_marked (at new 0 s []) c ≡ cond (c == course && s == slot) here (is_marked (at old 0 s []) c)
+-- the courses that stand in each slot
+pub record AreStanding (i : Problem) (t : List Placed) (g : RowsOfMarks) : Type 0 where
+  pub size : HaveRows g i
+  pub courses : (s c : ℕ) → s < slot_count i → is_marked_in g s c ≡ is_some (room_at c s t)
 
 -- the tables that say where the lectures are
 pub record ArePlaces (i : Problem) (t : List Placed) (g : Tables) : Type 0 where
@@ -56,7 +54,7 @@ pub record ArePlaces (i : Problem) (t : List Placed) (g : Tables) : Type 0 where
 pub record HavePlaceSizes (i : Problem) (g : Tables) : Type 0 where
   pub rooms : HasSize g.rooms (course_count i) (slot_count i)
   pub courses : HasSize g.courses (slot_count i) (room_count i)
-  pub standing : HasSize g.standing 1 (slot_count i)
+  pub standing : HaveRows g.standing i
 
 -- each table is what the timetable says that the rooms show
 pub record AreTables (i : Problem) (g : Tables) : Type 0 where

@@ -8,6 +8,7 @@ pub mod Beside
 pub mod Tables
 pub mod Counts
 pub mod Seen
+pub mod MarkRows
 pub mod Grids
 pub mod Ways
 pub mod Moving

@@ -354,14 +354,6 @@ impl<'i> GridSheet<'i> {
         }
     }
 
-    /// The courses that stand in a slot.
-    fn standing_at(&self, slot: SlotNo) -> &Marks
-        requires { slot < slot_count self.now.problem }
-        ensures { (course : ℕ) → is_marked result.now course ≡ is_some (room_at course slot self.now.list) }
-    {
-        self.tables.standing.lent(0, slot.get() as usize)
-    }
-
     /// Appends the lectures of a course. Where it has none, none of its cells is looked at.
     #[inline(always)]
     fn append_if_any(&self, list: &mut Vec<Placed>, course: CourseNo) -> Result<(), AllocError>
@@ -376,13 +368,18 @@ impl<'i> GridSheet<'i> {
 
     /// Appends the lectures of the courses that stand in a slot.
     #[inline(always)]
-    fn append_standing(&self, list: &mut Vec<Placed>, slot: SlotNo) -> Result<(), AllocError>
-        requires { slot < slot_count self.now.problem }
+    fn append_standing(
+        &self,
+        list: &mut Vec<Placed>,
+        standing: &Marks,
+        slot: SlotNo,
+    ) -> Result<(), AllocError>
+        requires slot { slot < slot_count self.now.problem }
+        requires standing { (course : ℕ) → is_marked standing.now course ≡ is_some (room_at course slot self.now.list) }
         ensures { OnOk result (list.new.items ≡ list.old.items ++ slot_row slot self.now.list) }
     {
         self.instance.limits_hold();
         let courses = self.instance.courses() as usize;
-        let standing = self.standing_at(slot);
         append_column(list, &self.tables.rooms, standing, courses, slot)
     }
 
@@ -494,7 +491,7 @@ impl<'i> Rooms for GridSheet<'i> {
     }
 
     fn standing(&self, slot: SlotNo) -> Marks {
-        *self.standing_at(slot)
+        self.tables.standing.row(slot.get() as usize)
     }
 
     fn count(&self, course: CourseNo) -> u32 {
@@ -594,17 +591,17 @@ impl<'i> Timetable for GridSheet<'i> {
 
     fn slot_row(&self, slot: SlotNo) -> Result<Vec<Placed>, NoMemory> {
         self.instance.limits_hold();
-        let courses = self.instance.courses() as usize;
-        let first = self.standing_at(slot).next_between(0, courses);
+        let standing = self.standing(slot);
+        let first = standing.next_between(0, self.instance.courses() as usize);
         // No two lectures of a slot share a room.
         let most = first.map_or(0, |_| self.instance.rooms() as usize);
         let mut row = Vec::with_capacity(self.alloc, most)?;
-        self.append_standing(&mut row, slot)?;
+        self.append_standing(&mut row, &standing, slot)?;
         Ok(row)
     }
 
     fn append_slot_row(&self, slot: SlotNo, list: &mut Vec<Placed>) -> Result<(), NoMemory> {
-        self.append_standing(list, slot)?;
+        self.append_standing(list, &self.standing(slot), slot)?;
         Ok(())
     }
 

@@ -18,6 +18,7 @@ mod joining;
 mod later;
 pub mod laws;
 mod list_sheet;
+mod mark_rows;
 mod meeting;
 mod moving;
 mod same_rows;

@@ -1,14 +1,12 @@
 //! Which courses stand in a slot.
 
-ghost use Rattle.std.specs.Prelude.{◌≡◌, ◌<◌, ◌==◌, ◌&&◌, ◌||◌, ℕ, cond, is_some, true, false};
+ghost use Rattle.std.specs.Prelude.{◌≡◌, ◌<◌, ◌==◌, ◌&&◌, ◌||◌, ℕ, cond, is_some};
 ghost use Rattle.std.specs.List.{AllByRecursion as Each};
 ghost use Rattle.ctt_text.specs.Marks.{is_marked};
 ghost use Rattle.ctt_text.specs.Timetable.{has_lecture};
 ghost use Rattle.ctt_board.specs.Changes.{stands_by};
-ghost use Rattle.ctt_board.specs.Grids.{Stands};
 
 use crate::cell::Cell;
-use crate::table::Table;
 use ctt_text::{CourseNo, Marks, Placed, SlotNo};
 
 /// Marks the course of a lecture, if it is in the slot.
@@ -55,24 +53,4 @@ pub(crate) fn change_standing(standing: &mut Marks, cells: &[Cell], slot: SlotNo
     for cell in cells {
         change_if_there(standing, cell, slot);
     }
-}
-
-/// Lets a course stand in a slot.
-pub(crate) fn stand(standing: &mut Table<Marks>, course: CourseNo, slot: SlotNo)
-    requires some { 0 < standing.old.rows }
-    requires slot { slot < standing.old.width }
-    requires course { course < 2000 }
-    ensures { Stands standing.old standing.new course slot true }
-{
-    standing.set_mark(0, slot.get() as usize, course.get() as usize, true);
-}
-
-/// Lets it leave.
-pub(crate) fn leave(standing: &mut Table<Marks>, course: CourseNo, slot: SlotNo)
-    requires some { 0 < standing.old.rows }
-    requires slot { slot < standing.old.width }
-    requires course { course < 2000 }
-    ensures { Stands standing.old standing.new course slot false }
-{
-    standing.set_mark(0, slot.get() as usize, course.get() as usize, false);
 }

@@ -1,9 +1,7 @@
 //! A table of a fixed size.
-ghost use Rattle.std.specs.Prelude.{◌≡◌, ℕ, ◌<◌, ◌≤◌, ◌*◌, ◌==◌, ◌&&◌, cond, length, get_or, IfOk, []};
-ghost use Rattle.ctt_text.specs.Marks.{is_marked};
+ghost use Rattle.std.specs.Prelude.{◌≡◌, ℕ, ◌<◌, ◌≤◌, ◌*◌, ◌==◌, ◌&&◌, cond, length, get_or, IfOk};
 ghost use Rattle.ctt_board.specs.Tables.{at};
 
-use ctt_text::Marks;
 use std::alloc::{AllocError, Global};
 use std::marker::Model;
 
@@ -90,31 +88,5 @@ impl<T: Copy> Table<T> {
             width: self.width,
             cells: Vec::from_slice(*self.cells.allocator(), &self.cells)?,
         })
-    }
-}
-
-impl Table<Marks> {
-    /// Marks a number in a place, or takes its mark.
-    pub(crate) fn set_mark(&mut self, row: usize, column: usize, number: usize, wanted: bool)
-        requires row { row < self.old.rows }
-        requires column { column < self.old.width }
-        requires number { number < 2000 }
-        ensures rows { self.new.rows ≡ self.old.rows }
-        ensures width { self.new.width ≡ self.old.width }
-        ensures marks { (r k n : ℕ) → k < self.old.width → is_marked (at self.new r k []) n ≡ cond ((r == row && k == column) && n == number) wanted (is_marked (at self.old r k []) n) }
-    {
-        set_mark(&mut self.cells[row * self.width + column], number, wanted);
-    }
-}
-
-/// Marks a number, or takes its mark.
-fn set_mark(marks: &mut Marks, number: usize, wanted: bool)
-    requires { number < 2000 }
-    ensures { (n : ℕ) → is_marked marks.new n ≡ cond (n == number) wanted (is_marked marks.old n) }
-{
-    if wanted {
-        marks.mark(number);
-    } else {
-        marks.unmark(number);
     }
 }

@@ -13,10 +13,10 @@ use crate::cell::Cell;
 use crate::change::Change;
 use crate::compact::Compact;
 use crate::counts::Counts;
+use crate::mark_rows::MarkRows;
 use crate::moving::Going;
-use crate::standing::{leave, stand};
 use crate::table::Table;
-use ctt_text::{CourseNo, Instance, Marks, Placed, RoomNo, SlotNo};
+use ctt_text::{CourseNo, Instance, Placed, RoomNo, SlotNo};
 use std::alloc::{AllocError, Global};
 
 /// The lectures of a timetable in a table by course and slot, beside which lie others that say the same
@@ -27,8 +27,8 @@ pub(crate) struct Tables {
     pub(crate) rooms: Table<Compact>,
     /// The courses by slot and room.
     pub(crate) courses: Table<Compact>,
-    /// The courses that stand in each slot, in one row.
-    pub(crate) standing: Table<Marks>,
+    /// The courses that stand in each slot, a row a slot.
+    pub(crate) standing: MarkRows,
     pub(crate) counts: Counts,
 }
 
@@ -45,7 +45,7 @@ impl Tables {
         Ok(Tables {
             rooms: Table::new(alloc, courses, slots, none)?,
             courses: Table::new(alloc, slots, instance.rooms() as usize, none)?,
-            standing: Table::new(alloc, 1, slots, Marks::new())?,
+            standing: MarkRows::new(alloc, slots, courses)?,
             counts: Counts::new(alloc, instance)?,
         })
     }
@@ -93,7 +93,7 @@ impl Tables {
         let room = lecture.room.get() as usize;
         self.courses
             .set(slot, room, Compact::of_course(lecture.course));
-        stand(&mut self.standing, lecture.course, lecture.slot);
+        self.standing.mark(slot, course);
     }
 
     /// Takes a lecture away from there.
@@ -111,7 +111,7 @@ impl Tables {
         self.rooms.set(course, slot, none);
         let room = lecture.room.get() as usize;
         self.courses.set(slot, room, none);
-        leave(&mut self.standing, lecture.course, lecture.slot);
+        self.standing.unmark(slot, course);
     }
 
     /// Adds a lecture.

@@ -1,10 +1,10 @@
 -- Marks on numbers, by the words that hold them.
-use Rattle.std.proofs.Common.{◌≡◌, ℕ, zero, suc, ◌+◌, ◌-◌, ◌*◌, ◌/◌, ◌%◌, ◌^◌, ◌<◌, ◌≤◌, ◌≢◌, List, length, get_or, Bool, true, false, not, cond, ◌==◌, ◌&&◌, ◌||◌, nat_le, nat_lt, Option, Some, None, refl, sym, ap, ap₂, ◌∙◌, arith, true≢false, w64, add-zero, zero-add, one-add, add-suc, add_assoc}
+use Rattle.std.proofs.Common.{◌≡◌, ℕ, zero, suc, ◌+◌, ◌-◌, ◌*◌, ◌/◌, ◌%◌, ◌^◌, ◌<◌, ◌≤◌, ◌≢◌, List, length, get_or, Bool, true, false, not, cond, ◌==◌, ◌&&◌, ◌||◌, nat_le, nat_lt, Option, Some, None, [], ◌∷◌, ◌++◌, drop, refl, sym, ap, ap₂, ◌∙◌, arith, true≢false, w64, add-zero, zero-add, one-add, add-suc, add_assoc}
 use Rattle.std.specs.Prelude.{replicate, slice_set, bit_and, bit_or, IfSome}
 use Rattle.std.specs.Bool.{then_some}
 use Rattle.std.specs.Int.{bit_at, bit_not, trailing_zeros}
 use Rattle.std.specs.Int.Count.{ones, ones_step}
-use Rattle.std.proofs.lemmas.List.{get_or-set_other, get_or_past, length-set}
+use Rattle.std.proofs.lemmas.List.{get_or-set_other, get_or_past, length-set, length-replicate}
 use Rattle.std.proofs.lemmas.Grind.{get_or-set_at}
 use Rattle.std.proofs.lemmas.Bool.{eqb-true, eqb-false, and_parts}
 use Rattle.std.proofs.lemmas.Bool.Decides.{nat_tests, Decides-ltb}
@@ -25,6 +25,32 @@ all_alike x (suc k) (suc n) = all_alike x k n
 pub none_marked : (k n : ℕ) → is_marked (replicate k 0) n ≡ false
 unfolding is_marked
 none_marked k n = rw (all_alike zero k (n / 64), bit_at-zero (n % 64)) refl
+
+-- words of zeros behind others mark nothing more
+left_alike : {X : Type 0} (x : X) (m k n : ℕ) → get_or (drop m (replicate k x)) n x ≡ x
+left_alike x zero k n = all_alike x k n
+left_alike x (suc m) zero n = refl
+left_alike x (suc m) (suc k) n = left_alike x m k n
+
+filled_up : (words zeros : List ℕ) → ((i : ℕ) → get_or zeros i 0 ≡ 0) → (i : ℕ) → get_or (words ++ zeros) i 0 ≡ get_or words i 0
+filled_up [] zeros none i = none i
+filled_up (w ∷ words) zeros none zero = refl
+filled_up (w ∷ words) zeros none (suc i) = filled_up words zeros none i
+
+pub same_marks : (words : List ℕ) (m k n : ℕ) → is_marked (words ++ drop m (replicate k 0)) n ≡ is_marked words n
+unfolding is_marked
+same_marks words m k n = ap (λ w. bit_at w (n % 64) == 1) (filled_up words (drop m (replicate k 0)) (left_alike 0 m k) (n / 64))
+
+pub filled_up_are : (words : List ℕ) → length words ≤ 32 → ((n : ℕ) → 2000 ≤ n → is_marked words n ≡ false) → AreMarks (words ++ drop (length words) (replicate 32 0))
+filled_up_are words few within = record {
+  size = filled_length words 32 few;
+  within = λ n large. same_marks words (length words) 32 n ∙ within n large;
+}
+  where
+    filled_length : (words : List ℕ) (k : ℕ) → length words ≤ k → length (words ++ drop (length words) (replicate k 0)) ≡ k
+    filled_length [] k h = length-replicate k 0
+    filled_length (w ∷ words) zero h = absurd (omega (arith, h))
+    filled_length (w ∷ words) (suc k) h = ap suc (filled_length words k (omega (arith, h)))
 
 -- no number past the words is marked
 pub past_words : (words : List ℕ) (n : ℕ) → length words ≤ n / 64 → is_marked words n ≡ false

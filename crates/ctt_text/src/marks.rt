@@ -1,6 +1,6 @@
 //! Marks on small numbers, such as those of courses, slots or rooms.
 
-ghost use Rattle.std.specs.Prelude.{◌≡◌, ℕ, ◌<◌, ◌≤◌, ◌==◌, ◌&&◌, ◌||◌, false, not, nat_le, nat_lt, IfSome};
+ghost use Rattle.std.specs.Prelude.{◌≡◌, ℕ, ◌<◌, ◌≤◌, ◌==◌, ◌&&◌, ◌||◌, false, not, nat_le, nat_lt, length, IfSome};
 ghost use Rattle.ctt_text.specs.Marks.{is_marked, count_marked, IsLeast};
 
 use std::marker::Model;
@@ -30,6 +30,18 @@ impl Marks {
         ensures { (n : ℕ) → is_marked result n ≡ false }
     {
         Marks { words: [0; 32] }
+    }
+
+    /// The marks that words hold, of which each has 64 numbers.
+    #[inline(always)]
+    pub fn of_words(words: &[u64]) -> Self
+        requires few { length words.now ≤ 32 }
+        requires within { (n : ℕ) → 2000 ≤ n → is_marked words.now n ≡ false }
+        ensures { (n : ℕ) → is_marked result n ≡ is_marked words.now n }
+    {
+        let mut all = [0; 32];
+        all[..words.len()].copy_from_slice(words);
+        Marks { words: all }
     }
 
     /// Marks a number, and answers whether it was new.

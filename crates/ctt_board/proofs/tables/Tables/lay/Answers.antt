@@ -1,4 +1,5 @@
-use Rattle.std.proofs.Common.{rules, ◌≡◌, ◌==◌, ◌&&◌, cond, Some, None, ◌∙◌, ap, ap₂, arith}
+use Rattle.std.proofs.Common.{subst₂, true, rules, ◌≡◌, ◌==◌, ◌&&◌, cond, Some, None, ◌∙◌, ap, ap₂, arith}
+use Rattle.ctt_board.specs.MarkRows.{SetsMark}
 use Rattle.ctt_board.specs.Tables.{at}
 use Rattle.ctt_board.proofs.ClashLemmas.{standing_after_cell}
 use Rattle.ctt_board.proofs.GridLemmas.{WroteRoom, with_rooms}
@@ -20,5 +21,5 @@ returns-clause-places c = λ t are empty lawful.
     record {
       rooms_are = with_rooms i t g.rooms c.set.new.self l are.rooms_are c.set.ensures.rows c.set.ensures.width wrote empty;
       courses_are = holders_with i l t g.courses c.set-2.new.self are.courses_are c.set-2.ensures.rows c.set-2.ensures.width wrote' lawful;
-      standing_are = standing_after_cell i t g.standing c.stand.new.standing l.course l.slot (Some l.room) are.standing_are c.stand.ensures empty;
+      standing_are = standing_after_cell i t g.standing c.mark.new.self l.course l.slot (Some l.room) are.standing_are (subst₂ (λ s k. SetsMark g.standing c.mark.new.self s k true) slot course c.mark.ensures) empty;
     }

@@ -1,4 +1,5 @@
-use Rattle.std.proofs.Common.{rules, ◌≡◌, ◌==◌, ◌&&◌, cond, None, is_some, ◌∙◌, ap, ap₂, arith}
+use Rattle.std.proofs.Common.{subst₂, false, rules, ◌≡◌, ◌==◌, ◌&&◌, cond, None, is_some, ◌∙◌, ap, ap₂, arith}
+use Rattle.ctt_board.specs.MarkRows.{SetsMark}
 use Rattle.ctt_board.specs.Tables.{at}
 use Rattle.ctt_board.proofs.ClashLemmas.{standing_after_cell}
 use Rattle.ctt_board.proofs.GridLemmas.{WroteRoom, without_rooms}
@@ -20,5 +21,5 @@ returns-clause-places c = λ t are there lawful.
     record {
       rooms_are = without_rooms i t g.rooms c.set.new.self l.course l.slot l.room are.rooms_are c.set.ensures.rows c.set.ensures.width wrote there;
       courses_are = holders_without i l t g.courses c.set-2.new.self are.courses_are c.set-2.ensures.rows c.set-2.ensures.width wrote' lawful there;
-      standing_are = standing_after_cell i t g.standing c.leave.new.standing l.course l.slot None are.standing_are c.leave.ensures (ap is_some there);
+      standing_are = standing_after_cell i t g.standing c.unmark.new.self l.course l.slot None are.standing_are (subst₂ (λ s k. SetsMark g.standing c.unmark.new.self s k false) slot course c.unmark.ensures) (ap is_some there);
     }

@@ -28,11 +28,10 @@ module _ (c : In_ok-new-4) where
 
   stand_none : AreStanding c.args.instance.now [] c.in_ok-new-3.field-0
   stand_none =
+      let courses : c.courses-courses.result ≡ course_count c.args.instance.now = c.courses-courses.ensures.exact in
       let slots : c.slots-slots.result ≡ slot_count c.args.instance.now = c.slots-slots.ensures.exact in
       let g = c.in_ok-new-3.ensures in
-      let there : (s : ℕ) → s < slot_count c.args.instance.now → 0 * c.in_ok-new-3.field-0.width + s < length c.in_ok-new-3.field-0.cells = λ s ls. omega (arith, ls, slots, g.size) in
-      none_stand c.args.instance.now c.in_ok-new-3.field-0 (g.rows.0, g.rows.1 ∙ slots)
-      (λ s k ls. ap (λ words. is_marked words k) (get_or_default c.in_ok-new-3.field-0.cells (0 * c.in_ok-new-3.field-0.width + s) [] c.new-3.result (there s ls) ∙ g.cells 0 s (omega arith) (omega (arith, ls, slots))) ∙ c.new-3.ensures k)
+      none_stand c.args.instance.now c.in_ok-new-3.field-0 (g.size.0 ∙ slots, g.size.1 ∙ courses) g.marks
 
   whole : AreTables c.args.instance.now (record { rooms = c.in_ok-new.field-0; courses = c.in_ok-new-2.field-0; standing = c.in_ok-new-3.field-0; counts = c.in_ok-new-4.field-0 }) × (listed c.args.instance.now c.in_ok-new.field-0 ≡ [])
   whole = made c.args.instance.now [] _ (none_lawful c.args.instance.now) rooms_none courses_none stand_none c.in_ok-new-4.ensures

@@ -1,0 +1,105 @@
+-- Marks in rows.
+use Rattle.std.proofs.Common.{◌≡◌, ℕ, suc, ◌+◌, ◌-◌, ◌*◌, ◌/◌, ◌%◌, ◌^◌, ◌<◌, ◌≤◌, Bool, true, false, cond, ◌==◌, ◌&&◌, List, length, take, drop, get_or, refl, ◌∙◌, sym, ap, ap₂, subst, arith, w64, inl, inr}
+use Rattle.std.specs.Prelude.{replicate, slice_set, bit_and, bit_or}
+use Rattle.std.specs.Int.{bit_at, bit_not}
+use Rattle.std.proofs.lemmas.Bool.{cases_lt, ne_eqb}
+use Rattle.std.proofs.lemmas.Bool.Decides.{nat_tests}
+use Rattle.std.proofs.lemmas.List.{get_or-take, get_or-drop, length-take, length-set}
+use Rattle.std.proofs.Math.Nat.{mul-le-mul_right}
+use Rattle.ctt_text.specs.Marks.{is_marked}
+use Rattle.ctt_text.proofs.MarkLemmas.{none_marked, past_words}
+use Rattle.ctt_board.specs.MarkRows.{RowsOfMarks, words_for, words_of, is_marked_in, AreRowsOfMarks, SetsMark}
+use Rattle.ctt_board.proofs.BitLemmas.{same_bit, marked_set, marked_clear}
+
+abbrev pub rows_of : ℕ → ℕ → List ℕ → RowsOfMarks
+rows_of rows numbers words = record { rows = rows; numbers = numbers; words = words }
+
+-- the mark of a row is one of the words
+in_row : (g : RowsOfMarks) (row n : ℕ) → n / 64 < words_for g.numbers → is_marked_in g row n ≡ is_marked g.words ((row * words_for g.numbers) * 64 + n)
+unfolding is_marked_in is_marked
+in_row g row n lt =
+    let width = words_for g.numbers in
+    let start = row * width in
+    ap (λ w. bit_at w (n % 64) == 1) (get_or-take width (drop start g.words) (n / 64) 0 lt ∙ get_or-drop start g.words (n / 64) 0)
+    ∙ ap₂ (λ k b. bit_at (get_or g.words k 0) b == 1) (word start n) (low start n)
+  where
+    word : (k n : ℕ) → k + n / 64 ≡ (k * 64 + n) / 64
+    word k n = omega arith
+
+    low : (k n : ℕ) → n % 64 ≡ (k * 64 + n) % 64
+    low k n = omega arith
+
+-- and past its words it has none
+pub past_row : (g : RowsOfMarks) (row n : ℕ) → words_for g.numbers ≤ n / 64 → is_marked_in g row n ≡ false
+unfolding is_marked_in
+past_row g row n past = past_words (words_of g row) n (omega (arith, past, length-take (words_for g.numbers) (drop (row * words_for g.numbers) g.words)))
+
+module _ (rows numbers row number : ℕ) (words : List ℕ) (less : row < rows) (lt : number < numbers) (are : AreRowsOfMarks (rows_of rows numbers words)) where
+  pub there : row * words_for numbers + number / 64 < length words
+  there =
+      let all : suc row * words_for numbers ≤ rows * words_for numbers = mul-le-mul_right (words_for numbers) less in
+      omega (arith, all, lt, are.size)
+
+  sets : (value : Bool) (next : List ℕ) → ((k : ℕ) → is_marked next k ≡ cond (k == (row * words_for numbers) * 64 + number) value (is_marked words k)) → SetsMark (rows_of rows numbers words) (rows_of rows numbers next) row number value
+  sets value next wrote = record { rows = refl; numbers = refl; marks = each }
+    where
+      each : (r n : ℕ) → is_marked_in (rows_of rows numbers next) r n ≡ cond (r == row && n == number) value (is_marked_in (rows_of rows numbers words) r n)
+      each r n = elim (cases_lt (n / 64) (words_for numbers)) [
+        | inl inside ↦ (
+            in_row (rows_of rows numbers next) r n inside ∙ wrote ((r * words_for numbers) * 64 + n)
+            ∙ ap₂ (λ b m. cond b value m) (same_bit (words_for numbers) r row n number (omega (arith, inside)) (omega (arith, lt))) (sym (in_row (rows_of rows numbers words) r n inside)))
+        | inr beyond ↦ (
+            let other : (n == number) ≡ false = ne_eqb n number (λ e. omega (arith, e, beyond, lt)) in
+            past_row (rows_of rows numbers next) r n beyond ∙ sym (ap (λ b. cond (r == row && b) value (is_marked_in (rows_of rows numbers words) r n)) other ∙ none (r == row) (is_marked_in (rows_of rows numbers words) r n) (past_row (rows_of rows numbers words) r n beyond)))
+      ]
+        where
+          none : (a m : Bool) → m ≡ false → cond (a && false) value m ≡ false
+          none true m e = e
+          none false m e = e
+
+  sets_are : (value : Bool) (next : List ℕ) → length next ≡ length words → SetsMark (rows_of rows numbers words) (rows_of rows numbers next) row number value → AreRowsOfMarks (rows_of rows numbers next)
+  sets_are value next same set = record {
+    few = are.few;
+    size = same ∙ are.size;
+    within = λ r n past.
+        let other : (n == number) ≡ false = ne_eqb n number (λ e. omega (arith, e, past, lt)) in
+        set.marks r n ∙ ap (λ b. cond (r == row && b) value (is_marked_in (rows_of rows numbers words) r n)) other ∙ none (r == row) (is_marked_in (rows_of rows numbers words) r n) (are.within r n past);
+  }
+    where
+      none : (a m : Bool) → m ≡ false → cond (a && false) value m ≡ false
+      none true m e = e
+      none false m e = e
+
+  word : row * words_for numbers + number / 64 ≡ ((row * words_for numbers) * 64 + number) / 64
+  word = omega arith
+
+  low : number % 64 ≡ ((row * words_for numbers) * 64 + number) % 64
+  low = omega arith
+
+  pub mark_sets : (w : ℕ) → w ≡ get_or words (row * words_for numbers + number / 64) 0 → SetsMark (rows_of rows numbers words) (rows_of rows numbers (slice_set words (row * words_for numbers + number / 64) (bit_or w (1 * 2 ^ (number % 64) % 2 ^ 64)))) row number true
+  mark_sets w is = sets true (slice_set words (row * words_for numbers + number / 64) (bit_or w (1 * 2 ^ (number % 64) % 2 ^ 64))) (marked_set words ((row * words_for numbers) * 64 + number) (row * words_for numbers + number / 64) (number % 64) w word low there is)
+
+  pub unmark_sets : (w : ℕ) → w ≡ get_or words (row * words_for numbers + number / 64) 0 → SetsMark (rows_of rows numbers words) (rows_of rows numbers (slice_set words (row * words_for numbers + number / 64) (bit_and w (bit_not w64 (1 * 2 ^ (number % 64) % 2 ^ 64))))) row number false
+  unmark_sets w is = sets false (slice_set words (row * words_for numbers + number / 64) (bit_and w (bit_not w64 (1 * 2 ^ (number % 64) % 2 ^ 64)))) (marked_clear words ((row * words_for numbers) * 64 + number) (row * words_for numbers + number / 64) (number % 64) w word low there is)
+
+  pub mark_are : (w : ℕ) → w ≡ get_or words (row * words_for numbers + number / 64) 0 → AreRowsOfMarks (rows_of rows numbers (slice_set words (row * words_for numbers + number / 64) (bit_or w (1 * 2 ^ (number % 64) % 2 ^ 64))))
+  mark_are w is = sets_are true _ (length-set words (row * words_for numbers + number / 64) (bit_or w (1 * 2 ^ (number % 64) % 2 ^ 64))) (mark_sets w is)
+
+  pub unmark_are : (w : ℕ) → w ≡ get_or words (row * words_for numbers + number / 64) 0 → AreRowsOfMarks (rows_of rows numbers (slice_set words (row * words_for numbers + number / 64) (bit_and w (bit_not w64 (1 * 2 ^ (number % 64) % 2 ^ 64)))))
+  unmark_are w is = sets_are false _ (length-set words (row * words_for numbers + number / 64) (bit_and w (bit_not w64 (1 * 2 ^ (number % 64) % 2 ^ 64)))) (unmark_sets w is)
+
+-- words of zeros
+pub none_in : (rows numbers : ℕ) (words : List ℕ) (k row n : ℕ) → words ≡ replicate k 0 → is_marked_in (rows_of rows numbers words) row n ≡ false
+none_in rows numbers words k row n are = elim (cases_lt (n / 64) (words_for numbers)) [
+  | inl inside ↦ in_row (rows_of rows numbers words) row n inside ∙ ap (λ ws. is_marked ws ((row * words_for numbers) * 64 + n)) are ∙ none_marked k ((row * words_for numbers) * 64 + n)
+  | inr beyond ↦ past_row (rows_of rows numbers words) row n beyond
+]
+
+-- the words of a row as they are cut out
+pub cut_row : (rows numbers row width n : ℕ) (words items : List ℕ) → width ≡ words_for numbers → words ≡ items → is_marked (take (row * width + width - row * width) (drop (row * width) words)) n ≡ is_marked_in (rows_of rows numbers items) row n
+unfolding is_marked_in
+cut_row rows numbers row width n words items e same =
+    ap (λ k. is_marked (take k (drop (row * width) words)) n) (left (row * width) width) ∙ ap₂ (λ w ws. is_marked (take w (drop (row * w) ws)) n) e same
+  where
+    left : (start width : ℕ) → start + width - start ≡ width
+    left start width = omega arith

@@ -1,0 +1,96 @@
+//! Marks on small numbers, in rows.
+
+ghost use Rattle.std.specs.Prelude.{◌≡◌, ◌<◌, ◌≤◌, ℕ, true, false, IfOk};
+ghost use Rattle.ctt_text.specs.Marks.{is_marked};
+ghost use Rattle.ctt_board.specs.MarkRows.{is_marked_in, words_for, SetsMark};
+
+use ctt_text::Marks;
+use std::alloc::{AllocError, Global};
+use std::marker::Model;
+
+/// Which of so many numbers are marked, in each row anew. A row has as many words as its numbers need, and
+/// all lie one behind the other.
+#[derive(Debug, Drop)]
+pub(crate) struct MarkRows {
+    rows: usize,
+    /// How many numbers a row has.
+    numbers: usize,
+    words: Vec<u64>,
+}
+
+impl Model for MarkRows {
+    ghost use Rattle.ctt_board.specs.MarkRows.{RowsOfMarks, AreRowsOfMarks};
+
+    ghost Value = { RowsOfMarks };
+
+    ghost view = { λ m. record { rows = m.rows; numbers = m.numbers; words = m.words.items } };
+
+    ghost invariant = { λ m. AreRowsOfMarks (record { rows = m.rows; numbers = m.numbers; words = m.words.items }) };
+}
+
+/// How many words so many numbers need.
+fn words_for(numbers: usize) -> usize
+    requires { numbers ≤ 2000 }
+    ensures { result ≡ words_for numbers }
+{
+    (numbers + 63) / 64
+}
+
+impl MarkRows {
+    /// No number is marked.
+    pub(crate) fn new(alloc: Global, rows: usize, numbers: usize) -> Result<Self, AllocError>
+        requires rows { rows ≤ 2000 }
+        requires numbers { numbers ≤ 2000 }
+        ensures size { IfOk result (λ m. (m.rows ≡ rows) × (m.numbers ≡ numbers)) }
+        ensures marks { IfOk result (λ m. (row n : ℕ) → is_marked_in m row n ≡ false) }
+    {
+        let words = vec![in alloc; 0; rows * words_for(numbers)]?;
+        Ok(MarkRows {
+            rows,
+            numbers,
+            words,
+        })
+    }
+
+    /// Marks a number of a row.
+    pub(crate) fn mark(&mut self, row: usize, number: usize)
+        requires row { row < self.old.rows }
+        requires number { number < self.old.numbers }
+        ensures { SetsMark self.old self.new row number true }
+    {
+        let place = row * words_for(self.numbers) + number / 64;
+        self.words[place] |= 1 << (number % 64);
+    }
+
+    /// Takes the mark from a number of a row.
+    pub(crate) fn unmark(&mut self, row: usize, number: usize)
+        requires row { row < self.old.rows }
+        requires number { number < self.old.numbers }
+        ensures { SetsMark self.old self.new row number false }
+    {
+        let place = row * words_for(self.numbers) + number / 64;
+        self.words[place] &= !(1 << (number % 64));
+    }
+
+    /// The marks of a row.
+    #[inline(always)]
+    pub(crate) fn row(&self, row: usize) -> Marks
+        requires { row < self.now.rows }
+        ensures { (n : ℕ) → is_marked result n ≡ is_marked_in self.now row n }
+    {
+        let width = words_for(self.numbers);
+        let start = row * width;
+        Marks::of_words(&self.words[start..start + width])
+    }
+
+    /// The same marks.
+    pub(crate) fn copy(&self) -> Result<Self, AllocError>
+        ensures { IfOk result (λ m. m ≡ self.now) }
+    {
+        Ok(MarkRows {
+            rows: self.rows,
+            numbers: self.numbers,
+            words: Vec::from_slice(*self.words.allocator(), &self.words)?,
+        })
+    }
+}
