@@ -5,17 +5,15 @@ use Rattle.std.specs.Option.{option_or}
 use Rattle.std.proofs.lemmas.Bool.{cases_Bool, cases_lt, lt-ltb, and_parts}
 use Rattle.std.proofs.lemmas.Bool.Decides.{nat_tests}
 use Rattle.std.proofs.lemmas.List.Folds.{find-append}
-use Rattle.ctt_text.specs.Marks.{is_marked, IsLeast}
-use Rattle.ctt_text.specs.Problem.{Problem, course_count, slot_count, clash}
+use Rattle.ctt_text.specs.Marks.{IsLeast}
+use Rattle.ctt_text.specs.Problem.{Problem, course_count, clash}
 use Rattle.ctt_text.specs.Timetable.{has_lecture}
 use Rattle.ctt_text.specs.declared.placed.Placed.{Placed}
 use Rattle.ctt_rules.specs.Hard.{Lawful}
 use Rattle.ctt_board.specs.Cells.{lecture_at}
 use Rattle.ctt_board.specs.Changes.{room_at, room_of, room_by, course_named, clash_at, stands_by, apply_at, CellFits}
-use Rattle.ctt_board.specs.Counts.{HasSize}
 use Rattle.ctt_board.specs.Grids.{column_below, AreStanding, HaveRows}
 use Rattle.ctt_board.specs.MarkRows.{RowsOfMarks, is_marked_in, SetsMark}
-use Rattle.ctt_board.specs.Tables.{Grid, at}
 use Rattle.ctt_board.specs.declared.cell.Cell.{Cell}
 use Rattle.ctt_board.proofs.BetweenLemmas.{there_fits, some_room}
 use Rattle.ctt_board.proofs.GridLemmas.{slot_row_is}

@@ -1,12 +1,14 @@
 -- The filled cells of a row, found by the bits of a mask.
-use Rattle.std.proofs.Common.{◌≡◌, ℕ, zero, suc, ◌+◌, ◌-◌, ◌*◌, ◌/◌, ◌^◌, ◌<◌, ◌≤◌, Bool, true, false, not, cond, eqb, List, [], ◌∷◌, ◌++◌, length, get_or, take, drop, map, slice_set, Option, Some, None, is_some, refl, sym, ap, ap₂, ◌∙◌, subst, arith, append-nil, one-add}
+use Rattle.std.proofs.Common.{◌≡◌, ℕ, zero, suc, ◌+◌, ◌-◌, ◌*◌, ◌/◌, ◌%◌, ◌^◌, ◌<◌, ◌≤◌, Bool, true, false, not, cond, eqb, List, [], ◌∷◌, ◌++◌, length, get_or, take, drop, map, slice_set, Option, Some, None, is_some, refl, sym, ap, ap₂, ◌∙◌, subst, arith, append-nil, one-add, zero-add}
+use Rattle.std.specs.Prelude.{bit_or}
 use Rattle.std.specs.List.{prefix_len}
 use Rattle.std.specs.Simd.Lanes.{mask_l}
 use Rattle.std.specs.Int.Count.{count_trailing_zeros}
-use Rattle.std.proofs.Math.Nat.{pow-zero, pow-suc, mul_comm, zero-div, div-one, div-div-eq-div-mul}
+use Rattle.std.proofs.Math.Nat.{mod-eq_of_lt, zero-mul, mul-one, mul_assoc, pow-zero, pow-suc, mul_comm, zero-div, div-one, div-div-eq-div-mul}
 use Rattle.std.proofs.lemmas.Bool.{ne_eqb}
-use Rattle.std.proofs.lemmas.Simd.{trailing_mask_l, length-chunk, get_or-chunk}
-use Rattle.std.proofs.lemmas.List.{append_assoc, map-append, drop_more, drop-drop, drop-take, length-drop, take_more, take_more_set}
+use Rattle.std.proofs.lemmas.Nat.{or_block, or_shifted, le_or_r, pow_below}
+use Rattle.std.proofs.lemmas.Simd.{mask_l-lt, trailing_mask_l, length-chunk, get_or-chunk}
+use Rattle.std.proofs.lemmas.List.{length-map, append_assoc, map-append, drop_more, drop-drop, drop-take, length-drop, take_more, take_more_set}
 use Rattle.ctt_text.specs.RoomTable.{room_by_code}
 use Rattle.ctt_text.specs.declared.placed.Placed.{Placed}
 use Rattle.ctt_board.specs.Cells.{lecture_at, row_below, row_from}
@@ -65,6 +67,64 @@ module _ {X : Type 0} (p : X → Bool) where
       ap (λ i. drop k (take i (drop first xs))) (omega (arith, from, to))
       ∙ drop-take k m (drop first xs)
       ∙ ap (take m) (drop-drop k first xs ∙ ap (λ i. drop i xs) (omega (arith, from))))
+
+-- the mask of all elements, from those of the first and of the last ones, which overlap
+module _ {X : Type 0} (p : X → Bool) where
+  low : (b : Bool) (n : ℕ) → cond b 1 0 + 2 * n ≡ n * 2 ^ 1 + cond b 1 0
+  low b n = omega arith
+
+  bit_fits : (b : Bool) → cond b 1 0 < 2 ^ 1
+  bit_fits true = omega arith
+  bit_fits false = omega arith
+
+  same_bit : (b : Bool) → bit_or (cond b 1 0) (cond b 1 0) ≡ cond b 1 0
+  same_bit true = refl
+  same_bit false = refl
+
+  no_bit : (b : Bool) → bit_or (cond b 1 0) 0 ≡ cond b 1 0
+  no_bit true = refl
+  no_bit false = refl
+
+  front_in : (k : ℕ) (xs : List X) → bit_or (mask_l (map p (take k xs))) (mask_l (map p xs)) ≡ mask_l (map p xs)
+  front_in zero xs = ap (λ n. bit_or n (mask_l (map p xs))) (sym (zero-mul (2 ^ length (map p xs)))) ∙ or_shifted 0 (length (map p xs)) (mask_l (map p xs)) (mask_l-lt (map p xs)) ∙ ap (λ n. n + mask_l (map p xs)) (zero-mul (2 ^ length (map p xs))) ∙ zero-add (mask_l (map p xs))
+  front_in (suc k) [] = refl
+  front_in (suc k) (x ∷ xs) =
+      let a = mask_l (map p (take k xs)) in
+      let b = mask_l (map p xs) in
+      let bit = cond {A = ℕ} (p x) 1 0 in
+      ap₂ bit_or (low (p x) a) (low (p x) b)
+      ∙ or_block 1 a b bit bit (bit_fits (p x)) (bit_fits (p x))
+      ∙ ap₂ (λ m n. m * 2 ^ 1 + n) (front_in k xs) (same_bit (p x))
+      ∙ sym (low (p x) b)
+
+  overlapping : (k m : ℕ) (xs : List X) → k ≤ m → bit_or (mask_l (map p (take m xs))) (mask_l (map p (drop k xs)) * 2 ^ k) ≡ mask_l (map p xs)
+  overlapping zero m xs le = ap (λ n. bit_or (mask_l (map p (take m xs))) n) (ap (λ n. mask_l (map p xs) * n) (pow-zero 2) ∙ mul-one (mask_l (map p xs))) ∙ front_in m xs
+  overlapping (suc k) zero xs le = absurd (omega (arith, le))
+  overlapping (suc k) (suc m) [] le = ap (λ n. bit_or 0 n) (zero-mul (2 ^ suc k))
+  overlapping (suc k) (suc m) (x ∷ xs) le =
+      let a = mask_l (map p (take m xs)) in
+      let b = mask_l (map p (drop k xs)) in
+      let bit = cond {A = ℕ} (p x) 1 0 in
+      let up : b * 2 ^ suc k ≡ (b * 2 ^ k) * 2 ^ 1 + 0 = ap (λ n. b * n) (pow-suc 2 k) ∙ sym (mul_assoc b (2 ^ k) 2) ∙ doubled (b * 2 ^ k) in
+      ap₂ bit_or (low (p x) a) up
+      ∙ or_block 1 a (b * 2 ^ k) bit 0 (bit_fits (p x)) (omega arith)
+      ∙ ap₂ (λ m n. m * 2 ^ 1 + n) (overlapping k m xs (omega (arith, le))) (no_bit (p x))
+      ∙ sym (low (p x) (mask_l (map p xs)))
+    where
+      doubled : (n : ℕ) → n * 2 ≡ n * 2 ^ 1 + 0
+      doubled n = omega arith
+
+  pub mask_by_two : (k m a b : ℕ) (xs : List X) → k ≤ m → length xs < 64 → a ≡ mask_l (map p (take m xs)) → b ≡ mask_l (map p (drop k xs)) → bit_or a (b * 2 ^ k % 2 ^ 64) ≡ mask_l (map p xs)
+  mask_by_two k m a b xs le few is also =
+      let first = mask_l (map p (take m xs)) in
+      let last = mask_l (map p (drop k xs)) * 2 ^ k in
+      let all : bit_or first last ≡ mask_l (map p xs) = overlapping k m xs le in
+      let bound : mask_l (map p xs) < 2 ^ length xs = subst (λ n. mask_l (map p xs) < 2 ^ n) (length-map xs p) (mask_l-lt (map p xs)) in
+      let wide : 2 ^ length xs < 2 ^ 64 = pow_below (length xs) 64 few in
+      let fits : last < 2 ^ 64 = omega (arith, le_or_r first last, all, bound, wide) in
+      ap₂ (λ n o. bit_or n (o * 2 ^ k % 2 ^ 64)) is also
+      ∙ ap (bit_or first) (mod-eq_of_lt fits)
+      ∙ all
 
 -- cells before the first filled one show no lecture
 from_filled : (cells : List (Option ℕ)) (c s : ℕ) → row_from cells c s ≡ row_from (drop (prefix_len (λ o. not (is_some o)) cells) cells) c (s + prefix_len (λ o. not (is_some o)) cells)
@@ -130,6 +190,12 @@ row_goes_from f (here ∷ cells) c s e =
     ∙ ap (λ o. (row_below f c s ++ lecture_at c s o) ++ row_from cells c (suc s)) first
     ∙ row_goes_from f cells c (suc s) later
     ∙ ap (row_below f c) end
+
+-- a whole row
+pub whole_row : (rooms : List (Option ℕ)) (c : ℕ) → row_from rooms c 0 ≡ row_below (λ s. get_or rooms s None) c (length rooms)
+whole_row rooms c =
+    let f : ℕ → Option ℕ = λ s. get_or rooms s None in
+    row_goes_from f rooms c 0 (λ k _. ap f (sym (zero-add k))) ∙ ap (row_below f c) (zero-add (length rooms))
 
 -- a group of slots more of a row
 pub row_grows : (rooms : List (Option ℕ)) (c start end : ℕ) (before old new : List Placed) → start ≤ end → end ≤ length rooms → old ≡ before ++ row_below (λ s. get_or rooms s None) c start → new ≡ old ++ row_from (take (end - start) (drop start rooms)) c start

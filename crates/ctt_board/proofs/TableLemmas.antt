@@ -3,7 +3,6 @@ use Rattle.std.proofs.Common.{◌≡◌, ◌≢◌, ℕ, suc, ◌+◌, ◌-◌, 
 use Rattle.std.proofs.lemmas.Bool.{cases_Bool, cases_eq, cases_order, eq-eqb, ne_eqb, eqb-true, and_parts}
 use Rattle.std.proofs.lemmas.Bool.Decides.{nat_tests}
 use Rattle.std.proofs.lemmas.List.Sums.{sum_by_more, sum_by-take-le}
-use Rattle.ctt_text.specs.Marks.{is_marked}
 use Rattle.ctt_board.specs.Tables.{Grid, at, Adds, Moves, one_at, in_column}
 use Rattle.std.proofs.lemmas.List.{get_or-set_same, get_or-set_other, get_or-take, get_or-drop, length-take-le, length-drop}
 use Rattle.std.proofs.Math.Nat.{mul-le-mul_right}
@@ -126,19 +125,6 @@ one_left rows n row column lt is =
     let most : count_by (λ q. q == row) (take (n + 1) rows) ≤ count_by (λ q. q == row) rows = sum_by-take-le (λ q. cond (q == row) 1 0) rows (n + 1) in
     let there : (m : ℕ) → cond (column == column) m 0 ≡ m = λ m. rw (eq-eqb column column refl) refl in
     omega (arith, more, one, most, there (count_by (λ q. q == row) (take (n + 1) rows)), there (count_by (λ q. q == row) rows))
-
--- one mark written in a table of marks
-pub marked_at : (cells : List (List ℕ)) (w r c : ℕ) (next : List ℕ) (number : ℕ) (wanted : Bool) → c < w → r * w + c < length cells
-    → ((n : ℕ) → is_marked next n ≡ cond (n == number) wanted (is_marked (get_or cells (r * w + c) []) n))
-    → (r2 c2 n : ℕ) → c2 < w → is_marked (get_or (set cells (r * w + c) next) (r2 * w + c2) []) n ≡ cond ((r2 == r && c2 == c) && n == number) wanted (is_marked (get_or cells (r2 * w + c2) []) n)
-marked_at cells w r c next number wanted lt within wrote r2 c2 n lt2 =
-    ap (λ words. is_marked words n) (at_set cells w r c r2 c2 next [] lt lt2 within) ∙ elim (cases_Bool (r2 == r && c2 == c)) [
-      | inl y ↦ (
-          let parts = and_parts (r2 == r) (c2 == c) y in
-          let place : get_or cells (r * w + c) [] ≡ get_or cells (r2 * w + c2) [] = ap₂ (λ a b. get_or cells (a * w + b) []) (sym (eqb-true r2 r parts.0)) (sym (eqb-true c2 c parts.1)) in
-          rw y (wrote n ∙ ap (λ words. cond (n == number) wanted (is_marked words n)) place))
-      | inr no' ↦ rw no' refl
-    ]
 
 -- one row more of two columns
 pub moves_more : (a b c : Grid ℕ) (rows : List ℕ) (n row from to : ℕ) → n < length rows → row ≡ get_or rows n row → Moves a b (in_column (take n rows) from) (in_column (take n rows) to) → Moves b c (one_at true row from) (one_at true row to) → Moves a c (in_column (take (n + 1) rows) from) (in_column (take (n + 1) rows) to)

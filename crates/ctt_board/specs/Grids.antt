@@ -1,5 +1,5 @@
 -- A sheet of tables.
-use Rattle.std.specs.Prelude.{◌≡◌, ◌<◌, ℕ, zero, suc, ◌==◌, ◌&&◌, Bool, cond, List, [], ◌++◌, Option, None, is_some}
+use Rattle.std.specs.Prelude.{◌≡◌, ◌<◌, ℕ, zero, suc, List, [], ◌++◌, Option, None, is_some}
 use Rattle.ctt_text.specs.Problem.{Problem, course_count, slot_count, room_count}
 use Rattle.ctt_text.specs.declared.placed.Placed.{Placed}
 use Rattle.ctt_rules.specs.Hard.{Lawful}

@@ -1,11 +1,11 @@
 //! Appending the lectures of a course, whose rooms, or none, are told slot by slot.
 
-ghost use Rattle.std.specs.Prelude.{◌≡◌, ◌≤◌, ◌+◌, ◌++◌, get_or, None, is_some, length, map, OnOk};
+ghost use Rattle.std.specs.Prelude.{◌≡◌, ◌≤◌, ◌+◌, ◌*◌, ◌++◌, get_or, None, is_some, length, map, OnOk};
 ghost use Rattle.std.specs.Simd.Lanes.{mask_l};
 ghost use Rattle.ctt_board.specs.Cells.{row_below, row_from, lecture_at};
 
 use crate::compact::Compact;
-use crate::filled::{GROUP, filled};
+use crate::filled::{GROUP, filled, filled_by_two};
 use ctt_text::{CourseNo, Placed, SlotNo};
 use std::alloc::AllocError;
 
@@ -49,7 +49,7 @@ fn append_filled(
     filled: u64,
 ) -> Result<(), AllocError>
     requires filled { filled ≡ mask_l (map is_some cells.now) }
-    requires few { length cells.now ≤ GROUP }
+    requires few { length cells.now ≤ 2 * GROUP }
     requires slots { start + length cells.now ≤ 2000 }
     ensures { OnOk result (list.new.items ≡ list.old.items ++ row_from cells.now course start) }
 {
@@ -70,7 +70,8 @@ fn append_filled(
     Ok(())
 }
 
-/// Appends the lectures of a course. The last group of slots overlaps the one before it.
+/// Appends the lectures of a course. The last group of slots overlaps the one before it, and both are looked
+/// at at once where they are the whole row.
 pub(crate) fn append_slots(
     list: &mut Vec<Placed>,
     rooms: &[Compact],
@@ -81,6 +82,9 @@ pub(crate) fn append_slots(
 {
     if rooms.len() < GROUP {
         return append_each(list, rooms, course);
+    }
+    if rooms.len() <= 2 * GROUP {
+        return append_filled(list, rooms, course, 0, filled_by_two(rooms));
     }
     let mut start = 0;
     while start < rooms.len() {

@@ -1,6 +1,6 @@
 //! Which cells are filled, a group at once.
 
-ghost use Rattle.std.specs.Prelude.{◌≡◌, map, length, is_some};
+ghost use Rattle.std.specs.Prelude.{◌≡◌, ◌≤◌, ◌*◌, map, length, is_some};
 ghost use Rattle.std.specs.Simd.Lanes.{mask_l};
 ghost use Rattle.ctt_text.specs.RoomTable.{room_by_code};
 
@@ -35,4 +35,16 @@ pub(crate) fn filled(cells: &[Compact]) -> u64
     ensures { result ≡ mask_l (map is_some cells.now) }
 {
     nonzero(u16x16::from_array(codes(cells)))
+}
+
+/// Which cells of a row of one group to two are filled, as bits. The second group ends with the row and
+/// overlaps the first one.
+#[inline(always)]
+pub(crate) fn filled_by_two(cells: &[Compact]) -> u64
+    requires many { GROUP ≤ length cells.now }
+    requires few { length cells.now ≤ 2 * GROUP }
+    ensures { result ≡ mask_l (map is_some cells.now) }
+{
+    let behind = cells.len() - GROUP;
+    filled(&cells[..GROUP]) | filled(&cells[behind..]) << behind
 }

@@ -48,15 +48,6 @@ impl<T: Copy> Table<T> {
         self.cells[row * self.width + column]
     }
 
-    /// What stands in a row and a column, where it lies.
-    pub fn lent(&self, row: usize, column: usize) -> &T
-        requires row { row < self.now.rows }
-        requires column { column < self.now.width }
-        ensures { (d : T) → result.now ≡ at self.now row column d }
-    {
-        &self.cells[row * self.width + column]
-    }
-
     /// What stands in a row, column by column.
     #[tactic(auto, using(crate::proofs::TableLemmas::row_inside))]
     pub fn row(&self, row: usize) -> &[T]

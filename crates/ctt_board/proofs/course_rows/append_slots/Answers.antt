@@ -1,13 +1,17 @@
-use Rattle.std.proofs.Common.{◌+◌, is_some, arith}
-use Rattle.ctt_board.proofs.FilledLemmas.{mask_behind, row_grows}
+use Rattle.std.proofs.Common.{OnOk, List, ◌≡◌, ◌+◌, ◌++◌, is_some, subst, arith}
+use Rattle.ctt_text.specs.declared.placed.Placed.{Placed}
+use Rattle.ctt_board.proofs.FilledLemmas.{mask_behind, row_grows, whole_row}
 use Rattle.ctt_board.proofs.course_rows.append_slots.Goals as goal
 
-pub append_filled-requires-clause-filled : goal.append_filled-requires-clause-filled
-append_filled-requires-clause-filled c =
+pub append_filled-requires-in-loop-start-clause-filled : goal.append_filled-requires-in-loop-start-clause-filled
+append_filled-requires-in-loop-start-clause-filled c =
     mask_behind is_some c.args.rooms.now c.min-first.result c.loop-start.start (c.min-first.result + 16) c.filled.result (omega (arith, c.min-first.ensures)) (omega (arith, c.min-first.ensures)) c.filled.ensures
 
 pub loop-start-preserved : goal.loop-start-preserved
 loop-start-preserved c = record {
   within = omega (arith, c.min-first.ensures);
-  list = row_grows c.args.rooms.now c.args.course c.loop-start.start (c.min-first.result + 16) c.args.list.now.items c.loop-start.list.items c.append_filled.new.list.items (omega (arith, c.min-first.ensures)) (omega (arith, c.min-first.ensures)) c.loop-start.invariant.list c.in_ok-append_filled.ensures;
+  list = row_grows c.args.rooms.now c.args.course c.loop-start.start (c.min-first.result + 16) c.args.list.now.items c.loop-start.list.items c.append_filled-in-loop-start.new.list.items (omega (arith, c.min-first.ensures)) (omega (arith, c.min-first.ensures)) c.loop-start.invariant.list c.in_ok-append_filled.ensures;
 }
+
+pub returns-then-rooms : goal.returns-then-rooms
+returns-then-rooms c = subst (λ (xs : List Placed). OnOk c.append_filled.result (c.append_filled.new.list.items ≡ c.args.list.now.items ++ xs)) (whole_row c.args.rooms.now c.args.course) c.append_filled.ensures

@@ -1,7 +1,5 @@
-use Rattle.std.proofs.Common.{rules, ℕ, ◌≡◌, ◌*◌, ◌∙◌, List, length, ap}
-use Rattle.std.specs.Prelude.{replicate}
+use Rattle.std.proofs.Common.{◌*◌, ◌∙◌, length, ap}
 use Rattle.std.proofs.lemmas.List.{length-replicate}
-use Rattle.ctt_board.specs.MarkRows.{words_for}
 use Rattle.ctt_board.proofs.MarkRowLemmas.{none_in}
 use Rattle.ctt_board.proofs.mark_rows.MarkRows.new.Goals as goal
 

@@ -1,4 +1,4 @@
-use Rattle.std.proofs.Common.{◌≡◌, ◌≤◌, ◌∙◌, arith}
+use Rattle.std.proofs.Common.{◌∙◌, arith}
 use Rattle.ctt_board.proofs.MarkRowLemmas.{cut_row}
 use Rattle.ctt_board.proofs.mark_rows.MarkRows.row.Goals as goal
 

@@ -1,9 +1,7 @@
-use Rattle.std.proofs.Common.{ap, subst, ◌≡◌, ◌<◌, ◌+◌, ◌*◌, ℕ, length, ◌∙◌, [], arith}
-use Rattle.std.proofs.lemmas.List.{get_or_default}
+use Rattle.std.proofs.Common.{subst, ◌≡◌, ◌∙◌, [], arith}
 use Rattle.ctt_text.specs.Problem.{course_count, slot_count}
 use Rattle.ctt_board.specs.Tables.{at}
 use Rattle.ctt_board.specs.Grids.{listed, AreRooms, AreHolders, AreStanding, AreTables}
-use Rattle.ctt_text.specs.Marks.{is_marked}
 use Rattle.ctt_board.proofs.ClashLemmas.{none_stand}
 use Rattle.ctt_board.proofs.HolderLemmas.{no_holders}
 use Rattle.ctt_board.proofs.GridLemmas.{made, none_lawful, no_rooms}
