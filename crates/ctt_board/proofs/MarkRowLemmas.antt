@@ -33,6 +33,11 @@ pub past_row : (g : RowsOfMarks) (row n : ℕ) → words_for g.numbers ≤ n / 6
 unfolding is_marked_in
 past_row g row n past = past_words (words_of g row) n (omega (arith, past, length-take (words_for g.numbers) (drop (row * words_for g.numbers) g.words)))
 
+-- another number is as it was
+unset : (value a m : Bool) → m ≡ false → cond (a && false) value m ≡ false
+unset value true m e = e
+unset value false m e = e
+
 module _ (rows numbers row number : ℕ) (words : List ℕ) (less : row < rows) (lt : number < numbers) (are : AreRowsOfMarks (rows_of rows numbers words)) where
   pub there : row * words_for numbers + number / 64 < length words
   there =
@@ -49,12 +54,8 @@ module _ (rows numbers row number : ℕ) (words : List ℕ) (less : row < rows) 
             ∙ ap₂ (λ b m. cond b value m) (same_bit (words_for numbers) r row n number (omega (arith, inside)) (omega (arith, lt))) (sym (in_row (rows_of rows numbers words) r n inside)))
         | inr beyond ↦ (
             let other : (n == number) ≡ false = ne_eqb n number (λ e. omega (arith, e, beyond, lt)) in
-            past_row (rows_of rows numbers next) r n beyond ∙ sym (ap (λ b. cond (r == row && b) value (is_marked_in (rows_of rows numbers words) r n)) other ∙ none (r == row) (is_marked_in (rows_of rows numbers words) r n) (past_row (rows_of rows numbers words) r n beyond)))
+            past_row (rows_of rows numbers next) r n beyond ∙ sym (ap (λ b. cond (r == row && b) value (is_marked_in (rows_of rows numbers words) r n)) other ∙ unset value (r == row) (is_marked_in (rows_of rows numbers words) r n) (past_row (rows_of rows numbers words) r n beyond)))
       ]
-        where
-          none : (a m : Bool) → m ≡ false → cond (a && false) value m ≡ false
-          none true m e = e
-          none false m e = e
 
   sets_are : (value : Bool) (next : List ℕ) → length next ≡ length words → SetsMark (rows_of rows numbers words) (rows_of rows numbers next) row number value → AreRowsOfMarks (rows_of rows numbers next)
   sets_are value next same set = record {
@@ -62,12 +63,8 @@ module _ (rows numbers row number : ℕ) (words : List ℕ) (less : row < rows) 
     size = same ∙ are.size;
     within = λ r n past.
         let other : (n == number) ≡ false = ne_eqb n number (λ e. omega (arith, e, past, lt)) in
-        set.marks r n ∙ ap (λ b. cond (r == row && b) value (is_marked_in (rows_of rows numbers words) r n)) other ∙ none (r == row) (is_marked_in (rows_of rows numbers words) r n) (are.within r n past);
+        set.marks r n ∙ ap (λ b. cond (r == row && b) value (is_marked_in (rows_of rows numbers words) r n)) other ∙ unset value (r == row) (is_marked_in (rows_of rows numbers words) r n) (are.within r n past);
   }
-    where
-      none : (a m : Bool) → m ≡ false → cond (a && false) value m ≡ false
-      none true m e = e
-      none false m e = e
 
   word : row * words_for numbers + number / 64 ≡ ((row * words_for numbers) * 64 + number) / 64
   word = omega arith
