@@ -469,6 +469,97 @@ END.
 0 commit -> committed 1
 DAY
 cp journal refused
+# planner 1 commits while planner 0 has a draft, who then does or does not bring it up to date
+begun='0 open -> opened
+0 place geo A 0 1 -> done
+1 open -> opened
+1 place top B 0 2 -> done
+1 commit -> committed 1'
+day 'refresh keeps the draft' '' 'journal 2
+entry 1 1
+place top B 0 2
+done
+entry 0 2
+place geo A 0 1
+done
+slot 0 2
+lectures 1 top B 0 2
+END.
+' <<DAY
+$begun
+0 refresh -> refreshed
+0 slot 0 2 -> lectures 1 top B 0 2
+0 commit -> committed 2
+show cost -> costs 10 10 2 0
+DAY
+day 'the same draft without a refresh' '' 'journal 1
+entry 1 1
+place top B 0 2
+done
+END.
+' <<DAY
+$begun
+0 slot 0 2 -> lectures 0
+0 commit -> stale slot 0 2
+DAY
+day 'refresh of a stale draft' '' 'journal 1
+entry 1 1
+place top B 0 2
+done
+END.
+' <<DAY
+$looked
+0 refresh -> stale slot 0 2
+0 commit -> no draft
+0 refresh -> no draft
+show cost -> costs 10 15 0 0
+DAY
+# a draft is refreshed twice, on nothing new, and where what it read was changed and changed back
+day 'refresh again and again' '' 'journal 4
+entry 1 1
+place top B 0 2
+done
+entry 1 2
+place alg A 0 0
+done
+drop top 0 2
+done
+entry 0 5
+slot 0 2
+lectures 0
+place geo A 0 1
+done
+drop geo 0 1
+done
+place geo B 0 1
+done
+slot 0 0
+lectures 1 alg A 0 0
+entry 0 0
+END.
+' <<'DAY'
+0 open -> opened
+0 refresh -> refreshed
+0 slot 0 2 -> lectures 0
+0 place geo A 0 1 -> done
+0 drop geo 0 1 -> done
+0 refresh -> refreshed
+1 open -> opened
+1 place top B 0 2 -> done
+1 commit -> committed 1
+1 open -> opened
+1 place alg A 0 0 -> done
+1 drop top 0 2 -> done
+1 commit -> committed 2
+0 refresh -> refreshed
+0 place geo B 0 1 -> done
+0 slot 0 0 -> lectures 1 alg A 0 0
+0 refresh -> refreshed
+0 commit -> committed 3
+0 open -> opened
+0 refresh -> refreshed
+0 commit -> committed 4
+DAY
 day 'abandon' '' 'journal 0
 END.
 ' <<'DAY'
@@ -654,17 +745,19 @@ no draft
 journal 0
 costs 0 20 0 0
 ' $'0 open\nplace nul A 0 0\n\nslot 0 3\nopen now\nopen \xff\n \t\ncommit'
-crew 'a look beside a draft' 'planner 0
+crew 'a look and a refresh beside a draft' 'planner 0
 costs 0 20 0 0
+no draft
 opened
 already open
 already open
+refreshed
 refused unavailable
 abandoned
 no draft
 journal 0
 costs 0 20 0 0
-' $'show cost\nopen\nopen\nshow cost\nplace geo A 0 0\nabandon\ncourse geo\n'
+' $'show cost\nrefresh\nopen\nopen\nshow cost\nrefresh\nplace geo A 0 0\nabandon\ncourse geo\n'
 crew 'an empty script' 'planner 0
 planner 1
 opened

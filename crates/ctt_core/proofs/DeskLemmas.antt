@@ -12,13 +12,13 @@ use Rattle.ctt_edits.specs.declared.reply.Reply.{Reply}
 use Rattle.ctt_edits.specs.declared.row.Row.{Row}
 use Rattle.ctt_draft.specs.Drafts.{calls_of, whole, stale}
 use Rattle.ctt_core.specs.declared.event.Event.{Event}
-use Rattle.ctt_core.specs.declared.event.Event.TheVariants.{Open, Ask, Commit, Abandon, Show}
+use Rattle.ctt_core.specs.declared.event.Event.TheVariants.{Open, Ask, Commit, Refresh, Abandon, Show}
 use Rattle.ctt_core.specs.declared.answer.Answer.{Answer}
-use Rattle.ctt_core.specs.declared.answer.Answer.TheVariants.{Opened, AlreadyOpen, NoDraft, Replied, Committed, Stale, Abandoned, NoMemory}
+use Rattle.ctt_core.specs.declared.answer.Answer.TheVariants.{Opened, AlreadyOpen, NoDraft, Replied, Committed, Refreshed, Stale, Abandoned, NoMemory}
 use Rattle.ctt_core.specs.declared.journal.JournalEntry.{JournalEntry}
 use Rattle.ctt_draft.specs.DraftValues.{DraftValue}
-use Rattle.ctt_core.specs.Runs.{after, Legal, Turn, OpenDraft, ask, begin, turned, commits, draft, entry, entered, accepted_of, now, base, open_answer, ask_answer, verdict, commit_answer, abandon_answer, plain, may_want, IsRight, Right, EventFits, RunFits}
-use Rattle.ctt_core.specs.Desks.{DeskValue, draft_at, kept, StandsAt, opens, answers, commits_to, abandons, answer_of, with_draft, asks, settled, goes_on, Answers, SameDesk}
+use Rattle.ctt_core.specs.Runs.{after, Legal, Turn, OpenDraft, ask, begin, renew, turned, commits, draft, entry, entered, accepted_of, now, base, open_answer, ask_answer, verdict, commit_answer, renewal, refresh_answer, abandon_answer, plain, may_want, IsRight, Right, EventFits, RunFits}
+use Rattle.ctt_core.specs.Desks.{DeskValue, draft_at, kept, StandsAt, opens, answers, commits_to, refreshes, abandons, answer_of, with_draft, asks, renews, settled, goes_on, Answers, SameDesk}
 use Rattle.ctt_core.specs.Laws.{Stands, Serial, DeskIsPlain, DeskIsSerial}
 use Rattle.ctt_core.proofs.RunLemmas.{Good, GoodDraft, right_is_good, after-push, headline}
 
@@ -35,6 +35,10 @@ commits_is : (v : DeskValue) (past : List Turn) (o : Option OpenDraft) → v.lis
 commits_is v past None e k = refl
 commits_is v past (Some d) e k = ap₂ (λ n list. verdict (n + 1) (stale v.problem (base v.problem v.opening past d) list (calls_of d.asked))) k e
 
+refreshes_is : (v : DeskValue) (past : List Turn) (o : Option OpenDraft) → v.list ≡ now v.problem v.opening past → refreshes v (kept v.problem v.opening (accepted_of past) o) ≡ refresh_answer v.problem v.opening past o
+refreshes_is v past None e = refl
+refreshes_is v past (Some d) e = ap (λ list. renewal (stale v.problem (base v.problem v.opening past d) list (calls_of d.asked))) e
+
 abandons_is : (i : Problem) (t0 : List Placed) (h : List JournalEntry) (o : Option OpenDraft) → abandons (kept i t0 h o) ≡ abandon_answer o
 abandons_is i t0 h None = refl
 abandons_is i t0 h (Some d) = refl
@@ -43,6 +47,7 @@ answer_is : (v : DeskValue) (past : List Turn) (event : Event) → commits past 
 answer_is v past (Open p) n s = ap opens (s.drafts p) ∙ opens_is v.problem v.opening (accepted_of past) (draft p past)
 answer_is v past (Ask p call) n s = ap (answers call) (s.drafts p) ∙ answers_is v.problem v.opening past call (draft p past)
 answer_is v past (Commit p) n s = ap (commits_to v) (s.drafts p) ∙ commits_is v past (draft p past) s.list (ap length s.journal ∙ sym n)
+answer_is v past (Refresh p) n s = ap (refreshes v) (s.drafts p) ∙ refreshes_is v past (draft p past) s.list
 answer_is v past (Abandon p) n s = ap abandons (s.drafts p) ∙ abandons_is v.problem v.opening (accepted_of past) (draft p past)
 answer_is v past (Show look) n s = ap (λ list. Replied (shown v.problem list look)) s.list
 
@@ -110,6 +115,27 @@ abandon_goes : (v : DeskValue) (past : List Turn) (p : ℕ) (o : Option OpenDraf
 abandon_goes v past p None lt s = stays v past (Abandon p) NoDraft v.drafts refl s s.drafts
 abandon_goes v past p (Some d) lt s = ended_goes v past p (Abandon p) Abandoned lt refl (λ q. refl) s
 
+refresh_goes : (v : DeskValue) (past : List Turn) (p : ℕ) (d : OpenDraft) (o : Option Row) → p < length v.drafts → draft p past ≡ Some d → commits past ≡ length (accepted_of past) → StandsAt v past → StandsAt (goes_on v (Refresh p) (renewal o)) (record { event = Refresh p; answer = renewal o } ∷ past)
+refresh_goes v past p d (Some row) lt e n s = ended_goes v past p (Refresh p) (Stale row) lt refl (λ q. refl) s
+refresh_goes v past p d None lt e n s =
+    let full : take (commits past) (accepted_of past) ≡ accepted_of past = take_all (commits past) (accepted_of past) (omega (arith, n)) in
+    let new : Option DraftValue = renews v.list (draft_at v.drafts p) in
+    let mine : new ≡ kept v.problem v.opening (accepted_of past) (renew (commits past) (Some d)) =
+    ap (renews v.list) (s.drafts p ∙ ap (kept v.problem v.opening (accepted_of past)) e)
+    ∙ ap (λ list. Some (record { problem = v.problem; base = list; asked = d.asked })) (s.list ∙ ap (after v.problem v.opening) (sym full)) in
+    stays v past (Refresh p) Refreshed (set v.drafts p new) refl s
+    (λ q. turned_one v past p q new (renew (commits past) (Some d)) lt s mine ∙ ap (kept v.problem v.opening (accepted_of past)) (own q))
+  where
+    own : (q : ℕ) → cond (q == p) (renew (commits past) (Some d)) (draft q past) ≡ cond (q == p) (renew (commits past) (draft q past)) (draft q past)
+    own q = elim (cases_eq q p) [
+      | inl same ↦ (let its : draft q past ≡ Some d = ap (λ x. draft x past) same ∙ e in rw its refl)
+      | inr apart ↦ rw (ne_eqb q p apart) refl
+    ]
+
+refresh_any : (v : DeskValue) (past : List Turn) (p : ℕ) (o : Option OpenDraft) → p < length v.drafts → draft p past ≡ o → commits past ≡ length (accepted_of past) → StandsAt v past → StandsAt (goes_on v (Refresh p) (refresh_answer v.problem v.opening past o)) (record { event = Refresh p; answer = refresh_answer v.problem v.opening past o } ∷ past)
+refresh_any v past p None lt e n s = stays v past (Refresh p) NoDraft v.drafts refl s s.drafts
+refresh_any v past p (Some d) lt e n s = refresh_goes v past p d (stale v.problem (base v.problem v.opening past d) (now v.problem v.opening past) (calls_of d.asked)) lt e n s
+
 commit_goes : (v : DeskValue) (past : List Turn) (p n : ℕ) (d : OpenDraft) (o : Option Row) → p < length v.drafts → draft p past ≡ Some d → Good v.problem v.opening (accepted_of past) (commits past) (λ p. draft p past) → StandsAt v past → StandsAt (goes_on v (Commit p) (verdict n o)) (record { event = Commit p; answer = verdict n o } ∷ past)
 commit_goes v past p n d (Some row) lt e g s = ended_goes v past p (Commit p) (Stale row) lt refl (λ q. refl) s
 commit_goes v past p n d None lt e g s =
@@ -141,6 +167,7 @@ plain_goes : (v : DeskValue) (past : List Turn) (event : Event) → EventFits v.
 plain_goes v past (Open p) f g s = open_goes v past p (draft p past) f g.counted s
 plain_goes v past (Ask p call) f g s = ask_goes v past p call (draft p past) f.0 refl s
 plain_goes v past (Commit p) f g s = commit_any v past p (draft p past) f refl g s
+plain_goes v past (Refresh p) f g s = refresh_any v past p (draft p past) f refl g.counted s
 plain_goes v past (Abandon p) f g s = abandon_goes v past p (draft p past) f s
 plain_goes v past (Show look) f g s = stays v past (Show look) (plain v.problem v.opening past (Show look)) v.drafts refl s s.drafts
 
@@ -148,6 +175,7 @@ no_memory_goes : (v : DeskValue) (past : List Turn) (event : Event) → StandsAt
 no_memory_goes v past (Open p) s = stays v past (Open p) NoMemory v.drafts refl s s.drafts
 no_memory_goes v past (Ask p call) s = stays v past (Ask p call) NoMemory v.drafts refl s s.drafts
 no_memory_goes v past (Commit p) s = stays v past (Commit p) NoMemory v.drafts refl s s.drafts
+no_memory_goes v past (Refresh p) s = stays v past (Refresh p) NoMemory v.drafts refl s s.drafts
 no_memory_goes v past (Abandon p) s = stays v past (Abandon p) NoMemory v.drafts refl s s.drafts
 no_memory_goes v past (Show look) s = stays v past (Show look) NoMemory v.drafts refl s s.drafts
 
@@ -167,11 +195,14 @@ same_after v (Open p) Opened = same_with p (Some (record { problem = v.problem; 
 same_after v (Ask p call) (Replied told) = same_with p (asks call told (draft_at v.drafts p)) v
 same_after v (Commit p) (Committed n) = same_settled p v (draft_at v.drafts p)
 same_after v (Commit p) (Stale row) = same_with p None v
+same_after v (Refresh p) Refreshed = same_with p (renews v.list (draft_at v.drafts p)) v
+same_after v (Refresh p) (Stale row) = same_with p None v
 same_after v (Abandon p) Abandoned = same_with p None v
 same_after v (Open p) AlreadyOpen = same v
 same_after v (Open p) NoDraft = same v
 same_after v (Open p) (Replied told) = same v
 same_after v (Open p) (Committed n) = same v
+same_after v (Open p) Refreshed = same v
 same_after v (Open p) (Stale row) = same v
 same_after v (Open p) Abandoned = same v
 same_after v (Open p) NoMemory = same v
@@ -179,6 +210,7 @@ same_after v (Ask p call) Opened = same v
 same_after v (Ask p call) AlreadyOpen = same v
 same_after v (Ask p call) NoDraft = same v
 same_after v (Ask p call) (Committed n) = same v
+same_after v (Ask p call) Refreshed = same v
 same_after v (Ask p call) (Stale row) = same v
 same_after v (Ask p call) Abandoned = same v
 same_after v (Ask p call) NoMemory = same v
@@ -186,13 +218,22 @@ same_after v (Commit p) Opened = same v
 same_after v (Commit p) AlreadyOpen = same v
 same_after v (Commit p) NoDraft = same v
 same_after v (Commit p) (Replied told) = same v
+same_after v (Commit p) Refreshed = same v
 same_after v (Commit p) Abandoned = same v
 same_after v (Commit p) NoMemory = same v
+same_after v (Refresh p) Opened = same v
+same_after v (Refresh p) AlreadyOpen = same v
+same_after v (Refresh p) NoDraft = same v
+same_after v (Refresh p) (Replied told) = same v
+same_after v (Refresh p) (Committed n) = same v
+same_after v (Refresh p) Abandoned = same v
+same_after v (Refresh p) NoMemory = same v
 same_after v (Abandon p) Opened = same v
 same_after v (Abandon p) AlreadyOpen = same v
 same_after v (Abandon p) NoDraft = same v
 same_after v (Abandon p) (Replied told) = same v
 same_after v (Abandon p) (Committed n) = same v
+same_after v (Abandon p) Refreshed = same v
 same_after v (Abandon p) (Stale row) = same v
 same_after v (Abandon p) NoMemory = same v
 same_after v (Show look) Opened = same v
@@ -200,6 +241,7 @@ same_after v (Show look) AlreadyOpen = same v
 same_after v (Show look) NoDraft = same v
 same_after v (Show look) (Replied told) = same v
 same_after v (Show look) (Committed n) = same v
+same_after v (Show look) Refreshed = same v
 same_after v (Show look) (Stale row) = same v
 same_after v (Show look) Abandoned = same v
 same_after v (Show look) NoMemory = same v

@@ -17,11 +17,11 @@ use Rattle.ctt_draft.specs.declared.asked.Asked.{Asked}
 use Rattle.ctt_draft.specs.Drafts.{calls_of, replies_in, replies, whole, after_call, stale, AskedFits}
 use Rattle.ctt_draft.proofs.CallRuns.{lawful_after_call, lawful_whole}
 use Rattle.ctt_core.specs.declared.event.Event.{Event}
-use Rattle.ctt_core.specs.declared.event.Event.TheVariants.{Open, Ask, Commit, Abandon, Show}
+use Rattle.ctt_core.specs.declared.event.Event.TheVariants.{Open, Ask, Commit, Refresh, Abandon, Show}
 use Rattle.ctt_core.specs.declared.answer.Answer.{Answer}
-use Rattle.ctt_core.specs.declared.answer.Answer.TheVariants.{Opened, AlreadyOpen, NoDraft, Replied, Committed, Stale, Abandoned, NoMemory}
+use Rattle.ctt_core.specs.declared.answer.Answer.TheVariants.{Opened, AlreadyOpen, NoDraft, Replied, Committed, Refreshed, Stale, Abandoned, NoMemory}
 use Rattle.ctt_core.specs.declared.journal.JournalEntry.{JournalEntry}
-use Rattle.ctt_core.specs.Runs.{Legal, Turn, OpenDraft, ask, begin, turned, is_commit, commits, draft, entry, entered, accepted_of, now, base, open_answer, ask_answer, verdict, commit_answer, abandon_answer, plain, IsRight, Right, EventFits, RunFits}
+use Rattle.ctt_core.specs.Runs.{Legal, Turn, OpenDraft, ask, begin, renew, turned, is_commit, commits, draft, entry, entered, accepted_of, now, base, open_answer, ask_answer, verdict, commit_answer, renewal, refresh_answer, abandon_answer, plain, IsRight, Right, EventFits, RunFits}
 use Rattle.ctt_core.specs.Entries.{EntryFits}
 use Rattle.ctt_core.specs.Audits.{IsVerdict}
 use Rattle.ctt_core.specs.Laws.{Serial, JournalAgrees}
@@ -66,6 +66,10 @@ grown_draft m (Some d) h = omega (arith, h)
 asked_draft : (m : ℕ) (call : Call) (told : Reply) (o : Option OpenDraft) → IsSmallDraft m o → IsSmallDraft (m + 1) (ask call told o)
 asked_draft m call told None h = tt
 asked_draft m call told (Some d) h = omega (arith, h, length-append d.asked (record { call = call; reply = told } ∷ []))
+
+renewed_draft : (m count : ℕ) (o : Option OpenDraft) → IsSmallDraft m o → IsSmallDraft (m + 1) (renew count o)
+renewed_draft m count None h = tt
+renewed_draft m count (Some d) h = omega (arith, h)
 
 one_of : (m : ℕ) (b : Bool) (o u : Option OpenDraft) → IsSmallDraft m o → IsSmallDraft m u → IsSmallDraft m (cond b o u)
 one_of m true o u h k = h
@@ -117,6 +121,14 @@ module _ (i : Problem) (t0 : List Placed) (n m : ℕ) (past : List Turn) (s : Ar
   commit_leaves q None lt = stays (Commit q) NoDraft refl same_drafts
   commit_leaves q (Some d) lt = verdict_leaves q (stale i (base i t0 past d) (now i t0 past) (calls_of d.asked)) lt
 
+  renewal_leaves : (q : ℕ) (o : Option Row) → Leaves (Refresh q) (renewal o)
+  renewal_leaves q (Some row) = stays (Refresh q) (Stale row) refl (ended q)
+  renewal_leaves q None = stays (Refresh q) Refreshed refl (λ p. one_of (m + 1) (p == q) (renew (commits past) (draft p past)) (draft p past) (renewed_draft m (commits past) (draft p past) (s.open_drafts p)) (same_drafts p))
+
+  refresh_leaves : (q : ℕ) (o : Option OpenDraft) → Leaves (Refresh q) (refresh_answer i t0 past o)
+  refresh_leaves q None = stays (Refresh q) NoDraft refl same_drafts
+  refresh_leaves q (Some d) = renewal_leaves q (stale i (base i t0 past d) (now i t0 past) (calls_of d.asked))
+
   abandon_leaves : (q : ℕ) (o : Option OpenDraft) → Leaves (Abandon q) (abandon_answer o)
   abandon_leaves q None = stays (Abandon q) NoDraft refl same_drafts
   abandon_leaves q (Some d) = stays (Abandon q) Abandoned refl (ended q)
@@ -125,6 +137,7 @@ module _ (i : Problem) (t0 : List Placed) (n m : ℕ) (past : List Turn) (s : Ar
   plain_leaves (Open q) f = open_leaves q (draft q past)
   plain_leaves (Ask q call) f = ask_leaves q call (draft q past)
   plain_leaves (Commit q) f = commit_leaves q (draft q past) f
+  plain_leaves (Refresh q) f = refresh_leaves q (draft q past)
   plain_leaves (Abandon q) f = abandon_leaves q (draft q past)
   plain_leaves (Show look) f = stays (Show look) (Replied (shown i (now i t0 past) look)) refl same_drafts
 
@@ -132,6 +145,7 @@ module _ (i : Problem) (t0 : List Placed) (n m : ℕ) (past : List Turn) (s : Ar
   no_memory_leaves (Open q) = stays (Open q) NoMemory refl same_drafts
   no_memory_leaves (Ask q call) = stays (Ask q call) NoMemory refl same_drafts
   no_memory_leaves (Commit q) = stays (Commit q) NoMemory refl same_drafts
+  no_memory_leaves (Refresh q) = stays (Refresh q) NoMemory refl same_drafts
   no_memory_leaves (Abandon q) = stays (Abandon q) NoMemory refl same_drafts
   no_memory_leaves (Show look) = stays (Show look) NoMemory refl same_drafts
 
@@ -150,6 +164,7 @@ one_commit NoDraft = omega arith
 one_commit (Replied r) = omega arith
 one_commit (Committed k) = omega arith
 one_commit (Stale row) = omega arith
+one_commit Refreshed = omega arith
 one_commit Abandoned = omega arith
 one_commit NoMemory = omega arith
 

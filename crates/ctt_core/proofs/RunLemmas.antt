@@ -1,5 +1,5 @@
 -- The accepted history of a right run is legal.
-use Rattle.std.proofs.Common.{◌≡◌, ℕ, zero, suc, ◌+◌, ◌≤◌, Bool, true, false, cond, ◌==◌, List, [], ◌∷◌, ◌++◌, take, Option, Some, None, refl, ◌∙◌, sym, ap, subst, length, arith, inl, inr, append-nil, length-append}
+use Rattle.std.proofs.Common.{◌≡◌, ℕ, zero, suc, ◌+◌, ◌≤◌, Bool, true, false, cond, ◌==◌, List, [], ◌∷◌, ◌++◌, take, Option, Some, None, refl, ◌∙◌, sym, ap, subst, length, arith, inl, inr, append-nil, length-append, take_all}
 use Rattle.std.specs.List.{AllByRecursion as Each}
 use Rattle.std.proofs.lemmas.Bool.{cases_Bool, eqb-true}
 use Rattle.std.proofs.lemmas.List.{take-append-le, map-append}
@@ -13,13 +13,13 @@ use Rattle.ctt_edits.specs.declared.row.Row.{Row}
 use Rattle.ctt_draft.specs.Drafts.{calls_of, replies_in, replies, whole, stale}
 use Rattle.ctt_draft.specs.declared.asked.Asked.{Asked}
 use Rattle.ctt_core.specs.declared.event.Event.{Event}
-use Rattle.ctt_core.specs.declared.event.Event.TheVariants.{Open, Ask, Commit, Abandon, Show}
+use Rattle.ctt_core.specs.declared.event.Event.TheVariants.{Open, Ask, Commit, Refresh, Abandon, Show}
 use Rattle.ctt_core.specs.declared.answer.Answer.{Answer}
-use Rattle.ctt_core.specs.declared.answer.Answer.TheVariants.{Stale, NoMemory}
+use Rattle.ctt_core.specs.declared.answer.Answer.TheVariants.{Refreshed, Stale, NoMemory}
 use Rattle.ctt_core.specs.declared.journal.JournalEntry.{JournalEntry}
 use Rattle.ctt_draft.proofs.CallRuns.{lawful_whole, replies-push}
 use Rattle.ctt_draft.proofs.FrameLemmas.{draft_frame}
-use Rattle.ctt_core.specs.Runs.{after, Legal, Turn, OpenDraft, ask, turned, is_commit, commits, draft, entry, entered, accepted_of, now, base, open_answer, ask_answer, verdict, commit_answer, abandon_answer, plain, IsRight, Right, EventFits, RunFits}
+use Rattle.ctt_core.specs.Runs.{after, Legal, Turn, OpenDraft, ask, renew, turned, is_commit, commits, draft, entry, entered, accepted_of, now, base, open_answer, ask_answer, verdict, commit_answer, renewal, refresh_answer, abandon_answer, plain, IsRight, Right, EventFits, RunFits}
 use Rattle.ctt_core.specs.Laws.{Headline, OntoJoins, AfterJoins, LegalJoins}
 
 pub Each-join : {X : Type 0} (P : X → Type 0) (xs ys : List X) → Each P xs → Each P ys → Each P (xs ++ ys)
@@ -144,6 +144,30 @@ commit_any : (i : Problem) (t0 : List Placed) (past : List Turn) (q : ℕ) (o : 
 commit_any i t0 past q None e l g = kept i t0 (accepted_of past) (commits past) (λ p. draft p past) (λ p. draft p past) g g.good
 commit_any i t0 past q (Some d) e l g = commit_turn i t0 past q d (stale i (base i t0 past d) (now i t0 past) (calls_of d.asked)) e refl l g
 
+-- a draft that is brought up to date was told what it is told on the timetable as it stands
+renewed : (i : Problem) (t0 : List Placed) (past : List Turn) (d : OpenDraft) → Lawful i t0 → stale i (base i t0 past d) (now i t0 past) (calls_of d.asked) ≡ None → Good i t0 (accepted_of past) (commits past) (λ p. draft p past) →
+    GoodDraft i t0 (accepted_of past) (Some d) → GoodDraft i t0 (accepted_of past) (renew (commits past) (Some d))
+renewed i t0 past d l s g mine =
+    let h : List JournalEntry = accepted_of past in
+    let same = draft_frame i (base i t0 past d) (now i t0 past) (calls_of d.asked) (lawful_after i t0 (take d.count h) l (Each-take (EntryFits i) d.count h g.fit)) (lawful_after i t0 h l g.fit) mine.2 s in
+    let full : take (commits past) h ≡ h = take_all (commits past) h (omega (arith, g.counted)) in
+    (omega (arith, g.counted), mine.1 ∙ sym same.replies_same ∙ ap (λ es. replies i (after i t0 es) (calls_of d.asked)) (sym full), mine.2)
+
+refresh_turn : (i : Problem) (t0 : List Placed) (past : List Turn) (q : ℕ) (d : OpenDraft) (o : Option Row) → draft q past ≡ Some d → stale i (base i t0 past d) (now i t0 past) (calls_of d.asked) ≡ o → Lawful i t0 →
+    Good i t0 (accepted_of past) (commits past) (λ p. draft p past) → (p : ℕ) → GoodDraft i t0 (accepted_of past) (turned p (commits past) (Refresh q) (renewal o) (draft p past))
+refresh_turn i t0 past q d (Some row) e s l g p = ended i t0 (accepted_of past) (p == q) (draft p past) (g.good p)
+refresh_turn i t0 past q d None e s l g p = elim (cases_Bool (p == q)) [
+  | inl y ↦ (let mine : draft p past ≡ Some d = own (λ p. draft p past) p q y ∙ e in
+      let good : GoodDraft i t0 (accepted_of past) (Some d) = subst (GoodDraft i t0 (accepted_of past)) mine (g.good p) in
+      rw (y, mine) (renewed i t0 past d l s g good))
+  | inr n ↦ rw n (g.good p)
+]
+
+refresh_any : (i : Problem) (t0 : List Placed) (past : List Turn) (q : ℕ) (o : Option OpenDraft) → draft q past ≡ o → Lawful i t0 →
+    Good i t0 (accepted_of past) (commits past) (λ p. draft p past) → (p : ℕ) → GoodDraft i t0 (accepted_of past) (turned p (commits past) (Refresh q) (refresh_answer i t0 past o) (draft p past))
+refresh_any i t0 past q None e l g p = g.good p
+refresh_any i t0 past q (Some d) e l g p = refresh_turn i t0 past q d (stale i (base i t0 past d) (now i t0 past) (calls_of d.asked)) e refl l g p
+
 -- no answer but Committed counts or enters anything
 open_counts : (o : Option OpenDraft) → is_commit (open_answer o) ≡ 0
 open_counts None = refl
@@ -152,6 +176,14 @@ open_counts (Some d) = refl
 ask_counts : (i : Problem) (t0 : List Placed) (past : List Turn) (call : Call) (o : Option OpenDraft) → is_commit (ask_answer i t0 past call o) ≡ 0
 ask_counts i t0 past call None = refl
 ask_counts i t0 past call (Some d) = refl
+
+renewal_counts : (o : Option Row) → is_commit (renewal o) ≡ 0
+renewal_counts None = refl
+renewal_counts (Some row) = refl
+
+refresh_counts : (i : Problem) (t0 : List Placed) (past : List Turn) (o : Option OpenDraft) → is_commit (refresh_answer i t0 past o) ≡ 0
+refresh_counts i t0 past None = refl
+refresh_counts i t0 past (Some d) = renewal_counts (stale i (base i t0 past d) (now i t0 past) (calls_of d.asked))
 
 abandon_counts : (o : Option OpenDraft) → is_commit (abandon_answer o) ≡ 0
 abandon_counts None = refl
@@ -162,6 +194,7 @@ plain_turn : (i : Problem) (t0 : List Placed) (past : List Turn) (n : ℕ) (even
 plain_turn i t0 past n (Open q) f l g = rw (open_counts (draft q past)) (kept i t0 (accepted_of past) (commits past) (λ p. draft p past) (λ p. turned p (commits past) (Open q) (open_answer (draft q past)) (draft p past)) g (open_turn i t0 past q (draft q past) g))
 plain_turn i t0 past n (Ask q call) f l g = rw (ask_counts i t0 past call (draft q past)) (kept i t0 (accepted_of past) (commits past) (λ p. draft p past) (λ p. turned p (commits past) (Ask q call) (ask_answer i t0 past call (draft q past)) (draft p past)) g (ask_turn i t0 past q call (draft q past) refl f.1 g))
 plain_turn i t0 past n (Commit q) f l g = commit_any i t0 past q (draft q past) refl l g
+plain_turn i t0 past n (Refresh q) f l g = rw (refresh_counts i t0 past (draft q past)) (kept i t0 (accepted_of past) (commits past) (λ p. draft p past) (λ p. turned p (commits past) (Refresh q) (refresh_answer i t0 past (draft q past)) (draft p past)) g (refresh_any i t0 past q (draft q past) refl l g))
 plain_turn i t0 past n (Abandon q) f l g = rw (abandon_counts (draft q past)) (kept i t0 (accepted_of past) (commits past) (λ p. draft p past) (λ p. turned p (commits past) (Abandon q) (abandon_answer (draft q past)) (draft p past)) g (abandon_turn i t0 past q (draft q past) g))
 plain_turn i t0 past n (Show look) f l g = kept i t0 (accepted_of past) (commits past) (λ p. draft p past) (λ p. draft p past) g g.good
 
@@ -170,6 +203,7 @@ no_memory_turn : (i : Problem) (t0 : List Placed) (past : List Turn) (event : Ev
 no_memory_turn i t0 past (Open q) g = kept i t0 (accepted_of past) (commits past) (λ p. draft p past) (λ p. draft p past) g g.good
 no_memory_turn i t0 past (Ask q call) g = kept i t0 (accepted_of past) (commits past) (λ p. draft p past) (λ p. draft p past) g g.good
 no_memory_turn i t0 past (Commit q) g = kept i t0 (accepted_of past) (commits past) (λ p. draft p past) (λ p. draft p past) g g.good
+no_memory_turn i t0 past (Refresh q) g = kept i t0 (accepted_of past) (commits past) (λ p. draft p past) (λ p. draft p past) g g.good
 no_memory_turn i t0 past (Abandon q) g = kept i t0 (accepted_of past) (commits past) (λ p. draft p past) (λ p. draft p past) g g.good
 no_memory_turn i t0 past (Show look) g = kept i t0 (accepted_of past) (commits past) (λ p. draft p past) (λ p. draft p past) g g.good
 

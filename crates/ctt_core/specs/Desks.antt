@@ -8,14 +8,14 @@ use Rattle.ctt_edits.specs.Looks.{shown}
 use Rattle.ctt_edits.specs.declared.call.Call.{Call}
 use Rattle.ctt_edits.specs.declared.reply.Reply.{Reply}
 use Rattle.ctt_draft.specs.Drafts.{calls_of, whole, stale}
-use Rattle.ctt_draft.specs.DraftValues.{DraftValue, present, asked_more, Settles}
+use Rattle.ctt_draft.specs.DraftValues.{DraftValue, present, asked_more, refreshed, Settles}
 use Rattle.ctt_core.specs.declared.event.Event.{Event}
-use Rattle.ctt_core.specs.declared.event.Event.TheVariants.{Open, Ask, Commit, Abandon, Show}
+use Rattle.ctt_core.specs.declared.event.Event.TheVariants.{Open, Ask, Commit, Refresh, Abandon, Show}
 use Rattle.ctt_core.specs.declared.answer.Answer.{Answer}
-use Rattle.ctt_core.specs.declared.answer.Answer.TheVariants.{Opened, AlreadyOpen, NoDraft, Replied, Committed, Stale, Abandoned, NoMemory}
+use Rattle.ctt_core.specs.declared.answer.Answer.TheVariants.{Opened, AlreadyOpen, NoDraft, Replied, Committed, Refreshed, Stale, Abandoned, NoMemory}
 use Rattle.ctt_core.specs.declared.journal.JournalEntry.{JournalEntry}
 use Rattle.ctt_core.specs.Stocks.{StockValue, IsMarked, mark_at}
-use Rattle.ctt_core.specs.Runs.{after, Turn, OpenDraft, draft, accepted_of, now, verdict, may_want}
+use Rattle.ctt_core.specs.Runs.{after, Turn, OpenDraft, draft, accepted_of, now, verdict, renewal, may_want}
 
 -- the opening timetable, the present one, the accepted drafts, and the open draft of each planner
 pub record DeskValue : Type 0 where
@@ -52,6 +52,10 @@ abbrev pub commits_to : DeskValue → Option DraftValue → Answer
 commits_to v None = NoDraft
 commits_to v (Some d) = verdict (length v.journal + 1) (stale d.problem d.base v.list (calls_of d.asked))
 
+abbrev pub refreshes : DeskValue → Option DraftValue → Answer
+refreshes v None = NoDraft
+refreshes v (Some d) = renewal (stale d.problem d.base v.list (calls_of d.asked))
+
 abbrev pub abandons : Option DraftValue → Answer
 abandons None = NoDraft
 abandons (Some d) = Abandoned
@@ -60,6 +64,7 @@ abbrev pub answer_of : DeskValue → Event → Answer
 answer_of v (Open p) = opens (draft_at v.drafts p)
 answer_of v (Ask p call) = answers call (draft_at v.drafts p)
 answer_of v (Commit p) = commits_to v (draft_at v.drafts p)
+answer_of v (Refresh p) = refreshes v (draft_at v.drafts p)
 answer_of v (Abandon p) = abandons (draft_at v.drafts p)
 answer_of v (Show look) = Replied (shown v.problem v.list look)
 
@@ -70,6 +75,10 @@ with_draft p d v = record v { drafts = slice_set v.drafts p d }
 abbrev pub asks : Call → Reply → Option DraftValue → Option DraftValue
 asks call told None = None
 asks call told (Some d) = Some (asked_more d call told)
+
+abbrev pub renews : List Placed → Option DraftValue → Option DraftValue
+renews t None = None
+renews t (Some d) = Some (refreshed d t None)
 
 -- the desk after an accepted commit
 abbrev pub settled : ℕ → DeskValue → Option DraftValue → DeskValue
@@ -88,6 +97,8 @@ goes_on v (Open p) Opened = with_draft p (Some (record { problem = v.problem; ba
 goes_on v (Ask p call) (Replied told) = with_draft p (asks call told (draft_at v.drafts p)) v
 goes_on v (Commit p) (Committed n) = settled p v (draft_at v.drafts p)
 goes_on v (Commit p) (Stale row) = with_draft p None v
+goes_on v (Refresh p) Refreshed = with_draft p (renews v.list (draft_at v.drafts p)) v
+goes_on v (Refresh p) (Stale row) = with_draft p None v
 goes_on v (Abandon p) Abandoned = with_draft p None v
 goes_on v _ _ = v
 

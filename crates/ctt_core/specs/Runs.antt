@@ -11,9 +11,9 @@ use Rattle.ctt_edits.specs.declared.row.Row.{Row}
 use Rattle.ctt_draft.specs.Drafts.{calls_of, replies_in, replies, whole, stale}
 use Rattle.ctt_draft.specs.declared.asked.Asked.{Asked}
 use Rattle.ctt_core.specs.declared.event.Event.{Event}
-use Rattle.ctt_core.specs.declared.event.Event.TheVariants.{Open, Ask, Commit, Abandon, Show}
+use Rattle.ctt_core.specs.declared.event.Event.TheVariants.{Open, Ask, Commit, Refresh, Abandon, Show}
 use Rattle.ctt_core.specs.declared.answer.Answer.{Answer}
-use Rattle.ctt_core.specs.declared.answer.Answer.TheVariants.{Opened, AlreadyOpen, NoDraft, Replied, Committed, Stale, Abandoned, NoMemory}
+use Rattle.ctt_core.specs.declared.answer.Answer.TheVariants.{Opened, AlreadyOpen, NoDraft, Replied, Committed, Refreshed, Stale, Abandoned, NoMemory}
 use Rattle.ctt_core.specs.declared.journal.JournalEntry.{JournalEntry}
 
 -- the timetable after a history of drafts, each run whole, one after another
@@ -35,7 +35,7 @@ pub record Turn : Type 0 where
 abbrev pub answered : Event → Answer → Turn
 answered event answer = record { event = event; answer = answer }
 
--- a draft that is open: how many commits came before it, and what was asked in it
+-- a draft that is open: how many commits came before it, or before it was last refreshed, and what was asked in it
 pub record OpenDraft : Type 0 where
   pub count : ℕ
   pub asked : List Asked
@@ -49,12 +49,19 @@ ask call told (Some d) = Some (record { count = d.count; asked = d.asked ++ reco
 abbrev pub begin : ℕ → Option OpenDraft
 begin count = Some (record { count = count; asked = [] })
 
+-- the draft, if there is one, brought up to date behind so many commits
+abbrev pub renew : ℕ → Option OpenDraft → Option OpenDraft
+renew count None = None
+renew count (Some d) = Some (record { count = count; asked = d.asked })
+
 -- what a turn makes of the draft d of planner p; count is how many commits came before the turn
 abbrev pub turned : ℕ → ℕ → Event → Answer → Option OpenDraft → Option OpenDraft
 turned p count (Open q) Opened d = cond (p == q) (begin count) d
 turned p count (Ask q call) (Replied told) d = cond (p == q) (ask call told d) d
 turned p count (Commit q) (Committed n) d = cond (p == q) None d
 turned p count (Commit q) (Stale row) d = cond (p == q) None d
+turned p count (Refresh q) Refreshed d = cond (p == q) (renew count d) d
+turned p count (Refresh q) (Stale row) d = cond (p == q) None d
 turned p count (Abandon q) Abandoned d = cond (p == q) None d
 turned p count _ _ d = d
 
@@ -87,7 +94,7 @@ abbrev pub accepted_of : List Turn → List JournalEntry
 accepted_of [] = []
 accepted_of (turn ∷ past) = accepted_of past ++ entered turn.event turn.answer past
 
--- the timetable as it stands, and as it stood when a draft was opened
+-- the timetable as it stands, and as it stood when a draft was opened, or last refreshed
 abbrev pub now : Problem → List Placed → List Turn → List Placed
 now i t0 past = after i t0 (accepted_of past)
 
@@ -113,6 +120,15 @@ abbrev pub commit_answer : Problem → List Placed → List Turn → Option Open
 commit_answer i t0 past None = NoDraft
 commit_answer i t0 past (Some d) = verdict (commits past + 1) (stale i (base i t0 past d) (now i t0 past) (calls_of d.asked))
 
+-- .. to a refresh: that the draft is up to date, or the stale row ..
+abbrev pub renewal : Option Row → Answer
+renewal None = Refreshed
+renewal (Some row) = Stale row
+
+abbrev pub refresh_answer : Problem → List Placed → List Turn → Option OpenDraft → Answer
+refresh_answer i t0 past None = NoDraft
+refresh_answer i t0 past (Some d) = renewal (stale i (base i t0 past d) (now i t0 past) (calls_of d.asked))
+
 -- .. and to an abandon
 abbrev pub abandon_answer : Option OpenDraft → Answer
 abandon_answer None = NoDraft
@@ -123,6 +139,7 @@ abbrev pub plain : Problem → List Placed → List Turn → Event → Answer
 plain i t0 past (Open p) = open_answer (draft p past)
 plain i t0 past (Ask p call) = ask_answer i t0 past call (draft p past)
 plain i t0 past (Commit p) = commit_answer i t0 past (draft p past)
+plain i t0 past (Refresh p) = refresh_answer i t0 past (draft p past)
 plain i t0 past (Abandon p) = abandon_answer (draft p past)
 plain i t0 past (Show look) = Replied (shown i (now i t0 past) look)
 
@@ -147,6 +164,7 @@ abbrev pub EventFits : Problem → ℕ → Event → Type 0
 EventFits i n (Open p) = p < n
 EventFits i n (Ask p call) = (p < n) × CallFits i call
 EventFits i n (Commit p) = p < n
+EventFits i n (Refresh p) = p < n
 EventFits i n (Abandon p) = p < n
 EventFits i n (Show look) = LookFits i look
 

@@ -15,6 +15,8 @@ pub enum Answer {
     Replied(Reply),
     /// The draft was accepted: the number of drafts that are accepted by now.
     Committed(u64),
+    /// The draft is up to date.
+    Refreshed,
     /// The draft was refused, since this row has changed; it has ended.
     Stale(Row),
     /// The draft was given up.

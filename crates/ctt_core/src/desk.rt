@@ -15,7 +15,7 @@ ghost use Rattle.ctt_core.specs.declared.answer.Answer.TheVariants.{Committed};
 ghost use Rattle.ctt_core.specs.declared.answer.Answer.TheVariants.{NoMemory as OutOfMemory};
 ghost use Rattle.ctt_edits.specs.Openings.{opening};
 ghost use Rattle.ctt_core.specs.Openings.{IsOpeningFault};
-ghost use Rattle.ctt_core.specs.declared.event.Event.TheVariants.{Open, Ask, Commit, Abandon, Show};
+ghost use Rattle.ctt_core.specs.declared.event.Event.TheVariants.{Open, Ask, Commit, Refresh, Abandon, Show};
 
 use crate::answer::Answer;
 use crate::desk_fault::DeskFault;
@@ -41,7 +41,8 @@ pub struct Desk<'i, S: Timetable, K: Keeping> {
     stock: Stock<'i, S>,
     journal: Log<JournalEntry, K>,
     drafts: Vec<Option<Draft<'i, S, K>>>,
-    /// How many of the changes that the stock knows were made before a planner's draft was opened.
+    /// How many of the changes that the stock knows were made before a planner's draft was opened, or last
+    /// refreshed.
     marks: Vec<Option<usize>>,
     planners: u16,
     /// A list of no meaning, in whose memory lectures are listed that are told.
@@ -272,6 +273,32 @@ impl<'i, S: Sheet<'i>, K: Keeping> Desk<'i, S, K> {
         }
     }
 
+    /// Brings a draft up to date, or ends it where it is stale.
+    fn refresh(&mut self, planner: PlannerNo) -> Answer
+        requires { planner < length self.old.drafts }
+        ensures answer { Answers self.old (Refresh planner) result }
+        ensures goes_on { self.new ≡ goes_on self.old (Refresh planner) result }
+    {
+        let place = planner.get() as usize;
+        let mark = self.marks[place];
+        let draft = &mut self.drafts[place];
+        match draft {
+            None => Answer::NoDraft,
+            Some(draft) => match self.stock.refresh(draft, mark) {
+                Err(_) => Answer::NoMemory,
+                Ok(Some(row)) => {
+                    self.give_up(planner);
+                    Answer::Stale(row)
+                }
+                Ok(None) => {
+                    let latest = self.stock.mark();
+                    self.marks[place] = Some(latest);
+                    Answer::Refreshed
+                }
+            },
+        }
+    }
+
     /// Computes nothing: its contract says that the opening and the timetable are lawful.
     pub fn lawful(&self)
         ensures opening { Lawful self.now.problem self.now.opening }
@@ -290,6 +317,7 @@ impl<'i, S: Sheet<'i>, K: Keeping> Desk<'i, S, K> {
             Event::Open(planner) => self.open(planner),
             Event::Ask(planner, call) => self.ask(planner, call),
             Event::Commit(planner) => self.commit(planner),
+            Event::Refresh(planner) => self.refresh(planner),
             Event::Abandon(planner) => self.abandon(planner),
             Event::Show(look) => self.show(&look),
         }

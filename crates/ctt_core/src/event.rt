@@ -17,6 +17,8 @@ pub enum Event {
     Ask(PlannerNo, Call),
     /// The planner wants his draft accepted.
     Commit(PlannerNo),
+    /// The planner wants his draft brought up to date.
+    Refresh(PlannerNo),
     /// The planner gives his draft up.
     Abandon(PlannerNo),
     /// Somebody looks at the timetable as it stands.
@@ -29,9 +31,10 @@ impl Event {
         ensures { IsTrue result ↔ EventFits instance.now planners self.now }
     {
         match self {
-            Event::Open(planner) | Event::Commit(planner) | Event::Abandon(planner) => {
-                planner.get() < planners
-            }
+            Event::Open(planner)
+            | Event::Commit(planner)
+            | Event::Refresh(planner)
+            | Event::Abandon(planner) => planner.get() < planners,
             Event::Ask(planner, call) => planner.get() < planners && call.fits(instance),
             Event::Show(look) => look.fits(instance),
         }

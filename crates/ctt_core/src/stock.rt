@@ -1,11 +1,11 @@
 //! The timetable of a desk, and what makes opening a draft on it cheap.
 
-ghost use Rattle.std.specs.Prelude.{ℕ, ◌≡◌, ◌==◌, [], length, Some, None, Ok, IfOk, IfSome};
+ghost use Rattle.std.specs.Prelude.{ℕ, ◌≡◌, ◌==◌, [], length, Some, None, Ok, IfOk, OnErr, IfSome};
 ghost use Rattle.std.specs.Option.{option_eq};
 ghost use Rattle.ctt_draft.specs.Drafts.{calls_of, changes, stale};
 ghost use Rattle.ctt_board.specs.Changes.{apply_all, ChangesFit};
 ghost use Rattle.ctt_rules.specs.Penalty.{penalty};
-ghost use Rattle.ctt_draft.specs.DraftValues.{Settles};
+ghost use Rattle.ctt_draft.specs.DraftValues.{refreshed, Settles};
 ghost use Rattle.ctt_core.specs.Stocks.{changed, LeadsFrom, IsMarked};
 
 use ctt_board::{Change, Rooms, Sheet, Timetable};
@@ -135,6 +135,26 @@ impl<'i, S: Sheet<'i>> Stock<'i, S> {
             Some(seen) => draft.stale_after(&self.log[seen..], &self.sheet),
             None => draft.stale(&self.sheet),
         }
+    }
+
+    /// Brings a draft up to date with the timetable, as `Draft::refresh` does. Where nothing was accepted
+    /// since the draft was opened there is nothing to do.
+    pub(crate) fn refresh<K: Keeping>(
+        &self,
+        draft: &mut Draft<'i, S, K>,
+        mark: Option<usize>,
+    ) -> Result<Option<Row>, NoMemory>
+        requires same { draft.old.problem ≡ self.now.problem }
+        requires marked { IsMarked self.now (Some draft.old) mark }
+        ensures ok { IfOk result (λ found. (found ≡ stale draft.old.problem draft.old.base self.now.list (calls_of draft.old.asked)) × (draft.new ≡ refreshed draft.old self.now.list found)) }
+        ensures err { OnErr result (draft.new ≡ draft.old) }
+    {
+        let is_latest = self.is_latest(mark);
+        if is_latest {
+            draft.settles_on_base();
+            return Ok(None);
+        }
+        draft.refresh(&self.sheet)
     }
 
     /// Keeps a sheet on which so many of the changes are made, or drops it where there is no memory.

@@ -64,6 +64,13 @@ pub record IsViewed (i : Problem) (opening : List Placed) (look : Look) (p q : P
   pub planner : Grows i opening p q
   pub tells : told ≡ shown i (after i opening q.front) look
 
+-- the draft d was brought up to date and is e now: its planner has seen more, it goes on from the opening after all that he has seen, where no row differs that it read, and its calls are those from before
+pub record IsRefreshed (i : Problem) (opening : List Placed) (d e : DraftingValue) : Type 0 where
+  pub planner : Grows i opening d.planner e.planner
+  pub fresh : stale i d.base (after i opening e.planner.front) (calls_of d.asked) ≡ None
+  pub base : e.base ≡ after i opening e.planner.front
+  pub asked : e.asked ≡ d.asked
+
 -- the draft d was accepted: its planner is q now, and the receipt shows the front f
 pub record IsAccepted (i : Problem) (opening : List Placed) (d : DraftingValue) (q : PlannerValue) (f : List JournalEntry) : Type 0 where
   pub legal : Legal i opening f

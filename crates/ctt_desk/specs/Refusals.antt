@@ -1,10 +1,12 @@
--- Why a draft is refused, or not opened, or a look not answered.
+-- Why a draft is refused, or not opened or refreshed, or a look not answered.
 use Rattle.std.specs.Prelude.{◌≡◌, List}
 use Rattle.ctt_text.specs.Problem.{Problem}
 use Rattle.ctt_text.specs.declared.placed.Placed.{Placed}
 use Rattle.ctt_desk.specs.Planners.{PlannerValue, DraftingValue, Grows, IsForeign, IsStale}
 use Rattle.ctt_desk.specs.declared.refusal.Refusal.{Refusal}
 use Rattle.ctt_desk.specs.declared.refusal.Refusal.TheVariants.{NotYours, Stale, NoMemory}
+use Rattle.ctt_desk.specs.declared.refusal.RefreshRefusal.{RefreshRefusal}
+use Rattle.ctt_desk.specs.declared.refusal.RefreshRefusal.TheVariants.{NoPlace as NotEntered, NoMemory as NotRefreshed, Stale as Outdated}
 use Rattle.ctt_desk.specs.declared.shared_fault.SharedFault.{SharedFault}
 use Rattle.ctt_desk.specs.declared.shared_fault.SharedFault.TheVariants.{Unlawful, NoPlace, NoMemory as OutOfMemory}
 
@@ -13,6 +15,12 @@ abbrev pub IsRefused : {X Y : Type 0} → Problem → List Placed → DraftingVa
 IsRefused i opening d (NotYours q count) = IsForeign i opening d q count
 IsRefused i opening d (Stale q row) = IsStale i opening d q row
 IsRefused i opening d (NoMemory back) = back ≡ d
+
+-- why a draft was not brought up to date, and what is left
+abbrev pub IsNotRefreshed : {X Y : Type 0} → Problem → List Placed → DraftingValue → RefreshRefusal X Y → Type 0
+IsNotRefreshed i opening d (NotEntered back) = back ≡ d
+IsNotRefreshed i opening d (NotRefreshed back) = back ≡ d
+IsNotRefreshed i opening d (Outdated q row) = IsStale i opening d q row
 
 -- what has become of the planner p where he could not read: without a place he is as before, and where memory was wanted he has seen more
 abbrev pub IsUnread : Problem → List Placed → PlannerValue → PlannerValue → SharedFault → Type 0

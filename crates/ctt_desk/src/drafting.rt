@@ -14,8 +14,8 @@ use ctt_edits::{Call, Reply, laws};
 use ctt_text::{Instance, NoMemory};
 use std::marker::Model;
 
-/// A planner with an open draft. Contracts see the planner, the timetable on which the draft was
-/// opened, and its calls with their replies. Whoever drops it abandons the draft.
+/// A planner with an open draft. Contracts see the planner, the timetable on which the draft
+/// stands, and its calls with their replies. Whoever drops it abandons the draft.
 #[derive(Drop)]
 pub struct Drafting<'i, S: Timetable, J: Naming> {
     pub(crate) planner: Planner<S, J>,

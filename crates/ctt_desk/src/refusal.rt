@@ -1,4 +1,4 @@
-//! Why a commit is refused.
+//! Why a commit is refused, or a refresh.
 
 use crate::drafting::Drafting;
 use crate::naming::Naming;
@@ -17,4 +17,16 @@ pub enum Refusal<'i, S: Timetable, J: Naming> {
     Stale(Planner<S, J>, Row),
     /// There is not enough memory. The draft is as it was.
     NoMemory(Drafting<'i, S, J>),
+}
+
+/// Why a draft was not brought up to date.
+#[derive(Drop)]
+pub enum RefreshRefusal<'i, S: Timetable, J: Naming> {
+    /// `left_right` refused to enter. The draft is as it was.
+    NoPlace(Drafting<'i, S, J>),
+    /// There is not enough memory. The draft is as it was.
+    NoMemory(Drafting<'i, S, J>),
+    /// This row, the least one that was read, has changed since the draft was opened, or last refreshed.
+    /// The draft has ended.
+    Stale(Planner<S, J>, Row),
 }

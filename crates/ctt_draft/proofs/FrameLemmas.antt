@@ -18,7 +18,7 @@ use Rattle.ctt_edits.specs.declared.call.Call.{Call}
 use Rattle.ctt_edits.specs.declared.row.Row.{Row}
 use Rattle.ctt_edits.proofs.CallLemmas.{reply_same, cells_same}
 use Rattle.ctt_edits.proofs.ReadLemmas.{AgreeOn, agree_on}
-use Rattle.ctt_draft.specs.Drafts.{after_call, replies, made, changes, all_read_course, all_read_slot, all_reads, same_lecture, same_list, differs}
+use Rattle.ctt_draft.specs.Drafts.{after_call, replies, made, changes, all_read_course, all_read_slot, all_reads, same_lecture, same_list, differs, stale}
 use Rattle.ctt_draft.specs.Laws.{DraftFrame, SettlingFits}
 use Rattle.ctt_draft.proofs.CallRuns.{lawful_after_call, whole_is, changes_fit}
 
@@ -83,14 +83,18 @@ first_none p (x ∷ xs) h = elim (cases_Bool (p x)) [
   | inr b ↦ (let h' : find p xs ≡ None = rw b at h in (b, first_none p xs h'))
 ]
 
-pub draft_frame : DraftFrame
-draft_frame i base now calls h k f fresh =
+-- a draft that is not stale read rows that are the same
+pub agree_read : (i : Problem) (base now : List Placed) (calls : List Call) → Lawful i base → Lawful i now → stale i base now calls ≡ None → AgreeOn (all_read_course i calls) (all_read_slot calls) now base
+agree_read i base now calls h k fresh =
     let same_row : (r : Row) → differs base now r ≡ false → row r now ≡ row r base = λ r e. sym (same_list_true (row r base) (row r now) (not-false (same_list (row r base) (row r now)) e)) in
     let agree : Agree now base (all_reads i calls) = All-from_recursion (λ r. row r now ≡ row r base) (all_reads i calls)
     (Each-map (λ r. differs base now r ≡ false) (λ r. row r now ≡ row r base) same_row (all_reads i calls) (first_none (differs base now) (all_reads i calls) fresh)) in
-    let on : AgreeOn (all_read_course i calls) (all_read_slot calls) now base = agree_on i (all_read_course i calls) (all_read_slot calls) now base k.timetable h.timetable agree in
+    agree_on i (all_read_course i calls) (all_read_slot calls) now base k.timetable h.timetable agree
+
+pub draft_frame : DraftFrame
+draft_frame i base now calls h k f fresh =
     let same : (replies i now calls ≡ replies i base calls) × (changes i now calls ≡ changes i base calls) =
-    run_same i (all_read_course i calls) (all_read_slot calls) calls now base k h f on (λ c y. y) (λ s y. y) in
+    run_same i (all_read_course i calls) (all_read_slot calls) calls now base k h f (agree_read i base now calls h k fresh) (λ c y. y) (λ s y. y) in
     record { replies_same = same.0; changes_same = same.1; left = whole_is i calls now ∙ ap (λ list. apply_all list now) same.1 }
 
 pub settling_fits : SettlingFits

@@ -9,3 +9,4 @@ pub mod CompareLemmas
 mod TouchedLemmas
 pub mod ReplayLemmas
 pub mod PutBackLemmas
+pub mod RefreshLemmas

@@ -1,5 +1,5 @@
 -- A draft by its value.
-use Rattle.std.specs.Prelude.{ℕ, ◌≡◌, ◌<◌, List, [], ◌∷◌, ◌++◌}
+use Rattle.std.specs.Prelude.{ℕ, ◌≡◌, ◌<◌, List, [], ◌∷◌, ◌++◌, Option, Some, None}
 use Rattle.std.specs.List.{AllByRecursion as Each}
 use Rattle.ctt_text.specs.Problem.{Problem, course_count, slot_count}
 use Rattle.ctt_text.specs.declared.placed.Placed.{Placed}
@@ -9,6 +9,7 @@ use Rattle.ctt_edits.specs.Calls.{CallFits}
 use Rattle.ctt_edits.specs.RowSets.{RowSet, has_course, has_slot}
 use Rattle.ctt_edits.specs.declared.call.Call.{Call}
 use Rattle.ctt_edits.specs.declared.reply.Reply.{Reply}
+use Rattle.ctt_edits.specs.declared.row.Row.{Row}
 use Rattle.ctt_draft.specs.Drafts.{calls_of, replies_in, replies, whole, changes, all_read_course, all_read_slot}
 use Rattle.ctt_board.specs.Changes.{ChangesFit}
 use Rattle.ctt_draft.specs.Laws.{SameOn}
@@ -28,6 +29,11 @@ present d = whole d.problem d.base (calls_of d.asked)
 -- the draft with one more call
 abbrev pub asked_more : DraftValue → Call → Reply → DraftValue
 asked_more d call reply = record { problem = d.problem; base = d.base; asked = d.asked ++ record { call = call; reply = reply } ∷ [] }
+
+-- the draft after a refresh on the timetable t: it goes on from there, or stays what it is where a row is stale
+abbrev pub refreshed : DraftValue → List Placed → Option Row → DraftValue
+refreshed d t None = record { problem = d.problem; base = t; asked = d.asked }
+refreshed d t (Some row) = d
 
 -- the replies are those that the calls get on the base
 pub record IsTold (i : Problem) (base : List Placed) (asked : List Asked) : Type 0 where

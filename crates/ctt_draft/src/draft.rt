@@ -12,9 +12,9 @@ ghost use Rattle.ctt_edits.specs.declared.row.Row.{Row};
 ghost use Rattle.ctt_rules.specs.Hard.{Lawful};
 ghost use Rattle.ctt_draft.specs.Drafts.{calls_of, changes, stale, whole};
 ghost use Rattle.ctt_draft.specs.Replays.{replayed};
-ghost use Rattle.ctt_draft.specs.DraftValues.{present, asked_more, IsTold, Settles};
+ghost use Rattle.ctt_draft.specs.DraftValues.{present, asked_more, refreshed, IsTold, Settles};
 ghost use Rattle.ctt_text.specs.Problem.{course_count, slot_count};
-ghost use Rattle.ctt_board.specs.Changes.{ChangeFits, apply as applied, apply_all};
+ghost use Rattle.ctt_board.specs.Changes.{ChangeFits, apply as applied, apply_all, ChangesFit};
 ghost use Rattle.ctt_draft.specs.Undo.{undo_of, all_noted, AreWithin};
 ghost use Rattle.ctt_draft.specs.Comparisons.{LeavesRest};
 
@@ -63,6 +63,21 @@ fn boxed_copy<'i, S: Sheet<'i>>(alloc: Global, sheet: &S) -> Result<Box<S>, NoMe
     ensures list { IfOk result (λ copy. S.list copy.value ≡ S.list sheet.now) }
 {
     Ok(Box::new(alloc, sheet.copy()?)?)
+}
+
+/// A boxed copy of a sheet, on which changes are made.
+fn changed_copy<'i, S: Sheet<'i>>(
+    alloc: Global,
+    sheet: &S,
+    changes: &[Change],
+) -> Result<Box<S>, NoMemory>
+    requires { ChangesFit (S.problem sheet.now) changes.now (S.list sheet.now) }
+    ensures problem { IfOk result (λ copy. S.problem copy.value ≡ S.problem sheet.now) }
+    ensures list { IfOk result (λ copy. S.list copy.value ≡ apply_all changes.now (S.list sheet.now)) }
+{
+    let mut copy = sheet.copy()?;
+    copy.apply_all(changes, None);
+    Ok(Box::new(alloc, copy)?)
 }
 
 /// What is boxed.
@@ -321,8 +336,24 @@ impl<'i, S: Sheet<'i>, K: Keeping> Draft<'i, S, K> {
         Ok(None)
     }
 
-    /// Computes nothing: its contract says that the timetable at the opening, and the one that the calls
-    /// leave, are lawful.
+    /// Brings the draft up to date: where none of the rows that it read differs on a sheet, that sheet's
+    /// timetable is its base from now on, and its calls stay what they are. Else the draft stays as it was,
+    /// and the least row that differs is told. Where memory is wanted it stays as it was too.
+    pub fn refresh(&mut self, sheet: &S) -> Result<Option<Row>, NoMemory>
+        requires { S.problem sheet.now ≡ self.old.problem }
+        ensures ok { IfOk result (λ found. (found ≡ stale self.old.problem self.old.base (S.list sheet.now) (calls_of self.old.asked)) × (self.new ≡ refreshed self.old (S.list sheet.now) found)) }
+        ensures err { OnErr result (self.new ≡ self.old) }
+    {
+        sheet.lawful();
+        if let Some(row) = self.stale(sheet)? {
+            return Ok(Some(row));
+        }
+        self.present = changed_copy(*self.changes.allocator(), sheet, &self.changes)?;
+        Ok(None)
+    }
+
+    /// Computes nothing: its contract says that the base, and the timetable that the calls leave, are
+    /// lawful.
     pub fn lawful(&self)
         ensures base { Lawful self.now.problem self.now.base }
         ensures present { Lawful self.now.problem (present self.now) }

@@ -16,9 +16,9 @@ use Rattle.ctt_edits.specs.Calls.{CallFits, reply, rows_where}
 use Rattle.ctt_draft.specs.Drafts.{calls_of, whole, all_read_course, all_read_slot, all_reads, differs, stale}
 use Rattle.ctt_draft.proofs.CallRuns.{lawful_whole}
 use Rattle.ctt_core.specs.declared.event.Event.{Event}
-use Rattle.ctt_core.specs.declared.event.Event.TheVariants.{Open, Ask, Commit, Abandon, Show}
+use Rattle.ctt_core.specs.declared.event.Event.TheVariants.{Open, Ask, Commit, Refresh, Abandon, Show}
 use Rattle.ctt_core.specs.declared.journal.JournalEntry.{JournalEntry}
-use Rattle.ctt_core.specs.Runs.{Turn, OpenDraft, commits, draft, accepted_of, now, base, open_answer, ask_answer, verdict, commit_answer, abandon_answer, plain, Right, EventFits, RunFits}
+use Rattle.ctt_core.specs.Runs.{Turn, OpenDraft, commits, draft, accepted_of, now, base, open_answer, ask_answer, verdict, commit_answer, renewal, refresh_answer, abandon_answer, plain, Right, EventFits, RunFits}
 use Rattle.ctt_core.proofs.RunLemmas.{GoodDraft, Good, right_is_good, lawful_after, Each-join, Each-take}
 use Rattle.ctt_core.proofs.JournalLemmas.{FitsShort, IsSmallEntry, all_small, few_commits, history_fits, journal_fits}
 use Rattle.ctt_core.proofs.RunLemmas.{EntryFits as CallsFit}
@@ -66,6 +66,10 @@ module _ (i : Problem) (is : IsProblem i) where
   verdict_fits n None h = tt
   verdict_fits n (Some row) h = h
 
+  renewal_fits : (o : Option Row) → IfSome o (RowFits i) → AnswerFits i (renewal o)
+  renewal_fits None h = tt
+  renewal_fits (Some row) h = h
+
   module _ (t0 : List Placed) (lawful : Lawful i t0) where
     module _ (past : List Turn) (g : Good i t0 (accepted_of past) (commits past) (λ p. draft p past)) where
       lawful_now : Lawful i (now i t0 past)
@@ -83,6 +87,12 @@ module _ (i : Problem) (is : IsProblem i) where
           let calls : List Call = calls_of mine.asked in
           verdict_fits (commits past + 1) (stale i (base i t0 past mine) (now i t0 past) calls) (stale_fits i (base i t0 past mine) (now i t0 past) calls)
 
+      refresh_fits : (o : Option OpenDraft) → AnswerFits i (refresh_answer i t0 past o)
+      refresh_fits None = tt
+      refresh_fits (Some mine) =
+          let calls : List Call = calls_of mine.asked in
+          renewal_fits (stale i (base i t0 past mine) (now i t0 past) calls) (stale_fits i (base i t0 past mine) (now i t0 past) calls)
+
       open_fits : (o : Option OpenDraft) → AnswerFits i (open_answer o)
       open_fits None = tt
       open_fits (Some mine) = tt
@@ -95,6 +105,7 @@ module _ (i : Problem) (is : IsProblem i) where
       plain_fits n (Open p) f = open_fits (draft p past)
       plain_fits n (Ask p call) f = ask_fits call (draft p past) f.1 (g.good p)
       plain_fits n (Commit p) f = commit_fits (draft p past)
+      plain_fits n (Refresh p) f = refresh_fits (draft p past)
       plain_fits n (Abandon p) f = abandon_fits (draft p past)
       plain_fits n (Show look) f = (reply_fits i is (now i t0 past) lawful_now (Looks look) f).0
 

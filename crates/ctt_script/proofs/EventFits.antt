@@ -43,6 +43,7 @@ module _ (i : Problem) (is : IsProblem i) where
   unfolding step_after
   yields_step n p lt step.Open = yields_done JournalFault (EventFits i n) _ lt
   yields_step n p lt step.Commit = yields_done JournalFault (EventFits i n) _ lt
+  yields_step n p lt step.Refresh = yields_done JournalFault (EventFits i n) _ lt
   yields_step n p lt step.Abandon = yields_done JournalFault (EventFits i n) _ lt
   yields_step n p lt (step.Ask k) = yields_bind _ (EventFits i n) _ _ (yields_call_after i is k) (λ c f. yields_done JournalFault (EventFits i n) _ (lt, f))
 

@@ -10,13 +10,13 @@ use Rattle.ctt_draft.specs.DraftValues.{DraftValue}
 use Rattle.ctt_draft.specs.declared.asked.Asked.{Asked}
 use Rattle.ctt_core.specs.Runs.{EventFits, is_commit}
 use Rattle.ctt_core.specs.declared.event.Event.{Event}
-use Rattle.ctt_core.specs.declared.event.Event.TheVariants.{Open, Ask, Commit, Abandon, Show}
+use Rattle.ctt_core.specs.declared.event.Event.TheVariants.{Open, Ask, Commit, Refresh, Abandon, Show}
 use Rattle.ctt_core.specs.declared.answer.Answer.{Answer}
-use Rattle.ctt_core.specs.declared.answer.Answer.TheVariants.{Opened, AlreadyOpen, NoDraft, Replied, Committed, Stale, Abandoned, NoMemory}
+use Rattle.ctt_core.specs.declared.answer.Answer.TheVariants.{Opened, AlreadyOpen, NoDraft, Replied, Committed, Refreshed, Stale, Abandoned, NoMemory}
 use Rattle.ctt_core.specs.declared.journal.JournalEntry.{JournalEntry}
 use Rattle.std.specs.Option.{option_map}
 use Rattle.ctt_core.specs.Laws.{Stands}
-use Rattle.ctt_core.specs.Desks.{DeskValue, draft_at, with_draft, asks, settled, goes_on, Answers, commits_to}
+use Rattle.ctt_core.specs.Desks.{DeskValue, draft_at, with_draft, asks, renews, settled, goes_on, Answers, commits_to}
 use Rattle.ctt_script.specs.WrittenText.{asked_text, entry_text}
 use Rattle.ctt_script.specs.Minutes.{NotesValue, MinutesValue, no_notes, notes_at, noted_call, noted, entry_head, with_entry, with_notes, AreNotes, AreMinutes, IsMinuted, blank}
 
@@ -32,13 +32,18 @@ module _ (i : Problem) where
         (subst (λ m. IfSome (draft_at ds q) (λ d. AreNotes i m d)) (sym (get_or-set_other ns p q n no_notes apart)) (all q))
   ]
 
-  -- planner p has no draft any more
+  -- planner p has another draft of which the same is noted
+  renewed_drafts : (ds : List (Option DraftValue)) (ns : List NotesValue) (p : ℕ) (o : Option DraftValue) → p < length ds
+      → ((q : ℕ) → IfSome (draft_at ds q) (λ d. AreNotes i (notes_at ns q) d)) → IfSome o (λ d. AreNotes i (notes_at ns p) d) → (q : ℕ) → IfSome (draft_at (set ds p o) q) (λ d. AreNotes i (notes_at ns q) d)
+  renewed_drafts ds ns p o in_drafts all one q = elim (cases_eq q p) [
+    | inl same ↦ subst (λ k. IfSome (draft_at (set ds p o) k) (λ d. AreNotes i (notes_at ns k) d)) (sym same) (subst (λ x. IfSome x (λ d. AreNotes i (notes_at ns p) d)) (sym (get_or-set_same ds p o None in_drafts)) one)
+    | inr apart ↦ subst (λ x. IfSome x (λ d. AreNotes i (notes_at ns q) d)) (sym (get_or-set_other ds p q o None apart)) (all q)
+  ]
+
+  -- or none any more
   fewer_drafts : (ds : List (Option DraftValue)) (ns : List NotesValue) (p : ℕ) → p < length ds
       → ((q : ℕ) → IfSome (draft_at ds q) (λ d. AreNotes i (notes_at ns q) d)) → (q : ℕ) → IfSome (draft_at (set ds p None) q) (λ d. AreNotes i (notes_at ns q) d)
-  fewer_drafts ds ns p in_drafts all q = elim (cases_eq q p) [
-    | inl same ↦ subst (λ k. IfSome (draft_at (set ds p None) k) (λ d. AreNotes i (notes_at ns k) d)) (sym same) (subst (λ x. IfSome x (λ d. AreNotes i (notes_at ns p) d)) (sym (get_or-set_same ds p None None in_drafts)) tt)
-    | inr apart ↦ subst (λ x. IfSome x (λ d. AreNotes i (notes_at ns q) d)) (sym (get_or-set_other ds p q None None apart)) (all q)
-  ]
+  fewer_drafts ds ns p in_drafts all = renewed_drafts ds ns p None in_drafts all tt
 
   -- a call more
   call_noted : (o : Option DraftValue) (n : NotesValue) (call : Call) (told : Reply) → IfSome o (λ d. AreNotes i n d) → IfSome (asks call told o) (λ d. AreNotes i (noted_call i call told n) d)
@@ -57,6 +62,19 @@ module _ (i : Problem) where
       entries = h.entries;
       count = h.count;
       drafts = fewer_drafts v.drafts m.drafts p within h.drafts;
+    }
+
+    -- a draft that goes on from another base has the calls that it had
+    same_notes : (n : NotesValue) (o : Option DraftValue) → IfSome o (λ d. AreNotes i n d) → IfSome (renews v.list o) (λ d. AreNotes i n d)
+    same_notes n None h = tt
+    same_notes n (Some d) h = record { text = h.text; calls = h.calls }
+
+    same_calls : (p : ℕ) → p < length v.drafts → AreMinutes i (with_draft p (renews v.list (draft_at v.drafts p)) v) m
+    same_calls p within = record {
+      planners = h.planners ∙ sym (length-set v.drafts p (renews v.list (draft_at v.drafts p)));
+      entries = h.entries;
+      count = h.count;
+      drafts = renewed_drafts v.drafts m.drafts p (renews v.list (draft_at v.drafts p)) within h.drafts (same_notes (notes_at m.drafts p) (draft_at v.drafts p) (h.drafts p));
     }
 
     another_draft : (p : ℕ) (o : Option DraftValue) (n : NotesValue) → p < length v.drafts → IfSome o (λ d. AreNotes i n d) → AreMinutes i (with_draft p o v) (with_notes p n m)
@@ -95,11 +113,14 @@ module _ (i : Problem) where
     go_on (Ask p call) (Replied told) fits right = another_draft p (asks call told (draft_at v.drafts p)) (noted_call i call told (notes_at m.drafts p)) fits.0 (call_noted (draft_at v.drafts p) (notes_at m.drafts p) call told (h.drafts p))
     go_on (Commit p) (Committed n) fits right = entry_noted p n (draft_at v.drafts p) refl fits (has_draft p n (draft_at v.drafts p) refl right)
     go_on (Commit p) (Stale row) fits right = no_draft_more p fits
+    go_on (Refresh p) Refreshed fits right = same_calls p fits
+    go_on (Refresh p) (Stale row) fits right = no_draft_more p fits
     go_on (Abandon p) Abandoned fits right = no_draft_more p fits
     go_on (Open p) AlreadyOpen fits right = h
     go_on (Open p) NoDraft fits right = h
     go_on (Open p) (Replied told) fits right = h
     go_on (Open p) (Committed n) fits right = h
+    go_on (Open p) Refreshed fits right = h
     go_on (Open p) (Stale row) fits right = h
     go_on (Open p) Abandoned fits right = h
     go_on (Open p) NoMemory fits right = h
@@ -107,6 +128,7 @@ module _ (i : Problem) where
     go_on (Ask p call) AlreadyOpen fits right = h
     go_on (Ask p call) NoDraft fits right = h
     go_on (Ask p call) (Committed n) fits right = h
+    go_on (Ask p call) Refreshed fits right = h
     go_on (Ask p call) (Stale row) fits right = h
     go_on (Ask p call) Abandoned fits right = h
     go_on (Ask p call) NoMemory fits right = h
@@ -114,13 +136,22 @@ module _ (i : Problem) where
     go_on (Commit p) AlreadyOpen fits right = h
     go_on (Commit p) NoDraft fits right = h
     go_on (Commit p) (Replied told) fits right = h
+    go_on (Commit p) Refreshed fits right = h
     go_on (Commit p) Abandoned fits right = h
     go_on (Commit p) NoMemory fits right = h
+    go_on (Refresh p) Opened fits right = h
+    go_on (Refresh p) AlreadyOpen fits right = h
+    go_on (Refresh p) NoDraft fits right = h
+    go_on (Refresh p) (Replied told) fits right = h
+    go_on (Refresh p) (Committed n) fits right = h
+    go_on (Refresh p) Abandoned fits right = h
+    go_on (Refresh p) NoMemory fits right = h
     go_on (Abandon p) Opened fits right = h
     go_on (Abandon p) AlreadyOpen fits right = h
     go_on (Abandon p) NoDraft fits right = h
     go_on (Abandon p) (Replied told) fits right = h
     go_on (Abandon p) (Committed n) fits right = h
+    go_on (Abandon p) Refreshed fits right = h
     go_on (Abandon p) (Stale row) fits right = h
     go_on (Abandon p) NoMemory fits right = h
     go_on (Show look) Opened fits right = h
@@ -128,6 +159,7 @@ module _ (i : Problem) where
     go_on (Show look) NoDraft fits right = h
     go_on (Show look) (Replied told) fits right = h
     go_on (Show look) (Committed n) fits right = h
+    go_on (Show look) Refreshed fits right = h
     go_on (Show look) (Stale row) fits right = h
     go_on (Show look) Abandoned fits right = h
     go_on (Show look) NoMemory fits right = h

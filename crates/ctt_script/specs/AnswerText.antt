@@ -7,7 +7,7 @@ use Rattle.ctt_edits.specs.declared.row.Row.{Row}
 use Rattle.ctt_edits.specs.declared.row.Row.TheVariants.{Course as CourseRow, Slot as SlotRow}
 use Rattle.ctt_core.specs.Runs.{Turn, plain}
 use Rattle.ctt_core.specs.declared.answer.Answer.{Answer}
-use Rattle.ctt_core.specs.declared.answer.Answer.TheVariants.{Opened, AlreadyOpen, NoDraft, Replied, Committed, Stale, Abandoned, NoMemory}
+use Rattle.ctt_core.specs.declared.answer.Answer.TheVariants.{Opened, AlreadyOpen, NoDraft, Replied, Committed, Refreshed, Stale, Abandoned, NoMemory}
 use Rattle.ctt_core.specs.declared.event.Event.{Event}
 use Rattle.ctt_script.specs.ScriptText.{script}
 use Rattle.ctt_script.specs.WrittenText.{line}
@@ -24,6 +24,7 @@ answer_words i NoDraft = codes "no" ∷ codes "draft" ∷ []
 answer_words i (Replied r) = reply_words i r
 answer_words i (Committed n) = codes "committed" ∷ decimal n ∷ []
 answer_words i (Stale row) = codes "stale" ∷ row_words i row
+answer_words i Refreshed = codes "refreshed" ∷ []
 answer_words i Abandoned = codes "abandoned" ∷ []
 answer_words i NoMemory = codes "no" ∷ codes "memory" ∷ []
 

@@ -9,7 +9,7 @@ use Rattle.ctt_script.specs.declared.kinds.LookKind.TheVariants.{Course, Slot, T
 use Rattle.ctt_script.specs.declared.kinds.CallKind.{CallKind}
 use Rattle.ctt_script.specs.declared.kinds.CallKind.TheVariants.{Edit, Look}
 use Rattle.ctt_script.specs.declared.kinds.StepKind.{StepKind}
-use Rattle.ctt_script.specs.declared.kinds.StepKind.TheVariants.{Open, Commit, Abandon, Ask}
+use Rattle.ctt_script.specs.declared.kinds.StepKind.TheVariants.{Open, Commit, Refresh, Abandon, Ask}
 use Rattle.ctt_script.specs.declared.kinds.ReplyKind.{ReplyKind}
 use Rattle.ctt_script.specs.declared.kinds.ReplyKind.TheVariants.{Done, Refused, Lectures, Costs, Price as Priced}
 use Rattle.ctt_script.specs.declared.kinds.FaultKind.{FaultKind}
@@ -47,6 +47,7 @@ unfoldable pub step_kind : List ℕ → Option StepKind
 step_kind word =
     if bytes_eq word (codes "open") then Some Open
     else if bytes_eq word (codes "commit") then Some Commit
+    else if bytes_eq word (codes "refresh") then Some Refresh
     else if bytes_eq word (codes "abandon") then Some Abandon
     else option_map Ask (call_kind word)
 

@@ -47,6 +47,7 @@ pub fn write_answer(
             text.push_str("committed")?;
             end_with_number(text, *number)
         }
+        Answer::Refreshed => text.push_str("refreshed\n"),
         Answer::Stale(row) => write_stale(text, instance, row),
         Answer::Abandoned => text.push_str("abandoned\n"),
         Answer::NoMemory => text.push_str("no memory\n"),

@@ -38,6 +38,7 @@ pub(crate) enum CallKind {
 pub(crate) enum StepKind {
     Open,
     Commit,
+    Refresh,
     Abandon,
     Ask(CallKind),
 }
@@ -151,6 +152,8 @@ pub(crate) fn step_kind(word: &str) -> Option<StepKind>
         Some(StepKind::Open)
     } else if is_word(word, "commit") {
         Some(StepKind::Commit)
+    } else if is_word(word, "refresh") {
+        Some(StepKind::Refresh)
     } else if is_word(word, "abandon") {
         Some(StepKind::Abandon)
     } else {

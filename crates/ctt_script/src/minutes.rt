@@ -171,7 +171,7 @@ impl Minutes {
             }
             Event::Ask(planner, call) => self.note_ask(instance, planner, &call, answer),
             Event::Commit(planner) => self.note_commit(planner, answer),
-            Event::Abandon(_) | Event::Show(_) => Ok(()),
+            Event::Refresh(_) | Event::Abandon(_) | Event::Show(_) => Ok(()),
         }
     }
 

@@ -78,6 +78,7 @@ fn read_step_after(
     match kind {
         StepKind::Open => Ok(Event::Open(planner)),
         StepKind::Commit => Ok(Event::Commit(planner)),
+        StepKind::Refresh => Ok(Event::Refresh(planner)),
         StepKind::Abandon => Ok(Event::Abandon(planner)),
         StepKind::Ask(kind) => Ok(Event::Ask(planner, read_call_after(reader, instance, kind)?)),
     }

@@ -8,7 +8,7 @@ ghost use Rattle.ctt_script.specs.CrewText.{ToldFits, told_unread};
 
 use ctt_board::{Sheet, Timetable};
 use ctt_core::{Answer, Event};
-use ctt_desk::{Drafting, Naming, Planner, Refusal, SharedDesk, SharedFault};
+use ctt_desk::{Drafting, Naming, Planner, RefreshRefusal, Refusal, SharedDesk, SharedFault};
 use ctt_edits::{Call, Look};
 use std::sync::Wait;
 
@@ -98,6 +98,25 @@ impl<'i, S: Sheet<'i>, J: Naming> Seat<'i, S, J> {
         }
     }
 
+    /// Brings the draft up to date.
+    fn refresh(self) -> (Self, Told)
+        ensures { ToldFits J.problem result.1 }
+    {
+        match self {
+            Seat::Free(planner) => (Seat::Free(planner), Told::Answer(Answer::NoDraft)),
+            Seat::Drafting(drafting) => match drafting.refresh() {
+                Ok(drafting) => (Seat::Drafting(drafting), Told::Answer(Answer::Refreshed)),
+                Err(RefreshRefusal::Stale(planner, row)) => {
+                    (Seat::Free(planner), Told::Answer(Answer::Stale(row)))
+                }
+                Err(RefreshRefusal::NoPlace(drafting)) => (Seat::Drafting(drafting), Told::NoPlace),
+                Err(RefreshRefusal::NoMemory(drafting)) => {
+                    (Seat::Drafting(drafting), Told::Answer(Answer::NoMemory))
+                }
+            },
+        }
+    }
+
     /// Gives the draft up.
     fn abandon(self) -> (Self, Told)
         ensures { ToldFits J.problem result.1 }
@@ -147,6 +166,7 @@ impl<'i, S: Sheet<'i>, J: Naming> Seat<'i, S, J> {
                 (seat, told)
             }
             Event::Commit(_) => self.commit(rt, desk),
+            Event::Refresh(_) => self.refresh(),
             Event::Abandon(_) => self.abandon(),
             Event::Show(look) => self.show(&look),
         }

@@ -13,7 +13,8 @@ use crate::tests::SMALL;
 use ctt_board::{GridSheet, ListSheet, Sheet, Timetable};
 use ctt_core::{JournalEntry, PlannerNo};
 use ctt_desk::{
-    Closed, Drafting, Named, Naming, Opened, Planner, Receipt, Refusal, SharedDesk, SharedFault,
+    Closed, Drafting, Named, Naming, Opened, Planner, Receipt, RefreshRefusal, Refusal, SharedDesk,
+    SharedFault,
 };
 use ctt_edits::{Call, Edit, EditFault, Look, Reply, Row};
 use ctt_rules::Cost;
@@ -179,6 +180,47 @@ fn is_late<'i, S: Sheet<'i>, J: Naming, R: Wait + Abort>(
     Some(planner)
 }
 
+/// The row for which a refresh is refused.
+fn outdated<'i, S: Sheet<'i>, J: Naming>(late: Drafting<'i, S, J>) -> Option<(Planner<S, J>, Row)> {
+    match late.refresh() {
+        Ok(_late) => None,
+        Err(RefreshRefusal::Stale(planner, row)) => Some((planner, row)),
+        Err(RefreshRefusal::NoPlace(_late)) => None,
+        Err(RefreshRefusal::NoMemory(_late)) => None,
+    }
+}
+
+/// Brings a draft up to date that is stale at the slot of a lecture. Its planner has then seen one draft, and
+/// committed none.
+fn is_outdated<'i, S: Sheet<'i>, J: Naming, R: Abort>(
+    rt: &R,
+    late: Drafting<'i, S, J>,
+    lecture: &Placed,
+) -> Option<Planner<S, J>> {
+    let (planner, row) = outdated(late)?;
+    assert_eq!(rt; row, Row::Slot(lecture.slot));
+    assert_eq!(rt; planner.committed(), 0);
+    assert_eq!(rt; planner.seen(), 1);
+    Some(planner)
+}
+
+/// Brings a draft up to date, sees a lecture in it, and commits it as the second one.
+fn goes_on<'i, S: Sheet<'i>, J: Naming, R: Wait + Abort>(
+    rt: &R,
+    desk: &SharedDesk<S, J>,
+    drafting: Drafting<'i, S, J>,
+    lecture: &Placed,
+) -> Option<Planner<S, J>> {
+    let mut drafting = drafting.refresh().ok()?;
+    let told = ask(&mut drafting, Call::Look(Look::Slot(lecture.slot)))?;
+    assert!(rt; shows(&told, lecture));
+    let (planner, receipt) = drafting.commit(rt, desk).ok()?;
+    assert_eq!(rt; receipt.number(), 2);
+    assert_eq!(rt; planner.seen(), 2);
+    assert_eq!(rt; planner.committed(), 1);
+    Some(planner)
+}
+
 /// The next planner looks at a slot in a draft, which is left open.
 fn looks_next<'i, S: Sheet<'i>, J: Naming>(
     waiting: &mut Vec<Planner<S, J>>,
@@ -214,8 +256,16 @@ fn sees_next<'i, S: Sheet<'i>, J: Naming, R: Abort>(
     done.push(planner).ok()
 }
 
-/// A planner who has looked at a slot is stale when another one has placed a lecture there. Two more,
-/// who learnt nothing, see it.
+/// The next planner places geo in a draft, which is left open.
+fn places_next<'i, S: Sheet<'i>, J: Naming>(
+    waiting: &mut Vec<Planner<S, J>>,
+) -> Option<Drafting<'i, S, J>> {
+    let (ahead, _done) = drafted(waiting.pop()?, Call::Edit(place(&geo_second())))?;
+    Some(ahead)
+}
+
+/// A planner who has looked at a slot is stale when another one has placed a lecture there, at a commit and
+/// at a refresh. Two more, who learnt nothing, see it, and one who had placed geo before goes on with it.
 fn turns<'i, S: Sheet<'i>, J: Naming, R: Wait + Abort>(
     rt: &R,
     desk: &SharedDesk<S, J>,
@@ -225,35 +275,40 @@ fn turns<'i, S: Sheet<'i>, J: Naming, R: Wait + Abort>(
     let top = top_third();
     let late = looks_next(waiting, top.slot)?;
     let small = late.instance();
+    let behind = looks_next(waiting, top.slot)?;
+    let ahead = places_next(waiting)?;
     commits_next(rt, desk, waiting, done, &top)?;
     done.push(is_late(rt, desk, late, &top)?).ok()?;
+    done.push(is_outdated(rt, behind, &top)?).ok()?;
     sees_next(rt, small, waiting, done, &top)?;
-    sees_next(rt, small, waiting, done, &top)
+    sees_next(rt, small, waiting, done, &top)?;
+    done.push(goes_on(rt, desk, ahead, &top)?).ok()
 }
 
-/// Whether a closed desk has the one entry of planner 2, and its timetable.
-fn is_of_one<S: Timetable, J: Naming>(closed: &Closed<S, J>) -> bool {
+/// Whether a closed desk has the entries of planner 2, and then of planner 3, and their timetable.
+fn is_of_two<S: Timetable, J: Naming>(closed: &Closed<S, J>) -> bool {
     let top = top_third();
     match closed.journal() {
-        [entry] => {
-            is_entry(entry, PlannerNo::new(2), place(&top))
-                && has_list(closed, &[top])
-                && closed.cost() == cost_of_one()
+        [first, second] => {
+            is_entry(first, PlannerNo::new(2), place(&top))
+                && second.planner == PlannerNo::new(3)
+                && has_list(closed, &[geo_second(), top])
+                && closed.cost() == cost_of_two()
         }
         _ => false,
     }
 }
 
-fn cost_of_one() -> Cost {
+fn cost_of_two() -> Cost {
     Cost {
         capacity: 10,
-        days: 15,
-        compactness: 0,
+        days: 10,
+        compactness: 2,
         stability: 0,
     }
 }
 
-/// One draft is accepted, and another is stale; `close` is handed all planners, and its journal begins with
+/// Two drafts are accepted, and two are stale; `close` is handed all planners, and its journal begins with
 /// what each of them has seen.
 fn every_commit<'i, J: Naming, R: Wait + Abort>(
     rt: &R,
@@ -277,7 +332,7 @@ fn every_commit<'i, J: Naming, R: Wait + Abort>(
         .close(rt, done.as_mut_slice())
         .or(Err("not closed with all"))?;
     turned.ok_or("a turn failed")?;
-    assert!(rt; is_of_one(&closed));
+    assert!(rt; is_of_two(&closed));
     Ok(())
 }
 
@@ -287,7 +342,7 @@ fn every_commit_on_list<'i, R: Wait + Abort>(
     small: &'i Instance,
 ) -> Result<(), Fail> {
     let opened = empty::<ListSheet>(alloc, small).ok_or("no opening")?;
-    every_commit::<Brand, R>(rt, alloc, opened, 4)
+    every_commit::<Brand, R>(rt, alloc, opened, 6)
 }
 
 /// A planner who has committed a draft, with the receipt.

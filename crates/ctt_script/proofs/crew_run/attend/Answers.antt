@@ -4,7 +4,7 @@ use Rattle.ctt_text.specs.Problem.{Problem}
 use Rattle.ctt_edits.specs.Calls.{CallFits}
 use Rattle.ctt_core.specs.Runs.{EventFits}
 use Rattle.ctt_core.specs.declared.event.Event.{Event}
-use Rattle.ctt_core.specs.declared.event.Event.TheVariants.{Open, Ask, Commit, Abandon, Show}
+use Rattle.ctt_core.specs.declared.event.Event.TheVariants.{Open, Ask, Commit, Refresh, Abandon, Show}
 use Rattle.ctt_script.specs.CrewText.{call_in}
 use Rattle.ctt_script.proofs.crew_run.attend.Goals as goal
 
@@ -14,6 +14,7 @@ call_fits i n None h = tt
 call_fits i n (Some (Open p)) h = tt
 call_fits i n (Some (Ask p call)) h = h.1
 call_fits i n (Some (Commit p)) h = tt
+call_fits i n (Some (Refresh p)) h = tt
 call_fits i n (Some (Abandon p)) h = tt
 call_fits i n (Some (Show look)) h = tt
 

@@ -1,6 +1,6 @@
 use Rattle.std.proofs.Common.{rules, length, subst}
 use Rattle.ctt_core.specs.Runs.{EventFits}
-use Rattle.ctt_core.specs.declared.event.Event.TheVariants.{Open, Ask, Commit, Abandon, Show}
+use Rattle.ctt_core.specs.declared.event.Event.TheVariants.{Open, Ask, Commit, Refresh, Abandon, Show}
 use Rattle.ctt_core.proofs.desk.Desk.answer.Goals as goal
 
 pub open-requires : goal.open-requires
@@ -18,6 +18,11 @@ ask-requires g c κs =
 pub commit-requires : goal.commit-requires
 commit-requires g c κs =
     let fits : EventFits c.args.self.now.problem (length c.args.self.now.drafts) (Commit c.in-Commit.planner) = subst (EventFits c.args.self.now.problem (length c.args.self.now.drafts)) c.in-Commit.is c.requires in
+    search rules
+
+pub refresh-requires : goal.refresh-requires
+refresh-requires g c κs =
+    let fits : EventFits c.args.self.now.problem (length c.args.self.now.drafts) (Refresh c.in-Refresh.planner) = subst (EventFits c.args.self.now.problem (length c.args.self.now.drafts)) c.in-Refresh.is c.requires in
     search rules
 
 pub abandon-requires : goal.abandon-requires

@@ -1,0 +1,111 @@
+//! Refreshes.
+
+ghost use Rattle.std.specs.Prelude.{◌≡◌, IfOk, IfErr, OnErr};
+ghost use Rattle.ctt_core.specs.Runs.{after};
+ghost use Rattle.ctt_draft.specs.Drafts.{calls_of, stale};
+ghost use Rattle.ctt_draft.specs.DraftValues.{refreshed};
+ghost use Rattle.ctt_desk.specs.Planners.{IsRefreshed};
+ghost use Rattle.ctt_desk.specs.Refusals.{IsNotRefreshed};
+
+use crate::drafting::Drafting;
+use crate::front::Front;
+use crate::kept::Kept;
+use crate::naming::Naming;
+use crate::planner::Planner;
+use crate::refusal::RefreshRefusal;
+use crate::shown::{Shown, enter};
+use ctt_board::{Sheet, Timetable};
+use ctt_draft::{Draft, KeepAll};
+use ctt_edits::Row;
+use ctt_text::NoMemory;
+
+/// Brings a draft up to date with a published timetable. Where that is the one behind the history on which the draft
+/// stands there is nothing to do.
+fn refresh_on<'i, S: Sheet<'i>, J: Naming>(
+    draft: &mut Draft<'i, S, KeepAll>,
+    front: &Front<J>,
+    shown: &Shown<S, J>,
+) -> Result<Option<Row>, NoMemory>
+    requires problem { draft.old.problem ≡ J.problem }
+    requires base { draft.old.base ≡ after J.problem J.opening front.now }
+    ensures ok { IfOk result (λ found. (found ≡ stale J.problem draft.old.base shown.now.list (calls_of draft.old.asked)) × (draft.new ≡ refreshed draft.old shown.now.list found)) }
+    ensures err { OnErr result (draft.new ≡ draft.old) }
+{
+    if front.is(&shown.front) {
+        draft.settles_on_base();
+        return Ok(None);
+    }
+    draft.refresh(&shown.sheet)
+}
+
+impl<'i, S: Sheet<'i>, J: Naming> Drafting<'i, S, J> {
+    /// Brings the draft up to date: it goes on from the timetable that was published last, which the planner
+    /// has then seen, where no row that it read has changed since it was opened or last refreshed.
+    pub fn refresh(self) -> Result<Self, RefreshRefusal<'i, S, J>>
+        ensures ok { IfOk result (IsRefreshed J.problem J.opening self.entry) }
+        ensures err { IfErr result (IsNotRefreshed J.problem J.opening self.entry) }
+    {
+        let Drafting { planner, mut draft } = self;
+        let Planner {
+            alloc,
+            number,
+            committed,
+            front,
+            place,
+            kept,
+        } = planner;
+        match enter(place.unwrap(), &front) {
+            Err(place) => {
+                let planner = Planner {
+                    alloc,
+                    number,
+                    committed,
+                    front,
+                    place: Some(place),
+                    kept,
+                };
+                Err(RefreshRefusal::NoPlace(Drafting { planner, draft }))
+            }
+            Ok((visit, seen)) => {
+                let found = refresh_on(&mut draft, &front, visit.get());
+                let place = Some(visit.leave());
+                match found {
+                    Ok(None) => {
+                        let planner = Planner {
+                            alloc,
+                            number,
+                            committed,
+                            front: seen,
+                            place,
+                            kept,
+                        };
+                        Ok(Drafting { planner, draft })
+                    }
+                    Ok(Some(row)) => {
+                        let kept = Kept::of_base(draft, front);
+                        let planner = Planner {
+                            alloc,
+                            number,
+                            committed,
+                            front: seen,
+                            place,
+                            kept: None,
+                        };
+                        Err(RefreshRefusal::Stale(planner.keeping(kept), row))
+                    }
+                    Err(_) => {
+                        let planner = Planner {
+                            alloc,
+                            number,
+                            committed,
+                            front,
+                            place,
+                            kept,
+                        };
+                        Err(RefreshRefusal::NoMemory(Drafting { planner, draft }))
+                    }
+                }
+            }
+        }
+    }
+}
