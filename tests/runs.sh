@@ -109,8 +109,9 @@ Arguments:
   <SOLUTION>  The file of the solution
 
 Options:
-      --json  Print the report as JSON
-  -h, --help  Print help
+      --barred <FILE>  The file of the rooms that are barred for courses; without it none is
+      --json           Print the report as JSON
+  -h, --help           Print help
 '
 run_help="Run a script of planners' steps and print the answers
 
@@ -121,6 +122,7 @@ Arguments:
   <SCRIPT>    The file of the planners' steps
 
 Options:
+      --barred <FILE>     The file of the rooms that are barred for courses; without it none is
       --start <SOLUTION>  The file of the opening timetable; without it the desk opens empty
       --journal <FILE>    The file to write with the drafts that were accepted
   -h, --help              Print help
@@ -134,19 +136,21 @@ Arguments:
   <JOURNAL>   The file of the accepted drafts
 
 Options:
+      --barred <FILE>     The file of the rooms that are barred for courses; without it none is
       --start <SOLUTION>  The file of the opening timetable; without it the desk opens empty
   -h, --help              Print help
 '
 crew_help="Run scripts at once, each by a planner on a thread, and print the answers
 
-Usage: timedesk crew <INSTANCE> <SCRIPT>...
+Usage: timedesk crew [OPTIONS] <INSTANCE> <SCRIPT>...
 
 Arguments:
   <INSTANCE>   The file of the instance
   <SCRIPT>...  The files of the planners' steps, one for each planner, at most 64
 
 Options:
-  -h, --help  Print help
+      --barred <FILE>  The file of the rooms that are barred for courses; without it none is
+  -h, --help           Print help
 "
 no_words="error: 'timedesk' requires a subcommand but one was not provided
   [subcommands: check, run, audit, crew, help]
@@ -309,6 +313,55 @@ refuses_solution 'alg A 65536 0' 'S6 3'
 refuses_solution 'alg A 0 3' 'S7 4'
 refuses_solution 'alg A 1 65536' 'S7 4'
 refuses_solution $'nul A 0 0 \xff' 'S1 10'
+# barred rooms: a report with one lecture in a barred room, one with none, and each fault at its word
+barred_report='instance Small
+lectures 0
+conflicts 0
+availability 0
+occupancy 0
+barred 1
+capacity 15
+days 0
+compactness 4
+stability 1
+total 20
+lawful no
+complete no
+'
+barred_json='{"availability":0,"barred":1,"capacity":15,"compactness":4,"complete":false,"conflicts":0,"days":0,"instance":"Small","lawful":false,"lectures":0,"occupancy":0,"stability":1,"total":20}
+'
+echo 'Barred: 1 alg A END. and more' >barred
+run 'a lecture in a barred room' 0 "$barred_report" '' check small.ctt s.sol --barred barred
+run 'a lecture in a barred room, as JSON' 0 "$barred_json" '' check small.ctt s.sol --json --barred barred
+run 'an opening in a barred room' 1 '' 'timedesk: opening 1 barred
+' run small.ctt row9.txt --start s.sol --barred barred
+echo 'Barred: 2 top A top A END.' >barred
+run 'barred rooms without a lecture' 0 "${report/occupancy 0/occupancy 0
+barred 0}" '' check small.ctt s.sol --barred barred
+echo 'Barred: 0 END.' >barred
+run 'no barred room' 0 "$report" '' check small.ctt s.sol --barred barred
+run 'no barred room, as JSON' 0 "$json" '' check small.ctt s.sol --json --barred barred
+# Reads a text of barred rooms against its fault.
+refuses_barred() {
+    printf '%s' "$1" >told.barred
+    run "the barred rooms $1" 1 '' "timedesk: barred $2"$'\n' check small.ctt s.sol --barred told.barred
+}
+refuses_barred '' 'B2 1'
+refuses_barred 'Barred: 1 top' 'B2 4'
+refuses_barred 'Barred: 2 top A END.' 'B6 5'
+refuses_barred 'Barred: 1 top C END.' 'B7 4'
+refuses_barred 'Barred: 2000001' 'B5 2'
+refuses_barred 'Barred: 1000000000' 'B4 2'
+refuses_barred 'Barred: x' 'B4 2'
+refuses_barred 'barred: 0 END.' 'B3 1'
+refuses_barred 'Barred: 0 END' 'B3 3'
+refuses_barred $'Barred: 0 END. \xff' 'B1 15'
+run 'barred rooms are read before the solution' 1 '' 'timedesk: barred B1 15
+' check small.ctt none.sol --barred told.barred
+run 'barred rooms of an audit' 1 '' 'timedesk: barred B1 15
+' audit small.ctt none --barred told.barred
+run 'barred rooms of a crew' 1 '' 'timedesk: barred B1 15
+' crew small.ctt none --barred told.barred
 # other layouts
 sed -e 's/: 3/: 0003/' -e 's/ /\t/g' -e 's/$/\r\n/' small.ctt >told.ctt
 printf 'and more \xc3\xa4' >>told.ctt
@@ -560,6 +613,59 @@ END.
 0 refresh -> refreshed
 0 commit -> committed 4
 DAY
+echo 'Barred: 1 top A END.' >top_a
+day 'barred edits' '--start s0.sol --barred top_a' 'journal 1
+entry 0 4
+place top A 0 1
+refused barred
+place top A 0 0
+refused barred
+place top B 0 0
+refused clash alg
+place geo A 0 0
+refused full
+END.
+' <<'DAY'
+0 open -> opened
+0 place top A 0 1 -> refused barred
+0 place top A 0 0 -> refused barred
+0 place top B 0 0 -> refused clash alg
+0 place geo A 0 0 -> refused full
+0 commit -> committed 1
+DAY
+day 'barred swaps' '--start s.sol --barred top_a' 'journal 1
+entry 0 5
+swap geo 0 1 top 0 2
+refused barred
+price reroom top A 0 2
+refused barred
+move top 0 2 B 0 1
+done
+swap top 0 1 geo 0 1
+refused barred
+swap geo 0 1 top 0 1
+refused barred
+END.
+' <<'DAY'
+0 open -> opened
+0 swap geo 0 1 top 0 2 -> refused barred
+0 price reroom top A 0 2 -> refused barred
+0 move top 0 2 B 0 1 -> done
+0 swap top 0 1 geo 0 1 -> refused barred
+0 swap geo 0 1 top 0 1 -> refused barred
+0 commit -> committed 1
+DAY
+day 'barred on an empty desk' '--barred top_a' 'journal 0
+END.
+' <<'DAY'
+0 open -> opened
+0 place geo A 0 0 -> refused unavailable
+0 place top A 0 1 -> refused barred
+0 place top B 0 1 -> done
+DAY
+echo 'journal 1 entry 0 1 place top A 0 1 done END.' >told
+run 'an old journal' 0 $'agrees\n' '' audit small.ctt told
+run 'an old journal with barred rooms' 1 $'differs 1 1\n' '' audit small.ctt told --barred top_a
 day 'abandon' '' 'journal 0
 END.
 ' <<'DAY'

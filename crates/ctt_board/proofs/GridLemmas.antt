@@ -150,7 +150,7 @@ module _ (i : Problem) (t : List Placed) (s : ℕ) (h : IsTimetable i t) where
 
 -- the empty timetable
 pub none_lawful : (i : Problem) → Lawful i []
-none_lawful i = record { timetable = record { ascending = tt; fits = tt }; conflict_free = tt; available = tt; rooms_apart = tt; few = λ c. omega arith }
+none_lawful i = record { timetable = record { ascending = tt; fits = tt }; conflict_free = tt; allowed = tt; rooms_apart = tt; few = λ c. omega arith }
 
 pub no_rooms : (i : Problem) (g : Grid (Option ℕ)) → HasSize g (course_count i) (slot_count i) → ((c s : ℕ) → c < course_count i → s < slot_count i → at g c s None ≡ None) → AreRooms i [] g
 no_rooms i g size none = record { size = size; rooms = none }

@@ -3,11 +3,11 @@ use Rattle.std.proofs.Common.{is_some, ◌≡◌, ℕ, suc, ◌<◌, ◌≤◌, 
 use Rattle.std.specs.List.{filter, AllByRecursion as Each}
 use Rattle.std.proofs.lemmas.Bool.Decides.{nat_tests}
 use Rattle.std.proofs.lemmas.Bool.{cases_Bool, cases_eq, eq-eqb, ne_eqb}
-use Rattle.ctt_text.specs.Problem.{Problem, course_of, clash, is_unavailable}
+use Rattle.ctt_text.specs.Problem.{Problem, course_of, clash}
 use Rattle.ctt_text.specs.Timetable.{before, Ascending, Fits, course_row, slot_row, with, without}
 use Rattle.ctt_text.specs.declared.placed.Placed.{Placed}
 use Rattle.ctt_text.proofs.TimetableLemmas.{Each-map}
-use Rattle.ctt_rules.specs.Hard.{Lawful, conflicts, share_room}
+use Rattle.ctt_rules.specs.Hard.{Lawful, IsAllowed, conflicts, share_room}
 use Rattle.ctt_rules.proofs.ListLemmas.{Each-filter, Pairwise-filter}
 use Rattle.ctt_rules.proofs.ConflictLemmas.{clash_comm}
 use Rattle.ctt_text.proofs.LectureLaws.{Each-put, before_once}
@@ -20,7 +20,7 @@ pub record Free (i : Problem) (t : List Placed) (c s r : ℕ) : Type 0 where
   pub empty : is_some (room_at c s t) ≡ false
   pub absent : Each (λ (l : Placed). (l.slot == s) ≡ false) (course_row c t)
   pub fewer : length (course_row c t) < (course_of i c).lectures
-  pub available : is_unavailable i c s ≡ false
+  pub allowed : IsAllowed i (record { course = c; slot = s; room = r })
   pub no_clash : Each (λ (l : Placed). clash i c l.course ≡ false) (slot_row s t)
   pub room_free : Each (λ (l : Placed). (l.room == r) ≡ false) (slot_row s t)
 
@@ -45,7 +45,7 @@ without_lawful i t c s h =
     record {
       timetable = record { ascending = Pairwise-filter (λ a b. before a b ≡ true) p t h.timetable.ascending; fits = Each-filter (Fits i) p t h.timetable.fits };
       conflict_free = Pairwise-filter (λ a b. conflicts i a b ≡ false) p t h.conflict_free;
-      available = Each-filter (λ l. is_unavailable i l.course l.slot ≡ false) p t h.available;
+      allowed = Each-filter (IsAllowed i) p t h.allowed;
       rooms_apart = Pairwise-filter (λ a b. share_room a b ≡ false) p t h.rooms_apart;
       few = λ d. rw (filter_filter (λ l. l.course == d) p t) (omega (arith, length-filter_le p (course_row d t), h.few d));
     }
@@ -88,7 +88,7 @@ with_lawful i t c s r h f e =
     record {
       timetable = record { ascending = Ascending-with l t absent h.timetable.ascending; fits = Each-put (Fits i) before l t f h.timetable.fits };
       conflict_free = Pairwise-put_both (λ a b. conflicts i a b ≡ false) before l t (Each-map (λ (y : Placed). (y.slot == s) ≡ true → clash i c y.course ≡ false) (λ y. (conflicts i l y ≡ false) × (conflicts i y l ≡ false)) (clash_both i l) t no_clash) h.conflict_free;
-      available = Each-put (λ l. is_unavailable i l.course l.slot ≡ false) before l t e.available h.available;
+      allowed = Each-put (IsAllowed i) before l t e.allowed h.allowed;
       rooms_apart = Pairwise-put_both (λ a b. share_room a b ≡ false) before l t (Each-map (λ (y : Placed). (y.slot == s) ≡ true → (y.room == r) ≡ false) (λ y. (share_room l y ≡ false) × (share_room y l ≡ false)) (room_both l) t room_free) h.rooms_apart;
       few = λ d. elim (cases_eq c d) [
         | inl same ↦ (

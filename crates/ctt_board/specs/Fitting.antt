@@ -1,6 +1,6 @@
 -- Whether a change fits, as a test.
 use Rattle.std.specs.Prelude.{◌≡◌, ◌↔◌, ℕ, Bool, true, false, not, ◌&&◌, nat_lt, List, [], ◌∷◌, length, Option, Some, None, is_some, is_none}
-use Rattle.ctt_text.specs.Problem.{Problem, course_of, course_count, slot_count, room_count, is_unavailable}
+use Rattle.ctt_text.specs.Problem.{Problem, course_of, course_count, slot_count, room_count, is_unavailable, is_barred}
 use Rattle.ctt_text.specs.Timetable.{course_row}
 use Rattle.ctt_text.specs.declared.placed.Placed.{Placed}
 use Rattle.ctt_rules.specs.Hard.{Lawful}
@@ -11,9 +11,13 @@ use Rattle.ctt_board.specs.declared.cell.Cell.{Cell}
 abbrev pub is_known : Problem → Placed → Bool
 is_known i l = nat_lt l.course (course_count i) && (nat_lt l.slot (slot_count i) && nat_lt l.room (room_count i))
 
--- its course can have one more lecture, in this slot
+-- its course is available in the slot, and its room is not barred
+abbrev pub is_allowed : Problem → Placed → Bool
+is_allowed i l = not (is_unavailable i l.course l.slot) && not (is_barred i l.course l.room)
+
+-- its course can have one more lecture, in this slot and room
 abbrev pub is_wanted : Problem → List Placed → Placed → Bool
-is_wanted i t l = is_none (room_at l.course l.slot t) && (nat_lt (length (course_row l.course t)) (course_of i l.course).lectures && not (is_unavailable i l.course l.slot))
+is_wanted i t l = is_none (room_at l.course l.slot t) && (nat_lt (length (course_row l.course t)) (course_of i l.course).lectures && is_allowed i l)
 
 -- and nothing in the slot is against it
 abbrev pub is_unhindered : Problem → List Placed → Placed → Bool

@@ -2,7 +2,7 @@
 
 ghost use Rattle.std.specs.Prelude.{◌≡◌};
 ghost use Rattle.ctt_text.specs.Timetable.{Fits};
-ghost use Rattle.ctt_board.specs.Fitting.{is_known, is_wanted, is_unhindered, can_come, cell_fits, fits};
+ghost use Rattle.ctt_board.specs.Fitting.{is_known, is_allowed, is_wanted, is_unhindered, can_come, cell_fits, fits};
 
 use crate::after::After;
 use crate::cell::Cell;
@@ -19,7 +19,16 @@ fn is_known(instance: &Instance, lecture: &Placed) -> bool
         && (lecture.slot.get() < instance.slots() && lecture.room.get() < instance.rooms())
 }
 
-/// Whether its course can have one more lecture, in this slot.
+/// Whether its course is available in the slot, and its room is not barred.
+fn is_allowed(instance: &Instance, lecture: &Placed) -> bool
+    requires { Fits instance.now lecture.now }
+    ensures { result ≡ is_allowed instance.now lecture.now }
+{
+    !instance.unavailable(lecture.course, lecture.slot)
+        && !instance.barred(lecture.course, lecture.room)
+}
+
+/// Whether its course can have one more lecture, in this slot and room.
 fn is_wanted<R: Rooms>(instance: &Instance, rooms: &R, lecture: &Placed) -> bool
     requires same { R.problem rooms.now ≡ instance.now }
     requires fits { Fits instance.now lecture.now }
@@ -28,7 +37,7 @@ fn is_wanted<R: Rooms>(instance: &Instance, rooms: &R, lecture: &Placed) -> bool
     let course = lecture.course;
     let slot = lecture.slot;
     rooms.room_at(course, slot).is_none()
-        && (rooms.count(course) < instance.lectures(course) && !instance.unavailable(course, slot))
+        && (rooms.count(course) < instance.lectures(course) && is_allowed(instance, lecture))
 }
 
 /// Whether nothing in the slot is against it.

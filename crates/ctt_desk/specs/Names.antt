@@ -18,6 +18,7 @@ nothing = record {
   days = 0;
   periods = 0;
   unavailable = [];
+  barred = [];
 }
 
 -- a desk's opening: its instance, its lectures, and the book of its history

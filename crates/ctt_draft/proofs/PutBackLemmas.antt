@@ -8,8 +8,7 @@ use Rattle.ctt_text.specs.Timetable.{before, Ascending, Fits, IsTimetable, cours
 use Rattle.ctt_text.specs.declared.placed.Placed.{Placed}
 use Rattle.ctt_text.proofs.LectureLaws.{Each-put, before_once}
 use Rattle.ctt_text.proofs.TimetableLemmas.{Each-map}
-use Rattle.ctt_rules.specs.Hard.{Lawful, conflicts, share_room}
-use Rattle.ctt_text.specs.Problem.{is_unavailable}
+use Rattle.ctt_rules.specs.Hard.{Lawful, IsAllowed, conflicts, share_room}
 use Rattle.ctt_rules.proofs.ListLemmas.{Each-filter, Pairwise-filter}
 use Rattle.ctt_board.specs.Changes.{room_at, room_of, apply_at, CellFits}
 use Rattle.ctt_board.specs.declared.cell.Cell.{Cell}
@@ -30,7 +29,7 @@ filter_lawful : (i : Problem) (p : Placed → Bool) (t : List Placed) → Lawful
 filter_lawful i p t h = record {
   timetable = record { ascending = Pairwise-filter (λ a b. before a b ≡ true) p t h.timetable.ascending; fits = Each-filter (Fits i) p t h.timetable.fits };
   conflict_free = Pairwise-filter (λ a b. conflicts i a b ≡ false) p t h.conflict_free;
-  available = Each-filter (λ l. is_unavailable i l.course l.slot ≡ false) p t h.available;
+  allowed = Each-filter (IsAllowed i) p t h.allowed;
   rooms_apart = Pairwise-filter (λ a b. share_room a b ≡ false) p t h.rooms_apart;
   few = λ d. rw (filter_filter (λ l. l.course == d) p t) (omega (arith, length-filter_le p (course_row d t), h.few d));
 }

@@ -38,7 +38,7 @@ all_placed i t u n (l ∷ ls) h f e =
     (λ h' e'. all_placed i (edited t (Place l.course l.slot l.room)) u (n + 1) ls h' f.1 e') e
 
 empty_lawful : (i : Problem) → Lawful i []
-empty_lawful i = record { timetable = record { ascending = tt; fits = tt }; conflict_free = tt; available = tt; rooms_apart = tt; few = λ c. omega arith }
+empty_lawful i = record { timetable = record { ascending = tt; fits = tt }; conflict_free = tt; allowed = tt; rooms_apart = tt; few = λ c. omega arith }
 
 pub opening_is_lawful : OpeningIsLawful
 opening_is_lawful i ls t f e = all_placed i [] t 1 ls (empty_lawful i) f e

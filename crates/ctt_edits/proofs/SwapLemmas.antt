@@ -4,7 +4,7 @@ use Rattle.std.specs.List.{filter, find, AllByRecursion as Each}
 use Rattle.std.specs.Option.{option_map}
 use Rattle.std.proofs.lemmas.Bool.{eq-eqb, lt-leb}
 use Rattle.std.proofs.lemmas.Bool.Decides.{nat_tests}
-use Rattle.ctt_text.specs.Problem.{Problem, course_of, clash, is_unavailable}
+use Rattle.ctt_text.specs.Problem.{Problem, course_of, clash, is_unavailable, is_barred}
 use Rattle.ctt_text.specs.Timetable.{before, course_row, slot_row, with, without}
 use Rattle.ctt_text.specs.declared.placed.Placed.{Placed}
 use Rattle.ctt_rules.specs.Hard.{Lawful}
@@ -12,33 +12,34 @@ use Rattle.ctt_rules.proofs.ConflictLemmas.{clash_comm}
 use Rattle.ctt_rules.proofs.ListLemmas.{Each-filter}
 use Rattle.ctt_board.specs.Changes.{room_of, room_at, clash_at, holder_at, course_named}
 use Rattle.ctt_board.proofs.ApplyLemmas.{untouched_at, untouched_slot_at}
-use Rattle.ctt_board.proofs.BetweenLemmas.{somewhere, some_room}
+use Rattle.ctt_board.proofs.BetweenLemmas.{somewhere}
 use Rattle.ctt_board.proofs.FitLemmas.{was_free}
 use Rattle.ctt_board.proofs.HolderLemmas.{holder_without, find_nowhere}
 use Rattle.ctt_board.proofs.LawfulLemmas.{Free, Each-from_filter, without_lawful, eqb_comm}
 use Rattle.ctt_board.proofs.PutLemmas.{filter_filter}
 use Rattle.ctt_board.proofs.RoomLemmas.{is_at, room_is, room_after, find-filter, find_put_no}
-use Rattle.ctt_edits.specs.Edits.{or_else, fault_if, try_fault, fault_in_place_of, edit_fault}
+use Rattle.ctt_edits.specs.Edits.{or_else, fault_if, not_allowed, try_fault, fault_in_place_of, edit_fault}
 use Rattle.ctt_edits.specs.declared.edit.Edit.TheVariants.{Swap}
 use Rattle.ctt_edits.specs.declared.fault.EditFault.{EditFault}
-use Rattle.ctt_edits.specs.declared.fault.EditFault.TheVariants.{AlreadyThere, CourseFull, Unavailable, Clash, RoomTaken}
+use Rattle.ctt_edits.specs.declared.fault.EditFault.TheVariants.{AlreadyThere, CourseFull, Barred, Clash, RoomTaken}
 
 or_none : (o : Option EditFault) → or_else o None ≡ o
 or_none None = refl
 or_none (Some f) = refl
 
-by_parts : (there closed full : Bool) (clashing taken : Option ℕ) → full ≡ false → taken ≡ None →
-    or_else (fault_if there AlreadyThere) (or_else (fault_if full CourseFull) (or_else (fault_if closed Unavailable) (or_else (option_map Clash clashing) (option_map RoomTaken taken))))
-    ≡ or_else (fault_if there AlreadyThere) (or_else (fault_if closed Unavailable) (option_map Clash clashing))
-by_parts there closed full clashing taken e h = rw (e, h) (ap (λ o. or_else (fault_if there AlreadyThere) (or_else (fault_if closed Unavailable) o)) (or_none (option_map Clash clashing)))
+by_parts : (there full : Bool) (closed : Option EditFault) (clashing taken : Option ℕ) → full ≡ false → taken ≡ None →
+    or_else (fault_if there AlreadyThere) (or_else (fault_if full CourseFull) (or_else closed (or_else (option_map Clash clashing) (option_map RoomTaken taken))))
+    ≡ or_else (fault_if there AlreadyThere) (or_else closed (option_map Clash clashing))
+by_parts there full closed clashing taken e h = rw (e, h) (ap (λ o. or_else (fault_if there AlreadyThere) (or_else closed o)) (or_none (option_map Clash clashing)))
 
 -- the first fault in a room that nobody has, of a course that lacks a lecture
 in_free_room : (i : Problem) (t : List Placed) (c s r : ℕ) → length (course_row c t) < (course_of i c).lectures → holder_at s r t ≡ None →
-    try_fault i t c s r ≡ or_else (fault_if (is_some (room_at c s t)) AlreadyThere) (or_else (fault_if (is_unavailable i c s) Unavailable) (option_map Clash (clash_at i c s t)))
-in_free_room i t c s r fewer free = by_parts (is_some (room_at c s t)) (is_unavailable i c s) (leb (course_of i c).lectures (length (course_row c t))) (clash_at i c s t) (holder_at s r t) (lt-leb (course_of i c).lectures (length (course_row c t)) fewer) free
+    try_fault i t c s r ≡ or_else (fault_if (is_some (room_at c s t)) AlreadyThere) (or_else (not_allowed i c s r) (option_map Clash (clash_at i c s t)))
+in_free_room i t c s r fewer free = by_parts (is_some (room_at c s t)) (leb (course_of i c).lectures (length (course_row c t))) (not_allowed i c s r) (clash_at i c s t) (holder_at s r t) (lt-leb (course_of i c).lectures (length (course_row c t)) fewer) free
 
-no_fault_there : (i : Problem) (t : List Placed) (c s r : ℕ) → length (course_row c t) < (course_of i c).lectures → holder_at s r t ≡ None → room_at c s t ≡ None → is_unavailable i c s ≡ false → clash_at i c s t ≡ None → try_fault i t c s r ≡ None
-no_fault_there i t c s r fewer free empty available clear = in_free_room i t c s r fewer free ∙ rw (empty, available, clear) refl
+-- where nothing else is against it, the room may be barred
+only_barred : (i : Problem) (t : List Placed) (c s r : ℕ) → length (course_row c t) < (course_of i c).lectures → holder_at s r t ≡ None → room_at c s t ≡ None → is_unavailable i c s ≡ false → clash_at i c s t ≡ None → try_fault i t c s r ≡ fault_if (is_barred i c r) Barred
+only_barred i t c s r fewer free empty available clear = in_free_room i t c s r fewer free ∙ rw (empty, available, clear) (or_none (fault_if (is_barred i c r) Barred))
 
 -- two lectures of two courses, each with its room, and the timetable without them
 module _ (i : Problem) (t : List Placed) (c s r d e q : ℕ) (lawful : Lawful i t) (there : room_at c s t ≡ Some r) (other_there : room_at d e t ≡ Some q) (apart : (c == d) ≡ false) where
@@ -93,8 +94,8 @@ module _ (i : Problem) (t : List Placed) (c s r d e q : ℕ) (lawful : Lawful i 
     own_room : room_at c e gone ≡ room_at c e t
     own_room = room_after d e None c e left (ap is_some stays) ∙ rw turned (room_after c s None c e t (ap is_some there) ∙ rw (eq-eqb c c refl, differ) refl)
 
-    first_is : fault_in_place_of i t c e d ≡ try_fault i gone c e q
-    first_is = ap₂ (λ o x. or_else (fault_if (is_some o) AlreadyThere) (or_else (fault_if (is_unavailable i c e) Unavailable) (option_map Clash x))) (sym own_room) (ap (λ ls. course_named (find (λ l. clash i c l.course) ls)) (sym here)) ∙ sym (in_free_room i gone c e q own_fewer nobody)
+    first_is : fault_in_place_of i t c (record { course = d; slot = e; room = q }) ≡ try_fault i gone c e q
+    first_is = ap₂ (λ o x. or_else (fault_if (is_some o) AlreadyThere) (or_else (not_allowed i c e q) (option_map Clash x))) (sym own_room) (ap (λ ls. course_named (find (λ l. clash i c l.course) ls)) (sym here)) ∙ sym (in_free_room i gone c e q own_fewer nobody)
 
     there_row : slot_row s first ≡ slot_row s left
     there_row = untouched_slot_at (λ x. x == s) c e (Some q) gone back ∙ untouched_slot_at (λ x. x == s) d e None left back
@@ -102,11 +103,11 @@ module _ (i : Problem) (t : List Placed) (c s r d e q : ℕ) (lawful : Lawful i 
     other_room : room_at d s first ≡ room_at d s t
     other_room = ap (λ ls. room_of (find (λ l. l.slot == s) ls)) other_row ∙ room_after d e None d s left (ap is_some stays) ∙ rw (eq-eqb d d refl, back) (room_after c s None d s t (ap is_some there) ∙ rw apart refl)
 
-    second_is : fault_in_place_of i t d s c ≡ try_fault i first d s r
-    second_is = ap₂ (λ o x. or_else (fault_if (is_some o) AlreadyThere) (or_else (fault_if (is_unavailable i d s) Unavailable) (option_map Clash x))) (sym other_room) (ap (λ ls. course_named (find (λ l. clash i d l.course) ls)) (sym there_row))
+    second_is : fault_in_place_of i t d (record { course = c; slot = s; room = r }) ≡ try_fault i first d s r
+    second_is = ap₂ (λ o x. or_else (fault_if (is_some o) AlreadyThere) (or_else (not_allowed i d s r) (option_map Clash x))) (sym other_room) (ap (λ ls. course_named (find (λ l. clash i d l.course) ls)) (sym there_row))
         ∙ sym (in_free_room i first d s r other_fewer (ap (λ ls. course_named (find (λ l. l.room == r) ls)) there_row ∙ nobody_left))
 
-    by_slots : edit_fault i t (Swap c s d e) ≡ or_else (fault_in_place_of i t c e d) (fault_in_place_of i t d s c)
+    pub by_slots : edit_fault i t (Swap c s d e) ≡ or_else (fault_in_place_of i t c (record { course = d; slot = e; room = q })) (fault_in_place_of i t d (record { course = c; slot = s; room = r }))
     by_slots = rw (there, other_there, apart) (ap₂ or_else (sym first_is) (sym second_is))
 
   -- in one slot they only take each other's room
@@ -136,8 +137,8 @@ module _ (i : Problem) (t : List Placed) (c s r d e q : ℕ) (lawful : Lawful i 
     own_clear : clash_at i c e gone ≡ None
     own_clear = ap (λ x. course_named (find (λ l. clash i c l.course) (slot_row x gone))) same ∙ ap course_named (without_them (λ l. clash i c l.course) free.no_clash)
 
-    first_none : try_fault i gone c e q ≡ None
-    first_none = no_fault_there i gone c e q own_fewer nobody own_empty (rw same free.available) own_clear
+    first_barred : try_fault i gone c e q ≡ fault_if (is_barred i c q) Barred
+    first_barred = only_barred i gone c e q own_fewer nobody own_empty (rw same free.allowed.0) own_clear
 
     -- what none in the slot passes, nor the lecture that has come, none passes now
     with_first : (p : Placed → Bool) → p (record { course = c; slot = e; room = q }) ≡ false → find p (slot_row s gone) ≡ None → find p (slot_row s first) ≡ None
@@ -159,21 +160,9 @@ module _ (i : Problem) (t : List Placed) (c s r d e q : ℕ) (lawful : Lawful i 
     other_nobody : holder_at s r first ≡ None
     other_nobody = ap course_named (with_first (λ l. l.room == r) unlike.1 (without_them (λ l. l.room == r) free.room_free))
 
-    second_none : try_fault i first d s r ≡ None
-    second_none = no_fault_there i first d s r other_fewer other_nobody other_empty (rw (← same) other_free.available) other_clear
+    second_barred : try_fault i first d s r ≡ fault_if (is_barred i d r) Barred
+    second_barred = only_barred i first d s r other_fewer other_nobody other_empty (rw (← same) other_free.allowed.0) other_clear
 
-    within : edit_fault i t (Swap c s d e) ≡ None
-    within = rw (there, other_there, apart) (ap₂ or_else first_none second_none)
-
--- the fault of a swap of two lectures that are there, in two slots and in one
-pub in_two_slots : (i : Problem) (t : List Placed) (c s d e : ℕ) → Lawful i t → is_some (room_at c s t) ≡ true → is_some (room_at d e t) ≡ true → (c == d) ≡ false → (s == e) ≡ false → edit_fault i t (Swap c s d e) ≡ or_else (fault_in_place_of i t c e d) (fault_in_place_of i t d s c)
-in_two_slots i t c s d e lawful there other_there apart differ =
-    let own = some_room (room_at c s t) there in
-    let other = some_room (room_at d e t) other_there in
-    by_slots i t c s own.0 d e other.0 lawful own.1 other.1 apart differ
-
-pub in_one_slot : (i : Problem) (t : List Placed) (c s d e : ℕ) → Lawful i t → is_some (room_at c s t) ≡ true → is_some (room_at d e t) ≡ true → (c == d) ≡ false → e ≡ s → edit_fault i t (Swap c s d e) ≡ None
-in_one_slot i t c s d e lawful there other_there apart same =
-    let own = some_room (room_at c s t) there in
-    let other = some_room (room_at d e t) other_there in
-    within i t c s own.0 d e other.0 lawful own.1 other.1 apart same
+    -- which may be barred
+    pub within : edit_fault i t (Swap c s d e) ≡ or_else (fault_if (is_barred i c q) Barred) (fault_if (is_barred i d r) Barred)
+    within = rw (there, other_there, apart) (ap₂ or_else first_barred second_barred)

@@ -2,7 +2,7 @@
 use Rattle.std.specs.Prelude.{ℕ, ◌<◌, Bool, cond, ◌||◌, List, [], ◌∷◌, length, ◌==◌, nat_le, Option, Some, None, is_none, is_some, Result, Ok, Err}
 use Rattle.std.specs.List.{find}
 use Rattle.std.specs.Option.{option_map}
-use Rattle.ctt_text.specs.Problem.{Problem, course_of, course_count, slot_count, room_count, clash, is_unavailable}
+use Rattle.ctt_text.specs.Problem.{Problem, course_of, course_count, slot_count, room_count, clash, is_unavailable, is_barred}
 use Rattle.ctt_text.specs.Timetable.{course_row, slot_row, without}
 use Rattle.ctt_text.specs.declared.placed.Placed.{Placed}
 use Rattle.ctt_board.specs.Changes.{room_of, room_at, clash_at, cell, apply, apply_at}
@@ -10,7 +10,7 @@ use Rattle.ctt_board.specs.declared.cell.Cell.{Cell}
 use Rattle.ctt_edits.specs.declared.edit.Edit.{Edit}
 use Rattle.ctt_edits.specs.declared.edit.Edit.TheVariants.{Place, Move, Swap, Reroom, Drop}
 use Rattle.ctt_edits.specs.declared.fault.EditFault.{EditFault}
-use Rattle.ctt_edits.specs.declared.fault.EditFault.TheVariants.{NotPlaced, SameSlot, SameCourse, AlreadyThere, CourseFull, Unavailable, Clash, RoomTaken}
+use Rattle.ctt_edits.specs.declared.fault.EditFault.TheVariants.{NotPlaced, SameSlot, SameCourse, AlreadyThere, CourseFull, Unavailable, Barred, Clash, RoomTaken}
 
 -- its numbers are those of the instance
 abbrev pub EditFits : Problem → Edit → Type 0
@@ -32,12 +32,16 @@ fault_if b f = cond b (Some f) None
 abbrev pub first_course : (Placed → Bool) → List Placed → Option ℕ
 first_course p ls = option_map (λ (l : Placed). l.course) (find p ls)
 
+-- the first fault of a lecture by itself, which no row has a part in
+abbrev pub not_allowed : Problem → ℕ → ℕ → ℕ → Option EditFault
+not_allowed i c s r = or_else (fault_if (is_unavailable i c s) Unavailable) (fault_if (is_barred i c r) Barred)
+
 -- the first fault of placing a lecture, by the course's row and the slot's row
 abbrev pub try_in : Problem → ℕ → ℕ → ℕ → List Placed → List Placed → Option EditFault
 try_in i c s r course slot =
     or_else (fault_if (is_some (room_of (find (λ l. l.slot == s) course))) AlreadyThere)
     (or_else (fault_if (nat_le (course_of i c).lectures (length course)) CourseFull)
-    (or_else (fault_if (is_unavailable i c s) Unavailable)
+    (or_else (not_allowed i c s r)
     (or_else (option_map Clash (first_course (λ l. clash i c l.course) slot))
     (option_map RoomTaken (first_course (λ l. l.room == r) slot)))))
 
@@ -49,12 +53,12 @@ abbrev pub try_room_of : Problem → List Placed → ℕ → ℕ → Option ℕ 
 try_room_of i t c s None = None
 try_room_of i t c s (Some r) = try_fault i t c s r
 
--- the first fault of placing a lecture in the slot and room of another course's, which leaves
-abbrev pub fault_in_place_of : Problem → List Placed → ℕ → ℕ → ℕ → Option EditFault
-fault_in_place_of i t c s d =
-    or_else (fault_if (is_some (room_at c s t)) AlreadyThere)
-    (or_else (fault_if (is_unavailable i c s) Unavailable)
-    (option_map Clash (clash_at i c s (without d s t))))
+-- the first fault of placing a course's lecture in the slot and room of another course's, which leaves
+abbrev pub fault_in_place_of : Problem → List Placed → ℕ → Placed → Option EditFault
+fault_in_place_of i t c l =
+    or_else (fault_if (is_some (room_at c l.slot t)) AlreadyThere)
+    (or_else (not_allowed i c l.slot l.room)
+    (option_map Clash (clash_at i c l.slot (without l.course l.slot t))))
 
 -- the cells that an edit removes, then the cells that it adds
 abbrev pub change : List Placed → Edit → List Cell

@@ -1,17 +1,18 @@
 //! Whether an edit can be made.
 
 ghost use Rattle.std.specs.Prelude.{◌≡◌, ◌<◌, ◌==◌, false, Some, None, IfOk, IsSome};
-ghost use Rattle.ctt_text.specs.Problem.{course_count, slot_count, room_count};
-ghost use Rattle.ctt_text.specs.Timetable.{without};
+ghost use Rattle.ctt_text.specs.Problem.{course_count, slot_count, room_count, is_barred};
+ghost use Rattle.ctt_text.specs.Timetable.{Fits, without};
 ghost use Rattle.ctt_board.specs.Changes.{ChangeFits, cell, room_at};
-ghost use Rattle.ctt_edits.specs.Edits.{EditFits, try_fault, fault_in_place_of, edit_fault, change, checked};
+ghost use Rattle.ctt_edits.specs.Edits.{EditFits, fault_if, try_fault, fault_in_place_of, edit_fault, change, checked};
 ghost use Rattle.ctt_edits.specs.declared.edit.Edit.TheVariants.{Move, Swap, Reroom, Drop};
+ghost use Rattle.ctt_edits.specs.declared.fault.EditFault.TheVariants.{Barred};
 
 use crate::edit::Edit;
 use crate::fault::EditFault;
 use crate::laws;
 use ctt_board::{After, Cell, Change, Rooms, Sheet, first_clash, first_clash_without};
-use ctt_text::{CourseNo, Instance, RoomNo, SlotNo};
+use ctt_text::{CourseNo, Instance, Placed, RoomNo, SlotNo};
 
 /// The first fault that holds of placing a lecture.
 fn place_fault<R: Rooms>(
@@ -35,6 +36,9 @@ fn place_fault<R: Rooms>(
     }
     if instance.unavailable(course, slot) {
         return Some(EditFault::Unavailable);
+    }
+    if instance.barred(course, room) {
+        return Some(EditFault::Barred);
     }
     if let Some(other) = first_clash(instance, rooms, course, slot) {
         return Some(EditFault::Clash(other));
@@ -89,55 +93,71 @@ fn replace_fault<'i, S: Sheet<'i>>(
     place_fault(instance, &after, course, target, room)
 }
 
-/// The first fault that holds of placing a lecture in the slot and room of another one, which leaves. Its
-/// course has one lecture less than before.
+/// The first fault that holds of placing a course's lecture in the slot and room of another one, which leaves.
+/// The course has one lecture less than before.
 fn fault_in_place_of<'i, S: Sheet<'i>>(
     sheet: &S,
     course: CourseNo,
-    slot: SlotNo,
-    leaving: CourseNo,
+    leaving: &Placed,
 ) -> Option<EditFault>
     requires course { course < course_count (S.problem sheet.now) }
-    requires slot { slot < slot_count (S.problem sheet.now) }
-    requires leaving { leaving < course_count (S.problem sheet.now) }
-    requires there { IsSome (room_at leaving slot (S.list sheet.now)) }
-    ensures { result ≡ fault_in_place_of (S.problem sheet.now) (S.list sheet.now) course slot leaving }
+    requires leaving { Fits (S.problem sheet.now) leaving.now }
+    requires there { IsSome (room_at leaving.now.course leaving.now.slot (S.list sheet.now)) }
+    ensures { result ≡ fault_in_place_of (S.problem sheet.now) (S.list sheet.now) course leaving.now }
 {
     let instance = sheet.instance();
-    if sheet.room_at(course, slot).is_some() {
+    if sheet.room_at(course, leaving.slot).is_some() {
         return Some(EditFault::AlreadyThere);
     }
-    if instance.unavailable(course, slot) {
+    if instance.unavailable(course, leaving.slot) {
         return Some(EditFault::Unavailable);
     }
-    let other = first_clash_without(instance, sheet, course, slot, leaving)?;
+    if instance.barred(course, leaving.room) {
+        return Some(EditFault::Barred);
+    }
+    let other = first_clash_without(instance, sheet, course, leaving.slot, leaving.course)?;
     Some(EditFault::Clash(other))
 }
 
-/// The first fault that holds of swapping the lectures of two courses, which are there. In one slot
-/// they only change rooms.
-fn exchange_fault<'i, S: Sheet<'i>>(
-    sheet: &S,
-    course: CourseNo,
-    slot: SlotNo,
-    other: CourseNo,
-    other_slot: SlotNo,
-) -> Option<EditFault>
-    requires fits { EditFits (S.problem sheet.now) (Swap course slot other other_slot) }
-    requires apart { (course == other) ≡ false }
-    requires there { IsSome (room_at course slot (S.list sheet.now)) }
-    requires other_there { IsSome (room_at other other_slot (S.list sheet.now)) }
-    ensures { result ≡ edit_fault (S.problem sheet.now) (S.list sheet.now) (Swap course slot other other_slot) }
+/// The fault of a room that is barred for a course.
+fn barred_fault(instance: &Instance, course: CourseNo, room: RoomNo) -> Option<EditFault>
+    requires course { course < course_count instance.now }
+    requires room { room < room_count instance.now }
+    ensures { result ≡ fault_if (is_barred instance.now course room) Barred }
 {
-    sheet.lawful();
-    if slot == other_slot {
+    if !instance.barred(course, room) {
         return None;
     }
-    let fault = fault_in_place_of(sheet, course, other_slot, other);
+    Some(EditFault::Barred)
+}
+
+/// The first fault that holds of swapping two lectures of two courses. In one slot they only change
+/// rooms.
+fn exchange_fault<'i, S: Sheet<'i>>(
+    sheet: &S,
+    lecture: &Placed,
+    other: &Placed,
+) -> Option<EditFault>
+    requires fits { Fits (S.problem sheet.now) lecture.now }
+    requires other_fits { Fits (S.problem sheet.now) other.now }
+    requires apart { (lecture.now.course == other.now.course) ≡ false }
+    requires there { room_at lecture.now.course lecture.now.slot (S.list sheet.now) ≡ Some lecture.now.room }
+    requires other_there { room_at other.now.course other.now.slot (S.list sheet.now) ≡ Some other.now.room }
+    ensures { result ≡ edit_fault (S.problem sheet.now) (S.list sheet.now) (Swap lecture.now.course lecture.now.slot other.now.course other.now.slot) }
+{
+    sheet.lawful();
+    if lecture.slot == other.slot {
+        let fault = barred_fault(sheet.instance(), lecture.course, other.room);
+        if fault.is_some() {
+            return fault;
+        }
+        return barred_fault(sheet.instance(), other.course, lecture.room);
+    }
+    let fault = fault_in_place_of(sheet, lecture.course, other);
     if fault.is_some() {
         return fault;
     }
-    fault_in_place_of(sheet, other, slot, course)
+    fault_in_place_of(sheet, other.course, lecture)
 }
 
 /// The first fault that holds of a swap.
@@ -151,13 +171,23 @@ fn swap_fault<'i, S: Sheet<'i>>(
     requires { EditFits (S.problem sheet.now) (Swap course slot other other_slot) }
     ensures { result ≡ edit_fault (S.problem sheet.now) (S.list sheet.now) (Swap course slot other other_slot) }
 {
-    if sheet.room_at(course, slot).is_none() || sheet.room_at(other, other_slot).is_none() {
+    sheet.lawful();
+    let Some(room) = sheet.room_at(course, slot) else {
         return Some(EditFault::NotPlaced);
-    }
+    };
+    let Some(other_room) = sheet.room_at(other, other_slot) else {
+        return Some(EditFault::NotPlaced);
+    };
     if course == other {
         return Some(EditFault::SameCourse);
     }
-    exchange_fault(sheet, course, slot, other, other_slot)
+    let lecture = Placed { course, slot, room };
+    let other = Placed {
+        course: other,
+        slot: other_slot,
+        room: other_room,
+    };
+    exchange_fault(sheet, &lecture, &other)
 }
 
 /// The first fault that holds of a move.

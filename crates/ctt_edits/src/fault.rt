@@ -20,6 +20,8 @@ pub enum EditFault {
     CourseFull,
     /// The course is unavailable in the slot.
     Unavailable,
+    /// The room is barred for the course.
+    Barred,
     /// A course that clashes has a lecture in the slot: of all such courses, the one with the
     /// least number.
     Clash(CourseNo),
@@ -39,7 +41,8 @@ impl EditFault {
             | EditFault::SameCourse
             | EditFault::AlreadyThere
             | EditFault::CourseFull
-            | EditFault::Unavailable => true,
+            | EditFault::Unavailable
+            | EditFault::Barred => true,
         }
     }
 }

@@ -5,20 +5,22 @@ use Rattle.std.proofs.lemmas.Bool.Decides.{nat_tests}
 use Rattle.std.proofs.lemmas.Bool.{cases_Bool, cases_eq, cases_lt, ne_eqb}
 use Rattle.std.proofs.lemmas.List.{get_or_past}
 use Rattle.ctt_text.specs.Lists.{Pairwise, sum_below}
-use Rattle.ctt_text.specs.Problem.{Problem, course_of, course_count, slot_count, room_count, is_unavailable}
+use Rattle.ctt_text.specs.Problem.{Problem, course_of, course_count, slot_count, room_count, is_unavailable, is_barred, has_barred}
 use Rattle.ctt_text.specs.Timetable.{IsTimetable, Fits, course_row}
 use Rattle.ctt_text.specs.declared.placed.Placed.{Placed}
+use Rattle.ctt_text.proofs.BarredTables.{barred_nowhere}
 use Rattle.ctt_text.proofs.TimetableLemmas.{Each-map}
-use Rattle.ctt_rules.specs.Hard.{Lawful, conflicts, share_room, missing_count, conflict_count, unavailable_count, occupancy_count}
-use Rattle.ctt_rules.proofs.ListLemmas.{filter_none}
+use Rattle.ctt_rules.specs.Hard.{Lawful, IsAllowed, conflicts, share_room, missing_count, conflict_count, unavailable_count, barred_count, occupancy_count}
+use Rattle.ctt_rules.proofs.ListLemmas.{filter_none, Each-both}
 use Rattle.ctt_rules.proofs.SumLemmas.{sum_below_zero, count_by-cons}
 use Rattle.ctt_rules.proofs.TimetableLemmas.{courses_fit}
 
--- three counts are zero
+-- four counts are zero
 pub record NoneCounted (i : Problem) (t : List Placed) : Type 0 where
   pub conflicts : conflict_count i t ≡ 0
   pub unavailable : unavailable_count i t ≡ 0
   pub occupancy : occupancy_count i t ≡ 0
+  pub barred : barred_count i t ≡ 0
 
 one_or_none : (b : Bool) (n m : ℕ) → n ≡ cond b 1 0 + m → ((b ≡ true) → n ≡ suc m) × ((b ≡ false) → n ≡ m)
 one_or_none true n m e = ((λ h. e ∙ omega arith), (λ h. cc))
@@ -83,11 +85,20 @@ zero_terms f (suc n) h k lt =
       | inr other ↦ zero_terms f n (omega arith) k (omega arith)
     ]
 
+-- where no room is barred, no lecture is in a barred one
+pub none_barred : (i : Problem) (t : List Placed) → has_barred i ≡ false → barred_count i t ≡ 0
+none_barred i t h = count_none (λ l. is_barred i l.course l.room) t (each t)
+  where
+    each : (xs : List Placed) → Each (λ l. is_barred i l.course l.room ≡ false) xs
+    each [] = tt
+    each (x ∷ xs) = (barred_nowhere i x.course x.room h, each xs)
+
 module _ (i : Problem) (t : List Placed) (h : IsTimetable i t) where
   pub counted : Lawful i t → NoneCounted i t
   counted l = record {
     conflicts = no_conflicts i t l.conflict_free;
-    unavailable = count_none (λ l. is_unavailable i l.course l.slot) t l.available;
+    unavailable = count_none (λ l. is_unavailable i l.course l.slot) t (Each-map (IsAllowed i) (λ l. is_unavailable i l.course l.slot ≡ false) (λ l a. a.0) t l.allowed);
+    barred = count_none (λ l. is_barred i l.course l.room) t (Each-map (IsAllowed i) (λ l. is_barred i l.course l.room ≡ false) (λ l a. a.1) t l.allowed);
     occupancy = sum_below_zero (λ r. sum_below (λ s. count_by (stands r s) t - 1) (slot_count i)) (room_count i)
         (λ r lt. sum_below_zero (λ s. count_by (stands r s) t - 1) (slot_count i) (λ s lt2. let few' : count_by (stands r s) t ≤ 1 = at_most_one r s t l.rooms_apart in omega arith));
   }
@@ -96,7 +107,8 @@ module _ (i : Problem) (t : List Placed) (h : IsTimetable i t) where
   lawful few n = record {
     timetable = h;
     conflict_free = conflict_free i t n.conflicts;
-    available = none_counted (λ l. is_unavailable i l.course l.slot) t n.unavailable;
+    allowed = Each-both (λ (l : Placed). is_unavailable i l.course l.slot ≡ false) (λ l. is_barred i l.course l.room ≡ false) (IsAllowed i) (λ l a b. (a, b)) t
+        (none_counted (λ l. is_unavailable i l.course l.slot) t n.unavailable) (none_counted (λ l. is_barred i l.course l.room) t n.barred);
     rooms_apart = apart_from t (room_count i) (slot_count i) (Each-map (Fits i) (λ l. (l.room < room_count i) × (l.slot < slot_count i)) (λ l f. (f.2, f.1)) t h.fits)
         (λ r s lt lt2. let row : sum_below (λ s. count_by (stands r s) t - 1) (slot_count i) ≡ 0 = zero_terms (λ r. sum_below (λ s. count_by (stands r s) t - 1) (slot_count i)) (room_count i) n.occupancy r lt in
         let one : count_by (stands r s) t - 1 ≡ 0 = zero_terms (λ s. count_by (stands r s) t - 1) (slot_count i) row s lt2 in omega arith);

@@ -21,6 +21,7 @@ small = record {
   days = 2;
   periods = 3;
   unavailable = false ∷ false ∷ false ∷ false ∷ false ∷ false ∷ true ∷ false ∷ false ∷ false ∷ false ∷ false ∷ false ∷ false ∷ false ∷ false ∷ false ∷ false ∷ [];
+  barred = false ∷ false ∷ false ∷ false ∷ false ∷ false ∷ [];
 }
 
 abbrev at : ℕ → ℕ → ℕ → Placed
@@ -30,7 +31,7 @@ abbrev cost : ℕ → ℕ → ℕ → ℕ → Cost
 cost a b c d = record { capacity = a; days = b; compactness = c; stability = d }
 
 abbrev counts : ℕ → ℕ → ℕ → ℕ → Hard
-counts a b c d = record { lectures = a; conflicts = b; availability = c; occupancy = d }
+counts a b c d = record { lectures = a; conflicts = b; availability = c; occupancy = d; barred = 0 }
 
 abbrev full : List Placed
 full = at 0 0 0 ∷ at 0 3 1 ∷ at 1 1 0 ∷ at 1 5 0 ∷ at 2 2 1 ∷ []
@@ -43,6 +44,13 @@ full_total = refl
 
 full_counts : hard_counts small full ≡ counts 0 0 0 0
 full_counts = refl
+
+-- where room A is barred for alg, and where it is barred for top, which has none of its lectures there
+barred_counts : hard_counts (record small { barred = true ∷ false ∷ false ∷ false ∷ false ∷ false ∷ [] }) full ≡ record { lectures = 0; conflicts = 0; availability = 0; occupancy = 0; barred = 1 }
+barred_counts = refl
+
+elsewhere_counts : hard_counts (record small { barred = false ∷ false ∷ false ∷ false ∷ true ∷ false ∷ [] }) full ≡ counts 0 0 0 0
+elsewhere_counts = refl
 
 course_costs : course_cost small full 0 ∷ course_cost small full 2 ∷ course_cost small [] 0 ∷ [] ≡ cost 5 0 0 1 ∷ cost 10 0 0 0 ∷ cost 0 10 0 0 ∷ []
 course_costs = refl

@@ -2,7 +2,7 @@
 use Rattle.std.specs.Prelude.{ℕ, ◌+◌, ◌-◌, ◌≤◌, ◌≡◌, Bool, false, List, [], ◌∷◌, length, count_by, ◌==◌, ◌&&◌}
 use Rattle.std.specs.List.{AllByRecursion as Each}
 use Rattle.ctt_text.specs.Lists.{Pairwise, sum_below}
-use Rattle.ctt_text.specs.Problem.{Problem, course_of, course_count, slot_count, room_count, clash, is_unavailable}
+use Rattle.ctt_text.specs.Problem.{Problem, course_of, course_count, slot_count, room_count, clash, is_unavailable, is_barred}
 use Rattle.ctt_text.specs.Timetable.{IsTimetable, course_row}
 use Rattle.ctt_text.specs.declared.placed.Placed.{Placed}
 use Rattle.ctt_rules.specs.declared.hard.Hard.{Hard}
@@ -15,10 +15,14 @@ conflicts i a b = a.slot == b.slot && clash i a.course b.course
 abbrev pub share_room : Placed → Placed → Bool
 share_room a b = a.slot == b.slot && a.room == b.room
 
+-- what a lecture may be by itself: its course is available in the slot, and the room is not barred for it
+abbrev pub IsAllowed : Problem → Placed → Type 0
+IsAllowed i l = (is_unavailable i l.course l.slot ≡ false) × (is_barred i l.course l.room ≡ false)
+
 pub record Lawful (i : Problem) (t : List Placed) : Type 0 where
   pub timetable : IsTimetable i t
   pub conflict_free : Pairwise (λ a b. conflicts i a b ≡ false) t
-  pub available : Each (λ l. is_unavailable i l.course l.slot ≡ false) t
+  pub allowed : Each (IsAllowed i) t
   pub rooms_apart : Pairwise (λ a b. share_room a b ≡ false) t
   pub few : (c : ℕ) → length (course_row c t) ≤ (course_of i c).lectures
 
@@ -39,6 +43,10 @@ conflict_count i (x ∷ xs) = count_by (conflicts i x) xs + conflict_count i xs
 abbrev pub unavailable_count : Problem → List Placed → ℕ
 unavailable_count i t = count_by (λ l. is_unavailable i l.course l.slot) t
 
+-- lectures in rooms that are barred for their courses
+abbrev pub barred_count : Problem → List Placed → ℕ
+barred_count i t = count_by (λ l. is_barred i l.course l.room) t
+
 -- lectures beyond the first in each room and slot
 abbrev pub occupancy_count : Problem → List Placed → ℕ
 occupancy_count i t = sum_below (λ r. sum_below (λ s. count_by (λ l. l.room == r && l.slot == s) t - 1) (slot_count i)) (room_count i)
@@ -49,4 +57,5 @@ hard_counts i t = record {
   conflicts = conflict_count i t;
   availability = unavailable_count i t;
   occupancy = occupancy_count i t;
+  barred = barred_count i t;
 }

@@ -3,14 +3,14 @@
 ghost use Rattle.std.specs.Prelude.{◌≡◌, ◌≤◌, length};
 ghost use Rattle.std.specs.List.{AllByRecursion as Each};
 ghost use Rattle.ctt_text.specs.Timetable.{IsTimetable, Fits};
-ghost use Rattle.ctt_rules.specs.Hard.{hard_counts, missing_count, unavailable_count};
+ghost use Rattle.ctt_rules.specs.Hard.{hard_counts, missing_count, unavailable_count, barred_count};
 
 use crate::row::cut_row;
 use crate::sharing::count_sharing;
 use ctt_text::{CourseNo, Instance, Placed};
 
 /// How often a timetable breaks each of the four hard constraints of the technical report of
-/// Di Gaspero, McCollum and Schaerf for ITC 2007.
+/// Di Gaspero, McCollum and Schaerf for ITC 2007, and how many lectures are in barred rooms.
 #[derive(Clone, Copy, Debug, Default, PartialEq, Eq)]
 pub struct Hard {
     /// Lectures that courses lack, and lectures that they have too many.
@@ -21,6 +21,8 @@ pub struct Hard {
     pub availability: u64,
     /// Lectures beyond the first in each room and slot.
     pub occupancy: u64,
+    /// Lectures in rooms that are barred for their courses.
+    pub barred: u64,
 }
 
 /// The lectures that courses lack, and those that they have too many.
@@ -54,6 +56,23 @@ fn unavailable(instance: &Instance, lectures: &[Placed]) -> u64
     count
 }
 
+/// The lectures in rooms that are barred for their courses. Where no room is barred, none is looked at.
+fn barred(instance: &Instance, lectures: &[Placed]) -> u64
+    requires { Each (Fits instance.now) lectures.now }
+    ensures { result ≡ barred_count instance.now lectures.now }
+{
+    if !instance.has_barred() {
+        return 0;
+    }
+    let mut count = 0;
+    for lecture in lectures {
+        if instance.barred(lecture.course, lecture.room) {
+            count += 1;
+        }
+    }
+    count
+}
+
 /// How often a timetable breaks each of the hard constraints.
 pub fn hard_counts(instance: &Instance, timetable: &[Placed]) -> Hard
     requires { IsTimetable instance.now timetable.now }
@@ -65,5 +84,6 @@ pub fn hard_counts(instance: &Instance, timetable: &[Placed]) -> Hard
         conflicts: sharing.conflicts,
         availability: unavailable(instance, timetable),
         occupancy: sharing.occupancy,
+        barred: barred(instance, timetable),
     }
 }

@@ -29,9 +29,9 @@ fn has_no_surplus(instance: &Instance, timetable: &[Placed], hard: &Hard) -> boo
 
 /// Whether none of the lectures that are placed breaks a rule.
 fn breaks_none(hard: &Hard) -> bool
-    ensures { result ≡ (hard.now.conflicts == 0 && (hard.now.availability == 0 && hard.now.occupancy == 0)) }
+    ensures { result ≡ (hard.now.conflicts == 0 && (hard.now.availability == 0 && (hard.now.occupancy == 0 && hard.now.barred == 0))) }
 {
-    hard.conflicts == 0 && (hard.availability == 0 && hard.occupancy == 0)
+    hard.conflicts == 0 && (hard.availability == 0 && (hard.occupancy == 0 && hard.barred == 0))
 }
 
 /// Whether a timetable that breaks so much is lawful.
@@ -54,8 +54,8 @@ pub(crate) fn has_all(instance: &Instance, timetable: &[Placed], hard: &Hard, la
 }
 
 /// Whether a timetable keeps the hard rules, but for lectures that are not placed: no lectures in
-/// one slot have courses that clash, none is where its course is unavailable, no two share a room
-/// and slot, and no course has too many.
+/// one slot have courses that clash, none is where its course is unavailable, or in a room that is barred
+/// for it, no two share a room and slot, and no course has too many.
 pub fn is_lawful(instance: &Instance, timetable: &[Placed]) -> bool
     requires { IsTimetable instance.now timetable.now }
     ensures { IsTrue result ↔ Lawful instance.now timetable.now }

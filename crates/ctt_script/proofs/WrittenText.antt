@@ -20,7 +20,7 @@ use Rattle.ctt_edits.specs.declared.looks.Look.TheVariants.{Course, Slot, Teache
 use Rattle.ctt_edits.specs.declared.call.Call.{Call}
 use Rattle.ctt_edits.specs.declared.call.Call.TheVariants.{Look as Looks, Edit as Edits}
 use Rattle.ctt_edits.specs.declared.fault.EditFault.{EditFault}
-use Rattle.ctt_edits.specs.declared.fault.EditFault.TheVariants.{NotPlaced, SameSlot, SameCourse, AlreadyThere, CourseFull, Unavailable, Clash, RoomTaken}
+use Rattle.ctt_edits.specs.declared.fault.EditFault.TheVariants.{NotPlaced, SameSlot, SameCourse, AlreadyThere, CourseFull, Unavailable, Barred, Clash, RoomTaken}
 use Rattle.ctt_edits.specs.Edits.{EditFits}
 use Rattle.ctt_edits.specs.Looks.{LookFits}
 use Rattle.ctt_edits.specs.declared.reply.Reply.{Reply}
@@ -178,6 +178,7 @@ module _ (i : Problem) (is : IsProblem i) (named : IsNamed i) where
   fault_are AlreadyThere f = (is_solid (codes "already") refl, tt)
   fault_are CourseFull f = (is_solid (codes "full") refl, tt)
   fault_are Unavailable f = (is_solid (codes "unavailable") refl, tt)
+  fault_are Barred f = (is_solid (codes "barred") refl, tt)
   fault_are (Clash c) f = (is_solid (codes "clash") refl, (course_is c f, tt))
   fault_are (RoomTaken c) f = (is_solid (codes "roomtaken") refl, (course_is c f, tt))
 

@@ -13,7 +13,7 @@ use Rattle.ctt_script.specs.declared.kinds.StepKind.TheVariants.{Open, Commit, R
 use Rattle.ctt_script.specs.declared.kinds.ReplyKind.{ReplyKind}
 use Rattle.ctt_script.specs.declared.kinds.ReplyKind.TheVariants.{Done, Refused, Lectures, Costs, Price as Priced}
 use Rattle.ctt_script.specs.declared.kinds.FaultKind.{FaultKind}
-use Rattle.ctt_script.specs.declared.kinds.FaultKind.TheVariants.{NotPlaced, SameSlot, SameCourse, AlreadyThere, CourseFull, Unavailable, Clash, RoomTaken}
+use Rattle.ctt_script.specs.declared.kinds.FaultKind.TheVariants.{NotPlaced, SameSlot, SameCourse, AlreadyThere, CourseFull, Unavailable, Barred, Clash, RoomTaken}
 
 -- what stands beside the word in a table, if the word stands there
 unfoldable pub edit_kind : List ℕ → Option EditKind
@@ -68,6 +68,7 @@ fault_kind word =
     else if bytes_eq word (codes "already") then Some AlreadyThere
     else if bytes_eq word (codes "full") then Some CourseFull
     else if bytes_eq word (codes "unavailable") then Some Unavailable
+    else if bytes_eq word (codes "barred") then Some Barred
     else if bytes_eq word (codes "clash") then Some Clash
     else if bytes_eq word (codes "roomtaken") then Some RoomTaken
     else None

@@ -1,9 +1,9 @@
 -- The texts of the report on a timetable.
-use Rattle.std.specs.Prelude.{◌≡◌, ◌↔◌, ◌++◌, ℕ, Bool, IsTrue, List, codes, if◌then◌else◌}
+use Rattle.std.specs.Prelude.{◌≡◌, ◌↔◌, ◌++◌, ℕ, Bool, true, false, IsTrue, List, [], codes, if◌then◌else◌}
 use Rattle.std.specs.Fmt.{decimal}
-use Rattle.serde_json.specs.Data.{Data, boolean, member, no_members, number, object, string, unsigned}
+use Rattle.serde_json.specs.Data.{Data, Members, boolean, member, no_members, number, object, string, unsigned}
 use Rattle.serde_json.specs.Written.{compact_text}
-use Rattle.ctt_text.specs.Problem.{Problem}
+use Rattle.ctt_text.specs.Problem.{Problem, has_barred}
 use Rattle.ctt_text.specs.declared.placed.Placed.{Placed}
 use Rattle.ctt_rules.specs.declared.cost.Cost.{Cost}
 use Rattle.ctt_rules.specs.declared.hard.Hard.{Hard}
@@ -20,14 +20,21 @@ count_line key count = line key (decimal count)
 abbrev pub answer_line : List ℕ → Bool → List ℕ
 answer_line key answer = line key (if answer then codes "yes" else codes "no")
 
--- the report on an instance of this name: how often hard constraints are broken, what the soft ones
--- cost, whether the timetable is lawful and whether it is complete
-unfoldable pub text_of : List ℕ → Hard → Cost → Bool → Bool → List ℕ
-text_of name hard cost lawful complete = line (codes "instance") name
+-- how many lectures are in barred rooms is said where some room is barred
+abbrev pub barred_line : Bool → ℕ → List ℕ
+barred_line true count = count_line (codes "barred") count
+barred_line false count = []
+
+-- the report on an instance of this name, in which some room is barred or none: how often hard
+-- constraints are broken, what the soft ones cost, whether the timetable is lawful and whether it is
+-- complete
+unfoldable pub text_of : List ℕ → Bool → Hard → Cost → Bool → Bool → List ℕ
+text_of name barred hard cost lawful complete = line (codes "instance") name
     ++ count_line (codes "lectures") hard.lectures
     ++ count_line (codes "conflicts") hard.conflicts
     ++ count_line (codes "availability") hard.availability
     ++ count_line (codes "occupancy") hard.occupancy
+    ++ barred_line barred hard.barred
     ++ count_line (codes "capacity") cost.capacity
     ++ count_line (codes "days") cost.days
     ++ count_line (codes "compactness") cost.compactness
@@ -37,9 +44,14 @@ text_of name hard cost lawful complete = line (codes "instance") name
     ++ answer_line (codes "complete") complete
 
 -- the same as a JSON object, with its members in the order of their keys
-unfoldable pub data_of : List ℕ → Hard → Cost → Bool → Bool → Data
-data_of name hard cost lawful complete = object
+abbrev pub barred_member : Bool → ℕ → Members → Members
+barred_member true count others = member (codes "barred") (number (unsigned count)) others
+barred_member false count others = others
+
+unfoldable pub data_of : List ℕ → Bool → Hard → Cost → Bool → Bool → Data
+data_of name barred hard cost lawful complete = object
     (member (codes "availability") (number (unsigned hard.availability))
+    (barred_member barred hard.barred
     (member (codes "capacity") (number (unsigned cost.capacity))
     (member (codes "compactness") (number (unsigned cost.compactness))
     (member (codes "complete") (boolean complete)
@@ -50,24 +62,25 @@ data_of name hard cost lawful complete = object
     (member (codes "lectures") (number (unsigned hard.lectures))
     (member (codes "occupancy") (number (unsigned hard.occupancy))
     (member (codes "stability") (number (unsigned cost.stability))
-    (member (codes "total") (number (unsigned (total cost))) no_members))))))))))))
+    (member (codes "total") (number (unsigned (total cost))) no_members)))))))))))))
 
--- the bytes are what `show` makes of the timetable's counts, its costs and the two judgements on it
-pub record Shows (show : List ℕ → Hard → Cost → Bool → Bool → List ℕ) (i : Problem) (t : List Placed) (bytes : List ℕ) : Type 0 where
+-- the bytes are what `show` makes of whether some room is barred, the timetable's counts, its costs and the two
+-- judgements on it
+pub record Shows (show : List ℕ → Bool → Hard → Cost → Bool → Bool → List ℕ) (i : Problem) (t : List Placed) (bytes : List ℕ) : Type 0 where
   pub lawful : Bool
   pub complete : Bool
   pub is_lawful : IsTrue lawful ↔ Lawful i t
   pub is_complete : IsTrue complete ↔ Complete i t
-  pub shown : bytes ≡ show i.name (hard_counts i t) (penalty i t) lawful complete
+  pub shown : bytes ≡ show i.name (has_barred i) (hard_counts i t) (penalty i t) lawful complete
 
 -- the report as text
 abbrev pub IsTextReport : Problem → List Placed → List ℕ → Type 0
 IsTextReport = Shows text_of
 
 -- the object in compact form, and the line's end
-abbrev pub json_of : List ℕ → Hard → Cost → Bool → Bool → List ℕ
-json_of name hard cost lawful complete =
-    compact_text (data_of name hard cost lawful complete) ++ codes "\n"
+abbrev pub json_of : List ℕ → Bool → Hard → Cost → Bool → Bool → List ℕ
+json_of name barred hard cost lawful complete =
+    compact_text (data_of name barred hard cost lawful complete) ++ codes "\n"
 
 -- the report as JSON
 abbrev pub IsJsonReport : Problem → List Placed → List ℕ → Type 0

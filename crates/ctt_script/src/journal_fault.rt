@@ -3,7 +3,7 @@
 ghost use Rattle.std.specs.Prelude.{◌≡◌};
 ghost use Rattle.ctt_script.specs.declared.journal_fault.JournalFault.TheVariants as journal_fault;
 
-use ctt_text::{FixedFault, NoMemory, PlaceFault, RoomFault};
+use ctt_text::{FixedFault, NoMemory, PlaceFault, RoomFault, SlotFault};
 use std::alloc::{AllocError, AllocFailed};
 
 /// Why a journal could not be read. A fault names a word, counted from 1, or `NotText` a byte.
@@ -50,10 +50,6 @@ impl PlaceFault for JournalFault {
 
     ghost unknown_course = { journal_fault.BadWord };
 
-    ghost day_out = { journal_fault.BadWord };
-
-    ghost period_out = { journal_fault.BadWord };
-
     fn missing(at: u64) -> JournalFault {
         JournalFault::Missing(at)
     }
@@ -65,6 +61,12 @@ impl PlaceFault for JournalFault {
     fn unknown_course(at: u64) -> JournalFault {
         JournalFault::BadWord(at)
     }
+}
+
+impl SlotFault for JournalFault {
+    ghost day_out = { journal_fault.BadWord };
+
+    ghost period_out = { journal_fault.BadWord };
 
     fn day_out(at: u64) -> JournalFault {
         JournalFault::BadWord(at)

@@ -62,6 +62,7 @@ pub(crate) enum FaultKind {
     AlreadyThere,
     CourseFull,
     Unavailable,
+    Barred,
     Clash,
     RoomTaken,
 }
@@ -198,6 +199,8 @@ pub(crate) fn fault_kind(word: &str) -> Option<FaultKind>
         Some(FaultKind::CourseFull)
     } else if is_word(word, "unavailable") {
         Some(FaultKind::Unavailable)
+    } else if is_word(word, "barred") {
+        Some(FaultKind::Barred)
     } else if is_word(word, "clash") {
         Some(FaultKind::Clash)
     } else if is_word(word, "roomtaken") {

@@ -1,12 +1,12 @@
 //! The reports on a timetable.
 
-ghost use Rattle.std.specs.Prelude.{◌≡◌, ◌++◌, ◌^◌, ◌<◌, IfOk, OnOk};
+ghost use Rattle.std.specs.Prelude.{◌≡◌, ◌++◌, ◌^◌, ◌<◌, IfOk, OnOk, codes, cond};
 ghost use Rattle.std.specs.String.{string_bytes};
 ghost use Rattle.serde_json.specs.Data.{boolean, number, put as with_member, string, unsigned};
 ghost use Rattle.serde_json.specs.View.{members_view, view};
 ghost use Rattle.ctt_text.specs.Timetable.{IsTimetable};
 ghost use Rattle.ctt_rules.specs.Penalty.{total};
-ghost use Rattle.ctt_script.specs.ReportText.{IsJsonReport, IsTextReport, answer_line, count_line, data_of, json_of, line, text_of};
+ghost use Rattle.ctt_script.specs.ReportText.{IsJsonReport, IsTextReport, answer_line, barred_line, count_line, data_of, json_of, line, text_of};
 
 use ctt_rules::{Assessment, assess};
 use ctt_text::{Instance, NoMemory, Placed};
@@ -27,6 +27,17 @@ fn push_count(report: &mut String, key: &str, count: u64) -> Result<(), AllocErr
     writeln!(report, "{key} {count}")
 }
 
+/// Adds the line of the lectures in barred rooms, where some room is barred.
+fn push_barred(report: &mut String, barred: bool, count: u64) -> Result<(), AllocError>
+    ensures { OnOk result (string_bytes report.new ≡ string_bytes report.old ++ barred_line barred count) }
+{
+    if barred {
+        push_count(report, "barred", count)
+    } else {
+        Ok(())
+    }
+}
+
 /// Adds a line that says yes or no.
 fn push_answer(report: &mut String, key: &str, answer: bool) -> Result<(), AllocError>
     ensures { OnOk result (string_bytes report.new ≡ string_bytes report.old ++ answer_line key.now answer) }
@@ -34,10 +45,15 @@ fn push_answer(report: &mut String, key: &str, answer: bool) -> Result<(), Alloc
     push_line(report, key, if answer { "yes" } else { "no" })
 }
 
-/// The report as text.
-fn text(alloc: Global, name: &str, assessment: Assessment) -> Result<String, AllocError>
+/// The report as text; whether some room is barred is told.
+fn text(
+    alloc: Global,
+    name: &str,
+    barred: bool,
+    assessment: Assessment,
+) -> Result<String, AllocError>
     requires { total assessment.cost < 2 ^ 64 }
-    ensures { IfOk result (λ text. string_bytes text ≡ text_of name.now assessment.hard assessment.cost assessment.lawful assessment.complete) }
+    ensures { IfOk result (λ text. string_bytes text ≡ text_of name.now barred assessment.hard assessment.cost assessment.lawful assessment.complete) }
 {
     let Assessment {
         hard,
@@ -51,6 +67,7 @@ fn text(alloc: Global, name: &str, assessment: Assessment) -> Result<String, All
     push_count(&mut report, "conflicts", hard.conflicts)?;
     push_count(&mut report, "availability", hard.availability)?;
     push_count(&mut report, "occupancy", hard.occupancy)?;
+    push_barred(&mut report, barred, hard.barred)?;
     push_count(&mut report, "capacity", cost.capacity)?;
     push_count(&mut report, "days", cost.days)?;
     push_count(&mut report, "compactness", cost.compactness)?;
@@ -88,6 +105,23 @@ fn put_count(
     serde_json::put(report, alloc, key, Value::from(count))
 }
 
+/// Adds the member of the lectures in barred rooms, where some room is barred.
+fn put_barred(
+    alloc: Global,
+    report: &mut Map<String, Value>,
+    barred: bool,
+    count: u64,
+) -> Result<(), AllocError>
+    ensures { OnOk result (members_view report.new.entries
+        ≡ cond barred (with_member (codes "barred") (number (unsigned count)) (members_view report.old.entries)) (members_view report.old.entries)) }
+{
+    if barred {
+        put_count(alloc, report, "barred", count)
+    } else {
+        Ok(())
+    }
+}
+
 /// Adds a member that is true or false.
 fn put_answer(
     alloc: Global,
@@ -101,10 +135,15 @@ fn put_answer(
     serde_json::put(report, alloc, key, Value::Bool(answer))
 }
 
-/// The report as JSON.
-fn json(alloc: Global, name: &str, assessment: Assessment) -> Result<Value, AllocError>
+/// The report as JSON; whether some room is barred is told.
+fn json(
+    alloc: Global,
+    name: &str,
+    barred: bool,
+    assessment: Assessment,
+) -> Result<Value, AllocError>
     requires { total assessment.cost < 2 ^ 64 }
-    ensures { IfOk result (λ value. view value ≡ data_of name.now assessment.hard assessment.cost assessment.lawful assessment.complete) }
+    ensures { IfOk result (λ value. view value ≡ data_of name.now barred assessment.hard assessment.cost assessment.lawful assessment.complete) }
 {
     let Assessment {
         hard,
@@ -114,6 +153,7 @@ fn json(alloc: Global, name: &str, assessment: Assessment) -> Result<Value, Allo
     } = assessment;
     let mut report = Map::new(alloc);
     put_count(alloc, &mut report, "availability", hard.availability)?;
+    put_barred(alloc, &mut report, barred, hard.barred)?;
     put_count(alloc, &mut report, "capacity", cost.capacity)?;
     put_count(alloc, &mut report, "compactness", cost.compactness)?;
     put_answer(alloc, &mut report, "complete", complete)?;
@@ -128,7 +168,7 @@ fn json(alloc: Global, name: &str, assessment: Assessment) -> Result<Value, Allo
     Ok(Value::Object(report))
 }
 
-/// The report on a timetable as twelve lines of text.
+/// The report on a timetable as lines of text: twelve, and one more where some room is barred.
 pub fn report_text(
     alloc: Global,
     instance: &Instance,
@@ -137,7 +177,8 @@ pub fn report_text(
     requires { IsTimetable instance.now timetable.now }
     ensures { IfOk result (λ bytes. IsTextReport instance.now timetable.now bytes.items) }
 {
-    let lines = text(alloc, instance.name(), assess(instance, timetable))?;
+    let barred = instance.has_barred();
+    let lines = text(alloc, instance.name(), barred, assess(instance, timetable))?;
     Ok(lines.into_bytes())
 }
 
@@ -150,7 +191,8 @@ pub fn report_json(
     requires { IsTimetable instance.now timetable.now }
     ensures { IfOk result (λ bytes. IsJsonReport instance.now timetable.now bytes.items) }
 {
-    let value = json(alloc, instance.name(), assess(instance, timetable))?;
+    let barred = instance.has_barred();
+    let value = json(alloc, instance.name(), barred, assess(instance, timetable))?;
     let mut report = value.to_string(alloc)?;
     report.push_str("\n")?;
     Ok(report.into_bytes())

@@ -153,6 +153,7 @@ pub fn write_fault(
         EditFault::AlreadyThere => text.push_str("already\n"),
         EditFault::CourseFull => text.push_str("full\n"),
         EditFault::Unavailable => text.push_str("unavailable\n"),
+        EditFault::Barred => text.push_str("barred\n"),
         EditFault::Clash(course) => write_named(text, "clash", instance.course_name(*course)),
         EditFault::RoomTaken(course) => {
             write_named(text, "roomtaken", instance.course_name(*course))

@@ -1,9 +1,9 @@
 -- What is known of an instance that is spelled: its limits and its numbers.
-use Rattle.std.proofs.Common.{◌≡◌, ℕ, ◌*◌, ◌<◌, ◌≤◌, List, [], ◌∷◌, length, map, true, ◌&&◌, ◌==◌, sym, ap, subst, ◌∙◌}
+use Rattle.std.proofs.Common.{◌≡◌, ℕ, ◌*◌, ◌<◌, ◌≤◌, List, [], ◌∷◌, length, map, true, false, ◌&&◌, ◌==◌, sym, ap, subst, ◌∙◌}
 use Rattle.std.specs.Prelude.{nat_lt, nat_le}
 use Rattle.std.specs.List.{list_all, AllByRecursion as Each}
 use Rattle.std.specs.Str.{bytes_eq}
-use Rattle.std.proofs.lemmas.List.{length-map}
+use Rattle.std.proofs.lemmas.List.{length-map, length-replicate}
 use Rattle.std.proofs.lemmas.Bool.{and_parts, leb-true, eqb-true}
 use Rattle.ctt_text.specs.Numbers.{is_digit, value}
 use Rattle.ctt_text.specs.Problem.{is_among, place_of, IsSmall, IsCourseFacts, AreMembers}
@@ -67,6 +67,7 @@ spelled_is_problem words i s =
       periods_few = subst (λ n. n ≤ 2000) (sym says.periods) o.header.periods.1;
       slots_few = subst (λ n. n ≤ 2000) (ap (λ d. d * value g.head.periods) (sym says.days) ∙ ap (λ p. i.days * p) (sym says.periods)) o.header.slots;
       marked = says.marks;
+      rooms_marked = ap (λ b. length b) says.barred ∙ length-replicate (length i.courses * length i.capacities) false;
       courses_named = names_many ∙ sym courses_many;
       rooms_named = ap (λ ns. length ns) says.room_names ∙ length-map g.rooms (λ r. r.name) ∙ sym rooms_many;
       curricula_named = ap (λ ns. length ns) says.curriculum_names ∙ length-map g.curricula (λ q. q.name) ∙ sym curricula_many;

@@ -1,6 +1,6 @@
 -- The whole text of an instance: what fills its form is what is spelled.
 use Rattle.std.proofs.Common.{◌≡◌, ℕ, ◌+◌, ◌*◌, ◌<◌, List, [], ◌∷◌, ◌++◌, length, map, flat_map, Bool, false, refl, sym, ap, subst, ◌∙◌}
-use Rattle.std.specs.Prelude.{codes, get_or}
+use Rattle.std.specs.Prelude.{codes, get_or, replicate}
 use Rattle.std.proofs.lemmas.List.{length-map}
 use Rattle.std.proofs.lemmas.Bool.{lt-ltb}
 use Rattle.ctt_text.specs.declared.fault.ReadFault.{ReadFault}
@@ -34,13 +34,13 @@ table g = table_of (course_names g.courses) (days_of g) (periods_of g) (value g.
 problem_same : (n n' : List ℕ) (cn cn' : List (List ℕ)) (c c' : List CourseFacts) (t t' rn rn' : List (List ℕ)) (r r' : List ℕ) (qn qn' q q' : List (List ℕ)) (d d' p p' : ℕ) (u : List Bool)
     → n ≡ n' → cn ≡ cn' → c ≡ c' → t ≡ t' → rn ≡ rn' → r ≡ r' → qn ≡ qn' → q ≡ q' → d ≡ d' → p ≡ p'
     → ◌≡◌ {A = Problem}
-    (record { name = n; course_names = cn; courses = c; teacher_names = t; room_names = rn; capacities = r; curriculum_names = qn; curricula = q; days = d; periods = p; unavailable = u })
-    (record { name = n'; course_names = cn'; courses = c'; teacher_names = t'; room_names = rn'; capacities = r'; curriculum_names = qn'; curricula = q'; days = d'; periods = p'; unavailable = u })
+    (record { name = n; course_names = cn; courses = c; teacher_names = t; room_names = rn; capacities = r; curriculum_names = qn; curricula = q; days = d; periods = p; unavailable = u; barred = replicate (length c * length r) false })
+    (record { name = n'; course_names = cn'; courses = c'; teacher_names = t'; room_names = rn'; capacities = r'; curriculum_names = qn'; curricula = q'; days = d'; periods = p'; unavailable = u; barred = replicate (length c' * length r') false })
 problem_same n n' cn cn' c c' t t' rn rn' r r' qn qn' q q' d d' p p' u e0 e1 e2 e3 e4 e5 e6 e7 e8 e9 = rw (e0, e1, e2, e3, e4, e5, e6, e7, e8, e9) refl
 
 -- what given words say is all but the table
 is_said : (g : Given) (i : Problem) → SaysInstance g i → i ≡ said g i.unavailable
-is_said g i says = problem_same _ _ _ _ _ _ _ _ _ _ _ _ _ _ _ _ _ _ _ _ i.unavailable
+is_said g i says = ap (λ b. record i { barred = b }) says.barred ∙ problem_same _ _ _ _ _ _ _ _ _ _ _ _ _ _ _ _ _ _ _ _ i.unavailable
     says.name
     says.course_names
     (says.courses ∙ ap (λ ts. map (facts_of ts) g.courses) says.teacher_names)
@@ -85,6 +85,7 @@ says_table g o =
       curricula = refl;
       marks = table_many (course_names g.courses) (days_of g) (periods_of g) (value g.head.courses) g.pairs ∙ ap (λ n. n * (days_of g * periods_of g)) (sym many);
       unavailable = λ c s known lt. looked_up (said g (table g)) c s lt ∙ table_says (course_names g.courses) (days_of g) (periods_of g) (value g.head.courses) g.pairs o.pairs c s (subst (λ n. c < n) many known) lt;
+      barred = refl;
     }
 
 -- what is spelled fills the form

@@ -1,5 +1,5 @@
 -- The places of the text of an instance, in their order, each with its rule and its faults.
-use Rattle.std.specs.Prelude.{ℕ, ◌+◌, ◌*◌, List, [], ◌∷◌, ◌++◌, Bool, true, false, ◌&&◌, nat_lt, nat_le, ◌==◌, if◌then◌else◌, codes, replicate, Result}
+use Rattle.std.specs.Prelude.{ℕ, ◌+◌, ◌*◌, List, [], ◌∷◌, ◌++◌, length, Bool, true, false, ◌&&◌, nat_lt, nat_le, ◌==◌, if◌then◌else◌, codes, replicate, Result}
 use Rattle.std.specs.List.{list_any, slice_set}
 use Rattle.std.specs.Str.{bytes_eq}
 use Rattle.ctt_text.specs.declared.fault.ReadFault.{ReadFault}
@@ -137,6 +137,7 @@ problem_of head courses rooms curricula unavailable = record {
   days = head.days;
   periods = head.periods;
   unavailable = unavailable;
+  barred = replicate (length courses.facts * length rooms.capacities) false;
 }
 
 unfoldable pub instance : Form ReadFault Problem

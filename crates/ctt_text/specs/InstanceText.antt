@@ -1,5 +1,5 @@
 -- How an instance is spelled: a relation between the whole list of words and the instance.
-use Rattle.std.specs.Prelude.{◌≡◌, ◌≤◌, ◌<◌, ℕ, ◌+◌, ◌*◌, List, [], ◌∷◌, ◌++◌, map, flat_map, length, Bool, true, false, ◌==◌, ◌&&◌, codes}
+use Rattle.std.specs.Prelude.{◌≡◌, ◌≤◌, ◌<◌, ℕ, ◌+◌, ◌*◌, List, [], ◌∷◌, ◌++◌, map, flat_map, length, Bool, true, false, ◌==◌, ◌&&◌, codes, replicate}
 use Rattle.std.specs.List.{list_any, AllByRecursion as Each}
 use Rattle.std.specs.Str.{bytes_eq}
 use Rattle.ctt_text.specs.declared.course_facts.CourseFacts.{CourseFacts}
@@ -180,6 +180,8 @@ pub record SaysInstance (g : Given) (i : Problem) : Type 0 where
   pub marks : length i.unavailable ≡ length i.courses * (i.days * i.periods)
   -- the listed pairs alone
   pub unavailable : (c s : ℕ) → c < length i.courses → s < i.days * i.periods → is_unavailable i c s ≡ list_any (is_listed i.course_names i.periods c s) g.pairs
+  -- which rooms are barred is said by another text
+  pub barred : i.barred ≡ replicate (length i.courses * length i.capacities) false
 
 -- The words begin with given words that obey the rules, and these say the instance; what follows them is ignored.
 pub record Spells (words : List (List ℕ)) (i : Problem) : Type 0 where

@@ -18,6 +18,7 @@ pub record Problem : Type 0 where
   pub days : ℕ
   pub periods : ℕ  -- per day
   pub unavailable : List Bool  -- for each course in turn, for each slot in turn
+  pub barred : List Bool  -- for each course in turn, for each room in turn
 
 abbrev pub course_of : Problem → ℕ → CourseFacts
 course_of i c = get_or i.courses c (record { teacher = 0; lectures = 0; min_days = 0; students = 0 })
@@ -65,6 +66,14 @@ clash i c d = not (c == d) && ((course_of i c).teacher == (course_of i d).teache
 abbrev pub is_unavailable : Problem → ℕ → ℕ → Bool
 is_unavailable i c s = nat_lt s (slot_count i) && get_or i.unavailable (c * slot_count i + s) false
 
+-- the room is barred for the course
+abbrev pub is_barred : Problem → ℕ → ℕ → Bool
+is_barred i c r = nat_lt r (room_count i) && get_or i.barred (c * room_count i + r) false
+
+-- some room is barred for some course
+abbrev pub has_barred : Problem → Bool
+has_barred i = list_any (λ b. b) i.barred
+
 -- whether a word is among names, and the number of a name among them
 abbrev pub is_among : List (List ℕ) → List ℕ → Bool
 is_among names word = list_any (bytes_eq word) names
@@ -98,6 +107,7 @@ pub record IsProblem (i : Problem) : Type 0 where
   pub periods_few : i.periods ≤ 2000
   pub slots_few : i.days * i.periods ≤ 2000
   pub marked : length i.unavailable ≡ length i.courses * (i.days * i.periods)
+  pub rooms_marked : length i.barred ≡ length i.courses * length i.capacities
   pub courses_named : length i.course_names ≡ length i.courses
   pub rooms_named : length i.room_names ≡ length i.capacities
   pub curricula_named : length i.curriculum_names ≡ length i.curricula

@@ -3,13 +3,15 @@
 ghost use Rattle.std.specs.Prelude.{◌≡◌, ◌<◌, ◌≤◌, ◌*◌, ◌&&◌, ℕ, [], length, nat_lt, slice_index_or, IfSome};
 ghost use Rattle.std.specs.List.{AllByRecursion as Each};
 ghost use Rattle.std.specs.Option.{option_map};
-ghost use Rattle.ctt_text.specs.Problem.{IsProblem, course_of, capacity_of, members, course_count, room_count, teacher_count, curriculum_count, slot_count, slot_of, day_of, period_of, clash, is_unavailable, number_in, IsSmall, AreMembers};
+ghost use Rattle.ctt_text.specs.Problem.{IsProblem, course_of, capacity_of, members, course_count, room_count, teacher_count, curriculum_count, slot_count, slot_of, day_of, period_of, clash, is_unavailable, is_barred, has_barred, number_in, IsSmall, AreMembers};
 ghost use Rattle.ctt_text.specs.Marks.{is_marked};
+ghost use Rattle.ctt_text.specs.Instance.{marks_in, HasMarks};
 ghost use Rattle.ctt_text.specs.Named.{IsNamed};
 ghost use Rattle.ctt_text.specs.Belonging.{curricula_of};
 ghost use Rattle.ctt_text.specs.Taught.{courses_taught_by};
 ghost use Rattle.ctt_text.specs.Labels.{IsLabelOf, IsLabelOfDigits};
 
+mod barred;
 mod belonging;
 mod clashes;
 mod courses;
@@ -17,21 +19,22 @@ mod curricula;
 mod header;
 mod members;
 mod number_lists;
+mod pair_marks;
 mod places;
 mod read;
 mod rooms;
 mod taught;
 mod unavailability;
-mod unavailable;
 
 use crate::course_facts::CourseFacts;
 use crate::ids::{CourseNo, CurriculumNo, RoomNo, SlotNo, TeacherNo};
 use crate::label::Label;
 use crate::marks::Marks;
 use crate::names::Names;
+pub use barred::read_barred;
+use pair_marks::PairMarks;
 pub use read::read_instance;
 use std::marker::Model;
-use unavailable::Unavailable;
 
 /// An instance of curriculum-based course timetabling, as it was read from its file.
 ///
@@ -48,7 +51,9 @@ pub struct Instance {
     curricula: Vec<Vec<CourseNo>>,
     days: u16,
     periods: u16,
-    unavailable: Unavailable,
+    unavailable: PairMarks,
+    /// Which rooms are barred for each course, where some are.
+    barred: Option<PairMarks>,
     /// For each course, those that it clashes with.
     clashes: Vec<Marks>,
     /// For each course, its curricula.
@@ -309,6 +314,33 @@ impl Instance {
     {
         let (course, slot) = (course.get() as usize, slot.get() as usize);
         self.unavailable.is_marked(course, slot)
+    }
+
+    /// Whether a room is barred for a course.
+    pub fn barred(&self, course: CourseNo, room: RoomNo) -> bool
+        requires course { course < course_count self.now }
+        requires room { room < room_count self.now }
+        ensures { result ≡ is_barred self.now course room }
+    {
+        match &self.barred {
+            Some(table) => table.is_marked(course.get() as usize, room.get() as usize),
+            None => false,
+        }
+    }
+
+    /// Bars these rooms for courses, and no others.
+    fn bar(&mut self, table: Option<PairMarks>)
+        requires { IfSome table (HasMarks (course_count self.old) (room_count self.old)) }
+        ensures { self.new ≡ record self.old { barred = marks_in (course_count self.old * room_count self.old) table } }
+    {
+        self.barred = table;
+    }
+
+    /// Whether some room is barred for some course.
+    pub fn has_barred(&self) -> bool
+        ensures { result ≡ has_barred self.now }
+    {
+        self.barred.is_some()
     }
 
     /// The slot of a period in a day.

@@ -1,7 +1,8 @@
-//! Laws about the texts of instances and of solutions, each the contract of a function that
+//! Laws about the texts of instances, of solutions and of barred rooms, each the contract of a function that
 //! computes nothing.
 
 ghost use Rattle.ctt_text.specs.InstanceLaws.{ReadsWhatIsSpelled, SpellsOne, FailsWhereBroken, BreaksOnce, SpellsOrBreaks, SpelledIsProblem, SpelledIsNamed};
+ghost use Rattle.ctt_text.specs.BarredLaws.{ReadsBarred, SpellsOneBarred, BarredFailsWhereBroken, BarredBreaksOnce, BarredSpellsOrBreaks};
 ghost use Rattle.ctt_text.specs.SolutionLaws.{ReadsSolutions, SpellsOneTimetable, SolutionFailsWhereBroken, SolutionBreaksOnce, SolutionSpellsOrBreaks, SpelledIsTimetable, WrittenSpells};
 
 /// Reading answers an instance exactly where the words spell it.
@@ -73,4 +74,30 @@ pub fn spelled_is_timetable()
 /// What is written of a timetable spells it, and no other.
 pub fn written_spells()
     ensures { WrittenSpells }
+{}
+
+/// Reading answers which rooms are barred exactly where the words spell it.
+pub fn reads_barred()
+    ensures { ReadsBarred }
+{}
+
+/// Words spell the marks of one table of barred rooms at most.
+pub fn spells_one_barred()
+    ensures { SpellsOneBarred }
+{}
+
+/// Reading barred rooms answers a fault exactly where the words break the form, at the place of that
+/// fault.
+pub fn barred_fails_where_broken()
+    ensures { BarredFailsWhereBroken }
+{}
+
+/// Words break the form of barred rooms at one place at most, by one fault.
+pub fn barred_breaks_once()
+    ensures { BarredBreaksOnce }
+{}
+
+/// Words either spell which rooms are barred or break the form, and never both.
+pub fn barred_spells_or_breaks()
+    ensures { BarredSpellsOrBreaks }
 {}

@@ -20,17 +20,17 @@ mod timetable;
 mod words;
 
 pub use course_facts::CourseFacts;
-pub use fault::{ReadFault, SolutionFault};
+pub use fault::{BarredFault, ReadFault, SolutionFault};
 pub use ids::{CourseNo, CurriculumNo, RoomNo, SlotNo, TeacherNo};
-pub use instance::{Instance, read_instance};
+pub use instance::{Instance, read_barred, read_instance};
 pub use label::Label;
 pub use marks::Marks;
 pub use no_memory::NoMemory;
 pub use numbers::number;
 pub use placed::Placed;
 pub use places::{
-    FixedFault, PlaceFault, RoomFault, next_course, next_day, next_fixed, next_number, next_period,
-    next_room, next_word,
+    FixedFault, PlaceFault, RoomFault, SlotFault, next_course, next_day, next_fixed, next_number,
+    next_period, next_room, next_word,
 };
 pub use reader::Reader;
 pub use solution::{read_solution, write_solution};

@@ -23,12 +23,6 @@ pub trait PlaceFault: Sized {
     /// The fault of a word that is no course's name.
     ghost unknown_course: { ℕ → Self };
 
-    /// The fault of a day that is not below the number of days.
-    ghost day_out: { ℕ → Self };
-
-    /// The fault of a period that is not below the number of periods of a day.
-    ghost period_out: { ℕ → Self };
-
     /// No word is there.
     fn missing(at: u64) -> Self
         ensures { result ≡ missing at };
@@ -40,6 +34,17 @@ pub trait PlaceFault: Sized {
     /// The word is no course's name.
     fn unknown_course(at: u64) -> Self
         ensures { result ≡ unknown_course at };
+}
+
+/// The faults of a text that names days and periods.
+pub trait SlotFault: PlaceFault {
+    ghost use Rattle.std.specs.Prelude.{ℕ};
+
+    /// The fault of a day that is not below the number of days.
+    ghost day_out: { ℕ → Self };
+
+    /// The fault of a period that is not below the number of periods of a day.
+    ghost period_out: { ℕ → Self };
 
     /// The day is not below the number of days.
     fn day_out(at: u64) -> Self
@@ -145,7 +150,7 @@ pub fn next_room<F: RoomFault + Drop>(reader: &mut Reader, instance: &Instance) 
 
 /// A day below the number of days.
 #[tactic(auto, using(crate::proofs::Steps::read_number_if))]
-pub(crate) fn next_day_below<F: PlaceFault + Drop>(reader: &mut Reader, days: u32) -> Result<u32, F>
+pub(crate) fn next_day_below<F: SlotFault + Drop>(reader: &mut Reader, days: u32) -> Result<u32, F>
     ensures within { IfOk result (λ day. day < days) }
     ensures exact { Reads (λ day. (day, reader.new)) result (reading F.missing (number_if F.bad_number (λ n. nat_lt n days) F.day_out) reader.old) }
 {
@@ -160,7 +165,7 @@ pub(crate) fn next_day_below<F: PlaceFault + Drop>(reader: &mut Reader, days: u3
 
 /// A period below the number of periods of a day.
 #[tactic(auto, using(crate::proofs::Steps::read_number_if))]
-pub(crate) fn next_period_below<F: PlaceFault + Drop>(
+pub(crate) fn next_period_below<F: SlotFault + Drop>(
     reader: &mut Reader,
     periods: u32,
 ) -> Result<u32, F>
@@ -177,7 +182,7 @@ pub(crate) fn next_period_below<F: PlaceFault + Drop>(
 }
 
 /// A day of the instance.
-pub fn next_day<F: PlaceFault + Drop>(reader: &mut Reader, instance: &Instance) -> Result<u16, F>
+pub fn next_day<F: SlotFault + Drop>(reader: &mut Reader, instance: &Instance) -> Result<u16, F>
     ensures within { IfOk result (λ day. day < instance.now.days) }
     ensures exact { Reads (λ day. (day, reader.new)) result (reading F.missing (number_if F.bad_number (λ n. nat_lt n instance.now.days) F.day_out) reader.old) }
 {
@@ -186,7 +191,7 @@ pub fn next_day<F: PlaceFault + Drop>(reader: &mut Reader, instance: &Instance) 
 }
 
 /// A period of a day of the instance.
-pub fn next_period<F: PlaceFault + Drop>(reader: &mut Reader, instance: &Instance) -> Result<u16, F>
+pub fn next_period<F: SlotFault + Drop>(reader: &mut Reader, instance: &Instance) -> Result<u16, F>
     ensures within { IfOk result (λ period. period < instance.now.periods) }
     ensures exact { Reads (λ period. (period, reader.new)) result (reading F.missing (number_if F.bad_number (λ n. nat_lt n instance.now.periods) F.period_out) reader.old) }
 {

@@ -1,11 +1,14 @@
 -- Why a text is refused.
-use Rattle.std.proofs.Common.{◌≡◌, ◌∙◌, ◌⊎◌, inl, inr, ap, subst, sym, ℕ, List, arith, IfErr, IfSome, IsErrAnd, Option, Result, Ok, Err}
+use Rattle.std.proofs.Common.{◌≡◌, ◌∙◌, ◌⊎◌, inl, inr, ap, subst, sym, ℕ, List, Bool, arith, IfErr, IfSome, IsErrAnd, Option, Result, Ok, Err}
 use Rattle.std.proofs.lemmas.Option.{IfSome_then}
 use Rattle.std.specs.Str.{IsUtf8}
+use Rattle.ctt_text.specs.BarredText.{BarSpells}
 use Rattle.ctt_text.specs.InstanceText.{Spells}
 use Rattle.ctt_text.specs.Problem.{Problem}
 use Rattle.ctt_text.specs.SolutionText.{SolSpells}
 use Rattle.ctt_text.specs.Words.{words}
+use Rattle.ctt_text.specs.declared.fault.BarredFault.{BarredFault}
+use Rattle.ctt_text.specs.declared.fault.BarredFault.TheVariants as barred
 use Rattle.ctt_text.specs.declared.fault.ReadFault.{ReadFault}
 use Rattle.ctt_text.specs.declared.fault.ReadFault.TheVariants as instance
 use Rattle.ctt_text.specs.declared.fault.SolutionFault.{SolutionFault}
@@ -16,10 +19,10 @@ use Rattle.ctt_script.specs.declared.journal_fault.JournalFault.{JournalFault}
 use Rattle.ctt_script.specs.declared.journal_fault.JournalFault.TheVariants as journal
 use Rattle.ctt_text.specs.declared.placed.Placed.{Placed}
 use Rattle.ctt_text.proofs.FormLaws.{err_is_ok, err_same}
-use Rattle.ctt_tool.specs.Texts.{IsNoInstance, IsNoJournal, IsNoSolution}
-use Rattle.ctt_tool.specs.Faults.{IfUnwritten, fault_of_instance, fault_of_journal, fault_of_solution, status_of}
+use Rattle.ctt_tool.specs.Texts.{IsNoBarred, IsNoInstance, IsNoJournal, IsNoSolution}
+use Rattle.ctt_tool.specs.Faults.{IfUnwritten, fault_of_barred, fault_of_instance, fault_of_journal, fault_of_solution, status_of}
 use Rattle.ctt_tool.specs.declared.fault.Fault.{Fault}
-use Rattle.ctt_tool.specs.declared.fault.Fault.TheVariants.{CannotRead, CannotWrite, Instance, Journal, NoMemory, NoPlace, NoThread, Opening, Solution, TooLong, TooManyScripts, Words, WordsNotText}
+use Rattle.ctt_tool.specs.declared.fault.Fault.TheVariants.{Barred, CannotRead, CannotWrite, Instance, Journal, NoMemory, NoPlace, NoThread, Opening, Solution, TooLong, TooManyScripts, Words, WordsNotText}
 
 -- the status that is told is that of the fault, unless it is 3
 pub one_is_of_fault : (fault : Fault) (status : ℕ) → (status ≡ status_of fault) ⊎ (status ≡ 3) → status ≡ 1 → status_of fault ≡ 1
@@ -35,6 +38,7 @@ machine_only : (fault : Fault) (A K P : Type 0) → IfUnwritten fault A ((fault 
 machine_only CannotWrite A K P is one = three_is_one one
 machine_only (Instance number at) A K P is one = three_is_one (ap status_of (sym is.0) ∙ one)
 machine_only (Solution number at) A K P is one = three_is_one (ap status_of (sym is.0) ∙ one)
+machine_only (Barred number at) A K P is one = three_is_one (ap status_of (sym is.0) ∙ one)
 machine_only (Journal number at) A K P is one = three_is_one (ap status_of (sym is.0) ∙ one)
 machine_only (Opening text) A K P is one = three_is_one (ap status_of (sym is.0) ∙ one)
 machine_only (CannotRead name) A K P is one = three_is_one (ap status_of (sym is.0) ∙ one)
@@ -77,6 +81,17 @@ pub solution_refused : {T : Type 0} (r : Result T Fault) (read : SolutionFault) 
 solution_refused (Ok x) read problem told bytes items gives takes copied all = tt
 solution_refused (Err fault) read problem told bytes items gives takes copied all = λ one. IfSome_then told all (λ held same. subst (IsNoSolution problem) (copied ∙ same)
     (λ timetable is. three_is_one (subst (λ fault. status_of (fault_of_solution fault) ≡ 1) (takes timetable is.is_text is.spells) (sym (ap status_of gives) ∙ one))))
+
+-- the same of barred rooms
+abbrev pub TakesBarred : Problem → List ℕ → BarredFault → Type 0
+TakesBarred problem bytes read = (table : List Bool) → IsUtf8 bytes → BarSpells problem (words bytes) table → read ≡ barred.NoMemory
+
+-- and the text of barred rooms bars none
+pub barred_refused : {T : Type 0} (r : Result T Fault) (read : BarredFault) (problem : Problem) (told : Option (List ℕ)) (bytes items : List ℕ) → IsErrAnd r (λ fault. fault ≡ fault_of_barred read) → TakesBarred problem bytes read
+    → bytes ≡ items → IfSome told (λ held. items ≡ held) → IfErr r (λ fault. status_of fault ≡ 1 → IfSome told (IsNoBarred problem))
+barred_refused (Ok x) read problem told bytes items gives takes copied all = tt
+barred_refused (Err fault) read problem told bytes items gives takes copied all = λ one. IfSome_then told all (λ held same. subst (IsNoBarred problem) (copied ∙ same)
+    (λ made is. three_is_one (subst (λ fault. status_of (fault_of_barred fault) ≡ 1) (takes is.table is.is_text is.spells) (sym (ap status_of gives) ∙ one))))
 
 -- the same of journals
 abbrev pub TakesJournals : Problem → List ℕ → JournalFault → Type 0

@@ -6,7 +6,7 @@ use Rattle.ctt_tool.specs.Outcomes.{outcome_status}
 use Rattle.ctt_tool.specs.Texts.{Held}
 use Rattle.ctt_tool.specs.Work.{DoesAsAsked}
 use Rattle.ctt_tool.specs.declared.fault.Fault.{Fault}
-use Rattle.ctt_tool.specs.declared.fault.Fault.TheVariants.{CannotRead, CannotWrite, Instance, Journal, NoMemory, NoPlace, NoThread, Opening, Solution, TooLong, TooManyScripts, Words, WordsNotText}
+use Rattle.ctt_tool.specs.declared.fault.Fault.TheVariants.{Barred, CannotRead, CannotWrite, Instance, Journal, NoMemory, NoPlace, NoThread, Opening, Solution, TooLong, TooManyScripts, Words, WordsNotText}
 use Rattle.ctt_tool.specs.declared.job.Job.TheVariants.{Audit, Check, Crew, Run}
 use Rattle.ctt_tool.specs.declared.outcome.Outcome.{Outcome}
 use Rattle.ctt_tool.specs.declared.outcome.Outcome.TheVariants.{Done, Differs}
@@ -45,6 +45,7 @@ ended_kept CannotWrite status S K is kept = ⊎_elim inl (λ stored. inr (⊎_el
 ended_kept NoMemory status S K is kept = inl kept
 ended_kept (Instance number at) status S K is kept = inl kept
 ended_kept (Solution number at) status S K is kept = inl kept
+ended_kept (Barred number at) status S K is kept = inl kept
 ended_kept (Journal number at) status S K is kept = inl kept
 ended_kept (Opening text) status S K is kept = inl kept
 ended_kept (CannotRead name) status S K is kept = inl kept
@@ -58,10 +59,10 @@ ended_kept NoPlace status S K is kept = inl kept
 -- an audit that does not agree has changed no file
 pub differs_kept : (words : List (List ℕ)) (before after : Held) (old new : Option (List ℕ)) → DoesAsAsked words Differs before after old new → after ≡ before
 differs_kept words before after old new (inl help) = help.2
-differs_kept words before after old new (inr (taken, (Check instance solution json, is, does))) = cc
-differs_kept words before after old new (inr (taken, (Run instance script start journal, is, does))) = cc
-differs_kept words before after old new (inr (taken, (Audit instance journal start, is, does))) = does.0
-differs_kept words before after old new (inr (taken, (Crew instance scripts, is, does))) = cc
+differs_kept words before after old new (inr (taken, (Check instance barred solution json, is, does))) = cc
+differs_kept words before after old new (inr (taken, (Run instance barred script start journal, is, does))) = cc
+differs_kept words before after old new (inr (taken, (Audit instance barred journal start, is, does))) = does.0
+differs_kept words before after old new (inr (taken, (Crew instance barred scripts, is, does))) = cc
 
 -- where a text is refused, nothing was printed
 pub unprinted_one : (fault : Fault) (P : Type 0) → MayHaveWritten fault ⊎ P → status_of fault ≡ 1 → P
@@ -70,6 +71,7 @@ unprinted_one CannotWrite P (inl may) one = three_is_one one
 unprinted_one NoMemory P (inl may) one = three_is_one one
 unprinted_one (Instance number at) P (inl may) one = absurd may
 unprinted_one (Solution number at) P (inl may) one = absurd may
+unprinted_one (Barred number at) P (inl may) one = absurd may
 unprinted_one (Journal number at) P (inl may) one = absurd may
 unprinted_one (Opening text) P (inl may) one = absurd may
 unprinted_one (CannotRead name) P (inl may) one = absurd may

@@ -1,14 +1,14 @@
 -- What holds where bytes are told.
-use Rattle.std.proofs.Common.{◌≡◌, ◌≤◌, ◌<◌, ◌⊎◌, ⊎_elim, length, arith, string_bytes, inl, inr, ℕ, Bool, true, List, refl, sym, subst, IfErr, IfSome, IsErrAnd, OnOk, Option, Some, None, Result, Ok, Err}
+use Rattle.std.proofs.Common.{◌≡◌, ◌≤◌, ◌<◌, ◌⊎◌, ◌++◌, ◌∷◌, ⊎_elim, length, arith, string_bytes, inl, inr, ℕ, Bool, true, List, refl, sym, subst, IfErr, IfSome, IsErrAnd, OnOk, Option, Some, None, Result, Ok, Err}
 use Rattle.std.specs.Global.{Global}
 use Rattle.std.specs.Io.KnownBytes.{Appends}
 use Rattle.std.specs.declared.string.String.{String}
 use Rattle.std.proofs.lemmas.List.{length-map}
 use Rattle.ctt_tool.specs.Faults.{IfUnwritten, IsLineOf, IsOfFiles, IsOneOf, KeptUnless, SaysFault, status_of}
-use Rattle.ctt_tool.specs.Jobs.{HasScripts, IsJobOf, IsOfJob, IsRefusal, Storing, faults_of, files_of, scripts_of}
+use Rattle.ctt_tool.specs.Jobs.{HasScripts, given, IsJobOf, IsOfJob, IsRefusal, Storing, faults_of, files_of, scripts_of}
 use Rattle.ctt_tool.specs.Work.{AsksForTooMany, HasCause}
 use Rattle.ctt_tool.specs.declared.fault.Fault.{Fault}
-use Rattle.ctt_tool.specs.declared.fault.Fault.TheVariants.{CannotRead, CannotWrite, Instance, Journal, NoMemory, NoPlace, NoThread, Opening, Solution, TooLong, TooManyScripts, Words, WordsNotText}
+use Rattle.ctt_tool.specs.declared.fault.Fault.TheVariants.{Barred, CannotRead, CannotWrite, Instance, Journal, NoMemory, NoPlace, NoThread, Opening, Solution, TooLong, TooManyScripts, Words, WordsNotText}
 use Rattle.ctt_tool.specs.declared.job.Job.{Job}
 use Rattle.ctt_tool.specs.declared.job.Job.TheVariants.{Audit, Check, Crew, Run}
 
@@ -50,37 +50,48 @@ of_more_files names more held (CannotRead name) within is = within name is
 of_more_files names more held (TooLong name) within is = (within name is.0, is.1)
 of_more_files names more held _ within is = tt
 
+-- files behind others that may be given are among all of these, and those in front are
+pub one_behind : (barred : Option (String Global)) (names : List (String Global)) (name : String Global) → IsOneOf name names → IsOneOf name (given barred ++ names)
+one_behind None names name one = one
+one_behind (Some other) names name one = inr one
+
+pub one_in_front : (barred : Option (String Global)) (first : String Global) (names : List (String Global)) (name : String Global) → IsOneOf name (first ∷ given barred) → IsOneOf name (first ∷ given barred ++ names)
+one_in_front barred first names name (inl same) = inl same
+one_in_front None first names name (inr none) = absurd none
+one_in_front (Some other) first names name (inr (inl same)) = inr (inl same)
+one_in_front (Some other) first names name (inr (inr none)) = absurd none
+
 -- scripts are too many only for a crew, and threads and places are only a crew's
 too_many : (job : Job) → IsOfJob job TooManyScripts → 64 < length (scripts_of job)
-too_many (Check instance solution json) is = absurd is
-too_many (Run instance script start journal) is = absurd is
-too_many (Audit instance journal start) is = absurd is
-too_many (Crew instance scripts) is = is
+too_many (Check instance barred solution json) is = absurd is
+too_many (Run instance barred script start journal) is = absurd is
+too_many (Audit instance barred journal start) is = absurd is
+too_many (Crew instance barred scripts) is = is
 
 some_scripts : (job : Job) → IsOfJob job NoThread → 1 ≤ length (scripts_of job)
-some_scripts (Check instance solution json) is = absurd is
-some_scripts (Run instance script start journal) is = absurd is
-some_scripts (Audit instance journal start) is = absurd is
-some_scripts (Crew instance scripts) is = is
+some_scripts (Check instance barred solution json) is = absurd is
+some_scripts (Run instance barred script start journal) is = absurd is
+some_scripts (Audit instance barred journal start) is = absurd is
+some_scripts (Crew instance barred scripts) is = is
 
 some_places : (job : Job) → IsOfJob job NoPlace → 1 ≤ length (scripts_of job)
-some_places (Check instance solution json) is = absurd is
-some_places (Run instance script start journal) is = absurd is
-some_places (Audit instance journal start) is = absurd is
-some_places (Crew instance scripts) is = is
+some_places (Check instance barred solution json) is = absurd is
+some_places (Run instance barred script start journal) is = absurd is
+some_places (Audit instance barred journal start) is = absurd is
+some_places (Crew instance barred scripts) is = is
 
 -- and no job refuses the words that ask for it
 no_words : (job : Job) (text : String Global) → IsOfJob job (Words text) → ⊥
-no_words (Check instance solution json) text is = is
-no_words (Run instance script start journal) text is = is
-no_words (Audit instance journal start) text is = is
-no_words (Crew instance scripts) text is = is
+no_words (Check instance barred solution json) text is = is
+no_words (Run instance barred script start journal) text is = is
+no_words (Audit instance barred journal start) text is = is
+no_words (Crew instance barred scripts) text is = is
 
 no_word : (job : Job) → IsOfJob job WordsNotText → ⊥
-no_word (Check instance solution json) is = is
-no_word (Run instance script start journal) is = is
-no_word (Audit instance journal start) is = is
-no_word (Crew instance scripts) is = is
+no_word (Check instance barred solution json) is = is
+no_word (Run instance barred script start journal) is = is
+no_word (Audit instance barred journal start) is = is
+no_word (Crew instance barred scripts) is = is
 
 -- the cause of a fault of a job
 pub job_caused : (words : List (List ℕ)) (held : List ℕ → Option (List ℕ)) (failed : Bool) (job : Job) (Q : Type 0) (fault : Fault) → IsJobOf words job → IsOfFiles (files_of job) held fault
@@ -101,6 +112,7 @@ job_refused words job P Q (Words text) is unwritten two = absurd (no_words job t
 job_refused words job P Q WordsNotText is unwritten two = absurd (no_word job unwritten.0)
 job_refused words job P Q (Instance number at) is unwritten two = absurd (omega (arith, two))
 job_refused words job P Q (Solution number at) is unwritten two = absurd (omega (arith, two))
+job_refused words job P Q (Barred number at) is unwritten two = absurd (omega (arith, two))
 job_refused words job P Q (Journal number at) is unwritten two = absurd (omega (arith, two))
 job_refused words job P Q (Opening text) is unwritten two = absurd (omega (arith, two))
 job_refused words job P Q (CannotRead name) is unwritten two = absurd (omega (arith, two))
@@ -112,10 +124,10 @@ job_refused words job P Q NoPlace is unwritten two = absurd (omega (arith, two))
 
 -- a job that words ask for has what a crew needs
 pub job_has_scripts : (words : List (List ℕ)) (job : Job) → IsJobOf words job → HasScripts job
-job_has_scripts words (Check instance solution json) is = tt
-job_has_scripts words (Run instance script start journal) is = tt
-job_has_scripts words (Audit instance journal start) is = tt
-job_has_scripts words (Crew instance scripts) is = subst (λ n. 1 ≤ n) (length-map scripts.items string_bytes) is.2.has_some
+job_has_scripts words (Check instance barred solution json) is = tt
+job_has_scripts words (Run instance barred script start journal) is = tt
+job_has_scripts words (Audit instance barred journal start) is = tt
+job_has_scripts words (Crew instance barred scripts) is = subst (λ n. 1 ≤ n) (length-map scripts.items string_bytes) is.2.has_some
 
 -- what holds of a fault holds where it is passed on
 pub passed_on : {T : Type 0} (r : Result T Fault) (fault : Fault) (P : Fault → Type 0) → IsErrAnd r (λ told. told ≡ fault) → P fault → IfErr r P
@@ -128,6 +140,7 @@ kept_unless CannotWrite S K kept = inl kept
 kept_unless NoMemory S K kept = kept
 kept_unless (Instance number at) S K kept = kept
 kept_unless (Solution number at) S K kept = kept
+kept_unless (Barred number at) S K kept = kept
 kept_unless (Journal number at) S K kept = kept
 kept_unless (Opening text) S K kept = kept
 kept_unless (CannotRead name) S K kept = kept
@@ -143,6 +156,7 @@ kept_weaker CannotWrite S R K L more kept is = ⊎_elim (λ same. inl (kept same
 kept_weaker NoMemory S R K L more kept is = kept is
 kept_weaker (Instance number at) S R K L more kept is = kept is
 kept_weaker (Solution number at) S R K L more kept is = kept is
+kept_weaker (Barred number at) S R K L more kept is = kept is
 kept_weaker (Journal number at) S R K L more kept is = kept is
 kept_weaker (Opening text) S R K L more kept is = kept is
 kept_weaker (CannotRead name) S R K L more kept is = kept is

@@ -9,7 +9,7 @@ use Rattle.clap.specs.Words.{Row, Text, all_of, first_of}
 use Rattle.ctt_tool.specs.Faults.{IsOfCrew, IsOfFile, IsOfFiles, IsOfReading, IsOfTexts, IsOneOf, status_of}
 use Rattle.ctt_tool.specs.Texts.{Held, Holds, HoldInTurn}
 use Rattle.ctt_tool.specs.declared.fault.Fault.{Fault}
-use Rattle.ctt_tool.specs.declared.fault.Fault.TheVariants.{CannotRead, CannotWrite, Instance, Journal, NoMemory, NoPlace, NoThread, Opening, Solution, TooLong, TooManyScripts, Words, WordsNotText}
+use Rattle.ctt_tool.specs.declared.fault.Fault.TheVariants.{Barred, CannotRead, CannotWrite, Instance, Journal, NoMemory, NoPlace, NoThread, Opening, Solution, TooLong, TooManyScripts, Words, WordsNotText}
 
 -- ---- what the words give
 
@@ -99,6 +99,7 @@ file_is_read name (TooLong file) is = tt
 file_is_read name NoMemory is = tt
 file_is_read name (Instance number at) is = is
 file_is_read name (Solution number at) is = is
+file_is_read name (Barred number at) is = is
 file_is_read name (Journal number at) is = is
 file_is_read name (Opening text) is = is
 file_is_read name (Words text) is = is
@@ -114,6 +115,7 @@ texts_of_crew scripts (TooLong file) is = tt
 texts_of_crew scripts NoMemory is = tt
 texts_of_crew scripts (Instance number at) is = tt
 texts_of_crew scripts (Solution number at) is = tt
+texts_of_crew scripts (Barred number at) is = tt
 texts_of_crew scripts (Journal number at) is = tt
 texts_of_crew scripts (Opening text) is = tt
 texts_of_crew scripts (Words text) is = absurd is
@@ -129,6 +131,7 @@ reading_of_texts (TooLong file) is = tt
 reading_of_texts NoMemory is = tt
 reading_of_texts (Instance number at) is = tt
 reading_of_texts (Solution number at) is = tt
+reading_of_texts (Barred number at) is = tt
 reading_of_texts (Journal number at) is = tt
 reading_of_texts (Opening text) is = tt
 reading_of_texts (Words text) is = is
@@ -144,6 +147,7 @@ reading_is_three (TooLong file) is = refl
 reading_is_three NoMemory is = refl
 reading_is_three (Instance number at) is = absurd is
 reading_is_three (Solution number at) is = absurd is
+reading_is_three (Barred number at) is = absurd is
 reading_is_three (Journal number at) is = absurd is
 reading_is_three (Opening text) is = absurd is
 reading_is_three (Words text) is = absurd is

@@ -12,7 +12,7 @@ use Rattle.ctt_core.specs.declared.auditing.Verdict.{Verdict}
 use Rattle.ctt_core.specs.declared.auditing.Verdict.TheVariants as verdict
 use Rattle.ctt_core.specs.declared.journal.JournalEntry.{JournalEntry}
 use Rattle.ctt_script.specs.WrittenText.{line}
-use Rattle.ctt_tool.specs.Texts.{Held, Holds, IsInstanceText, IsJournalText, IsNoInstance, IsNoJournal, IsRefusedStart, IsStart}
+use Rattle.ctt_tool.specs.Texts.{Held, Holds, IsInstanceIn, IsJournalText, IsNoInstanceIn, IsNoJournal, IsRefusedStart, IsStart}
 use Rattle.ctt_tool.specs.declared.outcome.Outcome.{Outcome}
 use Rattle.ctt_tool.specs.declared.outcome.Outcome.TheVariants.{Done, Differs}
 
@@ -46,16 +46,16 @@ pub record AuditsOn (problem : Problem) (journal : String Global) (start : Optio
   pub prints : PrintsVerdict verdict outcome old new
 
 -- the same, of the instance in a file
-pub record AuditsJournal (instance journal : String Global) (start : Option (String Global)) (outcome : Outcome) (held : Held) (old new : Option (List ℕ)) : Type 0 where
+pub record AuditsJournal (instance : String Global) (barred : Option (String Global)) (journal : String Global) (start : Option (String Global)) (outcome : Outcome) (held : Held) (old new : Option (List ℕ)) : Type 0 where
   pub problem : Problem
-  pub is_instance : Holds held instance (λ text. IsInstanceText text problem)
+  pub is_instance : IsInstanceIn held instance barred problem
   pub audits : AuditsOn problem journal start outcome held old new
 
 -- the file holds no journal of the instance, or there is no timetable to open with
 abbrev pub IsRefusedJournal : Problem → Held → String Global → Option (String Global) → Type 0
 IsRefusedJournal problem held journal start = Holds held journal (IsNoJournal problem) ⊎ IsRefusedStart problem held start
 
--- the first file holds no instance, or an instance with which the others are refused
-abbrev pub IsRefusedAudit : Held → String Global → String Global → Option (String Global) → Type 0
-IsRefusedAudit held instance journal start = Holds held instance IsNoInstance
-    ⊎ ((problem : Problem) × Holds held instance (λ text. IsInstanceText text problem) × IsRefusedJournal problem held journal start)
+-- there is no instance, or one with which the other files are refused
+abbrev pub IsRefusedAudit : Held → String Global → Option (String Global) → String Global → Option (String Global) → Type 0
+IsRefusedAudit held instance barred journal start = IsNoInstanceIn held instance barred
+    ⊎ ((problem : Problem) × IsInstanceIn held instance barred problem × IsRefusedJournal problem held journal start)

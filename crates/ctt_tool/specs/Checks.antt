@@ -1,18 +1,12 @@
 -- What the command `check` prints, and which texts it refuses.
 use Rattle.std.specs.Prelude.{◌⊎◌, ℕ, Bool, true, false, List, Option}
+use Rattle.std.specs.Global.{Global}
 use Rattle.std.specs.Io.KnownBytes.{Appends}
+use Rattle.std.specs.declared.string.String.{String}
 use Rattle.ctt_text.specs.Problem.{Problem}
 use Rattle.ctt_text.specs.declared.placed.Placed.{Placed}
 use Rattle.ctt_script.specs.ReportText.{IsJsonReport, IsTextReport}
-use Rattle.ctt_tool.specs.Texts.{IsInstanceText, IsNoInstance, IsNoSolution, IsSolutionText}
-
--- the first text is that of an instance, and the second that of no solution of it
-abbrev pub IsNoSolutionOf : List ℕ → List ℕ → Type 0
-IsNoSolutionOf instance solution = (problem : Problem) × IsInstanceText instance problem × IsNoSolution problem solution
-
--- one of the two is refused: the first is that of no instance, or the second that of no solution of it
-abbrev pub OneIsRefused : List ℕ → List ℕ → Type 0
-OneIsRefused instance solution = IsNoInstance instance ⊎ IsNoSolutionOf instance solution
+use Rattle.ctt_tool.specs.Texts.{Held, Holds, IsInstanceIn, IsNoInstanceIn, IsNoSolution, IsSolutionText}
 
 -- the report as JSON where it is asked for, and else as text
 abbrev pub IsReport : Bool → Problem → List Placed → List ℕ → Type 0
@@ -25,13 +19,18 @@ pub record IsReportFor (json : Bool) (problem : Problem) (solution bytes : List 
   pub is_solution : IsSolutionText problem solution timetable
   pub is_report : IsReport json problem timetable bytes
 
--- the same, for the instance that a text spells
-pub record IsReportOn (json : Bool) (instance solution bytes : List ℕ) : Type 0 where
+-- the same, of the instance and the solution in files
+pub record IsReportOn (json : Bool) (instance : String Global) (barred : Option (String Global)) (solution : String Global) (held : Held) (bytes : List ℕ) : Type 0 where
   pub problem : Problem
-  pub is_instance : IsInstanceText instance problem
-  pub is_report : IsReportFor json problem solution bytes
+  pub is_instance : IsInstanceIn held instance barred problem
+  pub is_report : Holds held solution (λ text. IsReportFor json problem text bytes)
 
 -- such a report is printed
-abbrev pub PrintsReport : Bool → List ℕ → List ℕ → Option (List ℕ) → Option (List ℕ) → Type 0
-PrintsReport json instance solution old new =
-    (bytes : List ℕ) × IsReportOn json instance solution bytes × Appends old new bytes
+abbrev pub PrintsReport : Bool → String Global → Option (String Global) → String Global → Held → Option (List ℕ) → Option (List ℕ) → Type 0
+PrintsReport json instance barred solution held old new =
+    (bytes : List ℕ) × IsReportOn json instance barred solution held bytes × Appends old new bytes
+
+-- there is no instance, or no solution of it
+abbrev pub IsRefusedCheck : Held → String Global → Option (String Global) → String Global → Type 0
+IsRefusedCheck held instance barred solution = IsNoInstanceIn held instance barred
+    ⊎ ((problem : Problem) × IsInstanceIn held instance barred problem × Holds held solution (IsNoSolution problem))

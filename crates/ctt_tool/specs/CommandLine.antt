@@ -24,25 +24,25 @@ flag id = record (new_rule id) { long = Some id; action = Some SetTrue }
 abbrev pub valued : List ℕ → Rule
 valued id = record (new_rule id) { long = Some id; value_names = 1 }
 
--- `check INSTANCE SOLUTION [--json]`
+-- `check INSTANCE SOLUTION [--barred FILE] [--json]`
 unfoldable pub check : App
-check = with_rule (with_rule (with_rule (new_app (codes "check"))
-    (required_word (codes "instance"))) (required_word (codes "solution"))) (flag (codes "json"))
+check = with_rule (with_rule (with_rule (with_rule (new_app (codes "check"))
+    (required_word (codes "instance"))) (required_word (codes "solution"))) (valued (codes "barred"))) (flag (codes "json"))
 
--- `run INSTANCE SCRIPT [--start SOLUTION] [--journal FILE]`
+-- `run INSTANCE SCRIPT [--barred FILE] [--start SOLUTION] [--journal FILE]`
 unfoldable pub run : App
-run = with_rule (with_rule (with_rule (with_rule (new_app (codes "run"))
-    (required_word (codes "instance"))) (required_word (codes "script"))) (valued (codes "start"))) (valued (codes "journal"))
+run = with_rule (with_rule (with_rule (with_rule (with_rule (new_app (codes "run"))
+    (required_word (codes "instance"))) (required_word (codes "script"))) (valued (codes "barred"))) (valued (codes "start"))) (valued (codes "journal"))
 
--- `audit INSTANCE JOURNAL [--start SOLUTION]`
+-- `audit INSTANCE JOURNAL [--barred FILE] [--start SOLUTION]`
 unfoldable pub audit : App
-audit = with_rule (with_rule (with_rule (new_app (codes "audit"))
-    (required_word (codes "instance"))) (required_word (codes "journal"))) (valued (codes "start"))
+audit = with_rule (with_rule (with_rule (with_rule (new_app (codes "audit"))
+    (required_word (codes "instance"))) (required_word (codes "journal"))) (valued (codes "barred"))) (valued (codes "start"))
 
--- `crew INSTANCE SCRIPT..`
+-- `crew INSTANCE SCRIPT.. [--barred FILE]`
 unfoldable pub crew : App
-crew = with_rule (with_rule (new_app (codes "crew"))
-    (required_word (codes "instance"))) (required_words (codes "script"))
+crew = with_rule (with_rule (with_rule (new_app (codes "crew"))
+    (required_word (codes "instance"))) (required_words (codes "script"))) (valued (codes "barred"))
 
 -- the program alone: it has a version, and a command has to be given
 abbrev pub bare : App

@@ -5,18 +5,18 @@ use Rattle.std.specs.Io.KnownBytes.{Appends}
 use Rattle.std.specs.declared.string.String.{String}
 use Rattle.ctt_text.specs.Problem.{Problem}
 use Rattle.ctt_script.specs.CrewText.{IsCrewText}
-use Rattle.ctt_tool.specs.Texts.{Held, Holds, IsInstanceText}
+use Rattle.ctt_tool.specs.Texts.{Held, IsInstanceIn}
 
 -- of the instance in a file, that is what a crew writes whose desk opens empty, with a planner for each of so many scripts
-pub record IsOfCrewOn (instance : String Global) (scripts : ℕ) (held : Held) (bytes : List ℕ) : Type 0 where
+pub record IsOfCrewOn (instance : String Global) (barred : Option (String Global)) (scripts : ℕ) (held : Held) (bytes : List ℕ) : Type 0 where
   pub problem : Problem
-  pub is_instance : Holds held instance (λ text. IsInstanceText text problem)
+  pub is_instance : IsInstanceIn held instance barred problem
   pub is_crew : IsCrewText problem [] scripts bytes
 
 -- such a text of one to 64 planners is printed
-pub record PrintsCrew (instance : String Global) (scripts : ℕ) (held : Held) (old new : Option (List ℕ)) : Type 0 where
+pub record PrintsCrew (instance : String Global) (barred : Option (String Global)) (scripts : ℕ) (held : Held) (old new : Option (List ℕ)) : Type 0 where
   pub some : 1 ≤ scripts
   pub few : scripts ≤ 64
   pub bytes : List ℕ
-  pub is_crew : IsOfCrewOn instance scripts held bytes
+  pub is_crew : IsOfCrewOn instance barred scripts held bytes
   pub prints : Appends old new bytes

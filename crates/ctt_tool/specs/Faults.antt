@@ -10,6 +10,8 @@ use Rattle.ctt_text.specs.declared.fault.ReadFault.{ReadFault}
 use Rattle.ctt_text.specs.declared.fault.ReadFault.TheVariants as instance
 use Rattle.ctt_text.specs.declared.fault.SolutionFault.{SolutionFault}
 use Rattle.ctt_text.specs.declared.fault.SolutionFault.TheVariants as solution
+use Rattle.ctt_text.specs.declared.fault.BarredFault.{BarredFault}
+use Rattle.ctt_text.specs.declared.fault.BarredFault.TheVariants as barred
 use Rattle.ctt_edits.specs.Fitting.{FaultFits}
 use Rattle.ctt_edits.specs.declared.fault.EditFault.{EditFault}
 use Rattle.ctt_script.specs.WrittenText.{line}
@@ -21,7 +23,7 @@ use Rattle.ctt_script.specs.declared.journal_fault.JournalFault.TheVariants as j
 use Rattle.ctt_script.specs.declared.script_fault.ScriptFault.{ScriptFault}
 use Rattle.ctt_script.specs.declared.script_fault.ScriptFault.TheVariants as script
 use Rattle.ctt_tool.specs.declared.fault.Fault.{Fault}
-use Rattle.ctt_tool.specs.declared.fault.Fault.TheVariants.{CannotRead, CannotWrite, Instance, Journal, NoMemory, NoPlace, NoThread, Opening, Solution, TooLong, TooManyScripts, Words, WordsNotText}
+use Rattle.ctt_tool.specs.declared.fault.Fault.TheVariants.{Barred, CannotRead, CannotWrite, Instance, Journal, NoMemory, NoPlace, NoThread, Opening, Solution, TooLong, TooManyScripts, Words, WordsNotText}
 
 -- the fault of an instance, by its number and the byte or the word that it names
 abbrev pub fault_of_instance : ReadFault → Fault
@@ -48,6 +50,17 @@ fault_of_solution (solution.PeriodOut word) = Solution 7 word
 fault_of_solution (solution.Repeated word) = Solution 8 word
 fault_of_solution solution.NoMemory = NoMemory
 
+-- the fault of barred rooms
+abbrev pub fault_of_barred : BarredFault → Fault
+fault_of_barred (barred.NotText byte) = Barred 1 byte
+fault_of_barred (barred.Missing word) = Barred 2 word
+fault_of_barred (barred.Expected word) = Barred 3 word
+fault_of_barred (barred.BadNumber word) = Barred 4 word
+fault_of_barred (barred.TooLarge word) = Barred 5 word
+fault_of_barred (barred.UnknownCourse word) = Barred 6 word
+fault_of_barred (barred.UnknownRoom word) = Barred 7 word
+fault_of_barred barred.NoMemory = NoMemory
+
 -- the fault of a journal
 abbrev pub fault_of_journal : JournalFault → Fault
 fault_of_journal (journal.NotText byte) = Journal 1 byte
@@ -71,6 +84,7 @@ IsOpeningFault problem at fault (Opening text) = string_bytes text ≡ opening_l
 IsOpeningFault problem at fault NoMemory = Unit {0}
 IsOpeningFault problem at fault (Instance number word) = ⊥
 IsOpeningFault problem at fault (Solution number word) = ⊥
+IsOpeningFault problem at fault (Barred number word) = ⊥
 IsOpeningFault problem at fault (Journal number word) = ⊥
 IsOpeningFault problem at fault (CannotRead name) = ⊥
 IsOpeningFault problem at fault (TooLong name) = ⊥
@@ -98,6 +112,7 @@ IsRunFault problem name script.NoMemory told = told ≡ NoMemory
 abbrev pub status_of : Fault → ℕ
 status_of (Instance number at) = 1
 status_of (Solution number at) = 1
+status_of (Barred number at) = 1
 status_of (Journal number at) = 1
 status_of (Opening text) = 1
 status_of (Words text) = 2
@@ -117,6 +132,7 @@ IsOfFile name (TooLong file) = file ≡ name
 IsOfFile name NoMemory = Unit {0}
 IsOfFile name (Instance number at) = ⊥
 IsOfFile name (Solution number at) = ⊥
+IsOfFile name (Barred number at) = ⊥
 IsOfFile name (Journal number at) = ⊥
 IsOfFile name (Opening text) = ⊥
 IsOfFile name (Words text) = ⊥
@@ -130,6 +146,7 @@ IsOfFile name NoPlace = ⊥
 abbrev pub IsOfTexts : Fault → Type 0
 IsOfTexts (Instance number at) = Unit {0}
 IsOfTexts (Solution number at) = Unit {0}
+IsOfTexts (Barred number at) = Unit {0}
 IsOfTexts (Journal number at) = Unit {0}
 IsOfTexts (Opening text) = Unit {0}
 IsOfTexts (CannotRead name) = Unit {0}
@@ -149,6 +166,7 @@ IsOfReading (TooLong name) = Unit {0}
 IsOfReading NoMemory = Unit {0}
 IsOfReading (Instance number at) = ⊥
 IsOfReading (Solution number at) = ⊥
+IsOfReading (Barred number at) = ⊥
 IsOfReading (Journal number at) = ⊥
 IsOfReading (Opening text) = ⊥
 IsOfReading (Words text) = ⊥
@@ -165,6 +183,7 @@ IsOfCrew scripts NoThread = 1 ≤ scripts
 IsOfCrew scripts NoPlace = 1 ≤ scripts
 IsOfCrew scripts (Instance number at) = Unit {0}
 IsOfCrew scripts (Solution number at) = Unit {0}
+IsOfCrew scripts (Barred number at) = Unit {0}
 IsOfCrew scripts (Journal number at) = Unit {0}
 IsOfCrew scripts (Opening text) = Unit {0}
 IsOfCrew scripts (CannotRead name) = Unit {0}
@@ -179,6 +198,7 @@ abbrev pub IfUnwritten : Fault → Type 0 → Type 0 → Type 0
 IfUnwritten CannotWrite P Q = P
 IfUnwritten (Instance number at) P Q = Q
 IfUnwritten (Solution number at) P Q = Q
+IfUnwritten (Barred number at) P Q = Q
 IfUnwritten (Journal number at) P Q = Q
 IfUnwritten (Opening text) P Q = Q
 IfUnwritten (CannotRead name) P Q = Q
@@ -200,6 +220,7 @@ MayHaveWritten CannotWrite = Unit {0}
 MayHaveWritten NoMemory = Unit {0}
 MayHaveWritten (Instance number at) = ⊥
 MayHaveWritten (Solution number at) = ⊥
+MayHaveWritten (Barred number at) = ⊥
 MayHaveWritten (Journal number at) = ⊥
 MayHaveWritten (Opening text) = ⊥
 MayHaveWritten (CannotRead name) = ⊥
@@ -220,6 +241,7 @@ IsLineOf (Words text) bytes = bytes ≡ string_bytes text
 IsLineOf (Opening text) bytes = bytes ≡ string_bytes text
 IsLineOf (Instance number at) bytes = EndsLine bytes
 IsLineOf (Solution number at) bytes = EndsLine bytes
+IsLineOf (Barred number at) bytes = EndsLine bytes
 IsLineOf (Journal number at) bytes = EndsLine bytes
 IsLineOf (CannotRead name) bytes = EndsLine bytes
 IsLineOf (TooLong name) bytes = EndsLine bytes

@@ -1,5 +1,5 @@
 -- Which job the words of a command line ask for, and what is said where they ask for none.
-use Rattle.std.specs.Prelude.{◌≡◌, ◌≢◌, ◌≤◌, ◌⊎◌, Bool, List, [], ◌∷◌, Option, Some, None, IsSome, codes, length, map, option_map}
+use Rattle.std.specs.Prelude.{◌≡◌, ◌≢◌, ◌≤◌, ◌⊎◌, Bool, List, [], ◌∷◌, ◌++◌, Option, Some, None, IsSome, codes, length, map, option_map}
 use Rattle.std.specs.Global.{Global}
 use Rattle.std.specs.String.{string_bytes}
 use Rattle.std.specs.declared.string.String.{String}
@@ -35,28 +35,32 @@ pub record NamesScripts (rows : List Row) : Type 0 where
   pub instance : IsSome (first_of (codes "instance") rows)
   pub script : IsSome (first_of (codes "script") rows)
 
--- they have these two files and this option
-pub record HasCheck (rows : List Row) (instance solution : Text) (json : Bool) : Type 0 where
+-- the matches of `check` have these files and this option
+pub record HasCheck (rows : List Row) (instance : Text) (barred : Option Text) (solution : Text) (json : Bool) : Type 0 where
   pub has_instance : first_of (codes "instance") rows ≡ Some instance
+  pub has_barred : first_of (codes "barred") rows ≡ barred
   pub has_solution : first_of (codes "solution") rows ≡ Some solution
   pub has_json : json ≡ is_on (one_of (codes "json") rows)
 
 -- the matches of `run` have these files
-pub record HasRun (rows : List Row) (instance script : Text) (start journal : Option Text) : Type 0 where
+pub record HasRun (rows : List Row) (instance : Text) (barred : Option Text) (script : Text) (start journal : Option Text) : Type 0 where
   pub has_instance : first_of (codes "instance") rows ≡ Some instance
+  pub has_barred : first_of (codes "barred") rows ≡ barred
   pub has_script : first_of (codes "script") rows ≡ Some script
   pub has_start : first_of (codes "start") rows ≡ start
   pub has_journal : first_of (codes "journal") rows ≡ journal
 
 -- the matches of `audit` have these files
-pub record HasAudit (rows : List Row) (instance journal : Text) (start : Option Text) : Type 0 where
+pub record HasAudit (rows : List Row) (instance : Text) (barred : Option Text) (journal : Text) (start : Option Text) : Type 0 where
   pub has_instance : first_of (codes "instance") rows ≡ Some instance
+  pub has_barred : first_of (codes "barred") rows ≡ barred
   pub has_journal : first_of (codes "journal") rows ≡ Some journal
   pub has_start : first_of (codes "start") rows ≡ start
 
 -- the matches of `crew` have these files, and at least one script
-pub record HasCrew (rows : List Row) (instance : Text) (scripts : List Text) : Type 0 where
+pub record HasCrew (rows : List Row) (instance : Text) (barred : Option Text) (scripts : List Text) : Type 0 where
   pub has_instance : first_of (codes "instance") rows ≡ Some instance
+  pub has_barred : first_of (codes "barred") rows ≡ barred
   pub has_scripts : all_of (codes "script") rows ≡ Some scripts
   pub has_some : 1 ≤ length scripts
 
@@ -73,18 +77,18 @@ IsWhole matched = IsWholeAs (codes "check") NamesFiles matched
 
 -- the job is that of this command, with what its matches have
 abbrev pub IsJobBy : Option (Text × List Row) → Job → Type 0
-IsJobBy matched (Check instance solution json) = (rows : List Row)
+IsJobBy matched (Check instance barred solution json) = (rows : List Row)
     × (matched ≡ Some (codes "check", rows))
-    × HasCheck rows (string_bytes instance) (string_bytes solution) json
-IsJobBy matched (Run instance script start journal) = (rows : List Row)
+    × HasCheck rows (string_bytes instance) (option_map string_bytes barred) (string_bytes solution) json
+IsJobBy matched (Run instance barred script start journal) = (rows : List Row)
     × (matched ≡ Some (codes "run", rows))
-    × HasRun rows (string_bytes instance) (string_bytes script) (option_map string_bytes start) (option_map string_bytes journal)
-IsJobBy matched (Audit instance journal start) = (rows : List Row)
+    × HasRun rows (string_bytes instance) (option_map string_bytes barred) (string_bytes script) (option_map string_bytes start) (option_map string_bytes journal)
+IsJobBy matched (Audit instance barred journal start) = (rows : List Row)
     × (matched ≡ Some (codes "audit", rows))
-    × HasAudit rows (string_bytes instance) (string_bytes journal) (option_map string_bytes start)
-IsJobBy matched (Crew instance scripts) = (rows : List Row)
+    × HasAudit rows (string_bytes instance) (option_map string_bytes barred) (string_bytes journal) (option_map string_bytes start)
+IsJobBy matched (Crew instance barred scripts) = (rows : List Row)
     × (matched ≡ Some (codes "crew", rows))
-    × HasCrew rows (string_bytes instance) (map string_bytes scripts.items)
+    × HasCrew rows (string_bytes instance) (option_map string_bytes barred) (map string_bytes scripts.items)
 
 -- a file is given
 abbrev pub IsGiven : Option (String Global) → Type 0
@@ -98,38 +102,38 @@ given (Some name) = name ∷ []
 
 -- the files that the job reads
 abbrev pub files_of : Job → List (String Global)
-files_of (Check instance solution json) = instance ∷ solution ∷ []
-files_of (Run instance script start journal) = instance ∷ script ∷ given start
-files_of (Audit instance journal start) = instance ∷ journal ∷ given start
-files_of (Crew instance scripts) = instance ∷ scripts.items
+files_of (Check instance barred solution json) = instance ∷ given barred ++ solution ∷ []
+files_of (Run instance barred script start journal) = instance ∷ given barred ++ script ∷ given start
+files_of (Audit instance barred journal start) = instance ∷ given barred ++ journal ∷ given start
+files_of (Crew instance barred scripts) = instance ∷ given barred ++ scripts.items
 
 -- the scripts that a crew is given
 abbrev pub scripts_of : Job → List (String Global)
-scripts_of (Check instance solution json) = []
-scripts_of (Run instance script start journal) = []
-scripts_of (Audit instance journal start) = []
-scripts_of (Crew instance scripts) = scripts.items
+scripts_of (Check instance barred solution json) = []
+scripts_of (Run instance barred script start journal) = []
+scripts_of (Audit instance barred journal start) = []
+scripts_of (Crew instance barred scripts) = scripts.items
 
 -- a crew is given at least one
 abbrev pub HasScripts : Job → Type 0
-HasScripts (Check instance solution json) = Unit {0}
-HasScripts (Run instance script start journal) = Unit {0}
-HasScripts (Audit instance journal start) = Unit {0}
-HasScripts (Crew instance scripts) = 1 ≤ length scripts.items
+HasScripts (Check instance barred solution json) = Unit {0}
+HasScripts (Run instance barred script start journal) = Unit {0}
+HasScripts (Audit instance barred journal start) = Unit {0}
+HasScripts (Crew instance barred scripts) = 1 ≤ length scripts.items
 
 -- the job stores a file
 abbrev pub Storing : Job → Type 0
-Storing (Check instance solution json) = ⊥
-Storing (Run instance script start journal) = IsGiven journal
-Storing (Audit instance journal start) = ⊥
-Storing (Crew instance scripts) = ⊥
+Storing (Check instance barred solution json) = ⊥
+Storing (Run instance barred script start journal) = IsGiven journal
+Storing (Audit instance barred journal start) = ⊥
+Storing (Crew instance barred scripts) = ⊥
 
 -- a fault that the job may meet, but for an output that cannot be written
 abbrev pub IsOfJob : Job → Fault → Type 0
-IsOfJob (Check instance solution json) fault = IsOfTexts fault
-IsOfJob (Run instance script start journal) fault = IsOfTexts fault
-IsOfJob (Audit instance journal start) fault = IsOfTexts fault
-IsOfJob (Crew instance scripts) fault = IsOfCrew (length scripts.items) fault
+IsOfJob (Check instance barred solution json) fault = IsOfTexts fault
+IsOfJob (Run instance barred script start journal) fault = IsOfTexts fault
+IsOfJob (Audit instance barred journal start) fault = IsOfTexts fault
+IsOfJob (Crew instance barred scripts) fault = IsOfCrew (length scripts.items) fault
 
 -- the job is that of the command that `clap` finds in the words, with what its matches have
 abbrev pub IsJobOf : List Text → Job → Type 0

@@ -9,7 +9,7 @@ use Rattle.ctt_edits.specs.Openings.{opening}
 use Rattle.ctt_core.specs.Runs.{accepted_of}
 use Rattle.ctt_script.specs.AnswerText.{answer_text, script_run}
 use Rattle.ctt_script.specs.WrittenText.{journal_text}
-use Rattle.ctt_tool.specs.Texts.{Held, Holds, IsInstanceText, IsNoInstance, IsRefusedStart, IsStart}
+use Rattle.ctt_tool.specs.Texts.{Held, Holds, IsInstanceIn, IsNoInstanceIn, IsRefusedStart, IsStart}
 
 -- where a file is given, it holds what it should; where none is, no file has changed
 abbrev pub Stores : Option (String Global) → Held → Held → (List ℕ → Type 0) → Type 0
@@ -26,12 +26,12 @@ pub record RunsOn (problem : Problem) (script : String Global) (start journal : 
   pub stores : Stores journal before after (λ bytes. Holds before script (λ text. bytes ≡ journal_text problem (accepted_of (script_run problem opened text))))
 
 -- the same, of the instance in a file
-pub record RunsScript (instance script : String Global) (start journal : Option (String Global)) (before after : Held) (old new : Option (List ℕ)) : Type 0 where
+pub record RunsScript (instance : String Global) (barred : Option (String Global)) (script : String Global) (start journal : Option (String Global)) (before after : Held) (old new : Option (List ℕ)) : Type 0 where
   pub problem : Problem
-  pub is_instance : Holds before instance (λ text. IsInstanceText text problem)
+  pub is_instance : IsInstanceIn before instance barred problem
   pub runs : RunsOn problem script start journal before after old new
 
--- the first file holds no instance, or there is no timetable to open with
-abbrev pub IsRefusedRun : Held → String Global → Option (String Global) → Type 0
-IsRefusedRun held instance start = Holds held instance IsNoInstance
-    ⊎ ((problem : Problem) × Holds held instance (λ text. IsInstanceText text problem) × IsRefusedStart problem held start)
+-- there is no instance, or no timetable to open with
+abbrev pub IsRefusedRun : Held → String Global → Option (String Global) → Option (String Global) → Type 0
+IsRefusedRun held instance barred start = IsNoInstanceIn held instance barred
+    ⊎ ((problem : Problem) × IsInstanceIn held instance barred problem × IsRefusedStart problem held start)

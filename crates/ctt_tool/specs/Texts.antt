@@ -1,9 +1,10 @@
 -- Which texts are taken, and which are refused.
-use Rattle.std.specs.Prelude.{◌≡◌, ◌⊎◌, ℕ, List, [], ◌∷◌, Option, Some, None, IfSome, Err}
+use Rattle.std.specs.Prelude.{◌≡◌, ◌⊎◌, ℕ, Bool, List, [], ◌∷◌, Option, Some, None, IfSome, Err}
 use Rattle.std.specs.Global.{Global}
 use Rattle.std.specs.Str.{IsUtf8}
 use Rattle.std.specs.String.{string_bytes}
 use Rattle.std.specs.declared.string.String.{String}
+use Rattle.ctt_text.specs.BarredText.{BarSpells}
 use Rattle.ctt_text.specs.InstanceText.{Spells}
 use Rattle.ctt_text.specs.Problem.{Problem}
 use Rattle.ctt_text.specs.SolutionText.{SolSpells}
@@ -34,6 +35,13 @@ pub record IsInstanceText (text : List ℕ) (problem : Problem) : Type 0 where
   pub is_text : IsUtf8 text
   pub spells : Spells (words text) problem
 
+-- of the instance that was read, the text bars rooms, which makes this one
+pub record IsBarredText (read : Problem) (text : List ℕ) (problem : Problem) : Type 0 where
+  pub is_text : IsUtf8 text
+  pub table : List Bool
+  pub spells : BarSpells read (words text) table
+  pub makes : problem ≡ record read { barred = table }
+
 -- the text is that of the timetable, as a solution of the instance
 pub record IsSolutionText (problem : Problem) (text : List ℕ) (timetable : List Placed) : Type 0 where
   pub is_text : IsUtf8 text
@@ -47,6 +55,31 @@ pub record IsJournalText (problem : Problem) (text : List ℕ) (entries : List J
 -- the text is that of no instance
 abbrev pub IsNoInstance : List ℕ → Type 0
 IsNoInstance text = (problem : Problem) → ¬ IsInstanceText text problem
+
+-- the text bars no rooms
+abbrev pub IsNoBarred : Problem → List ℕ → Type 0
+IsNoBarred read text = (problem : Problem) → ¬ IsBarredText read text problem
+
+-- the rooms that are barred are those of the file, or none more where no file is given
+abbrev pub IsBarredBy : Held → Option (String Global) → Problem → Problem → Type 0
+IsBarredBy held None read problem = problem ≡ read
+IsBarredBy held (Some name) read problem = Holds held name (λ text. IsBarredText read text problem)
+
+-- a file is given whose text bars no rooms
+abbrev pub IsNotBarredBy : Held → Option (String Global) → Problem → Type 0
+IsNotBarredBy held None read = ⊥
+IsNotBarredBy held (Some name) read = Holds held name (IsNoBarred read)
+
+-- the instance in a file, with the rooms barred that are those of another file, if one is given
+pub record IsInstanceIn (held : Held) (instance : String Global) (barred : Option (String Global)) (problem : Problem) : Type 0 where
+  pub read : Problem
+  pub is_instance : Holds held instance (λ text. IsInstanceText text read)
+  pub is_barred : IsBarredBy held barred read problem
+
+-- the file holds no instance, or one in which the other file bars no rooms
+abbrev pub IsNoInstanceIn : Held → String Global → Option (String Global) → Type 0
+IsNoInstanceIn held instance barred = Holds held instance IsNoInstance
+    ⊎ ((read : Problem) × Holds held instance (λ text. IsInstanceText text read) × IsNotBarredBy held barred read)
 
 -- the text is that of no timetable, as a solution of the instance
 abbrev pub IsNoSolution : Problem → List ℕ → Type 0

@@ -3,12 +3,12 @@ use Rattle.std.specs.Prelude.{◌≡◌, ◌⊎◌, ◌<◌, ◌≤◌, ℕ, Boo
 use Rattle.std.specs.String.{string_bytes}
 use Rattle.clap.specs.Words.{Text}
 use Rattle.ctt_tool.specs.Audits.{AuditsJournal, IsRefusedAudit}
-use Rattle.ctt_tool.specs.Checks.{OneIsRefused, PrintsReport}
+use Rattle.ctt_tool.specs.Checks.{IsRefusedCheck, PrintsReport}
 use Rattle.ctt_tool.specs.Crews.{PrintsCrew}
 use Rattle.ctt_tool.specs.Faults.{IsOfFiles}
 use Rattle.ctt_tool.specs.Jobs.{IsJobOf, IsRequest, Storing, faults_of, files_of, scripts_of}
 use Rattle.ctt_tool.specs.Runs.{IsRefusedRun, RunsScript}
-use Rattle.ctt_tool.specs.Texts.{Held, Holds, IsNoInstance}
+use Rattle.ctt_tool.specs.Texts.{Held, IsNoInstanceIn}
 use Rattle.ctt_tool.specs.declared.fault.Fault.{Fault}
 use Rattle.ctt_tool.specs.declared.fault.Fault.TheVariants.{CannotRead, CannotWrite, NoPlace, NoThread, TooLong, TooManyScripts}
 use Rattle.ctt_tool.specs.declared.job.Job.{Job}
@@ -16,23 +16,16 @@ use Rattle.ctt_tool.specs.declared.job.Job.TheVariants.{Audit, Check, Crew, Run}
 use Rattle.ctt_tool.specs.declared.outcome.Outcome.{Outcome}
 use Rattle.ctt_tool.specs.declared.outcome.Outcome.TheVariants.{Done}
 
--- a report is printed, and no file has changed
-abbrev pub Reports : Bool → List ℕ → List ℕ → Held → Held → Option Text → Option Text → Type 0
-Reports json instance solution before after old new = (after ≡ before)
-    × IfSome (before instance) (λ instance_text.
-    IfSome (before solution) (λ solution_text.
-    PrintsReport json instance_text solution_text old new))
-
 -- the job is done over these files, where they tell their bytes; its answer is printed, and the program ends as it says
 abbrev pub DoesJob : Job → Outcome → Held → Held → Option Text → Option Text → Type 0
-DoesJob (Check instance solution json) outcome before after old new = (outcome ≡ Done)
-    × Reports json (string_bytes instance) (string_bytes solution) before after old new
-DoesJob (Run instance script start journal) outcome before after old new = (outcome ≡ Done)
-    × RunsScript instance script start journal before after old new
-DoesJob (Audit instance journal start) outcome before after old new = (after ≡ before)
-    × AuditsJournal instance journal start outcome before old new
-DoesJob (Crew instance scripts) outcome before after old new = (outcome ≡ Done)
-    × (after ≡ before) × PrintsCrew instance (length scripts.items) before old new
+DoesJob (Check instance barred solution json) outcome before after old new = (outcome ≡ Done)
+    × (after ≡ before) × PrintsReport json instance barred solution before old new
+DoesJob (Run instance barred script start journal) outcome before after old new = (outcome ≡ Done)
+    × RunsScript instance barred script start journal before after old new
+DoesJob (Audit instance barred journal start) outcome before after old new = (after ≡ before)
+    × AuditsJournal instance barred journal start outcome before old new
+DoesJob (Crew instance barred scripts) outcome before after old new = (outcome ≡ Done)
+    × (after ≡ before) × PrintsCrew instance barred (length scripts.items) before old new
 
 -- the words ask for help or the version, or `clap` finds no fault in them and they ask for a job that is done
 abbrev pub DoesAsAsked : List Text → Outcome → Held → Held → Option Text → Option Text → Type 0
@@ -41,13 +34,10 @@ DoesAsAsked words outcome before after old new = (IsRequest (faults_of words) ×
 
 -- a text of the job is refused, over these files, where they tell their bytes
 abbrev pub HasRefusedText : Job → Held → Type 0
-HasRefusedText (Check instance solution json) held =
-    IfSome (held (string_bytes instance)) (λ instance_text.
-    IfSome (held (string_bytes solution)) (λ solution_text.
-    OneIsRefused instance_text solution_text))
-HasRefusedText (Run instance script start journal) held = IsRefusedRun held instance start
-HasRefusedText (Audit instance journal start) held = IsRefusedAudit held instance journal start
-HasRefusedText (Crew instance scripts) held = Holds held instance IsNoInstance
+HasRefusedText (Check instance barred solution json) held = IsRefusedCheck held instance barred solution
+HasRefusedText (Run instance barred script start journal) held = IsRefusedRun held instance barred start
+HasRefusedText (Audit instance barred journal start) held = IsRefusedAudit held instance barred journal start
+HasRefusedText (Crew instance barred scripts) held = IsNoInstanceIn held instance barred
 
 -- the words ask for a job of which a text is refused
 abbrev pub AsksForRefusedText : List Text → Held → Type 0

@@ -1,6 +1,6 @@
 //! The command `audit`.
 
-ghost use Rattle.std.specs.Prelude.{◌≡◌, ◌⊎◌, ℕ, [], ◌∷◌, true, None, OnOk, IfOk, IfErr};
+ghost use Rattle.std.specs.Prelude.{◌≡◌, ◌⊎◌, ℕ, [], ◌∷◌, ◌++◌, true, None, OnOk, IfOk, IfErr};
 ghost use Rattle.std.specs.List.{AllByRecursion as Each};
 ghost use Rattle.std.specs.Str.{IsUtf8};
 ghost use Rattle.ctt_text.specs.Timetable.{Fits};
@@ -141,20 +141,21 @@ pub fn audit<F: Files, W: Sink>(
     files: &mut F,
     out: &mut W,
     instance: String,
+    barred: Option<String>,
     journal: String,
     start: Option<String>,
 ) -> Result<Outcome, Fault>
-    ensures audits { IfOk result (λ outcome. AuditsJournal instance journal start outcome (F.held files.old)
+    ensures audits { IfOk result (λ outcome. AuditsJournal instance barred journal start outcome (F.held files.old)
         (W.taken out.old) (W.taken out.new)) }
     ensures unmarked { OnOk result (W.has_failed out.new ≡ W.has_failed out.old) }
     ensures fault { IfErr result (λ fault. IfUnwritten fault
         (W.has_failed out.new ≡ true)
         (IsOfTexts fault × (out.new ≡ out.old))) }
     ensures unstored { F.held files.new ≡ F.held files.old }
-    ensures file { IfErr result (IsOfFiles (instance ∷ journal ∷ given start) (F.held files.old)) }
+    ensures file { IfErr result (IsOfFiles (instance ∷ given barred ++ journal ∷ given start) (F.held files.old)) }
     ensures cause { IfErr result (λ fault. status_of fault ≡ 1
-        → IsRefusedAudit (F.held files.old) instance journal start) }
+        → IsRefusedAudit (F.held files.old) instance barred journal start) }
 {
-    let instance = fetch_instance(alloc, files, instance)?;
+    let instance = fetch_instance(alloc, files, instance, barred)?;
     audit_on::<GridSheet, F, W>(alloc, files, out, &instance, journal, start)
 }

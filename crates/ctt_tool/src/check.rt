@@ -1,10 +1,11 @@
 //! The command `check`.
 
-ghost use Rattle.std.specs.Prelude.{◌≡◌, [], ◌∷◌, true, OnOk, IfOk, IfErr, IfSome};
+ghost use Rattle.std.specs.Prelude.{◌≡◌, [], ◌∷◌, ◌++◌, true, OnOk, IfOk, IfErr, IfSome};
 ghost use Rattle.std.specs.String.{string_bytes};
 ghost use Rattle.ctt_text.specs.Timetable.{IsTimetable};
-ghost use Rattle.ctt_tool.specs.Checks.{IsReport, IsReportFor, IsReportOn, OneIsRefused, PrintsReport};
+ghost use Rattle.ctt_tool.specs.Checks.{IsRefusedCheck, IsReport, IsReportFor, IsReportOn, PrintsReport};
 ghost use Rattle.ctt_tool.specs.Faults.{IfUnwritten, IsOfFiles, IsOfTexts, status_of};
+ghost use Rattle.ctt_tool.specs.Jobs.{given};
 ghost use Rattle.ctt_tool.specs.Texts.{IsNoSolution};
 
 use crate::fault::Fault;
@@ -59,21 +60,18 @@ fn report_on<F: Files>(
     alloc: Global,
     files: &mut F,
     instance: String,
+    barred: Option<String>,
     solution: String,
     json: bool,
 ) -> Result<Vec<u8>, Fault>
-    ensures reports { IfOk result (λ bytes.
-        IfSome (F.held files.old (string_bytes instance)) (λ instance_text.
-        IfSome (F.held files.old (string_bytes solution)) (λ solution_text.
-        IsReportOn json instance_text solution_text bytes.items))) }
+    ensures reports { IfOk result (λ bytes. IsReportOn json instance barred solution (F.held files.old) bytes.items) }
     ensures kept { F.held files.new ≡ F.held files.old }
     ensures fault { IfErr result IsOfTexts }
-    ensures file { IfErr result (IsOfFiles (instance ∷ solution ∷ []) (F.held files.old)) }
+    ensures file { IfErr result (IsOfFiles (instance ∷ given barred ++ solution ∷ []) (F.held files.old)) }
     ensures cause { IfErr result (λ fault. status_of fault ≡ 1
-        → IfSome (F.held files.old (string_bytes instance)) (λ instance_text.
-        IfSome (F.held files.old (string_bytes solution)) (OneIsRefused instance_text))) }
+        → IsRefusedCheck (F.held files.old) instance barred solution) }
 {
-    let instance = fetch_instance(alloc, files, instance)?;
+    let instance = fetch_instance(alloc, files, instance, barred)?;
     report_for(alloc, files, &instance, solution, json)
 }
 
@@ -83,23 +81,21 @@ pub fn check<F: Files, W: Sink>(
     files: &mut F,
     out: &mut W,
     instance: String,
+    barred: Option<String>,
     solution: String,
     json: bool,
 ) -> Result<(), Fault>
-    ensures reports { OnOk result
-        (IfSome (F.held files.old (string_bytes instance)) (λ instance_text.
-        IfSome (F.held files.old (string_bytes solution)) (λ solution_text.
-        PrintsReport json instance_text solution_text (W.taken out.old) (W.taken out.new)))) }
+    ensures reports { OnOk result (PrintsReport json instance barred solution (F.held files.old)
+        (W.taken out.old) (W.taken out.new)) }
     ensures kept { F.held files.new ≡ F.held files.old }
     ensures unmarked { OnOk result (W.has_failed out.new ≡ W.has_failed out.old) }
     ensures fault { IfErr result (λ fault. IfUnwritten fault
         (W.has_failed out.new ≡ true)
         (IsOfTexts fault × (out.new ≡ out.old))) }
-    ensures file { IfErr result (IsOfFiles (instance ∷ solution ∷ []) (F.held files.old)) }
+    ensures file { IfErr result (IsOfFiles (instance ∷ given barred ++ solution ∷ []) (F.held files.old)) }
     ensures cause { IfErr result (λ fault. status_of fault ≡ 1
-        → IfSome (F.held files.old (string_bytes instance)) (λ instance_text.
-        IfSome (F.held files.old (string_bytes solution)) (OneIsRefused instance_text))) }
+        → IsRefusedCheck (F.held files.old) instance barred solution) }
 {
-    let report = report_on(alloc, files, instance, solution, json)?;
+    let report = report_on(alloc, files, instance, barred, solution, json)?;
     print(out, &report)
 }

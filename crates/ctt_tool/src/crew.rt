@@ -1,10 +1,11 @@
 //! The command `crew`.
 
-ghost use Rattle.std.specs.Prelude.{◌≡◌, ◌⊎◌, ◌≤◌, ◌<◌, [], ◌∷◌, Err, length, true, OnOk, IfOk, IfErr};
+ghost use Rattle.std.specs.Prelude.{◌≡◌, ◌⊎◌, ◌≤◌, ◌<◌, [], ◌∷◌, ◌++◌, Err, length, true, OnOk, IfOk, IfErr};
 ghost use Rattle.ctt_script.specs.CrewText.{IsCrewText};
 ghost use Rattle.ctt_tool.specs.Crews.{IsOfCrewOn, PrintsCrew};
 ghost use Rattle.ctt_tool.specs.Faults.{IfUnwritten, IsOfCrew, IsOfFiles, status_of};
-ghost use Rattle.ctt_tool.specs.Texts.{Holds, IsNoInstance};
+ghost use Rattle.ctt_tool.specs.Jobs.{given};
+ghost use Rattle.ctt_tool.specs.Texts.{IsNoInstanceIn};
 ghost use Rattle.ctt_tool.specs.declared.fault.Fault.TheVariants.{NoMemory, NoPlace, NoThread, TooManyScripts};
 
 use crate::fault::Fault;
@@ -61,23 +62,24 @@ fn answers_on<R: Threads + Wait + Sync, F: Files>(
 }
 
 /// What a crew writes on an instance, where the scripts are as many as are taken. The instance is read
-/// first, and then the scripts in their order.
+/// first, then the barred rooms, and then the scripts in their order.
 fn report<R: Threads + Wait + Sync, F: Files>(
     rt: &R,
     alloc: Global,
     files: &mut F,
     instance: String,
+    barred: Option<String>,
     scripts: Vec<String>,
 ) -> Result<Vec<u8>, Fault>
     requires some { 1 ≤ length scripts.items }
     requires few { length scripts.items ≤ 64 }
-    ensures crew { IfOk result (λ bytes. IsOfCrewOn instance (length scripts.items) (F.held files.old) bytes.items) }
+    ensures crew { IfOk result (λ bytes. IsOfCrewOn instance barred (length scripts.items) (F.held files.old) bytes.items) }
     ensures kept { F.held files.new ≡ F.held files.old }
     ensures fault { IfErr result (IsOfCrew (length scripts.items)) }
-    ensures file { IfErr result (IsOfFiles (instance ∷ scripts.items) (F.held files.old)) }
-    ensures cause { IfErr result (λ fault. status_of fault ≡ 1 → Holds (F.held files.old) instance IsNoInstance) }
+    ensures file { IfErr result (IsOfFiles (instance ∷ given barred ++ scripts.items) (F.held files.old)) }
+    ensures cause { IfErr result (λ fault. status_of fault ≡ 1 → IsNoInstanceIn (F.held files.old) instance barred) }
 {
-    let instance = fetch_instance(alloc, files, instance)?;
+    let instance = fetch_instance(alloc, files, instance, barred)?;
     answers_on(rt, alloc, files, &instance, scripts)
 }
 
@@ -90,10 +92,11 @@ pub fn crew<R: Threads + Wait + Sync, F: Files, W: Sink>(
     files: &mut F,
     out: &mut W,
     instance: String,
+    barred: Option<String>,
     scripts: Vec<String>,
 ) -> Result<(), Fault>
     requires { 1 ≤ length scripts.items }
-    ensures prints { OnOk result (PrintsCrew instance (length scripts.items) (F.held files.old)
+    ensures prints { OnOk result (PrintsCrew instance barred (length scripts.items) (F.held files.old)
         (W.taken out.old) (W.taken out.new)) }
     ensures many { 64 < length scripts.items → result ≡ Err TooManyScripts }
     ensures kept { F.held files.new ≡ F.held files.old }
@@ -101,12 +104,12 @@ pub fn crew<R: Threads + Wait + Sync, F: Files, W: Sink>(
     ensures fault { IfErr result (λ fault. IfUnwritten fault
         (W.has_failed out.new ≡ true)
         (IsOfCrew (length scripts.items) fault × (out.new ≡ out.old))) }
-    ensures file { IfErr result (IsOfFiles (instance ∷ scripts.items) (F.held files.old)) }
-    ensures cause { IfErr result (λ fault. status_of fault ≡ 1 → Holds (F.held files.old) instance IsNoInstance) }
+    ensures file { IfErr result (IsOfFiles (instance ∷ given barred ++ scripts.items) (F.held files.old)) }
+    ensures cause { IfErr result (λ fault. status_of fault ≡ 1 → IsNoInstanceIn (F.held files.old) instance barred) }
 {
     if scripts.len() > SCRIPT_LIMIT {
         return Err(Fault::TooManyScripts);
     }
-    let report = report(rt, alloc, files, instance, scripts)?;
+    let report = report(rt, alloc, files, instance, barred, scripts)?;
     print(out, &report)
 }

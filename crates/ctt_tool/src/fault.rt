@@ -2,11 +2,11 @@
 
 ghost use Rattle.std.specs.Prelude.{◌≡◌, ◌++◌, IfOk, codes};
 ghost use Rattle.std.specs.String.{string_bytes};
-ghost use Rattle.ctt_tool.specs.Faults.{IsLineOf, fault_of_crew, fault_of_instance, fault_of_journal, fault_of_solution, status_of};
+ghost use Rattle.ctt_tool.specs.Faults.{IsLineOf, fault_of_barred, fault_of_crew, fault_of_instance, fault_of_journal, fault_of_solution, status_of};
 ghost use Rattle.ctt_tool.specs.declared.fault.Fault.TheVariants.{NoMemory};
 
 use ctt_script::{CrewFault, JournalFault};
-use ctt_text::{ReadFault, SolutionFault};
+use ctt_text::{BarredFault, ReadFault, SolutionFault};
 use std::alloc::{AllocError, AllocFailed, Global};
 use thiserror::Error;
 
@@ -26,6 +26,9 @@ pub enum Fault {
     /// The solution is not as it has to be, at this byte or word.
     #[error("timedesk: solution S{number} {at}")]
     Solution { number: u8, at: u64 },
+    /// The barred rooms are not as they have to be, at this byte or word.
+    #[error("timedesk: barred B{number} {at}")]
+    Barred { number: u8, at: u64 },
     /// The journal is not as it has to be, at this byte or word.
     #[error("timedesk: journal J{number} {at}")]
     Journal { number: u8, at: u64 },
@@ -74,6 +77,7 @@ impl Fault {
         match self {
             Fault::Instance { .. }
             | Fault::Solution { .. }
+            | Fault::Barred { .. }
             | Fault::Journal { .. }
             | Fault::Opening(_) => 1,
             Fault::Words(_) | Fault::WordsNotText | Fault::TooManyScripts => 2,
@@ -150,6 +154,24 @@ impl From<SolutionFault> for Fault {
             SolutionFault::NoMemory => return Fault::NoMemory,
         };
         Fault::Solution { number, at }
+    }
+}
+
+impl From<BarredFault> for Fault {
+    ghost from_gives = { λ read fault. fault ≡ fault_of_barred read };
+
+    fn from(fault: BarredFault) -> Fault {
+        let (number, at) = match fault {
+            BarredFault::NotText(byte) => (1, byte),
+            BarredFault::Missing(word) => (2, word),
+            BarredFault::Expected(word) => (3, word),
+            BarredFault::BadNumber(word) => (4, word),
+            BarredFault::TooLarge(word) => (5, word),
+            BarredFault::UnknownCourse(word) => (6, word),
+            BarredFault::UnknownRoom(word) => (7, word),
+            BarredFault::NoMemory => return Fault::NoMemory,
+        };
+        Fault::Barred { number, at }
     }
 }
 

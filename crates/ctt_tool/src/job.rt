@@ -17,6 +17,7 @@ pub enum Job {
     /// To report on a solution of an instance.
     Check {
         instance: String,
+        barred: Option<String>,
         solution: String,
         json: bool,
     },
@@ -24,6 +25,7 @@ pub enum Job {
     /// journal where a file is given for it.
     Run {
         instance: String,
+        barred: Option<String>,
         script: String,
         start: Option<String>,
         journal: Option<String>,
@@ -31,6 +33,7 @@ pub enum Job {
     /// To audit a journal of drafts on such a desk.
     Audit {
         instance: String,
+        barred: Option<String>,
         journal: String,
         start: Option<String>,
     },
@@ -38,6 +41,7 @@ pub enum Job {
     /// own.
     Crew {
         instance: String,
+        barred: Option<String>,
         scripts: Vec<String>,
     },
 }
@@ -110,6 +114,7 @@ fn check_command<'a>(alloc: Global) -> Result<Command<'a>, AllocError>
         .about("Report what a solution breaks and what it costs")
         .arg(instance_argument(alloc))?
         .arg(file_argument(alloc, "solution", "SOLUTION", "The file of the solution"))?
+        .arg(barred_argument(alloc))?
         .arg(flag_argument(alloc, "json", "Print the report as JSON"))
 }
 
@@ -119,6 +124,19 @@ fn instance_argument<'a>(alloc: Global) -> Arg<'a>
     ensures local { result.global ≡ false }
 {
     file_argument(alloc, "instance", "INSTANCE", "The file of the instance")
+}
+
+/// The option of the barred rooms, which each command has.
+fn barred_argument<'a>(alloc: Global) -> Arg<'a>
+    ensures rule { rule_of result ≡ valued (codes "barred") }
+    ensures local { result.global ≡ false }
+{
+    valued_argument(
+        alloc,
+        "barred",
+        "FILE",
+        "The file of the rooms that are barred for courses; without it none is",
+    )
 }
 
 /// The option of the opening timetable.
@@ -142,6 +160,7 @@ fn run_command<'a>(alloc: Global) -> Result<Command<'a>, AllocError>
         .about("Run a script of planners' steps and print the answers")
         .arg(instance_argument(alloc))?
         .arg(file_argument(alloc, "script", "SCRIPT", "The file of the planners' steps"))?
+        .arg(barred_argument(alloc))?
         .arg(start_argument(alloc))?
         .arg(valued_argument(
             alloc,
@@ -164,6 +183,7 @@ fn audit_command<'a>(alloc: Global) -> Result<Command<'a>, AllocError>
             "JOURNAL",
             "The file of the accepted drafts",
         ))?
+        .arg(barred_argument(alloc))?
         .arg(start_argument(alloc))
 }
 
@@ -179,7 +199,8 @@ fn crew_command<'a>(alloc: Global) -> Result<Command<'a>, AllocError>
             "script",
             "SCRIPT",
             "The files of the planners' steps, one for each planner, at most 64",
-        ))
+        ))?
+        .arg(barred_argument(alloc))
 }
 
 /// What stands below the help.
@@ -261,6 +282,7 @@ fn check_job(alloc: Global, given: &ArgMatches<'_>) -> Result<Job, WordsFault>
     let solution = given.get_str("solution").unwrap();
     Ok(Job::Check {
         instance: String::from_str(alloc, instance)?,
+        barred: owned(alloc, given.get_str("barred"))?,
         solution: String::from_str(alloc, solution)?,
         json: given.get_flag("json"),
     })
@@ -276,6 +298,7 @@ fn run_job(alloc: Global, given: &ArgMatches<'_>) -> Result<Job, WordsFault>
     let script = given.get_str("script").unwrap();
     Ok(Job::Run {
         instance: String::from_str(alloc, instance)?,
+        barred: owned(alloc, given.get_str("barred"))?,
         script: String::from_str(alloc, script)?,
         start: owned(alloc, given.get_str("start"))?,
         journal: owned(alloc, given.get_str("journal"))?,
@@ -292,6 +315,7 @@ fn audit_job(alloc: Global, given: &ArgMatches<'_>) -> Result<Job, WordsFault>
     let journal = given.get_str("journal").unwrap();
     Ok(Job::Audit {
         instance: String::from_str(alloc, instance)?,
+        barred: owned(alloc, given.get_str("barred"))?,
         journal: String::from_str(alloc, journal)?,
         start: owned(alloc, given.get_str("start"))?,
     })
@@ -307,6 +331,7 @@ fn crew_job(alloc: Global, given: &ArgMatches<'_>) -> Result<Job, WordsFault>
     let scripts = given.get_strs("script").unwrap();
     Ok(Job::Crew {
         instance: String::from_str(alloc, instance)?,
+        barred: owned(alloc, given.get_str("barred"))?,
         scripts: owned_texts(alloc, scripts)?,
     })
 }

@@ -47,28 +47,35 @@ fn do_job<R: Threads + Wait + Sync, F: Files, W: Sink>(
     match job {
         Job::Check {
             instance,
+            barred,
             solution,
             json,
         } => {
-            check(alloc, files, out, instance, solution, json)?;
+            check(alloc, files, out, instance, barred, solution, json)?;
             Ok(Outcome::Done)
         }
         Job::Run {
             instance,
+            barred,
             script,
             start,
             journal,
         } => {
-            run(alloc, files, out, instance, script, start, journal)?;
+            run(alloc, files, out, instance, barred, script, start, journal)?;
             Ok(Outcome::Done)
         }
         Job::Audit {
             instance,
+            barred,
             journal,
             start,
-        } => audit(alloc, files, out, instance, journal, start),
-        Job::Crew { instance, scripts } => {
-            crew(rt, alloc, files, out, instance, scripts)?;
+        } => audit(alloc, files, out, instance, barred, journal, start),
+        Job::Crew {
+            instance,
+            barred,
+            scripts,
+        } => {
+            crew(rt, alloc, files, out, instance, barred, scripts)?;
             Ok(Outcome::Done)
         }
     }

@@ -170,11 +170,12 @@ pub fn run<F: Files, W: Sink>(
     files: &mut F,
     out: &mut W,
     instance: String,
+    barred: Option<String>,
     script: String,
     start: Option<String>,
     journal: Option<String>,
 ) -> Result<(), Fault>
-    ensures runs { OnOk result (RunsScript instance script start journal (F.held files.old) (F.held files.new)
+    ensures runs { OnOk result (RunsScript instance barred script start journal (F.held files.old) (F.held files.new)
         (W.taken out.old) (W.taken out.new)) }
     ensures unmarked { OnOk result (W.has_failed out.new ≡ W.has_failed out.old) }
     ensures fault { IfErr result (λ fault. IfUnwritten fault
@@ -184,10 +185,10 @@ pub fn run<F: Files, W: Sink>(
     ensures unstored { IfErr result (λ fault. KeptUnless fault
         ((W.has_failed out.new ≡ W.has_failed out.old) × IsGiven journal)
         (F.held files.new ≡ F.held files.old)) }
-    ensures file { IfErr result (IsOfFiles (instance ∷ script ∷ given start) (F.held files.old)) }
+    ensures file { IfErr result (IsOfFiles (instance ∷ given barred ++ script ∷ given start) (F.held files.old)) }
     ensures cause { IfErr result (λ fault. status_of fault ≡ 1
-        → IsRefusedRun (F.held files.old) instance start) }
+        → IsRefusedRun (F.held files.old) instance barred start) }
 {
-    let instance = fetch_instance(alloc, files, instance)?;
+    let instance = fetch_instance(alloc, files, instance, barred)?;
     run_on::<GridSheet, F, W>(alloc, files, out, &instance, script, start, journal)
 }

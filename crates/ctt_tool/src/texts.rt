@@ -1,24 +1,20 @@
 //! Instances and solutions by the names of their files.
 
-ghost use Rattle.std.specs.Prelude.{◌≡◌, [], ◌∷◌, IfOk, IfErr, IfSome};
+ghost use Rattle.std.specs.Prelude.{◌≡◌, [], ◌∷◌, IfOk, OnOk, IfErr, IfSome};
 ghost use Rattle.std.specs.String.{string_bytes};
 ghost use Rattle.std.specs.List.{AllByRecursion as Each};
 ghost use Rattle.ctt_text.specs.Timetable.{Fits, IsTimetable};
 ghost use Rattle.ctt_tool.specs.Faults.{IsOfFiles, IsOfTexts, status_of};
 ghost use Rattle.ctt_tool.specs.Jobs.{given};
-ghost use Rattle.ctt_tool.specs.Texts.{IsInstanceText, IsNoInstance, IsNoSolution, IsNoStart, IsSolutionText, IsStart};
+ghost use Rattle.ctt_tool.specs.Texts.{IsBarredBy, IsInstanceIn, IsInstanceText, IsNoInstance, IsNoInstanceIn, IsNoSolution, IsNoStart, IsNotBarredBy, IsSolutionText, IsStart};
 
 use crate::fault::Fault;
 use crate::files::{Files, read_file};
-use ctt_text::{Instance, Placed, read_instance, read_solution};
+use ctt_text::{Instance, Placed, read_barred, read_instance, read_solution};
 use std::alloc::Global;
 
-/// The instance that a file holds.
-pub fn fetch_instance<F: Files>(
-    alloc: Global,
-    files: &mut F,
-    name: String,
-) -> Result<Instance, Fault>
+/// The instance that a file holds, in which no room is barred.
+fn fetch_alone<F: Files>(alloc: Global, files: &mut F, name: String) -> Result<Instance, Fault>
     ensures spelled { IfOk result (λ instance.
         IfSome (F.held files.old (string_bytes name)) (λ text. IsInstanceText text instance)) }
     ensures kept { F.held files.new ≡ F.held files.old }
@@ -29,6 +25,47 @@ pub fn fetch_instance<F: Files>(
 {
     let text = read_file(alloc, files, name)?;
     Ok(read_instance(alloc, &text)?)
+}
+
+/// Bars the rooms of an instance that a file says, if one is given.
+fn bar_rooms<F: Files>(
+    alloc: Global,
+    files: &mut F,
+    instance: &mut Instance,
+    barred: Option<String>,
+) -> Result<(), Fault>
+    ensures barred { OnOk result (IsBarredBy (F.held files.old) barred instance.old instance.new) }
+    ensures kept { F.held files.new ≡ F.held files.old }
+    ensures fault { IfErr result IsOfTexts }
+    ensures file { IfErr result (IsOfFiles (given barred) (F.held files.old)) }
+    ensures cause { IfErr result (λ fault. status_of fault ≡ 1
+        → IsNotBarredBy (F.held files.old) barred instance.old) }
+{
+    let Some(name) = barred else {
+        return Ok(());
+    };
+    let text = read_file(alloc, files, name)?;
+    Ok(read_barred(alloc, instance, &text)?)
+}
+
+/// The instance that a file holds, with the rooms barred that another one says, if it is given. That one
+/// is read right behind the instance.
+pub fn fetch_instance<F: Files>(
+    alloc: Global,
+    files: &mut F,
+    name: String,
+    barred: Option<String>,
+) -> Result<Instance, Fault>
+    ensures spelled { IfOk result (λ instance. IsInstanceIn (F.held files.old) name barred instance) }
+    ensures kept { F.held files.new ≡ F.held files.old }
+    ensures fault { IfErr result IsOfTexts }
+    ensures file { IfErr result (IsOfFiles (name ∷ given barred) (F.held files.old)) }
+    ensures cause { IfErr result (λ fault. status_of fault ≡ 1
+        → IsNoInstanceIn (F.held files.old) name barred) }
+{
+    let mut instance = fetch_alone(alloc, files, name)?;
+    bar_rooms(alloc, files, &mut instance, barred)?;
+    Ok(instance)
 }
 
 /// The timetable that a file holds, as a solution of the instance.

@@ -28,11 +28,11 @@ use crate::instance::clashes::clash_rows;
 use crate::instance::courses::{CourseSection, read_course_section};
 use crate::instance::curricula::{CurriculumSection, read_curriculum_section};
 use crate::instance::header::{Header, read_header};
+use crate::instance::pair_marks::PairMarks;
 use crate::instance::places::read_fixed;
 use crate::instance::rooms::{RoomSection, read_room_section};
 use crate::instance::taught::taught;
 use crate::instance::unavailability::read_unavailability_section;
-use crate::instance::unavailable::Unavailable;
 use crate::label::{Label, labels, slot_labels};
 use crate::marks::Marks;
 use crate::reader::Reader;
@@ -46,7 +46,7 @@ struct Sections<'a> {
     courses: CourseSection,
     rooms: RoomSection,
     curricula: CurriculumSection,
-    unavailable: Unavailable,
+    unavailable: PairMarks,
 }
 
 impl<'a> Model for Sections<'a> {
@@ -78,7 +78,7 @@ struct Tables {
 #[derive(Drop)]
 struct LastSections {
     curricula: CurriculumSection,
-    unavailable: Unavailable,
+    unavailable: PairMarks,
 }
 
 /// Reads what stands behind the rooms, up to the word at the end.
@@ -156,6 +156,7 @@ impl<'a> Sections<'a> {
             days: header.days as u16,
             periods: header.periods as u16,
             unavailable,
+            barred: None,
             clashes: tables.clashes,
             belonging: tables.belonging,
             taught: tables.taught,

@@ -10,8 +10,8 @@ ghost use Rattle.ctt_text.specs.InstancePlaces.{GivesRead, reads, unavailability
 use crate::fault::ReadFault;
 use crate::instance::courses::CourseSection;
 use crate::instance::header::Header;
+use crate::instance::pair_marks::PairMarks;
 use crate::instance::places::{read_day, read_fixed, read_period};
-use crate::instance::unavailable::Unavailable;
 use crate::names::{Lookup, Names};
 use crate::places::next_word;
 use crate::reader::Reader;
@@ -62,7 +62,7 @@ fn read_by_words<'a>(
     courses: &mut Lookup<'_, 'a>,
     days: u32,
     periods: u32,
-    table: &mut Unavailable,
+    table: &mut PairMarks,
 ) -> Result<(), ReadFault>
     requires slots { days * periods ≤ 2000 }
     requires rows { table.old.rows ≡ length courses.old }
@@ -85,7 +85,7 @@ fn read_one_period<'a>(
     courses: &mut Lookup<'_, 'a>,
     days: u32,
     periods: u32,
-    table: &mut Unavailable,
+    table: &mut PairMarks,
 ) -> Result<(), ReadFault>
     requires slots { days * periods ≤ 2000 }
     requires rows { table.old.rows ≡ length courses.old }
@@ -109,7 +109,7 @@ fn read_periods(
     days: u32,
     periods: u32,
     count: u32,
-    table: &mut Unavailable,
+    table: &mut PairMarks,
 ) -> Result<(), ReadFault>
     requires slots { days * periods ≤ 2000 }
     requires rows { table.old.rows ≡ length courses.now }
@@ -133,7 +133,7 @@ pub(crate) fn read_unavailability_section(
     reader: &mut Reader,
     header: &Header,
     courses: &CourseSection,
-) -> Result<Unavailable, ReadFault>
+) -> Result<PairMarks, ReadFault>
     requires slots { header.now.days * header.now.periods ≤ 2000 }
     requires courses { length courses.now.names ≡ header.now.courses }
     requires few { header.now.courses ≤ 2000 }
@@ -143,7 +143,7 @@ pub(crate) fn read_unavailability_section(
 {
     read_fixed(reader, "UNAVAILABILITY_CONSTRAINTS:")?;
     let slots = (header.days * header.periods) as usize;
-    let mut table = Unavailable::new(alloc, header.courses as usize, slots)?;
+    let mut table = PairMarks::new(alloc, header.courses as usize, slots)?;
     read_periods(
         reader,
         &courses.names,

@@ -1,7 +1,7 @@
 use Rattle.std.proofs.Common.{◌≡◌, ◌∙◌, ◌++◌, ap, List, ℕ, codes}
 use Rattle.std.specs.String.{string_bytes}
 use Rattle.ctt_rules.specs.Penalty.{total}
-use Rattle.ctt_script.specs.ReportText.{answer_line, count_line, line, text_of}
+use Rattle.ctt_script.specs.ReportText.{answer_line, barred_line, count_line, line, text_of}
 use Rattle.ctt_script.proofs.report.text.Goals as goal
 
 -- a line more
@@ -20,8 +20,9 @@ returns c =
     (adds (count_line (codes "compactness") cost.compactness) c.in_ok-push_count-7.ensures
     (adds (count_line (codes "days") cost.days) c.in_ok-push_count-6.ensures
     (adds (count_line (codes "capacity") cost.capacity) c.in_ok-push_count-5.ensures
+    (adds (barred_line c.args.barred hard.barred) c.in_ok-push_barred.ensures
     (adds (count_line (codes "occupancy") hard.occupancy) c.in_ok-push_count-4.ensures
     (adds (count_line (codes "availability") hard.availability) c.in_ok-push_count-3.ensures
     (adds (count_line (codes "conflicts") hard.conflicts) c.in_ok-push_count-2.ensures
     (adds (count_line (codes "lectures") hard.lectures) c.in_ok-push_count.ensures
-    (adds (line (codes "instance") c.args.name.now) c.in_ok-push_line.ensures c.new-report.ensures.bytes)))))))))))
+    (adds (line (codes "instance") c.args.name.now) c.in_ok-push_line.ensures c.new-report.ensures.bytes))))))))))))

@@ -2,7 +2,7 @@ use Rattle.std.proofs.Common.{◌≡◌, ◌++◌, ◌∷◌, refl, arith, codes
 use Rattle.std.proofs.lemmas.Grind.{common_steps}
 use Rattle.ctt_text.specs.Problem.{Problem}
 use Rattle.ctt_edits.specs.declared.fault.EditFault.{EditFault}
-use Rattle.ctt_edits.specs.declared.fault.EditFault.TheVariants.{NotPlaced, SameSlot, SameCourse, AlreadyThere, CourseFull, Unavailable, Clash, RoomTaken}
+use Rattle.ctt_edits.specs.declared.fault.EditFault.TheVariants.{NotPlaced, SameSlot, SameCourse, AlreadyThere, CourseFull, Unavailable, Barred, Clash, RoomTaken}
 use Rattle.ctt_script.specs.WrittenText.{line}
 use Rattle.ctt_script.specs.WrittenWords.{fault_words}
 use Rattle.ctt_script.proofs.written.write_refused.Goals as goal
@@ -14,6 +14,7 @@ refused_line i SameCourse = refl
 refused_line i AlreadyThere = refl
 refused_line i CourseFull = refl
 refused_line i Unavailable = refl
+refused_line i Barred = refl
 refused_line i (Clash c) = refl
 refused_line i (RoomTaken c) = refl
 

@@ -1,11 +1,17 @@
-use Rattle.std.proofs.Common.{◌∷◌, inr, subst, IfErr}
+use Rattle.std.proofs.Common.{◌∷◌, ◌++◌, inr, subst, IfErr}
 use Rattle.std.proofs.lemmas.Result.{IfErr-weaker, IfOk-weaker}
 use Rattle.ctt_text.specs.Problem.{Problem}
 use Rattle.ctt_tool.specs.Audits.{AuditsOn, IsRefusedJournal}
 use Rattle.ctt_tool.specs.Faults.{IsOfFiles}
 use Rattle.ctt_tool.specs.Jobs.{given}
-use Rattle.ctt_tool.proofs.Known.{of_more_files}
+use Rattle.ctt_tool.proofs.Known.{of_more_files, one_behind, one_in_front, passed_on}
 use Rattle.ctt_tool.proofs.audit.audit.Goals as goal
+
+pub returns-in_err-instance-clause-file : goal.returns-in_err-instance-clause-file
+returns-in_err-instance-clause-file g c =
+    let held = g.F.Files.held c.args.files.now in
+    passed_on c.from_residual.result c.in_err-instance.field-0.0 (IsOfFiles (c.args.instance ∷ given c.args.barred ++ c.args.journal ∷ given c.args.start) held) c.from_residual.ensures.1
+    (of_more_files (c.args.instance ∷ given c.args.barred) (c.args.instance ∷ given c.args.barred ++ c.args.journal ∷ given c.args.start) held c.in_err-instance.field-0.0 (λ name one. one_in_front c.args.barred c.args.instance (c.args.journal ∷ given c.args.start) name one) c.in_err-instance.ensures.file)
 
 pub returns-clause-audits : goal.returns-clause-audits
 returns-clause-audits g c =
@@ -18,7 +24,7 @@ returns-clause-audits g c =
 
 pub returns-clause-file : goal.returns-clause-file
 returns-clause-file g c =
-    IfErr-weaker c.audit_on.result _ _ (λ fault is. of_more_files (c.args.journal ∷ given c.args.start) (c.args.instance ∷ c.args.journal ∷ given c.args.start) (g.F.Files.held c.args.files.now) fault (λ name one. inr one) is)
+    IfErr-weaker c.audit_on.result _ _ (λ fault is. of_more_files (c.args.journal ∷ given c.args.start) (c.args.instance ∷ given c.args.barred ++ c.args.journal ∷ given c.args.start) (g.F.Files.held c.args.files.now) fault (λ name one. inr (one_behind c.args.barred (c.args.journal ∷ given c.args.start) name one)) is)
     (subst (λ held. IfErr c.audit_on.result (IsOfFiles (c.args.journal ∷ given c.args.start) held)) c.in_ok-instance.ensures.kept c.audit_on.ensures.file)
 
 pub returns-clause-cause : goal.returns-clause-cause

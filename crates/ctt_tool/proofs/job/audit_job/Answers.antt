@@ -25,6 +25,7 @@ returns-clause-job c =
       record {
         has_instance = sym (first_value-rows found (codes "instance")) ∙ sym c.get_str.ensures ∙ ap text c.unwrap-instance.ensures ∙ ap Some (sym c.in_ok-from_str.ensures.ok);
         has_journal = sym (first_value-rows found (codes "journal")) ∙ sym c.get_str-2.ensures ∙ ap text c.unwrap-journal.ensures ∙ ap Some (sym c.in_ok-from_str-2.ensures.ok);
-        has_start = sym (first_value-rows found (codes "start")) ∙ sym c.get_str-3.ensures ∙ sym c.in_ok-owned.ensures;
+        has_barred = sym (first_value-rows found (codes "barred")) ∙ sym c.get_str-3.ensures ∙ sym c.in_ok-owned.ensures;
+        has_start = sym (first_value-rows found (codes "start")) ∙ sym c.get_str-4.ensures ∙ sym c.in_ok-owned-2.ensures;
       },
     )

@@ -27,6 +27,7 @@ returns-clause-job c =
       record {
         has_instance = sym (first_value-rows found (codes "instance")) ∙ sym c.get_str.ensures ∙ ap text c.unwrap-instance.ensures ∙ ap Some (sym c.in_ok-from_str.ensures.ok);
         has_solution = sym (first_value-rows found (codes "solution")) ∙ sym c.get_str-2.ensures ∙ ap text c.unwrap-solution.ensures ∙ ap Some (sym c.in_ok-from_str-2.ensures.ok);
+        has_barred = sym (first_value-rows found (codes "barred")) ∙ sym c.get_str-3.ensures ∙ sym c.in_ok-owned.ensures;
         has_json = flag_is_on (one_of (codes "json") (rows_of found)) c.get_flag.result c.requires.json
             (λ e. c.get_flag.ensures.none (json ∙ e)) (λ e. c.get_flag.ensures.value (json ∙ e)) (λ e. c.get_flag.ensures.other (json ∙ e));
       },

@@ -28,6 +28,7 @@ returns-clause-job c =
       refl,
       record {
         has_instance = sym (first_value-rows found (codes "instance")) ∙ sym c.get_str.ensures ∙ ap text c.unwrap-instance.ensures ∙ ap Some (sym c.in_ok-from_str.ensures.ok);
+        has_barred = sym (first_value-rows found (codes "barred")) ∙ sym c.get_str-2.ensures ∙ sym c.in_ok-owned.ensures;
         has_scripts = scripts;
         has_some = some_are_given (codes "script") (rows_of found) _ c.requires.script scripts;
       },

@@ -14,7 +14,9 @@ returns c =
     bare c.instance_argument.ensures.rule c.instance_argument.ensures.local c.in_ok-arg.ensures in
     let second = with_argument _ (required_word (codes "script")) c.in_ok-arg.field-0 c.file_argument.result c.in_ok-arg-2.field-0
     first c.file_argument.ensures.rule c.file_argument.ensures.local c.in_ok-arg-2.ensures in
-    let third = with_argument _ (valued (codes "start")) c.in_ok-arg-2.field-0 c.start_argument.result c.in_ok-arg-3.field-0
-    second c.start_argument.ensures.rule c.start_argument.ensures.local c.in_ok-arg-3.ensures in
-    IfOk-weaker c.arg-4.result _ _ (λ command adds. with_argument _ (valued (codes "journal")) c.in_ok-arg-3.field-0 c.valued_argument.result command
-    third c.valued_argument.ensures.rule c.valued_argument.ensures.local adds) c.arg-4.ensures
+    let third = with_argument _ (valued (codes "barred")) c.in_ok-arg-2.field-0 c.barred_argument.result c.in_ok-arg-3.field-0
+    second c.barred_argument.ensures.rule c.barred_argument.ensures.local c.in_ok-arg-3.ensures in
+    let fourth = with_argument _ (valued (codes "start")) c.in_ok-arg-3.field-0 c.start_argument.result c.in_ok-arg-4.field-0
+    third c.start_argument.ensures.rule c.start_argument.ensures.local c.in_ok-arg-4.ensures in
+    IfOk-weaker c.arg-5.result _ _ (λ command adds. with_argument _ (valued (codes "journal")) c.in_ok-arg-4.field-0 c.valued_argument.result command
+    fourth c.valued_argument.ensures.rule c.valued_argument.ensures.local adds) c.arg-5.ensures

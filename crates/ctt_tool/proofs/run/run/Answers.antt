@@ -1,12 +1,18 @@
-use Rattle.std.proofs.Common.{◌∷◌, ◌∙◌, inr, subst, IfErr}
+use Rattle.std.proofs.Common.{◌∷◌, ◌++◌, ◌∙◌, inr, subst, IfErr}
 use Rattle.std.proofs.lemmas.Result.{IfErr-weaker}
 use Rattle.ctt_text.specs.Problem.{Problem}
 use Rattle.ctt_tool.specs.Faults.{IsOfFiles}
 use Rattle.ctt_tool.specs.Jobs.{given}
 use Rattle.ctt_tool.specs.Runs.{RunsOn}
 use Rattle.ctt_tool.specs.Texts.{IsRefusedStart}
-use Rattle.ctt_tool.proofs.Known.{kept_weaker, of_more_files, on_ok_weaker}
+use Rattle.ctt_tool.proofs.Known.{kept_weaker, of_more_files, on_ok_weaker, one_behind, one_in_front, passed_on}
 use Rattle.ctt_tool.proofs.run.run.Goals as goal
+
+pub returns-in_err-instance-clause-file : goal.returns-in_err-instance-clause-file
+returns-in_err-instance-clause-file g c =
+    let held = g.F.Files.held c.args.files.now in
+    passed_on c.from_residual.result c.in_err-instance.field-0.0 (IsOfFiles (c.args.instance ∷ given c.args.barred ++ c.args.script ∷ given c.args.start) held) c.from_residual.ensures.1
+    (of_more_files (c.args.instance ∷ given c.args.barred) (c.args.instance ∷ given c.args.barred ++ c.args.script ∷ given c.args.start) held c.in_err-instance.field-0.0 (λ name one. one_in_front c.args.barred c.args.instance (c.args.script ∷ given c.args.start) name one) c.in_err-instance.ensures.file)
 
 pub returns-clause-runs : goal.returns-clause-runs
 returns-clause-runs g c =
@@ -23,7 +29,7 @@ returns-clause-unstored g c =
 
 pub returns-clause-file : goal.returns-clause-file
 returns-clause-file g c =
-    IfErr-weaker c.run_on.result _ _ (λ fault is. of_more_files (c.args.script ∷ given c.args.start) (c.args.instance ∷ c.args.script ∷ given c.args.start) (g.F.Files.held c.args.files.now) fault (λ name one. inr one) is)
+    IfErr-weaker c.run_on.result _ _ (λ fault is. of_more_files (c.args.script ∷ given c.args.start) (c.args.instance ∷ given c.args.barred ++ c.args.script ∷ given c.args.start) (g.F.Files.held c.args.files.now) fault (λ name one. inr (one_behind c.args.barred (c.args.script ∷ given c.args.start) name one)) is)
     (subst (λ held. IfErr c.run_on.result (IsOfFiles (c.args.script ∷ given c.args.start) held)) c.in_ok-instance.ensures.kept c.run_on.ensures.file)
 
 pub returns-clause-cause : goal.returns-clause-cause

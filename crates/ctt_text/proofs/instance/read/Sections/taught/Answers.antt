@@ -1,4 +1,4 @@
-use Rattle.std.proofs.Common.{map, sym, ◌∙◌, subst}
+use Rattle.std.proofs.Common.{map, ◌∙◌, subst}
 use Rattle.std.proofs.lemmas.List.{length-map}
 use Rattle.ctt_text.specs.Taught.{AreTaught}
 use Rattle.ctt_text.proofs.instance.read.Sections.taught.Goals as goal

@@ -1,4 +1,4 @@
--- A bit for each course and slot.
+-- A bit for each row and column.
 use Rattle.std.proofs.Common.{◌≡◌, ℕ, ◌+◌, ◌*◌, ◌/◌, ◌%◌, ◌^◌, ◌<◌, List, length, get_or, true, false, ◌==◌, ◌∙◌, sym, ap, arith, w64}
 use Rattle.std.specs.Prelude.{slice_set, bit_and, bit_or}
 use Rattle.std.specs.Int.{bit_at}

@@ -1,0 +1,223 @@
+-- The laws of the texts of barred rooms.
+use Rattle.std.proofs.Common.{◌≡◌, ◌⊎◌, inl, inr, ℕ, zero, suc, ◌+◌, ◌*◌, ◌<◌, List, [], ◌∷◌, ◌++◌, length, flat_map, Bool, true, false, ◌||◌, ◌==◌, Ok, Err, refl, sym, ap, subst, ◌∙◌, arith, mul_comm}
+use Rattle.std.specs.Prelude.{codes, get_or, slice_set}
+use Rattle.std.specs.List.{list_any, AllByRecursion as Each}
+use Rattle.std.specs.Str.{bytes_eq}
+use Rattle.std.proofs.lemmas.Bool.{lt-ltb, eq-eqb}
+use Rattle.std.proofs.lemmas.Nat.{mul-add-lt}
+use Rattle.ctt_text.specs.declared.fault.BarredFault.{BarredFault}
+use Rattle.ctt_text.specs.declared.fault.BarredFault.TheVariants.{Expected, BadNumber, TooLarge, UnknownCourse, UnknownRoom}
+use Rattle.ctt_text.specs.Left.{Left}
+use Rattle.ctt_text.specs.Numbers.{value}
+use Rattle.ctt_text.specs.Forms.{done, ◌>>=◌, times, Fills}
+use Rattle.ctt_text.specs.Places.{one, known, known_name, number_if, fixed}
+use Rattle.ctt_text.specs.Problem.{Problem, IsProblem, course_count, room_count, place_of, is_barred}
+use Rattle.ctt_text.specs.Reading.{reading}
+use Rattle.ctt_text.specs.Tables.{MarkTable, IsTableOf}
+use Rattle.ctt_text.specs.Instance.{HasMarks}
+use Rattle.ctt_text.specs.InstanceText.{IsUpTo}
+use Rattle.ctt_text.specs.BarredPlaces.{pair_count, barred_pair, none_barred, barred_rooms, ends_early}
+use Rattle.ctt_text.specs.BarredText.{BarredWords, spelled_barred, spelled_pairs, IsBarredPair, bars, BarSpells, BarBreaksAt}
+use Rattle.ctt_text.specs.BarredLaws.{barred_answer, ReadsBarred, SpellsOneBarred, BarredFailsWhereBroken, BarredBreaksOnce, BarredSpellsOrBreaks}
+use Rattle.ctt_text.proofs.FormLaws.{fills_both, bind_case, read_fills, answer_fills, fills_answer, answer_breaks, breaks_answer, breaks_once, answered, ok_same, ok_is_err}
+use Rattle.ctt_text.proofs.Steps.{read_done}
+use Rattle.ctt_text.proofs.SectionLaws.{Entry, entries_fill, entries_taken, each_apart, each_together}
+use Rattle.ctt_text.proofs.MarkLaws.{marked, marks_made, marks_many, marks_same, place_in_rows, Row, row_of}
+use Rattle.ctt_text.proofs.PlaceLaws.{a_name, name_given, up_to_passes, passed_up_to, is_fixed, after_case}
+use Rattle.ctt_text.proofs.ListLaws.{place_below}
+
+-- how many pairs there are: what obeys that place is one number
+count_taken : (greatest : ℕ) (words : List (List ℕ)) (n : ℕ) → Fills (pair_count greatest) words n → (word : List ℕ) × (words ≡ word ∷ []) × IsUpTo greatest word × (value word ≡ n)
+unfolding pair_count number_if one
+count_taken greatest [] n h = absurd h
+count_taken greatest (word ∷ []) n h = (word, refl, passed_up_to BadNumber TooLarge word greatest h.0, h.1)
+count_taken greatest (word ∷ more ∷ words) n h = absurd h.1
+
+-- what fills the end is its word
+end_taken : (x t : List Bool) (words : List (List ℕ)) → Fills (fixed Expected (codes "END.") >>= λ _. done x) words t → (words ≡ codes "END." ∷ []) × (x ≡ t)
+unfolding fixed known one ◌>>=◌
+end_taken x t [] h = absurd h
+end_taken x t (w ∷ []) h = (ap (λ q. q ∷ []) (is_fixed Expected w (codes "END.") h.0), h.1)
+end_taken x t (w ∷ more ∷ ws) h = absurd h.1
+
+-- a list in which some place is marked has a mark
+any_at : (xs : List Bool) (k : ℕ) → get_or xs k false ≡ true → list_any (λ b. b) xs ≡ true
+any_at [] k h = cc
+any_at (true ∷ xs) k h = refl
+any_at (false ∷ xs) zero h = cc
+any_at (false ∷ xs) (suc k) h = any_at xs k h
+
+-- the parts of a text, one behind another
+all_parts : (words us vs us2 vs2 ws : List (List ℕ)) (count : List ℕ) → words ≡ codes "Barred:" ∷ us ++ vs → us ≡ count ∷ [] → vs ≡ us2 ++ vs2 → us2 ≡ ws → vs2 ≡ codes "END." ∷ [] → words ≡ codes "Barred:" ∷ count ∷ ws ++ codes "END." ∷ []
+all_parts words us vs us2 vs2 ws count e0 e1 e2 e3 e4 = rw (e0, e1, e2, e3, e4) refl
+
+module _ (i : Problem) where
+  -- the place of a pair in the table
+  abbrev mark_of : BarredWords → ℕ
+  mark_of w = place_of i.course_names w.course * room_count i + place_of i.room_names w.room
+
+  abbrev add_pair : List Bool → BarredWords → List Bool
+  add_pair s w = slice_set s (mark_of w) true
+
+  abbrev FitsPair : List Bool → BarredWords → Type 0
+  FitsPair _ = IsBarredPair i
+
+  -- a known course and a known room fill two places
+  pair_fills : (s : List Bool) (w : BarredWords) → FitsPair s w → Fills (barred_pair i s) (spelled_barred w) (add_pair s w)
+  unfolding barred_pair known_name known one ◌>>=◌
+  pair_fills s w fit = (rw fit.0 refl, (rw fit.1 refl, rw (fit.0, fit.1) refl))
+
+  -- what fills them is such a pair
+  pair_taken : (s : List Bool) (words : List (List ℕ)) (t : List Bool) → Fills (barred_pair i s) words t → Entry spelled_barred add_pair FitsPair s words t
+  unfolding barred_pair known_name known one ◌>>=◌
+  pair_taken s [] t h = absurd h
+  pair_taken s (c ∷ []) t h = absurd h.1
+  pair_taken s (c ∷ r ∷ []) t h = record {
+    given = record { course = c; room = r };
+    all = refl;
+    fit = (a_name UnknownCourse c i.course_names h.0, a_name UnknownRoom r i.room_names h.1.0);
+    gives = rw (name_given UnknownCourse c i.course_names h.0, name_given UnknownRoom r i.room_names h.1.0) at h.1.1;
+  }
+  pair_taken s (c ∷ r ∷ more ∷ words) t h = absurd h.1.1
+
+  -- the table that the pairs make
+  abbrev table_of : List BarredWords → List Bool
+  table_of given = marked mark_of (none_barred i) given
+
+  -- so many pairs, and the table that they make
+  record Pairs (n : ℕ) (words : List (List ℕ)) (t : List Bool) : Type 0 where
+    given : List BarredWords
+    count : length given ≡ n
+    all : words ≡ flat_map spelled_barred given
+    each : Each (IsBarredPair i) given
+    gives : table_of given ≡ t
+
+  pairs_taken : (n : ℕ) (words : List (List ℕ)) (t : List Bool) → Fills (times (barred_pair i) n (none_barred i)) words t → Pairs n words t
+  pairs_taken n words t h =
+      let r = entries_taken (barred_pair i) spelled_barred add_pair FitsPair pair_taken n (none_barred i) words t h in
+      record { given = r.given; count = r.count; all = r.all; each = each_apart add_pair (IsBarredPair i) r.given (none_barred i) r.fit; gives = r.gives }
+
+  pairs_fill : (given : List BarredWords) → Each (IsBarredPair i) given → Fills (times (barred_pair i) (length given) (none_barred i)) (flat_map spelled_barred given) (table_of given)
+  pairs_fill given each = entries_fill (barred_pair i) spelled_barred add_pair FitsPair pair_fills given (none_barred i) (each_together add_pair (IsBarredPair i) given (none_barred i) each)
+
+  -- what is spelled fills the form
+  spelled_fills : (count : List ℕ) (given : List BarredWords) → IsUpTo 2000000 count → value count ≡ length given → Each (IsBarredPair i) given → Fills (barred_rooms i) (spelled_pairs count given) (table_of given)
+  unfolding barred_rooms pair_count number_if fixed known one ◌>>=◌
+  spelled_fills count given few counted each = (
+    refl,
+    (
+      up_to_passes BadNumber TooLarge count 2000000 few,
+      fills_both (times (barred_pair i) (value count) (none_barred i)) _ (flat_map spelled_barred given) (codes "END." ∷ []) (table_of given) (table_of given)
+          (subst (λ n. Fills (times (barred_pair i) n (none_barred i)) (flat_map spelled_barred given) (table_of given)) (sym counted) (pairs_fill given each))
+          (refl, refl),
+    ),
+  )
+
+  -- a room in range is looked up in the table
+  looked_up : (table : List Bool) (c r : ℕ) → r < room_count i → is_barred (record i { barred = table }) c r ≡ get_or table (c * room_count i + r) false
+  looked_up table c r lt = rw (lt-ltb r (room_count i) lt) refl
+
+  module _ (is : IsProblem i) where
+    -- the room of a pair is one of the instance, and so is its place in the table
+    room_within : (w : BarredWords) → IsBarredPair i w → place_of i.room_names w.room < room_count i
+    room_within w e = subst (λ n. place_of i.room_names w.room < n) is.rooms_named (place_below (bytes_eq w.room) i.room_names e.1)
+
+    within : (c r : ℕ) → c < course_count i → r < room_count i → c * room_count i + r < course_count i * room_count i
+    within c r known lt = subst (λ n. c * room_count i + r < n) (mul_comm (room_count i) (course_count i)) (mul-add-lt c (room_count i) r (course_count i) known lt)
+
+    mark_within : (w : BarredWords) → IsBarredPair i w → mark_of w < course_count i * room_count i
+    mark_within w e = within (place_of i.course_names w.course) (place_of i.room_names w.room) (subst (λ n. place_of i.course_names w.course < n) is.courses_named (place_below (bytes_eq w.course) i.course_names e.0)) (room_within w e)
+
+    -- a pair's mark is that of a course and a room just where the pair lists them
+    listed : (c r : ℕ) → r < room_count i → (given : List BarredWords) → Each (IsBarredPair i) given → list_any (λ w. mark_of w == c * room_count i + r) given ≡ list_any (bars i c r) given
+    listed c r lt [] each = refl
+    listed c r lt (w ∷ given) each =
+        rw (place_in_rows (room_count i) (place_of i.course_names w.course) (place_of i.room_names w.room) c r (room_within w each.0) lt, listed c r lt given each.1) refl
+
+    module _ (given : List BarredWords) (each : Each (IsBarredPair i) given) where
+      -- the table says of each course and room whether a pair lists them
+      table_says : (c r : ℕ) → c < course_count i → r < room_count i → is_barred (record i { barred = table_of given }) c r ≡ list_any (bars i c r) given
+      table_says c r known lt = looked_up (table_of given) c r lt ∙ marks_made mark_of (course_count i * room_count i) given (c * room_count i + r) (within c r known lt) ∙ listed c r lt given each
+
+      -- a table of its length that says so is the same
+      table_same : (table : List Bool) → length table ≡ course_count i * room_count i
+          → ((c r : ℕ) → c < course_count i → r < room_count i → is_barred (record i { barred = table }) c r ≡ list_any (bars i c r) given) → table_of given ≡ table
+      table_same table len says = marks_same mark_of (course_count i * room_count i) given table len (λ k lt.
+          let r : Row (course_count i) (room_count i) k = row_of (course_count i) (room_count i) k lt in
+          subst (λ n. get_or table n false ≡ list_any (λ w. mark_of w == n) given) r.place
+          (sym (looked_up table r.row r.column r.column_below) ∙ says r.row r.column r.row_below r.column_below ∙ sym (listed r.row r.column r.column_below given each)))
+
+    -- what fills the form is spelled, whatever follows it
+    form_taken : (words rest : List (List ℕ)) (t : List Bool) → Fills (barred_rooms i) words t → BarSpells i (words ++ rest) t
+    unfolding barred_rooms ◌>>=◌
+    form_taken words rest t h =
+        after_case (BarSpells i (words ++ rest) t) Expected (codes "Barred:") (pair_count 2000000) (λ count. times (barred_pair i) count (none_barred i) >>= λ table. fixed Expected (codes "END.") >>= λ _. done table) words t h (λ us vs n p q e.
+        let c = count_taken 2000000 us n p in
+        bind_case (BarSpells i (words ++ rest) t) (times (barred_pair i) n (none_barred i)) (λ table. fixed Expected (codes "END.") >>= λ _. done table) vs t q (λ us2 vs2 table p2 q2 e2.
+        let g = pairs_taken n us2 table p2 in
+        let end = end_taken table t vs2 q2 in
+        record {
+          count = c.0;
+          given = g.given;
+          rest = rest;
+          all = ap (λ ws. ws ++ rest) (all_parts words us vs us2 vs2 (flat_map spelled_barred g.given) c.0 e c.1 e2 g.all end.0);
+          few = c.2;
+          counted = c.3 ∙ sym g.count;
+          pairs = g.each;
+          marks = ap (λ x. length x) (sym (g.gives ∙ end.1)) ∙ marks_many mark_of (course_count i * room_count i) g.given;
+          barred = subst (λ x. (c r : ℕ) → c < course_count i → r < room_count i → is_barred (record i { barred = x }) c r ≡ list_any (bars i c r) g.given) (g.gives ∙ end.1) (table_says g.given g.each);
+        }))
+
+    -- what is read is spelled
+    read_spelled : (words : List (List ℕ)) (t : List Bool) → barred_answer i words ≡ Ok t → BarSpells i words t
+    read_spelled words t h =
+        let r = answer_fills ends_early (barred_rooms i) words t h in
+        subst (λ ws. BarSpells i ws t) (sym r.2) (form_taken r.0 r.1 t r.3)
+
+    -- what is spelled is read
+    spelled_read : (words : List (List ℕ)) (t : List Bool) → BarSpells i words t → barred_answer i words ≡ Ok t
+    spelled_read words t s =
+        ap (λ ws. barred_answer i ws) s.all
+        ∙ fills_answer ends_early (barred_rooms i) (spelled_pairs s.count s.given) s.rest t
+        (subst (λ x. Fills (barred_rooms i) (spelled_pairs s.count s.given) x) (table_same s.given s.pairs t s.marks s.barred) (spelled_fills s.count s.given s.few s.counted s.pairs))
+
+    -- where some pair was read, there is a mark
+    some_marked : (n : ℕ) (words : List (List ℕ)) (t : List Bool) → 0 < n → Pairs n words t → list_any (λ b. b) t ≡ true
+    some_marked n words t lt p = subst (λ x. list_any (λ b. b) x ≡ true) p.gives (of p.given p.each (subst (λ m. 0 < m) (sym p.count) lt))
+      where
+        of : (given : List BarredWords) → Each (IsBarredPair i) given → 0 < length given → list_any (λ b. b) (table_of given) ≡ true
+        of [] each lt = absurd (omega (arith, lt))
+        of (w ∷ given) each lt = any_at (table_of (w ∷ given)) (mark_of w)
+            (marks_made mark_of (course_count i * room_count i) (w ∷ given) (mark_of w) (mark_within w each.0) ∙ ap (λ b. b || list_any (λ v. mark_of v == mark_of w) given) (eq-eqb (mark_of w) (mark_of w) refl))
+
+    -- a table that was read of some pairs has so many marks, and one that is set
+    pub some_read : (n : ℕ) (left after : Left) (table : MarkTable) → 0 < n → IsTableOf (course_count i) (room_count i) table → reading ends_early (times (barred_pair i) n (none_barred i)) left ≡ Ok (table.marks, after) → HasMarks (course_count i) (room_count i) table
+    some_read n left after table lt size h =
+        let r = read_fills ends_early (times (barred_pair i) n (none_barred i)) left.words left.next (table.marks, after) h in
+        let p = pairs_taken n r.front table.marks r.fills in
+        record { size = size; all = ap (λ x. length x) (sym p.gives) ∙ marks_many mark_of (course_count i * room_count i) p.given; some = some_marked n r.front table.marks lt p }
+
+-- where there are no pairs, none is read
+pub none_read : (i : Problem) (n : ℕ) (left : Left) → n ≡ 0 → reading ends_early (times (barred_pair i) n (none_barred i)) left ≡ Ok (none_barred i, left)
+unfolding times
+none_read i n left none = rw none (read_done ends_early (none_barred i) left)
+
+pub reads_barred : ReadsBarred
+reads_barred i words t is = (read_spelled i is words t, spelled_read i is words t)
+
+pub spells_one_barred : SpellsOneBarred
+spells_one_barred i words t u is s s' = ok_same {F = BarredFault} t u (sym (spelled_read i is words t s) ∙ spelled_read i is words u s')
+
+pub barred_fails_where_broken : BarredFailsWhereBroken
+barred_fails_where_broken i words e = (answer_breaks ends_early (barred_rooms i) words e, λ k b. breaks_answer ends_early (barred_rooms i) words k e b)
+
+pub barred_breaks_once : BarredBreaksOnce
+barred_breaks_once i words = breaks_once ends_early (barred_rooms i) words
+
+pub barred_spells_or_breaks : BarredSpellsOrBreaks
+barred_spells_or_breaks i words is =
+    (by (answered ends_early (barred_rooms i) words), λ t k e s b. ok_is_err ⊥ t e (sym (spelled_read i is words t s) ∙ breaks_answer ends_early (barred_rooms i) words k e b))
+  where
+    by : ((t : List Bool) × (barred_answer i words ≡ Ok t)) ⊎ ((e : BarredFault) × (barred_answer i words ≡ Err e)) → ((t : List Bool) × BarSpells i words t) ⊎ ((k : ℕ) × (fault : BarredFault) × BarBreaksAt i words k fault)
+    by (inl x) = inl (x.0, read_spelled i is words x.0 x.1)
+    by (inr x) = let b = answer_breaks ends_early (barred_rooms i) words x.0 x.1 in inr (b.0, x.0, b.1)

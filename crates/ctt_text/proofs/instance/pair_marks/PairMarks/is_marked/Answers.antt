@@ -1,0 +1,28 @@
+use Rattle.std.proofs.Common.{◌<◌, ◌+◌, ◌*◌, ◌/◌, ◌∙◌, ap, arith}
+use Rattle.std.proofs.lemmas.Int.{ints}
+use Rattle.ctt_text.specs.Tables.{MarkTable}
+use Rattle.ctt_text.proofs.TableLemmas.{same_element}
+use Rattle.ctt_text.proofs.PairMarkLemmas.{small, there, read_is}
+use Rattle.ctt_text.proofs.instance.pair_marks.PairMarks.is_marked.Goals as goal
+
+pub overflow_mul-number : goal.overflow_mul-number
+overflow_mul-number c =
+    let v = c.self.inside in
+    let row : c.args.row < v.rows = omega (arith, ap (λ (t : MarkTable). t.rows) c.self.view_is, c.requires.row) in
+    let column : c.args.column < v.width = omega (arith, ap (λ (t : MarkTable). t.width) c.self.view_is, c.requires.column) in
+    omega (arith, ints, small v.rows v.width c.args.row c.args.column v.words.items row column c.self.invariant)
+
+pub overflow_add-number : goal.overflow_add-number
+overflow_add-number c =
+    let v = c.self.inside in
+    let row : c.args.row < v.rows = omega (arith, ap (λ (t : MarkTable). t.rows) c.self.view_is, c.requires.row) in
+    let column : c.args.column < v.width = omega (arith, ap (λ (t : MarkTable). t.width) c.self.view_is, c.requires.column) in
+    omega (arith, ints, small v.rows v.width c.args.row c.args.column v.words.items row column c.self.invariant)
+
+pub returns : goal.returns
+returns c =
+    let v = c.self.inside in
+    let row : c.args.row < v.rows = omega (arith, ap (λ (t : MarkTable). t.rows) c.self.view_is, c.requires.row) in
+    let column : c.args.column < v.width = omega (arith, ap (λ (t : MarkTable). t.width) c.self.view_is, c.requires.column) in
+    let at_word = there v.rows v.width c.args.row c.args.column v.words.items row column c.self.invariant in
+    rw (← c.self.view_is) (read_is v.rows v.width c.args.row c.args.column v.words.items row column c.self.invariant _ (c.index-word.ensures ∙ same_element v.words.items ((c.args.row * v.width + c.args.column) / 64) _ 0 at_word))

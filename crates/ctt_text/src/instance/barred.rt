@@ -1,0 +1,152 @@
+//! Reading which rooms are barred for which courses.
+
+ghost use Rattle.std.specs.Prelude.{◌≡◌, ◌<◌, ◌≤◌, ◌*◌, ◌⊎◌, ℕ, List, Bool, OnOk, IfOk, IfErr, IfSome, MatchResult, Err};
+ghost use Rattle.std.specs.Str.{IsUtf8};
+ghost use Rattle.std.specs.Str.Lossy.{utf8_valid_len};
+ghost use Rattle.ctt_text.specs.Words.{words};
+ghost use Rattle.ctt_text.specs.Forms.{times};
+ghost use Rattle.ctt_text.specs.Reading.{Gives};
+ghost use Rattle.ctt_text.specs.Problem.{Problem, course_count, room_count};
+ghost use Rattle.ctt_text.specs.Instance.{marks_in, HasMarks};
+ghost use Rattle.ctt_text.specs.Tables.{IsTableOf};
+ghost use Rattle.ctt_text.specs.BarredPlaces.{GivesBarred, reads_barred, is_want, pair_count, barred_pair, none_barred, barred_rooms};
+ghost use Rattle.ctt_text.specs.BarredText.{BarSpells, BarBreaksAt};
+ghost use Rattle.ctt_text.specs.BarredLaws.{barred_answer, IsBarredCauseOf};
+ghost use Rattle.ctt_text.specs.declared.fault.BarredFault.{BarredFault};
+ghost use Rattle.ctt_text.specs.declared.fault.BarredFault.TheVariants.{NotText, NoMemory};
+
+use crate::fault::BarredFault;
+use crate::instance::Instance;
+use crate::instance::pair_marks::PairMarks;
+use crate::places::{next_course, next_fixed, next_number, next_room};
+use crate::reader::Reader;
+use std::alloc::Global;
+
+/// How many pairs there are: a number of at most `greatest`.
+#[tactic(auto, using(crate::proofs::Steps::read_number_if), unfolding(crate::specs::BarredPlaces::pair_count))]
+fn read_count(reader: &mut Reader, greatest: u32) -> Result<u32, BarredFault>
+    ensures { GivesBarred (λ number. (number, reader.new)) result (reads_barred (pair_count greatest) reader.old) }
+{
+    let at = reader.next();
+    let number = next_number::<BarredFault>(reader)?;
+    if number <= greatest {
+        Ok(number)
+    } else {
+        Err(BarredFault::TooLarge(at))
+    }
+}
+
+/// Reads one pair, and marks it.
+#[tactic(auto, using(crate::proofs::Steps::read_bind, crate::proofs::Steps::read_done), unfolding(crate::specs::BarredPlaces::barred_pair))]
+fn read_pair(
+    reader: &mut Reader,
+    instance: &Instance,
+    table: &mut PairMarks,
+) -> Result<(), BarredFault>
+    requires rows { table.old.rows ≡ course_count instance.now }
+    requires width { table.old.width ≡ room_count instance.now }
+    ensures rows { table.new.rows ≡ table.old.rows }
+    ensures width { table.new.width ≡ table.old.width }
+    ensures exact { GivesBarred (λ _. (table.new.marks, reader.new)) result (reads_barred (barred_pair instance.now table.old.marks) reader.old) }
+{
+    let course = next_course::<BarredFault>(reader, instance)?;
+    let room = next_room::<BarredFault>(reader, instance)?;
+    table.mark(course.get() as usize, room.get() as usize);
+    Ok(())
+}
+
+/// Reads so many pairs, and marks them.
+fn read_pairs(
+    reader: &mut Reader,
+    instance: &Instance,
+    count: u32,
+    table: &mut PairMarks,
+) -> Result<(), BarredFault>
+    requires rows { table.old.rows ≡ course_count instance.now }
+    requires width { table.old.width ≡ room_count instance.now }
+    ensures rows { table.new.rows ≡ table.old.rows }
+    ensures width { table.new.width ≡ table.old.width }
+    ensures exact { GivesBarred (λ _. (table.new.marks, reader.new)) result (reads_barred (times (barred_pair instance.now) count table.old.marks) reader.old) }
+{
+    for _ in 0..count {
+        read_pair(reader, instance, table)?;
+    }
+    Ok(())
+}
+
+/// Reads so many pairs. Where there are none, there is no table, and no memory is taken.
+fn read_table(
+    alloc: Global,
+    reader: &mut Reader,
+    instance: &Instance,
+    count: u32,
+) -> Result<Option<PairMarks>, BarredFault>
+    ensures marks { IfOk result (λ table. IfSome table (HasMarks (course_count instance.now) (room_count instance.now))) }
+    ensures exact { GivesBarred (λ table. (marks_in (course_count instance.now * room_count instance.now) table, reader.new)) result (reads_barred (times (barred_pair instance.now) count (none_barred instance.now)) reader.old) }
+{
+    instance.limits_hold();
+    if count == 0 {
+        return Ok(None);
+    }
+    let courses = instance.courses() as usize;
+    let rooms = instance.rooms() as usize;
+    let mut table = PairMarks::new(alloc, courses, rooms)?;
+    read_pairs(reader, instance, count, &mut table)?;
+    Ok(Some(table))
+}
+
+/// Reads the whole text, up to the word at the end.
+#[tactic(auto, using(crate::proofs::Steps::read_bind, crate::proofs::Steps::read_done), unfolding(crate::specs::BarredPlaces::barred_rooms))]
+fn read_rooms(
+    alloc: Global,
+    reader: &mut Reader,
+    instance: &Instance,
+) -> Result<Option<PairMarks>, BarredFault>
+    ensures marks { IfOk result (λ table. IfSome table (HasMarks (course_count instance.now) (room_count instance.now))) }
+    ensures exact { GivesBarred (λ table. (marks_in (course_count instance.now * room_count instance.now) table, reader.new)) result (reads_barred (barred_rooms instance.now) reader.old) }
+{
+    next_fixed::<BarredFault>(reader, "Barred:")?;
+    let count = read_count(reader, 2_000_000)?;
+    let table = read_table(alloc, reader, instance, count)?;
+    next_fixed::<BarredFault>(reader, "END.")?;
+    Ok(table)
+}
+
+/// Reads which rooms are barred from a text.
+fn read_text(
+    alloc: Global,
+    instance: &Instance,
+    text: &str,
+) -> Result<Option<PairMarks>, BarredFault>
+    ensures marks { IfOk result (λ table. IfSome table (HasMarks (course_count instance.now) (room_count instance.now))) }
+    ensures exact { Gives is_want (marks_in (course_count instance.now * room_count instance.now)) result (barred_answer instance.now (words text.now)) }
+{
+    let mut reader = Reader::new(text);
+    read_rooms(alloc, &mut reader, instance)
+}
+
+/// Reads from the bytes of a file which rooms are barred for which courses: those of the file, and no
+/// others. After a fault the instance is as it was.
+///
+/// A text that is not UTF-8 is refused as [`BarredFault::NotText`], whatever its words; else the fault
+/// names the first word that breaks the rule of its place, given the words before it.
+pub fn read_barred(alloc: Global, instance: &mut Instance, text: &[u8]) -> Result<(), BarredFault>
+    ensures text { OnOk result (IsUtf8 text.now) }
+    ensures spelled { OnOk result (BarSpells instance.old (words text.now) instance.new.barred) }
+    ensures others { instance.new ≡ record instance.old { barred = instance.new.barred } }
+    ensures kept { IfErr result (λ _. instance.new ≡ instance.old) }
+    ensures accepted { (table : List Bool) → IsUtf8 text.now → BarSpells instance.old (words text.now) table → MatchResult result (λ _. instance.new ≡ record instance.old { barred = table }) (λ fault. fault ≡ NoMemory) }
+    ensures fault { IfErr result (IsBarredCauseOf instance.old text.now) }
+    ensures not_text { ¬ IsUtf8 text.now → result ≡ Err (NotText (utf8_valid_len text.now)) }
+    ensures broken { (k : ℕ) (fault : BarredFault) → IsUtf8 text.now → BarBreaksAt instance.old (words text.now) k fault → (result ≡ Err fault) ⊎ (result ≡ Err NoMemory) }
+{
+    instance.limits_hold();
+    match str::from_utf8(text) {
+        Ok(text) => {
+            let table = read_text(alloc, instance, text)?;
+            instance.bar(table);
+            Ok(())
+        }
+        Err(error) => Err(BarredFault::NotText(error.valid_up_to() as u64)),
+    }
+}
