@@ -11,7 +11,7 @@ use crate::later::Later;
 use ctt_text::{CurriculumNo, Instance, SlotNo};
 
 /// The lectures of a curriculum about a slot, on its day.
-#[derive(Clone, Copy, Debug, PartialEq, Eq)]
+#[derive(Clone, Copy, PartialEq, Eq)]
 pub(crate) struct Beside {
     /// Two slots before.
     pub(crate) earlier: u64,

@@ -10,7 +10,7 @@ use std::marker::Model;
 /// A bit for each row and column, seen as a table of the numbers zero and one. Each row begins with a
 /// word of its own and two bits that nothing uses, so that the bits about a column mostly stand in one
 /// word, at a place that is the same in all rows.
-#[derive(Debug, Drop)]
+#[derive(Drop)]
 pub(crate) struct Bits {
     rows: usize,
     width: usize,

@@ -4,7 +4,7 @@ use ctt_text::{CourseNo, RoomNo, SlotNo};
 
 /// A course in a slot: with a room, a lecture that is added there; without one, a lecture that is
 /// removed.
-#[derive(Clone, Copy, Debug, Default, PartialEq, Eq)]
+#[derive(Clone, Copy, Default, PartialEq, Eq)]
 pub struct Cell {
     pub course: CourseNo,
     pub slot: SlotNo,

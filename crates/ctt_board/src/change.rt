@@ -8,7 +8,7 @@ use arrayvec::ArrayVec;
 use std::marker::Model;
 
 /// At most four cells, removals before additions.
-#[derive(Debug, Drop)]
+#[derive(Drop)]
 pub struct Change {
     cells: ArrayVec<Cell, 4>,
 }

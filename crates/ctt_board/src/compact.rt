@@ -7,7 +7,7 @@ use ctt_text::{CourseNo, RoomNo};
 use std::marker::Model;
 
 /// The number of a room or a course, or none. An `Option` of it takes four bytes.
-#[derive(Clone, Copy, Debug)]
+#[derive(Clone, Copy)]
 pub(crate) struct Compact {
     /// 0 for none, and else the number after that of the room or course.
     code: u16,

@@ -15,7 +15,7 @@ use ctt_text::{CourseNo, Instance, Placed, SlotNo};
 use std::alloc::{AllocError, Global};
 
 /// The counts of a timetable that its costs are made of.
-#[derive(Debug, Drop)]
+#[derive(Drop)]
 pub(crate) struct Counts {
     /// The lectures of each course, in one row.
     pub(crate) lectures: Table<u16>,

@@ -39,7 +39,7 @@ use std::marker::Model;
 
 /// A sheet whose lectures lie in a table by course and slot, beside which lie the counts of which
 /// its costs are made, and the costs themselves. No change takes memory.
-#[derive(Debug, Drop)]
+#[derive(Drop)]
 pub struct GridSheet<'i> {
     instance: &'i Instance,
     tables: Tables,

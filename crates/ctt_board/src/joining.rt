@@ -14,7 +14,7 @@ use ctt_rules::Cost;
 use ctt_text::{Instance, Placed, SlotNo};
 
 /// What a lecture adds to the costs of a timetable, and takes from them.
-#[derive(Clone, Copy, Debug, Default, PartialEq, Eq)]
+#[derive(Clone, Copy, Default, PartialEq, Eq)]
 pub(crate) struct Joining {
     /// Its students above the capacity of its room.
     pub(crate) seats: u64,

@@ -22,7 +22,7 @@ use std::marker::Model;
 
 /// A sheet whose lectures lie in a vector with room for each lawful timetable, so that no change
 /// takes memory. Its costs are computed anew whenever they are asked for.
-#[derive(Debug, Drop)]
+#[derive(Drop)]
 pub struct ListSheet<'i> {
     instance: &'i Instance,
     lectures: Vec<Placed>,

@@ -10,7 +10,7 @@ use std::marker::Model;
 
 /// Which of so many numbers are marked, in each row anew. A row has as many words as its numbers need, and
 /// all lie one behind the other.
-#[derive(Debug, Drop)]
+#[derive(Drop)]
 pub(crate) struct MarkRows {
     rows: usize,
     /// How many numbers a row has.

@@ -14,7 +14,7 @@ use crate::later::Later;
 use ctt_text::{CurriculumNo, Instance, SlotNo};
 
 /// What a lecture in a slot does to the compactness of a curriculum.
-#[derive(Clone, Copy, Debug, Default, PartialEq, Eq)]
+#[derive(Clone, Copy, Default, PartialEq, Eq)]
 pub(crate) struct Meeting {
     /// One, if it stands alone there.
     pub(crate) alone: u64,

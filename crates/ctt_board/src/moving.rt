@@ -24,7 +24,7 @@ use ctt_rules::Cost;
 use ctt_text::{CourseNo, CurriculumNo, Instance, Placed, RoomNo, SlotNo};
 
 /// A slot, and what is known of it whatever stands there.
-#[derive(Clone, Copy, Debug, PartialEq, Eq)]
+#[derive(Clone, Copy, PartialEq, Eq)]
 pub(crate) struct Spot {
     pub(crate) slot: SlotNo,
     pub(crate) day: u16,
@@ -33,7 +33,7 @@ pub(crate) struct Spot {
 }
 
 /// A lecture that goes elsewhere, and what is known of both slots.
-#[derive(Clone, Copy, Debug, PartialEq, Eq)]
+#[derive(Clone, Copy, PartialEq, Eq)]
 pub(crate) struct Going {
     pub(crate) from: Placed,
     pub(crate) to: Placed,
@@ -43,7 +43,7 @@ pub(crate) struct Going {
 
 /// A slot, one that a lecture leaves, and which of the five slots about the first count, as bits:
 /// the others of its day, without the one that the lecture leaves.
-#[derive(Clone, Copy, Debug, PartialEq, Eq)]
+#[derive(Clone, Copy, PartialEq, Eq)]
 pub(crate) struct Window {
     pub(crate) slot: SlotNo,
     pub(crate) gone: SlotNo,
@@ -51,7 +51,7 @@ pub(crate) struct Window {
 }
 
 /// What the compactness costs more and less where a lecture goes elsewhere, by halves.
-#[derive(Clone, Copy, Debug, PartialEq, Eq)]
+#[derive(Clone, Copy, PartialEq, Eq)]
 struct Halves {
     more: u64,
     less: u64,

@@ -7,7 +7,7 @@ ghost use Rattle.ctt_board.specs.Shifts.{both_costs, both_shifts, shifted, IsSma
 use ctt_rules::Cost;
 
 /// The costs that come, and those that go.
-#[derive(Clone, Copy, Debug, PartialEq, Eq)]
+#[derive(Clone, Copy, PartialEq, Eq)]
 pub(crate) struct Shift {
     pub(crate) more: Cost,
     pub(crate) less: Cost,

@@ -6,7 +6,7 @@ use std::alloc::{AllocError, Global};
 use std::marker::Model;
 
 /// A value for each row and column.
-#[derive(Debug, Drop)]
+#[derive(Drop)]
 pub struct Table<T> {
     rows: usize,
     width: usize,

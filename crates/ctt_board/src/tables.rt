@@ -21,7 +21,7 @@ use std::alloc::{AllocError, Global};
 
 /// The lectures of a timetable in a table by course and slot, beside which lie others that say the same
 /// the other way round, and the counts of which its costs are made.
-#[derive(Debug, Drop)]
+#[derive(Drop)]
 pub(crate) struct Tables {
     /// The rooms by course and slot.
     pub(crate) rooms: Table<Compact>,

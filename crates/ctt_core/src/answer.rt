@@ -3,7 +3,7 @@
 use ctt_edits::{Reply, Row};
 
 /// The answer to an event.
-#[derive(Debug, Drop)]
+#[derive(Drop)]
 pub enum Answer {
     /// A draft is open.
     Opened,

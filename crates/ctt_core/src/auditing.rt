@@ -30,7 +30,7 @@ use std::alloc::Global;
 use std::marker::Model;
 
 /// What an audit finds.
-#[derive(Clone, Copy, Debug, PartialEq, Eq)]
+#[derive(Clone, Copy, PartialEq, Eq)]
 pub enum Verdict {
     /// Each entry was told what it is told at its place.
     Agrees,

@@ -9,7 +9,7 @@ use ctt_edits::{Call, Look};
 use ctt_text::Instance;
 
 /// One step of a planner, or a look at the timetable as it stands.
-#[derive(Clone, Copy, Debug, PartialEq, Eq)]
+#[derive(Clone, Copy, PartialEq, Eq)]
 pub enum Event {
     /// The planner opens a draft on the timetable as it stands.
     Open(PlannerNo),

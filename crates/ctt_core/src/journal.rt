@@ -8,7 +8,7 @@ use ctt_draft::{Asked, AskedCalls, Keeping, Log, Tells};
 use ctt_text::Instance;
 
 /// An accepted draft: whose it was, and its calls with their replies.
-#[derive(Debug, Drop)]
+#[derive(Drop)]
 pub struct JournalEntry {
     /// The planner whose draft it was.
     pub planner: PlannerNo,

@@ -26,7 +26,7 @@ use std::mem;
 use std::sync::Wait;
 
 /// Why a draft is not accepted.
-#[derive(Clone, Copy, Debug, PartialEq, Eq)]
+#[derive(Clone, Copy, PartialEq, Eq)]
 pub(crate) enum Cause {
     /// The planner has seen more drafts than the journal has, namely this many; or the journal has
     /// another number of this planner's drafts, namely this one.

@@ -6,7 +6,7 @@ use ctt_text::NoMemory;
 use std::alloc::AllocError;
 
 /// What stands against a desk, a draft or a look.
-#[derive(Clone, Copy, Debug, PartialEq, Eq)]
+#[derive(Clone, Copy, PartialEq, Eq)]
 pub enum SharedFault {
     /// The first lecture of the opening that cannot be placed, counted from 1, and what stands against
     /// it.

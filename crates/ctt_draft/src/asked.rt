@@ -11,7 +11,7 @@ use ctt_text::{Instance, NoMemory};
 use std::marker::Model;
 
 /// A call with its reply.
-#[derive(Debug, Drop)]
+#[derive(Drop)]
 pub struct Asked {
     /// The edit or look that was asked for.
     pub call: Call,
@@ -64,7 +64,7 @@ pub(crate) fn note_told<K: Keeping>(
 }
 
 /// Calls with their replies, in order.
-#[derive(Debug, Drop)]
+#[derive(Drop)]
 pub struct AskedCalls {
     list: Vec<Asked>,
 }

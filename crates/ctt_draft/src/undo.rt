@@ -13,7 +13,7 @@ use std::marker::Model;
 
 /// The cells that were changed, each once, in the order in which they were changed first, with the
 /// rooms that were there before that.
-#[derive(Debug, Drop)]
+#[derive(Drop)]
 pub(crate) struct Undo {
     cells: Vec<Cell>,
     /// By course and slot, whether the cell is recorded.

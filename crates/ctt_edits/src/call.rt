@@ -8,7 +8,7 @@ use crate::looks::Look;
 use ctt_text::Instance;
 
 /// A look or an edit.
-#[derive(Clone, Copy, Debug, PartialEq, Eq)]
+#[derive(Clone, Copy, PartialEq, Eq)]
 pub enum Call {
     /// Something is looked at; nothing changes.
     Look(Look),

@@ -130,7 +130,7 @@ impl Dice {
 }
 
 /// What an edit came to.
-#[derive(Clone, Copy, Debug, PartialEq, Eq)]
+#[derive(Clone, Copy, PartialEq, Eq)]
 struct Outcome {
     price: Result<i64, EditFault>,
     fault: Option<EditFault>,
@@ -138,7 +138,7 @@ struct Outcome {
 }
 
 /// What a run of edits came to: the outcome of each, and the lists after each, one behind the other.
-#[derive(Debug, Drop)]
+#[derive(Drop)]
 struct Story {
     outcomes: Vec<Outcome>,
     lists: Vec<Placed>,

@@ -6,7 +6,7 @@ ghost use Rattle.ctt_edits.specs.Edits.{EditFits};
 use ctt_text::{CourseNo, Instance, RoomNo, SlotNo};
 
 /// One step of planning.
-#[derive(Clone, Copy, Debug, PartialEq, Eq)]
+#[derive(Clone, Copy, PartialEq, Eq)]
 pub enum Edit {
     /// A lecture of the course comes into the slot and the room.
     Place(CourseNo, SlotNo, RoomNo),

@@ -6,7 +6,7 @@ ghost use Rattle.ctt_edits.specs.Fitting.{FaultFits};
 use ctt_text::{CourseNo, Instance};
 
 /// What stands against an edit.
-#[derive(Clone, Copy, Debug, PartialEq, Eq)]
+#[derive(Clone, Copy, PartialEq, Eq)]
 pub enum EditFault {
     /// A lecture that is named is not there.
     NotPlaced,

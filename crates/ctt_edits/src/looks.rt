@@ -7,7 +7,7 @@ use crate::edit::Edit;
 use ctt_text::{CourseNo, CurriculumNo, Instance, SlotNo, TeacherNo};
 
 /// A part of a timetable, or its costs.
-#[derive(Clone, Copy, Debug, PartialEq, Eq)]
+#[derive(Clone, Copy, PartialEq, Eq)]
 pub enum Look {
     /// The lectures of a course.
     Course(CourseNo),

@@ -6,7 +6,7 @@ ghost use Rattle.ctt_edits.specs.Calls.{RowBefore};
 use ctt_text::{CourseNo, SlotNo};
 
 /// A row of a timetable. Rows are ordered: courses by number, then slots by number.
-#[derive(Clone, Copy, Debug, PartialEq, Eq, PartialOrd, Ord)]
+#[derive(Clone, Copy, PartialEq, Eq, PartialOrd, Ord)]
 pub enum Row {
     /// The lectures of a course.
     Course(CourseNo),

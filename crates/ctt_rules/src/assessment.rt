@@ -12,7 +12,7 @@ use crate::soft::penalty;
 use ctt_text::{Instance, Placed};
 
 /// What a timetable breaks and costs, and the two judgements that follow from it.
-#[derive(Clone, Copy, Debug, PartialEq, Eq)]
+#[derive(Clone, Copy, PartialEq, Eq)]
 pub struct Assessment {
     /// How often it breaks the hard constraints.
     pub hard: Hard,

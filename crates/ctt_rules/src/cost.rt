@@ -2,7 +2,7 @@
 
 /// What a timetable costs by the four soft constraints of the technical report of Di Gaspero,
 /// McCollum and Schaerf for ITC 2007.
-#[derive(Clone, Copy, Debug, Default, PartialEq, Eq)]
+#[derive(Clone, Copy, Default, PartialEq, Eq)]
 pub struct Cost {
     /// One point for each student above the capacity of the room, at each lecture.
     pub capacity: u64,

@@ -11,7 +11,7 @@ use ctt_text::{CourseNo, Instance, Placed};
 
 /// How often a timetable breaks each of the four hard constraints of the technical report of
 /// Di Gaspero, McCollum and Schaerf for ITC 2007, and how many lectures are in barred rooms.
-#[derive(Clone, Copy, Debug, Default, PartialEq, Eq)]
+#[derive(Clone, Copy, Default, PartialEq, Eq)]
 pub struct Hard {
     /// Lectures that courses lack, and lectures that they have too many.
     pub lectures: u64,

@@ -6,7 +6,7 @@ use ctt_text::NoMemory;
 use std::alloc::{AllocError, AllocFailed};
 
 /// Why a crew could not work to its end.
-#[derive(Clone, Copy, Debug, PartialEq, Eq)]
+#[derive(Clone, Copy, PartialEq, Eq)]
 pub enum CrewFault {
     /// `left_right` refused a planner's place.
     NoPlace,

@@ -14,7 +14,7 @@ pub trait Gate: Sync {
 }
 
 /// A gate at which nobody waits.
-#[derive(Clone, Copy, Debug)]
+#[derive(Clone, Copy)]
 pub struct NoGate;
 
 impl Gate for NoGate {

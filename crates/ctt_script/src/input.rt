@@ -6,7 +6,7 @@ use crate::source::Source;
 use std::alloc::{AllocError, Global};
 
 /// Why an input could not be read.
-#[derive(Clone, Copy, Debug, PartialEq, Eq)]
+#[derive(Clone, Copy, PartialEq, Eq)]
 pub enum InputFault {
     /// A read failed.
     Read,

@@ -7,7 +7,7 @@ use ctt_text::{FixedFault, NoMemory, PlaceFault, RoomFault, SlotFault};
 use std::alloc::{AllocError, AllocFailed};
 
 /// Why a journal could not be read. A fault names a word, counted from 1, or `NotText` a byte.
-#[derive(Clone, Copy, Debug, PartialEq, Eq)]
+#[derive(Clone, Copy, PartialEq, Eq)]
 pub enum JournalFault {
     /// The text is not UTF-8; so many bytes at its beginning are.
     NotText(u64),

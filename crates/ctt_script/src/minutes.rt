@@ -18,7 +18,7 @@ use std::alloc::{AllocError, Global};
 use std::marker::Model;
 
 /// What a planner's open draft was asked and told, as lines.
-#[derive(Debug, Drop)]
+#[derive(Drop)]
 struct Notes {
     text: String,
     calls: u64,
@@ -68,7 +68,7 @@ impl Notes {
 
 /// The journal of a desk as a text: what the open draft of each planner was asked and told, and the entries of the
 /// accepted drafts. It takes the place of a journal that is kept.
-#[derive(Debug, Drop)]
+#[derive(Drop)]
 pub struct Minutes {
     drafts: Vec<Notes>,
     entries: String,

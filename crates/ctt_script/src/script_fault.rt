@@ -13,7 +13,7 @@ use ctt_text::NoMemory;
 use std::alloc::AllocError;
 
 /// Why a script could not be run to its end.
-#[derive(Clone, Copy, Debug, PartialEq, Eq)]
+#[derive(Clone, Copy, PartialEq, Eq)]
 pub enum ScriptFault {
     /// The first lecture of the opening timetable that cannot be placed, counted from 1, and what
     /// stands against it.

@@ -22,7 +22,7 @@ pub(crate) enum Seat<'i, S: Timetable, J: Naming> {
 }
 
 /// What a planner of a crew is answered.
-#[derive(Debug, Drop)]
+#[derive(Drop)]
 pub(crate) enum Told {
     /// As by a desk for one thread.
     Answer(Answer),

@@ -39,7 +39,7 @@ use std::marker::Model;
 /// An instance of curriculum-based course timetabling, as it was read from its file.
 ///
 /// There are at most 2,000 courses, 1,000 rooms, 2,000 teachers, 20,000 curricula and 2,000 slots.
-#[derive(Debug, Drop)]
+#[derive(Drop)]
 pub struct Instance {
     name: String,
     course_names: Names,

@@ -11,7 +11,7 @@ use std::simd::prelude::*;
 
 /// A word behind a blank, in front of sixteen bytes, which are copied together: that is one step, whatever
 /// the length of the word.
-#[derive(Debug, Drop)]
+#[derive(Drop)]
 pub struct Label {
     bytes: [u8; 16],
     len: usize,

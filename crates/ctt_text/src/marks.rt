@@ -6,7 +6,7 @@ ghost use Rattle.ctt_text.specs.Marks.{is_marked, count_marked, IsLeast};
 use std::marker::Model;
 
 /// Which of the numbers below 2,000 are marked, a bit each. It takes no memory.
-#[derive(Clone, Copy, Debug, PartialEq, Eq)]
+#[derive(Clone, Copy, PartialEq, Eq)]
 pub struct Marks {
     words: [u64; 32],
 }

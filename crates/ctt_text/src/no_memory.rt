@@ -3,7 +3,7 @@
 use std::alloc::{AllocError, AllocFailed};
 
 /// There is not enough memory.
-#[derive(Clone, Copy, Debug, PartialEq, Eq)]
+#[derive(Clone, Copy, PartialEq, Eq)]
 pub struct NoMemory;
 
 impl From<AllocError> for NoMemory {

@@ -12,7 +12,7 @@ use clap::{Arg, ArgAction, ArgMatches, Command};
 use std::alloc::{AllocError, Global};
 
 /// What the program is asked to do. Files are given by their names.
-#[derive(Debug, Drop)]
+#[derive(Drop)]
 pub enum Job {
     /// To report on a solution of an instance.
     Check {
@@ -47,7 +47,7 @@ pub enum Job {
 }
 
 /// Why the words ask for no job.
-#[derive(Debug, Drop)]
+#[derive(Drop)]
 pub enum WordsFault {
     /// The words form no command of the program. The text says why.
     Refused(String),

@@ -1,7 +1,7 @@
 //! How a job that was done ended.
 
 /// How a job that was done ended.
-#[derive(Clone, Copy, Debug, PartialEq, Eq)]
+#[derive(Clone, Copy, PartialEq, Eq)]
 pub enum Outcome {
     /// It was done.
     Done,

@@ -7,7 +7,7 @@ use std::marker::Model;
 
 /// Which columns are marked in each row: the slots in which each course is unavailable, or the rooms that
 /// are barred for it.
-#[derive(Debug, Drop)]
+#[derive(Drop)]
 pub(crate) struct PairMarks {
     rows: usize,
     width: usize,
