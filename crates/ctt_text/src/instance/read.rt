@@ -34,6 +34,7 @@ use crate::instance::rooms::{RoomSection, read_room_section};
 use crate::instance::taught::taught;
 use crate::instance::unavailability::read_unavailability_section;
 use crate::label::{Label, labels, slot_labels};
+use crate::letting::let_go;
 use crate::marks::Marks;
 use crate::reader::Reader;
 use std::alloc::{AllocError, Global};
@@ -112,8 +113,21 @@ fn read_sections<'a>(alloc: Global, reader: &mut Reader<'a>) -> Result<Sections<
 {
     let header = read_header(reader)?;
     let courses = read_course_section(alloc, reader, &header)?;
-    let rooms = read_room_section(alloc, reader, &header)?;
-    let last = read_last_sections(alloc, reader, &header, &courses)?;
+    let rooms = match read_room_section(alloc, reader, &header) {
+        Ok(rooms) => rooms,
+        Err(fault) => {
+            let_go(courses);
+            return Err(fault);
+        }
+    };
+    let last = match read_last_sections(alloc, reader, &header, &courses) {
+        Ok(last) => last,
+        Err(fault) => {
+            let_go(courses);
+            let_go(rooms);
+            return Err(fault);
+        }
+    };
     Ok(Sections {
         header,
         courses,
@@ -244,8 +258,13 @@ impl<'a> Sections<'a> {
         requires ranked { AreRanked self.courses }
         ensures { IfOk result (λ i. i ≡ self.entry) }
     {
-        let tables = self.tables(alloc)?;
-        Ok(self.with_tables(tables))
+        match self.tables(alloc) {
+            Ok(tables) => Ok(self.with_tables(tables)),
+            Err(error) => {
+                let_go(self);
+                Err(error)
+            }
+        }
     }
 }
 
