@@ -106,7 +106,7 @@ goes_on v _ _ = v
 abbrev pub Answers : DeskValue → Event → Answer → Type 0
 Answers v event answer = (answer ≡ answer_of v event) ⊎ ((answer ≡ NoMemory) × (may_want event (answer_of v event) ≡ true))
 
--- what a desk keeps to: its timetable and its open drafts are of its instance, its opening is lawful, and it is known which changes were made since a draft was opened
+-- what a desk keeps to: its timetable and its open drafts are of its instance, its opening is lawful, and it is known which changes were made since a draft was opened, or last refreshed
 pub record IsDesk (i : Problem) (stock : StockValue) (opening : List Placed) (drafts : List (Option DraftValue)) (marks : List (Option ℕ)) (planners : ℕ) : Type 0 where
   pub same : stock.problem ≡ i
   pub opening_lawful : Lawful i opening

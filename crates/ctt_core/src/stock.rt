@@ -115,8 +115,8 @@ impl<'i, S: Sheet<'i>> Stock<'i, S> {
     }
 
     /// The least row that a draft read and that is not the same on the timetable, if there is one. Where
-    /// nothing was accepted since the draft was opened there is nothing to compare, and else, where it is
-    /// known what was, only the rows that it touched.
+    /// nothing was accepted since the draft was opened, or last refreshed, there is nothing to compare, and
+    /// else, where it is known what was, only the rows that it touched.
     pub(crate) fn stale<K: Keeping>(
         &self,
         draft: &Draft<'i, S, K>,
@@ -138,7 +138,7 @@ impl<'i, S: Sheet<'i>> Stock<'i, S> {
     }
 
     /// Brings a draft up to date with the timetable, as `Draft::refresh` does. Where nothing was accepted
-    /// since the draft was opened there is nothing to do.
+    /// since the draft was opened, or last refreshed, there is nothing to do.
     pub(crate) fn refresh<K: Keeping>(
         &self,
         draft: &mut Draft<'i, S, K>,

@@ -39,7 +39,7 @@ pub record Grows (i : Problem) (opening : List Placed) (p q : PlannerValue) : Ty
   pub begins : IsPrefix p.front q.front
   pub legal : Legal i opening q.front
 
--- a planner with an open draft: the timetable on which it was opened, and the calls with their replies
+-- a planner with an open draft: the timetable on which it stands, its base, and the calls with their replies
 pub record DraftingValue : Type 0 where
   pub planner : PlannerValue
   pub base : List Placed

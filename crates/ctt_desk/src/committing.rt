@@ -32,8 +32,8 @@ fn held<'l, T, R: Wait>(rt: &R, lock: &'l Mutex<T>) -> MutexGuard<'l, T> {
 }
 
 impl<'i, S: Sheet<'i>, J: Naming> Drafting<'i, S, J> {
-    /// Commits the draft: it is accepted where no row that it read has changed since it was opened.
-    /// Its sheet is kept, and what else was drafted is dropped when the lock is free again.
+    /// Commits the draft: it is accepted where no row that it read has changed since it was opened, or last
+    /// refreshed. Its sheet is kept, and what else was drafted is dropped when the lock is free again.
     pub fn commit<R: Wait>(
         self,
         rt: &R,

@@ -46,7 +46,7 @@ impl<S: Timetable, J: Naming> Kept<S, J> {
     }
 
     /// What is left of a draft that was accepted: the timetable as its calls left it, where the commit came
-    /// right behind the history before, and else the one at its opening.
+    /// right behind the history before, and else its base.
     pub(crate) fn left_by(remains: Remains<S>, before: Front<J>, seen: Front<J>) -> Self
         requires base { IsAfter J.problem J.opening remains.problem remains.base before }
         requires present { length seen - length before ≡ 1 → IsAfter J.problem J.opening remains.problem remains.present seen }

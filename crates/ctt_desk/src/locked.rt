@@ -211,7 +211,7 @@ impl<'i, S: Sheet<'i>, J: Naming> Locked<S, J> {
         }
     }
 
-    /// The least row that a draft read and that has changed since a history, behind which it was opened. Where that is
+    /// The least row that a draft read and that has changed since the history on which it stands. Where that is
     /// the journal there is nothing to compare, and where the changes since are known only the rows that they touch.
     fn stale(
         &self,
@@ -235,7 +235,7 @@ impl<'i, S: Sheet<'i>, J: Naming> Locked<S, J> {
     }
 
     /// Enters a draft into the journal, and publishes the timetable that it makes, which is the draft's
-    /// where this was opened behind the journal.
+    /// where this stands on the journal.
     fn accept<R: Wait>(
         &mut self,
         rt: &R,

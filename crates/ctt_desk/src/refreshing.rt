@@ -19,8 +19,8 @@ use ctt_draft::{Draft, KeepAll};
 use ctt_edits::Row;
 use ctt_text::NoMemory;
 
-/// Brings a draft up to date with a published timetable. Where that is the one behind the history on which the draft
-/// stands there is nothing to do.
+/// Brings a draft up to date with a published timetable, as `Draft::refresh` does. Where that is the one on
+/// which the draft stands there is nothing to do.
 fn refresh_on<'i, S: Sheet<'i>, J: Naming>(
     draft: &mut Draft<'i, S, KeepAll>,
     front: &Front<J>,
@@ -39,8 +39,8 @@ fn refresh_on<'i, S: Sheet<'i>, J: Naming>(
 }
 
 impl<'i, S: Sheet<'i>, J: Naming> Drafting<'i, S, J> {
-    /// Brings the draft up to date: it goes on from the timetable that was published last, which the planner
-    /// has then seen, where no row that it read has changed since it was opened or last refreshed.
+    /// Brings the draft up to date: where no row that it read has changed since it was opened, or last
+    /// refreshed, it goes on from the timetable that was published last, which the planner has then seen.
     pub fn refresh(self) -> Result<Self, RefreshRefusal<'i, S, J>>
         ensures ok { IfOk result (IsRefreshed J.problem J.opening self.entry) }
         ensures err { IfErr result (IsNotRefreshed J.problem J.opening self.entry) }

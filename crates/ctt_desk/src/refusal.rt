@@ -1,4 +1,4 @@
-//! Why a commit is refused, or a refresh.
+//! Why a commit or a refresh is refused.
 
 use crate::drafting::Drafting;
 use crate::naming::Naming;
@@ -12,8 +12,8 @@ pub enum Refusal<'i, S: Timetable, J: Naming> {
     /// The journal has another number of drafts of this planner than the planner committed, namely this
     /// one. The draft has ended.
     NotYours(Planner<S, J>, u64),
-    /// This row, the least one that was read, has changed since the draft was opened. The draft has
-    /// ended.
+    /// This row, the least of those that were read and have changed since the draft was opened, or last
+    /// refreshed. The draft has ended.
     Stale(Planner<S, J>, Row),
     /// There is not enough memory. The draft is as it was.
     NoMemory(Drafting<'i, S, J>),
@@ -26,7 +26,7 @@ pub enum RefreshRefusal<'i, S: Timetable, J: Naming> {
     NoPlace(Drafting<'i, S, J>),
     /// There is not enough memory. The draft is as it was.
     NoMemory(Drafting<'i, S, J>),
-    /// This row, the least one that was read, has changed since the draft was opened, or last refreshed.
-    /// The draft has ended.
+    /// This row, the least of those that were read and have changed since the draft was opened, or last
+    /// refreshed. The draft has ended.
     Stale(Planner<S, J>, Row),
 }

@@ -16,7 +16,7 @@ use Rattle.ctt_draft.specs.Laws.{SameOn}
 use Rattle.ctt_draft.specs.Undo.{undo_of, UndoValue}
 use Rattle.ctt_draft.specs.declared.asked.Asked.{Asked}
 
--- the timetable at the opening, and the calls since then with their replies
+-- the base, which is the timetable at the opening or at the last refresh, and the calls with their replies
 pub record DraftValue : Type 0 where
   pub problem : Problem
   pub base : List Placed

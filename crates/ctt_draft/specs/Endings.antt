@@ -5,7 +5,7 @@ use Rattle.ctt_text.specs.declared.placed.Placed.{Placed}
 use Rattle.ctt_rules.specs.Hard.{Lawful}
 use Rattle.ctt_draft.specs.Undo.{UndoValue, Records}
 
--- the timetable at the opening, and the one that the calls left
+-- the base, and the timetable that the calls left
 pub record RemainsValue : Type 0 where
   pub problem : Problem
   pub base : List Placed

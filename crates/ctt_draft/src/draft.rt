@@ -33,9 +33,9 @@ use ctt_text::{Instance, NoMemory, Placed};
 use std::alloc::Global;
 use std::marker::Model;
 
-/// The timetable at the opening, the calls since then with their replies, and the timetable as these
-/// leave it. Nobody else's work is seen in it. Only the last of these timetables is kept; the undo
-/// record leads from it back to the first, the base.
+/// The base, which is the timetable at the opening or at the last refresh, the calls since the opening with
+/// their replies, and the timetable as these leave it. Nobody else's later work is seen in it. Only the last
+/// of these timetables is kept; the undo record leads from it back to the base.
 #[derive(Drop)]
 pub struct Draft<'i, S: Timetable, K: Keeping> {
     instance: &'i Instance,
@@ -337,8 +337,8 @@ impl<'i, S: Sheet<'i>, K: Keeping> Draft<'i, S, K> {
     }
 
     /// Brings the draft up to date: where none of the rows that it read differs on a sheet, that sheet's
-    /// timetable is its base from now on, and its calls stay what they are. Else the draft stays as it was,
-    /// and the least row that differs is told. Where memory is wanted it stays as it was too.
+    /// timetable is its base from now on, and its calls stay what they are. Else the least row that differs
+    /// is told, and the draft stays as it was, as it does where memory is wanted.
     pub fn refresh(&mut self, sheet: &S) -> Result<Option<Row>, NoMemory>
         requires { S.problem sheet.now ≡ self.old.problem }
         ensures ok { IfOk result (λ found. (found ≡ stale self.old.problem self.old.base (S.list sheet.now) (calls_of self.old.asked)) × (self.new ≡ refreshed self.old (S.list sheet.now) found)) }

@@ -44,7 +44,7 @@ impl<S: Timetable> Remains<S> {
         }
     }
 
-    /// The timetable at the draft's opening. It takes no memory.
+    /// The draft's base. It takes no memory.
     pub fn into_base(self) -> Idle<S>
         ensures { result ≡ record { problem = self.problem; list = self.base } }
     {
