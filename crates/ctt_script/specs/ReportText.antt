@@ -20,7 +20,7 @@ count_line key count = line key (decimal count)
 abbrev pub answer_line : List ℕ → Bool → List ℕ
 answer_line key answer = line key (if answer then codes "yes" else codes "no")
 
--- how many lectures are in barred rooms is said where some room is barred
+-- the line of the lectures in barred rooms, where some room is barred
 abbrev pub barred_line : Bool → ℕ → List ℕ
 barred_line true count = count_line (codes "barred") count
 barred_line false count = []
@@ -43,11 +43,12 @@ text_of name barred hard cost lawful complete = line (codes "instance") name
     ++ answer_line (codes "lawful") lawful
     ++ answer_line (codes "complete") complete
 
--- the same as a JSON object, with its members in the order of their keys
+-- the member of the lectures in barred rooms, where some room is barred, before the others
 abbrev pub barred_member : Bool → ℕ → Members → Members
 barred_member true count others = member (codes "barred") (number (unsigned count)) others
 barred_member false count others = others
 
+-- the same report as a JSON object, with its members in the order of their keys
 unfoldable pub data_of : List ℕ → Bool → Hard → Cost → Bool → Bool → Data
 data_of name barred hard cost lawful complete = object
     (member (codes "availability") (number (unsigned hard.availability))

@@ -45,7 +45,7 @@ fn push_answer(report: &mut String, key: &str, answer: bool) -> Result<(), Alloc
     push_line(report, key, if answer { "yes" } else { "no" })
 }
 
-/// The report as text; whether some room is barred is told.
+/// The report as text. `barred` says whether some room is barred.
 fn text(
     alloc: Global,
     name: &str,
@@ -135,7 +135,7 @@ fn put_answer(
     serde_json::put(report, alloc, key, Value::Bool(answer))
 }
 
-/// The report as JSON; whether some room is barred is told.
+/// The report as JSON. `barred` says whether some room is barred.
 fn json(
     alloc: Global,
     name: &str,

@@ -35,7 +35,7 @@ pub record IsInstanceText (text : List ℕ) (problem : Problem) : Type 0 where
   pub is_text : IsUtf8 text
   pub spells : Spells (words text) problem
 
--- of the instance that was read, the text bars rooms, which makes this one
+-- the text says which rooms are barred in the instance that was read, and with these it is this one
 pub record IsBarredText (read : Problem) (text : List ℕ) (problem : Problem) : Type 0 where
   pub is_text : IsUtf8 text
   pub table : List Bool
@@ -56,27 +56,27 @@ pub record IsJournalText (problem : Problem) (text : List ℕ) (entries : List J
 abbrev pub IsNoInstance : List ℕ → Type 0
 IsNoInstance text = (problem : Problem) → ¬ IsInstanceText text problem
 
--- the text bars no rooms
+-- the text does not say which rooms are barred in the instance
 abbrev pub IsNoBarred : Problem → List ℕ → Type 0
 IsNoBarred read text = (problem : Problem) → ¬ IsBarredText read text problem
 
--- the rooms that are barred are those of the file, or none more where no file is given
+-- the instance that was read with the rooms barred that the file says, or as it was read where no file is given
 abbrev pub IsBarredBy : Held → Option (String Global) → Problem → Problem → Type 0
 IsBarredBy held None read problem = problem ≡ read
 IsBarredBy held (Some name) read problem = Holds held name (λ text. IsBarredText read text problem)
 
--- a file is given whose text bars no rooms
+-- a file is given whose text does not say which rooms are barred
 abbrev pub IsNotBarredBy : Held → Option (String Global) → Problem → Type 0
 IsNotBarredBy held None read = ⊥
 IsNotBarredBy held (Some name) read = Holds held name (IsNoBarred read)
 
--- the instance in a file, with the rooms barred that are those of another file, if one is given
+-- the instance in a file, with the rooms barred that another file says, if one is given
 pub record IsInstanceIn (held : Held) (instance : String Global) (barred : Option (String Global)) (problem : Problem) : Type 0 where
   pub read : Problem
   pub is_instance : Holds held instance (λ text. IsInstanceText text read)
   pub is_barred : IsBarredBy held barred read problem
 
--- the file holds no instance, or one in which the other file bars no rooms
+-- the file holds no instance, or one for which the other file does not say which rooms are barred
 abbrev pub IsNoInstanceIn : Held → String Global → Option (String Global) → Type 0
 IsNoInstanceIn held instance barred = Holds held instance IsNoInstance
     ⊎ ((read : Problem) × Holds held instance (λ text. IsInstanceText text read) × IsNotBarredBy held barred read)

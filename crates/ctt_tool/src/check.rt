@@ -55,7 +55,7 @@ fn report_for<F: Files>(
 }
 
 /// The report on a solution of an instance, each given by the name of its file. The solution is
-/// fetched only where the instance could be read.
+/// fetched only where the instance could be read, with its barred rooms.
 fn report_on<F: Files>(
     alloc: Global,
     files: &mut F,

@@ -11,7 +11,8 @@ use clap::error::ErrorKind;
 use clap::{Arg, ArgAction, ArgMatches, Command};
 use std::alloc::{AllocError, Global};
 
-/// What the program is asked to do. Files are given by their names.
+/// What the program is asked to do. Files are given by their names; `barred` is that of the rooms that are
+/// barred in the instance.
 #[derive(Drop)]
 pub enum Job {
     /// To report on a solution of an instance.

@@ -27,7 +27,7 @@ fn fetch_alone<F: Files>(alloc: Global, files: &mut F, name: String) -> Result<I
     Ok(read_instance(alloc, &text)?)
 }
 
-/// Bars the rooms of an instance that a file says, if one is given.
+/// Bars the rooms in an instance that a file says, if one is given.
 fn bar_rooms<F: Files>(
     alloc: Global,
     files: &mut F,
@@ -48,7 +48,7 @@ fn bar_rooms<F: Files>(
     Ok(read_barred(alloc, instance, &text)?)
 }
 
-/// The instance that a file holds, with the rooms barred that another one says, if it is given. That one
+/// The instance that a file holds, with the rooms barred that another file says, if one is given. That file
 /// is read right behind the instance.
 pub fn fetch_instance<F: Files>(
     alloc: Global,
