@@ -132,7 +132,7 @@ fn barred_fault(instance: &Instance, course: CourseNo, room: RoomNo) -> Option<E
 }
 
 /// The first fault that holds of swapping two lectures of two courses. In one slot they only change
-/// rooms.
+/// rooms, and what can stand against it is that a room is barred.
 fn exchange_fault<'i, S: Sheet<'i>>(
     sheet: &S,
     lecture: &Placed,

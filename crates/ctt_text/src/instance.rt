@@ -36,7 +36,8 @@ use pair_marks::PairMarks;
 pub use read::read_instance;
 use std::marker::Model;
 
-/// An instance of curriculum-based course timetabling, as it was read from its file.
+/// An instance of curriculum-based course timetabling, as it was read from its file, with the rooms barred
+/// that [`read_barred`] read since.
 ///
 /// There are at most 2,000 courses, 1,000 rooms, 2,000 teachers, 20,000 curricula and 2,000 slots.
 #[derive(Drop)]
@@ -328,7 +329,7 @@ impl Instance {
         }
     }
 
-    /// Bars these rooms for courses, and no others.
+    /// Bars the rooms that a table marks for each course, and no others.
     fn bar(&mut self, table: Option<PairMarks>)
         requires { IfSome table (HasMarks (course_count self.old) (room_count self.old)) }
         ensures { self.new ≡ record self.old { barred = marks_in (course_count self.old * room_count self.old) table } }

@@ -1,4 +1,4 @@
-//! The texts of curriculum-based course timetabling: instances and solutions.
+//! The texts of curriculum-based course timetabling: instances, solutions and barred rooms.
 #![tactic(auto)]
 
 mod course_facts;
