@@ -1,148 +1,26 @@
 //! A crew: planners on threads, each with a script of his own.
 
-ghost use Rattle.std.specs.Prelude.{◌≡◌, ◌≤◌, ◌<◌, ◌+◌, ℕ, [], length, IfOk, IfSome, IsOkAnd, OnOk, ◌++◌, ◌∷◌, codes, map, string_bytes};
+ghost use Rattle.std.specs.Prelude.{◌≡◌, ◌≤◌, ◌<◌, ◌+◌, ℕ, [], length, IfOk, IsOkAnd, OnOk, ◌++◌, ◌∷◌, codes, map, string_bytes};
 ghost use Rattle.std.specs.Fmt.{decimal};
 ghost use Rattle.ctt_rules.specs.declared.cost.Cost.{Cost};
-ghost use Rattle.ctt_core.specs.Runs.{EventFits};
 ghost use Rattle.ctt_desk.specs.Names.{IsNamed};
-ghost use Rattle.ctt_script.specs.CrewText.{IsCrewText, call_in, ToldFits, told_words, crew_text};
-ghost use Rattle.ctt_script.specs.WrittenText.{line};
+ghost use Rattle.ctt_script.specs.CrewText.{IsCrewText, crew_text};
 
-use crate::answers::{write_answer, write_bad_line};
+use crate::attending::{Attendance, GridAttendance, attend_on_grid};
 use crate::crew_fault::CrewFault;
 use crate::gate::Gate;
-use crate::lines::Lines;
-use crate::script::{has_words, read_own_line};
-use crate::seat::{Seat, Told};
 use crate::written::write_costs;
 use ctt_board::{GridSheet, Sheet, Timetable};
-use ctt_core::{Event, PlannerNo};
+use ctt_core::PlannerNo;
 use ctt_desk::{Closed, Named, Naming, Opened, Planner, SharedDesk, SharedFault};
-use ctt_edits::Call;
 use ctt_rules::Cost;
-use ctt_text::{Instance, NoMemory};
-use std::alloc::{AllocError, Global};
+use ctt_text::{Instance, NoMemory, let_go};
+use std::alloc::Global;
 use std::fmt::Write;
 use std::marker::{Brand, PhantomData, Send, Sync};
 use std::sync::Wait;
 use std::thread;
 use std::thread::{JoinHandle, Threads};
-
-/// Adds the line of what a planner of a crew is answered.
-fn write_told(text: &mut String, instance: &Instance, told: &Told) -> Result<(), AllocError>
-    requires { ToldFits instance.now told.now }
-    ensures { OnOk result (string_bytes text.new ≡ string_bytes text.old ++ line (told_words instance.now told.now)) }
-{
-    match told {
-        Told::Answer(answer) => write_answer(text, instance, answer),
-        Told::NotYours(count) => writeln!(text, "not yours {count}"),
-        Told::NoPlace => writeln!(text, "no place"),
-    }
-}
-
-/// Answers a line of a planner's script, in which this event was read, or none, and adds the line of the answer.
-fn answer_own_line<'i, S: Sheet<'i>, J: Naming, R: Wait>(
-    rt: &R,
-    desk: &SharedDesk<S, J>,
-    instance: &Instance,
-    seat: Seat<'i, S, J>,
-    planner: PlannerNo,
-    read: Option<Event>,
-    text: &mut String,
-) -> Result<Seat<'i, S, J>, NoMemory>
-    requires same { J.problem ≡ instance.now }
-    requires fits { (planners : ℕ) → planner < planners → IfSome read (EventFits instance.now planners) }
-{
-    match read {
-        Some(event) => {
-            let (seat, told) = seat.take(rt, desk, event);
-            write_told(text, instance, &told)?;
-            Ok(seat)
-        }
-        None => {
-            write_bad_line(text)?;
-            Ok(seat)
-        }
-    }
-}
-
-/// The call that a line asks for, if it asks for one.
-fn call_in(read: &Option<Event>) -> Option<Call>
-    ensures { result ≡ call_in read.now }
-{
-    match *read {
-        Some(Event::Ask(_, call)) => Some(call),
-        _ => None,
-    }
-}
-
-/// The script that a planner is to follow, of a desk of the instance.
-#[derive(Drop)]
-struct Attendance<'i, 'x, J: Naming, G: Gate> {
-    alloc: Global,
-    instance: &'i Instance,
-    script: &'x [u8],
-    gate: &'x G,
-    desk: PhantomData<J>,
-    ghost same: { J.problem ≡ instance.now },
-}
-
-/// Answers the lines of a planner's script, and gives the lines of the answers.
-fn attend<'i, 'x, S: Sheet<'i>, J: Naming, R: Wait, G: Gate>(
-    attendance: Attendance<'i, 'x, J, G>,
-    rt: &R,
-    desk: &SharedDesk<S, J>,
-    planner: Planner<S, J>,
-) -> Result<String, NoMemory> {
-    let Attendance {
-        alloc,
-        instance,
-        script,
-        gate,
-        desk: _,
-    } = attendance;
-    let number = planner.number();
-    let mut seat = Seat::Free(planner);
-    let mut text = String::new(alloc);
-    let mut at = 0u64;
-    for line in Lines::new(script) {
-        let read = read_own_line(instance, number, line);
-        if read.is_some() || has_words(line) {
-            at = at.saturating_add(1);
-            gate.before(number, at);
-            if let Some(call) = call_in(&read) {
-                let told = seat.ask(call);
-                write_told(&mut text, instance, &told)?;
-            } else {
-                seat = answer_own_line(rt, desk, instance, seat, number, read, &mut text)?;
-            }
-            gate.after(number, at);
-        }
-    }
-    Ok(text)
-}
-
-/// A planner at the desk that he shares, over a grid sheet. It names the instance's lifetime once, as what goes to a
-/// thread has to.
-#[derive(Drop)]
-struct GridAttendance<'i, 'x, J: Naming, G: Gate> {
-    desk: &'x SharedDesk<GridSheet<'i>, J>,
-    planner: Planner<GridSheet<'i>, J>,
-    attendance: Attendance<'i, 'x, J, G>,
-}
-
-/// Answers the lines of the script of a planner over a grid sheet.
-fn attend_on_grid<'i, 'x, J: Naming, R: Wait, G: Gate>(
-    work: GridAttendance<'i, 'x, J, G>,
-    rt: &R,
-) -> Result<String, NoMemory> {
-    let GridAttendance {
-        desk,
-        planner,
-        attendance,
-    } = work;
-    attend::<GridSheet<'i>, J, R, G>(attendance, rt, desk, planner)
-}
 
 /// What the threads were answered, in their order, when all of them have ended.
 fn joined<R: Threads>(
@@ -197,7 +75,10 @@ fn work_at_once<'i, 'x, J: Naming + Send + Sync, R: Threads + Wait + Sync, G: Ga
                     attendance,
                 };
                 let attending = move || attend_on_grid(work, rt);
-                added(&mut threads, scope.spawn(attending), number)?;
+                if let Err(fault) = added(&mut threads, scope.spawn(attending), number) {
+                    let_go(threads);
+                    return Err(fault);
+                }
             }
             joined(rt, alloc, threads)
         },
@@ -225,7 +106,11 @@ fn attendances<'i, 'x, P: Drop, J: Naming, G: Gate>(
             gate,
             desk: PhantomData,
         };
-        works.push((planner, attendance))?;
+        if let Err(refused) = works.push((planner, attendance)) {
+            let_go(refused);
+            let_go(works);
+            return Err(CrewFault::NoMemory);
+        }
     }
     Ok(works)
 }
@@ -285,6 +170,18 @@ fn end<S: Timetable, J: Naming, R: Wait>(
     }
 }
 
+/// What a crew wrote whose desk is closed, if each planner was answered.
+fn report_if_answered<S: Timetable, J: Naming>(
+    alloc: Global,
+    closed: &Closed<S, J>,
+    answers: Result<Vec<String>, CrewFault>,
+) -> Result<Vec<u8>, CrewFault>
+    ensures { IfOk result (λ text. IsOkAnd answers (λ answers. IsCrewText J.problem J.opening (length answers.items) text.items)) }
+{
+    let answers = answers?;
+    Ok(closing_report(alloc, closed, answers)?)
+}
+
 /// Ends a desk whose planners are gone, and gives what they wrote, if each of them was answered.
 fn last_report<S: Timetable, J: Naming, R: Wait>(
     rt: &R,
@@ -295,8 +192,9 @@ fn last_report<S: Timetable, J: Naming, R: Wait>(
     ensures { IfOk result (λ text. IsOkAnd answers (λ answers. IsCrewText J.problem J.opening (length answers.items) text.items)) }
 {
     let closed = end(rt, alloc, desk);
-    let answers = answers?;
-    Ok(closing_report(alloc, &closed, answers)?)
+    let report = report_if_answered(alloc, &closed, answers);
+    let_go(closed);
+    report
 }
 
 /// What each planner was answered at a desk, when all of them have come to the end of their scripts.

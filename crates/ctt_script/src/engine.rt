@@ -32,7 +32,7 @@ use crate::source::{Failed, Source};
 use ctt_board::Sheet;
 use ctt_core::{Answer, Desk, Event};
 use ctt_draft::Keeping;
-use ctt_text::{Instance, NoMemory, Placed};
+use ctt_text::{Instance, NoMemory, Placed, let_go};
 use std::alloc::{AllocError, Global};
 
 /// How many planners a script has.
@@ -209,7 +209,20 @@ pub fn run_script<'i, S: Sheet<'i>, K: Keeping, R: Source, W: Sink>(
     instance.limits_hold();
     let mut desk: Desk<'i, S, K> = Desk::new(alloc, instance, lectures, PLANNERS)?;
     desk.lawful();
-    let text = read_all(alloc, reader, LIMIT)?;
-    answer_lines(alloc, &mut desk, instance, &text, writer, minutes)?;
-    Ok(desk)
+    let text = match read_all(alloc, reader, LIMIT) {
+        Ok(text) => text,
+        Err(fault) => {
+            let_go(desk);
+            return Err(ScriptFault::from(fault));
+        }
+    };
+    let answered = answer_lines(alloc, &mut desk, instance, &text, writer, minutes);
+    let_go(text);
+    match answered {
+        Ok(()) => Ok(desk),
+        Err(fault) => {
+            let_go(desk);
+            Err(fault)
+        }
+    }
 }

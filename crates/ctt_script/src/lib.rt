@@ -3,6 +3,7 @@
 
 mod amounts;
 mod answers;
+mod attending;
 mod audited;
 mod calls;
 mod crew_fault;

@@ -1,7 +1,7 @@
 use Rattle.std.proofs.Common.{rules, ℕ, ◌+◌, ◌<◌, arith, sym, subst}
 use Rattle.std.specs.Prelude.{IfSome}
 use Rattle.ctt_core.specs.Runs.{EventFits}
-use Rattle.ctt_script.proofs.crew_run.answer_own_line.Goals as goal
+use Rattle.ctt_script.proofs.attending.answer_own_line.Goals as goal
 
 pub take-seat-requires : goal.take-seat-requires
 take-seat-requires g c κs =

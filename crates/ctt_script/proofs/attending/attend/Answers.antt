@@ -6,7 +6,7 @@ use Rattle.ctt_core.specs.Runs.{EventFits}
 use Rattle.ctt_core.specs.declared.event.Event.{Event}
 use Rattle.ctt_core.specs.declared.event.Event.TheVariants.{Open, Ask, Commit, Refresh, Abandon, Show}
 use Rattle.ctt_script.specs.CrewText.{call_in}
-use Rattle.ctt_script.proofs.crew_run.attend.Goals as goal
+use Rattle.ctt_script.proofs.attending.attend.Goals as goal
 
 -- a call that is asked for fits where the event does
 call_fits : (i : Problem) (n : ℕ) (read : Option Event) → IfSome read (EventFits i n) → IfSome (call_in read) (CallFits i)
@@ -18,12 +18,11 @@ call_fits i n (Some (Refresh p)) h = tt
 call_fits i n (Some (Abandon p)) h = tt
 call_fits i n (Some (Show look)) h = tt
 
-pub ask-told-requires : goal.ask-told-requires
-ask-told-requires g c κs =
+pub answer_call-requires : goal.answer_call-requires
+answer_call-requires g c κs =
     let i : Problem = c.args.attendance.instance.now in
     let n : ℕ = c.number-number.result + 1 in
     let lt : c.number-number.result < c.number-number.result + 1 = omega arith in
     let found : IfSome (call_in c.read_own_line-read.result) (CallFits i) = call_fits i n c.read_own_line-read.result (c.read_own_line-read.ensures.fits n lt) in
-    let here : CallFits i c.in-Some-call_in.call = subst (λ o. IfSome o (CallFits i)) (sym c.call_in.ensures ∙ c.in-Some-call_in.is) found in
-    let fits : CallFits g.J.Naming.problem c.in-Some-call_in.call = subst (λ p. CallFits p c.in-Some-call_in.call) (sym c.args.attendance.same) here in
+    let fits : CallFits i c.in-Some-call_in.call = subst (λ o. IfSome o (CallFits i)) (sym c.call_in.ensures ∙ c.in-Some-call_in.is) found in
     search rules
