@@ -10,4 +10,4 @@ instance_shared : IsSync the_row
 instance_shared = search (String-sync, sendable, crosses) depth 60 fits 20000
 
 pub attend-requires : goal.attend-requires
-attend-requires g c κs = ?
+attend-requires g c κs = (search (instance_shared, sendable, crosses) depth 60 fits 20000, (search (instance_shared, sendable, crosses) depth 60 fits 20000, search rules))
