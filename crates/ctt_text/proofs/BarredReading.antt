@@ -6,7 +6,7 @@ use Rattle.ctt_text.specs.declared.fault.BarredFault.TheVariants.{NotText, Missi
 use Rattle.ctt_text.specs.Words.{words}
 use Rattle.ctt_text.specs.Problem.{Problem, IsProblem}
 use Rattle.ctt_text.specs.Reading.{Fails}
-use Rattle.ctt_text.specs.BarredPlaces.{is_want, ends_early, pair_count, barred_pair, barred_rooms}
+use Rattle.ctt_text.specs.BarredPlaces.{wants_memory, ends_early, pair_count, barred_pair, barred_rooms}
 use Rattle.ctt_text.specs.BarredText.{BarSpells, BarBreaksAt}
 use Rattle.ctt_text.specs.BarredLaws.{barred_answer, IsBarredCauseOf}
 use Rattle.ctt_text.proofs.FormLaws.{ok_same, ok_is_err, err_same}
@@ -41,7 +41,7 @@ of_word : (i : Problem) (ws : List (List ℕ)) (e : BarredFault) → barred_answ
 of_word i ws e h = answer_faults IsOfWord ends_early (barred_rooms i) ws e (λ k. tt) (all_faults i) h
 
 -- a fault has its cause
-has_cause : (i : Problem) (text : List ℕ) → IsUtf8 text → (e : BarredFault) → Fails is_want e (barred_answer i (words text)) → IsBarredCauseOf i text e
+has_cause : (i : Problem) (text : List ℕ) → IsUtf8 text → (e : BarredFault) → Fails wants_memory e (barred_answer i (words text)) → IsBarredCauseOf i text e
 has_cause i text utf8 (NotText n) h = absurd (of_word i (words text) (NotText n) h)
 has_cause i text utf8 NoMemory h = tt
 has_cause i text utf8 (Missing n) h = (utf8, (barred_fails_where_broken i (words text) (Missing n)).0 h)
@@ -52,7 +52,7 @@ has_cause i text utf8 (UnknownCourse n) h = (utf8, (barred_fails_where_broken i 
 has_cause i text utf8 (UnknownRoom n) h = (utf8, (barred_fails_where_broken i (words text) (UnknownRoom n)).0 h)
 
 -- a fault that is not the one that reading meets is want of memory
-fault_or_memory : (e : BarredFault) (x : Result (List Bool) BarredFault) → Fails is_want e x → (x ≡ Err e) ⊎ (e ≡ NoMemory)
+fault_or_memory : (e : BarredFault) (x : Result (List Bool) BarredFault) → Fails wants_memory e x → (x ≡ Err e) ⊎ (e ≡ NoMemory)
 fault_or_memory (NotText n) x h = inl h
 fault_or_memory NoMemory x h = inr refl
 fault_or_memory (Missing n) x h = inl h
@@ -78,7 +78,7 @@ module _ (i : Problem) (text : List ℕ) where
   pub ok_unbroken : (C : Type 0) (t : List Bool) → barred_answer i (words text) ≡ Ok t → (k : ℕ) (fault : BarredFault) → BarBreaksAt i (words text) k fault → C
   ok_unbroken C t h k fault b = ok_is_err C t fault (sym h ∙ (barred_fails_where_broken i (words text) fault).1 k b)
 
-  module _ (e : BarredFault) (h : Fails is_want e (barred_answer i (words text))) where
+  module _ (e : BarredFault) (h : Fails wants_memory e (barred_answer i (words text))) where
     -- a fault that was met
     pub err_cause : IsUtf8 text → IsBarredCauseOf i text e
     err_cause utf8 = has_cause i text utf8 e h

@@ -36,9 +36,9 @@ barred_rooms i = do
 abbrev pub ends_early : ℕ → BarredFault
 ends_early k = Missing k
 
-abbrev pub is_want : BarredFault → Bool
-is_want NoMemory = true
-is_want _ = false
+abbrev pub wants_memory : BarredFault → Bool
+wants_memory NoMemory = true
+wants_memory _ = false
 
 -- reading what is left of the text
 abbrev pub reads_barred : {A : Type 0} → Form BarredFault A → Left → Result (A × Left) BarredFault
@@ -46,4 +46,4 @@ reads_barred form left = reading ends_early form left
 
 -- What a function that reads a part of the text returned, is what the form of that part gives.
 abbrev pub GivesBarred : {X Y : Type 0} → (X → Y) → Result X BarredFault → Result Y BarredFault → Type 0
-GivesBarred view result read = Gives is_want view result read
+GivesBarred view result read = Gives wants_memory view result read

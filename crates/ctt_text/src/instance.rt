@@ -381,6 +381,22 @@ impl Instance {
         Some(CourseNo::new(number as u16))
     }
 
+    /// The number of a course by its name, which is first compared with that of a guessed course.
+    pub(crate) fn course_near(&self, guess: usize, name: &str) -> Option<usize>
+        ensures number { result ≡ number_in self.now.course_names name.now }
+        ensures within { IfSome result (λ course. course < course_count self.now) }
+    {
+        self.course_names.number_near(guess, name)
+    }
+
+    /// The number of a room by its name, which is first compared with that of a guessed room.
+    pub(crate) fn room_near(&self, guess: usize, name: &str) -> Option<usize>
+        ensures number { result ≡ number_in self.now.room_names name.now }
+        ensures within { IfSome result (λ room. room < room_count self.now) }
+    {
+        self.room_names.number_near(guess, name)
+    }
+
     /// The number of a teacher by his name.
     pub fn find_teacher(&self, name: &str) -> Option<TeacherNo>
         ensures number { result ≡ number_in self.now.teacher_names name.now }

@@ -5,20 +5,21 @@ ghost use Rattle.std.specs.Str.{IsUtf8};
 ghost use Rattle.std.specs.Str.Lossy.{utf8_valid_len};
 ghost use Rattle.ctt_text.specs.Words.{words};
 ghost use Rattle.ctt_text.specs.Forms.{times};
+ghost use Rattle.ctt_text.specs.Places.{known_name};
 ghost use Rattle.ctt_text.specs.Reading.{Gives};
 ghost use Rattle.ctt_text.specs.Problem.{Problem, course_count, room_count};
 ghost use Rattle.ctt_text.specs.Instance.{marks_in, HasMarks};
 ghost use Rattle.ctt_text.specs.Tables.{IsTableOf};
-ghost use Rattle.ctt_text.specs.BarredPlaces.{GivesBarred, reads_barred, is_want, pair_count, barred_pair, none_barred, barred_rooms};
+ghost use Rattle.ctt_text.specs.BarredPlaces.{GivesBarred, reads_barred, wants_memory, pair_count, barred_pair, none_barred, barred_rooms};
 ghost use Rattle.ctt_text.specs.BarredText.{BarSpells, BarBreaksAt};
 ghost use Rattle.ctt_text.specs.BarredLaws.{barred_answer, IsBarredCauseOf};
 ghost use Rattle.ctt_text.specs.declared.fault.BarredFault.{BarredFault};
-ghost use Rattle.ctt_text.specs.declared.fault.BarredFault.TheVariants.{NotText, NoMemory};
+ghost use Rattle.ctt_text.specs.declared.fault.BarredFault.TheVariants.{NotText, NoMemory, UnknownCourse, UnknownRoom};
 
 use crate::fault::BarredFault;
 use crate::instance::Instance;
 use crate::instance::pair_marks::PairMarks;
-use crate::places::{next_course, next_fixed, next_number, next_room};
+use crate::places::{next_fixed, next_number, next_word};
 use crate::reader::Reader;
 use std::alloc::Global;
 
@@ -36,23 +37,51 @@ fn read_count(reader: &mut Reader, greatest: u32) -> Result<u32, BarredFault>
     }
 }
 
-/// Reads one pair, and marks it.
+/// A course by its name, and its number. The guess is of use where it is right.
+#[tactic(auto, using(crate::proofs::Steps::read_known), unfolding(crate::specs::Places::known_name))]
+fn read_course(reader: &mut Reader, instance: &Instance, guess: usize) -> Result<usize, BarredFault>
+    ensures within { IfOk result (λ course. course < course_count instance.now) }
+    ensures exact { GivesBarred (λ course. (course, reader.new)) result (reads_barred (known_name UnknownCourse instance.now.course_names) reader.old) }
+{
+    let at = reader.next();
+    let name = next_word::<BarredFault>(reader)?;
+    instance
+        .course_near(guess, name)
+        .ok_or(BarredFault::UnknownCourse(at))
+}
+
+/// A room by its name, and its number, with a guess.
+#[tactic(auto, using(crate::proofs::Steps::read_known), unfolding(crate::specs::Places::known_name))]
+fn read_room(reader: &mut Reader, instance: &Instance, guess: usize) -> Result<usize, BarredFault>
+    ensures within { IfOk result (λ room. room < room_count instance.now) }
+    ensures exact { GivesBarred (λ room. (room, reader.new)) result (reads_barred (known_name UnknownRoom instance.now.room_names) reader.old) }
+{
+    let at = reader.next();
+    let name = next_word::<BarredFault>(reader)?;
+    instance
+        .room_near(guess, name)
+        .ok_or(BarredFault::UnknownRoom(at))
+}
+
+/// Reads one pair, and marks it. Most files name each course with one room after another, so the course
+/// of the pair before is looked at first, and the room behind its room.
 #[tactic(auto, using(crate::proofs::Steps::read_bind, crate::proofs::Steps::read_done), unfolding(crate::specs::BarredPlaces::barred_pair))]
 fn read_pair(
     reader: &mut Reader,
     instance: &Instance,
+    before: (usize, usize),
     table: &mut PairMarks,
-) -> Result<(), BarredFault>
+) -> Result<(usize, usize), BarredFault>
     requires rows { table.old.rows ≡ course_count instance.now }
     requires width { table.old.width ≡ room_count instance.now }
     ensures rows { table.new.rows ≡ table.old.rows }
     ensures width { table.new.width ≡ table.old.width }
     ensures exact { GivesBarred (λ _. (table.new.marks, reader.new)) result (reads_barred (barred_pair instance.now table.old.marks) reader.old) }
 {
-    let course = next_course::<BarredFault>(reader, instance)?;
-    let room = next_room::<BarredFault>(reader, instance)?;
-    table.mark(course.get() as usize, room.get() as usize);
-    Ok(())
+    let course = read_course(reader, instance, before.0)?;
+    let room = read_room(reader, instance, before.1.saturating_add(1))?;
+    table.mark(course, room);
+    Ok((course, room))
 }
 
 /// Reads so many pairs, and marks them.
@@ -68,8 +97,9 @@ fn read_pairs(
     ensures width { table.new.width ≡ table.old.width }
     ensures exact { GivesBarred (λ _. (table.new.marks, reader.new)) result (reads_barred (times (barred_pair instance.now) count table.old.marks) reader.old) }
 {
+    let mut pair = (0, 0);
     for _ in 0..count {
-        read_pair(reader, instance, table)?;
+        pair = read_pair(reader, instance, pair, table)?;
     }
     Ok(())
 }
@@ -119,7 +149,7 @@ fn read_text(
     text: &str,
 ) -> Result<Option<PairMarks>, BarredFault>
     ensures marks { IfOk result (λ table. IfSome table (HasMarks (course_count instance.now) (room_count instance.now))) }
-    ensures exact { Gives is_want (marks_in (course_count instance.now * room_count instance.now)) result (barred_answer instance.now (words text.now)) }
+    ensures exact { Gives wants_memory (marks_in (course_count instance.now * room_count instance.now)) result (barred_answer instance.now (words text.now)) }
 {
     let mut reader = Reader::new(text);
     read_rooms(alloc, &mut reader, instance)
