@@ -11,6 +11,4 @@ pub mod Seen
 pub mod MarkRows
 pub mod Grids
 pub mod Ways
-pub mod Moving
-pub mod Shifts
 pub mod Fitting

@@ -1,15 +1,14 @@
 //! What one lecture more does to the compactness of its curricula. They have no other lecture in its
 //! slot, so only those in the two slots beside it count, and in the two beyond.
 
-ghost use Rattle.std.specs.Prelude.{◌≡◌, ◌<◌, ◌≤◌, ◌+◌, ◌*◌, nat_lt, cond, sum_by, length, true};
+ghost use Rattle.std.specs.Prelude.{◌≡◌, ◌<◌, ◌≤◌, ◌+◌, ◌*◌, nat_lt, cond, sum_by, length};
 ghost use Rattle.std.specs.List.{AllByRecursion as Each};
 ghost use Rattle.ctt_text.specs.Problem.{slot_count, curriculum_count, period_of};
 ghost use Rattle.ctt_board.specs.Joining.{alone_beside, stands_alone};
-ghost use Rattle.ctt_board.specs.Beside.{beside_of, near_in};
 ghost use Rattle.ctt_board.specs.Counts.{HaveSizes};
-ghost use Rattle.ctt_board.specs.Seen.{seen_part, StandApart};
+ghost use Rattle.ctt_board.specs.Seen.{seen_part};
 
-use crate::beside::{Beside, looked_up, near_in, read_at_once, wanted};
+use crate::beside::{Beside, look_beside};
 use crate::later::Later;
 use ctt_text::{CurriculumNo, Instance, SlotNo};
 
@@ -31,7 +30,7 @@ fn unless_some(others: u64, count: u64) -> u64
 }
 
 /// What a lecture does to a curriculum, by the lectures beside its slot.
-pub(crate) fn meeting_beside(beside: Beside) -> Meeting
+fn meeting_beside(beside: Beside) -> Meeting
     requires before { beside.before ≤ 5000000000 }
     requires after { beside.after ≤ 5000000000 }
     ensures alone { result.alone ≡ cond (nat_lt 0 (beside.before + beside.after)) 0 1 }
@@ -46,25 +45,6 @@ pub(crate) fn meeting_beside(beside: Beside) -> Meeting
     }
 }
 
-/// For each of the 32 ways in which the five bits about a slot can stand, two bits from the lowest on:
-/// how many of the lectures beside it stand alone.
-const ALONE_BESIDE: u64 = 0x1010_1010_6565_1010;
-
-/// What a lecture does to a curriculum, by the five bits about its slot.
-pub(crate) fn meeting_in(bits: u64) -> Meeting
-    requires { bits < 32 }
-    ensures alone { result.alone ≡ cond (nat_lt 0 ((beside_of bits).before + (beside_of bits).after)) 0 1 }
-    ensures company { result.company ≡ cond (nat_lt 0 (beside_of bits).earlier) 0 (beside_of bits).before + cond (nat_lt 0 (beside_of bits).later) 0 (beside_of bits).after }
-    ensures few { result.alone ≤ 1 }
-    ensures bound { result.company ≤ 2 }
-{
-    let is_alone = bits & 0b01010 == 0;
-    Meeting {
-        alone: wanted(is_alone, 1),
-        company: (ALONE_BESIDE >> (2 * bits)) & 3,
-    }
-}
-
 /// What a lecture does to a curriculum that has none in its slot.
 fn meeting_of(
     later: &Later,
@@ -72,26 +52,18 @@ fn meeting_of(
     part: CurriculumNo,
     slot: SlotNo,
     period: u16,
-    near: u64,
-    is_apart: bool,
 ) -> Meeting
     requires part { part < curriculum_count instance.now }
     requires slot { slot < slot_count instance.now }
     requires period { period ≡ period_of instance.now slot }
     requires sizes { HaveSizes instance.now later.now.counts.now }
-    requires near { near ≡ near_in (period_of instance.now slot) instance.now.periods }
     requires own { seen_part instance.now later.now part slot ≡ 0 }
-    requires apart { is_apart ≡ true → StandApart later.now slot }
     ensures alone { result.alone ≡ stands_alone instance.now (seen_part instance.now later.now part) slot }
     ensures company { result.company ≡ alone_beside instance.now (seen_part instance.now later.now part) slot }
     ensures few { result.alone ≤ 1 }
     ensures bound { result.company ≤ 10000000000 }
 {
-    if is_apart {
-        meeting_in(read_at_once(later, instance, part, slot, near))
-    } else {
-        meeting_beside(looked_up(later, instance, part, slot, period))
-    }
+    meeting_beside(look_beside(later, instance, part, slot, period))
 }
 
 /// What a lecture does to these curricula together.
@@ -113,13 +85,10 @@ pub(crate) fn meetings(
     ensures few { result.alone ≤ 20000 }
     ensures bound { result.company ≤ 20000 * 10000000000 }
 {
-    instance.limits_hold();
-    let is_apart = later.is_apart(slot);
-    let near = near_in(period, instance.periods());
     let mut alone = 0;
     let mut company = 0;
     for part in parts {
-        let met = meeting_of(later, instance, *part, slot, period, near, is_apart);
+        let met = meeting_of(later, instance, *part, slot, period);
         alone += met.alone;
         company += met.company;
     }
