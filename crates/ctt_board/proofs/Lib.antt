@@ -28,7 +28,6 @@ pub mod SettleLemmas
 pub mod FitLemmas
 mod MarkRowLemmas
 mod MeetingLemmas
-mod BesideLemmas
 mod ClashLemmas
 pub mod SameLemmas
 mod FilledLemmas

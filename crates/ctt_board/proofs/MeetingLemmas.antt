@@ -33,17 +33,6 @@ module _ (i : Problem) (f : ℕ → ℕ) (s : ℕ) where
       by false false m n = refl
 
   module _ (own : f s ≡ 0) where
-    alone_in : (b : Bool) (m n : ℕ) → n ≡ cond b m 0 → n ≡ 0 → (c : Bool) → n ≡ cond b (cond c 0 m) 0
-    alone_in true m n e z true = z
-    alone_in true m n e z false = e
-    alone_in false m n e z c = e
-
-    pub none_before : (n : ℕ) → n ≡ count_before i f s → n ≡ 0 → 0 ≡ cond (ltb 0 (period_of i s)) (alone_at i f (s - 1)) 0
-    none_before n e z = sym z ∙ alone_in (ltb 0 (period_of i s)) (f (s - 1)) n e z (is_beside i (λ k. ltb 0 (f k)) (s - 1))
-
-    pub none_after : (n : ℕ) → n ≡ count_after i f s → n ≡ 0 → 0 ≡ cond (ltb (period_of i s + 1) i.periods) (alone_at i f (s + 1)) 0
-    none_after n e z = sym z ∙ alone_in (ltb (period_of i s + 1) i.periods) (f (s + 1)) n e z (is_beside i (λ k. ltb 0 (f k)) (s + 1))
-
     -- some there, so that there is such a slot
     pub some_before : (n : ℕ) → n ≡ count_before i f s → 0 < n → 0 < period_of i s
     some_before n e some = elim (cases_Bool (ltb 0 (period_of i s))) [

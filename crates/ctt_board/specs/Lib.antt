@@ -4,7 +4,6 @@ pub mod Boards
 pub mod Costs
 pub mod Laws
 pub mod Joining
-pub mod Beside
 pub mod Tables
 pub mod Counts
 pub mod Seen

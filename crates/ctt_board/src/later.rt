@@ -81,6 +81,7 @@ fn is_in_slot(instance: &Instance, lecture: &Placed, part: CurriculumNo, slot: S
 }
 
 /// How many of the lectures are of a curriculum in a slot.
+#[inline(always)]
 fn in_slot(instance: &Instance, lectures: &[Placed], part: CurriculumNo, slot: SlotNo) -> u64
     requires few { length lectures.now ≤ 4 }
     requires part { part < curriculum_count instance.now }

@@ -1,10 +1,7 @@
-use Rattle.std.proofs.Common.{◌∙◌}
+use Rattle.std.proofs.Common.{◌∙◌, arith}
 use Rattle.ctt_board.specs.Seen.{seen_part}
-use Rattle.ctt_board.proofs.BesideLemmas.{alone_is, company_is}
+use Rattle.ctt_board.proofs.MeetingLemmas.{stands_is}
 use Rattle.ctt_board.proofs.meeting.meeting_of.Goals as goal
 
 pub returns-clause-alone : goal.returns-clause-alone
-returns-clause-alone c = c.meeting_beside.ensures.alone ∙ alone_is c.args.instance.now (seen_part c.args.instance.now c.args.later.now c.args.part) c.args.slot c.look_beside.result c.requires.own c.look_beside.ensures
-
-pub returns-clause-company : goal.returns-clause-company
-returns-clause-company c = c.meeting_beside.ensures.company ∙ company_is c.args.instance.now (seen_part c.args.instance.now c.args.later.now c.args.part) c.args.slot c.look_beside.result c.requires.own c.look_beside.ensures
+returns-clause-alone c = c.one_if_none.ensures.value ∙ stands_is c.args.instance.now (seen_part c.args.instance.now c.args.later.now c.args.part) c.args.slot _ (omega (arith, c.before-before.ensures.value, c.after-after.ensures.value))
