@@ -52,19 +52,3 @@ room_now cells k x r t u lt is some h turn =
     let left : in_turn true rest ≡ true = ap (λ o. in_turn (is_some o) rest) (sym some) ∙ turn_at cells k x lt is turn in
     let more : length t < length (apply rest (apply_at x.course x.slot (Some r) t)) = room_for x.course x.slot r rest t left in
     omega (arith, ap length next)
-
--- a list of two cells, by what stands in it
-pub two_of : (xs : List Cell) (a b : Cell) → 2 ≤ length xs → length xs < 3 → a ≡ get_or xs 0 a → b ≡ get_or xs 1 b → xs ≡ a ∷ b ∷ []
-two_of [] a b least most ea eb = absurd (omega (arith, least))
-two_of (w ∷ []) a b least most ea eb = absurd (omega (arith, least))
-two_of (w ∷ x ∷ []) a b least most ea eb = rw (ea, eb) refl
-two_of (w ∷ x ∷ y ∷ ys) a b least most ea eb = absurd (omega (arith, most))
-
--- a list of four cells, by what stands in it
-pub four_of : (xs : List Cell) (a b c d : Cell) → 4 ≤ length xs → length xs < 5 → a ≡ get_or xs 0 a → b ≡ get_or xs 1 b → c ≡ get_or xs 2 c → d ≡ get_or xs 3 d → xs ≡ a ∷ b ∷ c ∷ d ∷ []
-four_of [] a b c d least most ea eb ec ed = absurd (omega (arith, least))
-four_of (w ∷ []) a b c d least most ea eb ec ed = absurd (omega (arith, least))
-four_of (w ∷ x ∷ []) a b c d least most ea eb ec ed = absurd (omega (arith, least))
-four_of (w ∷ x ∷ y ∷ []) a b c d least most ea eb ec ed = absurd (omega (arith, least))
-four_of (w ∷ x ∷ y ∷ z ∷ []) a b c d least most ea eb ec ed = rw (ea, eb, ec, ed) refl
-four_of (w ∷ x ∷ y ∷ z ∷ v ∷ vs) a b c d least most ea eb ec ed = absurd (omega (arith, most))

@@ -82,9 +82,6 @@ made i u g lawful are_rooms are_courses are_standing are_counts =
       sym e,
     )
 
-pub have_sizes : (i : Problem) (t : List Placed) (c : Counts) → AreCounts i t c → HaveSizes i c
-have_sizes i t c h = record { lectures = h.lectures.size; days = h.days.size; used = h.used.size; rooms = h.rooms.size; parts = h.parts.size }
-
 -- a lecture more
 pub with_rooms : (i : Problem) (t : List Placed) (old new : Grid (Option ℕ)) (l : Placed) → AreRooms i t old → new.rows ≡ old.rows → new.width ≡ old.width → WroteRoom i old new l.course l.slot (Some l.room) → is_some (room_at l.course l.slot t) ≡ false → AreRooms i (with l t) new
 with_rooms i t old new l h rows width wrote empty = rooms_after_cell i t old new l.course l.slot (Some l.room) h rows width wrote empty

@@ -18,7 +18,6 @@ pub mod GridLemmas
 mod ColumnLemmas
 pub mod BetweenLemmas
 pub mod SheetLemmas
-mod ShiftLemmas
 pub mod GainLemmas
 pub mod HolderLemmas
 mod HeldLemmas
@@ -29,12 +28,6 @@ pub mod SettleLemmas
 pub mod FitLemmas
 mod MarkRowLemmas
 mod MeetingLemmas
-mod ApartLemmas
-mod BesideLemmas
-mod WindowLemmas
-mod MovedLemmas
 mod ClashLemmas
 pub mod SameLemmas
 mod FilledLemmas
-pub mod RelocatedLemmas
-pub mod ExchangedLemmas

@@ -1,14 +1,14 @@
 -- Marks in rows.
-use Rattle.std.proofs.Common.{◌≡◌, ℕ, suc, ◌+◌, ◌-◌, ◌*◌, ◌/◌, ◌%◌, ◌^◌, ◌<◌, ◌≤◌, Bool, true, false, cond, ◌==◌, ◌&&◌, List, length, take, drop, get_or, refl, ◌∙◌, sym, ap, ap₂, arith, w64, inl, inr}
+use Rattle.std.proofs.Common.{◌≡◌, ◌≢◌, ℕ, suc, ◌+◌, ◌-◌, ◌*◌, ◌/◌, ◌%◌, ◌^◌, ◌<◌, ◌≤◌, Bool, true, false, cond, ◌==◌, ◌&&◌, List, length, take, drop, get_or, refl, ◌∙◌, sym, ap, ap₂, arith, w64, inl, inr}
 use Rattle.std.specs.Prelude.{replicate, slice_set, bit_and, bit_or}
 use Rattle.std.specs.Int.{bit_at, bit_not}
-use Rattle.std.proofs.lemmas.Bool.{cases_lt, ne_eqb}
+use Rattle.std.proofs.lemmas.Bool.{cases_eq, cases_lt, cases_order, eq-eqb, ne_eqb}
 use Rattle.std.proofs.lemmas.List.{get_or-take, get_or-drop, length-take, length-set}
 use Rattle.std.proofs.Math.Nat.{mul-le-mul_right}
 use Rattle.ctt_text.specs.Marks.{is_marked}
 use Rattle.ctt_text.proofs.MarkLemmas.{none_marked, past_words}
 use Rattle.ctt_board.specs.MarkRows.{RowsOfMarks, words_for, words_of, is_marked_in, AreRowsOfMarks, SetsMark}
-use Rattle.ctt_board.proofs.BitLemmas.{same_bit, marked_set, marked_clear}
+use Rattle.ctt_board.proofs.BitLemmas.{marked_set, marked_clear}
 
 abbrev pub rows_of : ℕ → ℕ → List ℕ → RowsOfMarks
 rows_of rows numbers words = record { rows = rows; numbers = numbers; words = words }
@@ -32,6 +32,22 @@ in_row g row n lt =
 pub past_row : (g : RowsOfMarks) (row n : ℕ) → words_for g.numbers ≤ n / 64 → is_marked_in g row n ≡ false
 unfolding is_marked_in
 past_row g row n past = past_words (words_of g row) n (omega (arith, past, length-take (words_for g.numbers) (drop (row * words_for g.numbers) g.words)))
+
+-- the bits of two places are the same one only where the places are
+before_row : (stride r row k column : ℕ) → k < stride * 64 → r < row → (r * stride) * 64 + k ≢ (row * stride) * 64 + column
+before_row stride r row k column small less e = (let rows : suc r * stride ≤ row * stride = mul-le-mul_right stride less in omega (arith, rows, e, small))
+
+same_bit : (stride r row k column : ℕ) → k < stride * 64 → column < stride * 64 → ((r * stride) * 64 + k == (row * stride) * 64 + column) ≡ (r == row && k == column)
+same_bit stride r row k column small small' = elim (cases_order r row) [
+  | inl same ↦ elim (cases_eq k column) [
+    | inl too ↦ rw (eq-eqb ((r * stride) * 64 + k) ((row * stride) * 64 + column) (ap₂ (λ a b. (a * stride) * 64 + b) same too), eq-eqb r row same, eq-eqb k column too) refl
+    | inr other ↦ (
+        let start : r * stride ≡ row * stride = ap (λ x. x * stride) same in
+        rw (ne_eqb ((r * stride) * 64 + k) ((row * stride) * 64 + column) (λ e. other (omega (arith, e, start))), eq-eqb r row same, ne_eqb k column other) refl)
+  ]
+  | inr (inl less) ↦ rw (ne_eqb ((r * stride) * 64 + k) ((row * stride) * 64 + column) (before_row stride r row k column small less), ne_eqb r row (λ e. omega (arith, e, less))) refl
+  | inr (inr more) ↦ rw (ne_eqb ((r * stride) * 64 + k) ((row * stride) * 64 + column) (λ e. before_row stride row r column k small' more (sym e)), ne_eqb r row (λ e. omega (arith, e, more))) refl
+]
 
 -- another number is as it was
 unset : (value a m : Bool) → m ≡ false → cond (a && false) value m ≡ false

@@ -7,13 +7,13 @@ use Rattle.std.proofs.lemmas.List.Sums.{sum_by-append}
 use Rattle.ctt_text.specs.Belonging.{curricula_of}
 use Rattle.ctt_text.specs.Lists.{has, below, Pairwise}
 use Rattle.ctt_text.specs.Problem.{Problem, curriculum_count, slot_count, members, mates, clash, period_of}
-use Rattle.ctt_text.specs.Timetable.{before, Fits}
+use Rattle.ctt_text.specs.Timetable.{before}
 use Rattle.ctt_text.specs.declared.placed.Placed.{Placed}
 use Rattle.ctt_text.proofs.TimetableLemmas.{Each-at, Each-map}
 use Rattle.ctt_rules.specs.Hard.{Lawful, conflicts}
 use Rattle.ctt_rules.specs.Neighbours.{is_beside}
 use Rattle.ctt_rules.proofs.SumLemmas.{count_by-cons}
-use Rattle.ctt_board.specs.Joining.{IsMore, AreApart, IsFree, in_slot, by_slot, alone_at, stands_alone, count_before, count_after}
+use Rattle.ctt_board.specs.Joining.{IsMore, in_slot, by_slot, alone_at, stands_alone, count_before, count_after}
 use Rattle.ctt_board.specs.Seen.{Sees, seen_part, NoneThere, OneThere}
 use Rattle.ctt_board.specs.Tables.{at}
 use Rattle.ctt_board.specs.declared.later.Later.{Later}
@@ -33,17 +33,6 @@ module _ (i : Problem) (f : ℕ → ℕ) (s : ℕ) where
       by false false m n = refl
 
   module _ (own : f s ≡ 0) where
-    alone_in : (b : Bool) (m n : ℕ) → n ≡ cond b m 0 → n ≡ 0 → (c : Bool) → n ≡ cond b (cond c 0 m) 0
-    alone_in true m n e z true = z
-    alone_in true m n e z false = e
-    alone_in false m n e z c = e
-
-    pub none_before : (n : ℕ) → n ≡ count_before i f s → n ≡ 0 → 0 ≡ cond (ltb 0 (period_of i s)) (alone_at i f (s - 1)) 0
-    none_before n e z = sym z ∙ alone_in (ltb 0 (period_of i s)) (f (s - 1)) n e z (is_beside i (λ k. ltb 0 (f k)) (s - 1))
-
-    pub none_after : (n : ℕ) → n ≡ count_after i f s → n ≡ 0 → 0 ≡ cond (ltb (period_of i s + 1) i.periods) (alone_at i f (s + 1)) 0
-    none_after n e z = sym z ∙ alone_in (ltb (period_of i s + 1) i.periods) (f (s + 1)) n e z (is_beside i (λ k. ltb 0 (f k)) (s + 1))
-
     -- some there, so that there is such a slot
     pub some_before : (n : ℕ) → n ≡ count_before i f s → 0 < n → 0 < period_of i s
     some_before n e some = elim (cases_Bool (ltb 0 (period_of i s))) [
@@ -130,13 +119,6 @@ share_none i c d q other clear known = Each-at (λ m. (has c m && has d m) ≡ f
     no_mates : mates i c d ≡ false
     no_mates = by _ (mates i c d) (rw other at clear)
 
-pub are_apart : (i : Problem) (c d : ℕ) → (c == d) ≡ false → clash i c d ≡ false → AreApart i c d
-are_apart i c d other clear = (other, λ q known y. left (has c (members i q)) (has d (members i q)) (share_none i c d q other clear known) y)
-  where
-    left : (a b : Bool) → (a && b) ≡ false → a ≡ true → b ≡ false
-    left true b h y = h
-    left false b h y = cc
-
 -- two lectures of one curriculum in one slot would conflict
 apart : (i : Problem) (q s : ℕ) (a b : Placed) → q < curriculum_count i → conflicts i a b ≡ false → before a b ≡ true → in_slot (members i q) s a ≡ true → in_slot (members i q) s b ≡ false
 apart i q s a b known none order here = elim (cases_Bool (in_slot (members i q) s b)) [
@@ -175,9 +157,6 @@ module _ (i : Problem) (l : Placed) where
   -- a lecture that can come, and one that is there
   pub none_yet : (t u : List Placed) (v : Later) → IsMore l t u → Lawful i t → Lawful i u → Sees i v t → NoneThere i v l
   none_yet t u v more lt lu sees = of_course i l.course (λ q. seen_part i v q l.slot ≡ 0) (λ q known y. omega (arith, part_is i v t sees lt.timetable.fits q known l.slot, one_there i u q l.slot lu known, counted_more l t u more (in_slot (members i q) l.slot), ap (λ b. cond {A = ℕ} b 1 0) (mine q y)))
-
-  pub none_seen : (t : List Placed) (v : Later) → Each (Fits i) t → IsFree i t l → Sees i v t → NoneThere i v l
-  none_seen t v fits free sees = of_course i l.course (λ q. seen_part i v q l.slot ≡ 0) (λ q known y. part_is i v t sees fits q known l.slot ∙ free q known y)
 
   pub one_seen : (t : List Placed) (v : Later) → Lawful i t → Sees i v t → OneThere i v l
   one_seen t v lt sees = of_course i l.course (λ q. seen_part i v q l.slot ≤ 1) (λ q known y. omega (arith, part_is i v t sees lt.timetable.fits q known l.slot, one_there i t q l.slot lt known))

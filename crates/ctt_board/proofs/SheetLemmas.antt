@@ -33,9 +33,6 @@ has_lecture i g l p h fits there = have_lecture i l (without l.course l.slot (li
 pub places : (i : Problem) (g : Tables) (k : Counts) → AreTables i g → ArePlaces i (listed i g.rooms) (record g { counts = k })
 places i g k h = record { rooms_are = h.rooms_are; courses_are = h.courses_are; standing_are = h.standing_are }
 
-pub place_sizes : (i : Problem) (t : List Placed) (g : Tables) → ArePlaces i t g → HavePlaceSizes i g
-place_sizes i t g h = record { rooms = h.rooms_are.size; courses = h.courses_are.size; standing = h.standing_are.size }
-
 pub made_of : (i : Problem) (u : List Placed) (g : Tables) (k : Counts) → Lawful i u → ArePlaces i u g → g.counts ≡ k → AreCounts i u k → AreTables i g × (listed i g.rooms ≡ u)
 made_of i u g k lawful h e counted = made i u g lawful h.rooms_are h.courses_are h.standing_are (subst (AreCounts i u) (sym e) counted)
 

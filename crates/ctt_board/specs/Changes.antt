@@ -31,14 +31,6 @@ clash_at i c s t = course_named (find (λ l. clash i c l.course) (slot_row s t))
 abbrev pub cell : ℕ → ℕ → Option ℕ → Cell
 cell c s r = record { course = c; slot = s; room = r }
 
--- the cells by which l goes to m
-abbrev pub steps_of : (l m : Placed) → List Cell
-steps_of l m = cell l.course l.slot None ∷ cell m.course m.slot (Some m.room) ∷ []
-
--- the cells by which l goes to l', and m to m'
-abbrev pub cells_of : (l m l' m' : Placed) → List Cell
-cells_of l m l' m' = cell l.course l.slot None ∷ cell m.course m.slot None ∷ cell l'.course l'.slot (Some l'.room) ∷ cell m'.course m'.slot (Some m'.room) ∷ []
-
 -- no removal stands behind an addition, of which one may have come before
 abbrev pub in_turn : Bool → List Cell → Bool
 in_turn added [] = true

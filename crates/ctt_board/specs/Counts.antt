@@ -1,12 +1,12 @@
 -- The tables of a sheet, by its timetable.
-use Rattle.std.specs.Prelude.{◌≡◌, ◌<◌, ◌≤◌, ◌+◌, ◌-◌, ℕ, true, List, length, count_by, ◌==◌}
+use Rattle.std.specs.Prelude.{◌≡◌, ◌<◌, ◌≤◌, ◌+◌, ℕ, true, List, length, count_by, ◌==◌}
 use Rattle.ctt_text.specs.Belonging.{curricula_of}
 use Rattle.ctt_text.specs.Problem.{Problem, course_count, room_count, curriculum_count, slot_count, members, day_of}
 use Rattle.ctt_text.specs.Timetable.{course_row}
 use Rattle.ctt_text.specs.declared.placed.Placed.{Placed}
 use Rattle.ctt_rules.specs.Penalty.{days_of}
 use Rattle.ctt_board.specs.Joining.{on_day, in_room, in_slot}
-use Rattle.ctt_board.specs.Tables.{Grid, at, Adds, Moves, AreFew, one_at, in_column}
+use Rattle.ctt_board.specs.Tables.{Grid, at, Adds, AreFew, one_at, in_column}
 use Rattle.ctt_board.specs.declared.counts.Counts.{Counts}
 
 -- a table has this size
@@ -59,22 +59,3 @@ pub record HaveLecture (i : Problem) (l : Placed) (c : Counts) : Type 0 where
   pub used : 1 ≤ at c.used 0 l.course 0
   pub rooms : 1 ≤ at c.rooms l.course l.room 0
   pub parts : (q : ℕ) → q < curriculum_count i → in_column (curricula_of i l.course) l.slot q l.slot ≤ at c.parts q l.slot 0
-
--- a lecture l goes elsewhere, as m: what that changes in each table
-pub record MovesLecture (i : Problem) (l m : Placed) (old new : Counts) : Type 0 where
-  pub lectures : new.lectures ≡ old.lectures
-  pub days : Moves old.days new.days (one_at true l.course (day_of i l.slot)) (one_at true m.course (day_of i m.slot))
-  pub used : Moves old.used new.used (one_at (at old.days l.course (day_of i l.slot) 0 == 1) 0 l.course) (one_at (at old.days m.course (day_of i m.slot) 0 - one_at true l.course (day_of i l.slot) m.course (day_of i m.slot) == 0) 0 m.course)
-  pub rooms : Moves old.rooms new.rooms (one_at true l.course l.room) (one_at true m.course m.room)
-  pub parts : Moves old.parts new.parts (in_column (curricula_of i l.course) l.slot) (in_column (curricula_of i m.course) m.slot)
-
--- the numbers that count a lecture are not large, so that it fits
-pub record HaveRoomFor (i : Problem) (l : Placed) (c : Counts) : Type 0 where
-  pub days : at c.days l.course (day_of i l.slot) 0 ≤ 2001
-  pub used : at c.used 0 l.course 0 ≤ 2001
-  pub rooms : at c.rooms l.course l.room 0 ≤ 2001
-
--- no curriculum of the course of m has one in its slot but l, so that l can go there as m
-abbrev pub HaveNoneBut : Problem → Placed → Placed → Counts → Type 0
-HaveNoneBut i l m c = (q : ℕ) → q < curriculum_count i → 1 ≤ in_column (curricula_of i m.course) m.slot q m.slot
-    → in_column (curricula_of i m.course) m.slot q m.slot + at c.parts q m.slot 0 ≤ 1 + in_column (curricula_of i m.course) l.slot q m.slot

@@ -1,8 +1,8 @@
 -- What one lecture more does to the penalty, by counts over the lectures that are there before it.
-use Rattle.std.specs.Prelude.{◌≡◌, ◌<◌, ◌≤◌, ℕ, ℤ, pos, ◌-ℤ◌, ◌+◌, ◌-◌, ◌*◌, Bool, true, false, cond, List, length, sum_by, count_by, ◌==◌, ◌&&◌, nat_lt}
+use Rattle.std.specs.Prelude.{◌≡◌, ◌≤◌, ℕ, ℤ, pos, ◌-ℤ◌, ◌+◌, ◌-◌, ◌*◌, Bool, cond, List, length, sum_by, count_by, ◌==◌, ◌&&◌, nat_lt}
 use Rattle.ctt_text.specs.Lists.{has}
 use Rattle.ctt_text.specs.Belonging.{curricula_of}
-use Rattle.ctt_text.specs.Problem.{Problem, course_of, curriculum_count, members, day_of, period_of}
+use Rattle.ctt_text.specs.Problem.{Problem, course_of, members, day_of, period_of}
 use Rattle.ctt_text.specs.Timetable.{course_row}
 use Rattle.ctt_text.specs.declared.placed.Placed.{Placed}
 use Rattle.ctt_board.specs.declared.joining.Joining.{Joining}
@@ -60,14 +60,6 @@ joining_by i l on_its_day days lectures in_its_room parts = record {
 
 abbrev pub joining : Problem → List Placed → Placed → Joining
 joining i t l = joining_by i l (count_by (on_day i l.course (day_of i l.slot)) t) (days_of i (course_row l.course t)) (length (course_row l.course t)) (count_by (in_room l.course l.room) t) (λ q. by_slot (members i q) t)
-
--- different courses that share no curriculum
-abbrev pub AreApart : Problem → ℕ → ℕ → Type 0
-AreApart i c d = ((c == d) ≡ false) × ((q : ℕ) → q < curriculum_count i → has c (members i q) ≡ true → has d (members i q) ≡ false)
-
--- no curriculum of a lecture's course has a lecture in its slot
-abbrev pub IsFree : Problem → List Placed → Placed → Type 0
-IsFree i t l = (q : ℕ) → q < curriculum_count i → has l.course (members i q) ≡ true → by_slot (members i q) t l.slot ≡ 0
 
 -- the costs with the lecture, by those without it
 pub record Joins (i : Problem) (t u : List Placed) (j : Joining) : Type 0 where

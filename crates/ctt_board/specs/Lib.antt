@@ -4,13 +4,10 @@ pub mod Boards
 pub mod Costs
 pub mod Laws
 pub mod Joining
-pub mod Beside
 pub mod Tables
 pub mod Counts
 pub mod Seen
 pub mod MarkRows
 pub mod Grids
 pub mod Ways
-pub mod Moving
-pub mod Shifts
 pub mod Fitting

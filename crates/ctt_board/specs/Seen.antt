@@ -1,5 +1,5 @@
 -- Counts of a timetable, seen through lectures that leave it and lectures that come.
-use Rattle.std.specs.Prelude.{◌≡◌, ◌<◌, ◌≤◌, length, ℕ, ◌+◌, ◌-◌, Bool, true, ◌||◌, cond, List, sum_by, count_by, ◌==◌, nat_lt}
+use Rattle.std.specs.Prelude.{◌≡◌, ◌<◌, ◌≤◌, length, ℕ, ◌+◌, ◌-◌, Bool, cond, List, sum_by, count_by, ◌==◌, nat_lt}
 use Rattle.std.specs.List.{AllByRecursion as Each}
 use Rattle.ctt_text.specs.Belonging.{curricula_of}
 use Rattle.ctt_text.specs.Problem.{Problem, course_count, slot_count, members, day_of}
@@ -42,15 +42,6 @@ NoneThere i v l = Each (λ q. seen_part i v q l.slot ≡ 0) (curricula_of i l.co
 
 abbrev pub OneThere : Problem → Later → Placed → Type 0
 OneThere i v l = Each (λ q. seen_part i v q l.slot ≤ 1) (curricula_of i l.course)
-
--- a lecture is in a slot, or more than two away from it
-abbrev pub is_apart : ℕ → Placed → Bool
-is_apart s l = l.slot == s || (nat_lt (l.slot + 2) s || nat_lt (s + 2) l.slot)
-
--- so is all that leaves and comes
-pub record StandApart (v : Later) (s : ℕ) : Type 0 where
-  pub removed : Each (λ l. is_apart s l ≡ true) v.removed.items
-  pub added : Each (λ l. is_apart s l ≡ true) v.added.items
 
 -- what is seen is this timetable
 pub record Sees (i : Problem) (v : Later) (t : List Placed) : Type 0 where

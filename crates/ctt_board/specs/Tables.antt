@@ -1,5 +1,5 @@
 -- A table of a fixed size.
-use Rattle.std.specs.Prelude.{◌≡◌, ◌<◌, ◌≤◌, ℕ, ◌+◌, ◌*◌, ◌/◌, ◌%◌, Bool, cond, ◌&&◌, ◌==◌, List, map, length, get_or, count_by, refl}
+use Rattle.std.specs.Prelude.{◌≡◌, ◌<◌, ◌≤◌, ℕ, ◌+◌, ◌*◌, Bool, cond, ◌&&◌, ◌==◌, List, map, length, get_or, count_by, refl}
 use Rattle.std.specs.List.{range_with_len}
 use Rattle.std.specs.Coded.{Coded, code_by, coded×, coded_ℕ, coded_list}
 use Rattle.ctt_text.specs.Marks.{is_marked}
@@ -25,12 +25,6 @@ pub record Adds (old new : Grid ℕ) (w : ℕ → ℕ → ℕ) : Type 0 where
   pub width : new.width ≡ old.width
   pub sums : (r k : ℕ) → k < old.width → at new r k 0 ≡ w r k + at old r k 0
 
--- the first table with v taken off and w added at each place is the second
-pub record Moves (old new : Grid ℕ) (v w : ℕ → ℕ → ℕ) : Type 0 where
-  pub rows : new.rows ≡ old.rows
-  pub width : new.width ≡ old.width
-  pub sums : (r k : ℕ) → k < old.width → at new r k 0 + v r k ≡ w r k + at old r k 0
-
 -- one at a place, if it is wanted
 abbrev pub one_at : Bool → ℕ → ℕ → ℕ → ℕ → ℕ
 one_at wanted row column r k = cond (wanted && (r == row && k == column)) 1 0
@@ -39,19 +33,14 @@ one_at wanted row column r k = cond (wanted && (r == row && k == column)) 1 0
 abbrev pub in_column : List ℕ → ℕ → ℕ → ℕ → ℕ
 in_column rows column r k = cond (k == column) (count_by (λ q. q == r) rows) 0
 
--- which bit of the words, of which each row has so many, is that of a column: two more stand before each row
-abbrev pub place_in : ℕ → ℕ → ℕ → ℕ
-place_in stride row column = (row * stride) * 64 + (column + 2)
-
--- the bits of rows of a width, row behind row, each as the number zero or one
-unfoldable pub bits_of : ℕ → ℕ → ℕ → List ℕ → List ℕ
-bits_of rows width stride words = map (λ k. cond (is_marked words (place_in stride (k / width) (k % width))) 1 0) (range_with_len 0 (rows * width))
+-- the bits of some words below n, each as the number zero or one
+unfoldable pub bits_of : ℕ → List ℕ → List ℕ
+bits_of n words = map (λ k. cond (is_marked words k) 1 0) (range_with_len 0 n)
 
 -- there are words for so many bits
-pub record AreBits (rows width stride : ℕ) (words : List ℕ) : Type 0 where
-  pub few : rows * stride ≤ 100000000
-  pub wide : width + 2 ≤ stride * 64
-  pub words_are : rows * stride ≤ length words
+pub record AreBits (n : ℕ) (words : List ℕ) : Type 0 where
+  pub few : n ≤ 100000000
+  pub words_are : n ≤ length words * 64
 
 -- no number is large
 abbrev pub AreFew : Grid ℕ → Type 0

@@ -1,16 +1,13 @@
 //! The lectures of a timetable, counted.
 
 ghost use Rattle.std.specs.Prelude.{◌≡◌, ◌<◌, true, IfOk, []};
-ghost use Rattle.ctt_text.specs.Problem.{course_count, slot_count, room_count, day_of};
+ghost use Rattle.ctt_text.specs.Problem.{course_count, slot_count, room_count};
 ghost use Rattle.ctt_text.specs.Timetable.{Fits};
-ghost use Rattle.ctt_board.specs.Counts.{AreCounts, HaveSizes, HaveRoom, HaveNone, HaveNoneBut, HaveLecture, HaveRoomFor, AddsLecture, MovesLecture};
+ghost use Rattle.ctt_board.specs.Counts.{AreCounts, HaveSizes, HaveRoom, HaveNone, HaveLecture, AddsLecture};
 
 use crate::bits::Bits;
-use crate::moving::Going;
 use crate::table::Table;
-use crate::tally::{
-    add, add_column, add_one, shift_column, take, take_and_add, take_column, take_one,
-};
+use crate::tally::{add, add_column, add_one, take, take_column, take_one};
 use ctt_text::{CourseNo, Instance, Placed, SlotNo};
 use std::alloc::{AllocError, Global};
 
@@ -98,34 +95,5 @@ impl Counts {
         take(&mut self.rooms, course, lecture.room.get() as usize, true);
         let curricula = instance.curricula_of(lecture.course);
         take_column(&mut self.parts, curricula, lecture.slot.get() as usize);
-    }
-
-    /// Counts a lecture elsewhere.
-    #[inline(always)]
-    pub(crate) fn relocate(&mut self, instance: &Instance, going: &Going)
-        requires its { going.now.to.course ≡ going.now.from.course }
-        requires from { Fits instance.now going.now.from }
-        requires to { Fits instance.now going.now.to }
-        requires here { going.now.here.day ≡ day_of instance.now going.now.from.slot }
-        requires there { going.now.there.day ≡ day_of instance.now going.now.to.slot }
-        requires sizes { HaveSizes instance.now self.old }
-        requires room { HaveRoomFor instance.now going.now.to self.old }
-        requires counted { HaveLecture instance.now going.now.from self.old }
-        requires own { HaveNoneBut instance.now going.now.from going.now.to self.old }
-        ensures { MovesLecture instance.now going.now.from going.now.to self.old self.new }
-    {
-        instance.limits_hold();
-        let course = going.from.course.get() as usize;
-        let left = take_one(&mut self.days, course, going.here.day as usize);
-        let before = add_one(&mut self.days, course, going.there.day as usize);
-        take_and_add(&mut self.used, 0, course, left == 0, before == 0);
-        take_one(&mut self.rooms, course, going.from.room.get() as usize);
-        add_one(&mut self.rooms, course, going.to.room.get() as usize);
-        shift_column(
-            &mut self.parts,
-            instance.curricula_of(going.from.course),
-            going.from.slot.get() as usize,
-            going.to.slot.get() as usize,
-        );
     }
 }

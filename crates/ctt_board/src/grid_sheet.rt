@@ -1,17 +1,13 @@
 //! A sheet that keeps tables of fixed size, and its costs.
 
-ghost use Rattle.std.specs.Prelude.{◌≡◌, ◌≤◌, ◌<◌, ◌+◌, pos, ◌-ℤ◌, ◌*◌, ◌++◌, ◌∷◌, ℕ, cond, get_or, [], true, false, Some, None, is_some, length, IfOk, IfSome, OnOk};
+ghost use Rattle.std.specs.Prelude.{◌≡◌, ◌≤◌, ◌<◌, ◌+◌, pos, ◌-ℤ◌, ◌*◌, ◌++◌, ℕ, cond, get_or, [], true, false, Some, None, is_some, length, IfOk, OnOk};
 ghost use Rattle.ctt_text.specs.Marks.{is_marked};
 ghost use Rattle.ctt_text.specs.Problem.{course_count, slot_count};
 ghost use Rattle.ctt_text.specs.Timetable.{course_row, slot_row, with, without, Fits};
 ghost use Rattle.ctt_rules.specs.Hard.{Lawful};
-ghost use Rattle.ctt_board.specs.Boards.{delta};
-ghost use Rattle.ctt_board.specs.Changes.{CellFits, CellsFit, ChangeFits, cell, steps_of, cells_of, is_change, room_at, apply_at, apply, apply_all, ChangesFit};
-ghost use Rattle.ctt_board.specs.Joining.{IsFree, joining};
-ghost use Rattle.ctt_board.specs.Moving.{IsGoing, IsExchange};
+ghost use Rattle.ctt_board.specs.Changes.{CellFits, CellsFit, room_at, apply_at, apply, apply_all, ChangesFit};
 ghost use Rattle.ctt_rules.specs.Penalty.{penalty, total};
 ghost use Rattle.ctt_board.specs.Seen.{Sees, HasPlaces};
-ghost use Rattle.ctt_board.specs.Shifts.{Shifts, IsSmallShift, shift_of};
 ghost use Rattle.ctt_board.specs.Ways.{Ready};
 ghost use Rattle.ctt_board.specs.Cells.{row_below, lecture_at};
 ghost use Rattle.ctt_board.specs.Grids.{column_below};
@@ -26,10 +22,8 @@ use crate::fitting::fits;
 use crate::joining::{joining_of, with_lecture, without_lecture};
 use crate::later::Later;
 use crate::laws;
-use crate::moving::{Going, going_by, moved, spot_of};
 use crate::same_rows::{same_course_row, same_slot_row};
 use crate::sheet::{Rooms, Sheet, Timetable};
-use crate::shift::Shift;
 use crate::table::Table;
 use crate::tables::Tables;
 use ctt_rules::Cost;
@@ -107,242 +101,6 @@ impl<'i> GridSheet<'i> {
         }
     }
 
-    /// The lecture that a cell removes, if it removes one.
-    fn leaving(&self, gone: &Cell) -> Option<Placed>
-        requires course { gone.now.course < course_count self.now.problem }
-        requires slot { gone.now.slot < slot_count self.now.problem }
-        ensures { IfSome result (λ l. (gone.now ≡ cell l.course l.slot None) × (room_at l.course l.slot self.now.list ≡ Some l.room)) }
-    {
-        if gone.room.is_some() {
-            return None;
-        }
-        let room = self.room_at(gone.course, gone.slot)?;
-        Some(Placed {
-            course: gone.course,
-            slot: gone.slot,
-            room,
-        })
-    }
-
-    /// The lecture that goes elsewhere by these cells, if one does.
-    #[inline(always)]
-    fn going(&self, first: &Cell, second: &Cell) -> Option<Going>
-        requires turn { is_change (first.now ∷ second.now ∷ []) ≡ true }
-        requires fits { ChangeFits self.now.problem (first.now ∷ second.now ∷ []) self.now.list }
-        ensures goes { IfSome result (IsGoing self.now.problem self.now.list) }
-        ensures cells { IfSome result (λ g. (first.now ∷ second.now ∷ []) ≡ steps_of g.from g.to) }
-    {
-        self.lawful();
-        let from = self.leaving(first)?;
-        let to = coming(second, from.course)?;
-        Some(Going {
-            from,
-            to,
-            here: spot_of(self.instance, from.slot),
-            there: spot_of(self.instance, to.slot),
-        })
-    }
-
-    /// Two lectures that go elsewhere, if each goes to the slot of the other and their courses share no
-    /// curriculum.
-    #[inline(always)]
-    fn crossed(
-        &self,
-        from: &Placed,
-        other_from: &Placed,
-        to: &Placed,
-        other_to: &Placed,
-    ) -> Option<(Going, Going)>
-        requires from { room_at from.now.course from.now.slot self.now.list ≡ Some from.now.room }
-        requires other_from { room_at other_from.now.course other_from.now.slot self.now.list ≡ Some other_from.now.room }
-        requires to { to.now.course ≡ from.now.course }
-        requires other_to { other_to.now.course ≡ other_from.now.course }
-        ensures go { IfSome result (λ x. IsExchange self.now.problem self.now.list x.0 x.1) }
-        ensures cells { IfSome result (λ x. cells_of from.now other_from.now to.now other_to.now ≡ cells_of x.0.from x.1.from x.0.to x.1.to) }
-    {
-        self.lawful();
-        if to.slot != other_from.slot || other_to.slot != from.slot {
-            return None;
-        }
-        if from.course == other_from.course || self.instance.clash(from.course, other_from.course) {
-            return None;
-        }
-        let here = spot_of(self.instance, from.slot);
-        let there = spot_of(self.instance, other_from.slot);
-        let one = going_by(from, to, &here, &there);
-        let other = going_by(other_from, other_to, &there, &here);
-        Some((one, other))
-    }
-
-    /// The two lectures that go by these cells each to the slot of the other, if two do whose courses share
-    /// no curriculum.
-    #[inline(always)]
-    fn exchange(
-        &self,
-        first: &Cell,
-        second: &Cell,
-        third: &Cell,
-        fourth: &Cell,
-    ) -> Option<(Going, Going)>
-        requires turn { is_change (first.now ∷ second.now ∷ third.now ∷ fourth.now ∷ []) ≡ true }
-        requires fits { ChangeFits self.now.problem (first.now ∷ second.now ∷ third.now ∷ fourth.now ∷ []) self.now.list }
-        ensures go { IfSome result (λ x. IsExchange self.now.problem self.now.list x.0 x.1) }
-        ensures cells { IfSome result (λ x. (first.now ∷ second.now ∷ third.now ∷ fourth.now ∷ []) ≡ cells_of x.0.from x.1.from x.0.to x.1.to) }
-    {
-        self.lawful();
-        let from = self.leaving(first)?;
-        let other_from = self.leaving(second)?;
-        let to = coming(third, from.course)?;
-        let other_to = coming(fourth, other_from.course)?;
-        self.crossed(&from, &other_from, &to, &other_to)
-    }
-
-    /// By how much the costs change where a lecture goes elsewhere.
-    #[inline(always)]
-    fn moved(&self, going: &Going) -> Shift
-        requires goes { IsGoing self.now.problem self.now.list going.now }
-        requires fits { Fits self.now.problem going.now.to }
-        requires free { IsFree self.now.problem (without going.now.from.course going.now.from.slot self.now.list) going.now.to }
-        ensures value { result ≡ shift_of (joining self.now.problem (without going.now.from.course going.now.from.slot self.now.list) going.now.from) (joining self.now.problem (without going.now.from.course going.now.from.slot self.now.list) going.now.to) }
-        ensures small { IsSmallShift 1000000000000000 result }
-    {
-        self.lawful();
-        moved(
-            self.instance,
-            &self.tables.counts,
-            self,
-            &going.from,
-            &going.to,
-            &going.here,
-            &going.there,
-        )
-    }
-
-    /// By how much the costs change where a lecture goes elsewhere and that is all.
-    #[inline(always)]
-    fn moved_alone(&self, going: &Going) -> Shift
-        requires goes { IsGoing self.now.problem self.now.list going.now }
-        requires fits { ChangeFits self.now.problem (steps_of going.now.from going.now.to) self.now.list }
-        ensures shifts { Shifts (penalty self.now.problem self.now.list) (penalty self.now.problem (apply (steps_of going.now.from going.now.to) self.now.list)) result }
-        ensures small { IsSmallShift 2000000000000000 result }
-    {
-        self.lawful();
-        self.moved(going)
-    }
-
-    /// By how much the costs change where two lectures go elsewhere whose courses share no curriculum: by
-    /// what each of them does, as if the other one stayed.
-    #[inline(always)]
-    fn exchanged(&self, one: &Going, other: &Going) -> Shift
-        requires go { IsExchange self.now.problem self.now.list one.now other.now }
-        requires fits { ChangeFits self.now.problem (cells_of one.now.from other.now.from one.now.to other.now.to) self.now.list }
-        ensures shifts { Shifts (penalty self.now.problem self.now.list) (penalty self.now.problem (apply (cells_of one.now.from other.now.from one.now.to other.now.to) self.now.list)) result }
-        ensures small { IsSmallShift 2000000000000000 result }
-    {
-        self.lawful();
-        self.moved(one).and(&self.moved(other))
-    }
-
-    /// By how much the costs change by these cells, if one lecture goes elsewhere by them, or two do whose
-    /// courses share no curriculum.
-    #[inline(always)]
-    fn gone_elsewhere(&self, cells: &[Cell]) -> Option<Shift>
-        requires turn { is_change cells.now ≡ true }
-        requires fits { ChangeFits self.now.problem cells.now self.now.list }
-        ensures shifts { IfSome result (Shifts (penalty self.now.problem self.now.list) (penalty self.now.problem (apply cells.now self.now.list))) }
-        ensures small { IfSome result (IsSmallShift 2000000000000000) }
-    {
-        match cells {
-            [first, second] => {
-                let going = self.going(first, second)?;
-                Some(self.moved_alone(&going))
-            }
-            [first, second, third, fourth] => {
-                let (one, other) = self.exchange(first, second, third, fourth)?;
-                Some(self.exchanged(&one, &other))
-            }
-            _ => None,
-        }
-    }
-
-    /// Lets a lecture go elsewhere.
-    #[inline(always)]
-    fn relocate(&mut self, going: &Going)
-        requires goes { IsGoing self.old.problem self.old.list going.now }
-        requires fits { ChangeFits self.old.problem (steps_of going.now.from going.now.to) self.old.list }
-        ensures problem { self.new.problem ≡ self.old.problem }
-        ensures list { self.new.list ≡ apply (steps_of going.now.from going.now.to) self.old.list }
-    {
-        self.instance.limits_hold();
-        let shift = self.moved_alone(going);
-        self.cost = shift.after(self.cost);
-        self.tables.relocate(self.instance, going);
-    }
-
-    /// Lets two lectures go elsewhere whose courses share no curriculum.
-    #[inline(always)]
-    fn swap(&mut self, one: &Going, other: &Going)
-        requires go { IsExchange self.old.problem self.old.list one.now other.now }
-        requires fits { ChangeFits self.old.problem (cells_of one.now.from other.now.from one.now.to other.now.to) self.old.list }
-        ensures problem { self.new.problem ≡ self.old.problem }
-        ensures list { self.new.list ≡ apply (cells_of one.now.from other.now.from one.now.to other.now.to) self.old.list }
-    {
-        self.instance.limits_hold();
-        let both = self.exchanged(one, other);
-        self.cost = both.after(self.cost);
-        self.tables.exchange(self.instance, one, other);
-    }
-
-    /// Makes cells, each in its turn.
-    fn make_each(&mut self, cells: &[Cell])
-        requires turn { is_change cells.now ≡ true }
-        requires fits { ChangeFits self.old.problem cells.now self.old.list }
-        ensures problem { self.new.problem ≡ self.old.problem }
-        ensures list { self.new.list ≡ apply cells.now self.old.list }
-    {
-        self.lawful();
-        for cell in cells {
-            self.make(cell);
-        }
-    }
-
-    /// Makes two cells, by which mostly a lecture goes elsewhere.
-    #[inline(always)]
-    fn make_two(&mut self, cells: &[Cell], first: &Cell, second: &Cell)
-        requires turn { is_change cells.now ≡ true }
-        requires fits { ChangeFits self.old.problem cells.now self.old.list }
-        requires are { cells.now ≡ first.now ∷ second.now ∷ [] }
-        ensures problem { self.new.problem ≡ self.old.problem }
-        ensures list { self.new.list ≡ apply cells.now self.old.list }
-    {
-        match self.going(first, second) {
-            Some(going) => self.relocate(&going),
-            None => self.make_each(cells),
-        }
-    }
-
-    /// Makes four cells, by which mostly two lectures go elsewhere.
-    #[inline(never)]
-    fn make_four(
-        &mut self,
-        cells: &[Cell],
-        first: &Cell,
-        second: &Cell,
-        third: &Cell,
-        fourth: &Cell,
-    )
-        requires turn { is_change cells.now ≡ true }
-        requires fits { ChangeFits self.old.problem cells.now self.old.list }
-        requires are { cells.now ≡ first.now ∷ second.now ∷ third.now ∷ fourth.now ∷ [] }
-        ensures problem { self.new.problem ≡ self.old.problem }
-        ensures list { self.new.list ≡ apply cells.now self.old.list }
-    {
-        match self.exchange(first, second, third, fourth) {
-            Some((one, other)) => self.swap(&one, &other),
-            None => self.make_each(cells),
-        }
-    }
-
     /// Makes changes, each in its turn.
     fn apply_each(&mut self, changes: &[Change])
         requires { ChangesFit self.old.problem changes.now self.old.list }
@@ -382,37 +140,6 @@ impl<'i> GridSheet<'i> {
         let courses = self.instance.courses() as usize;
         append_column(list, &self.tables.rooms, standing, courses, slot)
     }
-
-    /// What a change adds to the penalty, cell by cell.
-    fn stepwise(&self, change: &Change) -> i64
-        requires { ChangeFits self.now.problem change.now self.now.list }
-        ensures { result ≡ delta self.now.problem self.now.list change.now }
-    {
-        self.lawful();
-        self.instance.limits_hold();
-        let cells = change.cells();
-        let mut later = Later::now(&self.tables.counts);
-        let mut total = 0;
-        for (number, cell) in cells.iter().enumerate() {
-            total += step(self.instance, self, &mut later, &cells[..number], cell);
-        }
-        total
-    }
-}
-
-/// The lecture that a cell adds, if it adds one of this course.
-fn coming(come: &Cell, course: CourseNo) -> Option<Placed>
-    ensures { IfSome result (λ l. (come.now ≡ cell l.course l.slot (Some l.room)) × (l.course ≡ course)) }
-{
-    if come.course != course {
-        return None;
-    }
-    let room = come.room?;
-    Some(Placed {
-        course,
-        slot: come.slot,
-        room,
-    })
 }
 
 /// Appends the lecture of a course in a slot that a table of rooms shows.
@@ -542,10 +269,13 @@ impl<'i> Timetable for GridSheet<'i> {
     fn delta(&self, change: &Change) -> i64 {
         self.lawful();
         self.instance.limits_hold();
-        match self.gone_elsewhere(change.cells()) {
-            Some(shift) => shift.total(),
-            None => self.stepwise(change),
+        let cells = change.cells();
+        let mut later = Later::now(&self.tables.counts);
+        let mut total = 0;
+        for (number, cell) in cells.iter().enumerate() {
+            total += step(self.instance, self, &mut later, &cells[..number], cell);
         }
+        total
     }
 
     fn accepts(&self, change: &Change) -> bool {
@@ -553,11 +283,10 @@ impl<'i> Timetable for GridSheet<'i> {
     }
 
     fn apply(&mut self, change: &Change) {
+        self.lawful();
         let cells = change.cells();
-        match cells {
-            [first, second] => self.make_two(cells, first, second),
-            [first, second, third, fourth] => self.make_four(cells, first, second, third, fourth),
-            _ => self.make_each(cells),
+        for cell in cells {
+            self.make(cell);
         }
     }
 

@@ -1,13 +1,12 @@
 //! The counts of a timetable as a change would leave them. Nothing is changed, and no memory is
 //! taken.
 
-ghost use Rattle.std.specs.Prelude.{◌≡◌, ◌<◌, ◌≤◌, ◌+◌, ◌-◌, ◌↔◌, ◌||◌, IsTrue, true, ℕ, [], nat_lt, count_by, length, cond, ◌==◌, ◌++◌, ◌∷◌};
-ghost use Rattle.std.specs.List.{AllByRecursion as Each};
+ghost use Rattle.std.specs.Prelude.{◌≡◌, ◌<◌, ◌≤◌, ◌+◌, ◌-◌, ℕ, [], count_by, length, cond, ◌==◌, ◌++◌, ◌∷◌};
 ghost use Rattle.ctt_text.specs.Problem.{course_count, slot_count, room_count, curriculum_count, members, day_of};
 ghost use Rattle.ctt_text.specs.Timetable.{Fits};
 ghost use Rattle.ctt_board.specs.Joining.{on_day, in_room, in_slot, gain_of, IsSmallJoining};
 ghost use Rattle.ctt_board.specs.Counts.{HaveSizes};
-ghost use Rattle.ctt_board.specs.Seen.{seen_day, seen_room, seen_lectures, seen_part, seen_days, seen_joining, NoneThere, OneThere, is_apart, StandApart};
+ghost use Rattle.ctt_board.specs.Seen.{seen_day, seen_room, seen_lectures, seen_part, seen_days, seen_joining, NoneThere, OneThere};
 
 use crate::counts::Counts;
 use crate::joining::{gain, joining_on};
@@ -82,6 +81,7 @@ fn is_in_slot(instance: &Instance, lecture: &Placed, part: CurriculumNo, slot: S
 }
 
 /// How many of the lectures are of a curriculum in a slot.
+#[inline(always)]
 fn in_slot(instance: &Instance, lectures: &[Placed], part: CurriculumNo, slot: SlotNo) -> u64
     requires few { length lectures.now ≤ 4 }
     requires part { part < curriculum_count instance.now }
@@ -95,22 +95,6 @@ fn in_slot(instance: &Instance, lectures: &[Placed], part: CurriculumNo, slot: S
         }
     }
     count
-}
-
-/// Whether a lecture is in a slot, or more than two away from it.
-fn is_apart(lecture: &Placed, slot: SlotNo) -> bool
-    ensures { result ≡ is_apart slot lecture.now }
-{
-    let own = u32::from(lecture.slot.get());
-    let other = u32::from(slot.get());
-    own == other || (own + 2 < other || other + 2 < own)
-}
-
-/// Whether all are in a slot, or more than two away from it.
-fn are_apart(lectures: &[Placed], slot: SlotNo) -> bool
-    ensures { IsTrue result ↔ Each (λ l. is_apart slot l ≡ true) lectures.now }
-{
-    lectures.iter().all(|lecture| is_apart(lecture, slot))
 }
 
 /// How often a course is named.
@@ -225,14 +209,6 @@ impl<'a> Later<'a> {
         let more = in_slot(instance, &self.added, part, slot);
         let less = in_slot(instance, &self.removed, part, slot);
         (count + more).saturating_sub(less)
-    }
-
-    /// Whether nothing that leaves or comes is in one of the two slots before this one or the two
-    /// after it.
-    pub(crate) fn is_apart(&self, slot: SlotNo) -> bool
-        ensures { result ≡ true → StandApart self.now slot }
-    {
-        are_apart(&self.removed, slot) && are_apart(&self.added, slot)
     }
 
     /// Lets a lecture come. Answers what it adds to the penalty.

@@ -2,7 +2,6 @@
 #![tactic(auto)]
 
 mod after;
-mod beside;
 mod bits;
 mod cell;
 mod change;
@@ -20,10 +19,8 @@ pub mod laws;
 mod list_sheet;
 mod mark_rows;
 mod meeting;
-mod moving;
 mod same_rows;
 mod sheet;
-mod shift;
 mod standing;
 mod table;
 mod tables;

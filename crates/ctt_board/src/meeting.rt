@@ -1,15 +1,13 @@
 //! What one lecture more does to the compactness of its curricula. They have no other lecture in its
 //! slot, so only those in the two slots beside it count, and in the two beyond.
 
-ghost use Rattle.std.specs.Prelude.{◌≡◌, ◌<◌, ◌≤◌, ◌+◌, ◌*◌, nat_lt, cond, sum_by, length, true};
+ghost use Rattle.std.specs.Prelude.{◌≡◌, ◌<◌, ◌≤◌, ◌+◌, ◌-◌, ◌*◌, nat_lt, cond, sum_by, length};
 ghost use Rattle.std.specs.List.{AllByRecursion as Each};
 ghost use Rattle.ctt_text.specs.Problem.{slot_count, curriculum_count, period_of};
-ghost use Rattle.ctt_board.specs.Joining.{alone_beside, stands_alone};
-ghost use Rattle.ctt_board.specs.Beside.{beside_of, near_in};
+ghost use Rattle.ctt_board.specs.Joining.{alone_at, alone_beside, stands_alone, count_before, count_after};
 ghost use Rattle.ctt_board.specs.Counts.{HaveSizes};
-ghost use Rattle.ctt_board.specs.Seen.{seen_part, StandApart};
+ghost use Rattle.ctt_board.specs.Seen.{seen_part};
 
-use crate::beside::{Beside, looked_up, near_in, read_at_once, wanted};
 use crate::later::Later;
 use ctt_text::{CurriculumNo, Instance, SlotNo};
 
@@ -22,47 +20,106 @@ pub(crate) struct Meeting {
     pub(crate) company: u64,
 }
 
-/// None, if there are others, and else so many.
-fn unless_some(others: u64, count: u64) -> u64
-    ensures value { result ≡ cond (nat_lt 0 others) 0 count }
+/// The lectures of a curriculum in the slot before this one, on its day.
+#[tactic(auto, using(crate::proofs::SlotFacts::later_slot, crate::proofs::SlotFacts::earlier_fits))]
+fn before(later: &Later, instance: &Instance, part: CurriculumNo, slot: SlotNo, period: u16) -> u64
+    requires part { part < curriculum_count instance.now }
+    requires slot { slot < slot_count instance.now }
+    requires period { period ≡ period_of instance.now slot }
+    requires sizes { HaveSizes instance.now later.now.counts.now }
+    ensures value { result ≡ count_before instance.now (seen_part instance.now later.now part) slot }
+    ensures bound { result ≤ 5000000000 }
+{
+    if period > 0 {
+        later.in_slot(instance, part, SlotNo::new(slot.get() - 1))
+    } else {
+        0
+    }
+}
+
+/// Those in the slot after this one.
+#[tactic(auto, using(crate::proofs::SlotFacts::next_slot))]
+fn after(later: &Later, instance: &Instance, part: CurriculumNo, slot: SlotNo, period: u16) -> u64
+    requires part { part < curriculum_count instance.now }
+    requires slot { slot < slot_count instance.now }
+    requires period { period ≡ period_of instance.now slot }
+    requires sizes { HaveSizes instance.now later.now.counts.now }
+    ensures value { result ≡ count_after instance.now (seen_part instance.now later.now part) slot }
+    ensures bound { result ≤ 5000000000 }
+{
+    instance.limits_hold();
+    if period + 1 < instance.periods() {
+        later.in_slot(instance, part, SlotNo::new(slot.get() + 1))
+    } else {
+        0
+    }
+}
+
+/// Of the lectures in the slot before this one, which are so many, those that stand alone.
+fn alone_before(
+    later: &Later,
+    instance: &Instance,
+    part: CurriculumNo,
+    slot: SlotNo,
+    period: u16,
+    count: u64,
+) -> u64
+    requires part { part < curriculum_count instance.now }
+    requires slot { slot < slot_count instance.now }
+    requires period { period ≡ period_of instance.now slot }
+    requires sizes { HaveSizes instance.now later.now.counts.now }
+    requires own { seen_part instance.now later.now part slot ≡ 0 }
+    requires count { count ≡ count_before instance.now (seen_part instance.now later.now part) slot }
+    ensures value { result ≡ cond (nat_lt 0 (period_of instance.now slot)) (alone_at instance.now (seen_part instance.now later.now part) (slot - 1)) 0 }
     ensures bound { result ≤ count }
 {
-    if others > 0 { 0 } else { count }
-}
-
-/// What a lecture does to a curriculum, by the lectures beside its slot.
-pub(crate) fn meeting_beside(beside: Beside) -> Meeting
-    requires before { beside.before ≤ 5000000000 }
-    requires after { beside.after ≤ 5000000000 }
-    ensures alone { result.alone ≡ cond (nat_lt 0 (beside.before + beside.after)) 0 1 }
-    ensures company { result.company ≡ cond (nat_lt 0 beside.earlier) 0 beside.before + cond (nat_lt 0 beside.later) 0 beside.after }
-    ensures few { result.alone ≤ 1 }
-    ensures bound { result.company ≤ 10000000000 }
-{
-    Meeting {
-        alone: unless_some(beside.before + beside.after, 1),
-        company: unless_some(beside.earlier, beside.before)
-            + unless_some(beside.later, beside.after),
+    if count == 0 {
+        return 0;
+    }
+    let earlier = SlotNo::new(slot.get() - 1);
+    if before(later, instance, part, earlier, period - 1) > 0 {
+        0
+    } else {
+        count
     }
 }
 
-/// For each of the 32 ways in which the five bits about a slot can stand, two bits from the lowest on:
-/// how many of the lectures beside it stand alone.
-const ALONE_BESIDE: u64 = 0x1010_1010_6565_1010;
-
-/// What a lecture does to a curriculum, by the five bits about its slot.
-pub(crate) fn meeting_in(bits: u64) -> Meeting
-    requires { bits < 32 }
-    ensures alone { result.alone ≡ cond (nat_lt 0 ((beside_of bits).before + (beside_of bits).after)) 0 1 }
-    ensures company { result.company ≡ cond (nat_lt 0 (beside_of bits).earlier) 0 (beside_of bits).before + cond (nat_lt 0 (beside_of bits).later) 0 (beside_of bits).after }
-    ensures few { result.alone ≤ 1 }
-    ensures bound { result.company ≤ 2 }
+/// Of those in the slot after this one.
+fn alone_after(
+    later: &Later,
+    instance: &Instance,
+    part: CurriculumNo,
+    slot: SlotNo,
+    period: u16,
+    count: u64,
+) -> u64
+    requires part { part < curriculum_count instance.now }
+    requires slot { slot < slot_count instance.now }
+    requires period { period ≡ period_of instance.now slot }
+    requires sizes { HaveSizes instance.now later.now.counts.now }
+    requires own { seen_part instance.now later.now part slot ≡ 0 }
+    requires count { count ≡ count_after instance.now (seen_part instance.now later.now part) slot }
+    ensures value { result ≡ cond (nat_lt (period_of instance.now slot + 1) instance.now.periods) (alone_at instance.now (seen_part instance.now later.now part) (slot + 1)) 0 }
+    ensures bound { result ≤ count }
 {
-    let is_alone = bits & 0b01010 == 0;
-    Meeting {
-        alone: wanted(is_alone, 1),
-        company: (ALONE_BESIDE >> (2 * bits)) & 3,
+    if count == 0 {
+        return 0;
     }
+    instance.limits_hold();
+    let next = SlotNo::new(slot.get() + 1);
+    if after(later, instance, part, next, period + 1) > 0 {
+        0
+    } else {
+        count
+    }
+}
+
+/// One, if there are none.
+fn one_if_none(count: u64) -> u64
+    ensures value { result ≡ cond (nat_lt 0 count) 0 1 }
+    ensures bound { result ≤ 1 }
+{
+    if count > 0 { 0 } else { 1 }
 }
 
 /// What a lecture does to a curriculum that has none in its slot.
@@ -72,25 +129,24 @@ fn meeting_of(
     part: CurriculumNo,
     slot: SlotNo,
     period: u16,
-    near: u64,
-    is_apart: bool,
 ) -> Meeting
     requires part { part < curriculum_count instance.now }
     requires slot { slot < slot_count instance.now }
     requires period { period ≡ period_of instance.now slot }
     requires sizes { HaveSizes instance.now later.now.counts.now }
-    requires near { near ≡ near_in (period_of instance.now slot) instance.now.periods }
     requires own { seen_part instance.now later.now part slot ≡ 0 }
-    requires apart { is_apart ≡ true → StandApart later.now slot }
     ensures alone { result.alone ≡ stands_alone instance.now (seen_part instance.now later.now part) slot }
     ensures company { result.company ≡ alone_beside instance.now (seen_part instance.now later.now part) slot }
     ensures few { result.alone ≤ 1 }
     ensures bound { result.company ≤ 10000000000 }
 {
-    if is_apart {
-        meeting_in(read_at_once(later, instance, part, slot, near))
-    } else {
-        meeting_beside(looked_up(later, instance, part, slot, period))
+    let before = before(later, instance, part, slot, period);
+    let after = after(later, instance, part, slot, period);
+    let alone_before = alone_before(later, instance, part, slot, period, before);
+    let alone_after = alone_after(later, instance, part, slot, period, after);
+    Meeting {
+        alone: one_if_none(before + after),
+        company: alone_before + alone_after,
     }
 }
 
@@ -113,13 +169,10 @@ pub(crate) fn meetings(
     ensures few { result.alone ≤ 20000 }
     ensures bound { result.company ≤ 20000 * 10000000000 }
 {
-    instance.limits_hold();
-    let is_apart = later.is_apart(slot);
-    let near = near_in(period, instance.periods());
     let mut alone = 0;
     let mut company = 0;
     for part in parts {
-        let met = meeting_of(later, instance, *part, slot, period, near, is_apart);
+        let met = meeting_of(later, instance, *part, slot, period);
         alone += met.alone;
         company += met.company;
     }

@@ -5,16 +5,14 @@ ghost use Rattle.ctt_text.specs.Problem.{course_count, slot_count};
 ghost use Rattle.ctt_text.specs.Timetable.{with, without, Fits};
 ghost use Rattle.ctt_text.specs.declared.placed.Placed.{Placed};
 ghost use Rattle.ctt_rules.specs.Hard.{Lawful};
-ghost use Rattle.ctt_board.specs.Changes.{CellFits, ChangeFits, ChangesFit, room_at, apply_at, apply, apply_all, steps_of, cells_of};
+ghost use Rattle.ctt_board.specs.Changes.{CellFits, ChangeFits, ChangesFit, room_at, apply_at, apply, apply_all};
 ghost use Rattle.ctt_board.specs.Grids.{listed, AreTables, ArePlaces, HavePlaceSizes};
-ghost use Rattle.ctt_board.specs.Moving.{IsGoing, IsExchange};
 
 use crate::cell::Cell;
 use crate::change::Change;
 use crate::compact::Compact;
 use crate::counts::Counts;
 use crate::mark_rows::MarkRows;
-use crate::moving::Going;
 use crate::table::Table;
 use ctt_text::{CourseNo, Instance, Placed, RoomNo, SlotNo};
 use std::alloc::{AllocError, Global};
@@ -141,39 +139,6 @@ impl Tables {
         instance.limits_hold();
         self.counts.take(instance, lecture);
         self.lift(instance, lecture);
-    }
-
-    /// Lets a lecture go elsewhere.
-    #[inline(always)]
-    pub(crate) fn relocate(&mut self, instance: &Instance, going: &Going)
-        requires tables { AreTables instance.now self.old }
-        requires goes { IsGoing instance.now (listed instance.now self.old.rooms) going.now }
-        requires fits { ChangeFits instance.now (steps_of going.now.from going.now.to) (listed instance.now self.old.rooms) }
-        ensures tables { AreTables instance.now self.new }
-        ensures list { listed instance.now self.new.rooms ≡ apply (steps_of going.now.from going.now.to) (listed instance.now self.old.rooms) }
-    {
-        instance.limits_hold();
-        self.counts.relocate(instance, going);
-        self.lift(instance, &going.from);
-        self.lay(instance, &going.to);
-    }
-
-    /// Lets two lectures go elsewhere whose courses share no curriculum.
-    #[inline(always)]
-    pub(crate) fn exchange(&mut self, instance: &Instance, one: &Going, other: &Going)
-        requires tables { AreTables instance.now self.old }
-        requires go { IsExchange instance.now (listed instance.now self.old.rooms) one.now other.now }
-        requires fits { ChangeFits instance.now (cells_of one.now.from other.now.from one.now.to other.now.to) (listed instance.now self.old.rooms) }
-        ensures tables { AreTables instance.now self.new }
-        ensures list { listed instance.now self.new.rooms ≡ apply (cells_of one.now.from other.now.from one.now.to other.now.to) (listed instance.now self.old.rooms) }
-    {
-        instance.limits_hold();
-        self.counts.relocate(instance, one);
-        self.counts.relocate(instance, other);
-        self.lift(instance, &one.from);
-        self.lift(instance, &other.from);
-        self.lay(instance, &one.to);
-        self.lay(instance, &other.to);
     }
 
     /// Makes a cell.

@@ -1,14 +1,8 @@
-use Rattle.std.proofs.Common.{ℕ, ◌≡◌, sym, subst, ap, arith}
+use Rattle.std.proofs.Common.{ℕ, ap, arith}
 use Rattle.std.proofs.lemmas.List.Sums.{sum_by_more}
-use Rattle.ctt_text.proofs.TimetableLemmas.{Each-at}
 use Rattle.ctt_board.specs.Joining.{stands_alone, alone_beside}
 use Rattle.ctt_board.specs.Seen.{seen_part}
 use Rattle.ctt_board.proofs.meeting.meetings.Goals as goal
-
-pub meeting_of-met-requires-clause-own : goal.meeting_of-met-requires-clause-own
-meeting_of-met-requires-clause-own c =
-    subst (λ q. seen_part c.args.instance.now c.args.later.now q c.args.slot ≡ 0) (sym c.part-item.is)
-    (Each-at (λ q. seen_part c.args.instance.now c.args.later.now q c.args.slot ≡ 0) c.args.parts.now c.requires.own c.loop-part.part-index c.part-item.result c.loop-part-test.true)
 
 pub loop-part-preserved : goal.loop-part-preserved
 loop-part-preserved c =

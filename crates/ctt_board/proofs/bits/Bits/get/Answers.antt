@@ -2,34 +2,27 @@ use Rattle.std.proofs.Common.{◌<◌, ◌+◌, ◌*◌, ◌/◌, ◌∙◌, ap,
 use Rattle.std.proofs.lemmas.Int.{ints}
 use Rattle.ctt_text.proofs.TableLemmas.{same_element}
 use Rattle.ctt_board.specs.Tables.{Grid}
-use Rattle.ctt_board.proofs.BitLemmas.{small, there, read_bit, place_small}
+use Rattle.ctt_board.proofs.BitLemmas.{small, there, read_bit}
 use Rattle.ctt_board.proofs.bits.Bits.get.Goals as goal
 
-pub overflow_add-place : goal.overflow_add-place
-overflow_add-place c =
+pub overflow_mul-number : goal.overflow_mul-number
+overflow_mul-number c =
     let v = c.self.inside in
     let row : c.args.row < v.rows = omega (arith, ap (λ (t : Grid _). t.rows) c.self.view_is, c.requires.row) in
     let column : c.args.column < v.width = omega (arith, ap (λ (t : Grid _). t.width) c.self.view_is, c.requires.column) in
-    omega (arith, ints, place_small v.rows v.width v.stride c.args.row c.args.column v.words.items row column c.self.invariant)
-
-pub overflow_mul-start : goal.overflow_mul-start
-overflow_mul-start c =
-    let v = c.self.inside in
-    let row : c.args.row < v.rows = omega (arith, ap (λ (t : Grid _). t.rows) c.self.view_is, c.requires.row) in
-    let column : c.args.column < v.width = omega (arith, ap (λ (t : Grid _). t.width) c.self.view_is, c.requires.column) in
-    omega (arith, ints, small v.rows v.width v.stride c.args.row c.args.column v.words.items row column c.self.invariant)
+    omega (arith, ints, small v.rows v.width c.args.row c.args.column v.words.items row column c.self.invariant)
 
 pub overflow_add-number : goal.overflow_add-number
 overflow_add-number c =
     let v = c.self.inside in
     let row : c.args.row < v.rows = omega (arith, ap (λ (t : Grid _). t.rows) c.self.view_is, c.requires.row) in
     let column : c.args.column < v.width = omega (arith, ap (λ (t : Grid _). t.width) c.self.view_is, c.requires.column) in
-    omega (arith, ints, small v.rows v.width v.stride c.args.row c.args.column v.words.items row column c.self.invariant)
+    omega (arith, ints, small v.rows v.width c.args.row c.args.column v.words.items row column c.self.invariant)
 
 pub returns-clause-value : goal.returns-clause-value
 returns-clause-value c =
     let v = c.self.inside in
     let row : c.args.row < v.rows = omega (arith, ap (λ (t : Grid _). t.rows) c.self.view_is, c.requires.row) in
     let column : c.args.column < v.width = omega (arith, ap (λ (t : Grid _). t.width) c.self.view_is, c.requires.column) in
-    let at_word = there v.rows v.width v.stride c.args.row c.args.column v.words.items row column c.self.invariant in
-    rw (← c.self.view_is) (read_bit v.rows v.width v.stride c.args.row c.args.column v.words.items row column c.self.invariant _ (c.index-word.ensures ∙ same_element v.words.items (c.args.row * v.stride + (c.args.column + 2) / 64) _ 0 at_word))
+    let at_word = there v.rows v.width c.args.row c.args.column v.words.items row column c.self.invariant in
+    rw (← c.self.view_is) (read_bit v.rows v.width c.args.row c.args.column v.words.items row column c.self.invariant _ (c.index-word.ensures ∙ same_element v.words.items ((c.args.row * v.width + c.args.column) / 64) _ 0 at_word))

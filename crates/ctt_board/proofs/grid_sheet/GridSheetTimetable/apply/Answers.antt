@@ -3,23 +3,23 @@ use Rattle.ctt_rules.specs.Hard.{Lawful}
 use Rattle.ctt_board.specs.Changes.{apply, apply_at, CellsFit}
 use Rattle.ctt_board.proofs.BetweenLemmas.{ready, fits_more}
 use Rattle.ctt_board.proofs.CellLemmas.{made_more, turn_more}
-use Rattle.ctt_board.proofs.grid_sheet.GridSheet.make_each.Goals as goal
+use Rattle.ctt_board.proofs.grid_sheet.GridSheetTimetable.apply.Goals as goal
 
 pub make-requires-clause-course : goal.make-requires-clause-course
 make-requires-clause-course c =
-    (ready c.loop-cell.self.problem c.args.cells.now c.loop-cell.cell-index c.cell-item.result c.loop-cell.self.list c.loop-cell-test.true c.cell-item.is c.loop-cell.invariant.lawful c.loop-cell.invariant.turn c.loop-cell.invariant.fits c.loop-cell.invariant.after).course
+    (ready c.loop-cell.self.problem c.cells-cells.result.now c.loop-cell.cell-index c.cell-item.result c.loop-cell.self.list c.loop-cell-test.true c.cell-item.is c.loop-cell.invariant.lawful c.loop-cell.invariant.turn c.loop-cell.invariant.fits c.loop-cell.invariant.after).course
 
 pub make-requires-clause-slot : goal.make-requires-clause-slot
 make-requires-clause-slot c =
-    (ready c.loop-cell.self.problem c.args.cells.now c.loop-cell.cell-index c.cell-item.result c.loop-cell.self.list c.loop-cell-test.true c.cell-item.is c.loop-cell.invariant.lawful c.loop-cell.invariant.turn c.loop-cell.invariant.fits c.loop-cell.invariant.after).slot
+    (ready c.loop-cell.self.problem c.cells-cells.result.now c.loop-cell.cell-index c.cell-item.result c.loop-cell.self.list c.loop-cell-test.true c.cell-item.is c.loop-cell.invariant.lawful c.loop-cell.invariant.turn c.loop-cell.invariant.fits c.loop-cell.invariant.after).slot
 
 pub make-requires-clause-lawful : goal.make-requires-clause-lawful
 make-requires-clause-lawful c =
-    (ready c.loop-cell.self.problem c.args.cells.now c.loop-cell.cell-index c.cell-item.result c.loop-cell.self.list c.loop-cell-test.true c.cell-item.is c.loop-cell.invariant.lawful c.loop-cell.invariant.turn c.loop-cell.invariant.fits c.loop-cell.invariant.after).lawful
+    (ready c.loop-cell.self.problem c.cells-cells.result.now c.loop-cell.cell-index c.cell-item.result c.loop-cell.self.list c.loop-cell-test.true c.cell-item.is c.loop-cell.invariant.lawful c.loop-cell.invariant.turn c.loop-cell.invariant.fits c.loop-cell.invariant.after).lawful
 
 pub loop-cell-preserved : goal.loop-cell-preserved
 loop-cell-preserved c =
-    let cells = c.args.cells.now in
+    let cells = c.cells-cells.result.now in
     let k = c.loop-cell.cell-index in
     let x = c.cell-item.result in
     let t = c.loop-cell.self.list in

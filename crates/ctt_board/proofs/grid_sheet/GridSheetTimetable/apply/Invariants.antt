@@ -1,7 +1,7 @@
 use Rattle.std.proofs.Common.{◌≡◌, true, false, drop}
 use Rattle.ctt_rules.specs.Hard.{Lawful}
 use Rattle.ctt_board.specs.Changes.{in_turn, apply, CellsFit}
-use Rattle.ctt_board.proofs.grid_sheet.GridSheet.make_each.Given as goal
+use Rattle.ctt_board.proofs.grid_sheet.GridSheetTimetable.apply.Given as goal
 
 abbrev pub invariant-loop-cell : goal.invariant-loop-cell
 invariant-loop-cell l = record {

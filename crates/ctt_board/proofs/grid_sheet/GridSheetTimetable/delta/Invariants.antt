@@ -2,7 +2,7 @@ use Rattle.std.proofs.Common.{◌≡◌, take, pos, ◌-ℤ◌}
 use Rattle.ctt_rules.specs.Penalty.{penalty, total}
 use Rattle.ctt_board.specs.Changes.{apply}
 use Rattle.ctt_board.specs.Seen.{Sees, HasPlaces}
-use Rattle.ctt_board.proofs.grid_sheet.GridSheet.stepwise.Given as goal
+use Rattle.ctt_board.proofs.grid_sheet.GridSheetTimetable.delta.Given as goal
 
 abbrev pub invariant-loop-number : goal.invariant-loop-number
 invariant-loop-number l = record {
