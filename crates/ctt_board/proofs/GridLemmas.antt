@@ -19,7 +19,7 @@ use Rattle.ctt_rules.proofs.TimetableLemmas.{row_by_slot}
 use Rattle.ctt_board.specs.Changes.{room_at, apply_at, CellFits}
 use Rattle.ctt_board.specs.Cells.{lecture_at, row_below}
 use Rattle.ctt_board.specs.Tables.{Grid, at}
-use Rattle.ctt_board.specs.Counts.{AreCounts, HaveSizes, HasSize}
+use Rattle.ctt_board.specs.Counts.{AreCounts, HasSize}
 use Rattle.ctt_board.specs.Grids.{rows_below, column_below, listed, AreRooms, AreHolders, AreStanding, AreTables}
 use Rattle.ctt_board.specs.declared.counts.Counts.{Counts}
 use Rattle.ctt_board.specs.declared.tables.Tables.{Tables}

@@ -11,7 +11,6 @@ use Rattle.ctt_text.specs.Timetable.{before}
 use Rattle.ctt_text.specs.declared.placed.Placed.{Placed}
 use Rattle.ctt_text.proofs.TimetableLemmas.{Each-at, Each-map}
 use Rattle.ctt_rules.specs.Hard.{Lawful, conflicts}
-use Rattle.ctt_rules.specs.Neighbours.{is_beside}
 use Rattle.ctt_rules.proofs.SumLemmas.{count_by-cons}
 use Rattle.ctt_board.specs.Joining.{IsMore, in_slot, by_slot, alone_at, stands_alone, count_before, count_after}
 use Rattle.ctt_board.specs.Seen.{Sees, seen_part, NoneThere, OneThere}

@@ -10,7 +10,7 @@ use Rattle.ctt_board.specs.Changes.{room_at}
 use Rattle.ctt_board.specs.Joining.{IsMore, Joins, joining, with_joining, without_joining}
 use Rattle.ctt_board.specs.Counts.{AreCounts, HaveLecture}
 use Rattle.ctt_board.specs.Seen.{Sees, seen_joining}
-use Rattle.ctt_board.specs.Grids.{listed, AreTables, ArePlaces, HavePlaceSizes, IsGridSheet}
+use Rattle.ctt_board.specs.Grids.{listed, AreTables, ArePlaces, IsGridSheet}
 use Rattle.ctt_board.specs.declared.counts.Counts.{Counts}
 use Rattle.ctt_board.specs.declared.joining.Joining.{Joining}
 use Rattle.ctt_board.specs.declared.later.Later.{Later}
