@@ -51,12 +51,17 @@ cp -- "$here"/examples/*.ctt "$here"/examples/*.sol "$here"/examples/*.txt "$roo
 cd -- "$room" || exit 1
 head -n 4 s.sol >s0.sol
 printf '%s\n' 'journal 1' 'entry 0 2' 'place top A 0 1' 'refused roomtaken geo' 'slot 0 0' 'lectures 1 alg A 0 0' END. >told
+echo 'Barred: 2 alg A top A END.' >barred
+# a draft that is brought up to date, and one that turns out to be stale
+printf '%s\n' '0 open' '0 place geo A 0 1' '2 open' '2 slot 0 2' '1 open' '1 place top B 0 2' '1 commit' '0 refresh' '2 refresh' '0 slot 0 2' \
+    '0 commit' >refreshed
 
 passed=0
 failed=0
 for words in 'check small.ctt s.sol' 'check small.ctt s.sol --json' 'check comp07.ctt comp07.sol' 'check small.ctt small.ctt' \
-    'check nowhere s.sol' 'run small.ctt row9.txt' 'run small.ctt row9.txt --start s0.sol --journal journal' 'audit small.ctt told --start s0.sol' \
-    --help frobnicate; do
+    'check nowhere s.sol' 'check small.ctt s.sol --barred barred' 'run small.ctt row9.txt' \
+    'run small.ctt row9.txt --start s0.sol --journal journal' 'run small.ctt refreshed --barred barred --journal journal' \
+    'audit small.ctt told --start s0.sol' --help frobnicate; do
     LD_PRELOAD=$room/refuse.so ASKED=$room/asked "$program" $words >out 2>err
     wanted=$?
     asked=$(od -An -t d8 asked)

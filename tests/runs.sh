@@ -331,13 +331,18 @@ complete no
 barred_json='{"availability":0,"barred":1,"capacity":15,"compactness":4,"complete":false,"conflicts":0,"days":0,"instance":"Small","lawful":false,"lectures":0,"occupancy":0,"stability":1,"total":20}
 '
 echo 'Barred: 1 alg A END. and more' >barred
+echo 'journal 0 END.' >empty.journal
 run 'a lecture in a barred room' 0 "$barred_report" '' check small.ctt s.sol --barred barred
 run 'a lecture in a barred room, as JSON' 0 "$barred_json" '' check small.ctt s.sol --json --barred barred
 run 'an opening in a barred room' 1 '' 'timedesk: opening 1 barred
 ' run small.ctt row9.txt --start s.sol --barred barred
+run 'an opening of an audit in a barred room' 1 '' 'timedesk: opening 1 barred
+' audit small.ctt empty.journal --start s.sol --barred barred
 echo 'Barred: 2 top A top A END.' >barred
 run 'barred rooms without a lecture' 0 "${report/occupancy 0/occupancy 0
 barred 0}" '' check small.ctt s.sol --barred barred
+echo 'Barred: 4 top A top A alg A alg A END.' >barred
+run 'a pair named twice, and one behind it' 0 "$barred_report" '' check small.ctt s.sol --barred barred
 echo 'Barred: 0 END.' >barred
 run 'no barred room' 0 "$report" '' check small.ctt s.sol --barred barred
 run 'no barred room, as JSON' 0 "$json" '' check small.ctt s.sol --json --barred barred
@@ -346,22 +351,38 @@ refuses_barred() {
     printf '%s' "$1" >told.barred
     run "the barred rooms $1" 1 '' "timedesk: barred $2"$'\n' check small.ctt s.sol --barred told.barred
 }
-refuses_barred '' 'B2 1'
+# shellcheck disable=SC2206
+words=(Barred: 2 top A alg B END.)
+for ((count = 0; count < ${#words[@]}; count++)); do
+    refuses_barred "${words[*]:0:count}" "B2 $((count + 1))"
+done
 refuses_barred 'Barred: 1 top' 'B2 4'
 refuses_barred 'Barred: 2 top A END.' 'B6 5'
 refuses_barred 'Barred: 1 top C END.' 'B7 4'
+refuses_barred 'Barred: 2000000' 'B2 3'
 refuses_barred 'Barred: 2000001' 'B5 2'
 refuses_barred 'Barred: 1000000000' 'B4 2'
+refuses_barred 'Barred: -1' 'B4 2'
 refuses_barred 'Barred: x' 'B4 2'
+refuses_barred 'Barred: 0 top A END.' 'B3 3'
+refuses_barred 'Barred: 1 A A END.' 'B6 3'
+refuses_barred 'Barred: 1 top top END.' 'B7 4'
 refuses_barred 'barred: 0 END.' 'B3 1'
 refuses_barred 'Barred: 0 END' 'B3 3'
-refuses_barred $'Barred: 0 END. \xff' 'B1 15'
-run 'barred rooms are read before the solution' 1 '' 'timedesk: barred B1 15
-' check small.ctt none.sol --barred told.barred
-run 'barred rooms of an audit' 1 '' 'timedesk: barred B1 15
-' audit small.ctt none --barred told.barred
-run 'barred rooms of a crew' 1 '' 'timedesk: barred B1 15
-' crew small.ctt none --barred told.barred
+refuses_barred $'Barred: 1 top nowhere \xff' 'B1 22'
+# the file of the barred rooms is read behind the instance and before any other, whatever the command
+for words in 'check small.ctt nowhere' 'run small.ctt nowhere --start nowhere --journal unwritten' 'audit small.ctt nowhere --start nowhere' \
+    'crew small.ctt nowhere nowhere'; do
+    # shellcheck disable=SC2086
+    run "barred rooms that are refused: $words" 1 '' 'timedesk: barred B1 22
+' $words --barred told.barred
+    # shellcheck disable=SC2086
+    run "barred rooms that are missing: $words" 3 '' 'timedesk: cannot read none
+' $words --barred none
+    # shellcheck disable=SC2086
+    run "barred rooms behind an instance that is refused: $words" 1 '' 'timedesk: instance I2 14
+' ${words/small.ctt/cut.ctt} --barred none
+done
 # other layouts
 sed -e 's/: 3/: 0003/' -e 's/ /\t/g' -e 's/$/\r\n/' small.ctt >told.ctt
 printf 'and more \xc3\xa4' >>told.ctt
@@ -397,6 +418,10 @@ run 'no script' 2 '' "$no_script" run small.ctt
 run 'no journal' 2 '' "$no_journal" audit small.ctt
 run 'no script of a crew' 2 '' "$no_scripts" crew small.ctt
 run 'an option without its value' 2 '' "$no_value" run small.ctt row9.txt --journal
+for words in 'check small.ctt s.sol' 'run small.ctt row9.txt' 'audit small.ctt journal' 'crew small.ctt row9.txt'; do
+    # shellcheck disable=SC2086
+    run "barred rooms without a file: $words" 2 '' "${no_value/--journal/--barred}" $words --barred
+done
 run 'an unknown option' 2 '' "$unknown_option" check small.ctt s.sol --xml
 run 'words that are not text' 2 '' 'timedesk: words that are not text
 ' check small.ctt $'\xff'
@@ -412,6 +437,20 @@ run 'a folder as a file' 3 '' 'timedesk: cannot read folder
 truncate -s 67108865 longer
 run 'a file that is too long' 3 '' 'timedesk: too long longer
 ' check longer s.sol
+run 'barred rooms that are a folder' 3 '' 'timedesk: cannot read folder
+' check small.ctt s.sol --barred folder
+run 'barred rooms that are too long' 3 '' 'timedesk: too long longer
+' check small.ctt s.sol --barred longer
+run 'an instance without an end' 3 '' 'timedesk: too long /dev/zero
+' check /dev/zero nowhere
+run 'a solution without an end' 3 '' 'timedesk: too long /dev/zero
+' check small.ctt /dev/zero
+run 'a journal without an end' 3 '' 'timedesk: too long /dev/zero
+' audit small.ctt /dev/zero --start s.sol
+run 'a script without an end' 3 '' 'timedesk: too long /dev/zero
+' run small.ctt /dev/zero --journal unwritten
+run 'a script of a crew without an end' 3 '' 'timedesk: too long /dev/zero
+' crew small.ctt row9.txt /dev/zero
 # days of several planners
 head -n 4 s.sol >s0.sol
 
@@ -612,6 +651,40 @@ END.
 0 open -> opened
 0 refresh -> refreshed
 0 commit -> committed 4
+DAY
+# The lines and the journal of a draft that is brought up to date behind each of a hundred commits of another planner, and changed
+# in between, and is then accepted.
+hundred=$'0 open -> opened\n'
+accepted=
+changes=
+for ((turn = 1; turn <= 100; turn++)); do
+    call='place top B 1 1'
+    change='place geo A 0 1'
+    if [ $((turn % 2)) = 0 ]; then
+        call='drop top 1 1'
+        change='drop geo 0 1'
+    fi
+    hundred+="0 $change -> done
+1 open -> opened
+1 $call -> done
+1 commit -> committed $turn
+0 refresh -> refreshed
+"
+    accepted+=$'entry 1 1\n'"$call"$'\ndone\n'
+    changes+="$change"$'\ndone\n'
+done
+day 'a hundred refreshes' '' "journal 101
+${accepted}entry 0 102
+${changes}slot 1 1
+lectures 0
+place geo B 0 2
+done
+END.
+" <<DAY
+${hundred}0 slot 1 1 -> lectures 0
+0 place geo B 0 2 -> done
+0 commit -> committed 101
+show cost -> costs 0 15 2 0
 DAY
 echo 'Barred: 1 top A END.' >top_a
 day 'barred edits' '--start s0.sol --barred top_a' 'journal 1
@@ -835,6 +908,16 @@ place geo A 0 1
 commit
 '
 crew 'a crew of two' "$(each_of 2 $'opened\nabandoned\n')"$'\njournal 0\ncosts 0 20 0 0\n' $'open\nabandon\n' $'open\nabandon\n'
+crew 'a crew of which one commits' 'planner 0
+opened
+done
+committed 1
+planner 1
+opened
+abandoned
+journal 1
+costs 0 15 2 0
+' $'open\nplace geo A 0 1\ncommit\n' $'open\nabandon'
 crew 'a draft that is left open' 'planner 0
 opened
 done
@@ -870,6 +953,16 @@ opened
 journal 0
 costs 0 20 0 0
 ' '' 'open'
+
+printf 'open\nplace top A 0 1\nplace top B 0 1\ncommit\n' >crew0
+run 'a crew with barred rooms' 0 'planner 0
+opened
+refused barred
+done
+committed 1
+journal 1
+costs 10 15 0 0
+' '' crew small.ctt crew0 --barred top_a
 
 # 64 planners who commit nothing are told the same, whoever comes first
 printf 'show cost\nopen\nprice place geo A 0 1\nplace geo A 0 1\ncost\nabandon\n' >alone
@@ -962,8 +1055,14 @@ for words in 'run small.ctt row9.txt --journal unwritten' 'audit small.ctt refus
 done
 run 'the script is opened before the start is read' 3 '' 'timedesk: cannot read nowhere
 ' run small.ctt nowhere --start twice.sol
-run 'the journal is read before the start' 1 '' 'timedesk: journal J2 1
-' audit small.ctt /dev/null --start twice.sol
+run 'the start is read before the script' 1 '' 'timedesk: solution S8 8
+' run small.ctt folder --start twice.sol
+run 'the start is placed before the script is read' 1 '' 'timedesk: opening 2 clash alg
+' run small.ctt folder --start clash.sol
+for start in twice.sol clash.sol nowhere; do
+    run "the journal is read before the start: $start" 1 '' 'timedesk: journal J2 1
+' audit small.ctt /dev/null --start "$start"
+done
 run 'the instance is read before the script' 1 '' 'timedesk: instance I2 14
 ' run cut.ctt nowhere
 run 'a journal that is missing' 3 '' 'timedesk: cannot read nowhere
@@ -974,7 +1073,7 @@ run 'a script that is too long' 3 '' 'timedesk: too long longer
 ' run small.ctt longer --journal unwritten
 run 'a journal that is too long' 3 '' 'timedesk: too long longer
 ' audit small.ctt longer
-run 'a journal that cannot be stored' 3 'opened
+answers='opened
 lectures 0
 done
 opened
@@ -982,28 +1081,88 @@ done
 committed 1
 stale slot 0 2
 costs 10 15 0 0
-' 'timedesk: cannot write
-' run small.ctt row9.txt --journal no/folder
+'
+for journal in no/folder folder /dev/full; do
+    run "a journal that cannot be stored: $journal" 3 "$answers" 'timedesk: cannot write
+' run small.ctt row9.txt --journal "$journal"
+done
+seq 1000 >journal
+run 'a journal in place of a longer file' 0 "$answers" '' run small.ctt row9.txt --journal journal
+printf 'journal 1\nentry 1 1\nplace top B 0 2\ndone\nEND.\n' >wanted
+cmp -s wanted journal
+judge 'what the journal took the place of' $? 0 "$answers" ''
 
-# a full device
+# output that fails at once: on a full device, in a pipe that nobody reads, and where there is none
+mkfifo unread
+exec 3<>unread
+exec 4>unread 3>&-
 for words in 'check small.ctt s.sol' 'run small.ctt row9.txt --journal unwritten' 'audit small.ctt refused' 'crew small.ctt alone alone' --help; do
-    (exec -a timedesk "$program" $words) >/dev/full 2>err
+    read -ra words <<<"$words"
+    (exec -a timedesk "$program" "${words[@]}") >/dev/full 2>err
     status=$?
     : >out
-    judge "$words on a full device" "$status" 3 '' 'timedesk: cannot write
+    judge "${words[*]} on a full device" "$status" 3 '' 'timedesk: cannot write
+'
+    (exec -a timedesk "$program" "${words[@]}") >&4 2>err
+    judge "${words[*]} in a pipe that nobody reads" $? 3 '' 'timedesk: cannot write
+'
+    (exec -a timedesk "$program" "${words[@]}") >&- 2>err
+    judge "${words[*]} without an output" $? 3 '' 'timedesk: cannot write
 '
 done
+exec 4>&-
+
+# output and a journal that fail half way: a file takes 1,024 bytes
+printf '0 open\n%s\n0 commit\n' "$(turns 200 '0 ' $'\n' | grep '^0')" >script
+answers=$'opened\n'"$(yes 'done' | head -n 400)"$'\ncommitted 1\n'
+(
+    ulimit -f 1
+    trap '' XFSZ
+    exec -a timedesk "$program" run small.ctt script --journal unwritten
+) >out 2>err
+judge 'answers that are longer than the file takes' $? 3 "${answers:0:1024}" 'timedesk: cannot write
+'
+{
+    (
+        ulimit -f 1
+        trap '' XFSZ
+        exec -a timedesk "$program" run small.ctt script --journal journal
+    ) 2>err
+    echo "$?" >status
+} | cat >out
+judge 'a journal that is longer than its file takes' "$(<status)" 3 "$answers" 'timedesk: cannot write
+'
+printf 'journal 1\nentry 0 400\n%s' "$(turns 200 '' $'\n')" | head -c 1024 | cmp -s - journal
+judge 'the front of that journal' $? 0 "$answers" 'timedesk: cannot write
+'
 
 if [ -e unwritten ]; then
     failed=$((failed + 1))
     echo 'FAILED: a journal was stored although the script was not answered'
 fi
 
-# a standard error that fails changes no status
-(exec -a timedesk "$program" check cut.ctt s.sol) >out 2>/dev/full
-status=$?
-: >err
-judge 'a fault that cannot be said' "$status" 1 '' ''
+# a standard error that fails, that is not there, or that fails half way, changes no status
+for words in '1 check cut.ctt s.sol' '2 frobnicate' '3 check nowhere s.sol'; do
+    read -r wanted words <<<"$words"
+    read -ra words <<<"$words"
+    (exec -a timedesk "$program" "${words[@]}") >out 2>/dev/full
+    status=$?
+    : >err
+    judge "a fault that cannot be said: ${words[*]}" "$status" "$wanted" '' ''
+    (exec -a timedesk "$program" "${words[@]}") >out 2>&-
+    judge "a fault without a standard error: ${words[*]}" $? "$wanted" '' ''
+    head -c 1020 /dev/zero >said
+    (
+        ulimit -f 1
+        trap '' XFSZ
+        exec -a timedesk "$program" "${words[@]}"
+    ) >out 2>>said
+    status=$?
+    tail -c +1021 said >err
+    front=erro
+    [ "$wanted" = 2 ] || front='time'
+    judge "a fault that is said half way: ${words[*]}" "$status" "$wanted" '' "$front"
+done
 
 echo "$passed passed, $failed failed"
 [ "$failed" = 0 ]

@@ -1,6 +1,5 @@
 -- What the program has done where it ends well, and what was the cause where it did not.
-use Rattle.std.specs.Prelude.{◌≡◌, ◌⊎◌, ◌<◌, ◌≤◌, ℕ, Bool, true, List, [], Option, IfSome, length}
-use Rattle.std.specs.String.{string_bytes}
+use Rattle.std.specs.Prelude.{◌≡◌, ◌⊎◌, ◌<◌, ◌≤◌, Bool, true, List, [], Option, length}
 use Rattle.clap.specs.Words.{Text}
 use Rattle.ctt_tool.specs.Audits.{AuditsJournal, IsRefusedAudit}
 use Rattle.ctt_tool.specs.Checks.{IsRefusedCheck, PrintsReport}

@@ -22,7 +22,7 @@ use crate::texts::{fetch_instance, fetch_start};
 use ctt_board::{GridSheet, Sheet};
 use ctt_core::Verdict;
 use ctt_script::{Sink, audit_journal, read_journal};
-use ctt_text::{Instance, Placed};
+use ctt_text::{Instance, Placed, let_go};
 use std::alloc::Global;
 
 /// Prints a verdict, unless it is that the opening is refused.
@@ -157,5 +157,7 @@ pub fn audit<F: Files, W: Sink>(
         → IsRefusedAudit (F.held files.old) instance barred journal start) }
 {
     let instance = fetch_instance(alloc, files, instance, barred)?;
-    audit_on::<GridSheet, F, W>(alloc, files, out, &instance, journal, start)
+    let audited = audit_on::<GridSheet, F, W>(alloc, files, out, &instance, journal, start);
+    let_go(instance);
+    audited
 }

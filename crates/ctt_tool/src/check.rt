@@ -13,7 +13,7 @@ use crate::files::Files;
 use crate::output::print;
 use crate::texts::{fetch_instance, fetch_solution};
 use ctt_script::{Sink, report_json, report_text};
-use ctt_text::{Instance, NoMemory, Placed};
+use ctt_text::{Instance, NoMemory, Placed, let_go};
 use std::alloc::Global;
 
 /// The report on a timetable, as text or as JSON.
@@ -72,7 +72,9 @@ fn report_on<F: Files>(
         → IsRefusedCheck (F.held files.old) instance barred solution) }
 {
     let instance = fetch_instance(alloc, files, instance, barred)?;
-    report_for(alloc, files, &instance, solution, json)
+    let report = report_for(alloc, files, &instance, solution, json);
+    let_go(instance);
+    report
 }
 
 /// Prints the report on a solution of an instance, each given by the name of its file.

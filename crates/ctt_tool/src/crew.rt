@@ -13,7 +13,7 @@ use crate::files::{Files, read_files};
 use crate::output::print;
 use crate::texts::fetch_instance;
 use ctt_script::{NoGate, Sink};
-use ctt_text::Instance;
+use ctt_text::{Instance, let_go};
 use std::alloc::Global;
 use std::marker::Sync;
 use std::sync::Wait;
@@ -80,7 +80,9 @@ fn report<R: Threads + Wait + Sync, F: Files>(
     ensures cause { IfErr result (λ fault. status_of fault ≡ 1 → IsNoInstanceIn (F.held files.old) instance barred) }
 {
     let instance = fetch_instance(alloc, files, instance, barred)?;
-    answers_on(rt, alloc, files, &instance, scripts)
+    let answers = answers_on(rt, alloc, files, &instance, scripts);
+    let_go(instance);
+    answers
 }
 
 /// Runs scripts on one desk of an instance, which opens empty, each by a planner on a thread of his own,

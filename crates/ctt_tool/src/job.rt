@@ -9,6 +9,7 @@ ghost use Rattle.ctt_tool.specs.declared.job.WordsFault.TheVariants.{NoMemory};
 
 use clap::error::ErrorKind;
 use clap::{Arg, ArgAction, ArgMatches, Command};
+use ctt_text::let_go;
 use std::alloc::{AllocError, Global};
 
 /// What the program is asked to do. Files are given by their names; `barred` is that of the rooms that are
@@ -111,12 +112,15 @@ fn valued_argument<'a>(alloc: Global, id: &'a str, name: &'a str, help: &'a str)
 fn check_command<'a>(alloc: Global) -> Result<Command<'a>, AllocError>
     ensures { IfOk result (IsCommand check) }
 {
+    let arguments = vec![in alloc;
+        instance_argument(alloc),
+        file_argument(alloc, "solution", "SOLUTION", "The file of the solution"),
+        barred_argument(alloc),
+        flag_argument(alloc, "json", "Print the report as JSON"),
+    ]?;
     Command::new(alloc, "check")
         .about("Report what a solution breaks and what it costs")
-        .arg(instance_argument(alloc))?
-        .arg(file_argument(alloc, "solution", "SOLUTION", "The file of the solution"))?
-        .arg(barred_argument(alloc))?
-        .arg(flag_argument(alloc, "json", "Print the report as JSON"))
+        .args(arguments)
 }
 
 /// The file of the instance, which each command wants first.
@@ -157,51 +161,60 @@ fn start_argument<'a>(alloc: Global) -> Arg<'a>
 fn run_command<'a>(alloc: Global) -> Result<Command<'a>, AllocError>
     ensures { IfOk result (IsCommand run) }
 {
-    Command::new(alloc, "run")
-        .about("Run a script of planners' steps and print the answers")
-        .arg(instance_argument(alloc))?
-        .arg(file_argument(alloc, "script", "SCRIPT", "The file of the planners' steps"))?
-        .arg(barred_argument(alloc))?
-        .arg(start_argument(alloc))?
-        .arg(valued_argument(
+    let arguments = vec![in alloc;
+        instance_argument(alloc),
+        file_argument(alloc, "script", "SCRIPT", "The file of the planners' steps"),
+        barred_argument(alloc),
+        start_argument(alloc),
+        valued_argument(
             alloc,
             "journal",
             "FILE",
             "The file to write with the drafts that were accepted",
-        ))
+        ),
+    ]?;
+    Command::new(alloc, "run")
+        .about("Run a script of planners' steps and print the answers")
+        .args(arguments)
 }
 
 /// The command `audit`.
 fn audit_command<'a>(alloc: Global) -> Result<Command<'a>, AllocError>
     ensures { IfOk result (IsCommand audit) }
 {
-    Command::new(alloc, "audit")
-        .about("Say whether a journal was told what its drafts are told, run one after another")
-        .arg(instance_argument(alloc))?
-        .arg(file_argument(
+    let arguments = vec![in alloc;
+        instance_argument(alloc),
+        file_argument(
             alloc,
             "journal",
             "JOURNAL",
             "The file of the accepted drafts",
-        ))?
-        .arg(barred_argument(alloc))?
-        .arg(start_argument(alloc))
+        ),
+        barred_argument(alloc),
+        start_argument(alloc),
+    ]?;
+    Command::new(alloc, "audit")
+        .about("Say whether a journal was told what its drafts are told, run one after another")
+        .args(arguments)
 }
 
 /// The command `crew`.
 fn crew_command<'a>(alloc: Global) -> Result<Command<'a>, AllocError>
     ensures { IfOk result (IsCommand crew) }
 {
-    Command::new(alloc, "crew")
-        .about("Run scripts at once, each by a planner on a thread, and print the answers")
-        .arg(instance_argument(alloc))?
-        .arg(files_argument(
+    let arguments = vec![in alloc;
+        instance_argument(alloc),
+        files_argument(
             alloc,
             "script",
             "SCRIPT",
             "The files of the planners' steps, one for each planner, at most 64",
-        ))?
-        .arg(barred_argument(alloc))
+        ),
+        barred_argument(alloc),
+    ]?;
+    Command::new(alloc, "crew")
+        .about("Run scripts at once, each by a planner on a thread, and print the answers")
+        .args(arguments)
 }
 
 /// What stands below the help.
@@ -212,14 +225,27 @@ Status: 0 where it is done, also where a report says that a solution is unlawful
 A refused file is one line, as in 'timedesk: instance I2 14': docs/FORMATS.md has
 each fault by its number, and how to see the word that it names.";
 
-/// Adds a command to a program, if it could be made.
-fn with_made<'a>(
-    program: Command<'a>,
+/// A program with one command more, if both could be made.
+fn with_command<'a>(
+    program: Result<Command<'a>, AllocError>,
     made: Result<Command<'a>, AllocError>,
 ) -> Result<Command<'a>, AllocError>
-    ensures { IfOk result (λ whole. IsOkAnd made.entry (λ command. AddsSubcommand program.entry command whole)) }
+    ensures { IfOk result (λ whole. IsOkAnd program.entry (λ program.
+        IsOkAnd made.entry (λ command. AddsSubcommand program command whole))) }
 {
-    program.subcommand(made?)
+    match program {
+        Ok(program) => match made {
+            Ok(command) => program.subcommand(command),
+            Err(error) => {
+                let_go(program);
+                Err(error)
+            }
+        },
+        Err(error) => {
+            let_go(made);
+            Err(error)
+        }
+    }
 }
 
 /// The command line of the program.
@@ -231,10 +257,10 @@ fn command_line<'a>(alloc: Global) -> Result<Command<'a>, AllocError>
         .version("0.1.0")
         .after_help(STATUSES)
         .subcommand_required(true);
-    let checks = with_made(bare, check_command(alloc))?;
-    let runs = with_made(checks, run_command(alloc))?;
-    let audits = with_made(runs, audit_command(alloc))?;
-    with_made(audits, crew_command(alloc))
+    let checks = with_command(Ok(bare), check_command(alloc));
+    let runs = with_command(checks, run_command(alloc));
+    let audits = with_command(runs, audit_command(alloc));
+    with_command(audits, crew_command(alloc))
 }
 
 /// The fault that `clap` found in the words.

@@ -96,5 +96,3 @@ mod crew_tests;
 mod desk_tests;
 #[cfg(test)]
 mod device_tests;
-#[cfg(test)]
-mod tests;

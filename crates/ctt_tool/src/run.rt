@@ -25,7 +25,7 @@ use ctt_board::{GridSheet, Sheet};
 use ctt_core::Desk;
 use ctt_draft::KeepNone;
 use ctt_script::{Minutes, PLANNERS, ScriptFault, Sink, Source, run_script};
-use ctt_text::{Instance, NoMemory, Placed};
+use ctt_text::{Instance, NoMemory, Placed, let_go};
 use std::alloc::Global;
 
 /// The fault of the run of the script in a file.
@@ -190,5 +190,7 @@ pub fn run<F: Files, W: Sink>(
         → IsRefusedRun (F.held files.old) instance barred start) }
 {
     let instance = fetch_instance(alloc, files, instance, barred)?;
-    run_on::<GridSheet, F, W>(alloc, files, out, &instance, script, start, journal)
+    let done = run_on::<GridSheet, F, W>(alloc, files, out, &instance, script, start, journal);
+    let_go(instance);
+    done
 }

@@ -10,7 +10,7 @@ ghost use Rattle.ctt_tool.specs.Texts.{IsBarredBy, IsInstanceIn, IsInstanceText,
 
 use crate::fault::Fault;
 use crate::files::{Files, read_file};
-use ctt_text::{Instance, Placed, read_barred, read_instance, read_solution};
+use ctt_text::{Instance, Placed, let_go, read_barred, read_instance, read_solution};
 use std::alloc::Global;
 
 /// The instance that a file holds, in which no room is barred.
@@ -64,8 +64,13 @@ pub fn fetch_instance<F: Files>(
         → IsNoInstanceIn (F.held files.old) name barred) }
 {
     let mut instance = fetch_alone(alloc, files, name)?;
-    bar_rooms(alloc, files, &mut instance, barred)?;
-    Ok(instance)
+    match bar_rooms(alloc, files, &mut instance, barred) {
+        Ok(()) => Ok(instance),
+        Err(fault) => {
+            let_go(instance);
+            Err(fault)
+        }
+    }
 }
 
 /// The timetable that a file holds, as a solution of the instance.

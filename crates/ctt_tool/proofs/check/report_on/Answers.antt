@@ -1,4 +1,4 @@
-use Rattle.std.proofs.Common.{[], ◌∷◌, ◌++◌, inl, inr, subst, IfErr, IfSome}
+use Rattle.std.proofs.Common.{[], ◌∷◌, ◌++◌, inr, subst, IfErr, IfSome}
 use Rattle.std.proofs.lemmas.Result.{IfErr-weaker, IfOk-weaker}
 use Rattle.std.specs.String.{string_bytes}
 use Rattle.ctt_text.specs.Problem.{Problem}
@@ -18,18 +18,18 @@ returns-in_err-instance-clause-file g c =
 pub returns-clause-reports : goal.returns-clause-reports
 returns-clause-reports g c =
     let problem : Problem = c.in_ok-instance.instance in
-    IfOk-weaker c.report_for.result _ _ (λ bytes reported. record {
+    IfOk-weaker c.report_for-report.result _ _ (λ bytes reported. record {
       problem = problem;
       is_instance = c.in_ok-instance.ensures.spelled;
       is_report = subst (λ held. IfSome (held (string_bytes c.args.solution)) (λ text. IsReportFor c.args.json problem text bytes.items)) c.in_ok-instance.ensures.kept reported;
-    }) c.report_for.ensures.reports
+    }) c.report_for-report.ensures.reports
 
 pub returns-clause-cause : goal.returns-clause-cause
 returns-clause-cause g c =
     let problem : Problem = c.in_ok-instance.instance in
-    IfErr-weaker c.report_for.result _ _ (λ fault caused one. inr (problem, c.in_ok-instance.ensures.spelled, subst (λ held. IfSome (held (string_bytes c.args.solution)) (IsNoSolution problem)) c.in_ok-instance.ensures.kept (caused one))) c.report_for.ensures.cause
+    IfErr-weaker c.report_for-report.result _ _ (λ fault caused one. inr (problem, c.in_ok-instance.ensures.spelled, subst (λ held. IfSome (held (string_bytes c.args.solution)) (IsNoSolution problem)) c.in_ok-instance.ensures.kept (caused one))) c.report_for-report.ensures.cause
 
 pub returns-clause-file : goal.returns-clause-file
 returns-clause-file g c =
-    IfErr-weaker c.report_for.result _ _ (λ fault is. of_more_files (c.args.solution ∷ []) (c.args.instance ∷ given c.args.barred ++ c.args.solution ∷ []) (g.F.Files.held c.args.files.now) fault (λ name one. inr (one_behind c.args.barred (c.args.solution ∷ []) name one)) is)
-    (subst (λ held. IfErr c.report_for.result (IsOfFiles (c.args.solution ∷ []) held)) c.in_ok-instance.ensures.kept c.report_for.ensures.file)
+    IfErr-weaker c.report_for-report.result _ _ (λ fault is. of_more_files (c.args.solution ∷ []) (c.args.instance ∷ given c.args.barred ++ c.args.solution ∷ []) (g.F.Files.held c.args.files.now) fault (λ name one. inr (one_behind c.args.barred (c.args.solution ∷ []) name one)) is)
+    (subst (λ held. IfErr c.report_for-report.result (IsOfFiles (c.args.solution ∷ []) held)) c.in_ok-instance.ensures.kept c.report_for-report.ensures.file)

@@ -19,16 +19,16 @@ returns-in_err-instance-clause-fault g c =
     (texts_of_crew _ c.in_err-instance.field-0.0 c.in_err-instance.ensures.fault)
 
 pub returns-clause-crew : goal.returns-clause-crew
-returns-clause-crew g c = IfOk-weaker c.answers_on.result _ _ (λ bytes is. record {
+returns-clause-crew g c = IfOk-weaker c.answers_on-answers.result _ _ (λ bytes is. record {
   problem = c.in_ok-instance.instance;
   is_instance = c.in_ok-instance.ensures.spelled;
   is_crew = is;
-}) c.answers_on.ensures.crew
+}) c.answers_on-answers.ensures.crew
 
 pub returns-clause-file : goal.returns-clause-file
 returns-clause-file g c =
-    IfErr-weaker c.answers_on.result _ _ (λ fault is. of_more_files c.args.scripts.items (c.args.instance ∷ given c.args.barred ++ c.args.scripts.items) (g.F.Files.held c.args.files.now) fault (λ name one. inr (one_behind c.args.barred c.args.scripts.items name one)) is)
-    (subst (λ held. IfErr c.answers_on.result (IsOfFiles c.args.scripts.items held)) c.in_ok-instance.ensures.kept c.answers_on.ensures.file)
+    IfErr-weaker c.answers_on-answers.result _ _ (λ fault is. of_more_files c.args.scripts.items (c.args.instance ∷ given c.args.barred ++ c.args.scripts.items) (g.F.Files.held c.args.files.now) fault (λ name one. inr (one_behind c.args.barred c.args.scripts.items name one)) is)
+    (subst (λ held. IfErr c.answers_on-answers.result (IsOfFiles c.args.scripts.items held)) c.in_ok-instance.ensures.kept c.answers_on-answers.ensures.file)
 
 pub returns-clause-cause : goal.returns-clause-cause
-returns-clause-cause g c = IfErr-weaker c.answers_on.result _ _ (λ fault three one. three_is_not_one fault three one) c.answers_on.ensures.machine
+returns-clause-cause g c = IfErr-weaker c.answers_on-answers.result _ _ (λ fault three one. three_is_not_one fault three one) c.answers_on-answers.ensures.machine

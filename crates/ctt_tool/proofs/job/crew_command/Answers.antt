@@ -1,8 +1,8 @@
-use Rattle.std.proofs.Common.{rules, codes}
+use Rattle.std.proofs.Common.{◌∷◌, [], List, codes, rules, subst, sym}
 use Rattle.std.proofs.lemmas.Result.{IfOk-weaker}
-use Rattle.clap.specs.Words.{new_app}
+use Rattle.clap.specs.Words.{Rule, new_app}
 use Rattle.ctt_tool.specs.CommandLine.{IsCommand, crew, required_word, required_words, valued}
-use Rattle.ctt_tool.proofs.Commands.{with_argument}
+use Rattle.ctt_tool.proofs.Commands.{AreArguments, with_arguments}
 use Rattle.ctt_tool.proofs.job.crew_command.Goals as goal
 
 pub returns : goal.returns
@@ -10,9 +10,7 @@ unfolding crew
 returns c =
     let bare : IsCommand (new_app (codes "crew")) c.about.result =
     record { reads_by = search rules; is_local = search rules } in
-    let first = with_argument (new_app (codes "crew")) (required_word (codes "instance")) c.about.result c.instance_argument.result c.in_ok-arg.field-0
-    bare c.instance_argument.ensures.rule c.instance_argument.ensures.local c.in_ok-arg.ensures in
-    let second = with_argument _ (required_words (codes "script")) c.in_ok-arg.field-0 c.files_argument.result c.in_ok-arg-2.field-0
-    first c.files_argument.ensures.rule c.files_argument.ensures.local c.in_ok-arg-2.ensures in
-    IfOk-weaker c.arg-3.result _ _ (λ command adds. with_argument _ (valued (codes "barred")) c.in_ok-arg-2.field-0 c.barred_argument.result command
-    second c.barred_argument.ensures.rule c.barred_argument.ensures.local adds) c.arg-3.ensures
+    let taken : List Rule = required_word (codes "instance") ∷ required_words (codes "script") ∷ valued (codes "barred") ∷ [] in
+    let are = subst (AreArguments taken) (sym c.in_ok-arguments.ensures.items)
+    (c.instance_argument.ensures.rule, c.instance_argument.ensures.local, (c.files_argument.ensures.rule, c.files_argument.ensures.local, (c.barred_argument.ensures.rule, c.barred_argument.ensures.local, tt))) in
+    IfOk-weaker c.args-2.result _ _ (λ command adds. with_arguments _ taken c.about.result _ command bare are adds) c.args-2.ensures
