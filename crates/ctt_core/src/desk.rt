@@ -110,10 +110,11 @@ impl<'i, S: Sheet<'i>, K: Keeping> Desk<'i, S, K> {
         let drafts = no_drafts(alloc, planners)?;
         let mut marks = Vec::new(alloc);
         marks.resize(planners as usize, None)?;
+        let stock = Stock::new(alloc, sheet, planners)?;
         Ok(Desk {
             instance,
             opening,
-            stock: Stock::new(alloc, sheet),
+            stock,
             journal: Log::new(alloc),
             drafts,
             marks,

@@ -13,7 +13,7 @@ use ctt_draft::{Asked, Draft, Idle, Keeping, Log, Work};
 use ctt_edits::Row;
 use ctt_rules::Cost;
 use ctt_text::{Instance, NoMemory};
-use std::alloc::Global;
+use std::alloc::{AllocError, Global};
 use std::marker::Model;
 
 /// A sheet that is kept for a draft to come, and how many of the changes are made on it.
@@ -61,18 +61,19 @@ fn limit_of(instance: &Instance) -> usize {
 }
 
 impl<'i, S: Sheet<'i>> Stock<'i, S> {
-    /// A timetable, with nothing kept.
-    pub(crate) fn new(alloc: Global, sheet: S) -> Self
-        ensures { result ≡ record { problem = S.problem sheet; list = S.list sheet; log = [] } }
+    /// A timetable, with nothing kept, and with room for a sheet for each of so many planners.
+    pub(crate) fn new(alloc: Global, sheet: S, planners: u16) -> Result<Self, AllocError>
+        ensures { IfOk result (λ stock. stock ≡ record { problem = S.problem sheet; list = S.list sheet; log = [] }) }
     {
         let instance = sheet.instance();
-        Stock {
+        let spares = Vec::with_capacity(alloc, planners as usize)?;
+        Ok(Stock {
             instance,
             sheet,
             log: Vec::new(alloc),
-            spares: Vec::new(alloc),
+            spares,
             limit: limit_of(instance),
-        }
+        })
     }
 
     /// The timetable.
@@ -157,13 +158,14 @@ impl<'i, S: Sheet<'i>> Stock<'i, S> {
         draft.refresh(&self.sheet)
     }
 
-    /// Keeps a sheet on which so many of the changes are made, or drops it where there is no memory.
+    /// Keeps a sheet on which so many of the changes are made. It takes no memory: there is room for each planner's,
+    /// and a sheet is copied only where none is kept.
     fn keep(&mut self, idle: Idle<S>, seen: usize)
         requires same { idle.problem ≡ self.old.problem }
         requires leads { LeadsFrom self.old seen idle.list }
         ensures { self.new ≡ self.old }
     {
-        if self.spares.reserve(1).is_ok() {
+        if self.spares.len() < self.spares.capacity() {
             self.spares.push(Spare { idle, seen }).unwrap();
         }
     }

@@ -45,65 +45,29 @@ impl<'i, S: Sheet<'i>, J: Naming> Drafting<'i, S, J> {
         ensures ok { IfOk result (IsRefreshed J.problem J.opening self.entry) }
         ensures err { IfErr result (IsNotRefreshed J.problem J.opening self.entry) }
     {
-        let Drafting { planner, mut draft } = self;
-        let Planner {
-            alloc,
-            number,
-            committed,
-            front,
-            place,
-            kept,
-        } = planner;
-        match enter(place.unwrap(), &front) {
+        let Drafting {
+            mut planner,
+            mut draft,
+        } = self;
+        match enter(planner.place.take().unwrap(), &planner.front) {
             Err(place) => {
-                let planner = Planner {
-                    alloc,
-                    number,
-                    committed,
-                    front,
-                    place: Some(place),
-                    kept,
-                };
+                planner.place = Some(place);
                 Err(RefreshRefusal::NoPlace(Drafting { planner, draft }))
             }
             Ok((visit, seen)) => {
-                let found = refresh_on(&mut draft, &front, visit.get());
-                let place = Some(visit.leave());
+                let found = refresh_on(&mut draft, &planner.front, visit.get());
+                planner.place = Some(visit.leave());
                 match found {
                     Ok(None) => {
-                        let planner = Planner {
-                            alloc,
-                            number,
-                            committed,
-                            front: seen,
-                            place,
-                            kept,
-                        };
+                        planner.front = seen;
                         Ok(Drafting { planner, draft })
                     }
                     Ok(Some(row)) => {
-                        let kept = Kept::of_base(draft, front);
-                        let planner = Planner {
-                            alloc,
-                            number,
-                            committed,
-                            front: seen,
-                            place,
-                            kept: None,
-                        };
+                        let kept = Kept::of_base(draft, planner.front.again());
+                        planner.front = seen;
                         Err(RefreshRefusal::Stale(planner.keeping(kept), row))
                     }
-                    Err(_) => {
-                        let planner = Planner {
-                            alloc,
-                            number,
-                            committed,
-                            front,
-                            place,
-                            kept,
-                        };
-                        Err(RefreshRefusal::NoMemory(Drafting { planner, draft }))
-                    }
+                    Err(_) => Err(RefreshRefusal::NoMemory(Drafting { planner, draft })),
                 }
             }
         }
