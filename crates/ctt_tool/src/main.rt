@@ -91,10 +91,4 @@ fn main(rt: HostRuntime) -> ExitCode {
 }
 
 #[cfg(test)]
-mod crew_tests;
-#[cfg(test)]
-mod desk_tests;
-#[cfg(test)]
-mod device_tests;
-#[cfg(test)]
 mod tests;
