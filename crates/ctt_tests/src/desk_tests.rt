@@ -184,14 +184,14 @@ fn every_commit<'i, J: Naming, R: Wait + Abort>(
         name: PhantomData,
     };
     let Ok((desk, mut planners)) = SharedDesk::<ListSheet, J>::new(rt, named) else {
-        return Err(Stopped("no desk"));
+        return Err(Stopped::NoDesk);
     };
     let mut done = Vec::new(alloc);
     let turned = turns::<ListSheet, J, R>(rt, &desk, &mut planners, &mut done);
     let closed = desk
         .close(rt, done.as_mut_slice())
-        .or(Err(Stopped("not closed with all")))?;
-    turned.ok_or(Stopped("a turn failed"))?;
+        .or(Err(Stopped::NotClosed))?;
+    turned.ok_or(Stopped::TurnRefused)?;
     assert!(rt; is_of_two(&closed));
     Ok(())
 }
@@ -201,7 +201,7 @@ fn every_commit_on_list<'i, R: Wait + Abort>(
     alloc: Global,
     small: &'i Instance,
 ) -> Result<(), Stopped> {
-    let opened = empty::<ListSheet>(alloc, small).ok_or(Stopped("no opening"))?;
+    let opened = empty::<ListSheet>(alloc, small).ok_or(Stopped::NoDesk)?;
     every_commit::<Brand, R>(rt, alloc, opened, 6)
 }
 

@@ -3,7 +3,7 @@
 
 use crate::edits::{expect_edit_fits, make, price_of, sheet_of};
 use crate::small::{SOLUTION, alg, at, cost, geo, placed, room_a, room_b, small_instance, top};
-use crate::stopped::Stopped;
+use crate::stopped::{Stopped, expect_list};
 use ctt_board::{Cell, GridSheet, ListSheet, Sheet};
 use ctt_edits::{Edit, EditFault, check};
 use ctt_rules::Cost;
@@ -41,9 +41,8 @@ fn leaves<'i, S: Sheet<'i>>(
     costs: Cost,
 ) -> Result<(), Stopped> {
     assert!(rt; make(rt, sheet, edit).is_none());
-    assert!(rt; sheet.list()?.as_slice() == lectures);
     assert!(rt; sheet.cost() == costs);
-    Ok(())
+    expect_list(rt, sheet.list(), lectures)
 }
 
 /// The small solution without top.

@@ -170,15 +170,15 @@ fn hundred<'i, J: Naming + Send + Sync, R: Threads + Wait + Abort + Sync>(
         name: PhantomData,
     };
     let Ok((desk, planners)) = SharedDesk::<ListSheet, J>::new(rt, named) else {
-        return Err(Stopped("no desk"));
+        return Err(Stopped::NoDesk);
     };
     let done = Mutex::new(Vec::new(alloc));
     let numbers = both_work(rt, alloc, &desk, &done, planners);
     let mut done = done.into_inner();
     let closed = desk
         .close(rt, done.as_mut_slice())
-        .or(Err(Stopped("not closed with both")))?;
-    let numbers = numbers.ok_or(Stopped("a commit was refused"))?;
+        .or(Err(Stopped::NotClosed))?;
+    let numbers = numbers.ok_or(Stopped::TurnRefused)?;
     assert_eq!(rt; done.len(), 2);
     assert!(rt; is_of_hundred(&closed, &numbers));
     Ok(())
@@ -189,7 +189,7 @@ fn hundred_on_list<'i, R: Threads + Wait + Abort + Sync>(
     alloc: Global,
     small: &'i Instance,
 ) -> Result<(), Stopped> {
-    let opened = empty::<ListSheet>(alloc, small).ok_or(Stopped("no opening"))?;
+    let opened = empty::<ListSheet>(alloc, small).ok_or(Stopped::NoDesk)?;
     hundred::<Brand, R>(rt, alloc, opened, 2)
 }
 

@@ -3,7 +3,7 @@
 ghost use Rattle.ctt_edits.specs.Calls.{CallFits};
 
 use crate::small::{alg, at, geo, room_b, small_instance, top};
-use crate::stopped::Stopped;
+use crate::stopped::{Stopped, expect_list};
 use ctt_edits::{Call, Edit, Look, Row, RowsRead, reads};
 use ctt_text::{Instance, let_go};
 use std::alloc::Global;
@@ -25,8 +25,7 @@ fn reads_rows(
     rows: &[Row],
 ) -> Result<(), Stopped> {
     expect_call_fits(rt, instance, call);
-    assert!(rt; reads(alloc, instance, call)?.as_slice() == rows);
-    Ok(())
+    expect_list(rt, reads(alloc, instance, call), rows)
 }
 
 /// The rows of a price.
@@ -69,9 +68,8 @@ fn adds_rows(rt: &impl Abort, alloc: Global, small: &Instance) -> Result<(), Sto
     add(rt, small, &mut read, Call::Edit(Edit::Drop(top(), at(2))));
     has_rows(rt, small, &read);
     let rows = [Row::Course(top()), Row::Slot(at(5))];
-    assert!(rt; read.list(alloc, small)?.as_slice() == rows.as_slice());
     assert!(rt; rows[0].is_before(rows[1]));
-    Ok(())
+    expect_list(rt, read.list(alloc, small), &rows)
 }
 
 fn reads_all_rows(rt: &impl Abort, alloc: Global, small: &Instance) -> Result<(), Stopped> {

@@ -98,7 +98,7 @@ fn learnt<'i, J: Naming + Send + Sync, R: Threads + Wait + Abort + Sync>(
         name: PhantomData,
     };
     let Ok((desk, mut planners)) = SharedDesk::<ListSheet, J>::new(rt, named) else {
-        return Err(Stopped("no desk"));
+        return Err(Stopped::NoDesk);
     };
     let seen = match one_commits(rt, &desk, &mut planners) {
         Some(receipt) => both_see::<ListSheet, J, R>(rt, &mut planners, &receipt),
@@ -106,8 +106,8 @@ fn learnt<'i, J: Naming + Send + Sync, R: Threads + Wait + Abort + Sync>(
     };
     let closed = desk
         .close(rt, planners.as_mut_slice())
-        .or(Err(Stopped("not closed with both")))?;
-    seen.ok_or(Stopped("the receipt is not learnt"))?;
+        .or(Err(Stopped::NotClosed))?;
+    seen.ok_or(Stopped::TurnRefused)?;
     assert_eq!(rt; closed.journal().len(), 1);
     Ok(())
 }
@@ -117,7 +117,7 @@ fn learnt_on_list<'i, R: Threads + Wait + Abort + Sync>(
     alloc: Global,
     small: &'i Instance,
 ) -> Result<(), Stopped> {
-    let opened = empty::<ListSheet>(alloc, small).ok_or(Stopped("no opening"))?;
+    let opened = empty::<ListSheet>(alloc, small).ok_or(Stopped::NoDesk)?;
     learnt::<Brand, R>(rt, opened, 2)
 }
 

@@ -5,7 +5,7 @@ ghost use Rattle.std.specs.Prelude.{◌≡◌, ◌<◌};
 ghost use Rattle.ctt_text.specs.Problem.{course_count, slot_count};
 
 use crate::small::{alg, at, cost, geo_second, room_b, small_instance};
-use crate::stopped::Stopped;
+use crate::stopped::{Stopped, expect_list};
 use ctt_board::{Cell, Change, GridSheet, ListSheet, Rooms, Sheet, Timetable};
 use ctt_rules::is_lawful;
 use ctt_text::{Instance, Placed, is_timetable, let_go};
@@ -37,10 +37,9 @@ fn has_geo<S: Timetable>(rt: &impl Abort, sheet: &S, geo: Placed) -> Result<(), 
     assert!(rt; sheet.room_at(geo.course, geo.slot) == Some(geo.room));
     assert_eq!(rt; sheet.count(geo.course), 1);
     let only = [geo];
-    assert!(rt; sheet.course_row(geo.course)?.as_slice() == only.as_slice());
-    assert!(rt; sheet.slot_row(geo.slot)?.as_slice() == only.as_slice());
-    assert!(rt; sheet.list()?.as_slice() == only.as_slice());
-    Ok(())
+    expect_list(rt, sheet.course_row(geo.course), &only)?;
+    expect_list(rt, sheet.slot_row(geo.slot), &only)?;
+    expect_list(rt, sheet.list(), &only)
 }
 
 /// A sheet on which geo stands, and an empty one have other rows there.

@@ -38,7 +38,7 @@ top B 0 2
 
 /// The instance of a text.
 pub(crate) fn instance_of(alloc: Global, text: &str) -> Result<Instance, Stopped> {
-    read_instance(alloc, text.as_bytes()).or(Err(Stopped("no instance")))
+    read_instance(alloc, text.as_bytes()).or(Err(Stopped::TextRefused))
 }
 
 /// The small instance.
@@ -52,7 +52,7 @@ pub(crate) fn lectures_of(
     instance: &Instance,
     text: &str,
 ) -> Result<Vec<Placed>, Stopped> {
-    read_solution(alloc, instance, text.as_bytes()).or(Err(Stopped("no solution")))
+    read_solution(alloc, instance, text.as_bytes()).or(Err(Stopped::TextRefused))
 }
 
 pub(crate) fn alg() -> CourseNo {
