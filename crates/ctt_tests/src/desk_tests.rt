@@ -1,10 +1,12 @@
 //! A day of six planners of one desk on the small instance: commits, refreshes, and what the others then see. `close` sees
 //! every commit. The costs were computed by hand from the rules.
 
-ghost use Rattle.std.specs.Prelude.{◌≡◌};
+ghost use Rattle.std.specs.Prelude.{◌≡◌, IfSome};
 ghost use Rattle.ctt_desk.specs.Names.{IsNamed};
 
-use crate::desks::{ask, commits_first, drafted, empty, expect_seen, has_list, is_entry, shows};
+use crate::desks::{
+    accepted, ask, commits_first, drafted, empty, expect_seen, has_list, is_entry, shows,
+};
 use crate::edits::place;
 use crate::small::{cost, geo_second, small_instance, top_third};
 use crate::stopped::Stopped;
@@ -14,11 +16,50 @@ use ctt_desk::{
     Closed, Drafting, Named, Naming, Opened, Planner, RefreshRefusal, Refusal, SharedDesk,
 };
 use ctt_edits::{Call, Look, Row};
-use ctt_text::{Instance, Placed, SlotNo, let_go};
+use ctt_text::{Instance, Placed, let_go};
 use std::alloc::Global;
 use std::marker::{Brand, PhantomData};
 use std::process::Abort;
 use std::sync::Wait;
+
+/// The planners of a day: those who have done nothing yet, of whom the last one comes next; the drafts that are open, of
+/// which the last one goes on next; and the planners who are done.
+#[derive(Drop)]
+struct Day<'i, S: Timetable, J: Naming> {
+    waiting: Vec<Planner<S, J>>,
+    open: Vec<Drafting<'i, S, J>>,
+    done: Vec<Planner<S, J>>,
+}
+
+/// The next planner opens a draft of one call, which is left open.
+fn drafts_next<'i, S: Sheet<'i>, J: Naming>(day: &mut Day<'i, S, J>, call: Call) -> Option<()> {
+    let (drafting, _reply) = drafted(day.waiting.pop()?, call)?;
+    day.open.push(drafting).ok()
+}
+
+/// The next planner commits a draft that places a lecture.
+fn commits_next<'i, S: Sheet<'i>, J: Naming, R: Wait + Abort>(
+    rt: &R,
+    desk: &SharedDesk<S, J>,
+    day: &mut Day<'i, S, J>,
+    lecture: &Placed,
+) -> Option<()> {
+    let (planner, _receipt) = commits_first(rt, desk, day.waiting.pop()?, lecture)?;
+    day.done.push(planner).ok()
+}
+
+/// The next planner, who has learnt nothing, sees a lecture.
+fn sees_next<'i, S: Sheet<'i>, J: Naming, R: Abort>(
+    rt: &R,
+    small: &Instance,
+    day: &mut Day<'i, S, J>,
+    lecture: &Placed,
+) -> Option<()>
+    requires { small.now ≡ J.problem }
+{
+    let planner = expect_seen(rt, small, day.waiting.pop()?, lecture)?;
+    day.done.push(planner).ok()
+}
 
 /// The row for which a commit is refused.
 fn refused<'i, S: Sheet<'i>, J: Naming, R: Wait>(
@@ -34,21 +75,6 @@ fn refused<'i, S: Sheet<'i>, J: Naming, R: Wait>(
     }
 }
 
-/// Commits a draft that is stale at the slot of a lecture. Its planner has then seen one draft, and
-/// committed none.
-fn is_late<'i, S: Sheet<'i>, J: Naming, R: Wait + Abort>(
-    rt: &R,
-    desk: &SharedDesk<S, J>,
-    late: Drafting<'i, S, J>,
-    lecture: &Placed,
-) -> Option<Planner<S, J>> {
-    let (planner, row) = refused(rt, desk, late)?;
-    assert!(rt; row == Row::Slot(lecture.slot));
-    assert_eq!(rt; planner.committed(), 0);
-    assert_eq!(rt; planner.seen(), 1);
-    Some(planner)
-}
-
 /// The row for which a refresh is refused.
 fn outdated<'i, S: Sheet<'i>, J: Naming>(late: Drafting<'i, S, J>) -> Option<(Planner<S, J>, Row)> {
     match late.refresh() {
@@ -59,78 +85,71 @@ fn outdated<'i, S: Sheet<'i>, J: Naming>(late: Drafting<'i, S, J>) -> Option<(Pl
     }
 }
 
-/// Brings a draft up to date that is stale at the slot of a lecture. Its planner has then seen one draft, and
-/// committed none.
-fn is_outdated<'i, S: Sheet<'i>, J: Naming, R: Abort>(
+/// Stops where a draft was not stale at the slot of a lecture. Its planner has then seen one draft, and committed none.
+fn expect_late<S: Timetable, J: Naming, R: Abort>(
     rt: &R,
-    late: Drafting<'i, S, J>,
+    late: (Planner<S, J>, Row),
     lecture: &Placed,
-) -> Option<Planner<S, J>> {
-    let (planner, row) = outdated(late)?;
+) -> Planner<S, J> {
+    let (planner, row) = late;
     assert!(rt; row == Row::Slot(lecture.slot));
     assert_eq!(rt; planner.committed(), 0);
     assert_eq!(rt; planner.seen(), 1);
-    Some(planner)
+    planner
 }
 
-/// Brings a draft up to date, sees a lecture in it, and commits it as the second one.
-fn goes_on<'i, S: Sheet<'i>, J: Naming, R: Wait + Abort>(
+/// The next draft is stale at a commit. The instance is told.
+fn late_next<'i, S: Sheet<'i>, J: Naming, R: Wait + Abort>(
     rt: &R,
     desk: &SharedDesk<S, J>,
+    day: &mut Day<'i, S, J>,
+    lecture: &Placed,
+) -> Option<&'i Instance>
+    ensures { IfSome result (λ small. small.now ≡ J.problem) }
+{
+    let late = day.open.pop()?;
+    let small = late.instance();
+    let planner = expect_late(rt, refused(rt, desk, late)?, lecture);
+    day.done.push(planner).ok()?;
+    Some(small)
+}
+
+/// The next draft is stale at a refresh.
+fn outdated_next<'i, S: Sheet<'i>, J: Naming, R: Abort>(
+    rt: &R,
+    day: &mut Day<'i, S, J>,
+    lecture: &Placed,
+) -> Option<()> {
+    let late = outdated(day.open.pop()?)?;
+    let planner = expect_late(rt, late, lecture);
+    day.done.push(planner).ok()
+}
+
+/// Brings a draft up to date, and sees a lecture in it.
+fn refreshed<'i, S: Sheet<'i>, J: Naming, R: Abort>(
+    rt: &R,
     drafting: Drafting<'i, S, J>,
     lecture: &Placed,
-) -> Option<Planner<S, J>> {
+) -> Option<Drafting<'i, S, J>> {
     let mut drafting = drafting.refresh().ok()?;
     let told = ask(&mut drafting, Call::Look(Look::Slot(lecture.slot)))?;
     assert!(rt; shows(&told, lecture));
-    let (planner, receipt) = drafting.commit(rt, desk).ok()?;
+    Some(drafting)
+}
+
+/// The next draft is brought up to date, sees a lecture, and is accepted as the second one.
+fn goes_on_next<'i, S: Sheet<'i>, J: Naming, R: Wait + Abort>(
+    rt: &R,
+    desk: &SharedDesk<S, J>,
+    day: &mut Day<'i, S, J>,
+    lecture: &Placed,
+) -> Option<()> {
+    let drafting = refreshed(rt, day.open.pop()?, lecture)?;
+    let (planner, receipt) = accepted(rt, desk, drafting)?;
     assert_eq!(rt; receipt.number(), 2);
     assert_eq!(rt; planner.seen(), 2);
     assert_eq!(rt; planner.committed(), 1);
-    Some(planner)
-}
-
-/// The next planner looks at a slot in a draft, which is left open.
-fn looks_next<'i, S: Sheet<'i>, J: Naming>(
-    waiting: &mut Vec<Planner<S, J>>,
-    slot: SlotNo,
-) -> Option<Drafting<'i, S, J>> {
-    let (late, _nothing) = drafted(waiting.pop()?, Call::Look(Look::Slot(slot)))?;
-    Some(late)
-}
-
-/// The next planner commits a draft that places a lecture.
-fn commits_next<'i, S: Sheet<'i>, J: Naming, R: Wait + Abort>(
-    rt: &R,
-    desk: &SharedDesk<S, J>,
-    waiting: &mut Vec<Planner<S, J>>,
-    done: &mut Vec<Planner<S, J>>,
-    lecture: &Placed,
-) -> Option<()> {
-    let (planner, _receipt) = commits_first(rt, desk, waiting.pop()?, lecture)?;
-    done.push(planner).ok()
-}
-
-/// The next planner, who has learnt nothing, sees a lecture.
-fn sees_next<'i, S: Sheet<'i>, J: Naming, R: Abort>(
-    rt: &R,
-    small: &Instance,
-    waiting: &mut Vec<Planner<S, J>>,
-    done: &mut Vec<Planner<S, J>>,
-    lecture: &Placed,
-) -> Option<()>
-    requires { small.now ≡ J.problem }
-{
-    let planner = expect_seen(rt, small, waiting.pop()?, lecture)?;
-    done.push(planner).ok()
-}
-
-/// The next planner places geo in a draft, which is left open.
-fn places_next<'i, S: Sheet<'i>, J: Naming>(
-    waiting: &mut Vec<Planner<S, J>>,
-) -> Option<Drafting<'i, S, J>> {
-    let (ahead, _done) = drafted(waiting.pop()?, Call::Edit(place(&geo_second())))?;
-    Some(ahead)
+    day.done.push(planner).ok()
 }
 
 /// A planner who has looked at a slot is stale when another one has placed a lecture there, at a commit and
@@ -138,33 +157,46 @@ fn places_next<'i, S: Sheet<'i>, J: Naming>(
 fn turns<'i, S: Sheet<'i>, J: Naming, R: Wait + Abort>(
     rt: &R,
     desk: &SharedDesk<S, J>,
-    waiting: &mut Vec<Planner<S, J>>,
-    done: &mut Vec<Planner<S, J>>,
+    day: &mut Day<'i, S, J>,
 ) -> Option<()> {
     let top = top_third();
-    let late = looks_next(waiting, top.slot)?;
-    let small = late.instance();
-    let behind = looks_next(waiting, top.slot)?;
-    let ahead = places_next(waiting)?;
-    commits_next(rt, desk, waiting, done, &top)?;
-    done.push(is_late(rt, desk, late, &top)?).ok()?;
-    done.push(is_outdated(rt, behind, &top)?).ok()?;
-    sees_next(rt, small, waiting, done, &top)?;
-    sees_next(rt, small, waiting, done, &top)?;
-    done.push(goes_on(rt, desk, ahead, &top)?).ok()
+    let look = Call::Look(Look::Slot(top.slot));
+    drafts_next(day, Call::Edit(place(&geo_second())))?;
+    drafts_next(day, look)?;
+    drafts_next(day, look)?;
+    commits_next(rt, desk, day, &top)?;
+    let small = late_next(rt, desk, day, &top)?;
+    outdated_next(rt, day, &top)?;
+    sees_next(rt, small, day, &top)?;
+    sees_next(rt, small, day, &top)?;
+    goes_on_next(rt, desk, day, &top)
 }
 
-/// Whether a closed desk has the entries of planner 2, and then of planner 3, and their timetable.
+/// Whether a closed desk has the entries of planner 2, and then of planner 5, and their timetable.
 fn is_of_two<S: Timetable, J: Naming>(closed: &Closed<S, J>) -> bool {
     let top = top_third();
     match closed.journal() {
         [first, second] => {
             is_entry(first, PlannerNo::new(2), place(&top))
-                && second.planner == PlannerNo::new(3)
+                && second.planner == PlannerNo::new(5)
                 && has_list(closed, &[geo_second(), top])
                 && closed.cost() == cost(10, 10, 2, 0)
         }
         _ => false,
+    }
+}
+
+/// Stops where a desk was not closed with all planners, or does not have the two entries.
+fn expect_two<S: Timetable, J: Naming>(
+    rt: &impl Abort,
+    closed: Result<Closed<S, J>, Closed<S, J>>,
+) -> Result<(), Stopped> {
+    match closed {
+        Ok(closed) => {
+            assert!(rt; is_of_two(&closed));
+            Ok(())
+        }
+        Err(_closed) => Err(Stopped::NotClosed),
     }
 }
 
@@ -183,17 +215,19 @@ fn every_commit<'i, J: Naming, R: Wait + Abort>(
         count,
         name: PhantomData,
     };
-    let Ok((desk, mut planners)) = SharedDesk::<ListSheet, J>::new(rt, named) else {
+    let Ok((desk, waiting)) = SharedDesk::<ListSheet, J>::new(rt, named) else {
         return Err(Stopped::NoDesk);
     };
-    let mut done = Vec::new(alloc);
-    let turned = turns::<ListSheet, J, R>(rt, &desk, &mut planners, &mut done);
-    let closed = desk
-        .close(rt, done.as_mut_slice())
-        .or(Err(Stopped::NotClosed))?;
-    turned.ok_or(Stopped::TurnRefused)?;
-    assert!(rt; is_of_two(&closed));
-    Ok(())
+    let mut day = Day {
+        waiting,
+        open: Vec::new(alloc),
+        done: Vec::new(alloc),
+    };
+    let turned = turns::<ListSheet, J, R>(rt, &desk, &mut day);
+    let closed = desk.close(rt, day.done.as_mut_slice());
+    let_go(day);
+    let left = expect_two::<ListSheet, J>(rt, closed);
+    turned.ok_or(Stopped::TurnRefused).and(left)
 }
 
 fn every_commit_on_list<'i, R: Wait + Abort>(

@@ -106,6 +106,15 @@ pub(crate) fn expect_seen<'i, S: Sheet<'i>, J: Naming, R: Abort>(
     Some(drafting.abandon())
 }
 
+/// Commits a draft.
+pub(crate) fn accepted<'i, S: Sheet<'i>, J: Naming, R: Wait>(
+    rt: &R,
+    desk: &SharedDesk<S, J>,
+    drafting: Drafting<'i, S, J>,
+) -> Option<(Planner<S, J>, Receipt<J>)> {
+    drafting.commit(rt, desk).ok()
+}
+
 /// Commits a draft that places a lecture, the planner's first and the desk's.
 pub(crate) fn commits_first<'i, S: Sheet<'i>, J: Naming, R: Wait + Abort>(
     rt: &R,
@@ -114,7 +123,7 @@ pub(crate) fn commits_first<'i, S: Sheet<'i>, J: Naming, R: Wait + Abort>(
     lecture: &Placed,
 ) -> Option<(Planner<S, J>, Receipt<J>)> {
     let (drafting, _reply) = drafted(planner, Call::Edit(place(lecture)))?;
-    let (planner, receipt) = drafting.commit(rt, desk).ok()?;
+    let (planner, receipt) = accepted(rt, desk, drafting)?;
     assert_eq!(rt; receipt.number(), 1);
     assert_eq!(rt; planner.committed(), 1);
     Some((planner, receipt))

@@ -2,7 +2,7 @@
 
 ghost use Rattle.ctt_desk.specs.Names.{IsNamed};
 
-use crate::desks::{drafted, empty, has_list, is_entry};
+use crate::desks::{accepted, drafted, empty, has_list, is_entry};
 use crate::edits::place;
 use crate::small::{geo_second, small_instance, top_third};
 use crate::stopped::Stopped;
@@ -25,7 +25,7 @@ fn commit_edit<'i, S: Sheet<'i>, J: Naming, R: Wait>(
     edit: Edit,
 ) -> Option<(Planner<S, J>, u64)> {
     let (drafting, _reply) = drafted(planner, Call::Edit(edit))?;
-    let (planner, receipt) = drafting.commit(rt, desk).ok()?;
+    let (planner, receipt) = accepted(rt, desk, drafting)?;
     Some((planner, receipt.number()))
 }
 
@@ -89,27 +89,24 @@ fn both_work<'i, J: Naming + Send + Sync, R: Threads + Wait + Sync>(
     alloc: Global,
     desk: &SharedDesk<ListSheet<'i>, J>,
     done: &Mutex<Vec<Planner<ListSheet<'i>, J>>>,
-    planners: Vec<Planner<ListSheet<'i>, J>>,
+    planners: &mut Vec<Planner<ListSheet<'i>, J>>,
 ) -> Option<(Vec<u64>, Vec<u64>)> {
-    let mut planners = planners;
-    let second = planners.pop()?;
-    let first = planners.pop()?;
-    let geo = Turn {
-        alloc,
-        desk,
-        done,
-        planner: first,
-        lecture: geo_second(),
-    };
     let top = Turn {
         alloc,
         desk,
         done,
-        planner: second,
+        planner: planners.pop()?,
         lecture: top_third(),
     };
+    let geo = Turn {
+        alloc,
+        desk,
+        done,
+        planner: planners.pop()?,
+        lecture: geo_second(),
+    };
     let (zero, one) = join(rt, || take_turn(rt, geo), || take_turn(rt, top));
-    Some((zero?, one?))
+    zero.zip(one)
 }
 
 /// Whether the receipts' numbers ascend, and each entry is where its receipt says.
@@ -154,6 +151,22 @@ fn is_of_hundred<S: Timetable, J: Naming>(
         && has_list(closed, &[])
 }
 
+/// Stops where a desk was not closed with all planners, or does not have the hundred entries.
+fn expect_hundred<S: Timetable, J: Naming>(
+    rt: &impl Abort,
+    closed: Result<Closed<S, J>, Closed<S, J>>,
+    numbers: Option<(Vec<u64>, Vec<u64>)>,
+) -> Result<(), Stopped> {
+    match (closed, numbers) {
+        (Ok(closed), Some(numbers)) => {
+            assert!(rt; is_of_hundred(&closed, &numbers));
+            Ok(())
+        }
+        (Ok(_closed), None) => Err(Stopped::TurnRefused),
+        (Err(_closed), _numbers) => Err(Stopped::NotClosed),
+    }
+}
+
 /// A hundred commits on two threads: every receipt's number comes once, its entry stands there, and the journal
 /// begins with what each planner has seen.
 fn hundred<'i, J: Naming + Send + Sync, R: Threads + Wait + Abort + Sync>(
@@ -169,19 +182,17 @@ fn hundred<'i, J: Naming + Send + Sync, R: Threads + Wait + Abort + Sync>(
         count,
         name: PhantomData,
     };
-    let Ok((desk, planners)) = SharedDesk::<ListSheet, J>::new(rt, named) else {
+    let Ok((desk, mut planners)) = SharedDesk::<ListSheet, J>::new(rt, named) else {
         return Err(Stopped::NoDesk);
     };
     let done = Mutex::new(Vec::new(alloc));
-    let numbers = both_work(rt, alloc, &desk, &done, planners);
+    let numbers = both_work(rt, alloc, &desk, &done, &mut planners);
     let mut done = done.into_inner();
-    let closed = desk
-        .close(rt, done.as_mut_slice())
-        .or(Err(Stopped::NotClosed))?;
-    let numbers = numbers.ok_or(Stopped::TurnRefused)?;
-    assert_eq!(rt; done.len(), 2);
-    assert!(rt; is_of_hundred(&closed, &numbers));
-    Ok(())
+    let handed = done.len();
+    let closed = desk.close(rt, done.as_mut_slice());
+    let_go((planners, done));
+    assert_eq!(rt; handed, 2);
+    expect_hundred::<ListSheet, J>(rt, closed, numbers)
 }
 
 fn hundred_on_list<'i, R: Threads + Wait + Abort + Sync>(

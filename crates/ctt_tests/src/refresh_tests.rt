@@ -142,16 +142,28 @@ fn expect_left<'i, S: Sheet<'i>>(
     expect_list(rt, desk.list(), &[geo_second(), top_in_a()])
 }
 
+/// A day at a desk, and its audit.
+fn plays<'i, S: Sheet<'i>>(
+    rt: &impl Abort,
+    alloc: Global,
+    small: &'i Instance,
+    desk: &mut Desk<'i, S, KeepAll>,
+) -> Result<(), Stopped> {
+    hundred_refreshes(rt, desk);
+    expect_left(rt, desk)?;
+    assert!(rt; found::<S>(rt, alloc, small, desk.journal())? == Verdict::Agrees);
+    Ok(())
+}
+
 fn refreshed_on<'i, S: Sheet<'i>>(
     rt: &impl Abort,
     alloc: Global,
     small: &'i Instance,
 ) -> Result<(), Stopped> {
     let mut desk: Desk<'i, S, KeepAll> = desk_of_two(alloc, small)?;
-    hundred_refreshes(rt, &mut desk);
-    expect_left(rt, &desk)?;
-    assert!(rt; found::<S>(rt, alloc, small, desk.journal())? == Verdict::Agrees);
-    Ok(())
+    let played = plays(rt, alloc, small, &mut desk);
+    let_go(desk);
+    played
 }
 
 fn refreshed_on_both(rt: &impl Abort, alloc: Global, small: &Instance) -> Result<(), Stopped> {
