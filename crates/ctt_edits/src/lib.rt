@@ -27,12 +27,3 @@ pub use reply::Reply;
 pub use row::Row;
 pub use rows_read::RowsRead;
 pub use showing::{look, look_in};
-
-#[cfg(test)]
-mod drawn_tests;
-#[cfg(test)]
-mod row_tests;
-#[cfg(test)]
-mod sheet_tests;
-#[cfg(test)]
-mod tests;

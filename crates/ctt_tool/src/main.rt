@@ -91,8 +91,3 @@ fn main(rt: HostRuntime) -> ExitCode {
 }
 
 #[cfg(test)]
-mod crew_tests;
-#[cfg(test)]
-mod desk_tests;
-#[cfg(test)]
-mod device_tests;

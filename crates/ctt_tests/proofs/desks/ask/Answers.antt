@@ -1,6 +1,6 @@
 use Rattle.std.proofs.Common.{rules}
 use Rattle.ctt_edits.specs.Calls.{CallFits}
-use Rattle.ctt_tool.proofs.desk_tests.ask.Goals as goal
+use Rattle.ctt_tests.proofs.desks.ask.Goals as goal
 
 pub call-requires : goal.call-requires
 call-requires g c κs =

@@ -1,4 +1,4 @@
-use Rattle.ctt_tool.proofs.desk_tests.learnt_on_list.Given as goal
+use Rattle.ctt_tests.proofs.receipt_tests.learnt_on_list.Given as goal
 
 -- the desk that was just opened
 abbrev pub ghosts-learnt : goal.ghosts-learnt

@@ -2,11 +2,11 @@
 
 ghost use Rattle.std.specs.Prelude.{◌≡◌, ◌<◌, false, Some};
 
+use crate::stopped::Stopped;
 use ctt_script::{Device, Failed, InputFault, Sink, Source, put_all, read_all};
 use std::alloc::Global;
 use std::io;
 use std::io::{ErrorKind, Read, Write};
-use std::test::Fail;
 
 /// A reader over memory that tells its bytes. It gives at most `chunk` of them a read, and its read of
 /// the number `fails_at`, counted from 1, fails.
@@ -57,13 +57,13 @@ fn reader_over(bytes: &[u8], chunk: usize) -> Memory<'_>
 /// A writer over memory that tells what it took. It takes at most `chunk` bytes a write, and at `room`
 /// bytes it takes no more: it fails there, or where it is idle answers 0.
 #[derive(Drop)]
-pub(crate) struct Shelf {
-    pub(crate) held: Vec<u8>,
+struct Shelf {
+    held: Vec<u8>,
     chunk: usize,
     room: usize,
     idle: bool,
-    pub(crate) flushes: bool,
-    pub(crate) failed: bool,
+    flushes: bool,
+    failed: bool,
 }
 
 impl Sink for Shelf {
@@ -96,7 +96,7 @@ impl Sink for Shelf {
 }
 
 /// An empty writer that takes at most `chunk` bytes a write, fails at `room` bytes, and can flush.
-pub(crate) fn writer_with_room(alloc: Global, chunk: usize, room: usize) -> Shelf
+fn writer_with_room(alloc: Global, chunk: usize, room: usize) -> Shelf
     ensures { result.failed ≡ false }
 {
     Shelf {
@@ -130,7 +130,7 @@ impl Write for Broken {
 }
 
 #[test]
-fn gives_at_most_the_limit(rt: HostRuntime) -> Result<(), Fail> {
+fn gives_at_most_the_limit(rt: HostRuntime) -> Result<(), Stopped> {
     for chunk in [1, 2, 3, 4, 5, 100] {
         let mut four = reader_over(b"four", chunk);
         let bytes = read_all(rt.alloc(), &mut four, 4);
@@ -139,7 +139,7 @@ fn gives_at_most_the_limit(rt: HostRuntime) -> Result<(), Fail> {
 
         let mut fives = reader_over(b"fives", chunk);
         let fault = read_all(rt.alloc(), &mut fives, 4).err();
-        assert_eq!(rt; fault, Some(InputFault::TooLong), "in pieces of {chunk}");
+        assert!(rt; fault == Some(InputFault::TooLong), "in pieces of {chunk}");
         assert!(rt; !fives.failed && fives.pulls <= 5);
     }
 
@@ -150,7 +150,7 @@ fn gives_at_most_the_limit(rt: HostRuntime) -> Result<(), Fail> {
 }
 
 #[test]
-fn gives_what_is_longer_than_a_buffer(rt: HostRuntime) -> Result<(), Fail> {
+fn gives_what_is_longer_than_a_buffer(rt: HostRuntime) -> Result<(), Stopped> {
     let mut long = Vec::new(rt.alloc());
     for i in 0..40_000u32 {
         long.push((i % 251) as u8)?;
@@ -162,18 +162,18 @@ fn gives_what_is_longer_than_a_buffer(rt: HostRuntime) -> Result<(), Fail> {
 
         let mut cut = reader_over(&long, chunk);
         let fault = read_all(rt.alloc(), &mut cut, 39_999).err();
-        assert_eq!(rt; fault, Some(InputFault::TooLong), "in pieces of {chunk}");
+        assert!(rt; fault == Some(InputFault::TooLong), "in pieces of {chunk}");
     }
     Ok(())
 }
 
 #[test]
-fn tries_no_read_after_a_failure(rt: HostRuntime) -> Result<(), Fail> {
+fn tries_no_read_after_a_failure(rt: HostRuntime) -> Result<(), Stopped> {
     for fails_at in 1..6 {
         let mut reader = reader_over(b"four", 1);
         reader.fails_at = fails_at;
         let fault = read_all(rt.alloc(), &mut reader, 4).err();
-        assert_eq!(rt; fault, Some(InputFault::Read), "at the read {fails_at}");
+        assert!(rt; fault == Some(InputFault::Read), "at the read {fails_at}");
         assert!(rt; reader.failed);
         assert_eq!(rt; reader.pulls, fails_at);
     }
@@ -181,7 +181,7 @@ fn tries_no_read_after_a_failure(rt: HostRuntime) -> Result<(), Fail> {
 }
 
 #[test]
-fn writes_a_front_up_to_the_failure(rt: HostRuntime) -> Result<(), Fail> {
+fn writes_a_front_up_to_the_failure(rt: HostRuntime) -> Result<(), Stopped> {
     let answer = b"no clash\n".as_slice();
     for idle in [false, true] {
         for room in 0..10 {
@@ -204,36 +204,36 @@ fn writes_a_front_up_to_the_failure(rt: HostRuntime) -> Result<(), Fail> {
 }
 
 #[test]
-fn a_flush_can_fail_alone(rt: HostRuntime) -> Result<(), Fail> {
+fn a_flush_can_fail_alone(rt: HostRuntime) -> Result<(), Stopped> {
     let mut shelf = writer_with_room(rt.alloc(), 2, 100);
     assert!(rt; put_all(&mut shelf, b"all").is_ok() && shelf.flush().is_ok() && !shelf.failed);
     shelf.flushes = false;
-    assert_eq!(rt; shelf.flush(), Err(Failed));
+    assert!(rt; shelf.flush() == Err(Failed));
     assert_eq!(rt; shelf.held.as_slice(), b"all".as_slice());
     Ok(())
 }
 
 #[test]
-fn a_device_reads_and_writes(rt: HostRuntime) -> Result<(), Fail> {
+fn a_device_reads_and_writes(rt: HostRuntime) -> Result<(), Stopped> {
     let mut reader = Device::new(b"text".as_slice());
     let bytes = read_all(rt.alloc(), &mut reader, 4);
     assert!(rt; bytes.is_ok_and(|bytes| bytes.as_slice() == b"text".as_slice()));
 
     let mut broken = Device::new(Broken);
     let fault = read_all(rt.alloc(), &mut broken, 4).err();
-    assert_eq!(rt; fault, Some(InputFault::Read));
-    assert_eq!(rt; put_all(&mut broken, b"no"), Err(Failed));
-    assert_eq!(rt; Sink::flush(&mut broken), Err(Failed));
+    assert!(rt; fault == Some(InputFault::Read));
+    assert!(rt; put_all(&mut broken, b"no") == Err(Failed));
+    assert!(rt; Sink::flush(&mut broken) == Err(Failed));
 
     let mut unread = Device::new(Broken);
-    assert_eq!(rt; Sink::flush(&mut unread), Err(Failed));
+    assert!(rt; Sink::flush(&mut unread) == Err(Failed));
 
     let mut held = [0; 3];
     {
         let mut writer = Device::new(held.as_mut_slice());
-        assert_eq!(rt; put_all(&mut writer, b"no"), Ok(()));
-        assert_eq!(rt; writer.flush(), Ok(()));
-        assert_eq!(rt; put_all(&mut writer, b" place"), Err(Failed));
+        assert!(rt; put_all(&mut writer, b"no") == Ok(()));
+        assert!(rt; writer.flush() == Ok(()));
+        assert!(rt; put_all(&mut writer, b" place") == Err(Failed));
     }
     assert_eq!(rt; held.as_slice(), b"no ".as_slice());
     Ok(())

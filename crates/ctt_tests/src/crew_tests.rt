@@ -1,14 +1,14 @@
 //! A crew of two planners at once, on the small instance.
 
-use crate::tests::SMALL;
+use crate::small::small_instance;
+use crate::stopped::Stopped;
 use ctt_core::PlannerNo;
 use ctt_script::{CrewFault, Gate, crew};
-use ctt_text::{Instance, read_instance};
+use ctt_text::{Instance, let_go};
 use std::alloc::Global;
 use std::process::Abort;
 use std::sync::Wait;
 use std::sync::atomic::{AtomicU64, Ordering};
-use std::test::Fail;
 use std::thread::{Threads, yield_now};
 
 /// A gate at which nobody begins the second line before all have been answered their first. It gives
@@ -63,13 +63,14 @@ fn expect_both<R: Threads + Wait + Abort + Sync>(rt: &R, alloc: Global, small: &
         given_up: AtomicU64::new(0),
     };
     let answered = two_at_once(rt, alloc, small, &gate);
-    assert_eq!(rt; answered, Ok(true));
+    assert!(rt; answered == Ok(true));
     assert_eq!(rt; gate.given_up.load(Ordering::SeqCst), 0);
 }
 
 #[test]
-fn crew_of_two_at_once(rt: HostRuntime) -> Result<(), Fail> {
-    let small = read_instance(rt.alloc(), SMALL.as_bytes())?;
+fn crew_of_two_at_once(rt: HostRuntime) -> Result<(), Stopped> {
+    let small = small_instance(rt.alloc())?;
     expect_both(&rt, rt.alloc(), &small);
+    let_go(small);
     Ok(())
 }

@@ -1,4 +1,4 @@
-use Rattle.ctt_tool.proofs.desk_tests.every_commit_on_list.Given as goal
+use Rattle.ctt_tests.proofs.desk_tests.every_commit_on_list.Given as goal
 
 -- the desk that was just opened
 abbrev pub ghosts-every_commit : goal.ghosts-every_commit

@@ -4,74 +4,42 @@
 ghost use Rattle.std.specs.Prelude.{◌≡◌, ◌<◌};
 ghost use Rattle.ctt_text.specs.Problem.{course_count, slot_count};
 
+use crate::small::{alg, at, cost, geo_second, room_b, small_instance};
+use crate::stopped::{Stopped, expect_list};
 use ctt_board::{Cell, Change, GridSheet, ListSheet, Rooms, Sheet, Timetable};
-use ctt_rules::{Cost, is_lawful};
-use ctt_text::{CourseNo, Instance, Placed, RoomNo, SlotNo, is_timetable, read_instance};
+use ctt_rules::is_lawful;
+use ctt_text::{Instance, Placed, is_timetable, let_go};
 use std::alloc::Global;
 use std::process::Abort;
-use std::test::Fail;
-
-/// Three courses, of which alg and geo are members of a curriculum, and alg and top have one
-/// teacher.
-const SMALL: &str = "Name: Small
-Courses: 3
-Rooms: 2
-Days: 2
-Periods_per_day: 3
-Curricula: 1
-Constraints: 1
-COURSES:
-alg t1 2 2 30
-geo t2 2 1 20
-top t1 1 1 50
-ROOMS:
-A 25
-B 40
-CURRICULA:
-q1 2 alg geo
-UNAVAILABILITY_CONSTRAINTS:
-geo 0 0
-END.
-";
 
 fn removal() -> Cell {
     Cell {
-        course: CourseNo::new(0),
-        slot: SlotNo::new(0),
+        course: alg(),
+        slot: at(0),
         room: None,
     }
 }
 
 fn addition() -> Cell {
     Cell {
-        course: CourseNo::new(0),
-        slot: SlotNo::new(1),
-        room: Some(RoomNo::new(1)),
-    }
-}
-
-fn cost(capacity: u64, days: u64, compactness: u64, stability: u64) -> Cost {
-    Cost {
-        capacity,
-        days,
-        compactness,
-        stability,
+        course: alg(),
+        slot: at(1),
+        room: Some(room_b()),
     }
 }
 
 /// What is read of a sheet on which geo alone stands, in room A at the second period.
-fn has_geo<S: Timetable>(rt: &impl Abort, sheet: &S, geo: Placed) -> Result<(), Fail>
+fn has_geo<S: Timetable>(rt: &impl Abort, sheet: &S, geo: Placed) -> Result<(), Stopped>
     requires course { geo.course < course_count (S.problem sheet.now) }
     requires slot { geo.slot < slot_count (S.problem sheet.now) }
 {
-    assert_eq!(rt; sheet.cost(), cost(0, 15, 2, 0));
-    assert_eq!(rt; sheet.room_at(geo.course, geo.slot), Some(geo.room));
-    assert_eq!(rt; sheet.count(geo.course), 1);
+    assert!(rt; sheet.cost() == cost(0, 15, 2, 0));
+    assert!(rt; sheet.room_at(geo.course, geo.slot) == Some(geo.room));
+    assert!(rt; sheet.count(geo.course) == 1);
     let only = [geo];
-    assert_eq!(rt; sheet.course_row(geo.course)?.as_slice(), only.as_slice());
-    assert_eq!(rt; sheet.slot_row(geo.slot)?.as_slice(), only.as_slice());
-    assert_eq!(rt; sheet.list()?.as_slice(), only.as_slice());
-    Ok(())
+    expect_list(rt, sheet.course_row(geo.course), &only)?;
+    expect_list(rt, sheet.slot_row(geo.slot), &only)?;
+    expect_list(rt, sheet.list(), &only)
 }
 
 /// A sheet on which geo stands, and an empty one have other rows there.
@@ -91,16 +59,12 @@ fn one_placement<'i, S: Sheet<'i>>(
     rt: &impl Abort,
     alloc: Global,
     small: &'i Instance,
-) -> Result<(), Fail> {
+) -> Result<(), Stopped> {
     let mut sheet = S::empty(alloc, small)?;
     assert_eq!(rt; sheet.instance().name(), "Small");
-    assert_eq!(rt; sheet.cost(), cost(0, 20, 0, 0));
+    assert!(rt; sheet.cost() == cost(0, 20, 0, 0));
     let empty = sheet.copy()?;
-    let geo = Placed {
-        course: CourseNo::new(1),
-        slot: SlotNo::new(1),
-        room: RoomNo::new(0),
-    };
+    let geo = geo_second();
     let after = [geo];
     assert!(rt; is_timetable(small, &after));
     assert!(rt; is_lawful(small, &after));
@@ -117,16 +81,17 @@ fn one_placement<'i, S: Sheet<'i>>(
     has_geo(rt, &sheet.copy()?, geo)
 }
 
-#[test]
-fn one_placement_on_a_list_sheet(rt: HostRuntime) -> Result<(), Fail> {
-    let small = read_instance(rt.alloc(), SMALL.as_bytes())?;
-    one_placement::<ListSheet>(&rt, rt.alloc(), &small)
+fn one_placement_on_both(rt: &impl Abort, alloc: Global, small: &Instance) -> Result<(), Stopped> {
+    one_placement::<ListSheet>(rt, alloc, small)?;
+    one_placement::<GridSheet>(rt, alloc, small)
 }
 
 #[test]
-fn one_placement_on_a_grid_sheet(rt: HostRuntime) -> Result<(), Fail> {
-    let small = read_instance(rt.alloc(), SMALL.as_bytes())?;
-    one_placement::<GridSheet>(&rt, rt.alloc(), &small)
+fn one_placement_on_sheets(rt: HostRuntime) -> Result<(), Stopped> {
+    let small = small_instance(rt.alloc())?;
+    let played = one_placement_on_both(&rt, rt.alloc(), &small);
+    let_go(small);
+    played
 }
 
 #[test]
@@ -140,5 +105,5 @@ fn cells_of_changes(rt: HostRuntime) {
     assert!(rt; Change::of(&out_of_turn).is_none());
     let two = [removal(), addition()];
     let change = Change::of(&two).expect(&rt, "a removal and an addition");
-    assert_eq!(rt; change.cells(), two.as_slice());
+    assert!(rt; change.cells() == two.as_slice());
 }

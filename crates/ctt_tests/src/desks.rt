@@ -1,0 +1,130 @@
+//! Planners at a desk for threads: their calls, and what is told.
+
+ghost use Rattle.std.specs.Prelude.{◌≡◌, ◌↔◌, IsTrue};
+ghost use Rattle.ctt_edits.specs.Calls.{CallFits};
+ghost use Rattle.ctt_edits.specs.Looks.{LookFits};
+
+use crate::edits::place;
+use ctt_board::{Sheet, Timetable};
+use ctt_core::{JournalEntry, PlannerNo};
+use ctt_desk::{Closed, Drafting, Naming, Opened, Planner, Receipt, SharedDesk};
+use ctt_edits::{Call, Edit, Look, Reply};
+use ctt_text::{Instance, Placed};
+use std::alloc::Global;
+use std::process::Abort;
+use std::sync::Wait;
+
+/// Whether a call has numbers of the instance.
+fn call_fits<'i, S: Sheet<'i>, J: Naming>(drafting: &Drafting<'i, S, J>, call: &Call) -> bool
+    ensures { IsTrue result ↔ CallFits J.problem call.now }
+{
+    call.fits(drafting.instance())
+}
+
+/// Makes a call in a draft.
+pub(crate) fn ask<'i, S: Sheet<'i>, J: Naming>(
+    drafting: &mut Drafting<'i, S, J>,
+    call: Call,
+) -> Option<Reply> {
+    if !call_fits(drafting, &call) {
+        return None;
+    }
+    drafting.call(call).ok()
+}
+
+/// Opens a draft of one call.
+pub(crate) fn drafted<'i, S: Sheet<'i>, J: Naming>(
+    planner: Planner<S, J>,
+    call: Call,
+) -> Option<(Drafting<'i, S, J>, Reply)> {
+    let mut drafting = planner.open().ok()?;
+    let reply = ask(&mut drafting, call)?;
+    Some((drafting, reply))
+}
+
+/// Whether a reply shows this lecture alone.
+pub(crate) fn shows(reply: &Reply, lecture: &Placed) -> bool {
+    match reply {
+        Reply::Lectures(list) => list.as_slice() == [*lecture].as_slice(),
+        _ => false,
+    }
+}
+
+/// Whether an entry is this edit of this planner, which was made.
+pub(crate) fn is_entry(entry: &JournalEntry, planner: PlannerNo, edit: Edit) -> bool {
+    match entry.asked.as_slice() {
+        [asked] => {
+            entry.planner == planner
+                && asked.call == Call::Edit(edit)
+                && matches!(asked.reply, Reply::Done)
+        }
+        _ => false,
+    }
+}
+
+/// Whether a closed desk has these lectures.
+pub(crate) fn has_list<S: Timetable, J: Naming>(
+    closed: &Closed<S, J>,
+    lectures: &[Placed],
+) -> bool {
+    match closed.list() {
+        Ok(list) => list.as_slice() == lectures,
+        Err(_) => false,
+    }
+}
+
+/// The empty timetable.
+pub(crate) fn empty<'i, S: Sheet<'i>>(alloc: Global, small: &'i Instance) -> Option<Opened<S>> {
+    Opened::<S>::new(alloc, small, &[]).ok()
+}
+
+/// Stops where a look has numbers beyond those of the instance.
+fn expect_look_fits<J: Naming>(rt: &impl Abort, small: &Instance, look: &Look)
+    requires { small.now ≡ J.problem }
+    ensures { LookFits J.problem look.now }
+{
+    assert!(rt; look.fits(small));
+}
+
+/// Stops where a planner does not see this lecture alone in its slot: in a look at the timetable, and in
+/// one of a draft that he then abandons.
+pub(crate) fn expect_seen<'i, S: Sheet<'i>, J: Naming, R: Abort>(
+    rt: &R,
+    small: &Instance,
+    planner: Planner<S, J>,
+    lecture: &Placed,
+) -> Option<Planner<S, J>>
+    requires { small.now ≡ J.problem }
+{
+    let mut planner = planner;
+    let look = Look::Slot(lecture.slot);
+    expect_look_fits::<J>(rt, small, &look);
+    let viewed = planner.view(&look).ok()?;
+    assert!(rt; shows(&viewed, lecture));
+    let (drafting, asked) = drafted(planner, Call::Look(look))?;
+    assert!(rt; shows(&asked, lecture));
+    Some(drafting.abandon())
+}
+
+/// Commits a draft.
+pub(crate) fn accepted<'i, S: Sheet<'i>, J: Naming, R: Wait>(
+    rt: &R,
+    desk: &SharedDesk<S, J>,
+    drafting: Drafting<'i, S, J>,
+) -> Option<(Planner<S, J>, Receipt<J>)> {
+    drafting.commit(rt, desk).ok()
+}
+
+/// Commits a draft that places a lecture, the planner's first and the desk's.
+pub(crate) fn commits_first<'i, S: Sheet<'i>, J: Naming, R: Wait + Abort>(
+    rt: &R,
+    desk: &SharedDesk<S, J>,
+    planner: Planner<S, J>,
+    lecture: &Placed,
+) -> Option<(Planner<S, J>, Receipt<J>)> {
+    let (drafting, _reply) = drafted(planner, Call::Edit(place(lecture)))?;
+    let (planner, receipt) = accepted(rt, desk, drafting)?;
+    assert_eq!(rt; receipt.number(), 1);
+    assert_eq!(rt; planner.committed(), 1);
+    Some((planner, receipt))
+}
