@@ -89,5 +89,3 @@ fn main(rt: HostRuntime) -> ExitCode {
     let mut err = Device::new(rt.stderr());
     ExitCode::from(serve(&rt, &mut files, &mut out, &mut err))
 }
-
-#[cfg(test)]
