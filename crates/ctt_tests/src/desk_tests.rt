@@ -16,7 +16,7 @@ use ctt_desk::{
     Closed, Drafting, Named, Naming, Opened, Planner, RefreshRefusal, Refusal, SharedDesk,
 };
 use ctt_edits::{Call, Look, Row};
-use ctt_text::{Instance, Placed, let_go};
+use ctt_text::{Instance, Placed, SlotNo, let_go};
 use std::alloc::Global;
 use std::marker::{Brand, PhantomData};
 use std::process::Abort;
@@ -35,6 +35,11 @@ struct Day<'i, S: Timetable, J: Naming> {
 fn drafts_next<'i, S: Sheet<'i>, J: Naming>(day: &mut Day<'i, S, J>, call: Call) -> Option<()> {
     let (drafting, _reply) = drafted(day.waiting.pop()?, call)?;
     day.open.push(drafting).ok()
+}
+
+/// The next planner looks at a slot in a draft, which is left open.
+fn looks_next<'i, S: Sheet<'i>, J: Naming>(day: &mut Day<'i, S, J>, slot: SlotNo) -> Option<()> {
+    drafts_next(day, Call::Look(Look::Slot(slot)))
 }
 
 /// The next planner commits a draft that places a lecture.
@@ -160,12 +165,13 @@ fn turns<'i, S: Sheet<'i>, J: Naming, R: Wait + Abort>(
     day: &mut Day<'i, S, J>,
 ) -> Option<()> {
     let top = top_third();
-    let look = Call::Look(Look::Slot(top.slot));
     drafts_next(day, Call::Edit(place(&geo_second())))?;
-    drafts_next(day, look)?;
-    drafts_next(day, look)?;
+    looks_next(day, top.slot)?;
+    looks_next(day, top.slot)?;
     commits_next(rt, desk, day, &top)?;
-    let small = late_next(rt, desk, day, &top)?;
+    let Some(small) = late_next(rt, desk, day, &top) else {
+        return None;
+    };
     outdated_next(rt, day, &top)?;
     sees_next(rt, small, day, &top)?;
     sees_next(rt, small, day, &top)?;

@@ -1,6 +1,5 @@
 //! Two planners of one desk, of whom one learns the receipt of what the other has committed on a thread of his own.
 
-ghost use Rattle.std.specs.Prelude.{◌≡◌, IfSome};
 ghost use Rattle.ctt_desk.specs.Names.{IsNamed};
 
 use crate::desks::{commits_first, drafted, empty, expect_seen, shows};
@@ -9,7 +8,7 @@ use crate::stopped::Stopped;
 use ctt_board::{ListSheet, Sheet, Timetable};
 use ctt_desk::{Closed, Named, Naming, Opened, Planner, Receipt, SharedDesk};
 use ctt_edits::{Call, Look};
-use ctt_text::{Instance, Placed, let_go};
+use ctt_text::{Instance, let_go};
 use std::alloc::Global;
 use std::marker::{Brand, PhantomData};
 use std::process::Abort;
@@ -66,49 +65,33 @@ fn one_commits<'i, J: Naming + Send + Sync, R: Threads + Wait + Abort + Sync>(
     Some(receipt)
 }
 
-/// A planner opens again and sees his lecture. The instance is told.
-fn sees_own<'i, S: Sheet<'i>, J: Naming, R: Abort>(
+/// The first planner learns a receipt.
+fn learns<S: Timetable, J: Naming, R: Abort>(
     rt: &R,
-    planners: &mut Vec<Planner<S, J>>,
-    lecture: &Placed,
-) -> Option<&'i Instance>
-    ensures { IfSome result (λ small. small.now ≡ J.problem) }
-{
-    let (drafting, asked) = drafted(planners.pop()?, Call::Look(Look::Slot(lecture.slot)))?;
-    assert!(rt; shows(&asked, lecture));
-    let small = drafting.instance();
-    planners.push(drafting.abandon()).ok()?;
-    Some(small)
-}
-
-/// A planner who has learnt a receipt sees the lecture.
-fn sees_learnt<'i, S: Sheet<'i>, J: Naming, R: Abort>(
-    rt: &R,
-    small: &Instance,
     planners: &mut Vec<Planner<S, J>>,
     receipt: &Receipt<J>,
-    lecture: &Placed,
-) -> Option<()>
-    requires { small.now ≡ J.problem }
-{
+) -> Option<Planner<S, J>> {
+    planners.reverse();
     let mut planner = planners.pop()?;
     planner.learn(receipt);
     assert_eq!(rt; planner.seen(), 1);
-    planners
-        .push(expect_seen(rt, small, planner, lecture)?)
-        .ok()
+    Some(planner)
 }
 
-/// The planner who has committed sees his lecture, and the other one sees it who has learnt the receipt.
+/// The planner who has committed opens again and sees his lecture, and the other one sees it who has learnt the
+/// receipt.
 fn both_see<'i, S: Sheet<'i>, J: Naming, R: Abort>(
     rt: &R,
     planners: &mut Vec<Planner<S, J>>,
     receipt: &Receipt<J>,
 ) -> Option<()> {
     let geo = geo_second();
-    let small = sees_own(rt, planners, &geo)?;
-    planners.reverse();
-    sees_learnt(rt, small, planners, receipt, &geo)
+    let (drafting, asked) = drafted(planners.pop()?, Call::Look(Look::Slot(geo.slot)))?;
+    assert!(rt; shows(&asked, &geo));
+    let small = drafting.instance();
+    planners.push(drafting.abandon()).ok()?;
+    let other = learns(rt, planners, receipt)?;
+    planners.push(expect_seen(rt, small, other, &geo)?).ok()
 }
 
 /// Stops where a desk was not closed with all planners, or does not have one entry.

@@ -8,7 +8,7 @@ use crate::small::{alg, at, cost, geo_second, room_b, small_instance};
 use crate::stopped::{Stopped, expect_list};
 use ctt_board::{Cell, Change, GridSheet, ListSheet, Rooms, Sheet, Timetable};
 use ctt_rules::is_lawful;
-use ctt_text::{Instance, Placed, is_timetable, let_go};
+use ctt_text::{CourseNo, Instance, Placed, SlotNo, is_timetable, let_go};
 use std::alloc::Global;
 use std::process::Abort;
 
@@ -28,6 +28,22 @@ fn addition() -> Cell {
     }
 }
 
+/// The rows of a sheet on which these lectures alone stand, of this course and in this slot.
+fn has_rows<S: Timetable>(
+    rt: &impl Abort,
+    sheet: &S,
+    course: CourseNo,
+    slot: SlotNo,
+    only: &[Placed],
+) -> Result<(), Stopped>
+    requires course { course < course_count (S.problem sheet.now) }
+    requires slot { slot < slot_count (S.problem sheet.now) }
+{
+    expect_list(rt, sheet.course_row(course), only)?;
+    expect_list(rt, sheet.slot_row(slot), only)?;
+    expect_list(rt, sheet.list(), only)
+}
+
 /// What is read of a sheet on which geo alone stands, in room A at the second period.
 fn has_geo<S: Timetable>(rt: &impl Abort, sheet: &S, geo: Placed) -> Result<(), Stopped>
     requires course { geo.course < course_count (S.problem sheet.now) }
@@ -35,11 +51,8 @@ fn has_geo<S: Timetable>(rt: &impl Abort, sheet: &S, geo: Placed) -> Result<(), 
 {
     assert!(rt; sheet.cost() == cost(0, 15, 2, 0));
     assert!(rt; sheet.room_at(geo.course, geo.slot) == Some(geo.room));
-    assert!(rt; sheet.count(geo.course) == 1);
-    let only = [geo];
-    expect_list(rt, sheet.course_row(geo.course), &only)?;
-    expect_list(rt, sheet.slot_row(geo.slot), &only)?;
-    expect_list(rt, sheet.list(), &only)
+    assert_eq!(rt; sheet.count(geo.course), 1);
+    has_rows(rt, sheet, geo.course, geo.slot, &[geo])
 }
 
 /// A sheet on which geo stands, and an empty one have other rows there.
