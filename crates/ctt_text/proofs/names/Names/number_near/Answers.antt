@@ -1,4 +1,4 @@
-use Rattle.std.proofs.Common.{rules, ◌≡◌, ◌∙◌, ◌<◌, arith, sym}
+use Rattle.std.proofs.Common.{rules, ◌≡◌, arith}
 use Rattle.std.specs.Prelude.{slice_index_or, []}
 use Rattle.ctt_text.proofs.WrittenLaws.{number_at}
 use Rattle.ctt_text.proofs.names.Names.number_near.Goals as goal

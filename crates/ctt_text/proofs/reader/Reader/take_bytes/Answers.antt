@@ -1,7 +1,7 @@
 use Rattle.std.proofs.Common.{◌≡◌, length, take, sym, ◌∙◌, true, arith}
 use Rattle.std.specs.Str.{bytes_eq}
 use Rattle.ctt_text.proofs.FrontLemmas.{text_cut, text_counted, text_taken}
-use Rattle.ctt_text.proofs.reader.Reader.text.Goals as goal
+use Rattle.ctt_text.proofs.reader.Reader.take_bytes.Goals as goal
 
 pub range_from-self-inside-requires : goal.range_from-self-inside-requires
 range_from-self-inside-requires c =
