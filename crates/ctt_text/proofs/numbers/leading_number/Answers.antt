@@ -4,8 +4,8 @@ use Rattle.std.proofs.lemmas.Grind.{common_steps}
 use Rattle.std.specs.List.{list_all}
 use Rattle.ctt_text.specs.Numbers.{is_digit, value}
 use Rattle.ctt_text.proofs.NumberLemmas.{is_front_number, too_large_front, no_front_number, digits_end}
-use Rattle.ctt_text.proofs.numbers.any_number.Goals as goal
-use Rattle.ctt_text.proofs.numbers.any_number.Goals.{then-loop-len-test+else-is_ascii_digit, else-loop-len-test, else-len-gt0-via-then-len-gt0+else-is_word_end, else-len-gt0-via-else-len-gt0}
+use Rattle.ctt_text.proofs.numbers.leading_number.Goals as goal
+use Rattle.ctt_text.proofs.numbers.leading_number.Goals.{then-loop-len-test+else-is_ascii_digit, else-loop-len-test, else-len-gt0-via-then-len-gt0+else-is_word_end, else-len-gt0-via-else-len-gt0}
 
 pub returns-then-value-gt-GREATEST-clause-none : goal.returns-then-value-gt-GREATEST-clause-none
 returns-then-value-gt-GREATEST-clause-none c =

@@ -1,7 +1,7 @@
 use Rattle.std.proofs.Common.{◌≡◌, ◌≤◌, ◌-◌, take, length, true}
 use Rattle.std.specs.List.{list_all}
 use Rattle.ctt_text.specs.Numbers.{is_digit, value}
-use Rattle.ctt_text.proofs.numbers.any_number.Given as goal
+use Rattle.ctt_text.proofs.numbers.leading_number.Given as goal
 
 abbrev pub invariant-loop-len : goal.invariant-loop-len
 invariant-loop-len l = record {
