@@ -20,7 +20,6 @@ pub mod BetweenLemmas
 pub mod SheetLemmas
 pub mod GainLemmas
 pub mod HolderLemmas
-mod HeldLemmas
 mod AfterLemmas
 mod FewLemmas
 pub mod LawfulLemmas

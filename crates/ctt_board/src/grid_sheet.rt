@@ -22,7 +22,6 @@ use crate::fitting::fits;
 use crate::joining::{joining_of, with_lecture, without_lecture};
 use crate::later::Later;
 use crate::laws;
-use crate::same_rows::{same_course_row, same_slot_row};
 use crate::sheet::{Rooms, Sheet, Timetable};
 use crate::table::Table;
 use crate::tables::Tables;
@@ -296,14 +295,6 @@ impl<'i> Timetable for GridSheet<'i> {
         };
         self.tables.apply_all(self.instance, changes);
         self.cost = cost;
-    }
-
-    fn same_course_row(&self, other: &Self, course: CourseNo) -> bool {
-        same_course_row(self.instance, self, other, course)
-    }
-
-    fn same_slot_row(&self, other: &Self, slot: SlotNo) -> bool {
-        same_slot_row(self.instance, self, other, slot)
     }
 
     fn course_row(&self, course: CourseNo) -> Result<Vec<Placed>, NoMemory> {

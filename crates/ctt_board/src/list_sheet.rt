@@ -12,7 +12,6 @@ use crate::change::Change;
 use crate::delta::delta;
 use crate::fitting::fits;
 use crate::laws;
-use crate::same_rows::{same_course_row, same_slot_row};
 use crate::sheet::{Rooms, Sheet, Timetable};
 use crate::standing::standing_in;
 use ctt_rules::Cost;
@@ -183,14 +182,6 @@ impl<'i> Timetable for ListSheet<'i> {
         for change in changes {
             self.apply(change);
         }
-    }
-
-    fn same_course_row(&self, other: &Self, course: CourseNo) -> bool {
-        same_course_row(self.instance, self, other, course)
-    }
-
-    fn same_slot_row(&self, other: &Self, slot: SlotNo) -> bool {
-        same_slot_row(self.instance, self, other, slot)
     }
 
     fn course_row(&self, course: CourseNo) -> Result<Vec<Placed>, NoMemory> {

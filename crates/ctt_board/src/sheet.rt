@@ -1,6 +1,6 @@
 //! What a sheet is.
 
-ghost use Rattle.std.specs.Prelude.{◌≡◌, ◌<◌, ◌^◌, ◌↔◌, ◌++◌, ℕ, [], length, is_some, IfOk, IfSome, OnOk, IsTrue};
+ghost use Rattle.std.specs.Prelude.{◌≡◌, ◌<◌, ◌^◌, ◌++◌, ℕ, [], length, is_some, IfOk, IfSome, OnOk};
 ghost use Rattle.ctt_text.specs.Problem.{course_count, slot_count, room_count};
 ghost use Rattle.ctt_text.specs.Marks.{is_marked};
 ghost use Rattle.ctt_text.specs.Timetable.{course_row, slot_row};
@@ -85,18 +85,6 @@ pub trait Timetable: Rooms + Send + Sync {
         requires cost { IfSome cost (λ x. x ≡ penalty (Self.problem self.old) (apply_all changes.now (Self.list self.old))) }
         ensures problem { Self.problem self.new ≡ Self.problem self.old }
         ensures list { Self.list self.new ≡ apply_all changes.now (Self.list self.old) };
-
-    /// Whether another sheet of the instance has the same lectures of a course. It takes no memory.
-    fn same_course_row(&self, other: &Self, course: CourseNo) -> bool
-        requires instance { Self.problem other.now ≡ Self.problem self.now }
-        requires course { course < course_count (Self.problem self.now) }
-        ensures { IsTrue result ↔ (course_row course (Self.list self.now) ≡ course_row course (Self.list other.now)) };
-
-    /// Whether another sheet of the instance has the same lectures in a slot. It takes no memory.
-    fn same_slot_row(&self, other: &Self, slot: SlotNo) -> bool
-        requires instance { Self.problem other.now ≡ Self.problem self.now }
-        requires slot { slot < slot_count (Self.problem self.now) }
-        ensures { IsTrue result ↔ (slot_row slot (Self.list self.now) ≡ slot_row slot (Self.list other.now)) };
 
     /// The lectures of a course, by slot.
     fn course_row(&self, course: CourseNo) -> Result<Vec<Placed>, NoMemory>
