@@ -22,6 +22,7 @@ pub mod GainLemmas
 pub mod HolderLemmas
 mod AfterLemmas
 mod FewLemmas
+mod CutLemmas
 pub mod LawfulLemmas
 pub mod SettleLemmas
 pub mod FitLemmas

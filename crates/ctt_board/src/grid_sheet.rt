@@ -1,6 +1,6 @@
 //! A sheet that keeps tables of fixed size, and its costs.
 
-ghost use Rattle.std.specs.Prelude.{◌≡◌, ◌≤◌, ◌<◌, ◌+◌, pos, ◌-ℤ◌, ◌*◌, ◌++◌, ℕ, cond, get_or, [], true, false, Some, None, is_some, length, IfOk, OnOk};
+ghost use Rattle.std.specs.Prelude.{◌≡◌, ◌≤◌, ◌<◌, ◌+◌, pos, ◌-ℤ◌, ◌*◌, ◌++◌, ℕ, cond, get_or, [], true, false, Some, None, is_some, length, take, IfOk, OnOk, OnErr};
 ghost use Rattle.ctt_text.specs.Marks.{is_marked};
 ghost use Rattle.ctt_text.specs.Problem.{course_count, slot_count};
 ghost use Rattle.ctt_text.specs.Timetable.{course_row, slot_row, with, without, Fits};
@@ -17,7 +17,7 @@ use crate::after::last_room;
 use crate::cell::Cell;
 use crate::change::Change;
 use crate::compact::Compact;
-use crate::course_rows::{append_here, append_slots};
+use crate::course_rows::{append_here, append_slots, or_cut};
 use crate::fitting::fits;
 use crate::joining::{joining_of, with_lecture, without_lecture};
 use crate::later::Later;
@@ -115,7 +115,8 @@ impl<'i> GridSheet<'i> {
     #[inline(always)]
     fn append_if_any(&self, list: &mut Vec<Placed>, course: CourseNo) -> Result<(), AllocError>
         requires { course < course_count self.now.problem }
-        ensures { OnOk result (list.new.items ≡ list.old.items ++ course_row course self.now.list) }
+        ensures row { OnOk result (list.new.items ≡ list.old.items ++ course_row course self.now.list) }
+        ensures begins { OnErr result (take (length list.old.items) list.new.items ≡ list.old.items) }
     {
         if self.count(course) == 0 {
             return Ok(());
@@ -133,7 +134,8 @@ impl<'i> GridSheet<'i> {
     ) -> Result<(), AllocError>
         requires slot { slot < slot_count self.now.problem }
         requires standing { (course : ℕ) → is_marked standing.now course ≡ is_some (room_at course slot self.now.list) }
-        ensures { OnOk result (list.new.items ≡ list.old.items ++ slot_row slot self.now.list) }
+        ensures row { OnOk result (list.new.items ≡ list.old.items ++ slot_row slot self.now.list) }
+        ensures begins { OnErr result (take (length list.old.items) list.new.items ≡ list.old.items) }
     {
         self.instance.limits_hold();
         let courses = self.instance.courses() as usize;
@@ -150,7 +152,8 @@ fn append_lecture(
 ) -> Result<(), AllocError>
     requires rows { course < rooms.now.rows }
     requires width { slot < rooms.now.width }
-    ensures { OnOk result (list.new.items ≡ list.old.items ++ lecture_at course slot (at rooms.now course slot None)) }
+    ensures row { OnOk result (list.new.items ≡ list.old.items ++ lecture_at course slot (at rooms.now course slot None)) }
+    ensures begins { OnErr result (take (length list.old.items) list.new.items ≡ list.old.items) }
 {
     let here = rooms.get(course.get() as usize, slot.get() as usize);
     append_here(list, here, course, slot)
@@ -166,7 +169,8 @@ fn append_row(
     requires course { course < course_count instance.now }
     requires rows { rooms.now.rows ≡ course_count instance.now }
     requires width { rooms.now.width ≡ slot_count instance.now }
-    ensures { OnOk result (list.new.items ≡ list.old.items ++ row_below (λ s. at rooms.now course s None) course (slot_count instance.now)) }
+    ensures row { OnOk result (list.new.items ≡ list.old.items ++ row_below (λ s. at rooms.now course s None) course (slot_count instance.now)) }
+    ensures begins { OnErr result (take (length list.old.items) list.new.items ≡ list.old.items) }
 {
     instance.limits_hold();
     append_slots(list, rooms.row(course.get() as usize), course)
@@ -185,7 +189,8 @@ fn append_column(
     requires width { slot < rooms.now.width }
     requires standing { (c : ℕ) → c < rooms.now.rows → is_marked standing.now c ≡ is_some (at rooms.now c slot None) }
     requires within { (c : ℕ) → is_marked standing.now c ≡ true → c < rooms.now.rows }
-    ensures { OnOk result (list.new.items ≡ list.old.items ++ column_below (λ c. at rooms.now c slot None) slot rooms.now.rows) }
+    ensures row { OnOk result (list.new.items ≡ list.old.items ++ column_below (λ c. at rooms.now c slot None) slot rooms.now.rows) }
+    ensures begins { OnErr result (take (length list.old.items) list.new.items ≡ list.old.items) }
 {
     let mut from = 0;
     while let Some(number) = standing.next_between(from, courses) {
@@ -305,8 +310,9 @@ impl<'i> Timetable for GridSheet<'i> {
     }
 
     fn append_course_row(&self, course: CourseNo, list: &mut Vec<Placed>) -> Result<(), NoMemory> {
-        self.append_if_any(list, course)?;
-        Ok(())
+        let length = list.len();
+        let appended = self.append_if_any(list, course);
+        or_cut(list, length, appended)
     }
 
     fn slot_row(&self, slot: SlotNo) -> Result<Vec<Placed>, NoMemory> {
@@ -321,8 +327,9 @@ impl<'i> Timetable for GridSheet<'i> {
     }
 
     fn append_slot_row(&self, slot: SlotNo, list: &mut Vec<Placed>) -> Result<(), NoMemory> {
-        self.append_standing(list, &self.standing(slot), slot)?;
-        Ok(())
+        let length = list.len();
+        let appended = self.append_standing(list, &self.standing(slot), slot);
+        or_cut(list, length, appended)
     }
 
     fn list(&self) -> Result<Vec<Placed>, NoMemory> {

@@ -196,12 +196,13 @@ impl<'i> Timetable for ListSheet<'i> {
 
     fn slot_row(&self, slot: SlotNo) -> Result<Vec<Placed>, NoMemory> {
         let mut row = Vec::new(*self.lectures.allocator());
-        self.append_slot_row(slot, &mut row)?;
+        append_in_slot(&mut row, &self.lectures, slot)?;
         Ok(row)
     }
 
     fn append_slot_row(&self, slot: SlotNo, list: &mut Vec<Placed>) -> Result<(), NoMemory> {
-        Ok(append_in_slot(list, &self.lectures, slot)?)
+        let row = self.slot_row(slot)?;
+        Ok(list.extend_from_slice(&row)?)
     }
 
     fn list(&self) -> Result<Vec<Placed>, NoMemory> {

@@ -1,6 +1,6 @@
 //! What a sheet is.
 
-ghost use Rattle.std.specs.Prelude.{◌≡◌, ◌<◌, ◌^◌, ◌++◌, ℕ, [], length, is_some, IfOk, IfSome, OnOk};
+ghost use Rattle.std.specs.Prelude.{◌≡◌, ◌<◌, ◌^◌, ◌++◌, ℕ, [], length, is_some, IfOk, IfSome, OnOk, OnErr};
 ghost use Rattle.ctt_text.specs.Problem.{course_count, slot_count, room_count};
 ghost use Rattle.ctt_text.specs.Marks.{is_marked};
 ghost use Rattle.ctt_text.specs.Timetable.{course_row, slot_row};
@@ -91,20 +91,22 @@ pub trait Timetable: Rooms + Send + Sync {
         requires { course < course_count (Self.problem self.now) }
         ensures { IfOk result (λ row. row.items ≡ course_row course (Self.list self.now)) };
 
-    /// Appends the lectures of a course, by slot, to a list.
+    /// Appends the lectures of a course, by slot, to a list, or leaves it as it was.
     fn append_course_row(&self, course: CourseNo, list: &mut Vec<Placed>) -> Result<(), NoMemory>
         requires { course < course_count (Self.problem self.now) }
-        ensures { OnOk result (list.new.items ≡ list.old.items ++ course_row course (Self.list self.now)) };
+        ensures row { OnOk result (list.new.items ≡ list.old.items ++ course_row course (Self.list self.now)) }
+        ensures kept { OnErr result (list.new.items ≡ list.old.items) };
 
     /// The lectures in a slot, by course.
     fn slot_row(&self, slot: SlotNo) -> Result<Vec<Placed>, NoMemory>
         requires { slot < slot_count (Self.problem self.now) }
         ensures { IfOk result (λ row. row.items ≡ slot_row slot (Self.list self.now)) };
 
-    /// Appends the lectures in a slot, by course, to a list.
+    /// Appends the lectures in a slot, by course, to a list, or leaves it as it was.
     fn append_slot_row(&self, slot: SlotNo, list: &mut Vec<Placed>) -> Result<(), NoMemory>
         requires { slot < slot_count (Self.problem self.now) }
-        ensures { OnOk result (list.new.items ≡ list.old.items ++ slot_row slot (Self.list self.now)) };
+        ensures row { OnOk result (list.new.items ≡ list.old.items ++ slot_row slot (Self.list self.now)) }
+        ensures kept { OnErr result (list.new.items ≡ list.old.items) };
 
     /// All lectures, by course and slot.
     fn list(&self) -> Result<Vec<Placed>, NoMemory>
