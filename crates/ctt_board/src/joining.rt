@@ -43,6 +43,7 @@ fn missing_day(later: &Later, instance: &Instance, lecture: &Placed, on_day: u64
 }
 
 /// One, if a lecture would give its course a further room.
+#[inline(always)]
 fn further_room(later: &Later, instance: &Instance, lecture: &Placed) -> u64
     requires fits { Fits instance.now lecture.now }
     requires sizes { HaveSizes instance.now later.now.counts.now }

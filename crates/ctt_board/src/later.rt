@@ -1,12 +1,13 @@
 //! The counts of a timetable as a change would leave them. Nothing is changed, and no memory is
 //! taken.
 
-ghost use Rattle.std.specs.Prelude.{◌≡◌, ◌<◌, ◌≤◌, ◌+◌, ◌-◌, ℕ, [], count_by, length, cond, ◌==◌, ◌++◌, ◌∷◌};
+ghost use Rattle.std.specs.Prelude.{◌≡◌, ◌<◌, ◌≤◌, ◌+◌, ◌-◌, ℕ, [], count_by, length, cond, ◌==◌, ◌||◌, ◌++◌, ◌∷◌};
+ghost use Rattle.std.specs.List.{list_any};
 ghost use Rattle.ctt_text.specs.Problem.{course_count, slot_count, room_count, curriculum_count, members, day_of};
 ghost use Rattle.ctt_text.specs.Timetable.{Fits};
 ghost use Rattle.ctt_board.specs.Joining.{on_day, in_room, in_slot, gain_of, IsSmallJoining};
 ghost use Rattle.ctt_board.specs.Counts.{HaveSizes};
-ghost use Rattle.ctt_board.specs.Seen.{seen_day, seen_room, seen_lectures, seen_part, seen_days, seen_joining, NoneThere, OneThere};
+ghost use Rattle.ctt_board.specs.Seen.{seen, seen_day, seen_room, seen_lectures, seen_part, seen_days, seen_joining, NoneThere, OneThere};
 
 use crate::counts::Counts;
 use crate::joining::{gain, joining_on};
@@ -80,8 +81,14 @@ fn is_in_slot(instance: &Instance, lecture: &Placed, part: CurriculumNo, slot: S
     lecture.slot == slot && instance.members(part).contains(&lecture.course)
 }
 
+/// Whether one of the lectures is in a slot.
+fn is_any_in(lectures: &[Placed], slot: SlotNo) -> bool
+    ensures { result ≡ list_any (λ l. l.slot == slot) lectures.now }
+{
+    lectures.iter().any(|l| l.slot == slot)
+}
+
 /// How many of the lectures are of a curriculum in a slot.
-#[inline(always)]
 fn in_slot(instance: &Instance, lectures: &[Placed], part: CurriculumNo, slot: SlotNo) -> u64
     requires few { length lectures.now ≤ 4 }
     requires part { part < curriculum_count instance.now }
@@ -206,6 +213,34 @@ impl<'a> Later<'a> {
             .counts
             .parts
             .get(part.get() as usize, slot.get() as usize);
+        if self.changes(slot) {
+            self.changed_in_slot(instance, part, slot, count)
+        } else {
+            count
+        }
+    }
+
+    /// Whether a lecture comes to a slot, or leaves it.
+    fn changes(&self, slot: SlotNo) -> bool
+        ensures { result ≡ (list_any (λ l. l.slot == slot) self.now.added.items || list_any (λ l. l.slot == slot) self.now.removed.items) }
+    {
+        is_any_in(&self.added, slot) || is_any_in(&self.removed, slot)
+    }
+
+    /// So many lectures of a curriculum in a slot, with those that come to it and without those that leave it.
+    #[inline(never)]
+    fn changed_in_slot(
+        &self,
+        instance: &Instance,
+        part: CurriculumNo,
+        slot: SlotNo,
+        count: u64,
+    ) -> u64
+        requires part { part < curriculum_count instance.now }
+        requires count { count ≤ 1 }
+        ensures value { result ≡ seen self.now (in_slot (members instance.now part) slot) count }
+        ensures bound { result ≤ 5000000000 }
+    {
         let more = in_slot(instance, &self.added, part, slot);
         let less = in_slot(instance, &self.removed, part, slot);
         (count + more).saturating_sub(less)
