@@ -48,7 +48,8 @@ fn append_each(
     course: CourseNo,
 ) -> Result<(), AllocError>
     requires { length cells.now ≤ 2000 }
-    ensures row { OnOk result (list.new.items ≡ list.old.items ++ row_below (λ s. get_or cells.now s None) course (length cells.now)) }
+    ensures row { OnOk result (list.new.items
+        ≡ list.old.items ++ row_below (λ s. get_or cells.now s None) course (length cells.now)) }
     ensures begins { OnErr result (take (length list.old.items) list.new.items ≡ list.old.items) }
 {
     for (number, here) in cells.iter().enumerate() {
@@ -97,7 +98,8 @@ pub(crate) fn append_slots(
     course: CourseNo,
 ) -> Result<(), AllocError>
     requires { length rooms.now ≤ 2000 }
-    ensures row { OnOk result (list.new.items ≡ list.old.items ++ row_below (λ s. get_or rooms.now s None) course (length rooms.now)) }
+    ensures row { OnOk result (list.new.items
+        ≡ list.old.items ++ row_below (λ s. get_or rooms.now s None) course (length rooms.now)) }
     ensures begins { OnErr result (take (length list.old.items) list.new.items ≡ list.old.items) }
 {
     if rooms.len() < GROUP {

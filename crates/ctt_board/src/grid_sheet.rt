@@ -52,10 +52,10 @@ impl<'i> Model for GridSheet<'i> {
 }
 
 impl<'i> GridSheet<'i> {
-    /// Adds a lecture.
     fn add(&mut self, lecture: &Placed)
         requires fits { Fits self.old.problem lecture.now }
-        requires empty { is_some (room_at lecture.now.course lecture.now.slot self.old.list) ≡ false }
+        requires empty { is_some (room_at lecture.now.course lecture.now.slot self.old.list)
+            ≡ false }
         requires lawful { Lawful self.old.problem (with lecture.now self.old.list) }
         ensures problem { self.new.problem ≡ self.old.problem }
         ensures list { self.new.list ≡ with lecture.now self.old.list }
@@ -69,7 +69,8 @@ impl<'i> GridSheet<'i> {
     /// Removes a lecture that is there.
     fn remove(&mut self, lecture: &Placed)
         requires fits { Fits self.old.problem lecture.now }
-        requires there { room_at lecture.now.course lecture.now.slot self.old.list ≡ Some lecture.now.room }
+        requires there { room_at lecture.now.course lecture.now.slot self.old.list
+            ≡ Some lecture.now.room }
         ensures problem { self.new.problem ≡ self.old.problem }
         ensures list { self.new.list ≡ without lecture.now.course lecture.now.slot self.old.list }
     {
@@ -79,14 +80,15 @@ impl<'i> GridSheet<'i> {
         self.cost = without_lecture(self.cost, &joining);
     }
 
-    /// Makes a cell.
     fn make(&mut self, cell: &Cell)
         requires fits { CellFits self.old.list cell.now.course cell.now.slot cell.now.room }
-        requires lawful { Lawful self.old.problem (apply_at cell.now.course cell.now.slot cell.now.room self.old.list) }
+        requires lawful { Lawful self.old.problem
+            (apply_at cell.now.course cell.now.slot cell.now.room self.old.list) }
         requires course { cell.now.course < course_count self.old.problem }
         requires slot { cell.now.slot < slot_count self.old.problem }
         ensures problem { self.new.problem ≡ self.old.problem }
-        ensures list { self.new.list ≡ apply_at cell.now.course cell.now.slot cell.now.room self.old.list }
+        ensures list { self.new.list
+            ≡ apply_at cell.now.course cell.now.slot cell.now.room self.old.list }
     {
         self.lawful();
         let course = cell.course;
@@ -115,8 +117,10 @@ impl<'i> GridSheet<'i> {
     #[inline(always)]
     fn append_if_any(&self, list: &mut Vec<Placed>, course: CourseNo) -> Result<(), AllocError>
         requires { course < course_count self.now.problem }
-        ensures row { OnOk result (list.new.items ≡ list.old.items ++ course_row course self.now.list) }
-        ensures begins { OnErr result (take (length list.old.items) list.new.items ≡ list.old.items) }
+        ensures row { OnOk result
+            (list.new.items ≡ list.old.items ++ course_row course self.now.list) }
+        ensures begins { OnErr result
+            (take (length list.old.items) list.new.items ≡ list.old.items) }
     {
         if self.count(course) == 0 {
             return Ok(());
@@ -133,9 +137,11 @@ impl<'i> GridSheet<'i> {
         slot: SlotNo,
     ) -> Result<(), AllocError>
         requires slot { slot < slot_count self.now.problem }
-        requires standing { (course : ℕ) → is_marked standing.now course ≡ is_some (room_at course slot self.now.list) }
+        requires standing { (course : ℕ)
+            → is_marked standing.now course ≡ is_some (room_at course slot self.now.list) }
         ensures row { OnOk result (list.new.items ≡ list.old.items ++ slot_row slot self.now.list) }
-        ensures begins { OnErr result (take (length list.old.items) list.new.items ≡ list.old.items) }
+        ensures begins { OnErr result
+            (take (length list.old.items) list.new.items ≡ list.old.items) }
     {
         self.instance.limits_hold();
         let courses = self.instance.courses() as usize;
@@ -152,7 +158,8 @@ fn append_lecture(
 ) -> Result<(), AllocError>
     requires rows { course < rooms.now.rows }
     requires width { slot < rooms.now.width }
-    ensures row { OnOk result (list.new.items ≡ list.old.items ++ lecture_at course slot (at rooms.now course slot None)) }
+    ensures row { OnOk result (list.new.items
+        ≡ list.old.items ++ lecture_at course slot (at rooms.now course slot None)) }
     ensures begins { OnErr result (take (length list.old.items) list.new.items ≡ list.old.items) }
 {
     let here = rooms.get(course.get() as usize, slot.get() as usize);
@@ -169,7 +176,9 @@ fn append_row(
     requires course { course < course_count instance.now }
     requires rows { rooms.now.rows ≡ course_count instance.now }
     requires width { rooms.now.width ≡ slot_count instance.now }
-    ensures row { OnOk result (list.new.items ≡ list.old.items ++ row_below (λ s. at rooms.now course s None) course (slot_count instance.now)) }
+    ensures row { OnOk result (list.new.items
+        ≡ list.old.items
+        ++ row_below (λ s. at rooms.now course s None) course (slot_count instance.now)) }
     ensures begins { OnErr result (take (length list.old.items) list.new.items ≡ list.old.items) }
 {
     instance.limits_hold();
@@ -187,9 +196,11 @@ fn append_column(
     requires courses { courses ≡ rooms.now.rows }
     requires few { rooms.now.rows ≤ 2000 }
     requires width { slot < rooms.now.width }
-    requires standing { (c : ℕ) → c < rooms.now.rows → is_marked standing.now c ≡ is_some (at rooms.now c slot None) }
+    requires standing { (c : ℕ) → c < rooms.now.rows
+        → is_marked standing.now c ≡ is_some (at rooms.now c slot None) }
     requires within { (c : ℕ) → is_marked standing.now c ≡ true → c < rooms.now.rows }
-    ensures row { OnOk result (list.new.items ≡ list.old.items ++ column_below (λ c. at rooms.now c slot None) slot rooms.now.rows) }
+    ensures row { OnOk result (list.new.items
+        ≡ list.old.items ++ column_below (λ c. at rooms.now c slot None) slot rooms.now.rows) }
     ensures begins { OnErr result (take (length list.old.items) list.new.items ≡ list.old.items) }
 {
     let mut from = 0;
@@ -242,13 +253,19 @@ fn step(
     requires same { sheet.now.problem ≡ instance.now }
     requires done { CellsFit done.now sheet.now.list }
     requires lawful { Lawful instance.now (apply done.now sheet.now.list) }
-    requires ready { Ready instance.now cell.now.course cell.now.slot cell.now.room (apply done.now sheet.now.list) }
+    requires ready { Ready instance.now cell.now.course cell.now.slot cell.now.room
+        (apply done.now sheet.now.list) }
     requires sees { Sees instance.now later.old (apply done.now sheet.now.list) }
     requires room { HasPlaces later.old (length done.now) }
     requires few { length done.now < 4 }
-    ensures sees { Sees instance.now later.new (apply_at cell.now.course cell.now.slot cell.now.room (apply done.now sheet.now.list)) }
+    ensures sees { Sees instance.now later.new
+        (apply_at cell.now.course cell.now.slot cell.now.room (apply done.now sheet.now.list)) }
     ensures room { HasPlaces later.new (length done.now + 1) }
-    ensures value { result ≡ pos (total (penalty instance.now (apply_at cell.now.course cell.now.slot cell.now.room (apply done.now sheet.now.list)))) -ℤ pos (total (penalty instance.now (apply done.now sheet.now.list))) }
+    ensures value { result
+        ≡ pos (total
+        (penalty instance.now
+        (apply_at cell.now.course cell.now.slot cell.now.room (apply done.now sheet.now.list))))
+        -ℤ pos (total (penalty instance.now (apply done.now sheet.now.list))) }
 {
     instance.limits_hold();
     let course = cell.course;

@@ -96,7 +96,8 @@ fn make(lectures: &mut Vec<Placed>, cells: &[Cell])
 /// No lecture, and room for as many as a lawful timetable can have.
 fn reserved(alloc: Global, instance: &Instance) -> Result<Vec<Placed>, AllocError>
     ensures items { IfOk result (λ v. v.items ≡ []) }
-    ensures room { IfOk result (λ v. course_count instance.now * slot_count instance.now ≤ vec_capacity v) }
+    ensures room { IfOk result
+        (λ v. course_count instance.now * slot_count instance.now ≤ vec_capacity v) }
 {
     instance.limits_hold();
     let places = instance.courses() as usize * instance.slots() as usize;

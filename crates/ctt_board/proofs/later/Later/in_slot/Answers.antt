@@ -9,7 +9,7 @@ use Rattle.ctt_board.proofs.later.Later.in_slot.Goals as goal
 pub returns-else-changes-clause-value : goal.returns-else-changes-clause-value
 returns-else-changes-clause-value c =
     let v = c.args.self.now in
-    let q = members c.args.instance.now c.args.part in
-    let n : ℕ = at v.counts.now.parts c.args.part c.args.slot 0 in
+    let q = members c.args.instance.now c.args.curriculum in
+    let n : ℕ = at v.counts.now.curricula c.args.curriculum c.args.slot 0 in
     let same : seen v (in_slot q c.args.slot) n ≡ n = unchanged v q c.args.slot n (search rules) in
     search rules
