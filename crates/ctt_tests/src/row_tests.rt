@@ -1,7 +1,7 @@
-//! One placement on a sheet, with every reader, and rows compared; and which cells make a change. The costs were
-//! computed by hand from the rules.
+//! One placement on a sheet, with every reader; and which cells make a change. The costs were computed by hand from
+//! the rules.
 
-ghost use Rattle.std.specs.Prelude.{◌≡◌, ◌<◌};
+ghost use Rattle.std.specs.Prelude.{◌<◌};
 ghost use Rattle.ctt_text.specs.Problem.{course_count, slot_count};
 
 use crate::small::{alg, at, cost, geo_second, room_b, small_instance};
@@ -55,18 +55,6 @@ fn has_geo<S: Timetable>(rt: &impl Abort, sheet: &S, geo: Placed) -> Result<(), 
     has_rows(rt, sheet, geo.course, geo.slot, &[geo])
 }
 
-/// A sheet on which geo stands, and an empty one have other rows there.
-fn has_other_rows<S: Timetable>(rt: &impl Abort, sheet: &S, empty: &S, geo: Placed)
-    requires instance { S.problem empty.now ≡ S.problem sheet.now }
-    requires course { geo.course < course_count (S.problem sheet.now) }
-    requires slot { geo.slot < slot_count (S.problem sheet.now) }
-{
-    assert!(rt; sheet.same_course_row(sheet, geo.course));
-    assert!(rt; sheet.same_slot_row(sheet, geo.slot));
-    assert!(rt; !sheet.same_course_row(empty, geo.course));
-    assert!(rt; !sheet.same_slot_row(empty, geo.slot));
-}
-
 /// Places geo on the empty sheet of the small instance.
 fn one_placement<'i, S: Sheet<'i>>(
     rt: &impl Abort,
@@ -76,7 +64,6 @@ fn one_placement<'i, S: Sheet<'i>>(
     let mut sheet = S::empty(alloc, small)?;
     assert_eq!(rt; sheet.instance().name(), "Small");
     assert!(rt; sheet.cost() == cost(0, 20, 0, 0));
-    let empty = sheet.copy()?;
     let geo = geo_second();
     let after = [geo];
     assert!(rt; is_timetable(small, &after));
@@ -90,7 +77,6 @@ fn one_placement<'i, S: Sheet<'i>>(
     assert_eq!(rt; sheet.delta(&place), -3);
     sheet.apply(&place);
     has_geo(rt, &sheet, geo)?;
-    has_other_rows(rt, &sheet, &empty, geo);
     has_geo(rt, &sheet.copy()?, geo)
 }
 
