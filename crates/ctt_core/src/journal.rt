@@ -58,6 +58,6 @@ pub(crate) fn enter<K: Keeping>(
             planner,
             asked: &asked,
         };
-        journal.note::<Entering<K>, AsEntry>(&entering);
+        journal.push_unkept::<Entering<K>, AsEntry>(&entering);
     }
 }
