@@ -1,5 +1,5 @@
 -- Drafts that are run anew, call by call and entry by entry.
-use Rattle.std.proofs.Common.{◌≡◌, ℕ, zero, suc, ◌+◌, ◌^◌, ◌<◌, ◌≤◌, List, [], ◌∷◌, ◌++◌, Option, Some, None, length, refl, Result, Ok, Err, IsTrue, ◌↔◌, false, true, ◌∙◌, sym, ap, ap₂, subst, append_assoc, append-nil, length-append, get_or, drop, arith, true≢false}
+use Rattle.std.proofs.Common.{◌≡◌, ℕ, zero, suc, ◌+◌, ◌<◌, ◌≤◌, List, [], ◌∷◌, ◌++◌, Option, Some, None, length, refl, Result, Ok, Err, IsTrue, ◌↔◌, false, true, ◌∙◌, sym, ap, ap₂, subst, append_assoc, append-nil, length-append, get_or, drop, arith, true≢false}
 use Rattle.std.proofs.lemmas.List.{map-append}
 use Rattle.std.specs.List.{AllByRecursion as Each}
 use Rattle.std.specs.Prelude.{IfOk}
