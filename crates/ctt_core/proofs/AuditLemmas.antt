@@ -1,5 +1,5 @@
 -- Drafts that are run anew, call by call and entry by entry.
-use Rattle.std.proofs.Common.{◌≡◌, ℕ, zero, suc, ◌+◌, ◌^◌, ◌<◌, ◌≤◌, List, [], ◌∷◌, ◌++◌, Option, Some, None, length, refl, Result, Ok, Err, IsTrue, ◌↔◌, false, true, ◌∙◌, sym, ap, ap₂, subst, append_assoc, append-nil, length-append, get_or, drop, arith, true≢false}
+use Rattle.std.proofs.Common.{◌≡◌, ℕ, zero, suc, ◌+◌, ◌<◌, ◌≤◌, List, [], ◌∷◌, ◌++◌, Option, Some, None, length, refl, Result, Ok, Err, IsTrue, ◌↔◌, false, true, ◌∙◌, sym, ap, ap₂, subst, append_assoc, append-nil, length-append, get_or, drop, arith, true≢false}
 use Rattle.std.proofs.lemmas.List.{map-append}
 use Rattle.std.specs.List.{AllByRecursion as Each}
 use Rattle.std.specs.Prelude.{IfOk}
@@ -102,35 +102,6 @@ pub told_fits : (i j : Problem) (u : List Placed) (call : Call) (told : Reply) �
 told_fits i j u call told is same lawful fits tells = subst (IsReply i) (sym tells) (replies_fit i u call (subst IsProblem same is) lawful fits)
 
 module _ (i : Problem) (ls u : List Placed) (found : Verdict) (ended begun : ℕ) (entries : List JournalEntry) (asked : List Asked) where
-  -- a call is made
-  pub auditor_made : (j : Problem) (v : List Placed) (call : Call) (told : Reply) (before : Option Reply) → IsAuditor i ls u found None ended begun entries asked None before
-      → begun + 1 < 2 ^ 64 → j ≡ i → told ≡ reply i u call → v ≡ after_call i u call → IsAuditor j ls v found None ended begun entries asked (Some call) (Some told)
-  auditor_made j v call told before a room same tells left = rw same record {
-    t0 = a.t0;
-    opens = a.opens;
-    ended_is = a.ended_is;
-    begun_is = a.begun_is;
-    counts = room;
-    untold = λ m. cc;
-    finds = a.finds;
-    agrees = a.agrees;
-    goes_on = λ agrees. (u, a.goes_on agrees, ap (λ r. Some r) tells, left);
-  }
-
-  -- or not, behind a difference
-  pub auditor_passed : (n : ℕ) (call : Call) (told : Option Reply) → IsAuditor i ls u found (Some n) ended begun entries asked None told → begun + 1 < 2 ^ 64 → IsAuditor i ls u found (Some n) ended begun entries asked (Some call) told
-  auditor_passed n call told a room = record {
-    t0 = a.t0;
-    opens = a.opens;
-    ended_is = a.ended_is;
-    begun_is = a.begun_is;
-    counts = room;
-    untold = λ m. cc;
-    finds = a.finds;
-    agrees = a.agrees;
-    goes_on = λ agrees. (a.goes_on agrees, a.untold refl);
-  }
-
   -- nothing is heard
   pub auditor_unheard : (differs : Option ℕ) (made : Option Call) (told : Option Reply) → IsAuditor i ls u found differs ended begun entries asked made told → told ≡ None → IsAuditor i ls u found differs ended begun entries asked None None
   auditor_unheard differs made told a none = record {
@@ -235,15 +206,11 @@ auditor_more i ls u found more differs ended begun number entries longer asked n
     let free : IsAuditor i ls u found differs ended begun entries asked None None = auditor_unheard i ls u found ended begun entries asked differs made told a (a.untold ready) in
     rw (found_is, is, list, empty, ready, a.untold ready) (auditor_ended i ls u found differs ended begun entries asked e same free)
 
--- what is found of the entries that have ended
-pub auditor_finds : (i : Problem) (ls u : List Placed) (found : Verdict) (differs : Option ℕ) (ended begun : ℕ) (entries : List JournalEntry) (asked : List Asked) (made : Option Call) (told : Option Reply) → IsAuditor i ls u found differs ended begun entries asked made told → IsVerdict i ls entries found
-auditor_finds i ls u found differs ended begun entries asked made told a = opened i i ls a.t0 entries found refl a.opens a.finds
-
 -- a call is made, and what it was told is heard
-pub made_heard : (v w z : AuditorValue) (x : Asked) → v.made ≡ None → v.told ≡ None → w ≡ record v { made = Some x.call; told = w.told } → z ≡ with_heard w (Some x.reply) → z ≡ record v { asked = v.asked ++ x ∷ [] }
+pub made_heard : (v w z : AuditorValue) (x : Asked) → v.made ≡ None → v.told ≡ None → w ≡ record v { made = Some x.call; told = w.told } → z ≡ with_heard w x.reply → z ≡ record v { asked = v.asked ++ x ∷ [] }
 made_heard v w z x ready untold makes hears =
     hears
-    ∙ ap (λ (a : AuditorValue). with_heard a (Some x.reply)) makes
+    ∙ ap (λ (a : AuditorValue). with_heard a x.reply) makes
     ∙ ap₂ (λ m t. record v { asked = v.asked ++ x ∷ []; made = m; told = t }) (sym ready) (sym untold)
 
 -- calls that an auditor takes one by one, and entries
@@ -251,17 +218,17 @@ abbrev pub ran : List Asked → AuditorValue → AuditorValue
 ran [] v = v
 ran (x ∷ xs) v = ran xs (record v { asked = v.asked ++ x ∷ [] })
 
-abbrev pub heard : List JournalEntry → AuditorValue → AuditorValue
-heard [] v = v
-heard (e ∷ es) v = heard es (record v { entries = v.entries ++ e ∷ [] })
+abbrev pub ran_entries : List JournalEntry → AuditorValue → AuditorValue
+ran_entries [] v = v
+ran_entries (e ∷ es) v = ran_entries es (record v { entries = v.entries ++ e ∷ [] })
 
 ran_is : (asked : List Asked) (v : AuditorValue) → ran asked v ≡ record v { asked = v.asked ++ asked }
 ran_is [] v = ap (λ xs. record v { asked = xs }) (sym (append-nil v.asked))
 ran_is (x ∷ xs) v = ran_is xs (record v { asked = v.asked ++ x ∷ [] }) ∙ ap (λ ys. record v { asked = ys }) (append_assoc v.asked (x ∷ []) xs)
 
-heard_is : (entries : List JournalEntry) (v : AuditorValue) → heard entries v ≡ record v { entries = v.entries ++ entries }
-heard_is [] v = ap (λ xs. record v { entries = xs }) (sym (append-nil v.entries))
-heard_is (e ∷ es) v = heard_is es (record v { entries = v.entries ++ e ∷ [] }) ∙ ap (λ ys. record v { entries = ys }) (append_assoc v.entries (e ∷ []) es)
+ran_entries_is : (entries : List JournalEntry) (v : AuditorValue) → ran_entries entries v ≡ record v { entries = v.entries ++ entries }
+ran_entries_is [] v = ap (λ xs. record v { entries = xs }) (sym (append-nil v.entries))
+ran_entries_is (e ∷ es) v = ran_entries_is es (record v { entries = v.entries ++ e ∷ [] }) ∙ ap (λ ys. record v { entries = ys }) (append_assoc v.entries (e ∷ []) es)
 
 left_at : {X : Type 0} (xs : List X) (k : ℕ) (x : X) → k < length xs → x ≡ get_or xs k x → drop k xs ≡ x ∷ drop (k + 1) xs
 left_at [] k x lt is = absurd (omega (arith, lt))
@@ -287,13 +254,6 @@ module _ (v0 v : AuditorValue) (asked items : List Asked) (k : ℕ) (r : Running
   pub running_fits : (x : Asked) → k < length items → x ≡ get_or items k x → CallFits v.problem x.call
   running_fits x lt is = (subst (Each (AskedFits v.problem)) (left_at items k x lt is) r.fit).0.0
 
-  pub running_more : (x : Asked) (w : AuditorValue) → k < length items → x ≡ get_or items k x → w ≡ record v { asked = v.asked ++ x ∷ [] } → Running v0 w asked (drop (k + 1) items)
-  running_more x w lt is more = rw more record {
-    goes_on = ap (λ xs. ran xs v) (sym (left_at items k x lt is)) ∙ r.goes_on;
-    fit = (subst (Each (AskedFits v.problem)) (left_at items k x lt is) r.fit).1;
-    ready = r.ready;
-  }
-
   running_done : length items ≤ k → v ≡ record v0 { asked = v0.asked ++ asked }
   running_done le = ap (λ xs. ran xs v) (sym (none_left items k le)) ∙ r.goes_on ∙ ran_is asked v0
 
@@ -308,7 +268,7 @@ module _ (v0 v : AuditorValue) (asked items : List Asked) (k : ℕ) (r : Running
 
 -- the entries that are left fit, and with them it is all entries
 pub record Hearing (v0 v : AuditorValue) (entries left : List JournalEntry) : Type 0 where
-  pub goes_on : heard left v ≡ heard entries v0
+  pub goes_on : ran_entries left v ≡ ran_entries entries v0
   pub fit : Each (EntryFits v.problem) left
   pub begun : v.asked ≡ []
   pub ready : v.made ≡ None
@@ -317,16 +277,8 @@ module _ (v0 v : AuditorValue) (entries : List JournalEntry) (k : ℕ) (r : Hear
   pub hearing_fits : (e : JournalEntry) → k < length entries → e ≡ get_or entries k e → EntryFits v.problem e
   hearing_fits e lt is = (subst (Each (EntryFits v.problem)) (left_at entries k e lt is) r.fit).0
 
-  pub hearing_more : (e : JournalEntry) (w : AuditorValue) → k < length entries → e ≡ get_or entries k e → w ≡ record v { entries = v.entries ++ e ∷ [] } → Hearing v0 w entries (drop (k + 1) entries)
-  hearing_more e w lt is more = rw more record {
-    goes_on = ap (λ xs. heard xs v) (sym (left_at entries k e lt is)) ∙ r.goes_on;
-    fit = (subst (Each (EntryFits v.problem)) (left_at entries k e lt is) r.fit).1;
-    begun = r.begun;
-    ready = r.ready;
-  }
-
   pub hearing_done : length entries ≤ k → v ≡ record v0 { entries = v0.entries ++ entries }
-  hearing_done le = ap (λ xs. heard xs v) (sym (none_left entries k le)) ∙ r.goes_on ∙ heard_is entries v0
+  hearing_done le = ap (λ xs. ran_entries xs v) (sym (none_left entries k le)) ∙ r.goes_on ∙ ran_entries_is entries v0
 
 -- where the entries are legal nothing differs
 head_told : (i : Problem) (t : List Placed) (earlier later : List Asked) (this : Asked) → replies_in (earlier ++ this ∷ later) ≡ replies i t (calls_of (earlier ++ this ∷ later)) → this.reply ≡ reply i (whole i t (calls_of earlier)) this.call

@@ -17,38 +17,38 @@ use Rattle.ctt_core.specs.declared.answer.Answer.{Answer}
 use Rattle.ctt_core.specs.declared.answer.Answer.TheVariants.{Opened, AlreadyOpen, NoDraft, Replied, Committed, Refreshed, Stale, Abandoned, NoMemory}
 use Rattle.ctt_core.specs.declared.journal.JournalEntry.{JournalEntry}
 use Rattle.ctt_draft.specs.DraftValues.{DraftValue}
-use Rattle.ctt_core.specs.Runs.{after, Legal, Turn, OpenDraft, ask, begin, renew, turned, commits, draft, entry, entered, accepted_of, now, base, open_answer, ask_answer, verdict, commit_answer, renewal, refresh_answer, abandon_answer, plain, may_want, IsRight, Right, EventFits, RunFits}
-use Rattle.ctt_core.specs.Desks.{DeskValue, draft_at, kept, StandsAt, opens, answers, commits_to, refreshes, abandons, answer_of, with_draft, asks, renews, settled, goes_on, Answers, SameDesk}
+use Rattle.ctt_core.specs.Runs.{after, Legal, Turn, OpenDraft, ask, begin, renew, turned, commits, draft, entry, entered, accepted_of, now, base, open_answer, ask_answer, acceptance, commit_answer, renewal, refresh_answer, abandon_answer, plain, may_want, IsRight, Right, EventFits, RunFits}
+use Rattle.ctt_core.specs.Desks.{DeskValue, draft_at, kept, StandsAt, to_open, to_ask, to_commit, to_refresh, to_abandon, answer_of, with_draft, with_call, with_base, settled, goes_on, Answers, SameDesk}
 use Rattle.ctt_core.specs.Laws.{Stands, Serial, DeskIsPlain, DeskIsSerial}
 use Rattle.ctt_core.proofs.RunLemmas.{Good, GoodDraft, right_is_good, after-push, headline}
 
 -- the answers
-opens_is : (i : Problem) (t0 : List Placed) (h : List JournalEntry) (o : Option OpenDraft) → opens (kept i t0 h o) ≡ open_answer o
-opens_is i t0 h None = refl
-opens_is i t0 h (Some d) = refl
+to_open_is : (i : Problem) (t0 : List Placed) (h : List JournalEntry) (o : Option OpenDraft) → to_open (kept i t0 h o) ≡ open_answer o
+to_open_is i t0 h None = refl
+to_open_is i t0 h (Some d) = refl
 
-answers_is : (i : Problem) (t0 : List Placed) (past : List Turn) (call : Call) (o : Option OpenDraft) → answers call (kept i t0 (accepted_of past) o) ≡ ask_answer i t0 past call o
-answers_is i t0 past call None = refl
-answers_is i t0 past call (Some d) = refl
+to_ask_is : (i : Problem) (t0 : List Placed) (past : List Turn) (call : Call) (o : Option OpenDraft) → to_ask call (kept i t0 (accepted_of past) o) ≡ ask_answer i t0 past call o
+to_ask_is i t0 past call None = refl
+to_ask_is i t0 past call (Some d) = refl
 
-commits_is : (v : DeskValue) (past : List Turn) (o : Option OpenDraft) → v.list ≡ now v.problem v.opening past → length v.journal ≡ commits past → commits_to v (kept v.problem v.opening (accepted_of past) o) ≡ commit_answer v.problem v.opening past o
-commits_is v past None e k = refl
-commits_is v past (Some d) e k = ap₂ (λ n list. verdict (n + 1) (stale v.problem (base v.problem v.opening past d) list (calls_of d.asked))) k e
+to_commit_is : (v : DeskValue) (past : List Turn) (o : Option OpenDraft) → v.list ≡ now v.problem v.opening past → length v.journal ≡ commits past → to_commit v (kept v.problem v.opening (accepted_of past) o) ≡ commit_answer v.problem v.opening past o
+to_commit_is v past None e k = refl
+to_commit_is v past (Some d) e k = ap₂ (λ n list. acceptance (n + 1) (stale v.problem (base v.problem v.opening past d) list (calls_of d.asked))) k e
 
-refreshes_is : (v : DeskValue) (past : List Turn) (o : Option OpenDraft) → v.list ≡ now v.problem v.opening past → refreshes v (kept v.problem v.opening (accepted_of past) o) ≡ refresh_answer v.problem v.opening past o
-refreshes_is v past None e = refl
-refreshes_is v past (Some d) e = ap (λ list. renewal (stale v.problem (base v.problem v.opening past d) list (calls_of d.asked))) e
+to_refresh_is : (v : DeskValue) (past : List Turn) (o : Option OpenDraft) → v.list ≡ now v.problem v.opening past → to_refresh v (kept v.problem v.opening (accepted_of past) o) ≡ refresh_answer v.problem v.opening past o
+to_refresh_is v past None e = refl
+to_refresh_is v past (Some d) e = ap (λ list. renewal (stale v.problem (base v.problem v.opening past d) list (calls_of d.asked))) e
 
-abandons_is : (i : Problem) (t0 : List Placed) (h : List JournalEntry) (o : Option OpenDraft) → abandons (kept i t0 h o) ≡ abandon_answer o
-abandons_is i t0 h None = refl
-abandons_is i t0 h (Some d) = refl
+to_abandon_is : (i : Problem) (t0 : List Placed) (h : List JournalEntry) (o : Option OpenDraft) → to_abandon (kept i t0 h o) ≡ abandon_answer o
+to_abandon_is i t0 h None = refl
+to_abandon_is i t0 h (Some d) = refl
 
 answer_is : (v : DeskValue) (past : List Turn) (event : Event) → commits past ≡ length (accepted_of past) → StandsAt v past → answer_of v event ≡ plain v.problem v.opening past event
-answer_is v past (Open p) n s = ap opens (s.drafts p) ∙ opens_is v.problem v.opening (accepted_of past) (draft p past)
-answer_is v past (Ask p call) n s = ap (answers call) (s.drafts p) ∙ answers_is v.problem v.opening past call (draft p past)
-answer_is v past (Commit p) n s = ap (commits_to v) (s.drafts p) ∙ commits_is v past (draft p past) s.list (ap length s.journal ∙ sym n)
-answer_is v past (Refresh p) n s = ap (refreshes v) (s.drafts p) ∙ refreshes_is v past (draft p past) s.list
-answer_is v past (Abandon p) n s = ap abandons (s.drafts p) ∙ abandons_is v.problem v.opening (accepted_of past) (draft p past)
+answer_is v past (Open p) n s = ap to_open (s.drafts p) ∙ to_open_is v.problem v.opening (accepted_of past) (draft p past)
+answer_is v past (Ask p call) n s = ap (to_ask call) (s.drafts p) ∙ to_ask_is v.problem v.opening past call (draft p past)
+answer_is v past (Commit p) n s = ap (to_commit v) (s.drafts p) ∙ to_commit_is v past (draft p past) s.list (ap length s.journal ∙ sym n)
+answer_is v past (Refresh p) n s = ap (to_refresh v) (s.drafts p) ∙ to_refresh_is v past (draft p past) s.list
+answer_is v past (Abandon p) n s = ap to_abandon (s.drafts p) ∙ to_abandon_is v.problem v.opening (accepted_of past) (draft p past)
 answer_is v past (Show look) n s = ap (λ list. Replied (shown v.problem list look)) s.list
 
 -- a kept draft does not feel the history grow
@@ -96,9 +96,9 @@ ask_goes : (v : DeskValue) (past : List Turn) (p : ℕ) (call : Call) (o : Optio
 ask_goes v past p call None lt e s = stays v past (Ask p call) NoDraft v.drafts refl s s.drafts
 ask_goes v past p call (Some d) lt e s =
     let told : Reply = reply v.problem (whole v.problem (base v.problem v.opening past d) (calls_of d.asked)) call in
-    let mine : asks call told (draft_at v.drafts p) ≡ kept v.problem v.opening (accepted_of past) (ask call told (Some d)) = ap (asks call told) (s.drafts p ∙ ap (kept v.problem v.opening (accepted_of past)) e) in
-    stays v past (Ask p call) (Replied told) (set v.drafts p (asks call told (draft_at v.drafts p))) refl s
-    (λ q. turned_one v past p q (asks call told (draft_at v.drafts p)) (ask call told (Some d)) lt s mine ∙ ap (kept v.problem v.opening (accepted_of past)) (own q told))
+    let mine : with_call call told (draft_at v.drafts p) ≡ kept v.problem v.opening (accepted_of past) (ask call told (Some d)) = ap (with_call call told) (s.drafts p ∙ ap (kept v.problem v.opening (accepted_of past)) e) in
+    stays v past (Ask p call) (Replied told) (set v.drafts p (with_call call told (draft_at v.drafts p))) refl s
+    (λ q. turned_one v past p q (with_call call told (draft_at v.drafts p)) (ask call told (Some d)) lt s mine ∙ ap (kept v.problem v.opening (accepted_of past)) (own q told))
   where
     own : (q : ℕ) (told : Reply) → cond (q == p) (ask call told (Some d)) (draft q past) ≡ cond (q == p) (ask call told (draft q past)) (draft q past)
     own q told = elim (cases_eq q p) [
@@ -119,9 +119,9 @@ refresh_goes : (v : DeskValue) (past : List Turn) (p : ℕ) (d : OpenDraft) (o :
 refresh_goes v past p d (Some row) lt e n s = ended_goes v past p (Refresh p) (Stale row) lt refl (λ q. refl) s
 refresh_goes v past p d None lt e n s =
     let full : take (commits past) (accepted_of past) ≡ accepted_of past = take_all (commits past) (accepted_of past) (omega (arith, n)) in
-    let new : Option DraftValue = renews v.list (draft_at v.drafts p) in
+    let new : Option DraftValue = with_base v.list (draft_at v.drafts p) in
     let mine : new ≡ kept v.problem v.opening (accepted_of past) (renew (commits past) (Some d)) =
-    ap (renews v.list) (s.drafts p ∙ ap (kept v.problem v.opening (accepted_of past)) e)
+    ap (with_base v.list) (s.drafts p ∙ ap (kept v.problem v.opening (accepted_of past)) e)
     ∙ ap (λ list. Some (record { problem = v.problem; base = list; asked = d.asked })) (s.list ∙ ap (after v.problem v.opening) (sym full)) in
     stays v past (Refresh p) Refreshed (set v.drafts p new) refl s
     (λ q. turned_one v past p q new (renew (commits past) (Some d)) lt s mine ∙ ap (kept v.problem v.opening (accepted_of past)) (own q))
@@ -136,7 +136,7 @@ refresh_any : (v : DeskValue) (past : List Turn) (p : ℕ) (o : Option OpenDraft
 refresh_any v past p None lt e n s = stays v past (Refresh p) NoDraft v.drafts refl s s.drafts
 refresh_any v past p (Some d) lt e n s = refresh_goes v past p d (stale v.problem (base v.problem v.opening past d) (now v.problem v.opening past) (calls_of d.asked)) lt e n s
 
-commit_goes : (v : DeskValue) (past : List Turn) (p n : ℕ) (d : OpenDraft) (o : Option Row) → p < length v.drafts → draft p past ≡ Some d → Good v.problem v.opening (accepted_of past) (commits past) (λ p. draft p past) → StandsAt v past → StandsAt (goes_on v (Commit p) (verdict n o)) (record { event = Commit p; answer = verdict n o } ∷ past)
+commit_goes : (v : DeskValue) (past : List Turn) (p n : ℕ) (d : OpenDraft) (o : Option Row) → p < length v.drafts → draft p past ≡ Some d → Good v.problem v.opening (accepted_of past) (commits past) (λ p. draft p past) → StandsAt v past → StandsAt (goes_on v (Commit p) (acceptance n o)) (record { event = Commit p; answer = acceptance n o } ∷ past)
 commit_goes v past p n d (Some row) lt e g s = ended_goes v past p (Commit p) (Stale row) lt refl (λ q. refl) s
 commit_goes v past p n d None lt e g s =
     let h : List JournalEntry = accepted_of past in
@@ -192,10 +192,10 @@ same_settled p v (Some d) = record { problem = refl; opening = refl; planners = 
 
 pub same_after : (v : DeskValue) (event : Event) (answer : Answer) → SameDesk v (goes_on v event answer)
 same_after v (Open p) Opened = same_with p (Some (record { problem = v.problem; base = v.list; asked = [] })) v
-same_after v (Ask p call) (Replied told) = same_with p (asks call told (draft_at v.drafts p)) v
+same_after v (Ask p call) (Replied told) = same_with p (with_call call told (draft_at v.drafts p)) v
 same_after v (Commit p) (Committed n) = same_settled p v (draft_at v.drafts p)
 same_after v (Commit p) (Stale row) = same_with p None v
-same_after v (Refresh p) Refreshed = same_with p (renews v.list (draft_at v.drafts p)) v
+same_after v (Refresh p) Refreshed = same_with p (with_base v.list (draft_at v.drafts p)) v
 same_after v (Refresh p) (Stale row) = same_with p None v
 same_after v (Abandon p) Abandoned = same_with p None v
 same_after v (Open p) AlreadyOpen = same v

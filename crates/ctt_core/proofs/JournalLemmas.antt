@@ -21,14 +21,13 @@ use Rattle.ctt_core.specs.declared.event.Event.TheVariants.{Open, Ask, Commit, R
 use Rattle.ctt_core.specs.declared.answer.Answer.{Answer}
 use Rattle.ctt_core.specs.declared.answer.Answer.TheVariants.{Opened, AlreadyOpen, NoDraft, Replied, Committed, Refreshed, Stale, Abandoned, NoMemory}
 use Rattle.ctt_core.specs.declared.journal.JournalEntry.{JournalEntry}
-use Rattle.ctt_core.specs.Runs.{Legal, Turn, OpenDraft, ask, begin, renew, turned, is_commit, commits, draft, entry, entered, accepted_of, now, base, open_answer, ask_answer, verdict, commit_answer, renewal, refresh_answer, abandon_answer, plain, IsRight, Right, EventFits, RunFits}
+use Rattle.ctt_core.specs.Runs.{Legal, Turn, OpenDraft, ask, begin, renew, turned, is_commit, commits, draft, entry, entered, accepted_of, now, base, open_answer, ask_answer, acceptance, commit_answer, renewal, refresh_answer, abandon_answer, plain, IsRight, Right, EventFits, RunFits}
 use Rattle.ctt_core.specs.Entries.{EntryFits}
 use Rattle.ctt_core.specs.Audits.{IsVerdict}
 use Rattle.ctt_core.specs.Laws.{Serial, JournalAgrees}
 use Rattle.ctt_core.proofs.AuditLemmas.{agrees}
 use Rattle.ctt_core.proofs.DeskLemmas.{desk_is_serial}
-use Rattle.ctt_core.proofs.RunLemmas.{Each-join, Good, right_is_good}
-use Rattle.ctt_core.proofs.RunLemmas.{EntryFits as CallsFit}
+use Rattle.ctt_core.proofs.RunLemmas.{CallsFit, Each-join, Good, right_is_good}
 
 -- a call and its reply fit, and the reply is short
 abbrev pub FitsShort : Problem → Asked → Type 0
@@ -110,16 +109,16 @@ module _ (i : Problem) (t0 : List Placed) (n m : ℕ) (past : List Turn) (s : Ar
       let told : Reply = reply i (whole i (base i t0 past d) (calls_of d.asked)) call in
       stays (Ask q call) (Replied told) refl (λ p. one_of (m + 1) (p == q) (ask call told (draft p past)) (draft p past) (asked_draft m call told (draft p past) (s.open_drafts p)) (same_drafts p))
 
-  verdict_leaves : (q : ℕ) (o : Option Row) → q < n → Leaves (Commit q) (verdict (commits past + 1) o)
-  verdict_leaves q (Some row) lt = stays (Commit q) (Stale row) refl (ended q)
-  verdict_leaves q None lt = record {
+  acceptance_leaves : (q : ℕ) (o : Option Row) → q < n → Leaves (Commit q) (acceptance (commits past + 1) o)
+  acceptance_leaves q (Some row) lt = stays (Commit q) (Stale row) refl (ended q)
+  acceptance_leaves q None lt = record {
     entries = Each-join (IsSmallEntry n (m + 1)) (accepted_of past) (entry q (draft q past)) (small_more n m (accepted_of past) s.entries) (entry_small n m q (draft q past) lt (s.open_drafts q));
     open_drafts = ended q;
   }
 
   commit_leaves : (q : ℕ) (o : Option OpenDraft) → q < n → Leaves (Commit q) (commit_answer i t0 past o)
   commit_leaves q None lt = stays (Commit q) NoDraft refl same_drafts
-  commit_leaves q (Some d) lt = verdict_leaves q (stale i (base i t0 past d) (now i t0 past) (calls_of d.asked)) lt
+  commit_leaves q (Some d) lt = acceptance_leaves q (stale i (base i t0 past d) (now i t0 past) (calls_of d.asked)) lt
 
   renewal_leaves : (q : ℕ) (o : Option Row) → Leaves (Refresh q) (renewal o)
   renewal_leaves q (Some row) = stays (Refresh q) (Stale row) refl (ended q)

@@ -1,4 +1,5 @@
 pub mod RunLemmas
+pub mod OpenDraftLemmas
 pub mod DeskLemmas
 pub mod StepLemmas
 pub mod RanLemmas

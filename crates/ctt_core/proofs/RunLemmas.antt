@@ -15,21 +15,21 @@ use Rattle.ctt_draft.specs.declared.asked.Asked.{Asked}
 use Rattle.ctt_core.specs.declared.event.Event.{Event}
 use Rattle.ctt_core.specs.declared.event.Event.TheVariants.{Open, Ask, Commit, Refresh, Abandon, Show}
 use Rattle.ctt_core.specs.declared.answer.Answer.{Answer}
-use Rattle.ctt_core.specs.declared.answer.Answer.TheVariants.{Refreshed, Stale, NoMemory}
+use Rattle.ctt_core.specs.declared.answer.Answer.TheVariants.{Stale, NoMemory}
 use Rattle.ctt_core.specs.declared.journal.JournalEntry.{JournalEntry}
 use Rattle.ctt_draft.proofs.CallRuns.{lawful_whole, replies-push}
 use Rattle.ctt_draft.proofs.FrameLemmas.{draft_frame}
-use Rattle.ctt_core.specs.Runs.{after, Legal, Turn, OpenDraft, ask, renew, turned, is_commit, commits, draft, entry, entered, accepted_of, now, base, open_answer, ask_answer, verdict, commit_answer, renewal, refresh_answer, abandon_answer, plain, IsRight, Right, EventFits, RunFits}
+use Rattle.ctt_core.specs.Runs.{after, Legal, Turn, OpenDraft, ask, renew, turned, is_commit, commits, draft, entry, entered, accepted_of, now, base, open_answer, ask_answer, acceptance, commit_answer, renewal, refresh_answer, abandon_answer, plain, IsRight, Right, EventFits, RunFits}
 use Rattle.ctt_core.specs.Laws.{Headline, OntoJoins, AfterJoins, LegalJoins}
 
 pub Each-join : {X : Type 0} (P : X → Type 0) (xs ys : List X) → Each P xs → Each P ys → Each P (xs ++ ys)
 Each-join P [] ys h k = k
 Each-join P (x ∷ xs) ys h k = (h.0, Each-join P xs ys h.1 k)
 
-abbrev pub EntryFits : Problem → JournalEntry → Type 0
-EntryFits i e = Each (CallFits i) (calls_of e.asked)
+abbrev pub CallsFit : Problem → JournalEntry → Type 0
+CallsFit i e = Each (CallFits i) (calls_of e.asked)
 
-pub lawful_after : (i : Problem) (t : List Placed) (h : List JournalEntry) → Lawful i t → Each (EntryFits i) h → Lawful i (after i t h)
+pub lawful_after : (i : Problem) (t : List Placed) (h : List JournalEntry) → Lawful i t → Each (CallsFit i) h → Lawful i (after i t h)
 lawful_after i t [] l f = l
 lawful_after i t (e ∷ es) l f = lawful_after i (whole i t (calls_of e.asked)) es (lawful_whole i t (calls_of e.asked) l f.0) f.1
 
@@ -80,7 +80,7 @@ asked_more i t0 h d call f g =
 -- what holds after each right run
 pub record Good (i : Problem) (t0 : List Placed) (h : List JournalEntry) (n : ℕ) (drafts : ℕ → Option OpenDraft) : Type 0 where
   pub legal : Legal i t0 h
-  pub fit : Each (EntryFits i) h
+  pub fit : Each (CallsFit i) h
   pub counted : n ≡ length h
   pub good : (p : ℕ) → GoodDraft i t0 h (drafts p)
 
@@ -124,17 +124,17 @@ abandon_turn i t0 past q (Some d) g p = ended i t0 (accepted_of past) (p == q) (
 
 -- a commit, by its draft and by what is stale
 commit_turn : (i : Problem) (t0 : List Placed) (past : List Turn) (q : ℕ) (d : OpenDraft) (o : Option Row) → draft q past ≡ Some d → stale i (base i t0 past d) (now i t0 past) (calls_of d.asked) ≡ o → Lawful i t0 →
-    Good i t0 (accepted_of past) (commits past) (λ p. draft p past) → Good i t0 (accepted_of past ++ entered (Commit q) (verdict (commits past + 1) o) past) (commits past + is_commit (verdict (commits past + 1) o)) (λ p. turned p (commits past) (Commit q) (verdict (commits past + 1) o) (draft p past))
+    Good i t0 (accepted_of past) (commits past) (λ p. draft p past) → Good i t0 (accepted_of past ++ entered (Commit q) (acceptance (commits past + 1) o) past) (commits past + is_commit (acceptance (commits past + 1) o)) (λ p. turned p (commits past) (Commit q) (acceptance (commits past + 1) o) (draft p past))
 commit_turn i t0 past q d (Some row) e s l g = kept i t0 (accepted_of past) (commits past) (λ p. draft p past) (λ p. turned p (commits past) (Commit q) (Stale row) (draft p past)) g (λ p. ended i t0 (accepted_of past) (p == q) (draft p past) (g.good p))
 commit_turn i t0 past q d None e s l g =
     let h : List JournalEntry = accepted_of past in
     let mine : GoodDraft i t0 h (Some d) = subst (GoodDraft i t0 h) e (g.good q) in
     let one : JournalEntry = record { planner = q; asked = d.asked } in
-    let same = draft_frame i (base i t0 past d) (now i t0 past) (calls_of d.asked) (lawful_after i t0 (take d.count h) l (Each-take (EntryFits i) d.count h g.fit)) (lawful_after i t0 h l g.fit) mine.2 s in
+    let same = draft_frame i (base i t0 past d) (now i t0 past) (calls_of d.asked) (lawful_after i t0 (take d.count h) l (Each-take (CallsFit i) d.count h g.fit)) (lawful_after i t0 h l g.fit) mine.2 s in
     let list : h ++ entry q (draft q past) ≡ h ++ one ∷ [] = ap (λ o. h ++ entry q o) e in
     record {
       legal = subst (Legal i t0) (sym list) (Legal-push i t0 h one g.legal (mine.1 ∙ sym same.replies_same));
-      fit = subst (Each (EntryFits i)) (sym list) (Each-join (EntryFits i) h (one ∷ []) g.fit (mine.2, tt));
+      fit = subst (Each (CallsFit i)) (sym list) (Each-join (CallsFit i) h (one ∷ []) g.fit (mine.2, tt));
       counted = sym (ap length list ∙ length-append h (one ∷ []) ∙ ap (λ n. n + 1) (sym g.counted));
       good = λ p. ended i t0 (h ++ entry q (draft q past)) (p == q) (draft p past) (grown i t0 h (entry q (draft q past)) (draft p past) (g.good p));
     }
@@ -149,7 +149,7 @@ renewed : (i : Problem) (t0 : List Placed) (past : List Turn) (d : OpenDraft) �
     GoodDraft i t0 (accepted_of past) (Some d) → GoodDraft i t0 (accepted_of past) (renew (commits past) (Some d))
 renewed i t0 past d l s g mine =
     let h : List JournalEntry = accepted_of past in
-    let same = draft_frame i (base i t0 past d) (now i t0 past) (calls_of d.asked) (lawful_after i t0 (take d.count h) l (Each-take (EntryFits i) d.count h g.fit)) (lawful_after i t0 h l g.fit) mine.2 s in
+    let same = draft_frame i (base i t0 past d) (now i t0 past) (calls_of d.asked) (lawful_after i t0 (take d.count h) l (Each-take (CallsFit i) d.count h g.fit)) (lawful_after i t0 h l g.fit) mine.2 s in
     let full : take (commits past) h ≡ h = take_all (commits past) h (omega (arith, g.counted)) in
     (omega (arith, g.counted), mine.1 ∙ sym same.replies_same ∙ ap (λ es. replies i (after i t0 es) (calls_of d.asked)) (sym full), mine.2)
 

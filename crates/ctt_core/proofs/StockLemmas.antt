@@ -16,7 +16,7 @@ use Rattle.ctt_rules.specs.Penalty.{penalty}
 use Rattle.ctt_rules.specs.declared.cost.Cost.{Cost}
 use Rattle.ctt_draft.proofs.CallRuns.{ChangesFit-append, apply_all-append, whole_is}
 use Rattle.ctt_core.specs.Desks.{DeskValue, draft_at, IsFresh}
-use Rattle.ctt_core.specs.Stocks.{StockValue, LeadsFrom, SpareValue, IsSpare, IsStock, changed, mark_at, IsMarked}
+use Rattle.ctt_core.specs.Stocks.{StockValue, LeadsFrom, SpareValue, IsSpare, IsStock, changed, seen_at, HasSeen}
 
 -- all changes are made on a timetable exactly where it is the present one
 pub leads_none : (v : StockValue) (t : List Placed) → LeadsFrom v (length v.log) t → t ≡ v.list
@@ -29,7 +29,7 @@ leads_now v n t is e = record {
   ends = ap (λ xs. apply_all xs t) (drop_all n v.log (omega (arith, is))) ∙ e;
 }
 
-pub latest : (v : StockValue) (d : DraftValue) (mark : Option ℕ) → IsMarked v (Some d) mark → option_eq (λ (a b : ℕ). a == b) mark (Some (length v.log)) ≡ true → d.base ≡ v.list
+pub latest : (v : StockValue) (d : DraftValue) (count : Option ℕ) → HasSeen v (Some d) count → option_eq (λ (a b : ℕ). a == b) count (Some (length v.log)) ≡ true → d.base ≡ v.list
 latest v d None h e = cc
 latest v d (Some n) h e = leads_none v d.base (subst (λ k. LeadsFrom v k d.base) (eqb-true n (length v.log) e) h)
 
@@ -47,10 +47,10 @@ module _ (v : StockValue) (changes : List (List Cell)) (fit : ChangesFit v.probl
   pub spares_more : (spares : List SpareValue) → Each (IsSpare v) spares → Each (IsSpare (changed v changes true)) spares
   spares_more spares h = Each-map (IsSpare v) (IsSpare (changed v changes true)) (λ s is. record { same = is.same; leads = leads_more s.seen s.idle.list is.leads }) spares h
 
-  pub marked_more : (o : Option DraftValue) (mark : Option ℕ) → IsMarked v o mark → IsMarked (changed v changes true) o mark
-  marked_more None mark h = tt
-  marked_more (Some d) None h = tt
-  marked_more (Some d) (Some n) h = leads_more n d.base h
+  pub seen_more : (o : Option DraftValue) (count : Option ℕ) → HasSeen v o count → HasSeen (changed v changes true) o count
+  seen_more None count h = tt
+  seen_more (Some d) None h = tt
+  seen_more (Some d) (Some n) h = leads_more n d.base h
 
 -- the stock with one draft's changes more
 pub stock_more : (i : Problem) (old new v : StockValue) (spares : List SpareValue) (changes : List (List Cell)) → IsStock i old spares → old ≡ v → ChangesFit v.problem changes v.list →
@@ -63,27 +63,27 @@ stock_more i old new v spares changes h e fit problem list log =
     record { same = problem ∙ h.same; all = subst (λ w. Each (IsSpare w) spares) is (spares_more old changes there spares h.all) }
 
 -- what a draft leaves that was opened on the present timetable is the next one
-pub left_latest : (v w : StockValue) (d : DraftValue) (mark : Option ℕ) (made : List (List Cell)) (known : Bool) → IsMarked v (Some d) mark → option_eq (λ (a b : ℕ). a == b) mark (Some (length v.log)) ≡ true →
+pub left_latest : (v w : StockValue) (d : DraftValue) (count : Option ℕ) (made : List (List Cell)) (known : Bool) → HasSeen v (Some d) count → option_eq (λ (a b : ℕ). a == b) count (Some (length v.log)) ≡ true →
     made ≡ changes d.problem d.base (calls_of d.asked) → w ≡ changed v made known → present d ≡ w.list
-left_latest v w d mark made known h e is next =
+left_latest v w d count made known h e is next =
     whole_is d.problem (calls_of d.asked) d.base
-    ∙ ap₂ (λ xs t. apply_all xs t) (sym is) (latest v d mark h e)
+    ∙ ap₂ (λ xs t. apply_all xs t) (sym is) (latest v d count h e)
     ∙ sym (ap (λ (x : StockValue). x.list) next)
 
 -- and costs what that one costs, if it is told
-pub cost_latest : (v : StockValue) (d : DraftValue) (r : RemainsValue) (mark : Option ℕ) (made : List (List Cell)) (b : Bool) (cost : Option Cost) → IsMarked v (Some d) mark → b ≡ option_eq (λ (x y : ℕ). x == y) mark (Some (length v.log)) → d.problem ≡ v.problem →
+pub cost_latest : (v : StockValue) (d : DraftValue) (r : RemainsValue) (count : Option ℕ) (made : List (List Cell)) (b : Bool) (cost : Option Cost) → HasSeen v (Some d) count → b ≡ option_eq (λ (x y : ℕ). x == y) count (Some (length v.log)) → d.problem ≡ v.problem →
     made ≡ changes d.problem d.base (calls_of d.asked) → r ≡ record { problem = d.problem; base = d.base; present = present d } → cost ≡ cond b (Some (penalty r.problem r.present)) None → IfSome cost (λ x. x ≡ penalty v.problem (apply_all made v.list))
-cost_latest v d r mark made false cost h latest problem is left told = subst (λ o. IfSome o (λ x. x ≡ penalty v.problem (apply_all made v.list))) (sym told) tt
-cost_latest v d r mark made true cost h latest problem is left told =
+cost_latest v d r count made false cost h latest problem is left told = subst (λ o. IfSome o (λ x. x ≡ penalty v.problem (apply_all made v.list))) (sym told) tt
+cost_latest v d r count made true cost h latest problem is left told =
     subst (λ o. IfSome o (λ x. x ≡ penalty v.problem (apply_all made v.list))) (sym told)
-    (ap₂ penalty (ap (λ (y : RemainsValue). y.problem) left ∙ problem) (ap (λ (y : RemainsValue). y.present) left ∙ left_latest v (changed v made true) d mark made true h (sym latest) is refl))
+    (ap₂ penalty (ap (λ (y : RemainsValue). y.problem) left ∙ problem) (ap (λ (y : RemainsValue). y.present) left ∙ left_latest v (changed v made true) d count made true h (sym latest) is refl))
 
 pub base_followed : (v w : StockValue) (d : DraftValue) (n : ℕ) (made : List (List Cell)) (known : Bool) → LeadsFrom v n d.base → ChangesFit v.problem made v.list → known ≡ true → w ≡ changed v made known → LeadsFrom w n d.base
 base_followed v w d n made known h fit is next = subst (λ x. LeadsFrom x n d.base) (sym (next ∙ ap (changed v made) is)) (leads_more v made fit n d.base h)
 
-pub unmarked : (v : StockValue) (o : Option DraftValue) → IsMarked v o None
-unmarked v None = tt
-unmarked v (Some d) = tt
+pub unseen : (v : StockValue) (o : Option DraftValue) → HasSeen v o None
+unseen v None = tt
+unseen v (Some d) = tt
 
 -- of a list and one more
 pub Each-more : {X : Type 0} (P : X → Type 0) (xs : List X) (x : X) → Each P xs → P x → Each P (xs ++ x ∷ [])
@@ -94,55 +94,48 @@ pub Each-less : {X : Type 0} (P : X → Type 0) (xs : List X) (x : X) → Each P
 Each-less P [] x h = (tt, h.0)
 Each-less P (y ∷ ys) x h = (let rest = Each-less P ys x h.1 in ((h.0, rest.0), rest.1))
 
--- another draft of a planner, with its mark
-module _ (v : StockValue) (drafts : List (Option DraftValue)) (marks : List (Option ℕ)) (p : ℕ) (all : (q : ℕ) → IsMarked v (draft_at drafts q) (mark_at marks q)) where
-  pub marked_draft : (new : Option DraftValue) → p < length drafts → IsMarked v new (mark_at marks p) → (q : ℕ) → IsMarked v (draft_at (set drafts p new) q) (mark_at marks q)
-  marked_draft new lt h q = elim (cases_eq q p) [
-    | inl same ↦ subst (λ k. IsMarked v (draft_at (set drafts p new) k) (mark_at marks k)) (sym same) (subst (λ o. IsMarked v o (mark_at marks p)) (sym (get_or-set_same drafts p new None lt)) h)
-    | inr apart ↦ subst (λ o. IsMarked v o (mark_at marks q)) (sym (get_or-set_other drafts p q new None apart)) (all q)
+-- another draft of a planner, with its count
+module _ (v : StockValue) (drafts : List (Option DraftValue)) (seen : List (Option ℕ)) (p : ℕ) (all : (q : ℕ) → HasSeen v (draft_at drafts q) (seen_at seen q)) where
+  pub seen_draft : (new : Option DraftValue) → p < length drafts → HasSeen v new (seen_at seen p) → (q : ℕ) → HasSeen v (draft_at (set drafts p new) q) (seen_at seen q)
+  seen_draft new lt h q = elim (cases_eq q p) [
+    | inl same ↦ subst (λ k. HasSeen v (draft_at (set drafts p new) k) (seen_at seen k)) (sym same) (subst (λ o. HasSeen v o (seen_at seen p)) (sym (get_or-set_same drafts p new None lt)) h)
+    | inr apart ↦ subst (λ o. HasSeen v o (seen_at seen q)) (sym (get_or-set_other drafts p q new None apart)) (all q)
   ]
 
-  pub marked_both : (new : Option DraftValue) (mark : Option ℕ) → p < length drafts → p < length marks → IsMarked v new mark → (q : ℕ) → IsMarked v (draft_at (set drafts p new) q) (mark_at (set marks p mark) q)
-  marked_both new mark lt lm h q = elim (cases_eq q p) [
-    | inl same ↦ subst (λ k. IsMarked v (draft_at (set drafts p new) k) (mark_at (set marks p mark) k)) (sym same)
-        (subst (λ o. IsMarked v o (mark_at (set marks p mark) p)) (sym (get_or-set_same drafts p new None lt)) (subst (IsMarked v new) (sym (get_or-set_same marks p mark None lm)) h))
-    | inr apart ↦ subst (λ o. IsMarked v o (mark_at (set marks p mark) q)) (sym (get_or-set_other drafts p q new None apart)) (subst (IsMarked v (draft_at drafts q)) (sym (get_or-set_other marks p q mark None apart)) (all q))
-  ]
+-- the seen after an accepted draft, of a planner who has none now
+pub seen_after : (v w : StockValue) (made : List (List Cell)) (known : Bool) (drafts : List (Option DraftValue)) (seen left : List (Option ℕ)) (p : ℕ) → w ≡ changed v made known → ChangesFit v.problem made v.list → p < length drafts →
+    ((q : ℕ) → HasSeen v (draft_at drafts q) (seen_at seen q)) → (known ≡ true → left ≡ seen) → (known ≡ false → (q : ℕ) → seen_at left q ≡ None) → (q : ℕ) → HasSeen w (draft_at (set drafts p None) q) (seen_at left q)
+seen_after v w made true drafts seen left p is fit lt all kept none q =
+    subst (λ x. HasSeen x (draft_at (set drafts p None) q) (seen_at left q)) (sym is)
+    (subst (λ ms. HasSeen (changed v made true) (draft_at (set drafts p None) q) (seen_at ms q)) (sym (kept refl))
+    (seen_more v made fit (draft_at (set drafts p None) q) (seen_at seen q) (seen_draft v drafts seen p all None lt tt q)))
+seen_after v w made false drafts seen left p is fit lt all kept none q = subst (HasSeen w (draft_at (set drafts p None) q)) (sym (none refl q)) (unseen w (draft_at (set drafts p None) q))
 
--- the marks after an accepted draft, of a planner who has none now
-pub marked_after : (v w : StockValue) (made : List (List Cell)) (known : Bool) (drafts : List (Option DraftValue)) (marks left : List (Option ℕ)) (p : ℕ) → w ≡ changed v made known → ChangesFit v.problem made v.list → p < length drafts →
-    ((q : ℕ) → IsMarked v (draft_at drafts q) (mark_at marks q)) → (known ≡ true → left ≡ marks) → (known ≡ false → (q : ℕ) → mark_at left q ≡ None) → (q : ℕ) → IsMarked w (draft_at (set drafts p None) q) (mark_at left q)
-marked_after v w made true drafts marks left p is fit lt all kept none q =
-    subst (λ x. IsMarked x (draft_at (set drafts p None) q) (mark_at left q)) (sym is)
-    (subst (λ ms. IsMarked (changed v made true) (draft_at (set drafts p None) q) (mark_at ms q)) (sym (kept refl))
-    (marked_more v made fit (draft_at (set drafts p None) q) (mark_at marks q) (marked_draft v drafts marks p all None lt tt q)))
-marked_after v w made false drafts marks left p is fit lt all kept none q = subst (IsMarked w (draft_at (set drafts p None) q)) (sym (none refl q)) (unmarked w (draft_at (set drafts p None) q))
-
--- marks that are filled anew
-all_none : (marks : List (Option ℕ)) (n : ℕ) → length marks ≤ n → ((p : ℕ) → p < n → mark_at marks p ≡ None) → (p : ℕ) → mark_at marks p ≡ None
+-- seen that are filled anew
+all_none : (seen : List (Option ℕ)) (n : ℕ) → length seen ≤ n → ((p : ℕ) → p < n → seen_at seen p ≡ None) → (p : ℕ) → seen_at seen p ≡ None
 all_none [] n le h zero = refl
 all_none [] n le h (suc p) = refl
 all_none (x ∷ xs) zero le h p = absurd (omega (arith, le))
 all_none (x ∷ xs) (suc n) le h zero = h zero (omega arith)
 all_none (x ∷ xs) (suc n) le h (suc p) = all_none xs n (omega (arith, le)) (λ q lt. h (suc q) (omega (arith, lt))) p
 
-none_in : (n p : ℕ) → mark_at (replicate n None) p ≡ None
+none_in : (n p : ℕ) → seen_at (replicate n None) p ≡ None
 none_in n p = all_none (replicate n None) n (omega (arith, length-replicate {A = Option ℕ} n None)) (λ q lt. get_or-replicate n q None None lt) p
 
 take_none : (n : ℕ) (xs : List (Option ℕ)) → xs ≡ [] → take n xs ≡ []
 take_none zero xs e = ap (take zero) e
 take_none (suc n) xs e = ap (take (suc n)) e
 
-pub refilled : (items old : List (Option ℕ)) (n m : ℕ) → old ≡ [] → items ≡ take n old ++ replicate (n - m) None → (p : ℕ) → mark_at items p ≡ None
-refilled items old n m e is p = ap (λ xs. mark_at xs p) (is ∙ ap (λ xs. xs ++ replicate (n - m) None) (take_none n old e)) ∙ none_in (n - m) p
+pub refilled : (items old : List (Option ℕ)) (n m : ℕ) → old ≡ [] → items ≡ take n old ++ replicate (n - m) None → (p : ℕ) → seen_at items p ≡ None
+refilled items old n m e is p = ap (λ xs. seen_at xs p) (is ∙ ap (λ xs. xs ++ replicate (n - m) None) (take_none n old e)) ∙ none_in (n - m) p
 
--- the mark of a planner's draft, as both are read
-pub mark_read : (v : StockValue) (drafts : List (Option DraftValue)) (marks : List (Option ℕ)) (p k : ℕ) (got : Option DraftValue) (mark : Option ℕ) (d : DraftValue) → ((q : ℕ) → IsMarked v (draft_at drafts q) (mark_at marks q)) → p < length drafts → p < length marks → k ≡ p →
-    got ≡ get_or drafts k got → mark ≡ get_or marks k mark → got ≡ Some d → IsMarked v (Some d) mark
-mark_read v drafts marks p k got mark d all lt lm at is read some =
+-- the count of a planner's draft, as both are read
+pub seen_read : (v : StockValue) (drafts : List (Option DraftValue)) (seen : List (Option ℕ)) (p k : ℕ) (got : Option DraftValue) (count : Option ℕ) (d : DraftValue) → ((q : ℕ) → HasSeen v (draft_at drafts q) (seen_at seen q)) → p < length drafts → p < length seen → k ≡ p →
+    got ≡ get_or drafts k got → count ≡ get_or seen k count → got ≡ Some d → HasSeen v (Some d) count
+seen_read v drafts seen p k got count d all lt lm at is read some =
     let its : got ≡ draft_at drafts p = is ∙ ap (λ n. get_or drafts n got) at ∙ get_or_default drafts p got None lt in
-    let own : mark ≡ mark_at marks p = read ∙ ap (λ n. get_or marks n mark) at ∙ get_or_default marks p mark None lm in
-    subst (IsMarked v (Some d)) (sym own) (subst (λ o. IsMarked v o (mark_at marks p)) (sym its ∙ some) (all p))
+    let own : count ≡ seen_at seen p = read ∙ ap (λ n. get_or seen n count) at ∙ get_or_default seen p count None lm in
+    subst (HasSeen v (Some d)) (sym own) (subst (λ o. HasSeen v o (seen_at seen p)) (sym its ∙ some) (all p))
 
 -- the changes of a draft that can be settled fit
 pub settling : (v : DeskValue) (o : Option DraftValue) (d : DraftValue) → IsFresh v o → o ≡ Some d → ChangesFit d.problem (changes d.problem d.base (calls_of d.asked)) v.list

@@ -24,13 +24,12 @@ pub record AuditorValue : Type 0 where
   pub told : Option Reply
 
 -- a call that was made, with what it was told
-abbrev pub heard : Option Call → Option Reply → List Asked
-heard (Some call) (Some reply) = record { call = call; reply = reply } ∷ []
-heard (Some call) None = []
+abbrev pub heard : Option Call → Reply → List Asked
+heard (Some call) reply = record { call = call; reply = reply } ∷ []
 heard None reply = []
 
 -- what the call that was made was told is heard
-abbrev pub with_heard : AuditorValue → Option Reply → AuditorValue
+abbrev pub with_heard : AuditorValue → Reply → AuditorValue
 with_heard a reply = record a { asked = a.asked ++ heard a.made reply; made = None; told = None }
 
 -- what t becomes by all that was heard so far: the entries that have ended, and the calls of the one that has not

@@ -14,8 +14,8 @@ use Rattle.ctt_core.specs.declared.event.Event.TheVariants.{Open, Ask, Commit, R
 use Rattle.ctt_core.specs.declared.answer.Answer.{Answer}
 use Rattle.ctt_core.specs.declared.answer.Answer.TheVariants.{Opened, AlreadyOpen, NoDraft, Replied, Committed, Refreshed, Stale, Abandoned, NoMemory}
 use Rattle.ctt_core.specs.declared.journal.JournalEntry.{JournalEntry}
-use Rattle.ctt_core.specs.Stocks.{StockValue, IsMarked, mark_at}
-use Rattle.ctt_core.specs.Runs.{after, Turn, OpenDraft, draft, accepted_of, now, verdict, renewal, may_want}
+use Rattle.ctt_core.specs.Stocks.{StockValue, HasSeen, seen_at}
+use Rattle.ctt_core.specs.Runs.{after, Turn, OpenDraft, draft, accepted_of, now, acceptance, renewal, may_want}
 
 -- the opening timetable, the present one, the accepted drafts, and the open draft of each planner
 pub record DeskValue : Type 0 where
@@ -39,46 +39,46 @@ pub record StandsAt (v : DeskValue) (past : List Turn) : Type 0 where
   pub journal : v.journal ≡ accepted_of past
   pub drafts : (p : ℕ) → draft_at v.drafts p ≡ kept v.problem v.opening (accepted_of past) (draft p past)
 
--- a desk's answers, by what it keeps
-abbrev pub opens : Option DraftValue → Answer
-opens None = Opened
-opens (Some d) = AlreadyOpen
+-- a desk's answers to an event, by what it keeps
+abbrev pub to_open : Option DraftValue → Answer
+to_open None = Opened
+to_open (Some d) = AlreadyOpen
 
-abbrev pub answers : Call → Option DraftValue → Answer
-answers call None = NoDraft
-answers call (Some d) = Replied (reply d.problem (present d) call)
+abbrev pub to_ask : Call → Option DraftValue → Answer
+to_ask call None = NoDraft
+to_ask call (Some d) = Replied (reply d.problem (present d) call)
 
-abbrev pub commits_to : DeskValue → Option DraftValue → Answer
-commits_to v None = NoDraft
-commits_to v (Some d) = verdict (length v.journal + 1) (stale d.problem d.base v.list (calls_of d.asked))
+abbrev pub to_commit : DeskValue → Option DraftValue → Answer
+to_commit v None = NoDraft
+to_commit v (Some d) = acceptance (length v.journal + 1) (stale d.problem d.base v.list (calls_of d.asked))
 
-abbrev pub refreshes : DeskValue → Option DraftValue → Answer
-refreshes v None = NoDraft
-refreshes v (Some d) = renewal (stale d.problem d.base v.list (calls_of d.asked))
+abbrev pub to_refresh : DeskValue → Option DraftValue → Answer
+to_refresh v None = NoDraft
+to_refresh v (Some d) = renewal (stale d.problem d.base v.list (calls_of d.asked))
 
-abbrev pub abandons : Option DraftValue → Answer
-abandons None = NoDraft
-abandons (Some d) = Abandoned
+abbrev pub to_abandon : Option DraftValue → Answer
+to_abandon None = NoDraft
+to_abandon (Some d) = Abandoned
 
 abbrev pub answer_of : DeskValue → Event → Answer
-answer_of v (Open p) = opens (draft_at v.drafts p)
-answer_of v (Ask p call) = answers call (draft_at v.drafts p)
-answer_of v (Commit p) = commits_to v (draft_at v.drafts p)
-answer_of v (Refresh p) = refreshes v (draft_at v.drafts p)
-answer_of v (Abandon p) = abandons (draft_at v.drafts p)
+answer_of v (Open p) = to_open (draft_at v.drafts p)
+answer_of v (Ask p call) = to_ask call (draft_at v.drafts p)
+answer_of v (Commit p) = to_commit v (draft_at v.drafts p)
+answer_of v (Refresh p) = to_refresh v (draft_at v.drafts p)
+answer_of v (Abandon p) = to_abandon (draft_at v.drafts p)
 answer_of v (Show look) = Replied (shown v.problem v.list look)
 
 -- the desk with another draft of planner p
 abbrev pub with_draft : ℕ → Option DraftValue → DeskValue → DeskValue
 with_draft p d v = record v { drafts = slice_set v.drafts p d }
 
-abbrev pub asks : Call → Reply → Option DraftValue → Option DraftValue
-asks call told None = None
-asks call told (Some d) = Some (asked_more d call told)
+abbrev pub with_call : Call → Reply → Option DraftValue → Option DraftValue
+with_call call told None = None
+with_call call told (Some d) = Some (asked_more d call told)
 
-abbrev pub renews : List Placed → Option DraftValue → Option DraftValue
-renews t None = None
-renews t (Some d) = Some (refreshed d t None)
+abbrev pub with_base : List Placed → Option DraftValue → Option DraftValue
+with_base t None = None
+with_base t (Some d) = Some (refreshed d t None)
 
 -- the desk after an accepted commit
 abbrev pub settled : ℕ → DeskValue → Option DraftValue → DeskValue
@@ -94,10 +94,10 @@ settled p v (Some d) = record {
 -- what an answered event makes of the desk
 abbrev pub goes_on : DeskValue → Event → Answer → DeskValue
 goes_on v (Open p) Opened = with_draft p (Some (record { problem = v.problem; base = v.list; asked = [] })) v
-goes_on v (Ask p call) (Replied told) = with_draft p (asks call told (draft_at v.drafts p)) v
+goes_on v (Ask p call) (Replied told) = with_draft p (with_call call told (draft_at v.drafts p)) v
 goes_on v (Commit p) (Committed n) = settled p v (draft_at v.drafts p)
 goes_on v (Commit p) (Stale row) = with_draft p None v
-goes_on v (Refresh p) Refreshed = with_draft p (renews v.list (draft_at v.drafts p)) v
+goes_on v (Refresh p) Refreshed = with_draft p (with_base v.list (draft_at v.drafts p)) v
 goes_on v (Refresh p) (Stale row) = with_draft p None v
 goes_on v (Abandon p) Abandoned = with_draft p None v
 goes_on v _ _ = v
@@ -107,13 +107,13 @@ abbrev pub Answers : DeskValue → Event → Answer → Type 0
 Answers v event answer = (answer ≡ answer_of v event) ⊎ ((answer ≡ NoMemory) × (may_want event (answer_of v event) ≡ true))
 
 -- what a desk keeps to: its timetable and its open drafts are of its instance, its opening is lawful, and it is known which changes were made since a draft was opened, or last refreshed
-pub record IsDesk (i : Problem) (stock : StockValue) (opening : List Placed) (drafts : List (Option DraftValue)) (marks : List (Option ℕ)) (planners : ℕ) : Type 0 where
+pub record IsDesk (i : Problem) (stock : StockValue) (opening : List Placed) (drafts : List (Option DraftValue)) (seen : List (Option ℕ)) (planners : ℕ) : Type 0 where
   pub same : stock.problem ≡ i
   pub opening_lawful : Lawful i opening
   pub counted : length drafts ≡ planners
   pub drafts_of : (p : ℕ) → IfSome (draft_at drafts p) (λ d. d.problem ≡ i)
-  pub marks_counted : length marks ≡ planners
-  pub marked : (p : ℕ) → IsMarked stock (draft_at drafts p) (mark_at marks p)
+  pub seen_counted : length seen ≡ planners
+  pub has_seen : (p : ℕ) → HasSeen stock (draft_at drafts p) (seen_at seen p)
 
 -- there is a draft, which can be settled
 abbrev pub IsFresh : DeskValue → Option DraftValue → Type 0

@@ -1,4 +1,5 @@
 pub mod Runs
+pub mod OpenDrafts
 pub mod Desks
 pub mod Laws
 pub mod Openings

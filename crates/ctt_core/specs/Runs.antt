@@ -112,13 +112,13 @@ ask_answer i t0 past call None = NoDraft
 ask_answer i t0 past call (Some d) = Replied (reply i (whole i (base i t0 past d) (calls_of d.asked)) call)
 
 -- .. to a commit: the number of accepted drafts, or the stale row ..
-abbrev pub verdict : ℕ → Option Row → Answer
-verdict n None = Committed n
-verdict n (Some row) = Stale row
+abbrev pub acceptance : ℕ → Option Row → Answer
+acceptance n None = Committed n
+acceptance n (Some row) = Stale row
 
 abbrev pub commit_answer : Problem → List Placed → List Turn → Option OpenDraft → Answer
 commit_answer i t0 past None = NoDraft
-commit_answer i t0 past (Some d) = verdict (commits past + 1) (stale i (base i t0 past d) (now i t0 past) (calls_of d.asked))
+commit_answer i t0 past (Some d) = acceptance (commits past + 1) (stale i (base i t0 past d) (now i t0 past) (calls_of d.asked))
 
 -- .. to a refresh: that the draft is up to date, or the stale row ..
 abbrev pub renewal : Option Row → Answer

@@ -38,10 +38,10 @@ abbrev pub changed : StockValue → List (List Cell) → Bool → StockValue
 changed v changes kept = record { problem = v.problem; list = apply_all changes v.list; log = cond kept (v.log ++ changes) [] }
 
 -- how many of the changes are made on the base of a planner's draft, where that is known
-abbrev pub mark_at : List (Option ℕ) → ℕ → Option ℕ
-mark_at marks p = slice_index_or marks p None
+abbrev pub seen_at : List (Option ℕ) → ℕ → Option ℕ
+seen_at seen p = slice_index_or seen p None
 
-abbrev pub IsMarked : StockValue → Option DraftValue → Option ℕ → Type 0
-IsMarked v None mark = Unit {0}
-IsMarked v (Some d) None = Unit {0}
-IsMarked v (Some d) (Some n) = LeadsFrom v n d.base
+abbrev pub HasSeen : StockValue → Option DraftValue → Option ℕ → Type 0
+HasSeen v None count = Unit {0}
+HasSeen v (Some d) None = Unit {0}
+HasSeen v (Some d) (Some n) = LeadsFrom v n d.base

@@ -1,22 +1,18 @@
-//! The audit of a journal: its drafts are run whole, one after another, and told anew.
+//! An audit in progress: drafts are run whole, one after another, and told anew.
 
-ghost use Rattle.std.specs.Prelude.{◌≡◌, IfOk, IfErr, IfSome, OnOk, OnErr, Ok, Some, None, List, [], ◌∷◌, ◌++◌};
+ghost use Rattle.std.specs.Prelude.{◌≡◌, IfOk, IfErr, IfSome, OnOk, OnErr, Some, None, [], ◌∷◌, ◌++◌};
 ghost use Rattle.std.specs.List.{AllByRecursion as Each};
 ghost use Rattle.std.specs.Option.{option_map};
 ghost use Rattle.ctt_text.specs.Timetable.{Fits};
-ghost use Rattle.ctt_text.specs.declared.placed.Placed.{Placed};
 ghost use Rattle.ctt_edits.specs.Calls.{CallFits, reply};
 ghost use Rattle.ctt_edits.specs.Edits.{EditFits};
 ghost use Rattle.ctt_edits.specs.Fitting.{IsReply};
-ghost use Rattle.ctt_edits.specs.Openings.{opening};
 ghost use Rattle.ctt_edits.specs.declared.call.Call.TheVariants.{Edit as Edits};
+ghost use Rattle.ctt_edits.specs.declared.reply.Reply.{Reply as Told};
 ghost use Rattle.ctt_draft.specs.Drafts.{after_call};
-ghost use Rattle.ctt_core.specs.Entries.{EntryFits};
-ghost use Rattle.ctt_core.specs.Runs.{Legal};
 ghost use Rattle.ctt_core.specs.Auditors.{IsToldHere, with_heard};
 ghost use Rattle.ctt_core.specs.Audits.{IsVerdict, found_more};
 ghost use Rattle.ctt_core.specs.Openings.{IsOpeningFault};
-ghost use Rattle.ctt_core.specs.declared.auditing.Verdict.TheVariants.{Agrees};
 
 use crate::desk_fault::DeskFault;
 use crate::journal::JournalEntry;
@@ -46,7 +42,8 @@ fn make<'i, S: Sheet<'i>>(sheet: &mut S, edit: &Edit) -> Reply
     requires { EditFits (S.problem sheet.old) edit.now }
     ensures told { result ≡ reply (S.problem sheet.old) (S.list sheet.old) (Edits edit.now) }
     ensures problem { S.problem sheet.new ≡ S.problem sheet.old }
-    ensures list { S.list sheet.new ≡ after_call (S.problem sheet.old) (S.list sheet.old) (Edits edit.now) }
+    ensures list { S.list sheet.new
+        ≡ after_call (S.problem sheet.old) (S.list sheet.old) (Edits edit.now) }
 {
     let checked = check(sheet, edit);
     match checked {
@@ -61,9 +58,11 @@ fn make<'i, S: Sheet<'i>>(sheet: &mut S, edit: &Edit) -> Reply
 /// Makes a call, and answers as a planner is told.
 fn answer<'i, S: Sheet<'i>>(alloc: Global, sheet: &mut S, call: &Call) -> Result<Reply, NoMemory>
     requires { CallFits (S.problem sheet.old) call.now }
-    ensures told { IfOk result (λ told. told ≡ reply (S.problem sheet.old) (S.list sheet.old) call.now) }
+    ensures told { IfOk result (λ told.
+        told ≡ reply (S.problem sheet.old) (S.list sheet.old) call.now) }
     ensures problem { S.problem sheet.new ≡ S.problem sheet.old }
-    ensures list { OnOk result (S.list sheet.new ≡ after_call (S.problem sheet.old) (S.list sheet.old) call.now) }
+    ensures list { OnOk result (S.list sheet.new
+        ≡ after_call (S.problem sheet.old) (S.list sheet.old) call.now) }
     ensures kept { OnErr result (S.list sheet.new ≡ S.list sheet.old) }
 {
     match call {
@@ -148,7 +147,15 @@ impl<'a, 'i, S: Sheet<'i>> Auditor<'a, S> {
         lectures: &'a [Placed],
     ) -> Result<Self, DeskFault>
         requires { Each (Fits instance.now) lectures.now }
-        ensures opened { IfOk result (λ auditor. auditor ≡ record { problem = instance.now; lectures = lectures.now; entries = []; asked = []; made = None; told = None }) }
+        ensures opened { IfOk result (λ auditor.
+            auditor ≡ record {
+              problem = instance.now;
+              lectures = lectures.now;
+              entries = [];
+              asked = [];
+              made = None;
+              told = None;
+            }) }
         ensures fault { IfErr result (IsOpeningFault instance.now lectures.now) }
     {
         let sheet = placed::<S>(alloc, instance, lectures)?;
@@ -175,10 +182,11 @@ impl<'a, 'i, S: Sheet<'i>> Auditor<'a, S> {
 
     /// Makes the next call of the entry that comes, and holds ready what it is told here. Where some entry or call
     /// before it was told something else, it is not made, and nothing is held.
-    pub fn tell(&mut self, alloc: Global, call: Call) -> Result<(), NoMemory>
+    pub fn make_call(&mut self, alloc: Global, call: Call) -> Result<(), NoMemory>
         requires fits { CallFits self.old.problem call }
         requires ready { self.old.made ≡ None }
-        ensures ok { OnOk result (self.new ≡ record self.old { made = Some call; told = self.new.told }) }
+        ensures ok { OnOk result (self.new
+            ≡ record self.old { made = Some call; told = self.new.told }) }
         ensures told { OnOk result (IfSome self.new.told (IsReply self.old.problem)) }
         ensures here { OnOk result (IsToldHere self.old call self.new.told) }
         ensures err { OnErr result (self.new ≡ self.old) }
@@ -202,24 +210,26 @@ impl<'a, 'i, S: Sheet<'i>> Auditor<'a, S> {
         self.told.as_ref()
     }
 
-    /// Hears that the call was told what it is told.
+    /// Hears that the call was told what it is told here. Where nothing is held of it, as something before it
+    /// differs, nothing is heard, and the call stays until what it was told is heard.
     pub fn hear_same(&mut self)
-        ensures { self.new ≡ with_heard self.old self.old.told }
+        ensures heard { (told : Told) → self.old.told ≡ Some told → self.new ≡ with_heard self.old told }
+        ensures kept { self.old.told ≡ None → self.new ≡ self.old }
     {
         if let Some(call) = self.made {
             if let Some(told) = &self.told {
                 let heard = Heard { call, reply: told };
                 self.begun += 1;
                 self.asked.push::<Heard, WholeCall>(&heard);
+                self.made = None;
+                self.told = None;
             }
         }
-        self.made = None;
-        self.told = None;
     }
 
     /// Hears what the call was told.
     pub fn hear(&mut self, reply: &Reply)
-        ensures { self.new ≡ with_heard self.old (Some reply.now) }
+        ensures { self.new ≡ with_heard self.old reply.now }
     {
         if let Some(call) = self.made {
             self.begun += 1;
@@ -239,11 +249,12 @@ impl<'a, 'i, S: Sheet<'i>> Auditor<'a, S> {
     pub fn ask(&mut self, alloc: Global, asked: &Asked) -> Result<(), NoMemory>
         requires fits { CallFits self.old.problem asked.now.call }
         requires ready { self.old.made ≡ None }
-        ensures ok { OnOk result (self.new ≡ record self.old { asked = self.old.asked ++ asked.now ∷ [] }) }
+        ensures ok { OnOk result (self.new
+            ≡ record self.old { asked = self.old.asked ++ asked.now ∷ [] }) }
         ensures err { OnErr result (self.new ≡ self.old) }
     {
         let _opening = self.opening;
-        self.tell(alloc, asked.call)?;
+        self.make_call(alloc, asked.call)?;
         self.hear(&asked.reply);
         Ok(())
     }
@@ -251,7 +262,12 @@ impl<'a, 'i, S: Sheet<'i>> Auditor<'a, S> {
     /// Ends the entry, which is this planner's.
     pub fn end(&mut self, planner: PlannerNo) -> Result<(), NoMemory>
         requires { self.old.made ≡ None }
-        ensures ok { OnOk result (self.new ≡ record self.old { entries = self.old.entries ++ record { planner = planner; asked = self.old.asked } ∷ []; asked = [] }) }
+        ensures ok { OnOk result (self.new
+            ≡ record self.old {
+              entries = self.old.entries
+                  ++ record { planner = planner; asked = self.old.asked } ∷ [];
+              asked = [];
+            }) }
         ensures err { OnErr result (self.new ≡ self.old) }
     {
         if self.ended == u64::MAX {
@@ -275,77 +291,4 @@ impl<'a, 'i, S: Sheet<'i>> Auditor<'a, S> {
     {
         self.found
     }
-}
-
-/// Runs an entry.
-fn run_entry<'i, S: Sheet<'i>>(
-    alloc: Global,
-    auditor: &mut Auditor<S>,
-    entry: &JournalEntry,
-) -> Result<(), NoMemory>
-    requires fits { EntryFits auditor.old.problem entry.now }
-    requires begun { auditor.old.asked ≡ [] }
-    requires ready { auditor.old.made ≡ None }
-    ensures { OnOk result (auditor.new ≡ record auditor.old { entries = auditor.old.entries ++ entry.now ∷ [] }) }
-{
-    for asked in entry.asked.as_slice() {
-        auditor.ask(alloc, asked)?;
-    }
-    auditor.end(entry.planner)
-}
-
-/// Runs entries.
-fn run_entries<'i, S: Sheet<'i>>(
-    alloc: Global,
-    auditor: &mut Auditor<S>,
-    entries: &[JournalEntry],
-) -> Result<(), NoMemory>
-    requires fit { Each (EntryFits auditor.old.problem) entries.now }
-    requires begun { auditor.old.asked ≡ [] }
-    requires ready { auditor.old.made ≡ None }
-    ensures { OnOk result (auditor.new ≡ record auditor.old { entries = auditor.old.entries ++ entries.now }) }
-{
-    for entry in entries {
-        run_entry(alloc, auditor, entry)?;
-    }
-    Ok(())
-}
-
-/// What is found, on a sheet of this kind.
-fn found_on<'i, S: Sheet<'i>>(
-    alloc: Global,
-    instance: &'i Instance,
-    lectures: &[Placed],
-    entries: &[JournalEntry],
-) -> Result<Verdict, NoMemory>
-    requires lectures { Each (Fits instance.now) lectures.now }
-    requires entries { Each (EntryFits instance.now) entries.now }
-    ensures { IfOk result (IsVerdict instance.now lectures.now entries.now) }
-{
-    match Auditor::<S>::open(alloc, instance, lectures) {
-        Ok(mut auditor) => {
-            run_entries(alloc, &mut auditor, entries)?;
-            Ok(auditor.verdict())
-        }
-        Err(DeskFault::Unlawful(at, fault)) => Ok(Verdict::BadOpening(at, fault)),
-        Err(DeskFault::NoMemory) => Err(NoMemory),
-    }
-}
-
-/// Whether a journal tells what its drafts are told when they are run whole, one after another, on the
-/// opening with these lectures, which are placed in their order; and if not, where it differs first.
-///
-/// The kind of sheet on which they are run is the caller's choice, as `audit::<GridSheet>`.
-pub fn audit<'i, S: Sheet<'i>>(
-    alloc: Global,
-    instance: &'i Instance,
-    lectures: &[Placed],
-    entries: &[JournalEntry],
-) -> Result<Verdict, NoMemory>
-    requires lectures { Each (Fits instance.now) lectures.now }
-    requires entries { Each (EntryFits instance.now) entries.now }
-    ensures found { IfOk result (IsVerdict instance.now lectures.now entries.now) }
-    ensures agrees { IfOk result (λ verdict. (t : List Placed) → opening instance.now lectures.now ≡ Ok t → Legal instance.now t entries.now → verdict ≡ Agrees) }
-{
-    found_on::<S>(alloc, instance, lectures, entries)
 }

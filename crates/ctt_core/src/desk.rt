@@ -1,37 +1,33 @@
 //! The desk.
 
-ghost use Rattle.std.specs.Prelude.{◌≡◌, ◌⊎◌, ◌↔◌, ℕ, ◌+◌, ◌<◌, true, false, List, [], ◌∷◌, length, None, Ok, IfOk, IfErr, OnErr, IsTrue};
+ghost use Rattle.std.specs.Prelude.{◌≡◌, ℕ, ◌<◌, List, [], ◌∷◌, length, None, Ok, IfOk, IfErr, OnErr};
 ghost use Rattle.std.specs.List.{AllByRecursion as Each};
 ghost use Rattle.ctt_text.specs.Timetable.{Fits};
-ghost use Rattle.ctt_edits.specs.Calls.{CallFits};
-ghost use Rattle.ctt_edits.specs.Looks.{LookFits};
 ghost use Rattle.ctt_rules.specs.Hard.{Lawful};
 ghost use Rattle.ctt_rules.specs.Penalty.{penalty};
 ghost use Rattle.ctt_core.specs.Runs.{after, Legal, Turn, answered, accepted_of, EventFits, onto};
 ghost use Rattle.ctt_core.specs.Laws.{Stands};
-ghost use Rattle.ctt_core.specs.Stocks.{mark_at};
-ghost use Rattle.ctt_core.specs.Desks.{Answers, goes_on, draft_at, with_draft, IsFresh, SameDesk};
-ghost use Rattle.ctt_core.specs.declared.answer.Answer.TheVariants.{Committed};
+ghost use Rattle.ctt_core.specs.Desks.{Answers, goes_on, draft_at, SameDesk};
 ghost use Rattle.ctt_core.specs.declared.answer.Answer.TheVariants.{NoMemory as OutOfMemory};
 ghost use Rattle.ctt_edits.specs.Openings.{opening};
 ghost use Rattle.ctt_core.specs.Openings.{IsOpeningFault};
-ghost use Rattle.ctt_core.specs.declared.event.Event.TheVariants.{Open, Ask, Commit, Refresh, Abandon, Show};
 
 use crate::answer::Answer;
 use crate::desk_fault::DeskFault;
-use crate::event::{Event, all_fit};
-use crate::journal::{JournalEntry, enter};
+use crate::event::Event;
+use crate::journal::JournalEntry;
 use crate::laws;
 use crate::opening::placed;
-use crate::planner::PlannerNo;
 use crate::stock::Stock;
 use ctt_board::{Rooms, Sheet, Timetable};
 use ctt_draft::{Draft, KeepAll, Keeping, Log};
-use ctt_edits::{Call, Look, Reply, look_in};
+use ctt_edits::Reply;
 use ctt_rules::Cost;
 use ctt_text::{Instance, NoMemory, Placed};
 use std::alloc::{AllocError, Global};
 use std::marker::Model;
+
+mod turns;
 
 /// A timetable on which planners have drafts, and the drafts that were accepted since its opening.
 #[derive(Drop)]
@@ -43,7 +39,7 @@ pub struct Desk<'i, S: Timetable, K: Keeping> {
     drafts: Vec<Option<Draft<'i, S, K>>>,
     /// How many of the changes that the stock knows were made before a planner's draft was opened, or last
     /// refreshed.
-    marks: Vec<Option<usize>>,
+    seen: Vec<Option<usize>>,
     planners: u16,
     /// A list of no meaning, in whose memory lectures are listed that are told.
     spare: Vec<Placed>,
@@ -56,7 +52,7 @@ impl<'i, S: Timetable, K: Keeping> Model for Desk<'i, S, K> {
 
     ghost view = { λ d. record { problem = d.instance.now; opening = d.opening.items; list = d.stock.list; journal = d.journal.list; drafts = d.drafts.items } };
 
-    ghost invariant = { λ d. IsDesk d.instance.now d.stock d.opening.items d.drafts.items d.marks.items d.planners };
+    ghost invariant = { λ d. IsDesk d.instance.now d.stock d.opening.items d.drafts.items d.seen.items d.planners };
 }
 
 /// No draft for each of so many planners.
@@ -74,20 +70,6 @@ fn no_drafts<'i, S: Timetable, K: Keeping>(
     Ok(drafts)
 }
 
-/// Forgets all marks, unless the changes that they count are known.
-#[tactic(auto, using(crate::proofs::StockLemmas::refilled))]
-fn forget_unless(known: bool, marks: &mut Vec<Option<usize>>)
-    ensures length { length marks.new.items ≡ length marks.old.items }
-    ensures kept { known ≡ true → marks.new.items ≡ marks.old.items }
-    ensures none { known ≡ false → (p : ℕ) → mark_at marks.new.items p ≡ None }
-{
-    if !known {
-        let count = marks.len();
-        marks.clear();
-        marks.resize(count, None).unwrap();
-    }
-}
-
 impl<'i, S: Sheet<'i>, K: Keeping> Desk<'i, S, K> {
     /// A desk whose opening timetable has these lectures, which are placed in their order, whatever it
     /// is, for so many planners. It is refused at the first lecture that cannot be placed.
@@ -99,7 +81,8 @@ impl<'i, S: Sheet<'i>, K: Keeping> Desk<'i, S, K> {
     ) -> Result<Self, DeskFault>
         requires { Each (Fits instance.now) lectures.now }
         ensures problem { IfOk result (λ desk. desk.problem ≡ instance.now) }
-        ensures opening { IfOk result (λ desk. opening instance.now lectures.now ≡ Ok desk.opening) }
+        ensures opening { IfOk result (λ desk.
+            opening instance.now lectures.now ≡ Ok desk.opening) }
         ensures planners { IfOk result (λ desk. length desk.drafts ≡ planners) }
         ensures stands { IfOk result (λ desk. Stands desk []) }
         ensures fault { IfErr result (IsOpeningFault instance.now lectures.now) }
@@ -108,8 +91,8 @@ impl<'i, S: Sheet<'i>, K: Keeping> Desk<'i, S, K> {
         sheet.lawful();
         let opening = sheet.list()?;
         let drafts = no_drafts(alloc, planners)?;
-        let mut marks = Vec::new(alloc);
-        marks.resize(planners as usize, None)?;
+        let mut seen = Vec::new(alloc);
+        seen.resize(planners as usize, None)?;
         let stock = Stock::new(alloc, sheet, planners)?;
         Ok(Desk {
             instance,
@@ -117,7 +100,7 @@ impl<'i, S: Sheet<'i>, K: Keeping> Desk<'i, S, K> {
             stock,
             journal: Log::new(alloc),
             drafts,
-            marks,
+            seen,
             planners,
             spare: Vec::new(alloc),
         })
@@ -137,13 +120,6 @@ impl<'i, S: Sheet<'i>, K: Keeping> Desk<'i, S, K> {
         self.planners
     }
 
-    /// Whether events have numbers of the desk's instance and of its planners, as `step` and `run` ask.
-    pub fn takes(&self, events: &[Event]) -> bool
-        ensures { IsTrue result ↔ Each (EventFits self.now.problem (length self.now.drafts)) events.now }
-    {
-        all_fit(events, self.instance(), self.planners())
-    }
-
     /// The lectures, by course and slot.
     pub fn list(&self) -> Result<Vec<Placed>, NoMemory>
         ensures { IfOk result (λ list. list.items ≡ self.now.list) }
@@ -158,170 +134,12 @@ impl<'i, S: Sheet<'i>, K: Keeping> Desk<'i, S, K> {
         self.stock.sheet().cost()
     }
 
-    /// Opens a draft.
-    fn open(&mut self, planner: PlannerNo) -> Answer
-        requires { planner < length self.old.drafts }
-        ensures answer { Answers self.old (Open planner) result }
-        ensures goes_on { self.new ≡ goes_on self.old (Open planner) result }
-    {
-        let place = planner.get() as usize;
-        if self.drafts[place].is_some() {
-            return Answer::AlreadyOpen;
-        }
-        match self.stock.open(*self.opening.allocator()) {
-            Ok(draft) => {
-                self.drafts[place] = Some(draft);
-                self.marks[place] = Some(self.stock.mark());
-                Answer::Opened
-            }
-            Err(_) => Answer::NoMemory,
-        }
-    }
-
-    /// Makes a call in a draft.
-    fn ask(&mut self, planner: PlannerNo, call: Call) -> Answer
-        requires planner { planner < length self.old.drafts }
-        requires fits { CallFits self.old.problem call }
-        ensures answer { Answers self.old (Ask planner call) result }
-        ensures goes_on { self.new ≡ goes_on self.old (Ask planner call) result }
-    {
-        let place = planner.get() as usize;
-        let draft = &mut self.drafts[place];
-        match draft {
-            None => Answer::NoDraft,
-            Some(draft) => match draft.call_in(call, &mut self.spare) {
-                Ok(told) => Answer::Replied(told),
-                Err(_) => Answer::NoMemory,
-            },
-        }
-    }
-
-    /// Ends a planner's draft, if he has one, and keeps its sheet.
-    fn give_up(&mut self, planner: PlannerNo)
-        requires { planner < length self.old.drafts }
-        ensures { self.new ≡ with_draft planner None self.old }
-    {
-        let place = planner.get() as usize;
-        if let Some(draft) = self.drafts[place].take() {
-            self.stock.retire(draft, self.marks[place]);
-        }
-    }
-
-    /// Gives a draft up.
-    fn abandon(&mut self, planner: PlannerNo) -> Answer
-        requires { planner < length self.old.drafts }
-        ensures answer { Answers self.old (Abandon planner) result }
-        ensures goes_on { self.new ≡ goes_on self.old (Abandon planner) result }
-    {
-        let place = planner.get() as usize;
-        if self.drafts[place].is_none() {
-            return Answer::NoDraft;
-        }
-        self.give_up(planner);
-        Answer::Abandoned
-    }
-
-    /// Looks at the timetable as it stands.
-    fn show(&mut self, look: &Look) -> Answer
-        requires { LookFits self.old.problem look.now }
-        ensures answer { Answers self.old (Show look.now) result }
-        ensures goes_on { self.new ≡ goes_on self.old (Show look.now) result }
-    {
-        match look_in(&mut self.spare, self.stock.sheet(), look) {
-            Ok(told) => Answer::Replied(told),
-            Err(_) => Answer::NoMemory,
-        }
-    }
-
-    /// Settles a draft that is not stale, and enters it into the journal.
-    fn accept(&mut self, planner: PlannerNo) -> Answer
-        requires planner { planner < length self.old.drafts }
-        requires fresh { IsFresh self.old (draft_at self.old.drafts planner) }
-        ensures answer { (result ≡ OutOfMemory) ⊎ (result ≡ Committed (length self.old.journal + 1)) }
-        ensures goes_on { self.new ≡ goes_on self.old (Commit planner) result }
-    {
-        let place = planner.get() as usize;
-        if self.journal.reserve(1).is_err() {
-            return Answer::NoMemory;
-        }
-        let Some(draft) = self.drafts[place].take() else {
-            return Answer::NoDraft;
-        };
-        let (asked, known) = self.stock.settle(draft, self.marks[place]);
-        forget_unless(known, &mut self.marks);
-        enter(&mut self.journal, planner, asked);
-        Answer::Committed(self.journal.len())
-    }
-
-    /// Accepts a draft, or refuses it where it is stale.
-    fn commit(&mut self, planner: PlannerNo) -> Answer
-        requires { planner < length self.old.drafts }
-        ensures answer { Answers self.old (Commit planner) result }
-        ensures goes_on { self.new ≡ goes_on self.old (Commit planner) result }
-    {
-        let place = planner.get() as usize;
-        let found = match &self.drafts[place] {
-            None => return Answer::NoDraft,
-            Some(draft) => self.stock.stale(draft, self.marks[place]),
-        };
-        match found {
-            Err(_) => Answer::NoMemory,
-            Ok(Some(row)) => {
-                self.give_up(planner);
-                Answer::Stale(row)
-            }
-            Ok(None) => self.accept(planner),
-        }
-    }
-
-    /// Brings a draft up to date, or ends it where it is stale.
-    fn refresh(&mut self, planner: PlannerNo) -> Answer
-        requires { planner < length self.old.drafts }
-        ensures answer { Answers self.old (Refresh planner) result }
-        ensures goes_on { self.new ≡ goes_on self.old (Refresh planner) result }
-    {
-        let place = planner.get() as usize;
-        let mark = self.marks[place];
-        let draft = &mut self.drafts[place];
-        match draft {
-            None => Answer::NoDraft,
-            Some(draft) => match self.stock.refresh(draft, mark) {
-                Err(_) => Answer::NoMemory,
-                Ok(Some(row)) => {
-                    self.give_up(planner);
-                    Answer::Stale(row)
-                }
-                Ok(None) => {
-                    let latest = self.stock.mark();
-                    self.marks[place] = Some(latest);
-                    Answer::Refreshed
-                }
-            },
-        }
-    }
-
     /// Computes nothing: its contract says that the opening and the timetable are lawful.
     pub fn lawful(&self)
         ensures opening { Lawful self.now.problem self.now.opening }
         ensures list { Lawful self.now.problem self.now.list }
     {
         self.stock.sheet().lawful();
-    }
-
-    /// Answers an event by what the desk keeps.
-    fn answer(&mut self, event: Event) -> Answer
-        requires { EventFits self.old.problem (length self.old.drafts) event }
-        ensures answer { Answers self.old event result }
-        ensures goes_on { self.new ≡ goes_on self.old event result }
-    {
-        match event {
-            Event::Open(planner) => self.open(planner),
-            Event::Ask(planner, call) => self.ask(planner, call),
-            Event::Commit(planner) => self.commit(planner),
-            Event::Refresh(planner) => self.refresh(planner),
-            Event::Abandon(planner) => self.abandon(planner),
-            Event::Show(look) => self.show(&look),
-        }
     }
 
     /// Answers an event. Where memory is wanted nothing was done, and a draft stays open.
@@ -335,10 +153,14 @@ impl<'i, S: Sheet<'i>, K: Keeping> Desk<'i, S, K> {
         ensures goes_on { self.new ≡ goes_on self.old event result }
         ensures no_memory { result ≡ OutOfMemory → self.new ≡ self.old }
         ensures same { SameDesk self.old self.new }
-        ensures stands { (past : List Turn) → Stands self.old past → Stands self.new (answered event result ∷ past) }
-        ensures journal { (past : List Turn) → Stands self.old past → self.new.journal ≡ accepted_of (answered event result ∷ past) }
-        ensures legal { (past : List Turn) → Stands self.old past → Legal self.new.problem self.new.opening self.new.journal }
-        ensures list { (past : List Turn) → Stands self.old past → self.new.list ≡ after self.new.problem self.new.opening self.new.journal }
+        ensures stands { (past : List Turn) → Stands self.old past
+            → Stands self.new (answered event result ∷ past) }
+        ensures journal { (past : List Turn) → Stands self.old past
+            → self.new.journal ≡ accepted_of (answered event result ∷ past) }
+        ensures legal { (past : List Turn) → Stands self.old past
+            → Legal self.new.problem self.new.opening self.new.journal }
+        ensures list { (past : List Turn) → Stands self.old past
+            → self.new.list ≡ after self.new.problem self.new.opening self.new.journal }
         ensures lawful { Lawful self.new.problem self.new.list }
     {
         laws::desk_is_plain();
@@ -365,10 +187,18 @@ impl<'i, S: Sheet<'i>, K: Keeping> Desk<'i, S, K> {
         requires { Each (EventFits self.old.problem (length self.old.drafts)) events.now }
         ensures same { SameDesk self.old self.new }
         ensures length { IfOk result (λ answers. length answers.items ≡ length events.now) }
-        ensures stands { IfOk result (λ answers. (past : List Turn) → Stands self.old past → Stands self.new (onto past events.now answers.items)) }
-        ensures journal { IfOk result (λ answers. (past : List Turn) → Stands self.old past → self.new.journal ≡ accepted_of (onto past events.now answers.items)) }
-        ensures legal { IfOk result (λ answers. (past : List Turn) → Stands self.old past → Legal self.new.problem self.new.opening self.new.journal) }
-        ensures list { IfOk result (λ answers. (past : List Turn) → Stands self.old past → self.new.list ≡ after self.new.problem self.new.opening self.new.journal) }
+        ensures stands { IfOk result (λ answers.
+            (past : List Turn) → Stands self.old past
+            → Stands self.new (onto past events.now answers.items)) }
+        ensures journal { IfOk result (λ answers.
+            (past : List Turn) → Stands self.old past
+            → self.new.journal ≡ accepted_of (onto past events.now answers.items)) }
+        ensures legal { IfOk result (λ answers.
+            (past : List Turn) → Stands self.old past
+            → Legal self.new.problem self.new.opening self.new.journal) }
+        ensures list { IfOk result (λ answers.
+            (past : List Turn) → Stands self.old past
+            → self.new.list ≡ after self.new.problem self.new.opening self.new.journal) }
         ensures lawful { Lawful self.new.problem self.new.list }
         ensures err { OnErr result (self.new ≡ self.old) }
     {

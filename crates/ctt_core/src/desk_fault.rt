@@ -5,7 +5,7 @@ use ctt_text::NoMemory;
 use std::alloc::AllocError;
 
 /// What stands against an opening timetable.
-#[derive(Clone, Copy, PartialEq, Eq)]
+#[derive(Clone, Copy)]
 pub enum DeskFault {
     /// The first lecture that cannot be placed, counted from 1, and what stands against it.
     Unlawful(u64, EditFault),

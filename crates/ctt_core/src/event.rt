@@ -1,7 +1,6 @@
 //! What planners do.
 
 ghost use Rattle.std.specs.Prelude.{◌↔◌, IsTrue};
-ghost use Rattle.std.specs.List.{AllByRecursion as Each};
 ghost use Rattle.ctt_core.specs.Runs.{EventFits};
 
 use crate::planner::PlannerNo;
@@ -9,7 +8,7 @@ use ctt_edits::{Call, Look};
 use ctt_text::Instance;
 
 /// One step of a planner, or a look at the timetable as it stands.
-#[derive(Clone, Copy, PartialEq, Eq)]
+#[derive(Clone, Copy)]
 pub enum Event {
     /// The planner opens a draft on the timetable as it stands.
     Open(PlannerNo),
@@ -34,16 +33,9 @@ impl Event {
             Event::Open(planner)
             | Event::Commit(planner)
             | Event::Refresh(planner)
-            | Event::Abandon(planner) => planner.get() < planners,
-            Event::Ask(planner, call) => planner.get() < planners && call.fits(instance),
+            | Event::Abandon(planner) => planner.fits(planners),
+            Event::Ask(planner, call) => planner.fits(planners) && call.fits(instance),
             Event::Show(look) => look.fits(instance),
         }
     }
-}
-
-/// Whether the numbers of all events are those of the instance, and their planners are of so many.
-pub(crate) fn all_fit(events: &[Event], instance: &Instance, planners: u16) -> bool
-    ensures { IsTrue result ↔ Each (EventFits instance.now planners) events.now }
-{
-    events.iter().all(|event| event.fits(instance, planners))
 }

@@ -23,7 +23,7 @@ impl JournalEntry {
     pub fn fits(&self, instance: &Instance) -> bool
         ensures { IsTrue result ↔ EntryFits instance.now self.now }
     {
-        self.planner.get() < 1000 && self.asked.fits(instance)
+        self.planner.fits(1000) && self.asked.fits(instance)
     }
 }
 
@@ -48,7 +48,8 @@ pub(crate) fn enter<K: Keeping>(
     asked: Log<Asked, K>,
 )
     requires { journal.old.has_room ≡ true }
-    ensures { journal.new.list ≡ journal.old.list ++ record { planner = planner; asked = asked.list } ∷ [] }
+    ensures { journal.new.list
+        ≡ journal.old.list ++ record { planner = planner; asked = asked.list } ∷ [] }
 {
     if K::keeps() {
         let asked = AskedCalls::of(asked);
@@ -58,6 +59,6 @@ pub(crate) fn enter<K: Keeping>(
             planner,
             asked: &asked,
         };
-        journal.note::<Entering<K>, AsEntry>(&entering);
+        journal.push_unkept::<Entering<K>, AsEntry>(&entering);
     }
 }

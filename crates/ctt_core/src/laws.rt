@@ -1,5 +1,6 @@
 //! Laws of runs and desks, for the layers above. None of these functions computes anything.
 
+ghost use Rattle.ctt_core.specs.OpenDrafts.{DraftsAreTold, AcceptedAreTold};
 ghost use Rattle.ctt_core.specs.Laws.{Headline, DeskIsPlain, DeskIsSerial, JournalAgrees, OntoJoins, AfterJoins, LegalJoins};
 
 /// Whatever the planners' steps: the accepted history is legal, and the timetable after it lawful.
@@ -10,6 +11,16 @@ pub fn headline()
 /// A desk that stands at a right run answers as the run says, and goes on to stand at the longer run.
 pub fn desk_is_plain()
     ensures { DeskIsPlain }
+{}
+
+/// Of any run, right or not: the draft that a planner has open is what the events and the answers say, by
+/// their places in two lists. It is the one of his last opening, where nothing has ended it since; its calls
+/// are those since then that were answered by a reply; and its base comes behind the commits before that
+/// opening, or before his last refresh. The accepted history has, for each commit that was accepted, in order,
+/// the draft that its planner had open.
+pub fn drafts_are_told()
+    ensures drafts { DraftsAreTold }
+    ensures accepted { AcceptedAreTold }
 {}
 
 /// A run of events after events is the run of all.

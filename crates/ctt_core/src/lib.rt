@@ -11,12 +11,14 @@ pub mod laws;
 mod opening;
 mod planner;
 mod stock;
+mod whole_audit;
 
 pub use answer::Answer;
-pub use auditing::{Auditor, Verdict, audit};
+pub use auditing::{Auditor, Verdict};
 pub use desk::Desk;
 pub use desk_fault::DeskFault;
 pub use event::Event;
 pub use journal::JournalEntry;
 pub use opening::placed;
 pub use planner::PlannerNo;
+pub use whole_audit::audit;

@@ -17,7 +17,8 @@ use std::alloc::Global;
 /// Places a lecture, or answers what stands against it.
 fn place<'i, S: Sheet<'i>>(sheet: &mut S, lecture: &Placed) -> Option<EditFault>
     requires { Fits (S.problem sheet.old) lecture.now }
-    ensures fault { result ≡ edit_fault (S.problem sheet.old) (S.list sheet.old) (Place lecture.now.course lecture.now.slot lecture.now.room) }
+    ensures fault { result ≡ edit_fault (S.problem sheet.old) (S.list sheet.old)
+        (Place lecture.now.course lecture.now.slot lecture.now.room) }
     ensures problem { S.problem sheet.new ≡ S.problem sheet.old }
     ensures list { IsPlaced (S.list sheet.old) (S.list sheet.new) lecture.now result }
 {

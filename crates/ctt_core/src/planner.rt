@@ -1,11 +1,11 @@
 //! The numbers of planners.
 
-ghost use Rattle.std.specs.Prelude.{◌≡◌};
+ghost use Rattle.std.specs.Prelude.{◌≡◌, ◌<◌, ◌↔◌, IsTrue};
 
 use std::marker::Model;
 
 /// The number of a planner, from 0.
-#[derive(Clone, Copy, Default, PartialEq, Eq, PartialOrd, Ord, Hash)]
+#[derive(Clone, Copy, PartialEq, Eq)]
 pub struct PlannerNo(u16);
 
 impl Model for PlannerNo {
@@ -32,5 +32,12 @@ impl PlannerNo {
     {
         let PlannerNo(number) = self;
         number
+    }
+
+    /// Whether it is the number of one of so many planners.
+    pub fn fits(self, planners: u16) -> bool
+        ensures { IsTrue result ↔ (self < planners) }
+    {
+        self.get() < planners
     }
 }

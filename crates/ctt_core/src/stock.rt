@@ -6,10 +6,10 @@ ghost use Rattle.ctt_draft.specs.Drafts.{calls_of, changes, stale};
 ghost use Rattle.ctt_board.specs.Changes.{apply_all, ChangesFit};
 ghost use Rattle.ctt_rules.specs.Penalty.{penalty};
 ghost use Rattle.ctt_draft.specs.DraftValues.{refreshed, Settles};
-ghost use Rattle.ctt_core.specs.Stocks.{changed, LeadsFrom, IsMarked};
+ghost use Rattle.ctt_core.specs.Stocks.{changed, LeadsFrom, HasSeen};
 
 use ctt_board::{Change, Rooms, Sheet, Timetable};
-use ctt_draft::{Asked, Draft, Idle, Keeping, Log, Work};
+use ctt_draft::{Asked, Draft, Idle, Keeping, Log, Work, changes_for_copy};
 use ctt_edits::Row;
 use ctt_rules::Cost;
 use ctt_text::{Instance, NoMemory};
@@ -53,17 +53,11 @@ impl<'i, S: Timetable> Model for Stock<'i, S> {
     ghost invariant = { λ s. IsStock s.instance.now (record { problem = S.problem s.sheet; list = S.list s.sheet; log = s.log.items }) s.spares.items };
 }
 
-/// How many changes may be made in place of a copy, by the cells that a copy copies.
-fn limit_of(instance: &Instance) -> usize {
-    instance.limits_hold();
-    let cells = instance.courses() as usize * instance.slots() as usize;
-    (cells / 128).clamp(16, 1000)
-}
-
 impl<'i, S: Sheet<'i>> Stock<'i, S> {
     /// A timetable, with nothing kept, and with room for a sheet for each of so many planners.
     pub(crate) fn new(alloc: Global, sheet: S, planners: u16) -> Result<Self, AllocError>
-        ensures { IfOk result (λ stock. stock ≡ record { problem = S.problem sheet; list = S.list sheet; log = [] }) }
+        ensures { IfOk result (λ stock.
+            stock ≡ record { problem = S.problem sheet; list = S.list sheet; log = [] }) }
     {
         let instance = sheet.instance();
         let spares = Vec::with_capacity(alloc, planners as usize)?;
@@ -72,7 +66,7 @@ impl<'i, S: Sheet<'i>> Stock<'i, S> {
             sheet,
             log: Vec::new(alloc),
             spares,
-            limit: limit_of(instance),
+            limit: changes_for_copy(instance),
         })
     }
 
@@ -85,17 +79,17 @@ impl<'i, S: Sheet<'i>> Stock<'i, S> {
     }
 
     /// How many changes are known.
-    pub(crate) fn mark(&self) -> usize
+    pub(crate) fn latest(&self) -> usize
         ensures { result ≡ length self.now.log }
     {
         self.log.len()
     }
 
     /// Whether these are all changes.
-    fn is_latest(&self, mark: Option<usize>) -> bool
-        ensures { result ≡ option_eq (λ (a b : ℕ). a == b) mark (Some (length self.now.log)) }
+    fn is_latest(&self, seen: Option<usize>) -> bool
+        ensures { result ≡ option_eq (λ (a b : ℕ). a == b) seen (Some (length self.now.log)) }
     {
-        mark == Some(self.log.len())
+        seen == Some(self.log.len())
     }
 
     /// A draft on the timetable, in which nothing was asked yet. Where a sheet is kept it takes no memory.
@@ -121,20 +115,21 @@ impl<'i, S: Sheet<'i>> Stock<'i, S> {
     pub(crate) fn stale<K: Keeping>(
         &self,
         draft: &Draft<'i, S, K>,
-        mark: Option<usize>,
-    ) -> Result<Option<Row>, NoMemory>
+        seen: Option<usize>,
+    ) -> Option<Row>
         requires same { draft.now.problem ≡ self.now.problem }
-        requires marked { IsMarked self.now (Some draft.now) mark }
-        ensures row { result ≡ Ok (stale draft.now.problem draft.now.base self.now.list (calls_of draft.now.asked)) }
-        ensures fresh { result ≡ Ok None → Settles draft.now self.now.list }
+        requires seen { HasSeen self.now (Some draft.now) seen }
+        ensures row { result ≡ stale draft.now.problem draft.now.base self.now.list
+            (calls_of draft.now.asked) }
+        ensures fresh { result ≡ None → Settles draft.now self.now.list }
     {
-        if self.is_latest(mark) {
+        if self.is_latest(seen) {
             draft.settles_on_base();
-            return Ok(None);
+            return None;
         }
-        match mark {
-            Some(seen) => draft.stale_after(&self.log[seen..], &self.sheet),
-            None => draft.stale(&self.sheet),
+        match seen {
+            Some(count) => draft.stale_after(&self.log[count..], &self.sheet).unwrap(),
+            None => draft.stale(&self.sheet).unwrap(),
         }
     }
 
@@ -143,14 +138,16 @@ impl<'i, S: Sheet<'i>> Stock<'i, S> {
     pub(crate) fn refresh<K: Keeping>(
         &self,
         draft: &mut Draft<'i, S, K>,
-        mark: Option<usize>,
+        seen: Option<usize>,
     ) -> Result<Option<Row>, NoMemory>
         requires same { draft.old.problem ≡ self.now.problem }
-        requires marked { IsMarked self.now (Some draft.old) mark }
-        ensures ok { IfOk result (λ found. (found ≡ stale draft.old.problem draft.old.base self.now.list (calls_of draft.old.asked)) × (draft.new ≡ refreshed draft.old self.now.list found)) }
+        requires seen { HasSeen self.now (Some draft.old) seen }
+        ensures ok { IfOk result (λ found.
+            (found ≡ stale draft.old.problem draft.old.base self.now.list
+            (calls_of draft.old.asked)) × (draft.new ≡ refreshed draft.old self.now.list found)) }
         ensures err { OnErr result (draft.new ≡ draft.old) }
     {
-        let is_latest = self.is_latest(mark);
+        let is_latest = self.is_latest(seen);
         if is_latest {
             draft.settles_on_base();
             return Ok(None);
@@ -171,13 +168,13 @@ impl<'i, S: Sheet<'i>> Stock<'i, S> {
     }
 
     /// Keeps the base of a draft that is given up, if it is known what was accepted since.
-    pub(crate) fn retire<K: Keeping>(&mut self, draft: Draft<'i, S, K>, mark: Option<usize>)
+    pub(crate) fn retire<K: Keeping>(&mut self, draft: Draft<'i, S, K>, seen: Option<usize>)
         requires same { draft.problem ≡ self.old.problem }
-        requires marked { IsMarked self.old (Some draft) mark }
+        requires seen { HasSeen self.old (Some draft) seen }
         ensures { self.new ≡ self.old }
     {
-        if let Some(seen) = mark {
-            self.keep(draft.retire(), seen);
+        if let Some(count) = seen {
+            self.keep(draft.retire(), count);
         }
     }
 
@@ -185,7 +182,8 @@ impl<'i, S: Sheet<'i>> Stock<'i, S> {
     /// forgets all that were made where they are too many.
     fn make<K: Keeping>(&mut self, mut work: Work<K>, cost: Option<Cost>) -> (Log<Asked, K>, bool)
         requires fit { ChangesFit self.old.problem work.changes.items self.old.list }
-        requires cost { IfSome cost (λ x. x ≡ penalty self.old.problem (apply_all work.changes.items self.old.list)) }
+        requires cost { IfSome cost (λ x.
+            x ≡ penalty self.old.problem (apply_all work.changes.items self.old.list)) }
         ensures asked { result.0 ≡ work.asked }
         ensures changes { self.new ≡ changed self.old work.changes.items result.1 }
     {
@@ -204,26 +202,28 @@ impl<'i, S: Sheet<'i>> Stock<'i, S> {
     pub(crate) fn settle<K: Keeping>(
         &mut self,
         draft: Draft<'i, S, K>,
-        mark: Option<usize>,
+        seen: Option<usize>,
     ) -> (Log<Asked, K>, bool)
         requires same { draft.problem ≡ self.old.problem }
-        requires marked { IsMarked self.old (Some draft) mark }
-        requires fit { ChangesFit self.old.problem (changes draft.problem draft.base (calls_of draft.asked)) self.old.list }
+        requires seen { HasSeen self.old (Some draft) seen }
+        requires fit { ChangesFit self.old.problem (changes draft.problem draft.base
+            (calls_of draft.asked)) self.old.list }
         ensures asked { result.0.list ≡ draft.entry.asked }
-        ensures changes { self.new ≡ changed self.old (changes draft.entry.problem draft.entry.base (calls_of draft.entry.asked)) result.1 }
+        ensures changes { self.new ≡ changed self.old (changes draft.entry.problem draft.entry.base
+            (calls_of draft.entry.asked)) result.1 }
     {
-        let is_latest = self.is_latest(mark);
+        let is_latest = self.is_latest(seen);
         let (work, remains) = draft.end();
         let cost = remains.cost_if(is_latest);
         let (asked, known) = self.make(work, cost);
         if is_latest {
-            let seen = self.mark();
-            self.keep(remains.into_present(), seen);
+            let count = self.latest();
+            self.keep(remains.into_present(), count);
             return (asked, known);
         }
         if known {
-            if let Some(seen) = mark {
-                self.keep(remains.into_base(), seen);
+            if let Some(count) = seen {
+                self.keep(remains.into_base(), count);
             }
         }
         (asked, known)

@@ -44,13 +44,14 @@ impl<'a> Tells<Telling<'a>, Asked> for AsAsked {
 }
 
 /// Adds a call and what was told, of which a copy is made where it is kept.
-pub(crate) fn note_told<K: Keeping>(
+pub(crate) fn push_told<K: Keeping>(
     asked: &mut Log<Asked, K>,
     call: Call,
     told: &Reply,
 ) -> Result<(), NoMemory>
     requires room { asked.old.has_room ≡ true }
-    ensures ok { OnOk result (asked.new.list ≡ asked.old.list ++ record { call = call; reply = told.now } ∷ []) }
+    ensures ok { OnOk result (asked.new.list
+        ≡ asked.old.list ++ record { call = call; reply = told.now } ∷ []) }
     ensures err { OnErr result (asked.new.list ≡ asked.old.list) }
 {
     if K::keeps() {
@@ -58,7 +59,7 @@ pub(crate) fn note_told<K: Keeping>(
         asked.push(Asked { call, reply });
     } else {
         let telling = Telling { call: &call, told };
-        asked.note::<Telling, AsAsked>(&telling);
+        asked.push_unkept::<Telling, AsAsked>(&telling);
     }
     Ok(())
 }

@@ -53,8 +53,11 @@ fn mark_if_other<R: Rooms>(cell: &Cell, sheet: &R, courses: &mut Marks, slots: &
     requires slot { cell.now.slot < slot_count (R.problem sheet.now) }
     requires few_courses { course_count (R.problem sheet.now) ≤ 2000 }
     requires few_slots { slot_count (R.problem sheet.now) ≤ 2000 }
-    ensures courses { (n : ℕ) → is_marked courses.new n ≡ (is_marked courses.old n || (cell.now.course == n && is_other (R.list sheet.now) cell.now)) }
-    ensures slots { (n : ℕ) → is_marked slots.new n ≡ (is_marked slots.old n || (cell.now.slot == n && is_other (R.list sheet.now) cell.now)) }
+    ensures courses { (n : ℕ) → is_marked courses.new n
+        ≡ (is_marked courses.old n
+        || (cell.now.course == n && is_other (R.list sheet.now) cell.now)) }
+    ensures slots { (n : ℕ) → is_marked slots.new n
+        ≡ (is_marked slots.old n || (cell.now.slot == n && is_other (R.list sheet.now) cell.now)) }
 {
     if cell.room != sheet.room_at(cell.course, cell.slot) {
         courses.mark(cell.course.get() as usize);
@@ -64,11 +67,14 @@ fn mark_if_other<R: Rooms>(cell: &Cell, sheet: &R, courses: &mut Marks, slots: &
 
 /// Marks the courses and the slots of those cells where a timetable has another room.
 fn mark_others<R: Rooms>(cells: &[Cell], sheet: &R, courses: &mut Marks, slots: &mut Marks)
-    requires within { AreWithin (course_count (R.problem sheet.now)) (slot_count (R.problem sheet.now)) cells.now }
+    requires within { AreWithin (course_count (R.problem sheet.now))
+        (slot_count (R.problem sheet.now)) cells.now }
     requires few_courses { course_count (R.problem sheet.now) ≤ 2000 }
     requires few_slots { slot_count (R.problem sheet.now) ≤ 2000 }
-    ensures courses { (n : ℕ) → is_marked courses.new n ≡ (is_marked courses.old n || has_other_in_course n (R.list sheet.now) cells.now) }
-    ensures slots { (n : ℕ) → is_marked slots.new n ≡ (is_marked slots.old n || has_other_in_slot n (R.list sheet.now) cells.now) }
+    ensures courses { (n : ℕ) → is_marked courses.new n
+        ≡ (is_marked courses.old n || has_other_in_course n (R.list sheet.now) cells.now) }
+    ensures slots { (n : ℕ) → is_marked slots.new n
+        ≡ (is_marked slots.old n || has_other_in_slot n (R.list sheet.now) cells.now) }
 {
     for cell in cells {
         mark_if_other(cell, sheet, courses, slots);
@@ -88,10 +94,18 @@ impl<'a, R: Rooms> Comparison<'a, R> {
         requires sheet { R.problem sheet.now ≡ instance.now }
         requires courses { undo.now.courses ≡ course_count instance.now }
         requires slots { undo.now.slots ≡ slot_count instance.now }
-        requires base { IsTimetable instance.now (put_back instance.now undo.now.cells (R.list present.now)) }
-        requires records { Records (put_back instance.now undo.now.cells (R.list present.now)) (R.list present.now) undo.now.cells }
-        requires rest { LeavesRest instance.now (put_back instance.now undo.now.cells (R.list present.now)) (R.list sheet.now) touched.now }
-        ensures { result ≡ record { problem = instance.now; present = R.list present.now; undo = undo.now.cells; sheet = R.list sheet.now } }
+        requires base { IsTimetable instance.now (put_back instance.now undo.now.cells
+            (R.list present.now)) }
+        requires records { Records (put_back instance.now undo.now.cells (R.list present.now))
+            (R.list present.now) undo.now.cells }
+        requires rest { LeavesRest instance.now (put_back instance.now undo.now.cells
+            (R.list present.now)) (R.list sheet.now) touched.now }
+        ensures { result ≡ record {
+          problem = instance.now;
+          present = R.list present.now;
+          undo = undo.now.cells;
+          sheet = R.list sheet.now;
+        } }
     {
         sheet.lawful();
         instance.limits_hold();
@@ -119,7 +133,8 @@ impl<'a, R: Rooms> Comparison<'a, R> {
     /// Whether the lectures of a course may differ.
     fn touches_course(&self, course: CourseNo) -> bool
         requires { course < course_count self.now.problem }
-        ensures { result ≡ false → course_row course (base_of self.now) ≡ course_row course self.now.sheet }
+        ensures { result ≡ false
+            → course_row course (base_of self.now) ≡ course_row course self.now.sheet }
     {
         self.touched.has_course(course)
     }
@@ -157,7 +172,9 @@ impl<'a, R: Rooms> Comparison<'a, R> {
     fn is_same_or_recorded(&self, course: CourseNo, slot: SlotNo) -> bool
         requires course { course < course_count self.now.problem }
         requires slot { slot < slot_count self.now.problem }
-        ensures { result ≡ (option_eq (λ (a b : ℕ). a == b) (room_at course slot self.now.present) (room_at course slot self.now.sheet) || is_named course slot self.now.undo) }
+        ensures { result ≡ (option_eq (λ (a b : ℕ). a == b)
+            (room_at course slot self.now.present) (room_at course slot self.now.sheet)
+            || is_named course slot self.now.undo) }
     {
         self.present.room_at(course, slot) == self.sheet.room_at(course, slot)
             || self.undo.has(course, slot)
@@ -166,7 +183,8 @@ impl<'a, R: Rooms> Comparison<'a, R> {
     /// Whether the lectures of a course are the same.
     fn same_course_row(&self, course: CourseNo) -> bool
         requires { course < course_count self.now.problem }
-        ensures { IsTrue result ↔ (course_row course (base_of self.now) ≡ course_row course self.now.sheet) }
+        ensures { IsTrue result
+            ↔ (course_row course (base_of self.now) ≡ course_row course self.now.sheet) }
     {
         self.are_timetables();
         let instance = self.instance();
@@ -187,7 +205,8 @@ impl<'a, R: Rooms> Comparison<'a, R> {
     /// Whether the lectures in a slot are the same.
     fn same_slot_row(&self, slot: SlotNo) -> bool
         requires { slot < slot_count self.now.problem }
-        ensures { IsTrue result ↔ (slot_row slot (base_of self.now) ≡ slot_row slot self.now.sheet) }
+        ensures { IsTrue result
+            ↔ (slot_row slot (base_of self.now) ≡ slot_row slot self.now.sheet) }
     {
         self.are_timetables();
         let instance = self.instance();
@@ -223,7 +242,8 @@ impl<'a, R: Rooms> Comparison<'a, R> {
 
     /// The first course whose row was read and is not the same.
     pub(crate) fn first_course(&self, rows: &RowsRead) -> Option<CourseNo>
-        ensures { result ≡ find (λ c. differs (base_of self.now) self.now.sheet (CourseRow c)) (below (has_course rows.now) (course_count self.now.problem)) }
+        ensures { result ≡ find (λ c. differs (base_of self.now) self.now.sheet (CourseRow c))
+            (below (has_course rows.now) (course_count self.now.problem)) }
     {
         let instance = self.instance();
         instance.limits_hold();
@@ -239,7 +259,8 @@ impl<'a, R: Rooms> Comparison<'a, R> {
 
     /// The first slot whose row was read and is not the same.
     pub(crate) fn first_slot(&self, rows: &RowsRead) -> Option<SlotNo>
-        ensures { result ≡ find (λ s. differs (base_of self.now) self.now.sheet (SlotRow s)) (below (has_slot rows.now) (slot_count self.now.problem)) }
+        ensures { result ≡ find (λ s. differs (base_of self.now) self.now.sheet (SlotRow s))
+            (below (has_slot rows.now) (slot_count self.now.problem)) }
     {
         let instance = self.instance();
         instance.limits_hold();

@@ -1,24 +1,22 @@
 //! A draft: what one planner asks of a timetable of his own.
 
-ghost use Rattle.std.specs.Prelude.{◌≡◌, ◌≤◌, ◌+◌, ◌++◌, ◌∷◌, [], List, false, IfOk, OnOk, OnErr, None, Ok};
+ghost use Rattle.std.specs.Prelude.{◌≡◌, [], List, IfOk, OnOk, OnErr, None, Ok};
 ghost use Rattle.ctt_text.specs.declared.placed.Placed.{Placed as Lecture};
 ghost use Rattle.ctt_edits.specs.Calls.{CallFits, reply, cells_of};
 ghost use Rattle.ctt_edits.specs.declared.call.Call.TheVariants.{Look as Looks, Edit as Edits};
 ghost use Rattle.ctt_edits.specs.declared.reply.Reply.TheVariants.{Done};
 ghost use Rattle.ctt_edits.specs.Edits.{EditFits, edit_fault, change as change_of};
 ghost use Rattle.ctt_edits.specs.Looks.{LookFits, shown};
-ghost use Rattle.ctt_edits.specs.RowSets.{is_in, AddsReads};
-ghost use Rattle.ctt_edits.specs.declared.row.Row.{Row};
 ghost use Rattle.ctt_rules.specs.Hard.{Lawful};
 ghost use Rattle.ctt_draft.specs.Drafts.{calls_of, changes, stale, whole};
 ghost use Rattle.ctt_draft.specs.Replays.{replayed};
 ghost use Rattle.ctt_draft.specs.DraftValues.{present, asked_more, refreshed, IsTold, Settles};
-ghost use Rattle.ctt_text.specs.Problem.{course_count, slot_count};
-ghost use Rattle.ctt_board.specs.Changes.{ChangeFits, apply as applied, apply_all, ChangesFit};
-ghost use Rattle.ctt_draft.specs.Undo.{undo_of, all_noted, AreWithin};
+ghost use Rattle.ctt_board.specs.Changes.{apply_all};
+ghost use Rattle.ctt_draft.specs.Undo.{undo_of};
 ghost use Rattle.ctt_draft.specs.Comparisons.{LeavesRest};
 
-use crate::asked::{Asked, note_told};
+use crate::asked::{Asked, push_told};
+use crate::boxed::{add, apply, boxed_copy, changed_copy, no_rows, note_cells, unboxed};
 use crate::comparing::Comparison;
 use crate::idle::Idle;
 use crate::laws;
@@ -55,71 +53,6 @@ impl<'i, S: Timetable, K: Keeping> Model for Draft<'i, S, K> {
     ghost view = { λ d. record { problem = d.instance.now; base = put_back d.instance.now d.undo.cells (S.list d.present.value); asked = d.asked.list } };
 
     ghost invariant = { λ d. IsDraft d.instance.now (S.problem d.present.value) (put_back d.instance.now d.undo.cells (S.list d.present.value)) (S.list d.present.value) d.asked.list d.changes.items d.undo d.rows.value };
-}
-
-/// An equal sheet, boxed: drafts are moved often, and sheets are large.
-fn boxed_copy<'i, S: Sheet<'i>>(alloc: Global, sheet: &S) -> Result<Box<S>, NoMemory>
-    ensures problem { IfOk result (λ copy. S.problem copy.value ≡ S.problem sheet.now) }
-    ensures list { IfOk result (λ copy. S.list copy.value ≡ S.list sheet.now) }
-{
-    Ok(Box::new(alloc, sheet.copy()?)?)
-}
-
-/// A boxed copy of a sheet, on which changes are made.
-fn changed_copy<'i, S: Sheet<'i>>(
-    alloc: Global,
-    sheet: &S,
-    changes: &[Change],
-) -> Result<Box<S>, NoMemory>
-    requires { ChangesFit (S.problem sheet.now) changes.now (S.list sheet.now) }
-    ensures problem { IfOk result (λ copy. S.problem copy.value ≡ S.problem sheet.now) }
-    ensures list { IfOk result (λ copy. S.list copy.value ≡ apply_all changes.now (S.list sheet.now)) }
-{
-    let mut copy = sheet.copy()?;
-    copy.apply_all(changes, None);
-    Ok(Box::new(alloc, copy)?)
-}
-
-/// What is boxed.
-fn unboxed<T>(boxed: &Box<T>) -> &T
-    ensures { result.now ≡ boxed.now.value }
-{
-    &**boxed
-}
-
-/// Records cells with the rooms that a boxed sheet has there.
-fn note_cells<R: Rooms>(undo: &mut Undo, sheet: &Box<R>, cells: &[Cell]) -> Result<(), NoMemory>
-    requires courses { undo.old.courses ≡ course_count (R.problem sheet.now.value) }
-    requires slots { undo.old.slots ≡ slot_count (R.problem sheet.now.value) }
-    requires within { AreWithin undo.old.courses undo.old.slots cells.now }
-    ensures ok { OnOk result (undo.new ≡ record undo.old { cells = all_noted (R.list sheet.now.value) cells.now undo.old.cells }) }
-    ensures err { OnErr result (undo.new ≡ undo.old) }
-{
-    undo.record(unboxed(sheet), cells)
-}
-
-/// Makes a change on a boxed sheet.
-fn apply<S: Timetable>(sheet: &mut Box<S>, change: &Change)
-    requires { ChangeFits (S.problem sheet.old.value) change.now (S.list sheet.old.value) }
-    ensures problem { S.problem sheet.new.value ≡ S.problem sheet.old.value }
-    ensures list { S.list sheet.new.value ≡ applied change.now (S.list sheet.old.value) }
-{
-    sheet.apply(change);
-}
-
-/// Adds the rows that a call reads to boxed ones.
-fn add(rows: &mut Box<RowsRead>, instance: &Instance, call: &Call)
-    requires { CallFits instance.now call.now }
-    ensures { AddsReads instance.now call.now rows.old.value rows.new.value }
-{
-    rows.add(instance, call);
-}
-
-/// No rows, boxed.
-fn no_rows(alloc: Global) -> Result<Box<RowsRead>, NoMemory>
-    ensures { IfOk result (λ rows. (row : Row) → is_in rows.value row ≡ false) }
-{
-    Ok(Box::new(alloc, RowsRead::new())?)
 }
 
 /// For how many calls a draft has room at first, as it mostly has several.
@@ -176,8 +109,12 @@ impl<'i, S: Sheet<'i>, K: Keeping> Draft<'i, S, K> {
     /// The changes that the calls made, in order. Replayed on a timetable on which the draft is not
     /// stale, they leave there what its calls leave.
     pub fn changes(&self) -> &[Change]
-        ensures value { result.now ≡ changes self.now.problem self.now.base (calls_of self.now.asked) }
-        ensures again { (t : List Lecture) → Lawful self.now.problem t → stale self.now.problem self.now.base t (calls_of self.now.asked) ≡ None → replayed self.now.problem result.now t ≡ whole self.now.problem t (calls_of self.now.asked) }
+        ensures value { result.now ≡ changes self.now.problem self.now.base
+            (calls_of self.now.asked) }
+        ensures again { (t : List Lecture) → Lawful self.now.problem t
+            → stale self.now.problem self.now.base t (calls_of self.now.asked) ≡ None
+            → replayed self.now.problem result.now t
+            ≡ whole self.now.problem t (calls_of self.now.asked) }
     {
         laws::draft_replays();
         self.changes.as_slice()
@@ -186,7 +123,8 @@ impl<'i, S: Sheet<'i>, K: Keeping> Draft<'i, S, K> {
     /// The cells that the changes name, each once, in the order in which they are named first, with the
     /// room that the base has there, or none.
     pub fn undo(&self) -> &[Cell]
-        ensures { result.now ≡ undo_of self.now.base (changes self.now.problem self.now.base (calls_of self.now.asked)) }
+        ensures { result.now ≡ undo_of self.now.base
+            (changes self.now.problem self.now.base (calls_of self.now.asked)) }
     {
         self.undo.cells()
     }
@@ -201,7 +139,7 @@ impl<'i, S: Sheet<'i>, K: Keeping> Draft<'i, S, K> {
         ensures err { OnErr result (self.new ≡ self.old) }
     {
         self.asked.reserve(FIRST_ROOM)?;
-        note_told(&mut self.asked, call, told)?;
+        push_told(&mut self.asked, call, told)?;
         add(&mut self.rows, self.instance, &call);
         Ok(())
     }
@@ -238,7 +176,9 @@ impl<'i, S: Sheet<'i>, K: Keeping> Draft<'i, S, K> {
     /// Looks, and keeps what is shown.
     fn look(&mut self, look: Look, spare: &mut Vec<Placed>) -> Result<Reply, NoMemory>
         requires fits { LookFits self.old.problem look }
-        ensures ok { IfOk result (λ told. (told ≡ shown self.old.problem (present self.old) look) × (self.new ≡ asked_more self.old (Looks look) told)) }
+        ensures ok { IfOk result (λ told.
+            (told ≡ shown self.old.problem (present self.old) look)
+            × (self.new ≡ asked_more self.old (Looks look) told)) }
         ensures err { OnErr result (self.new ≡ self.old) }
     {
         let told = look_in(spare, self.present(), &look)?;
@@ -249,7 +189,9 @@ impl<'i, S: Sheet<'i>, K: Keeping> Draft<'i, S, K> {
     /// Makes an edit, or keeps its fault.
     fn edit(&mut self, edit: &Edit) -> Result<Reply, NoMemory>
         requires fits { EditFits self.old.problem edit.now }
-        ensures ok { IfOk result (λ told. (told ≡ reply self.old.problem (present self.old) (Edits edit.now)) × (self.new ≡ asked_more self.old (Edits edit.now) told)) }
+        ensures ok { IfOk result (λ told.
+            (told ≡ reply self.old.problem (present self.old) (Edits edit.now))
+            × (self.new ≡ asked_more self.old (Edits edit.now) told)) }
         ensures err { OnErr result (self.new ≡ self.old) }
     {
         let checked = check(self.present(), edit);
@@ -270,7 +212,9 @@ impl<'i, S: Sheet<'i>, K: Keeping> Draft<'i, S, K> {
     /// it is told are listed in the memory of a spare list, as `ctt_edits::look_in` does it.
     pub fn call_in(&mut self, call: Call, spare: &mut Vec<Placed>) -> Result<Reply, NoMemory>
         requires { CallFits self.old.problem call }
-        ensures ok { IfOk result (λ told. (told ≡ reply self.old.problem (present self.old) call) × (self.new ≡ asked_more self.old call told)) }
+        ensures ok { IfOk result (λ told.
+            (told ≡ reply self.old.problem (present self.old) call)
+            × (self.new ≡ asked_more self.old call told)) }
         ensures err { OnErr result (self.new ≡ self.old) }
     {
         match call {
@@ -283,7 +227,9 @@ impl<'i, S: Sheet<'i>, K: Keeping> Draft<'i, S, K> {
     /// nothing more was read.
     pub fn call(&mut self, call: Call) -> Result<Reply, NoMemory>
         requires { CallFits self.old.problem call }
-        ensures ok { IfOk result (λ told. (told ≡ reply self.old.problem (present self.old) call) × (self.new ≡ asked_more self.old call told)) }
+        ensures ok { IfOk result (λ told.
+            (told ≡ reply self.old.problem (present self.old) call)
+            × (self.new ≡ asked_more self.old call told)) }
         ensures err { OnErr result (self.new ≡ self.old) }
     {
         let mut spare = Vec::new(*self.changes.allocator());
@@ -295,7 +241,8 @@ impl<'i, S: Sheet<'i>, K: Keeping> Draft<'i, S, K> {
     /// on it. It takes no memory, and so never fails.
     pub fn stale(&self, sheet: &S) -> Result<Option<Row>, NoMemory>
         requires same { S.problem sheet.now ≡ self.now.problem }
-        ensures row { result ≡ Ok (stale self.now.problem self.now.base (S.list sheet.now) (calls_of self.now.asked)) }
+        ensures row { result ≡ Ok (stale self.now.problem self.now.base (S.list sheet.now)
+            (calls_of self.now.asked)) }
         ensures fresh { result ≡ Ok None → Settles self.now (S.list sheet.now) }
     {
         self.first_stale(sheet, &Touched::all())
@@ -306,7 +253,8 @@ impl<'i, S: Sheet<'i>, K: Keeping> Draft<'i, S, K> {
     pub fn stale_after(&self, changes: &[Change], sheet: &S) -> Result<Option<Row>, NoMemory>
         requires same { S.problem sheet.now ≡ self.now.problem }
         requires after { apply_all changes.now self.now.base ≡ S.list sheet.now }
-        ensures row { result ≡ Ok (stale self.now.problem self.now.base (S.list sheet.now) (calls_of self.now.asked)) }
+        ensures row { result ≡ Ok (stale self.now.problem self.now.base (S.list sheet.now)
+            (calls_of self.now.asked)) }
         ensures fresh { result ≡ Ok None → Settles self.now (S.list sheet.now) }
     {
         ctt_board::laws::changes_leave_others();
@@ -318,7 +266,8 @@ impl<'i, S: Sheet<'i>, K: Keeping> Draft<'i, S, K> {
     fn first_stale(&self, sheet: &S, touched: &Touched) -> Result<Option<Row>, NoMemory>
         requires same { S.problem sheet.now ≡ self.now.problem }
         requires rest { LeavesRest self.now.problem self.now.base (S.list sheet.now) touched.now }
-        ensures row { result ≡ Ok (stale self.now.problem self.now.base (S.list sheet.now) (calls_of self.now.asked)) }
+        ensures row { result ≡ Ok (stale self.now.problem self.now.base (S.list sheet.now)
+            (calls_of self.now.asked)) }
         ensures fresh { result ≡ Ok None → Settles self.now (S.list sheet.now) }
     {
         laws::draft_frame();
@@ -341,7 +290,9 @@ impl<'i, S: Sheet<'i>, K: Keeping> Draft<'i, S, K> {
     /// is told, and the draft stays as it was, as it does where memory is wanted.
     pub fn refresh(&mut self, sheet: &S) -> Result<Option<Row>, NoMemory>
         requires { S.problem sheet.now ≡ self.old.problem }
-        ensures ok { IfOk result (λ found. (found ≡ stale self.old.problem self.old.base (S.list sheet.now) (calls_of self.old.asked)) × (self.new ≡ refreshed self.old (S.list sheet.now) found)) }
+        ensures ok { IfOk result (λ found.
+            (found ≡ stale self.old.problem self.old.base (S.list sheet.now)
+            (calls_of self.old.asked)) × (self.new ≡ refreshed self.old (S.list sheet.now) found)) }
         ensures err { OnErr result (self.new ≡ self.old) }
     {
         sheet.lawful();
@@ -353,10 +304,11 @@ impl<'i, S: Sheet<'i>, K: Keeping> Draft<'i, S, K> {
     }
 
     /// Computes nothing: its contract says that the base, and the timetable that the calls leave, are
-    /// lawful.
+    /// lawful, and that each call fits and was told what it is told on the base.
     pub fn lawful(&self)
         ensures base { Lawful self.now.problem self.now.base }
         ensures present { Lawful self.now.problem (present self.now) }
+        ensures told { IsTold self.now.problem self.now.base self.now.asked }
     {
         self.present.lawful();
     }
@@ -364,7 +316,8 @@ impl<'i, S: Sheet<'i>, K: Keeping> Draft<'i, S, K> {
     /// Ends the draft: its calls with their replies, and the changes that they made.
     pub fn finish(self) -> Work<K>
         ensures asked { result.asked.list ≡ self.entry.asked }
-        ensures changes { result.changes.items ≡ changes self.entry.problem self.entry.base (calls_of self.entry.asked) }
+        ensures changes { result.changes.items
+            ≡ changes self.entry.problem self.entry.base (calls_of self.entry.asked) }
         ensures told { IsTold self.entry.problem self.entry.base self.entry.asked }
     {
         let (work, _remains) = self.end();
@@ -375,9 +328,14 @@ impl<'i, S: Sheet<'i>, K: Keeping> Draft<'i, S, K> {
     /// not drop it here.
     pub fn end(self) -> (Work<K>, Remains<S>)
         ensures asked { result.0.asked.list ≡ self.entry.asked }
-        ensures changes { result.0.changes.items ≡ changes self.entry.problem self.entry.base (calls_of self.entry.asked) }
+        ensures changes { result.0.changes.items
+            ≡ changes self.entry.problem self.entry.base (calls_of self.entry.asked) }
         ensures told { IsTold self.entry.problem self.entry.base self.entry.asked }
-        ensures remains { result.1 ≡ record { problem = self.entry.problem; base = self.entry.base; present = present self.entry } }
+        ensures remains { result.1 ≡ record {
+          problem = self.entry.problem;
+          base = self.entry.base;
+          present = present self.entry;
+        } }
     {
         let work = Work {
             asked: self.asked,
@@ -402,7 +360,8 @@ impl<'i, S: Sheet<'i>, K: Keeping> Draft<'i, S, K> {
     /// Computes nothing: its contract says that the draft is not stale on its own base, and can be
     /// settled there.
     pub fn settles_on_base(&self)
-        ensures fresh { stale self.now.problem self.now.base self.now.base (calls_of self.now.asked) ≡ None }
+        ensures fresh { stale self.now.problem self.now.base self.now.base (calls_of self.now.asked)
+            ≡ None }
         ensures settles { Settles self.now self.now.base }
     {
         laws::draft_frame();

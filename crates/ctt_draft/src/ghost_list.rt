@@ -31,7 +31,7 @@ pub trait Tells<X, E> {
 }
 
 /// An element tells of itself.
-pub struct Itself;
+pub(crate) struct Itself;
 
 impl<E> Tells<E, E> for Itself {
     ghost element = { λ e. e };

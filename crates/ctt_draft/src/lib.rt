@@ -2,6 +2,7 @@
 #![tactic(auto)]
 
 mod asked;
+mod boxed;
 mod comparing;
 mod draft;
 mod ghost_list;
@@ -17,8 +18,8 @@ mod work;
 
 pub use asked::{Asked, AskedCalls};
 pub use draft::Draft;
-pub use ghost_list::{GhostList, Itself, Tells};
-pub use idle::Idle;
+pub use ghost_list::{GhostList, Tells};
+pub use idle::{Idle, changes_for_copy};
 pub use log::{KeepAll, KeepNone, Keeping, Log};
 pub use remains::Remains;
 pub use replaying::replay;

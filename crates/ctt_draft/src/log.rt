@@ -112,7 +112,7 @@ impl<E: Drop, K: Keeping> Log<E, K> {
     }
 
     /// Adds an element of which something tells, where it is not kept.
-    pub fn note<X, M: Tells<X, E>>(&mut self, teller: &X)
+    pub fn push_unkept<X, M: Tells<X, E>>(&mut self, teller: &X)
         requires unkept { K.keeps ≡ false }
         requires room { self.old.has_room ≡ true }
         ensures { self.new.list ≡ self.old.list ++ M.element teller.now ∷ [] }
@@ -122,7 +122,7 @@ impl<E: Drop, K: Keeping> Log<E, K> {
     }
 
     /// All that was added, in order, where it is kept.
-    pub fn into_vec(self) -> Vec<E>
+    pub(crate) fn into_vec(self) -> Vec<E>
         requires { K.keeps ≡ true }
         ensures { result.items ≡ self.list }
     {

@@ -30,7 +30,8 @@ fn take_out<S: Timetable>(sheet: &mut S, cell: &Cell)
 
 /// Takes out the lectures of cells, in turn.
 fn take_out_all<S: Timetable>(sheet: &mut S, cells: &[Cell])
-    requires within { AreWithin (course_count (S.problem sheet.old)) (slot_count (S.problem sheet.old)) cells.now }
+    requires within { AreWithin (course_count (S.problem sheet.old))
+        (slot_count (S.problem sheet.old)) cells.now }
     ensures problem { S.problem sheet.new ≡ S.problem sheet.old }
     ensures list { S.list sheet.new ≡ taken_all cells.now (S.list sheet.old) }
 {
@@ -54,7 +55,8 @@ fn put_in<S: Timetable>(sheet: &mut S, cell: &Cell)
 
 /// Puts in the lectures of cells, in turn.
 fn put_in_all<S: Timetable>(sheet: &mut S, cells: &[Cell])
-    requires within { AreWithin (course_count (S.problem sheet.old)) (slot_count (S.problem sheet.old)) cells.now }
+    requires within { AreWithin (course_count (S.problem sheet.old))
+        (slot_count (S.problem sheet.old)) cells.now }
     requires fit { PutsFit (S.problem sheet.old) cells.now (S.list sheet.old) }
     ensures problem { S.problem sheet.new ≡ S.problem sheet.old }
     ensures list { S.list sheet.new ≡ put_all cells.now (S.list sheet.old) }
@@ -66,9 +68,12 @@ fn put_in_all<S: Timetable>(sheet: &mut S, cells: &[Cell])
 
 /// Puts back the cells of an undo record. It takes no memory.
 pub(crate) fn put_back<S: Timetable>(sheet: &mut S, cells: &[Cell])
-    requires within { AreWithin (course_count (S.problem sheet.old)) (slot_count (S.problem sheet.old)) cells.now }
-    requires lawful { Lawful (S.problem sheet.old) (put_back (S.problem sheet.old) cells.now (S.list sheet.old)) }
-    requires records { Records (put_back (S.problem sheet.old) cells.now (S.list sheet.old)) (S.list sheet.old) cells.now }
+    requires within { AreWithin (course_count (S.problem sheet.old))
+        (slot_count (S.problem sheet.old)) cells.now }
+    requires lawful { Lawful (S.problem sheet.old) (put_back (S.problem sheet.old) cells.now
+        (S.list sheet.old)) }
+    requires records { Records (put_back (S.problem sheet.old) cells.now (S.list sheet.old))
+        (S.list sheet.old) cells.now }
     ensures problem { S.problem sheet.new ≡ S.problem sheet.old }
     ensures list { S.list sheet.new ≡ put_back (S.problem sheet.old) cells.now (S.list sheet.old) }
 {

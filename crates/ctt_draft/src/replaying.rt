@@ -9,7 +9,8 @@ use ctt_board::{Change, Timetable, laws};
 /// made. It takes no memory.
 pub fn replay<S: Timetable>(changes: &[Change], sheet: &mut S) -> bool
     ensures problem { S.problem sheet.new ≡ S.problem sheet.old }
-    ensures list { S.list sheet.new ≡ replayed (S.problem sheet.old) changes.now (S.list sheet.old) }
+    ensures list { S.list sheet.new
+        ≡ replayed (S.problem sheet.old) changes.now (S.list sheet.old) }
     ensures all { result ≡ all_fit (S.problem sheet.old) changes.now (S.list sheet.old) }
 {
     laws::fits_as_tested();

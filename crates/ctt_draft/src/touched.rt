@@ -38,8 +38,11 @@ fn mark_small(marks: &mut Marks, number: u16)
 
 /// Marks the courses and the slots of cells.
 fn mark_cells(cells: &[Cell], courses: &mut Marks, slots: &mut Marks)
-    ensures courses { (n : ℕ) → n < 2000 → is_marked courses.new n ≡ (is_marked courses.old n || list_any (λ x. x.course == n) cells.now) }
-    ensures slots { (n : ℕ) → n < 2000 → is_marked slots.new n ≡ (is_marked slots.old n || list_any (λ x. x.slot == n) cells.now) }
+    ensures courses { (n : ℕ) → n < 2000
+        → is_marked courses.new n
+        ≡ (is_marked courses.old n || list_any (λ x. x.course == n) cells.now) }
+    ensures slots { (n : ℕ) → n < 2000
+        → is_marked slots.new n ≡ (is_marked slots.old n || list_any (λ x. x.slot == n) cells.now) }
 {
     for cell in cells {
         mark_small(courses, cell.course.get());
@@ -49,8 +52,10 @@ fn mark_cells(cells: &[Cell], courses: &mut Marks, slots: &mut Marks)
 
 /// Marks the courses and the slots of the cells of changes.
 fn mark_changes(changes: &[Change], courses: &mut Marks, slots: &mut Marks)
-    ensures courses { (n : ℕ) → n < 2000 → is_marked courses.new n ≡ (is_marked courses.old n || names_course n changes.now) }
-    ensures slots { (n : ℕ) → n < 2000 → is_marked slots.new n ≡ (is_marked slots.old n || names_slot n changes.now) }
+    ensures courses { (n : ℕ) → n < 2000
+        → is_marked courses.new n ≡ (is_marked courses.old n || names_course n changes.now) }
+    ensures slots { (n : ℕ) → n < 2000
+        → is_marked slots.new n ≡ (is_marked slots.old n || names_slot n changes.now) }
 {
     for change in changes {
         mark_cells(change.cells(), courses, slots);
@@ -71,7 +76,8 @@ impl Touched {
 
     /// What these changes name.
     pub(crate) fn by(changes: &[Change]) -> Self
-        ensures courses { (n : ℕ) → n < 2000 → touches_course result n ≡ names_course n changes.now }
+        ensures courses { (n : ℕ) → n < 2000
+            → touches_course result n ≡ names_course n changes.now }
         ensures slots { (n : ℕ) → n < 2000 → touches_slot result n ≡ names_slot n changes.now }
     {
         let mut courses = Marks::new();

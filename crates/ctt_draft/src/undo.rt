@@ -33,7 +33,12 @@ impl Model for Undo {
 impl Undo {
     /// No cell of an instance is recorded.
     pub(crate) fn new(alloc: Global, instance: &Instance) -> Result<Self, NoMemory>
-        ensures { IfOk result (λ undo. undo ≡ record { courses = course_count instance.now; slots = slot_count instance.now; cells = [] }) }
+        ensures { IfOk result (λ undo.
+            undo ≡ record {
+              courses = course_count instance.now;
+              slots = slot_count instance.now;
+              cells = [];
+            }) }
     {
         instance.limits_hold();
         let courses = instance.courses() as usize;
@@ -66,7 +71,8 @@ impl Undo {
         requires courses { self.old.courses ≡ course_count (R.problem rooms.now) }
         requires slots { self.old.slots ≡ slot_count (R.problem rooms.now) }
         requires within { AreWithin self.old.courses self.old.slots cells.now }
-        ensures ok { OnOk result (self.new ≡ record self.old { cells = all_noted (R.list rooms.now) cells.now self.old.cells }) }
+        ensures ok { OnOk result (self.new
+            ≡ record self.old { cells = all_noted (R.list rooms.now) cells.now self.old.cells }) }
         ensures err { OnErr result (self.new ≡ self.old) }
     {
         self.cells.reserve(cells.len())?;
@@ -89,7 +95,9 @@ fn forget(table: &mut Table<bool>, cell: &Cell)
     requires slot { cell.now.slot < table.old.width }
     ensures rows { table.new.rows ≡ table.old.rows }
     ensures width { table.new.width ≡ table.old.width }
-    ensures cells { (c s : ℕ) → s < table.old.width → at table.new c s false ≡ cond (c == cell.now.course && s == cell.now.slot) false (at table.old c s false) }
+    ensures cells { (c s : ℕ) → s < table.old.width
+        → at table.new c s false
+        ≡ cond (c == cell.now.course && s == cell.now.slot) false (at table.old c s false) }
 {
     table.set(cell.course.get() as usize, cell.slot.get() as usize, false);
 }

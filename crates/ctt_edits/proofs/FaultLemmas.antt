@@ -10,7 +10,7 @@ use Rattle.ctt_board.specs.Changes.{room_of, room_at}
 use Rattle.ctt_board.specs.declared.cell.Cell.{Cell}
 use Rattle.ctt_board.proofs.FitLemmas.{find_none}
 use Rattle.ctt_board.proofs.LawfulLemmas.{Free}
-use Rattle.ctt_edits.specs.Edits.{or_else, fault_if, not_allowed, first_course, try_fault, checked_by}
+use Rattle.ctt_edits.specs.Edits.{or_else, fault_if, fault_alone, first_course, try_fault, checked_by}
 use Rattle.ctt_edits.specs.Looks.{priced_by}
 use Rattle.ctt_edits.specs.declared.fault.EditFault.{EditFault}
 use Rattle.ctt_edits.specs.declared.fault.EditFault.TheVariants.{AlreadyThere, CourseFull, Unavailable, Barred, Clash, RoomTaken}
@@ -60,7 +60,7 @@ free i t c s r e =
     full = fault_if (leb (course_of i c).lectures (length (course_row c t))) CourseFull
 
     closed : Option EditFault
-    closed = not_allowed i c s r
+    closed = fault_alone i c s r
 
     clashes : Option EditFault
     clashes = option_map Clash (first_course (λ l. clash i c l.course) (slot_row s t))

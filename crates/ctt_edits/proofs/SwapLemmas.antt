@@ -18,7 +18,7 @@ use Rattle.ctt_board.proofs.HolderLemmas.{holder_without, find_nowhere}
 use Rattle.ctt_board.proofs.LawfulLemmas.{Free, Each-from_filter, without_lawful, eqb_comm}
 use Rattle.ctt_board.proofs.PutLemmas.{filter_filter}
 use Rattle.ctt_board.proofs.RoomLemmas.{is_at, room_is, room_after, find-filter, find_put_no}
-use Rattle.ctt_edits.specs.Edits.{or_else, fault_if, not_allowed, try_fault, fault_in_place_of, edit_fault}
+use Rattle.ctt_edits.specs.Edits.{or_else, fault_if, fault_alone, try_fault, fault_in_place_of, edit_fault}
 use Rattle.ctt_edits.specs.declared.edit.Edit.TheVariants.{Swap}
 use Rattle.ctt_edits.specs.declared.fault.EditFault.{EditFault}
 use Rattle.ctt_edits.specs.declared.fault.EditFault.TheVariants.{AlreadyThere, CourseFull, Barred, Clash, RoomTaken}
@@ -34,8 +34,8 @@ by_parts there full closed clashing taken e h = rw (e, h) (ap (λ o. or_else (fa
 
 -- the first fault in a room that nobody has, of a course that lacks a lecture
 in_free_room : (i : Problem) (t : List Placed) (c s r : ℕ) → length (course_row c t) < (course_of i c).lectures → holder_at s r t ≡ None →
-    try_fault i t c s r ≡ or_else (fault_if (is_some (room_at c s t)) AlreadyThere) (or_else (not_allowed i c s r) (option_map Clash (clash_at i c s t)))
-in_free_room i t c s r fewer free = by_parts (is_some (room_at c s t)) (leb (course_of i c).lectures (length (course_row c t))) (not_allowed i c s r) (clash_at i c s t) (holder_at s r t) (lt-leb (course_of i c).lectures (length (course_row c t)) fewer) free
+    try_fault i t c s r ≡ or_else (fault_if (is_some (room_at c s t)) AlreadyThere) (or_else (fault_alone i c s r) (option_map Clash (clash_at i c s t)))
+in_free_room i t c s r fewer free = by_parts (is_some (room_at c s t)) (leb (course_of i c).lectures (length (course_row c t))) (fault_alone i c s r) (clash_at i c s t) (holder_at s r t) (lt-leb (course_of i c).lectures (length (course_row c t)) fewer) free
 
 -- where nothing else is against it, the room may be barred
 only_barred : (i : Problem) (t : List Placed) (c s r : ℕ) → length (course_row c t) < (course_of i c).lectures → holder_at s r t ≡ None → room_at c s t ≡ None → is_unavailable i c s ≡ false → clash_at i c s t ≡ None → try_fault i t c s r ≡ fault_if (is_barred i c r) Barred
@@ -95,7 +95,7 @@ module _ (i : Problem) (t : List Placed) (c s r d e q : ℕ) (lawful : Lawful i 
     own_room = room_after d e None c e left (ap is_some stays) ∙ rw turned (room_after c s None c e t (ap is_some there) ∙ rw (eq-eqb c c refl, differ) refl)
 
     first_is : fault_in_place_of i t c (record { course = d; slot = e; room = q }) ≡ try_fault i gone c e q
-    first_is = ap₂ (λ o x. or_else (fault_if (is_some o) AlreadyThere) (or_else (not_allowed i c e q) (option_map Clash x))) (sym own_room) (ap (λ ls. course_named (find (λ l. clash i c l.course) ls)) (sym here)) ∙ sym (in_free_room i gone c e q own_fewer nobody)
+    first_is = ap₂ (λ o x. or_else (fault_if (is_some o) AlreadyThere) (or_else (fault_alone i c e q) (option_map Clash x))) (sym own_room) (ap (λ ls. course_named (find (λ l. clash i c l.course) ls)) (sym here)) ∙ sym (in_free_room i gone c e q own_fewer nobody)
 
     there_row : slot_row s first ≡ slot_row s left
     there_row = untouched_slot_at (λ x. x == s) c e (Some q) gone back ∙ untouched_slot_at (λ x. x == s) d e None left back
@@ -104,7 +104,7 @@ module _ (i : Problem) (t : List Placed) (c s r d e q : ℕ) (lawful : Lawful i 
     other_room = ap (λ ls. room_of (find (λ l. l.slot == s) ls)) other_row ∙ room_after d e None d s left (ap is_some stays) ∙ rw (eq-eqb d d refl, back) (room_after c s None d s t (ap is_some there) ∙ rw apart refl)
 
     second_is : fault_in_place_of i t d (record { course = c; slot = s; room = r }) ≡ try_fault i first d s r
-    second_is = ap₂ (λ o x. or_else (fault_if (is_some o) AlreadyThere) (or_else (not_allowed i d s r) (option_map Clash x))) (sym other_room) (ap (λ ls. course_named (find (λ l. clash i d l.course) ls)) (sym there_row))
+    second_is = ap₂ (λ o x. or_else (fault_if (is_some o) AlreadyThere) (or_else (fault_alone i d s r) (option_map Clash x))) (sym other_room) (ap (λ ls. course_named (find (λ l. clash i d l.course) ls)) (sym there_row))
         ∙ sym (in_free_room i first d s r other_fewer (ap (λ ls. course_named (find (λ l. l.room == r) ls)) there_row ∙ nobody_left))
 
     pub by_slots : edit_fault i t (Swap c s d e) ≡ or_else (fault_in_place_of i t c (record { course = d; slot = e; room = q })) (fault_in_place_of i t d (record { course = c; slot = s; room = r }))

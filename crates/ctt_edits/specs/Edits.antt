@@ -33,15 +33,15 @@ abbrev pub first_course : (Placed → Bool) → List Placed → Option ℕ
 first_course p ls = option_map (λ (l : Placed). l.course) (find p ls)
 
 -- the first fault of a lecture by itself, which no row has a part in
-abbrev pub not_allowed : Problem → ℕ → ℕ → ℕ → Option EditFault
-not_allowed i c s r = or_else (fault_if (is_unavailable i c s) Unavailable) (fault_if (is_barred i c r) Barred)
+abbrev pub fault_alone : Problem → ℕ → ℕ → ℕ → Option EditFault
+fault_alone i c s r = or_else (fault_if (is_unavailable i c s) Unavailable) (fault_if (is_barred i c r) Barred)
 
 -- the first fault of placing a lecture, by the course's row and the slot's row
 abbrev pub try_in : Problem → ℕ → ℕ → ℕ → List Placed → List Placed → Option EditFault
 try_in i c s r course slot =
     or_else (fault_if (is_some (room_of (find (λ l. l.slot == s) course))) AlreadyThere)
     (or_else (fault_if (nat_le (course_of i c).lectures (length course)) CourseFull)
-    (or_else (not_allowed i c s r)
+    (or_else (fault_alone i c s r)
     (or_else (option_map Clash (first_course (λ l. clash i c l.course) slot))
     (option_map RoomTaken (first_course (λ l. l.room == r) slot)))))
 
@@ -57,7 +57,7 @@ try_room_of i t c s (Some r) = try_fault i t c s r
 abbrev pub fault_in_place_of : Problem → List Placed → ℕ → Placed → Option EditFault
 fault_in_place_of i t c l =
     or_else (fault_if (is_some (room_at c l.slot t)) AlreadyThere)
-    (or_else (not_allowed i c l.slot l.room)
+    (or_else (fault_alone i c l.slot l.room)
     (option_map Clash (clash_at i c l.slot (without l.course l.slot t))))
 
 -- the cells that an edit removes, then the cells that it adds

@@ -84,7 +84,8 @@ fn replace_fault<'i, S: Sheet<'i>>(
     requires target { target < slot_count (S.problem sheet.now) }
     requires room { room < room_count (S.problem sheet.now) }
     requires there { IsSome (room_at course slot (S.list sheet.now)) }
-    ensures { result ≡ try_fault (S.problem sheet.now) (without course slot (S.list sheet.now)) course target room }
+    ensures { result ≡ try_fault (S.problem sheet.now) (without course slot (S.list sheet.now))
+        course target room }
 {
     sheet.lawful();
     let instance = sheet.instance();
@@ -103,7 +104,8 @@ fn fault_in_place_of<'i, S: Sheet<'i>>(
     requires course { course < course_count (S.problem sheet.now) }
     requires leaving { Fits (S.problem sheet.now) leaving.now }
     requires there { IsSome (room_at leaving.now.course leaving.now.slot (S.list sheet.now)) }
-    ensures { result ≡ fault_in_place_of (S.problem sheet.now) (S.list sheet.now) course leaving.now }
+    ensures { result ≡ fault_in_place_of (S.problem sheet.now) (S.list sheet.now) course
+        leaving.now }
 {
     let instance = sheet.instance();
     if sheet.room_at(course, leaving.slot).is_some() {
@@ -141,9 +143,12 @@ fn exchange_fault<'i, S: Sheet<'i>>(
     requires fits { Fits (S.problem sheet.now) lecture.now }
     requires other_fits { Fits (S.problem sheet.now) other.now }
     requires apart { (lecture.now.course == other.now.course) ≡ false }
-    requires there { room_at lecture.now.course lecture.now.slot (S.list sheet.now) ≡ Some lecture.now.room }
-    requires other_there { room_at other.now.course other.now.slot (S.list sheet.now) ≡ Some other.now.room }
-    ensures { result ≡ edit_fault (S.problem sheet.now) (S.list sheet.now) (Swap lecture.now.course lecture.now.slot other.now.course other.now.slot) }
+    requires there { room_at lecture.now.course lecture.now.slot (S.list sheet.now)
+        ≡ Some lecture.now.room }
+    requires other_there { room_at other.now.course other.now.slot (S.list sheet.now)
+        ≡ Some other.now.room }
+    ensures { result ≡ edit_fault (S.problem sheet.now) (S.list sheet.now)
+        (Swap lecture.now.course lecture.now.slot other.now.course other.now.slot) }
 {
     sheet.lawful();
     if lecture.slot == other.slot {
@@ -169,7 +174,8 @@ fn swap_fault<'i, S: Sheet<'i>>(
     other_slot: SlotNo,
 ) -> Option<EditFault>
     requires { EditFits (S.problem sheet.now) (Swap course slot other other_slot) }
-    ensures { result ≡ edit_fault (S.problem sheet.now) (S.list sheet.now) (Swap course slot other other_slot) }
+    ensures { result ≡ edit_fault (S.problem sheet.now) (S.list sheet.now)
+        (Swap course slot other other_slot) }
 {
     sheet.lawful();
     let Some(room) = sheet.room_at(course, slot) else {
@@ -199,7 +205,8 @@ fn move_fault<'i, S: Sheet<'i>>(
     room: RoomNo,
 ) -> Option<EditFault>
     requires { EditFits (S.problem sheet.now) (Move course slot target room) }
-    ensures { result ≡ edit_fault (S.problem sheet.now) (S.list sheet.now) (Move course slot target room) }
+    ensures { result ≡ edit_fault (S.problem sheet.now) (S.list sheet.now)
+        (Move course slot target room) }
 {
     if sheet.room_at(course, slot).is_none() {
         return Some(EditFault::NotPlaced);
@@ -218,7 +225,8 @@ fn reroom_fault<'i, S: Sheet<'i>>(
     room: RoomNo,
 ) -> Option<EditFault>
     requires { EditFits (S.problem sheet.now) (Reroom course slot room) }
-    ensures { result ≡ edit_fault (S.problem sheet.now) (S.list sheet.now) (Reroom course slot room) }
+    ensures { result ≡ edit_fault (S.problem sheet.now) (S.list sheet.now)
+        (Reroom course slot room) }
 {
     if sheet.room_at(course, slot).is_none() {
         return Some(EditFault::NotPlaced);
@@ -292,7 +300,8 @@ fn change_of<'i, S: Sheet<'i>>(sheet: &S, edit: &Edit) -> Change
 pub fn check<'i, S: Sheet<'i>>(sheet: &S, edit: &Edit) -> Result<Change, EditFault>
     requires { EditFits (S.problem sheet.now) edit.now }
     ensures change { result ≡ checked (S.problem sheet.now) (S.list sheet.now) edit.now }
-    ensures fits { IfOk result (λ change. ChangeFits (S.problem sheet.now) change (S.list sheet.now)) }
+    ensures fits { IfOk result (λ change.
+        ChangeFits (S.problem sheet.now) change (S.list sheet.now)) }
 {
     sheet.lawful();
     laws::edits_fit();

@@ -43,7 +43,7 @@ impl Lectures {
     }
 
     /// Equal lectures.
-    pub fn copy(&self) -> Result<Self, NoMemory>
+    pub(crate) fn copy(&self) -> Result<Self, NoMemory>
         ensures { IfOk result (λ lectures. lectures ≡ self.now) }
     {
         let list = self.list.as_slice().to_vec(*self.list.allocator())?;
@@ -51,7 +51,7 @@ impl Lectures {
     }
 
     /// Whether these are the same lectures.
-    pub fn is_same(&self, other: &Lectures) -> bool
+    pub(crate) fn is_same(&self, other: &Lectures) -> bool
         ensures { IsTrue result ↔ (self.now ≡ other.now) }
     {
         self.list.as_slice() == other.list.as_slice()

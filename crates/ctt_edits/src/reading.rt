@@ -17,7 +17,6 @@ use crate::rows_read::RowsRead;
 use ctt_text::{CourseNo, Instance, Marks, NoMemory, SlotNo, TeacherNo};
 use std::alloc::Global;
 
-/// Marks a course.
 fn mark_course(instance: &Instance, course: CourseNo, marks: &mut Marks)
     requires { course < course_count instance.now }
     ensures { (n : ℕ) → is_marked marks.new n ≡ (is_marked marks.old n || has n (course ∷ [])) }
@@ -26,7 +25,6 @@ fn mark_course(instance: &Instance, course: CourseNo, marks: &mut Marks)
     marks.mark(course.get() as usize);
 }
 
-/// Marks a slot.
 fn mark_slot(instance: &Instance, slot: SlotNo, marks: &mut Marks)
     requires { slot < slot_count instance.now }
     ensures { (n : ℕ) → is_marked marks.new n ≡ (is_marked marks.old n || has n (slot ∷ [])) }
@@ -49,7 +47,8 @@ pub(crate) fn mark_courses(instance: &Instance, courses: &[CourseNo], marks: &mu
 /// Marks the curriculum mates of a course.
 fn mark_mates(instance: &Instance, course: CourseNo, marks: &mut Marks)
     requires { course < course_count instance.now }
-    ensures { (n : ℕ) → is_marked marks.new n ≡ (is_marked marks.old n || mates instance.now course n) }
+    ensures { (n : ℕ) → is_marked marks.new n
+        ≡ (is_marked marks.old n || mates instance.now course n) }
 {
     for curriculum in instance.curricula_of(course) {
         mark_courses(instance, instance.members(*curriculum), marks);
@@ -59,24 +58,29 @@ fn mark_mates(instance: &Instance, course: CourseNo, marks: &mut Marks)
 /// Marks the courses of a teacher.
 pub(crate) fn mark_taught(instance: &Instance, teacher: TeacherNo, marks: &mut Marks)
     requires { teacher < teacher_count instance.now }
-    ensures marked { (n : ℕ) → n < course_count instance.now → is_marked marks.new n ≡ (is_marked marks.old n || (course_of instance.now n).teacher == teacher) }
-    ensures past { (n : ℕ) → course_count instance.now ≤ n → is_marked marks.new n ≡ is_marked marks.old n }
+    ensures marked { (n : ℕ) → n < course_count instance.now
+        → is_marked marks.new n
+        ≡ (is_marked marks.old n || (course_of instance.now n).teacher == teacher) }
+    ensures past { (n : ℕ) → course_count instance.now ≤ n
+        → is_marked marks.new n ≡ is_marked marks.old n }
 {
     mark_courses(instance, instance.taught_by(teacher), marks);
 }
 
 /// Marks all courses.
 fn mark_all(instance: &Instance, marks: &mut Marks)
-    ensures marked { (n : ℕ) → n < course_count instance.now → is_marked marks.new n ≡ (is_marked marks.old n || true) }
-    ensures past { (n : ℕ) → course_count instance.now ≤ n → is_marked marks.new n ≡ is_marked marks.old n }
+    ensures marked { (n : ℕ) → n < course_count instance.now
+        → is_marked marks.new n ≡ (is_marked marks.old n || true) }
+    ensures past { (n : ℕ) → course_count instance.now ≤ n
+        → is_marked marks.new n ≡ is_marked marks.old n }
 {
     marks.mark_below(instance.courses() as usize);
 }
 
-/// Marks the courses of an edit.
 fn mark_courses_of_edit(instance: &Instance, edit: &Edit, marks: &mut Marks)
     requires { EditFits instance.now edit.now }
-    ensures { (n : ℕ) → is_marked marks.new n ≡ (is_marked marks.old n || has n (edit_courses edit.now)) }
+    ensures { (n : ℕ) → is_marked marks.new n
+        ≡ (is_marked marks.old n || has n (edit_courses edit.now)) }
 {
     match *edit {
         Edit::Swap(course, _, other, _) => mark_courses(instance, &[course, other], marks),
@@ -90,7 +94,9 @@ fn mark_courses_of_edit(instance: &Instance, edit: &Edit, marks: &mut Marks)
 /// Marks the curriculum mates of the courses of an edit.
 fn mark_mates_of_edit(instance: &Instance, edit: &Edit, marks: &mut Marks)
     requires { EditFits instance.now edit.now }
-    ensures { (n : ℕ) → is_marked marks.new n ≡ (is_marked marks.old n || list_any (λ c. mates instance.now c n) (edit_courses edit.now)) }
+    ensures { (n : ℕ) → is_marked marks.new n
+        ≡ (is_marked marks.old n
+        || list_any (λ c. mates instance.now c n) (edit_courses edit.now)) }
 {
     match *edit {
         Edit::Swap(course, _, other, _) => {
@@ -107,7 +113,10 @@ fn mark_mates_of_edit(instance: &Instance, edit: &Edit, marks: &mut Marks)
 /// Marks the courses whose rows a price reads.
 fn mark_courses_of_price(instance: &Instance, edit: &Edit, marks: &mut Marks)
     requires { EditFits instance.now edit.now }
-    ensures { (n : ℕ) → is_marked marks.new n ≡ (is_marked marks.old n || (has n (edit_courses edit.now) || list_any (λ c. mates instance.now c n) (edit_courses edit.now))) }
+    ensures { (n : ℕ) → is_marked marks.new n
+        ≡ (is_marked marks.old n
+        || (has n (edit_courses edit.now)
+        || list_any (λ c. mates instance.now c n) (edit_courses edit.now))) }
 {
     mark_courses_of_edit(instance, edit, marks);
     mark_mates_of_edit(instance, edit, marks);
@@ -116,8 +125,11 @@ fn mark_courses_of_price(instance: &Instance, edit: &Edit, marks: &mut Marks)
 /// Marks the courses whose rows a look reads.
 fn mark_courses_of_look(instance: &Instance, look: &Look, marks: &mut Marks)
     requires { LookFits instance.now look.now }
-    ensures marked { (n : ℕ) → n < course_count instance.now → is_marked marks.new n ≡ (is_marked marks.old n || look_reads_course instance.now look.now n) }
-    ensures past { (n : ℕ) → course_count instance.now ≤ n → is_marked marks.new n ≡ is_marked marks.old n }
+    ensures marked { (n : ℕ) → n < course_count instance.now
+        → is_marked marks.new n
+        ≡ (is_marked marks.old n || look_reads_course instance.now look.now n) }
+    ensures past { (n : ℕ) → course_count instance.now ≤ n
+        → is_marked marks.new n ≡ is_marked marks.old n }
 {
     instance.limits_hold();
     match *look {
@@ -132,10 +144,10 @@ fn mark_courses_of_look(instance: &Instance, look: &Look, marks: &mut Marks)
     }
 }
 
-/// Marks the slots of an edit.
 fn mark_slots_of_edit(instance: &Instance, edit: &Edit, marks: &mut Marks)
     requires { EditFits instance.now edit.now }
-    ensures { (n : ℕ) → is_marked marks.new n ≡ (is_marked marks.old n || has n (edit_slots edit.now)) }
+    ensures { (n : ℕ) → is_marked marks.new n
+        ≡ (is_marked marks.old n || has n (edit_slots edit.now)) }
 {
     match *edit {
         Edit::Place(_, slot, _) | Edit::Move(_, _, slot, _) | Edit::Reroom(_, slot, _) => {
@@ -152,7 +164,8 @@ fn mark_slots_of_edit(instance: &Instance, edit: &Edit, marks: &mut Marks)
 /// Marks the slots whose rows a look reads.
 fn mark_slots_of_look(instance: &Instance, look: &Look, marks: &mut Marks)
     requires { LookFits instance.now look.now }
-    ensures { (n : ℕ) → is_marked marks.new n ≡ (is_marked marks.old n || look_reads_slot look.now n) }
+    ensures { (n : ℕ) → is_marked marks.new n
+        ≡ (is_marked marks.old n || look_reads_slot look.now n) }
 {
     match *look {
         Look::Slot(slot) => mark_slot(instance, slot, marks),
@@ -168,10 +181,15 @@ fn mark_slots_of_look(instance: &Instance, look: &Look, marks: &mut Marks)
 /// Marks the rows that a call reads.
 pub(crate) fn mark_reads(instance: &Instance, call: &Call, courses: &mut Marks, slots: &mut Marks)
     requires { CallFits instance.now call.now }
-    ensures courses { (n : ℕ) → n < course_count instance.now → is_marked courses.new n ≡ (is_marked courses.old n || reads_course instance.now call.now n) }
-    ensures slots { (n : ℕ) → n < slot_count instance.now → is_marked slots.new n ≡ (is_marked slots.old n || reads_slot call.now n) }
-    ensures courses_past { (n : ℕ) → course_count instance.now ≤ n → is_marked courses.new n ≡ is_marked courses.old n }
-    ensures slots_past { (n : ℕ) → slot_count instance.now ≤ n → is_marked slots.new n ≡ is_marked slots.old n }
+    ensures courses { (n : ℕ) → n < course_count instance.now
+        → is_marked courses.new n
+        ≡ (is_marked courses.old n || reads_course instance.now call.now n) }
+    ensures slots { (n : ℕ) → n < slot_count instance.now
+        → is_marked slots.new n ≡ (is_marked slots.old n || reads_slot call.now n) }
+    ensures courses_past { (n : ℕ) → course_count instance.now ≤ n
+        → is_marked courses.new n ≡ is_marked courses.old n }
+    ensures slots_past { (n : ℕ) → slot_count instance.now ≤ n
+        → is_marked slots.new n ≡ is_marked slots.old n }
 {
     match call {
         Call::Look(look) => {

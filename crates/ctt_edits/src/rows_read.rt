@@ -95,7 +95,9 @@ impl RowsRead {
 
     /// Adds the rows of courses to a list.
     fn list_courses(&self, instance: &Instance, rows: &mut Vec<Row>) -> Result<(), NoMemory>
-        ensures { OnOk result (rows.new.items ≡ rows.old.items ++ map CourseRow (below (has_course self.now) (course_count instance.now))) }
+        ensures { OnOk result (rows.new.items
+            ≡ rows.old.items
+            ++ map CourseRow (below (has_course self.now) (course_count instance.now))) }
     {
         instance.limits_hold();
         let mut from = 0;
@@ -108,7 +110,8 @@ impl RowsRead {
 
     /// Adds the rows of slots to a list.
     fn list_slots(&self, instance: &Instance, rows: &mut Vec<Row>) -> Result<(), NoMemory>
-        ensures { OnOk result (rows.new.items ≡ rows.old.items ++ map SlotRow (below (has_slot self.now) (slot_count instance.now))) }
+        ensures { OnOk result (rows.new.items
+            ≡ rows.old.items ++ map SlotRow (below (has_slot self.now) (slot_count instance.now))) }
     {
         instance.limits_hold();
         let mut from = 0;

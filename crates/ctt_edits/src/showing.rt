@@ -74,7 +74,8 @@ fn gather<'i, S: Sheet<'i>>(
     sheet: &S,
     courses: &Marks,
 ) -> Result<(), NoMemory>
-    ensures { OnOk result (list.new.items ≡ filter (λ l. is_marked courses.now l.course) (S.list sheet.now)) }
+    ensures { OnOk result (list.new.items
+        ≡ filter (λ l. is_marked courses.now l.course) (S.list sheet.now)) }
 {
     sheet.lawful();
     let end = sheet.instance().courses();
@@ -94,7 +95,8 @@ fn list_teacher<'i, S: Sheet<'i>>(
     teacher: TeacherNo,
 ) -> Result<(), NoMemory>
     requires { teacher < teacher_count (S.problem sheet.now) }
-    ensures { OnOk result (list.new.items ≡ teacher_row (S.problem sheet.now) teacher (S.list sheet.now)) }
+    ensures { OnOk result (list.new.items
+        ≡ teacher_row (S.problem sheet.now) teacher (S.list sheet.now)) }
 {
     sheet.lawful();
     let mut courses = Marks::new();
@@ -109,7 +111,8 @@ fn list_curriculum<'i, S: Sheet<'i>>(
     curriculum: CurriculumNo,
 ) -> Result<(), NoMemory>
     requires { curriculum < curriculum_count (S.problem sheet.now) }
-    ensures { OnOk result (list.new.items ≡ part_of (members (S.problem sheet.now) curriculum) (S.list sheet.now)) }
+    ensures { OnOk result (list.new.items
+        ≡ part_of (members (S.problem sheet.now) curriculum) (S.list sheet.now)) }
 {
     sheet.lawful();
     let instance = sheet.instance();
@@ -125,7 +128,8 @@ fn own_cost<'i, S: Sheet<'i>>(
     course: CourseNo,
 ) -> Result<Cost, NoMemory>
     requires { course < course_count (S.problem sheet.now) }
-    ensures { IfOk result (λ cost. cost ≡ course_cost (S.problem sheet.now) (S.list sheet.now) course) }
+    ensures { IfOk result (λ cost.
+        cost ≡ course_cost (S.problem sheet.now) (S.list sheet.now) course) }
 {
     sheet.lawful();
     list_course(list, sheet, course)?;
@@ -135,7 +139,8 @@ fn own_cost<'i, S: Sheet<'i>>(
 /// The price of an edit, or its fault.
 fn price_reply<'i, S: Sheet<'i>>(sheet: &S, edit: &Edit) -> Reply
     requires { EditFits (S.problem sheet.now) edit.now }
-    ensures { result ≡ told_or (edit_fault (S.problem sheet.now) (S.list sheet.now) edit.now) (Priced (price (S.problem sheet.now) (S.list sheet.now) edit.now)) }
+    ensures { result ≡ told_or (edit_fault (S.problem sheet.now) (S.list sheet.now) edit.now)
+        (Priced (price (S.problem sheet.now) (S.list sheet.now) edit.now)) }
 {
     match price(sheet, edit) {
         Ok(price) => Reply::Price(price),
@@ -152,7 +157,8 @@ pub fn look_in<'i, S: Sheet<'i>>(
     look: &Look,
 ) -> Result<Reply, NoMemory>
     requires { LookFits (S.problem sheet.now) look.now }
-    ensures { IfOk result (λ reply. reply ≡ shown (S.problem sheet.now) (S.list sheet.now) look.now) }
+    ensures { IfOk result (λ reply.
+        reply ≡ shown (S.problem sheet.now) (S.list sheet.now) look.now) }
 {
     match *look {
         Look::Course(course) => list_course(spare, sheet, course)?,
@@ -169,7 +175,8 @@ pub fn look_in<'i, S: Sheet<'i>>(
 /// What a look shows, its lectures in memory of their own.
 pub fn look<'i, S: Sheet<'i>>(alloc: Global, sheet: &S, look: &Look) -> Result<Reply, NoMemory>
     requires { LookFits (S.problem sheet.now) look.now }
-    ensures { IfOk result (λ reply. reply ≡ shown (S.problem sheet.now) (S.list sheet.now) look.now) }
+    ensures { IfOk result (λ reply.
+        reply ≡ shown (S.problem sheet.now) (S.list sheet.now) look.now) }
 {
     let mut spare = Vec::new(alloc);
     look_in(&mut spare, sheet, look)

@@ -18,10 +18,10 @@ use Rattle.ctt_draft.proofs.CallRuns.{lawful_whole}
 use Rattle.ctt_core.specs.declared.event.Event.{Event}
 use Rattle.ctt_core.specs.declared.event.Event.TheVariants.{Open, Ask, Commit, Refresh, Abandon, Show}
 use Rattle.ctt_core.specs.declared.journal.JournalEntry.{JournalEntry}
-use Rattle.ctt_core.specs.Runs.{Turn, OpenDraft, commits, draft, accepted_of, now, base, open_answer, ask_answer, verdict, commit_answer, renewal, refresh_answer, abandon_answer, plain, Right, EventFits, RunFits}
+use Rattle.ctt_core.specs.Runs.{Turn, OpenDraft, commits, draft, accepted_of, now, base, open_answer, ask_answer, acceptance, commit_answer, renewal, refresh_answer, abandon_answer, plain, Right, EventFits, RunFits}
 use Rattle.ctt_core.proofs.RunLemmas.{GoodDraft, Good, right_is_good, lawful_after, Each-join, Each-take}
 use Rattle.ctt_core.proofs.JournalLemmas.{FitsShort, IsSmallEntry, all_small, few_commits, history_fits, journal_fits}
-use Rattle.ctt_core.proofs.RunLemmas.{EntryFits as CallsFit}
+use Rattle.ctt_core.proofs.RunLemmas.{CallsFit}
 use Rattle.ctt_edits.specs.Fitting.{IsReply, IsShortReply, AreFew}
 use Rattle.ctt_core.specs.Entries.{EntryFits}
 use Rattle.ctt_script.specs.Entries.{IsEntry, RowFits, AnswerFits}
@@ -62,9 +62,9 @@ module _ (i : Problem) where
   stale_row_fits base now calls row e = subst (λ o. IfSome o (RowFits i)) e (stale_fits base now calls)
 
 module _ (i : Problem) (is : IsProblem i) where
-  verdict_fits : (n : ℕ) (o : Option Row) → IfSome o (RowFits i) → AnswerFits i (verdict n o)
-  verdict_fits n None h = tt
-  verdict_fits n (Some row) h = h
+  acceptance_fits : (n : ℕ) (o : Option Row) → IfSome o (RowFits i) → AnswerFits i (acceptance n o)
+  acceptance_fits n None h = tt
+  acceptance_fits n (Some row) h = h
 
   renewal_fits : (o : Option Row) → IfSome o (RowFits i) → AnswerFits i (renewal o)
   renewal_fits None h = tt
@@ -85,7 +85,7 @@ module _ (i : Problem) (is : IsProblem i) where
       commit_fits None = tt
       commit_fits (Some mine) =
           let calls : List Call = calls_of mine.asked in
-          verdict_fits (commits past + 1) (stale i (base i t0 past mine) (now i t0 past) calls) (stale_fits i (base i t0 past mine) (now i t0 past) calls)
+          acceptance_fits (commits past + 1) (stale i (base i t0 past mine) (now i t0 past) calls) (stale_fits i (base i t0 past mine) (now i t0 past) calls)
 
       refresh_fits : (o : Option OpenDraft) → AnswerFits i (refresh_answer i t0 past o)
       refresh_fits None = tt

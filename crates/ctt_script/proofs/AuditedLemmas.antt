@@ -47,5 +47,5 @@ module _ (i : Problem) (so_far : List Asked) (left : Left) where
       → OnOk r (HeardReply old behind new after) → IfErr r (λ fault. Fails wants_memory fault (reads (reply_form old.problem) behind)) → GivesRead (λ u. (new.asked, after)) r (reads (one_more (asked_form i) so_far) left)
   one_audited behind after old new call (Ok u) is problem made asked h bad =
       asked_heard i so_far left behind call is after h.reply (subst (λ j. reads (reply_form j) behind ≡ Ok (h.reply, after)) problem h.reads_it)
-      ∙ ap (λ xs. Ok (xs, after)) (sym (ap (λ (a : AuditorValue). a.asked) h.hears ∙ ap₂ (λ xs m. xs ++ heard m (Some h.reply)) asked made))
+      ∙ ap (λ xs. Ok (xs, after)) (sym (ap (λ (a : AuditorValue). a.asked) h.hears ∙ ap₂ (λ xs m. xs ++ heard m h.reply) asked made))
   one_audited behind after old new call (Err e) is problem made asked h bad = unless (wants_memory e) (λ told. reply_fault i so_far left behind call is e (subst (λ j. reads (reply_form j) behind ≡ Err e) problem told)) bad

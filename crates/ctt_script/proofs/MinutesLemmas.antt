@@ -16,7 +16,7 @@ use Rattle.ctt_core.specs.declared.answer.Answer.TheVariants.{Opened, AlreadyOpe
 use Rattle.ctt_core.specs.declared.journal.JournalEntry.{JournalEntry}
 use Rattle.std.specs.Option.{option_map}
 use Rattle.ctt_core.specs.Laws.{Stands}
-use Rattle.ctt_core.specs.Desks.{DeskValue, draft_at, with_draft, asks, renews, settled, goes_on, Answers, commits_to}
+use Rattle.ctt_core.specs.Desks.{DeskValue, draft_at, with_draft, with_call, with_base, settled, goes_on, Answers, to_commit}
 use Rattle.ctt_script.specs.WrittenText.{asked_text, entry_text}
 use Rattle.ctt_script.specs.Minutes.{NotesValue, MinutesValue, no_notes, notes_at, noted_call, noted, entry_head, with_entry, with_notes, AreNotes, AreMinutes, IsMinuted, blank}
 
@@ -46,7 +46,7 @@ module _ (i : Problem) where
   fewer_drafts ds ns p in_drafts all = renewed_drafts ds ns p None in_drafts all tt
 
   -- a call more
-  call_noted : (o : Option DraftValue) (n : NotesValue) (call : Call) (told : Reply) → IfSome o (λ d. AreNotes i n d) → IfSome (asks call told o) (λ d. AreNotes i (noted_call i call told n) d)
+  call_noted : (o : Option DraftValue) (n : NotesValue) (call : Call) (told : Reply) → IfSome o (λ d. AreNotes i n d) → IfSome (with_call call told o) (λ d. AreNotes i (noted_call i call told n) d)
   call_noted None n call told h = tt
   call_noted (Some d) n call told h =
       let one : Asked = record { call = call; reply = told } in
@@ -65,16 +65,16 @@ module _ (i : Problem) where
     }
 
     -- a draft that goes on from another base has the calls that it had
-    same_notes : (n : NotesValue) (o : Option DraftValue) → IfSome o (λ d. AreNotes i n d) → IfSome (renews v.list o) (λ d. AreNotes i n d)
+    same_notes : (n : NotesValue) (o : Option DraftValue) → IfSome o (λ d. AreNotes i n d) → IfSome (with_base v.list o) (λ d. AreNotes i n d)
     same_notes n None h = tt
     same_notes n (Some d) h = record { text = h.text; calls = h.calls }
 
-    same_calls : (p : ℕ) → p < length v.drafts → AreMinutes i (with_draft p (renews v.list (draft_at v.drafts p)) v) m
+    same_calls : (p : ℕ) → p < length v.drafts → AreMinutes i (with_draft p (with_base v.list (draft_at v.drafts p)) v) m
     same_calls p within = record {
-      planners = h.planners ∙ sym (length-set v.drafts p (renews v.list (draft_at v.drafts p)));
+      planners = h.planners ∙ sym (length-set v.drafts p (with_base v.list (draft_at v.drafts p)));
       entries = h.entries;
       count = h.count;
-      drafts = renewed_drafts v.drafts m.drafts p (renews v.list (draft_at v.drafts p)) within h.drafts (same_notes (notes_at m.drafts p) (draft_at v.drafts p) (h.drafts p));
+      drafts = renewed_drafts v.drafts m.drafts p (with_base v.list (draft_at v.drafts p)) within h.drafts (same_notes (notes_at m.drafts p) (draft_at v.drafts p) (h.drafts p));
     }
 
     another_draft : (p : ℕ) (o : Option DraftValue) (n : NotesValue) → p < length v.drafts → IfSome o (λ d. AreNotes i n d) → AreMinutes i (with_draft p o v) (with_notes p n m)
@@ -104,13 +104,13 @@ module _ (i : Problem) where
     has_draft p number o e answers none = by answers
       where
         by : Answers v (Commit p) (Committed number) → ⊥
-        by (inl is) = let no : 1 ≡ 0 = ap is_commit (is ∙ ap (commits_to v) (e ∙ none)) in omega (arith, no)
+        by (inl is) = let no : 1 ≡ 0 = ap is_commit (is ∙ ap (to_commit v) (e ∙ none)) in omega (arith, no)
         by (inr wants) = let no : 1 ≡ 0 = ap is_commit wants.0 in omega (arith, no)
 
     -- the minutes go on with the desk
     pub go_on : (event : Event) (answer : Answer) → EventFits i (length v.drafts) event → Answers v event answer → AreMinutes i (goes_on v event answer) (noted i event answer m)
     go_on (Open p) Opened fits right = another_draft p (Some (record { problem = v.problem; base = v.list; asked = [] })) no_notes fits (record { text = refl; calls = refl })
-    go_on (Ask p call) (Replied told) fits right = another_draft p (asks call told (draft_at v.drafts p)) (noted_call i call told (notes_at m.drafts p)) fits.0 (call_noted (draft_at v.drafts p) (notes_at m.drafts p) call told (h.drafts p))
+    go_on (Ask p call) (Replied told) fits right = another_draft p (with_call call told (draft_at v.drafts p)) (noted_call i call told (notes_at m.drafts p)) fits.0 (call_noted (draft_at v.drafts p) (notes_at m.drafts p) call told (h.drafts p))
     go_on (Commit p) (Committed n) fits right = entry_noted p n (draft_at v.drafts p) refl fits (has_draft p n (draft_at v.drafts p) refl right)
     go_on (Commit p) (Stale row) fits right = no_draft_more p fits
     go_on (Refresh p) Refreshed fits right = same_calls p fits

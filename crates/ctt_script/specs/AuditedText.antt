@@ -35,4 +35,4 @@ pub record Expected (i : Problem) (expected : Option Reply) (old new : Left) : T
 pub record HeardReply (old : AuditorValue) (left : Left) (new : AuditorValue) (after : Left) : Type 0 where
   pub reply : Reply
   pub reads_it : reads (reply_form old.problem) left ≡ Ok (reply, after)
-  pub hears : new ≡ with_heard old (Some reply)
+  pub hears : new ≡ with_heard old reply

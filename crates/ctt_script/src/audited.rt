@@ -72,7 +72,7 @@ fn audit_one_asked<'i, S: Sheet<'i>>(
     let instance = auditor.instance();
     instance.limits_hold();
     let call = read_call(reader, instance)?;
-    auditor.tell(alloc, call)?;
+    auditor.make_call(alloc, call)?;
     audit_reply(alloc, reader, text, auditor)
 }
 

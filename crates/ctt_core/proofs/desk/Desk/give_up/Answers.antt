@@ -1,8 +1,8 @@
 use Rattle.std.proofs.Common.{rules, ◌≡◌, ◌∙◌, Some, sym, ap, length, arith}
-use Rattle.ctt_core.specs.Stocks.{IsMarked}
+use Rattle.ctt_core.specs.Stocks.{HasSeen}
 use Rattle.ctt_core.specs.Desks.{DeskValue}
 use Rattle.ctt_core.proofs.StepLemmas.{draft_fits}
-use Rattle.ctt_core.proofs.StockLemmas.{mark_read}
+use Rattle.ctt_core.proofs.StockLemmas.{seen_read}
 use Rattle.ctt_core.proofs.desk.Desk.give_up.Goals as goal
 
 pub retire-requires : goal.retire-requires
@@ -12,6 +12,6 @@ retire-requires g c κs =
     let same : c.in-Some.draft.problem ≡ c.self.inside.stock.problem =
     draft_fits _ _ c.args.self.now c.args.planner _ _ _ (ap (λ (v : DeskValue). v.problem) c.self.view_is) drafts c.self.invariant.drafts_of c.requires c.get-place.ensures c.index_mut.ensures.value some
     ∙ sym (c.self.invariant.same ∙ ap (λ (v : DeskValue). v.problem) c.self.view_is) in
-    let marked : IsMarked c.self.inside.stock (Some c.in-Some.draft) c.index.result.now =
-    mark_read c.self.inside.stock c.self.inside.drafts.items c.self.inside.marks.items c.args.planner c.get-place.result _ _ _ c.self.invariant.marked (omega (arith, c.requires, ap length drafts)) (omega (arith, c.requires, ap length drafts, c.self.invariant.counted, c.self.invariant.marks_counted)) c.get-place.ensures c.index_mut.ensures.value c.index.ensures some in
+    let seen : HasSeen c.self.inside.stock (Some c.in-Some.draft) c.index.result.now =
+    seen_read c.self.inside.stock c.self.inside.drafts.items c.self.inside.seen.items c.args.planner c.get-place.result _ _ _ c.self.invariant.has_seen (omega (arith, c.requires, ap length drafts)) (omega (arith, c.requires, ap length drafts, c.self.invariant.counted, c.self.invariant.seen_counted)) c.get-place.ensures c.index_mut.ensures.value c.index.ensures some in
     search rules

@@ -1,6 +1,6 @@
 use Rattle.std.proofs.Common.{rules, ◌≡◌, IfSome, ◌∙◌, sym, ap, subst}
 use Rattle.ctt_rules.specs.Hard.{Lawful}
-use Rattle.ctt_core.specs.Stocks.{StockValue, IsMarked, mark_at}
+use Rattle.ctt_core.specs.Stocks.{StockValue, HasSeen, seen_at}
 use Rattle.ctt_core.proofs.desk.Desk.new.Goals as goal
 
 pub invariant_of-result : goal.invariant_of-result
@@ -9,6 +9,6 @@ invariant_of-result g c = record {
   opening_lawful = subst (Lawful c.args.instance.now) (sym c.in_ok-opening.ensures) (subst (λ i. Lawful i (g.S.Rooms.list c.in_ok-sheet.sheet)) c.in_ok-sheet.ensures.problem c.lawful.ensures);
   counted = c.in_ok-drafts.ensures.planners;
   drafts_of = λ p. subst (λ o. IfSome o (λ d. d.problem ≡ c.args.instance.now)) (sym (c.in_ok-drafts.ensures.none p)) tt;
-  marks_counted = search rules;
-  marked = λ p. subst (λ o. IsMarked c.in_ok-stock.stock o (mark_at c.resize.new.self.items p)) (sym (c.in_ok-drafts.ensures.none p)) tt;
+  seen_counted = search rules;
+  has_seen = λ p. subst (λ o. HasSeen c.in_ok-stock.stock o (seen_at c.resize.new.self.items p)) (sym (c.in_ok-drafts.ensures.none p)) tt;
 }

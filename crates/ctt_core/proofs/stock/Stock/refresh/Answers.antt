@@ -13,5 +13,5 @@ refresh-requires g c κs =
 pub returns-then-is_latest-clause-ok : goal.returns-then-is_latest-clause-ok
 returns-then-is_latest-clause-ok g c =
     let d : DraftValue = c.args.draft.now in
-    let same : d.base ≡ c.args.self.now.list = latest c.args.self.now d c.args.mark c.requires.marked (sym c.is_latest-is_latest.ensures ∙ c.if-is_latest.true) in
+    let same : d.base ≡ c.args.self.now.list = latest c.args.self.now d c.args.seen c.requires.seen (sym c.is_latest-is_latest.ensures ∙ c.if-is_latest.true) in
     (subst (λ t. None ≡ stale d.problem d.base t (calls_of d.asked)) same (sym c.settles_on_base.ensures.fresh), ap (λ t. record { problem = d.problem; base = t; asked = d.asked }) same)

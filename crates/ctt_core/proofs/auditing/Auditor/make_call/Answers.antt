@@ -3,8 +3,8 @@ use Rattle.ctt_edits.specs.Calls.{CallFits}
 use Rattle.ctt_edits.specs.Fitting.{IsReply}
 use Rattle.ctt_core.specs.Auditors.{AuditorValue, IsToldHere}
 use Rattle.ctt_core.proofs.AuditLemmas.{told_fits, told_here, untold_here}
-use Rattle.ctt_core.proofs.auditing.Auditor.tell.Goals.{then-is_none+in_ok-answer+in-Some+in-Lectures-1, then-is_none+in_ok-answer+in-Some+in-Done-1, then-is_none+in_ok-answer+in-None-1, else-is_none}
-use Rattle.ctt_core.proofs.auditing.Auditor.tell.Goals as goal
+use Rattle.ctt_core.proofs.auditing.Auditor.make_call.Goals.{then-is_none+in_ok-answer+in-Some+in-Lectures-1, then-is_none+in_ok-answer+in-Some+in-Done-1, then-is_none+in_ok-answer+in-None-1, else-is_none}
+use Rattle.ctt_core.proofs.auditing.Auditor.make_call.Goals as goal
 
 pub answer-requires : goal.answer-requires
 answer-requires g c κs =

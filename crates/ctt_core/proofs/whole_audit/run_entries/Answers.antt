@@ -1,7 +1,7 @@
 use Rattle.std.proofs.Common.{rules}
 use Rattle.ctt_core.specs.Entries.{EntryFits}
 use Rattle.ctt_core.proofs.AuditLemmas.{hearing_fits, hearing_done}
-use Rattle.ctt_core.proofs.auditing.run_entries.Goals as goal
+use Rattle.ctt_core.proofs.whole_audit.run_entries.Goals as goal
 
 pub run_entry-requires : goal.run_entry-requires
 run_entry-requires g c κs =

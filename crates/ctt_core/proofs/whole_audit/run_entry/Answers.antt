@@ -2,7 +2,7 @@ use Rattle.std.proofs.Common.{rules, ◌≡◌, ◌<◌, ◌≤◌, length, get_
 use Rattle.std.proofs.lemmas.Result.{on_ok_weaker}
 use Rattle.ctt_edits.specs.Calls.{CallFits}
 use Rattle.ctt_core.proofs.AuditLemmas.{running_fits, running_ended}
-use Rattle.ctt_core.proofs.auditing.run_entry.Goals as goal
+use Rattle.ctt_core.proofs.whole_audit.run_entry.Goals as goal
 
 pub ask-requires : goal.ask-requires
 ask-requires g c κs =

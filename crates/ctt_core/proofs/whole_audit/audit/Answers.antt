@@ -1,6 +1,6 @@
 use Rattle.std.proofs.Common.{rules}
 use Rattle.ctt_core.proofs.AuditLemmas.{agrees_if}
-use Rattle.ctt_core.proofs.auditing.audit.Goals as goal
+use Rattle.ctt_core.proofs.whole_audit.audit.Goals as goal
 
 pub found_on-requires : goal.found_on-requires
 found_on-requires g c κs =

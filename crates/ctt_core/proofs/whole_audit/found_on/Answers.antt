@@ -2,7 +2,7 @@ use Rattle.std.proofs.Common.{rules, ◌≡◌, [], ap, sym, subst}
 use Rattle.std.specs.List.{AllByRecursion as Each}
 use Rattle.ctt_core.specs.Auditors.{AuditorValue}
 use Rattle.ctt_core.specs.Entries.{EntryFits}
-use Rattle.ctt_core.proofs.auditing.found_on.Goals as goal
+use Rattle.ctt_core.proofs.whole_audit.found_on.Goals as goal
 
 pub run_entries-requires : goal.run_entries-requires
 run_entries-requires g c κs =
