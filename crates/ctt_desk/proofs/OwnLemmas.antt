@@ -68,7 +68,7 @@ grown i t0 p q f is begins legal = subst (λ (x : PlannerValue). Grows i t0 p x)
 pub foreign : (i : Problem) (t0 : List Placed) (v d : DraftingValue) (q : PlannerValue) (j f : List JournalEntry) (count : ℕ) → v ≡ d → IsNotHis j v.planner.number v.planner.committed v.planner.front f count → q ≡ seen_up_to v.planner f → Legal i t0 f → IsForeign i t0 d q count
 foreign i t0 v d q j f count is (inl w) becomes legal = subst (λ (x : DraftingValue). IsForeign i t0 x q count) is (record {
   planner = grown i t0 v.planner q f becomes (subst (λ (x : List JournalEntry). IsPrefix v.planner.front x) (sym w.0) (prefix_self v.planner.front)) legal;
-  other = inl w.2;
+  other = inl (w.2, ap (λ (x : PlannerValue). x.front) becomes ∙ w.0);
 })
 foreign i t0 v d q j f count is (inr w) becomes legal = subst (λ (x : DraftingValue). IsForeign i t0 x q count) is (record {
   planner = grown i t0 v.planner q f becomes w.0.1 legal;

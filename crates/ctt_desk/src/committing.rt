@@ -49,7 +49,7 @@ impl<'i, S: Sheet<'i>, J: Naming> Drafting<'i, S, J> {
             committed,
             mut front,
             place,
-            kept: _,
+            kept,
         } = planner;
         let before = front.again();
         let mut locked = held(rt, &desk.locked);
@@ -62,7 +62,7 @@ impl<'i, S: Sheet<'i>, J: Naming> Drafting<'i, S, J> {
             committed,
             front,
             place,
-            kept: None,
+            kept,
         };
         match outcome {
             Ok(remains) => Ok(planner.accepted(Kept::left_by(remains, before, seen))),

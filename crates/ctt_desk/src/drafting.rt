@@ -56,7 +56,7 @@ impl<'i, S: Sheet<'i>, J: Naming> Drafting<'i, S, J> {
         self.draft.call(call)
     }
 
-    /// Gives the draft up. Its sheet is kept.
+    /// Gives the draft up. Its sheet is kept. It takes no memory.
     pub fn abandon(self) -> Planner<S, J>
         ensures { result ≡ self.entry.planner }
     {

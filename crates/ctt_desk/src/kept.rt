@@ -87,7 +87,7 @@ impl<'i, S: Sheet<'i>, J: Naming> Kept<S, J> {
 /// changes that it lacks are known, and else on a copy.
 pub(crate) fn draft_on<'i, S: Sheet<'i>, J: Naming>(
     alloc: Global,
-    kept: Option<Box<Kept<S, J>>>,
+    kept: Option<Kept<S, J>>,
     shown: &Shown<S, J>,
     seen: &Front<J>,
 ) -> Result<Box<Draft<'i, S, KeepAll>>, NoMemory>
@@ -98,7 +98,7 @@ pub(crate) fn draft_on<'i, S: Sheet<'i>, J: Naming>(
 {
     if let Some(kept) = kept {
         let cost = shown.sheet.cost();
-        if let Some(idle) = Box::into_inner(kept).followed(&shown.trail, seen, cost) {
+        if let Some(idle) = kept.followed(&shown.trail, seen, cost) {
             return Ok(Box::new(alloc, Draft::reopen(alloc, idle))?);
         }
     }

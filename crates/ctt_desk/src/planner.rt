@@ -20,7 +20,7 @@ use ctt_board::{Sheet, Timetable};
 use ctt_core::PlannerNo;
 use ctt_edits::{Look, Reply, laws};
 use ctt_text::NoMemory;
-use std::alloc::Global;
+use std::alloc::{AllocError, Global};
 use std::marker::Model;
 
 /// One who drafts. Contracts see the number, how many drafts were committed, and the front: the history
@@ -33,8 +33,8 @@ pub struct Planner<S: Timetable, J: Naming> {
     pub(crate) front: Front<J>,
     /// It is there but while the planner reads.
     pub(crate) place: Option<Place<S, J>>,
-    /// The sheet of the last draft, for a draft to come.
-    pub(crate) kept: Option<Box<Kept<S, J>>>,
+    /// The sheet of the last draft, for a draft to come, and room for it.
+    pub(crate) kept: Box<Option<Kept<S, J>>>,
 }
 
 impl<S: Timetable, J: Naming> Model for Planner<S, J> {
@@ -52,19 +52,25 @@ impl<S: Timetable, J: Naming> Model for Planner<S, J> {
 
 impl<S: Timetable, J: Naming> Planner<S, J> {
     /// A planner of the desk who has committed nothing.
-    pub(crate) fn new(alloc: Global, number: u16, front: &Front<J>, place: Place<S, J>) -> Self
+    pub(crate) fn new(
+        alloc: Global,
+        number: u16,
+        front: &Front<J>,
+        place: Place<S, J>,
+    ) -> Result<Self, AllocError>
         requires number { number < J.planners }
         requires front { front.now ≡ [] }
-        ensures { result ≡ new_planner number }
+        ensures { IfOk result (λ planner. planner ≡ new_planner number) }
     {
-        Planner {
+        let kept = Box::new(alloc, None)?;
+        Ok(Planner {
             alloc,
             number: PlannerNo::new(number),
             committed: 0,
             front: front.again(),
             place: Some(place),
-            kept: None,
-        }
+            kept,
+        })
     }
 
     /// The planner's number.
@@ -98,16 +104,17 @@ impl<S: Timetable, J: Naming> Planner<S, J> {
         self.front.begins(history)
     }
 
-    /// The planner, who keeps a sheet, if there is memory.
+    /// The planner, who keeps a sheet.
     pub(crate) fn keeping(self, kept: Kept<S, J>) -> Self
         ensures { result ≡ self }
     {
-        let kept = Box::new(self.alloc, kept).ok();
-        Planner { kept, ..self }
+        let mut planner = self;
+        *planner.kept = Some(kept);
+        planner
     }
 
     /// The planner with one commit more, which is the last one in his front, and its receipt. He keeps
-    /// a sheet, if there is memory.
+    /// a sheet.
     pub(crate) fn accepted(self, kept: Kept<S, J>) -> (Self, Receipt<J>)
         requires { length (own self.number self.front) ≡ self.committed + 1 }
         ensures planner { result.0 ≡ committed_more self }
@@ -119,13 +126,11 @@ impl<S: Timetable, J: Naming> Planner<S, J> {
         let receipt = Receipt {
             front: self.front.again(),
         };
-        let kept = Box::new(self.alloc, kept).ok();
         let planner = Planner {
             committed: committed + 1,
-            kept,
             ..self
         };
-        (planner, receipt)
+        (planner.keeping(kept), receipt)
     }
 
     /// Takes in what a receipt shows.
@@ -143,36 +148,16 @@ impl<'i, S: Sheet<'i>, J: Naming> Planner<S, J> {
         ensures ok { IfOk result (IsOpen J.problem J.opening self) }
         ensures err { IfErr result (λ refused. IsUnread J.problem J.opening self refused.0 refused.1) }
     {
-        let Planner {
-            alloc,
-            number,
-            committed,
-            front,
-            place,
-            kept,
-        } = self;
-        match enter(place.unwrap(), &front) {
+        let mut planner = self;
+        match enter(planner.place.take().unwrap(), &planner.front) {
             Err(place) => {
-                let planner = Planner {
-                    alloc,
-                    number,
-                    committed,
-                    front,
-                    place: Some(place),
-                    kept,
-                };
+                planner.place = Some(place);
                 Err((planner, SharedFault::NoPlace))
             }
             Ok((visit, seen)) => {
-                let opened = draft_on(alloc, kept, visit.get(), &seen);
-                let planner = Planner {
-                    alloc,
-                    number,
-                    committed,
-                    front: seen,
-                    place: Some(visit.leave()),
-                    kept: None,
-                };
+                let opened = draft_on(planner.alloc, planner.kept.take(), visit.get(), &seen);
+                planner.place = Some(visit.leave());
+                planner.front = seen;
                 match opened {
                     Ok(draft) => Ok(Drafting { planner, draft }),
                     Err(_) => Err((planner, SharedFault::NoMemory)),

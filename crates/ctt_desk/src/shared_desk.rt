@@ -2,6 +2,7 @@
 
 ghost use Rattle.std.specs.Prelude.{◌≡◌, ◌≤◌, ◌↔◌, [], length, All, IsTrue, IfOk, IfErr};
 ghost use mathlib.Core.List.{IsPrefix};
+ghost use Rattle.ctt_core.specs.Runs.{Legal};
 ghost use Rattle.ctt_desk.specs.Planners.{new_planners};
 ghost use Rattle.ctt_desk.specs.Faults.{IsWant};
 
@@ -45,7 +46,9 @@ fn planners<S: Timetable, J: Naming>(
         let Some(place) = place(writer) else {
             return Err(SharedFault::NoPlace);
         };
-        let planner = Planner::new(alloc, number, front, place);
+        let Ok(planner) = Planner::new(alloc, number, front, place) else {
+            return Err(SharedFault::NoMemory);
+        };
         if planners.push(planner).is_err() {
             return Err(SharedFault::NoMemory);
         }
@@ -64,6 +67,15 @@ fn begins_with_all<S: Timetable, J: Naming>(planners: &[Planner<S, J>], history:
         }
     }
     true
+}
+
+/// Computes nothing: its contract says that the fronts of planners are legal.
+fn fronts_are_legal<S: Timetable, J: Naming>(planners: &[Planner<S, J>])
+    ensures { All (λ p. Legal J.problem J.opening p.front) planners.now }
+{
+    for planner in planners {
+        planner.seen();
+    }
 }
 
 impl<S: Timetable, J: Naming> SharedDesk<S, J> {
@@ -116,11 +128,13 @@ impl<S: Timetable, J: Naming> SharedDesk<S, J> {
         planners: &mut [Planner<S, J>],
     ) -> Result<Closed<S, J>, Closed<S, J>>
         ensures same { planners.new ≡ planners.old }
+        ensures legal { All (λ p. Legal J.problem J.opening p.front) planners.new }
         ensures ok { IfOk result (λ closed. All (λ p. IsPrefix p.front closed) planners.old) }
         ensures err { IfErr result (λ closed. All (λ p. length p.front ≤ length closed) planners.old → ⊥) }
     {
         let SharedDesk { locked } = self;
         let closed = locked.into_inner().close(rt);
+        fronts_are_legal(planners);
         if begins_with_all(planners, closed.front()) {
             Ok(closed)
         } else {
