@@ -1,6 +1,6 @@
 //! Planners.
 
-ghost use Rattle.std.specs.Prelude.{◌≡◌, ◌+◌, ◌<◌, ◌≤◌, ◌↔◌, [], length, IsTrue, IfOk, IfErr};
+ghost use Rattle.std.specs.Prelude.{◌≡◌, ◌+◌, ◌<◌, ◌≤◌, ◌↔◌, ◌⊎◌, [], length, IsTrue, IfOk, IfErr};
 ghost use mathlib.Core.List.{IsPrefix};
 ghost use Rattle.ctt_edits.specs.Fitting.{IsReply};
 ghost use Rattle.ctt_edits.specs.Looks.{LookFits, shown as shown_of};
@@ -23,8 +23,8 @@ use ctt_text::NoMemory;
 use std::alloc::{AllocError, Global};
 use std::marker::Model;
 
-/// One who drafts. Contracts see the number, how many drafts were committed, and the front: the history
-/// that the planner has seen.
+/// One who drafts. Contracts see the number, how many drafts were committed, and the front: the
+/// history that the planner has seen.
 #[derive(Drop)]
 pub struct Planner<S: Timetable, J: Naming> {
     pub(crate) alloc: Global,
@@ -47,7 +47,8 @@ impl<S: Timetable, J: Naming> Model for Planner<S, J> {
 
     ghost view = { λ p. record { number = p.number; committed = p.committed; front = p.front } };
 
-    ghost invariant = { λ p. (p.number < J.planners) × Legal J.problem J.opening p.front × (p.committed ≤ length (own p.number p.front)) × IsSome p.place };
+    ghost invariant = { λ p. (p.number < J.planners) × Legal J.problem J.opening p.front
+        × (p.committed ≤ length (own p.number p.front)) × IsSome p.place };
 }
 
 impl<S: Timetable, J: Naming> Planner<S, J> {
@@ -113,8 +114,8 @@ impl<S: Timetable, J: Naming> Planner<S, J> {
         planner
     }
 
-    /// The planner with one commit more, which is the last one in his front, and its receipt. He keeps
-    /// a sheet.
+    /// The planner with one commit more, which is the last one in his front, and its receipt. He
+    /// keeps a sheet.
     pub(crate) fn accepted(self, kept: Kept<S, J>) -> (Self, Receipt<J>)
         requires { length (own self.number self.front) ≡ self.committed + 1 }
         ensures planner { result.0 ≡ committed_more self }
@@ -137,6 +138,7 @@ impl<S: Timetable, J: Naming> Planner<S, J> {
     pub fn learn(&mut self, receipt: &Receipt<J>)
         ensures grows { Grows J.problem J.opening self.old self.new }
         ensures receipt { IsPrefix receipt.now self.new.front }
+        ensures one { (self.new.front ≡ self.old.front) ⊎ (self.new.front ≡ receipt.now) }
     {
         self.front = self.front.longer(&receipt.front);
     }
@@ -146,7 +148,8 @@ impl<'i, S: Sheet<'i>, J: Naming> Planner<S, J> {
     /// Opens a draft on the timetable that was published last, which the planner has then seen.
     pub fn open(self) -> Result<Drafting<'i, S, J>, (Self, SharedFault)>
         ensures ok { IfOk result (IsOpen J.problem J.opening self) }
-        ensures err { IfErr result (λ refused. IsUnread J.problem J.opening self refused.0 refused.1) }
+        ensures err { IfErr result (λ refused.
+            IsUnread J.problem J.opening self refused.0 refused.1) }
     {
         let mut planner = self;
         match enter(planner.place.take().unwrap(), &planner.front) {
@@ -179,7 +182,7 @@ impl<'i, S: Sheet<'i>, J: Naming> Planner<S, J> {
                 Err(SharedFault::NoPlace)
             }
             Ok((visit, seen)) => {
-                let told = shown(self.alloc, &visit.get().sheet, look);
+                let told = look_at(self.alloc, &visit.get().sheet, look);
                 self.place = Some(visit.leave());
                 self.front = seen;
                 Ok(told?)
@@ -189,9 +192,10 @@ impl<'i, S: Sheet<'i>, J: Naming> Planner<S, J> {
 }
 
 /// What a look shows of a sheet.
-fn shown<'i, S: Sheet<'i>>(alloc: Global, sheet: &S, look: &Look) -> Result<Reply, NoMemory>
+fn look_at<'i, S: Sheet<'i>>(alloc: Global, sheet: &S, look: &Look) -> Result<Reply, NoMemory>
     requires { LookFits (S.problem sheet.now) look.now }
-    ensures told { IfOk result (λ told. told ≡ shown_of (S.problem sheet.now) (S.list sheet.now) look.now) }
+    ensures told { IfOk result (λ told.
+        told ≡ shown_of (S.problem sheet.now) (S.list sheet.now) look.now) }
     ensures fits { IfOk result (IsReply (S.problem sheet.now)) }
 {
     laws::replies_fit();

@@ -17,6 +17,7 @@ use crate::shared_fault::SharedFault;
 use crate::shown::{Common, Publisher, Shown, place, publisher};
 use crate::update::Update;
 use ctt_board::Timetable;
+use ctt_text::let_go;
 use left_right::Absorb;
 use std::alloc::Global;
 use std::sync::{Mutex, Wait};
@@ -79,8 +80,8 @@ fn fronts_are_legal<S: Timetable, J: Naming>(planners: &[Planner<S, J>])
 }
 
 impl<S: Timetable, J: Naming> SharedDesk<S, J> {
-    /// The desk that opens so, with so many planners, who are numbered from 0 and have committed and seen
-    /// nothing.
+    /// The desk that opens so, with so many planners, who are numbered from 0 and have committed
+    /// and seen nothing.
     pub fn new<R: Wait>(
         rt: &R,
         named: Named<S, J>,
@@ -105,23 +106,24 @@ impl<S: Timetable, J: Naming> SharedDesk<S, J> {
         let counts = no_counts(alloc, count)?;
         let places = usize::from(count).max(1);
         let writer = publisher(rt, alloc, sheet, &front, places, room)?;
-        match planners(alloc, count, &front, &writer) {
+        let made = planners(alloc, count, &front, &writer);
+        let locked = Locked::new(alloc, opening, counts, front, head, writer);
+        match made {
             Ok(planners) => {
-                let locked = Locked::new(alloc, opening, counts, front, head, writer);
                 let desk = SharedDesk {
                     locked: Mutex::new(locked),
                 };
                 Ok((desk, planners))
             }
             Err(fault) => {
-                writer.take(rt);
+                let_go(locked.close(rt));
                 Err(fault)
             }
         }
     }
 
-    /// Ends the desk, and gives its journal with its timetable: as `Ok` where the journal begins with
-    /// the front of each of these planners, who stay as they are.
+    /// Ends the desk, and gives its journal with its timetable: as `Ok` where the journal begins
+    /// with the front of each of these planners, who stay as they are.
     pub fn close<R: Wait>(
         self,
         rt: &R,
@@ -130,7 +132,8 @@ impl<S: Timetable, J: Naming> SharedDesk<S, J> {
         ensures same { planners.new ≡ planners.old }
         ensures legal { All (λ p. Legal J.problem J.opening p.front) planners.new }
         ensures ok { IfOk result (λ closed. All (λ p. IsPrefix p.front closed) planners.old) }
-        ensures err { IfErr result (λ closed. All (λ p. length p.front ≤ length closed) planners.old → ⊥) }
+        ensures err { IfErr result (λ closed.
+            All (λ p. length p.front ≤ length closed) planners.old → ⊥) }
     {
         let SharedDesk { locked } = self;
         let closed = locked.into_inner().close(rt);
