@@ -2,8 +2,15 @@
 
 ghost use Rattle.std.specs.Prelude.{◌≡◌, ◌<◌, false, Some};
 
+use crate::small::small_instance;
 use crate::stopped::Stopped;
-use ctt_script::{Device, Failed, InputFault, Sink, Source, put_all, read_all};
+use ctt_board::GridSheet;
+use ctt_core::Desk;
+use ctt_draft::KeepNone;
+use ctt_script::{
+    Device, Failed, InputFault, ScriptFault, Sink, Source, put_all, put_whole, read_all, run_script,
+};
+use ctt_text::{Instance, let_go};
 use std::alloc::Global;
 use std::io;
 use std::io::{ErrorKind, Read, Write};
@@ -206,10 +213,41 @@ fn writes_a_front_up_to_the_failure(rt: HostRuntime) -> Result<(), Stopped> {
 #[test]
 fn a_flush_can_fail_alone(rt: HostRuntime) -> Result<(), Stopped> {
     let mut shelf = writer_with_room(rt.alloc(), 2, 100);
-    assert!(rt; put_all(&mut shelf, b"all").is_ok() && shelf.flush().is_ok() && !shelf.failed);
+    assert!(rt; put_whole(&mut shelf, b"all").is_ok() && !shelf.failed);
     shelf.flushes = false;
-    assert!(rt; shelf.flush() == Err(Failed));
-    assert_eq!(rt; shelf.held.as_slice(), b"all".as_slice());
+    assert!(rt; put_whole(&mut shelf, b" of it") == Err(Failed) && shelf.failed);
+    assert_eq!(rt; shelf.held.as_slice(), b"all of it".as_slice());
+    Ok(())
+}
+
+/// The fault of a script that is written to a shelf, if it has one.
+fn fault_of_script(alloc: Global, small: &Instance, shelf: &mut Shelf) -> Option<ScriptFault> {
+    let mut script = reader_over(b"0 open\n0 place geo A 0 1\n0 nothing\n0 commit\n", 7);
+    let ran: Result<Desk<GridSheet, KeepNone>, ScriptFault> = run_script(
+        alloc,
+        small,
+        &[],
+        &mut script,
+        shelf,
+        &mut None,
+    );
+    ran.err()
+}
+
+#[test]
+fn a_script_is_not_answered_without_a_flush(rt: HostRuntime) -> Result<(), Stopped> {
+    let small = small_instance(rt.alloc())?;
+    let mut shelf = writer_with_room(rt.alloc(), 3, 100);
+    let mut unflushed = writer_with_room(rt.alloc(), 3, 100);
+    unflushed.flushes = false;
+    let answered = fault_of_script(rt.alloc(), &small, &mut shelf);
+    let failed = fault_of_script(rt.alloc(), &small, &mut unflushed);
+    let_go(small);
+    assert!(rt; answered == None && !shelf.failed);
+    assert!(rt; failed == Some(ScriptFault::Write) && unflushed.failed);
+    let answers = b"opened\ndone\nbad line\ncommitted 1\n".as_slice();
+    assert_eq!(rt; shelf.held.as_slice(), answers);
+    assert_eq!(rt; unflushed.held.as_slice(), answers);
     Ok(())
 }
 
