@@ -1,0 +1,115 @@
+//! Texts that are cut short, and texts that count falsely.
+
+use crate::faults::{of_barred, of_instance, of_journal, of_solution};
+use crate::story::Story;
+use crate::texts::{
+    JOURNAL, MANY_CONSTRAINTS, MANY_MEMBERS, SMALL, SOLUTION, read_lectures, read_text,
+};
+use ctt_script::{JournalFault, read_journal};
+use ctt_text::{BarredFault, Instance, NoMemory, let_go, read_barred};
+use std::alloc::{AllocError, Global};
+
+/// The front of a text that has so many words. Behind each of its words stands one blank.
+fn front(text: &[u8], words: usize) -> &[u8] {
+    let mut ended = 0usize;
+    for end in 0..text.len() {
+        if ended == words {
+            return &text[..end];
+        }
+        if matches!(text[end], b' ' | b'\n') {
+            ended = ended.saturating_add(1);
+        }
+    }
+    text
+}
+
+/// Tells that a text was read, or its fault.
+fn tell(story: &mut Story, fault: Option<(&'static str, u64)>) {
+    story.bytes(b" ");
+    match fault {
+        Some((words, at)) => story.pair(words, at),
+        None => story.bytes(b"read"),
+    }
+}
+
+/// Reads the text of an instance, and tells how that ends.
+fn tell_instance(story: &mut Story, text: &[u8]) {
+    let told = read_text(story, text);
+    match told {
+        Ok(instance) => {
+            tell(story, None);
+            let_go(instance);
+        }
+        Err(fault) => tell(story, Some(of_instance(fault))),
+    }
+}
+
+/// Reads the text of a solution, and tells how that ends.
+fn tell_solution(story: &mut Story, small: &Instance, text: &[u8]) {
+    let told = read_lectures(story, small, text);
+    match told {
+        Ok(_lectures) => tell(story, None),
+        Err(fault) => tell(story, Some(of_solution(fault))),
+    }
+}
+
+/// Reads the text of a journal, and tells how that ends.
+fn tell_journal(story: &mut Story, small: &Instance, text: &[u8]) {
+    let told = again!(
+        story,
+        JournalFault::NoMemory,
+        read_journal(story.alloc(), small, text)
+    );
+    match told {
+        Ok(_entries) => tell(story, None),
+        Err(fault) => tell(story, Some(of_journal(fault))),
+    }
+}
+
+/// The small instance, its solution and a journal, cut behind each of their words.
+fn cut(story: &mut Story, small: &Instance) {
+    story.say("cut");
+    story.bytes(b"instance");
+    for words in 0..=45 {
+        tell_instance(story, front(SMALL.as_bytes(), words));
+    }
+    story.bytes(b"\nsolution");
+    for words in 0..=20 {
+        tell_solution(story, small, front(SOLUTION.as_bytes(), words));
+    }
+    story.bytes(b"\njournal");
+    for words in 0..=14 {
+        tell_journal(story, small, front(JOURNAL.as_bytes(), words));
+    }
+    story.say("");
+}
+
+/// The text of the small instance with a byte behind it that is no text.
+fn spoilt(alloc: Global) -> Result<Vec<u8>, AllocError> {
+    let mut text = Vec::with_capacity(alloc, 512)?;
+    text.extend_from_slice(SMALL.as_bytes())?;
+    text.extend_from_slice(&[255])?;
+    Ok(text)
+}
+
+/// Counts that promise what does not come, and a byte that is no text behind the end.
+fn false_counts(story: &mut Story, small: &Instance) {
+    story.say("counted falsely");
+    story.bytes(b"instance");
+    tell_instance(story, MANY_CONSTRAINTS.as_bytes());
+    tell_instance(story, MANY_MEMBERS.as_bytes());
+    let told = again!(story, AllocError, spoilt(story.alloc()));
+    match told {
+        Ok(text) => tell_instance(story, &text),
+        Err(_) => story.say("no memory"),
+    }
+    story.bytes(b"\njournal");
+    tell_journal(story, small, b"journal 999999999 END.");
+    story.say("");
+}
+
+/// All that is cut, and all that is counted falsely.
+pub(crate) fn play(story: &mut Story, small: &Instance) {
+    cut(story, small);
+    false_counts(story, small);
+}
