@@ -184,8 +184,10 @@ fn tell_failing(
 ) {
     let is_failed = fails_to_write::<GridSheet>(story, small, told, shelf, failing);
     story.count("a failed write", u64::from(is_failed));
-    story.bytes(shelf.held());
     story.count("flushes", shelf.flushes());
+    story.count("bytes", shelf.held().len() as u64);
+    story.bytes(shelf.held());
+    story.say("");
 }
 
 /// A script on devices that fail.
@@ -204,7 +206,6 @@ fn play_failing(story: &mut Story, small: &Instance, told: Told, shelf: &mut She
         answers: b"no draft\n",
     };
     tell_failing(story, small, bad, shelf, Failing::Behind(3));
-    story.say("");
 }
 
 /// Reads a text from a device.

@@ -164,8 +164,8 @@ pub(crate) fn play_lines(
 }
 
 /// Tells what a sheet has of a lecture, in each way in which it can be read.
-fn tell_lecture<'i, S: Sheet<'i>>(story: &mut Story, sheet: &S, lecture: Placed) {
-    if !lecture_fits(sheet, &lecture) {
+fn tell_lecture<'i, S: Sheet<'i>>(story: &mut Story, sheet: &S, lecture: &Placed) {
+    if !lecture_fits(sheet, lecture) {
         return story.say("unfit");
     }
     match sheet.room_at(lecture.course, lecture.slot) {
@@ -199,7 +199,7 @@ fn place<'i, S: Sheet<'i>>(story: &mut Story, sheet: &mut S, edit: &Edit) {
 }
 
 /// Tells what a copy of a sheet has of a lecture.
-fn tell_copy<'i, S: Sheet<'i>>(story: &mut Story, sheet: &S, lecture: Placed) {
+fn tell_copy<'i, S: Sheet<'i>>(story: &mut Story, sheet: &S, lecture: &Placed) {
     match again!(story, NoMemory, sheet.copy()) {
         Ok(copy) => tell_lecture(story, &copy, lecture),
         Err(NoMemory) => story.say("no memory"),
@@ -212,13 +212,10 @@ fn one_placement<'i, S: Sheet<'i>>(story: &mut Story, small: &'i Instance) {
         Ok(mut sheet) => {
             tell_sheet(story, &sheet);
             let geo = geo();
-            place(
-                story,
-                &mut sheet,
-                &Edit::Place(geo.course, geo.slot, geo.room),
-            );
-            tell_lecture(story, &sheet, geo);
-            tell_copy(story, &sheet, geo);
+            let edit = Edit::Place(geo.course, geo.slot, geo.room);
+            place(story, &mut sheet, &edit);
+            tell_lecture(story, &sheet, &geo);
+            tell_copy(story, &sheet, &geo);
         }
         Err(NoMemory) => story.say("no memory"),
     }
