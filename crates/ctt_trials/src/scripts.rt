@@ -14,21 +14,41 @@ use std::alloc::AllocError;
 /// How many bytes an input has at most.
 const LIMIT: usize = 4_096;
 
-/// Runs a script, of which the read with this number fails.
+/// How an input is read.
+#[derive(Drop)]
+struct Reading<'a> {
+    text: &'a [u8],
+    /// The number of the read that fails, counted from 1; none where it is 0.
+    fails_at: u64,
+    /// How many reads were tried.
+    pulls: u64,
+}
+
+impl<'a> Reading<'a> {
+    fn new(text: &'a [u8], fails_at: u64) -> Self {
+        Reading {
+            text,
+            fails_at,
+            pulls: 0,
+        }
+    }
+}
+
+/// Runs a script.
 fn run_once<'i, S: Sheet<'i>>(
     story: &Story,
     small: &'i Instance,
     opening: &[Placed],
-    script: &[u8],
-    fails_at: u64,
+    reading: &mut Reading,
     shelf: &mut Shelf,
-) -> (Result<Desk<'i, S, KeepAll>, ScriptFault>, u64) {
+) -> Result<Desk<'i, S, KeepAll>, ScriptFault> {
     if !lectures_fit(small, opening) {
-        return (Err(ScriptFault::NoMemory), 0);
+        return Err(ScriptFault::NoMemory);
     }
-    let mut reader = Memory::new(script, fails_at);
+    let mut reader = Memory::new(reading.text, reading.fails_at);
     let ran = run_script(story.alloc(), small, opening, &mut reader, shelf, &mut None);
-    (ran, reader.pulls())
+    reading.pulls = reader.pulls();
+    ran
 }
 
 /// Runs a script, and once more where memory is wanted, then on a writer as it was before.
@@ -36,17 +56,16 @@ fn run<'i, S: Sheet<'i>>(
     story: &mut Story,
     small: &'i Instance,
     opening: &[Placed],
-    script: &[u8],
-    fails_at: u64,
+    reading: &mut Reading,
     shelf: &mut Shelf,
     failing: Failing,
-) -> (Result<Desk<'i, S, KeepAll>, ScriptFault>, u64) {
+) -> Result<Desk<'i, S, KeepAll>, ScriptFault> {
     shelf.renew(failing);
-    match run_once(story, small, opening, script, fails_at, shelf) {
-        (Err(ScriptFault::NoMemory), _pulls) => {
+    match run_once(story, small, opening, reading, shelf) {
+        Err(ScriptFault::NoMemory) => {
             story.call_again();
             shelf.renew(failing);
-            run_once(story, small, opening, script, fails_at, shelf)
+            run_once(story, small, opening, reading, shelf)
         }
         ran => ran,
     }
@@ -82,8 +101,15 @@ pub(crate) fn play_script<'i, S: Sheet<'i>>(
     let Ok(mut shelf) = shelf(story) else {
         return story.say("no memory");
     };
-    let script = script.as_bytes();
-    let (ran, _pulls) = run::<S>(story, small, opening, script, 0, &mut shelf, Failing::Never);
+    let mut reading = Reading::new(script.as_bytes(), 0);
+    let ran = run::<S>(
+        story,
+        small,
+        opening,
+        &mut reading,
+        &mut shelf,
+        Failing::Never,
+    );
     story.bytes(shelf.held());
     match ran {
         Ok(desk) => {
@@ -109,7 +135,8 @@ fn fails_to_write<'i, S: Sheet<'i>>(
     shelf: &mut Shelf,
     failing: Failing,
 ) -> bool {
-    let (ran, _pulls) = run::<S>(story, small, &[], told.script, 0, shelf, failing);
+    let mut reading = Reading::new(told.script, 0);
+    let ran = run::<S>(story, small, &[], &mut reading, shelf, failing);
     match ran {
         Ok(desk) => {
             let_go(desk);
@@ -128,21 +155,14 @@ fn fails_to_read<'i, S: Sheet<'i>>(
     shelf: &mut Shelf,
     fails_at: u64,
 ) -> bool {
-    let (ran, pulls) = run::<S>(
-        story,
-        small,
-        &[],
-        told.script,
-        fails_at,
-        shelf,
-        Failing::Never,
-    );
+    let mut reading = Reading::new(told.script, fails_at);
+    let ran = run::<S>(story, small, &[], &mut reading, shelf, Failing::Never);
     match ran {
         Ok(desk) => {
             let_go(desk);
             false
         }
-        Err(fault) => fault == ScriptFault::Read && pulls == fails_at,
+        Err(fault) => fault == ScriptFault::Read && reading.pulls == fails_at,
     }
 }
 
@@ -208,22 +228,21 @@ fn play_failing(story: &mut Story, small: &Instance, told: Told, shelf: &mut She
     tell_failing(story, small, bad, shelf, Failing::Behind(3));
 }
 
+/// Reads a text from a device once.
+fn read_once(story: &Story, reading: &mut Reading, limit: usize) -> Result<Vec<u8>, InputFault> {
+    let mut reader = Memory::new(reading.text, reading.fails_at);
+    let told = read_all(story.alloc(), &mut reader, limit);
+    reading.pulls = reader.pulls();
+    told
+}
+
 /// Reads a text from a device.
-fn read(
-    story: &mut Story,
-    text: &[u8],
-    fails_at: u64,
-    limit: usize,
-) -> (Result<Vec<u8>, InputFault>, u64) {
-    let mut reader = Memory::new(text, fails_at);
-    let told = read_all(story.alloc(), &mut reader, limit);
-    if !matches!(told, Err(InputFault::NoMemory)) {
-        return (told, reader.pulls());
-    }
-    story.call_again();
-    let mut reader = Memory::new(text, fails_at);
-    let told = read_all(story.alloc(), &mut reader, limit);
-    (told, reader.pulls())
+fn read(story: &mut Story, reading: &mut Reading, limit: usize) -> Result<Vec<u8>, InputFault> {
+    again!(
+        story,
+        InputFault::NoMemory,
+        read_once(story, reading, limit)
+    )
 }
 
 /// Behind how many bytes a reader of a text may fail so that this is a failed read, and no other one was tried.
@@ -231,8 +250,9 @@ fn failing_reads_of(story: &mut Story, text: &[u8]) -> u64 {
     let mut failed = 0u64;
     for behind in 0..=text.len() as u64 {
         let fails_at = behind.saturating_add(1);
-        let (told, pulls) = read(story, text, fails_at, LIMIT);
-        if matches!(told, Err(InputFault::Read)) && pulls == fails_at {
+        let mut reading = Reading::new(text, fails_at);
+        let told = read(story, &mut reading, LIMIT);
+        if matches!(told, Err(InputFault::Read)) && reading.pulls == fails_at {
             failed = failed.saturating_add(1);
         }
     }
@@ -256,13 +276,14 @@ fn failing_writes_of(text: &[u8], shelf: &mut Shelf) -> u64 {
 
 /// Tells how a text is read that may have four bytes.
 fn tell_limited(story: &mut Story, text: &[u8]) {
-    match read(story, text, 0, 4) {
-        (Ok(bytes), _pulls) => {
+    let mut reading = Reading::new(text, 0);
+    match read(story, &mut reading, 4) {
+        Ok(bytes) => {
             story.bytes(&bytes);
             story.say("");
         }
-        (Err(InputFault::TooLong), _pulls) => story.say("too long"),
-        (Err(_), _pulls) => story.say("not read"),
+        Err(InputFault::TooLong) => story.say("too long"),
+        Err(InputFault::Read) | Err(InputFault::NoMemory) => story.say("not read"),
     }
 }
 

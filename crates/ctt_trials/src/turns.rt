@@ -212,4 +212,3 @@ pub(crate) fn instance_found<'i, S: Sheet<'i>, J: Naming>(
         }
     }
 }
-
