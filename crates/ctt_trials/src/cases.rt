@@ -158,33 +158,66 @@ pub(crate) fn play_desk<R: Wait>(
 ) {
     story.say(name);
     let answers = story.len();
-    let end = step::<ListSheet>(story, small, opening, lines);
+    let mut end = step::<ListSheet>(story, small, opening, lines);
+    if story.takes_back(answers) {
+        end = step::<ListSheet>(story, small, opening, lines);
+    }
     let all = story.len();
-    step::<GridSheet>(story, small, opening, lines);
-    story.compare(answers, all, all, "on the grid sheet");
-    let here = story.len();
-    run::<ListSheet>(story, small, opening, lines);
-    story.compare(answers, all, here, "at once");
-    let here = story.len();
-    run::<GridSheet>(story, small, opening, lines);
-    story.compare(answers, all, here, "at once on the grid sheet");
-    let here = story.len();
-    play_script::<ListSheet>(story, small, opening, lines);
-    story.compare(answers, all, here, "as a script");
-    let here = story.len();
-    play_script::<GridSheet>(story, small, opening, lines);
-    story.compare(answers, all, here, "as a script on the grid sheet");
     let before = Before { answers, end, all };
+    play_more(story, small, opening, lines, before);
     shared::play(story, rt, small, Script { opening, lines }, before);
+}
+
+/// Plays a script in all the other ways that need no shared desk.
+fn play_more(story: &mut Story, small: &Instance, opening: &[Placed], lines: &str, before: Before) {
+    let here = story.len();
+    played!(story, by_step(story, small, opening, lines));
+    story.compare(before.answers, before.all, here, "on the grid sheet");
+    let here = story.len();
+    played!(story, run::<ListSheet>(story, small, opening, lines));
+    story.compare(before.answers, before.all, here, "at once");
+    let here = story.len();
+    played!(story, run::<GridSheet>(story, small, opening, lines));
+    story.compare(
+        before.answers,
+        before.all,
+        here,
+        "at once on the grid sheet",
+    );
+    let here = story.len();
+    played!(
+        story,
+        play_script::<ListSheet>(story, small, opening, lines)
+    );
+    story.compare(before.answers, before.all, here, "as a script");
+    let here = story.len();
+    played!(
+        story,
+        play_script::<GridSheet>(story, small, opening, lines)
+    );
+    story.compare(
+        before.answers,
+        before.all,
+        here,
+        "as a script on the grid sheet",
+    );
+}
+
+/// Plays a script by step on the grid sheet.
+pub(crate) fn by_step(story: &mut Story, small: &Instance, opening: &[Placed], lines: &str) {
+    let _end = step::<GridSheet>(story, small, opening, lines);
 }
 
 /// Lines that are no events, beside one that is.
 fn play_bad_lines(story: &mut Story, small: &Instance) {
     story.say("bad lines");
     let from = story.len();
-    let _end = step::<GridSheet>(story, small, &[], BAD_LINES);
+    played!(story, by_step(story, small, &[], BAD_LINES));
     let to = story.len();
-    play_script::<GridSheet>(story, small, &[], BAD_LINES);
+    played!(
+        story,
+        play_script::<GridSheet>(story, small, &[], BAD_LINES)
+    );
     story.compare(from, to, to, "as a script");
 }
 

@@ -26,7 +26,7 @@ fn write_once<R: Threads + Wait + Sync>(
     Ok(text)
 }
 
-/// A crew that follows one script, and once more where memory, a place or a thread was wanted.
+/// A crew that follows one script. A place or a thread that is refused is told as want of memory.
 pub(crate) fn play<R: Threads + Wait + Sync>(
     story: &mut Story,
     rt: &R,
@@ -35,9 +35,8 @@ pub(crate) fn play<R: Threads + Wait + Sync>(
     script: &str,
 ) {
     story.say(name);
-    let told = again!(story, _, write_once(story, rt, small, script));
-    match told {
+    match write_once(story, rt, small, script) {
         Ok(text) => story.bytes(&text),
-        Err(_fault) => story.say("no crew"),
+        Err(_fault) => story.no_memory(),
     }
 }

@@ -1,12 +1,10 @@
 //! Texts that are cut short, and texts that count falsely.
 
-use crate::faults::{of_barred, of_instance, of_journal, of_solution};
+use crate::faults::{of_instance, of_journal, of_solution};
 use crate::story::Story;
-use crate::texts::{
-    JOURNAL, MANY_CONSTRAINTS, MANY_MEMBERS, SMALL, SOLUTION, read_lectures, read_text,
-};
-use ctt_script::{JournalFault, read_journal};
-use ctt_text::{BarredFault, Instance, NoMemory, let_go, read_barred};
+use crate::texts::{JOURNAL, MANY_CONSTRAINTS, MANY_MEMBERS, SMALL, SOLUTION};
+use ctt_script::read_journal;
+use ctt_text::{Instance, read_instance, read_solution};
 use std::alloc::{AllocError, Global};
 
 /// The front of a text that has so many words. Behind each of its words stands one blank.
@@ -24,46 +22,30 @@ fn front(text: &[u8], words: usize) -> &[u8] {
 }
 
 /// Tells that a text was read, or its fault.
-fn tell(story: &mut Story, fault: Option<(&'static str, u64)>) {
+fn tell(story: &mut Story, fault: Option<Option<(&'static str, u64)>>) {
     story.bytes(b" ");
     match fault {
-        Some((words, at)) => story.pair(words, at),
+        Some(fault) => story.fault(fault),
         None => story.bytes(b"read"),
     }
 }
 
 /// Reads the text of an instance, and tells how that ends.
 fn tell_instance(story: &mut Story, text: &[u8]) {
-    let told = read_text(story, text);
-    match told {
-        Ok(instance) => {
-            tell(story, None);
-            let_go(instance);
-        }
-        Err(fault) => tell(story, Some(of_instance(fault))),
-    }
+    let fault = read_instance(story.alloc(), text).err();
+    tell(story, fault.map(of_instance));
 }
 
 /// Reads the text of a solution, and tells how that ends.
 fn tell_solution(story: &mut Story, small: &Instance, text: &[u8]) {
-    let told = read_lectures(story, small, text);
-    match told {
-        Ok(_lectures) => tell(story, None),
-        Err(fault) => tell(story, Some(of_solution(fault))),
-    }
+    let fault = read_solution(story.alloc(), small, text).err();
+    tell(story, fault.map(of_solution));
 }
 
 /// Reads the text of a journal, and tells how that ends.
 fn tell_journal(story: &mut Story, small: &Instance, text: &[u8]) {
-    let told = again!(
-        story,
-        JournalFault::NoMemory,
-        read_journal(story.alloc(), small, text)
-    );
-    match told {
-        Ok(_entries) => tell(story, None),
-        Err(fault) => tell(story, Some(of_journal(fault))),
-    }
+    let fault = read_journal(story.alloc(), small, text).err();
+    tell(story, fault.map(of_journal));
 }
 
 /// The small instance, its solution and a journal, cut behind each of their words.
@@ -98,10 +80,9 @@ fn false_counts(story: &mut Story, small: &Instance) {
     story.bytes(b"instance");
     tell_instance(story, MANY_CONSTRAINTS.as_bytes());
     tell_instance(story, MANY_MEMBERS.as_bytes());
-    let told = again!(story, AllocError, spoilt(story.alloc()));
-    match told {
+    match spoilt(story.alloc()) {
         Ok(text) => tell_instance(story, &text),
-        Err(_) => story.say("no memory"),
+        Err(AllocError) => story.no_memory(),
     }
     story.bytes(b"\njournal");
     tell_journal(story, small, b"journal 999999999 END.");
@@ -110,6 +91,6 @@ fn false_counts(story: &mut Story, small: &Instance) {
 
 /// All that is cut, and all that is counted falsely.
 pub(crate) fn play(story: &mut Story, small: &Instance) {
-    cut(story, small);
-    false_counts(story, small);
+    played!(story, cut(story, small));
+    played!(story, false_counts(story, small));
 }

@@ -15,9 +15,9 @@ use ctt_board::Sheet;
 use ctt_core::{Answer, Desk, DeskFault, Event, JournalEntry, Verdict, audit};
 use ctt_draft::KeepAll;
 use ctt_edits::Reply;
-use ctt_script::{JournalFault, Lines, PLANNERS, read_journal, read_line, write_journal};
+use ctt_script::{Lines, PLANNERS, read_journal, read_line, write_journal};
 use ctt_text::{Instance, NoMemory, Placed, let_go};
-use std::alloc::AllocError;
+use std::alloc::{AllocError, Global};
 
 /// How many events a script has at most.
 const EVENTS: usize = 64;
@@ -54,22 +54,6 @@ fn entries_fit(small: &Instance, entries: &[JournalEntry]) -> bool
     entries.iter().all(|entry| entry.fits(small))
 }
 
-/// The text of a journal, if it can be written.
-fn text_of(
-    story: &mut Story,
-    small: &Instance,
-    entries: &[JournalEntry],
-) -> Result<Vec<u8>, NoMemory> {
-    if !entries_fit(small, entries) || !are_short(entries) || entries.len() > 999_999_999 {
-        return Err(NoMemory);
-    }
-    again!(
-        story,
-        NoMemory,
-        write_journal(story.alloc(), small, entries)
-    )
-}
-
 /// Tells what is found of entries.
 fn tell_verdict<'i, S: Sheet<'i>>(
     story: &mut Story,
@@ -80,23 +64,14 @@ fn tell_verdict<'i, S: Sheet<'i>>(
     if !lectures_fit(small, opening) || !entries_fit(small, entries) {
         return story.say("unfit");
     }
-    let told = again!(
-        story,
-        NoMemory,
-        audit::<S>(story.alloc(), small, opening, entries)
-    );
-    match told {
+    match audit::<S>(story.alloc(), small, opening, entries) {
         Ok(Verdict::Agrees) => story.say("agrees"),
         Ok(Verdict::Differs(entry, call)) => {
             story.pair("differs", entry);
             story.count("", call);
         }
-        Ok(Verdict::BadOpening(at, fault)) => {
-            story.pair("opening", at);
-            story.bytes(b" ");
-            story.refused(small, fault);
-        }
-        Err(NoMemory) => story.say("no memory"),
+        Ok(Verdict::BadOpening(at, fault)) => story.unlawful(small, at, fault),
+        Err(NoMemory) => story.no_memory(),
     }
 }
 
@@ -107,17 +82,9 @@ pub(crate) fn audit_text<'i, S: Sheet<'i>>(
     opening: &[Placed],
     text: &[u8],
 ) {
-    let told = again!(
-        story,
-        JournalFault::NoMemory,
-        read_journal(story.alloc(), small, text)
-    );
-    match told {
+    match read_journal(story.alloc(), small, text) {
         Ok(entries) => tell_verdict::<S>(story, small, opening, &entries),
-        Err(fault) => {
-            let (words, at) = of_journal(fault);
-            story.count(words, at);
-        }
+        Err(fault) => story.fault(of_journal(fault)),
     }
 }
 
@@ -128,12 +95,15 @@ pub(crate) fn tell_journal<'i, S: Sheet<'i>>(
     opening: &[Placed],
     entries: &[JournalEntry],
 ) {
-    match text_of(story, small, entries) {
+    if !entries_fit(small, entries) || !are_short(entries) || entries.len() > 999_999_999 {
+        return story.say("unfit");
+    }
+    match write_journal(story.alloc(), small, entries) {
         Ok(text) => {
             story.bytes(&text);
             audit_text::<S>(story, small, opening, &text);
         }
-        Err(NoMemory) => story.say("no memory"),
+        Err(NoMemory) => story.no_memory(),
     }
 }
 
@@ -144,8 +114,7 @@ pub(crate) fn tell_desk<'i, S: Sheet<'i>>(
     opening: &[Placed],
     desk: &Desk<'i, S, KeepAll>,
 ) {
-    let list = again!(story, NoMemory, desk.list());
-    story.lectures(small, list);
+    story.lectures(small, desk.list());
     story.costs(small, desk.cost());
     tell_journal::<S>(story, small, opening, desk.journal());
 }
@@ -159,17 +128,14 @@ fn desk_with<'i, S: Sheet<'i>>(
     if !lectures_fit(small, opening) {
         return None;
     }
-    match again!(
-        story,
-        DeskFault::NoMemory,
-        Desk::new(story.alloc(), small, opening, PLANNERS)
-    ) {
+    match Desk::new(story.alloc(), small, opening, PLANNERS) {
         Ok(desk) => Some(desk),
-        Err(DeskFault::NoMemory) => None,
+        Err(DeskFault::NoMemory) => {
+            story.no_memory();
+            None
+        }
         Err(DeskFault::Unlawful(at, fault)) => {
-            story.pair("opening", at);
-            story.bytes(b" ");
-            story.refused(small, fault);
+            story.unlawful(small, at, fault);
             None
         }
     }
@@ -241,8 +207,8 @@ pub(crate) fn step<'i, S: Sheet<'i>>(
 }
 
 /// The events of a script, with none for a bad line.
-fn events_of(story: &mut Story, small: &Instance, script: &str) -> Result<Vec<Event>, AllocError> {
-    let mut events = again!(story, AllocError, Vec::with_capacity(story.alloc(), EVENTS))?;
+fn events_of(alloc: Global, small: &Instance, script: &str) -> Result<Vec<Event>, AllocError> {
+    let mut events = Vec::with_capacity(alloc, EVENTS)?;
     for line in Lines::new(script.as_bytes()) {
         if let Some(event) = read_line(small, line) {
             if events.push(event).is_err() {
@@ -282,43 +248,27 @@ fn is_wanting(answers: &[Answer]) -> bool {
         .any(|answer| matches!(answer, Answer::NoMemory))
 }
 
-/// Plays events at once, and tells the answers, unless one of them is want of memory.
-fn run_events<'i, S: Sheet<'i>>(
-    story: &mut Story,
-    small: &'i Instance,
-    opening: &[Placed],
-    events: &[Event],
-) -> bool {
-    let Some(mut desk) = desk_with::<S>(story, small, opening) else {
-        return true;
-    };
-    let is_played = match answers(story, &mut desk, events) {
-        Ok(answers) if !is_wanting(&answers) => {
-            for answer in &answers {
-                story.answer(small, answer);
-            }
-            tell_desk(story, small, opening, &desk);
-            true
-        }
-        _ => false,
-    };
-    let_go(desk);
-    is_played
-}
-
-/// Plays a script at once. Where an event wanted memory, the events behind it met another desk than they should: all are
-/// played again, on a new desk.
+/// Plays a script at once. Where an event wanted memory, the events behind it met another desk than they should.
 pub(crate) fn run<'i, S: Sheet<'i>>(
     story: &mut Story,
     small: &'i Instance,
     opening: &[Placed],
     script: &str,
 ) {
-    let Ok(events) = events_of(story, small, script) else {
-        return story.say("no memory");
+    let Ok(events) = events_of(story.alloc(), small, script) else {
+        return story.no_memory();
     };
-    if !run_events::<S>(story, small, opening, &events) {
-        story.call_again();
-        let _is_played = run_events::<S>(story, small, opening, &events);
+    let Some(mut desk) = desk_with::<S>(story, small, opening) else {
+        return;
+    };
+    match answers(story, &mut desk, &events) {
+        Ok(answers) if !is_wanting(&answers) => {
+            for answer in &answers {
+                story.answer(small, answer);
+            }
+            tell_desk(story, small, opening, &desk);
+        }
+        _ => story.no_memory(),
     }
+    let_go(desk);
 }

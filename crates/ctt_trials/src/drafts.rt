@@ -21,10 +21,10 @@ fn top() -> Cell {
 }
 
 /// Opens a draft on a sheet.
-fn open<'i, S: Sheet<'i>>(story: &mut Story, sheet: &S) -> Result<Draft<'i, S, KeepAll>, NoMemory>
+fn open<'i, S: Sheet<'i>>(story: &Story, sheet: &S) -> Result<Draft<'i, S, KeepAll>, NoMemory>
     ensures { IfOk result (λ draft. draft.problem ≡ S.problem sheet.now) }
 {
-    again!(story, NoMemory, Draft::open(story.alloc(), sheet))
+    Draft::open(story.alloc(), sheet)
 }
 
 /// Whether a call has numbers of a draft's instance.
@@ -62,7 +62,7 @@ fn ask_line<'i, S: Sheet<'i>>(story: &mut Story, draft: &mut Draft<'i, S, KeepAl
     match call_of(small, line) {
         Some(call) => match ask(story, draft, call) {
             Some(reply) => story.answer(small, &Answer::Replied(reply)),
-            None => story.say("no memory"),
+            None => story.no_memory(),
         },
         None => story.say("bad line"),
     }
@@ -72,21 +72,21 @@ fn ask_line<'i, S: Sheet<'i>>(story: &mut Story, draft: &mut Draft<'i, S, KeepAl
 fn tell_stale<'i, S: Sheet<'i>>(story: &mut Story, draft: &Draft<'i, S, KeepAll>, sheet: &S)
     requires { S.problem sheet.now ≡ draft.now.problem }
 {
-    match again!(story, NoMemory, draft.stale(sheet)) {
+    match draft.stale(sheet) {
         Ok(Some(row)) => story.answer(sheet.instance(), &Answer::Stale(row)),
         Ok(None) => story.say("not stale"),
-        Err(NoMemory) => story.say("no memory"),
+        Err(NoMemory) => story.no_memory(),
     }
 }
 
 /// Makes the changes of a draft again on a copy of a sheet.
 fn tell_replayed<'i, S: Sheet<'i>>(story: &mut Story, draft: &Draft<'i, S, KeepAll>, sheet: &S) {
-    match again!(story, NoMemory, sheet.copy()) {
+    match sheet.copy() {
         Ok(mut copy) => {
             story.count("replayed", u64::from(replay(draft.changes(), &mut copy)));
             tell_sheet(story, &copy);
         }
-        Err(NoMemory) => story.say("no memory"),
+        Err(NoMemory) => story.no_memory(),
     }
 }
 
@@ -118,7 +118,7 @@ fn one_draft<'i, S: Sheet<'i>>(story: &mut Story, sheet: &mut S, other: &S)
     requires { S.problem other.now ≡ S.problem sheet.old }
 {
     let Ok(mut draft) = open(story, sheet) else {
-        return story.say("no memory");
+        return story.no_memory();
     };
     ask_line(story, &mut draft, "slot 0 2");
     ask_line(story, &mut draft, "place geo A 0 1");
@@ -132,7 +132,7 @@ fn one_draft<'i, S: Sheet<'i>>(story: &mut Story, sheet: &mut S, other: &S)
 /// A draft of a thousand calls, which places geo and drops it again by turns.
 fn long_draft<'i, S: Sheet<'i>>(story: &mut Story, sheet: &mut S) {
     let Ok(mut draft) = open(story, sheet) else {
-        return story.say("no memory");
+        return story.no_memory();
     };
     let mut done = 0u64;
     for turn in 0..1000u64 {
@@ -159,7 +159,7 @@ fn play_on<'i, S: Sheet<'i>>(story: &mut Story, small: &'i Instance) {
         empty_sheet::<S>(story, small),
         empty_sheet::<S>(story, small),
     ) else {
-        return story.say("no memory");
+        return story.no_memory();
     };
     if let Some(change) = Change::of(&[top()]) {
         let _is_made = replay(&[change], &mut other);
@@ -171,7 +171,7 @@ fn play_on<'i, S: Sheet<'i>>(story: &mut Story, small: &'i Instance) {
 fn play_long_on<'i, S: Sheet<'i>>(story: &mut Story, small: &'i Instance) {
     match empty_sheet::<S>(story, small) {
         Ok(mut sheet) => long_draft(story, &mut sheet),
-        Err(NoMemory) => story.say("no memory"),
+        Err(NoMemory) => story.no_memory(),
     }
 }
 
@@ -179,14 +179,14 @@ fn play_long_on<'i, S: Sheet<'i>>(story: &mut Story, small: &'i Instance) {
 pub(crate) fn play(story: &mut Story, small: &Instance) {
     story.say("drafts");
     let from = story.len();
-    play_on::<ListSheet>(story, small);
+    played!(story, play_on::<ListSheet>(story, small));
     let to = story.len();
-    play_on::<GridSheet>(story, small);
+    played!(story, play_on::<GridSheet>(story, small));
     story.compare(from, to, to, "on the grid sheet");
     story.say("a draft of a thousand calls");
     let from = story.len();
-    play_long_on::<ListSheet>(story, small);
+    played!(story, play_long_on::<ListSheet>(story, small));
     let to = story.len();
-    play_long_on::<GridSheet>(story, small);
+    played!(story, play_long_on::<GridSheet>(story, small));
     story.compare(from, to, to, "on the grid sheet");
 }

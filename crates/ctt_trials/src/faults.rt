@@ -1,59 +1,59 @@
-//! Faults of texts in words, each with its place.
+//! Faults of texts in words, each with its place; none is want of memory.
 
 use ctt_script::JournalFault;
 use ctt_text::{BarredFault, ReadFault, SolutionFault};
 
 /// A fault of an instance.
-pub(crate) fn of_instance(fault: ReadFault) -> (&'static str, u64) {
+pub(crate) fn of_instance(fault: ReadFault) -> Option<(&'static str, u64)> {
     match fault {
-        ReadFault::NotText(at) => ("not text", at),
-        ReadFault::Missing(at) => ("missing", at),
-        ReadFault::Expected(at) => ("expected", at),
-        ReadFault::BadNumber(at) => ("bad number", at),
-        ReadFault::TooLarge(at) => ("too large", at),
-        ReadFault::RepeatedName(at) => ("repeated name", at),
-        ReadFault::UnknownCourse(at) => ("unknown course", at),
-        ReadFault::DayOut(at) => ("day out", at),
-        ReadFault::PeriodOut(at) => ("period out", at),
-        ReadFault::NoMemory => ("no memory", 0),
+        ReadFault::NotText(at) => Some(("not text", at)),
+        ReadFault::Missing(at) => Some(("missing", at)),
+        ReadFault::Expected(at) => Some(("expected", at)),
+        ReadFault::BadNumber(at) => Some(("bad number", at)),
+        ReadFault::TooLarge(at) => Some(("too large", at)),
+        ReadFault::RepeatedName(at) => Some(("repeated name", at)),
+        ReadFault::UnknownCourse(at) => Some(("unknown course", at)),
+        ReadFault::DayOut(at) => Some(("day out", at)),
+        ReadFault::PeriodOut(at) => Some(("period out", at)),
+        ReadFault::NoMemory => None,
     }
 }
 
 /// A fault of a solution.
-pub(crate) fn of_solution(fault: SolutionFault) -> (&'static str, u64) {
+pub(crate) fn of_solution(fault: SolutionFault) -> Option<(&'static str, u64)> {
     match fault {
-        SolutionFault::NotText(at) => ("not text", at),
-        SolutionFault::Cut(at) => ("cut", at),
-        SolutionFault::UnknownCourse(at) => ("unknown course", at),
-        SolutionFault::UnknownRoom(at) => ("unknown room", at),
-        SolutionFault::BadNumber(at) => ("bad number", at),
-        SolutionFault::DayOut(at) => ("day out", at),
-        SolutionFault::PeriodOut(at) => ("period out", at),
-        SolutionFault::Repeated(at) => ("repeated", at),
-        SolutionFault::NoMemory => ("no memory", 0),
+        SolutionFault::NotText(at) => Some(("not text", at)),
+        SolutionFault::Cut(at) => Some(("cut", at)),
+        SolutionFault::UnknownCourse(at) => Some(("unknown course", at)),
+        SolutionFault::UnknownRoom(at) => Some(("unknown room", at)),
+        SolutionFault::BadNumber(at) => Some(("bad number", at)),
+        SolutionFault::DayOut(at) => Some(("day out", at)),
+        SolutionFault::PeriodOut(at) => Some(("period out", at)),
+        SolutionFault::Repeated(at) => Some(("repeated", at)),
+        SolutionFault::NoMemory => None,
     }
 }
 
 /// A fault of a journal.
-pub(crate) fn of_journal(fault: JournalFault) -> (&'static str, u64) {
+pub(crate) fn of_journal(fault: JournalFault) -> Option<(&'static str, u64)> {
     match fault {
-        JournalFault::NotText(at) => ("not text", at),
-        JournalFault::Missing(at) => ("missing", at),
-        JournalFault::BadWord(at) => ("bad word", at),
-        JournalFault::NoMemory => ("no memory", 0),
+        JournalFault::NotText(at) => Some(("not text", at)),
+        JournalFault::Missing(at) => Some(("missing", at)),
+        JournalFault::BadWord(at) => Some(("bad word", at)),
+        JournalFault::NoMemory => None,
     }
 }
 
 /// A fault of a file of barred rooms.
-pub(crate) fn of_barred(fault: BarredFault) -> (&'static str, u64) {
+pub(crate) fn of_barred(fault: BarredFault) -> Option<(&'static str, u64)> {
     match fault {
-        BarredFault::NotText(at) => ("not text", at),
-        BarredFault::Missing(at) => ("missing", at),
-        BarredFault::Expected(at) => ("expected", at),
-        BarredFault::BadNumber(at) => ("bad number", at),
-        BarredFault::TooLarge(at) => ("too large", at),
-        BarredFault::UnknownCourse(at) => ("unknown course", at),
-        BarredFault::UnknownRoom(at) => ("unknown room", at),
-        BarredFault::NoMemory => ("no memory", 0),
+        BarredFault::NotText(at) => Some(("not text", at)),
+        BarredFault::Missing(at) => Some(("missing", at)),
+        BarredFault::Expected(at) => Some(("expected", at)),
+        BarredFault::BadNumber(at) => Some(("bad number", at)),
+        BarredFault::TooLarge(at) => Some(("too large", at)),
+        BarredFault::UnknownCourse(at) => Some(("unknown course", at)),
+        BarredFault::UnknownRoom(at) => Some(("unknown room", at)),
+        BarredFault::NoMemory => None,
     }
 }

@@ -3,17 +3,15 @@
 //! memory is refused.
 #![tactic(auto)]
 
-/// What a call answers. Where it wants memory it is made again.
-macro_rules! again {
-    ($story:expr, $want:pat, $call:expr) => {
-        match $call {
-            Err($want) => {
-                $story.call_again();
-                $call
-            }
-            told => told,
+/// Plays a case, and once more where a call of it wanted memory.
+macro_rules! played {
+    ($story:expr, $case:expr) => {{
+        let from = $story.len();
+        $case;
+        if $story.takes_back(from) {
+            $case;
         }
-    };
+    }};
 }
 
 mod barred;
@@ -36,7 +34,7 @@ mod turns;
 use cases::{PHANTOM, PHANTOM_ANSWERS};
 use ctt_board::GridSheet;
 use ctt_script::Device;
-use ctt_text::{Instance, Placed, let_go};
+use ctt_text::{Instance, Placed, let_go, read_instance, read_solution};
 use scripts::Told;
 use std::alloc::Global;
 use std::marker::Sync;
@@ -44,7 +42,7 @@ use std::process::ExitCode;
 use std::sync::Wait;
 use std::thread::Threads;
 use story::Story;
-use texts::{CLASH, JOURNAL, SMALL, SOLUTION, WITHOUT_TOP, read_lectures, read_text};
+use texts::{CLASH, JOURNAL, SMALL, SOLUTION, WITHOUT_TOP};
 
 /// The report on the solution.
 const REPORT: &str = "instance Small
@@ -79,20 +77,29 @@ costs 0 15 2 0
 /// Lectures of which the second one clashes, as the opening of a desk.
 fn play_unlawful(story: &mut Story, small: &Instance) {
     story.say("an unlawful opening");
-    let lectures = read_lectures(story, small, CLASH.as_bytes());
-    if let Ok(lectures) = lectures {
-        let _end = desks::step::<GridSheet>(story, small, &lectures, PHANTOM);
-        shared::tell_unlawful(story, small, &lectures);
-        desks::audit_text::<GridSheet>(story, small, &lectures, JOURNAL.as_bytes());
-        scripts::play_script::<GridSheet>(story, small, &lectures, PHANTOM);
-    }
+    let Ok(lectures) = read_solution(story.alloc(), small, CLASH.as_bytes()) else {
+        return story.no_memory();
+    };
+    played!(story, cases::by_step(story, small, &lectures, PHANTOM));
+    played!(story, shared::tell_unlawful(story, small, &lectures));
+    played!(
+        story,
+        desks::audit_text::<GridSheet>(story, small, &lectures, JOURNAL.as_bytes())
+    );
+    played!(
+        story,
+        scripts::play_script::<GridSheet>(story, small, &lectures, PHANTOM)
+    );
 }
 
 /// A journal with a reply that was not the one that was told.
 fn play_other_journal(story: &mut Story, small: &Instance, without_top: &[Placed]) {
     story.say("another reply");
     let other = b"journal 1 entry 0 1 place top A 0 1 done END.";
-    desks::audit_text::<GridSheet>(story, small, without_top, other);
+    played!(
+        story,
+        desks::audit_text::<GridSheet>(story, small, without_top, other)
+    );
 }
 
 /// All devices that fail.
@@ -101,17 +108,19 @@ fn play_devices(story: &mut Story, small: &Instance) {
         script: PHANTOM.as_bytes(),
         answers: PHANTOM_ANSWERS.as_bytes(),
     };
-    scripts::play_devices(story, small, phantom);
-    scripts::play_texts(
-        story,
-        &[
-            SMALL.as_bytes(),
-            SOLUTION.as_bytes(),
-            JOURNAL.as_bytes(),
-            CREW.as_bytes(),
-        ],
-        &[REPORT.as_bytes(), b"differs 1 1\n", CREW_ANSWERS.as_bytes()],
-    );
+    played!(story, scripts::play_devices(story, small, phantom));
+    let read = [
+        SMALL.as_bytes(),
+        SOLUTION.as_bytes(),
+        JOURNAL.as_bytes(),
+        CREW.as_bytes(),
+    ];
+    let written = [
+        REPORT.as_bytes(),
+        b"differs 1 1\n".as_slice(),
+        CREW_ANSWERS.as_bytes(),
+    ];
+    played!(story, scripts::play_texts(story, &read, &written));
 }
 
 /// All that is played with a solution, and with the same without top.
@@ -123,8 +132,8 @@ fn play_lectures<R: Wait>(
     without_top: &[Placed],
 ) {
     story.say("reports");
-    reports::play_reports(story, small, solution);
-    reports::play_written(story, small, solution);
+    played!(story, reports::play_reports(story, small, solution));
+    played!(story, reports::play_written(story, small, solution));
     cases::play_sheets(story, small, solution, without_top);
     sheets::play_placement(story, small);
     sheets::play_accepted(story, small, solution);
@@ -136,37 +145,39 @@ fn play_lectures<R: Wait>(
 
 /// All that is played on the small instance.
 fn play_small<R: Threads + Wait + Sync>(story: &mut Story, rt: &R, small: &Instance) {
-    let solution = read_lectures(story, small, SOLUTION.as_bytes());
-    let without_top = read_lectures(story, small, WITHOUT_TOP.as_bytes());
-    match (solution, without_top) {
-        (Ok(solution), Ok(without_top)) => {
-            play_lectures(story, rt, small, &solution, &without_top);
-        }
-        _ => story.say("no solution"),
-    }
-    play_unlawful(story, small);
-    crews::play(story, rt, small, "a crew of one", CREW);
-    crews::play(
+    let (Ok(solution), Ok(without_top)) = (
+        read_solution(story.alloc(), small, SOLUTION.as_bytes()),
+        read_solution(story.alloc(), small, WITHOUT_TOP.as_bytes()),
+    ) else {
+        return story.no_memory();
+    };
+    play_lectures(story, rt, small, &solution, &without_top);
+    played!(story, play_unlawful(story, small));
+    let left_open = "open\nplace geo A 0 1\n";
+    played!(story, crews::play(story, rt, small, "a crew of one", CREW));
+    played!(
         story,
-        rt,
-        small,
-        "a crew whose draft is left open",
-        "open\nplace geo A 0 1\n",
+        crews::play(
+            story,
+            rt,
+            small,
+            "a crew whose draft is left open",
+            left_open
+        )
     );
     cuts::play(story, small);
     play_devices(story, small);
 }
 
-/// All trials.
+/// All that is played without barred rooms.
 fn play<R: Threads + Wait + Sync>(story: &mut Story, rt: &R) {
-    match read_text(story, SMALL.as_bytes()) {
+    match read_instance(story.alloc(), SMALL.as_bytes()) {
         Ok(small) => {
             play_small(story, rt, &small);
             let_go(small);
         }
-        Err(_fault) => story.say("no instance"),
+        Err(_fault) => story.no_memory(),
     }
-    barred::play(story, rt);
 }
 
 /// What is told, with room for it.
@@ -185,7 +196,8 @@ fn main(rt: HostRuntime) -> ExitCode {
     let Some(mut story) = new_story(rt.alloc()) else {
         return ExitCode::from(3);
     };
-    play(&mut story, &rt);
+    played!(story, play(&mut story, &rt));
+    played!(story, barred::play(&mut story, &rt));
     let mut out = Device::new(rt.stdout());
     ExitCode::from(if story.write(&mut out) { 0 } else { 3 })
 }

@@ -71,23 +71,14 @@ fn run<'i, S: Sheet<'i>>(
     }
 }
 
-/// A writer.
-fn shelf(story: &mut Story) -> Result<Shelf, AllocError> {
-    again!(story, AllocError, Shelf::new(story.alloc(), Failing::Never))
-}
-
 /// Tells why a script could not be run.
 fn tell_fault(story: &mut Story, small: &Instance, fault: ScriptFault) {
     match fault {
-        ScriptFault::Unlawful(at, fault) => {
-            story.pair("opening", at);
-            story.bytes(b" ");
-            story.refused(small, fault);
-        }
+        ScriptFault::Unlawful(at, fault) => story.unlawful(small, at, fault),
         ScriptFault::Read => story.say("failed read"),
         ScriptFault::TooLong => story.say("too long"),
         ScriptFault::Write => story.say("failed write"),
-        ScriptFault::NoMemory => story.say("no memory"),
+        ScriptFault::NoMemory => story.no_memory(),
     }
 }
 
@@ -98,8 +89,8 @@ pub(crate) fn play_script<'i, S: Sheet<'i>>(
     opening: &[Placed],
     script: &str,
 ) {
-    let Ok(mut shelf) = shelf(story) else {
-        return story.say("no memory");
+    let Ok(mut shelf) = Shelf::new(story.alloc(), Failing::Never) else {
+        return story.no_memory();
     };
     let mut reading = Reading::new(script.as_bytes(), 0);
     let ran = run::<S>(
@@ -228,21 +219,15 @@ fn play_failing(story: &mut Story, small: &Instance, told: Told, shelf: &mut She
     tell_failing(story, small, bad, shelf, Failing::Behind(3));
 }
 
-/// Reads a text from a device once.
-fn read_once(story: &Story, reading: &mut Reading, limit: usize) -> Result<Vec<u8>, InputFault> {
+/// Reads a text from a device.
+fn read(story: &mut Story, reading: &mut Reading, limit: usize) -> Result<Vec<u8>, InputFault> {
     let mut reader = Memory::new(reading.text, reading.fails_at);
     let told = read_all(story.alloc(), &mut reader, limit);
     reading.pulls = reader.pulls();
+    if matches!(told, Err(InputFault::NoMemory)) {
+        story.no_memory();
+    }
     told
-}
-
-/// Reads a text from a device.
-fn read(story: &mut Story, reading: &mut Reading, limit: usize) -> Result<Vec<u8>, InputFault> {
-    again!(
-        story,
-        InputFault::NoMemory,
-        read_once(story, reading, limit)
-    )
 }
 
 /// Behind how many bytes a reader of a text may fail so that this is a failed read, and no other one was tried.
@@ -283,7 +268,7 @@ fn tell_limited(story: &mut Story, text: &[u8]) {
             story.say("");
         }
         Err(InputFault::TooLong) => story.say("too long"),
-        Err(InputFault::Read) | Err(InputFault::NoMemory) => story.say("not read"),
+        Err(_) => story.say("not read"),
     }
 }
 
@@ -307,8 +292,8 @@ fn broken(story: &mut Story) {
 /// Texts that are read from devices that fail, and written to such.
 pub(crate) fn play_texts(story: &mut Story, read: &[&[u8]], written: &[&[u8]]) {
     story.say("texts on devices that fail");
-    let Ok(mut shelf) = shelf(story) else {
-        return story.say("no memory");
+    let Ok(mut shelf) = Shelf::new(story.alloc(), Failing::Never) else {
+        return story.no_memory();
     };
     for text in read {
         let failed = failing_reads_of(story, text);
@@ -326,8 +311,8 @@ pub(crate) fn play_texts(story: &mut Story, read: &[&[u8]], written: &[&[u8]]) {
 /// A script with its answers on devices that fail.
 pub(crate) fn play_devices(story: &mut Story, small: &Instance, told: Told) {
     story.say("a script on devices that fail");
-    match shelf(story) {
+    match Shelf::new(story.alloc(), Failing::Never) {
         Ok(mut shelf) => play_failing(story, small, told, &mut shelf),
-        Err(AllocError) => story.say("no memory"),
+        Err(AllocError) => story.no_memory(),
     }
 }

@@ -6,10 +6,10 @@ use crate::desks::tell_journal;
 use crate::seats::Seat;
 use crate::sheets::lectures_fit;
 use crate::story::Story;
-use crate::turns::{answer_lines, instance_found, leave, look_at_end, sit};
+use crate::turns::{answer_lines, instance_of, leave, look_at_end, sit};
 use ctt_board::{GridSheet, ListSheet, Sheet, Timetable};
 use ctt_desk::{Closed, Named, Naming, Opened, Planner, SharedDesk, SharedFault};
-use ctt_text::{Instance, NoMemory, Placed, let_go};
+use ctt_text::{Instance, Placed, let_go};
 use std::alloc::AllocError;
 use std::marker::{Brand, PhantomData};
 use std::sync::Wait;
@@ -34,27 +34,19 @@ pub(crate) struct Before {
 
 /// The opening of a desk.
 fn opened<'i, S: Sheet<'i>>(
-    story: &mut Story,
+    story: &Story,
     small: &'i Instance,
     opening: &[Placed],
 ) -> Result<Opened<S>, SharedFault> {
     if !lectures_fit(small, opening) {
         return Err(SharedFault::NoMemory);
     }
-    again!(
-        story,
-        SharedFault::NoMemory,
-        Opened::<S>::new(story.alloc(), small, opening)
-    )
+    Opened::<S>::new(story.alloc(), small, opening)
 }
 
 /// Room for the planners of a desk.
-fn room_for<T: Drop>(story: &mut Story) -> Result<Vec<T>, AllocError> {
-    again!(
-        story,
-        AllocError,
-        Vec::with_capacity(story.alloc(), usize::from(PLANNERS))
-    )
+fn room_for<T: Drop>(story: &Story) -> Result<Vec<T>, AllocError> {
+    Vec::with_capacity(story.alloc(), usize::from(PLANNERS))
 }
 
 /// The planners play a script at their desk.
@@ -66,8 +58,8 @@ fn play_at<'i, S: Sheet<'i>, J: Naming, R: Wait>(
     script: Script,
     before: Before,
 ) {
-    let Some(small) = instance_found(story, seats) else {
-        return story.say("no memory");
+    let Some(small) = instance_of(seats) else {
+        return story.no_memory();
     };
     let here = story.len();
     answer_lines(story, rt, desk, small, seats, script.lines);
@@ -82,8 +74,7 @@ fn tell_closed<'i, S: Sheet<'i>, J: Naming>(
     opening: &[Placed],
     closed: &Closed<S, J>,
 ) {
-    let list = again!(story, NoMemory, closed.list());
-    story.lectures(small, list);
+    story.lectures(small, closed.list());
     story.costs(small, closed.cost());
     tell_journal::<S>(story, small, opening, closed.journal());
 }
@@ -121,7 +112,7 @@ fn close<'i, S: Sheet<'i>, J: Naming, R: Wait>(
     tell_seen(story, planners);
 }
 
-/// Plays a script on a desk that is opened for it, unless memory is wanted for the desk.
+/// Plays a script on a desk that is opened for it.
 fn play_named<'i, S: Sheet<'i>, J: Naming, R: Wait>(
     story: &mut Story,
     rt: &R,
@@ -129,10 +120,10 @@ fn play_named<'i, S: Sheet<'i>, J: Naming, R: Wait>(
     small: &'i Instance,
     script: Script,
     before: Before,
-) -> bool {
+) {
     let (Ok(mut seats), Ok(mut planners)) = (room_for(story), room_for(story)) else {
         let_go(named);
-        return false;
+        return story.no_memory();
     };
     match SharedDesk::<S, J>::new(rt, named) {
         Ok((desk, all)) => {
@@ -141,9 +132,8 @@ fn play_named<'i, S: Sheet<'i>, J: Naming, R: Wait>(
             leave(seats, &mut planners);
             close(story, rt, desk, small, &mut planners, script, before);
             let_go(planners);
-            true
         }
-        Err(_fault) => false,
+        Err(_fault) => story.no_memory(),
     }
 }
 
@@ -156,7 +146,7 @@ fn named_on_list<'i, J: Naming, R: Wait>(
     small: &'i Instance,
     script: Script,
     before: Before,
-) -> bool
+)
     requires { IsNamed J.problem J.opening J.planners J.book opened count }
 {
     let named = Named {
@@ -164,20 +154,14 @@ fn named_on_list<'i, J: Naming, R: Wait>(
         count,
         name: PhantomData,
     };
-    play_named::<ListSheet, J, R>(story, rt, named, small, script, before)
+    play_named::<ListSheet, J, R>(story, rt, named, small, script, before);
 }
 
-/// Plays a script on a desk of list sheets, and answers whether there was memory for the desk.
-fn on_list<R: Wait>(
-    story: &mut Story,
-    rt: &R,
-    small: &Instance,
-    script: Script,
-    before: Before,
-) -> bool {
+/// Plays a script on a desk of list sheets.
+fn on_list<R: Wait>(story: &mut Story, rt: &R, small: &Instance, script: Script, before: Before) {
     match opened::<ListSheet>(story, small, script.opening) {
         Ok(opened) => named_on_list::<Brand, R>(story, rt, opened, PLANNERS, small, script, before),
-        Err(_fault) => false,
+        Err(_fault) => story.no_memory(),
     }
 }
 
@@ -190,7 +174,7 @@ fn named_on_grid<'i, J: Naming, R: Wait>(
     small: &'i Instance,
     script: Script,
     before: Before,
-) -> bool
+)
     requires { IsNamed J.problem J.opening J.planners J.book opened count }
 {
     let named = Named {
@@ -198,24 +182,18 @@ fn named_on_grid<'i, J: Naming, R: Wait>(
         count,
         name: PhantomData,
     };
-    play_named::<GridSheet, J, R>(story, rt, named, small, script, before)
+    play_named::<GridSheet, J, R>(story, rt, named, small, script, before);
 }
 
-/// Plays a script on a desk of grid sheets, and answers whether there was memory for the desk.
-fn on_grid<R: Wait>(
-    story: &mut Story,
-    rt: &R,
-    small: &Instance,
-    script: Script,
-    before: Before,
-) -> bool {
+/// Plays a script on a desk of grid sheets.
+fn on_grid<R: Wait>(story: &mut Story, rt: &R, small: &Instance, script: Script, before: Before) {
     match opened::<GridSheet>(story, small, script.opening) {
         Ok(opened) => named_on_grid::<Brand, R>(story, rt, opened, PLANNERS, small, script, before),
-        Err(_fault) => false,
+        Err(_fault) => story.no_memory(),
     }
 }
 
-/// Plays a script on shared desks of both kinds of sheets. A desk for which memory is wanted is opened again.
+/// Plays a script on shared desks of both kinds of sheets.
 pub(crate) fn play<R: Wait>(
     story: &mut Story,
     rt: &R,
@@ -224,15 +202,9 @@ pub(crate) fn play<R: Wait>(
     before: Before,
 ) {
     let from = story.len();
-    if !on_list(story, rt, small, script, before) {
-        story.call_again();
-        let _is_played = on_list(story, rt, small, script, before);
-    }
+    played!(story, on_list(story, rt, small, script, before));
     let to = story.len();
-    if !on_grid(story, rt, small, script, before) {
-        story.call_again();
-        let _is_played = on_grid(story, rt, small, script, before);
-    }
+    played!(story, on_grid(story, rt, small, script, before));
     story.compare(from, to, to, "on a shared desk on the grid sheet");
 }
 
@@ -243,11 +215,7 @@ pub(crate) fn tell_unlawful(story: &mut Story, small: &Instance, lectures: &[Pla
             story.say("opened");
             let_go(opened);
         }
-        Err(SharedFault::Unlawful(at, fault)) => {
-            story.pair("opening", at);
-            story.bytes(b" ");
-            story.refused(small, fault);
-        }
-        Err(SharedFault::NoPlace) | Err(SharedFault::NoMemory) => story.say("no memory"),
+        Err(SharedFault::Unlawful(at, fault)) => story.unlawful(small, at, fault),
+        Err(_fault) => story.no_memory(),
     }
 }

@@ -8,7 +8,7 @@ ghost use Rattle.ctt_edits.specs.Looks.{LookFits};
 
 use crate::story::Story;
 use ctt_board::{Cell, Change, GridSheet, ListSheet, Sheet};
-use ctt_core::{DeskFault, Event, PlannerNo, placed};
+use ctt_core::{Event, PlannerNo, placed};
 use ctt_edits::{Call, Edit, Look, Row, check, look, reads};
 use ctt_script::{Lines, read_own_line};
 use ctt_text::{CourseNo, Instance, NoMemory, Placed, RoomNo, SlotNo};
@@ -60,29 +60,24 @@ fn look_fits<'i, S: Sheet<'i>>(sheet: &S, asked: &Look) -> bool
 
 /// An empty sheet.
 pub(crate) fn empty_sheet<'i, S: Sheet<'i>>(
-    story: &mut Story,
+    story: &Story,
     small: &'i Instance,
 ) -> Result<S, NoMemory>
     ensures { IfOk result (λ sheet. S.problem sheet ≡ small.now) }
 {
-    again!(story, NoMemory, S::empty(story.alloc(), small))
+    S::empty(story.alloc(), small)
 }
 
 /// A sheet with lectures, or none where they are no opening.
 fn sheet_of<'i, S: Sheet<'i>>(
-    story: &mut Story,
+    story: &Story,
     small: &'i Instance,
     lectures: &[Placed],
 ) -> Option<S> {
     if !lectures_fit(small, lectures) {
         return None;
     }
-    let sheet: Result<S, DeskFault> = again!(
-        story,
-        DeskFault::NoMemory,
-        placed(story.alloc(), small, lectures)
-    );
-    sheet.ok()
+    placed(story.alloc(), small, lectures).ok()
 }
 
 /// Tells the cells of a change: course, slot and room by their numbers, or that the room is none.
@@ -116,14 +111,12 @@ fn show<'i, S: Sheet<'i>>(story: &mut Story, sheet: &S, asked: &Look) {
     if !look_fits(sheet, asked) {
         return story.say("unfit");
     }
-    let told = again!(story, NoMemory, look(story.alloc(), sheet, asked));
-    story.reply(sheet.instance(), told);
+    story.reply(sheet.instance(), look(story.alloc(), sheet, asked));
 }
 
 /// Tells the lectures and the cost of a sheet.
 pub(crate) fn tell_sheet<'i, S: Sheet<'i>>(story: &mut Story, sheet: &S) {
-    let list = again!(story, NoMemory, sheet.list());
-    story.lectures(sheet.instance(), list);
+    story.lectures(sheet.instance(), sheet.list());
     story.costs(sheet.instance(), sheet.cost());
 }
 
@@ -135,7 +128,7 @@ fn play_on<'i, S: Sheet<'i>>(
     lines: &[&str],
 ) {
     let Some(mut sheet) = sheet_of::<S>(story, small, opening) else {
-        return story.say("no sheet");
+        return story.no_memory();
     };
     for line in lines {
         match call_of(small, line) {
@@ -157,9 +150,9 @@ pub(crate) fn play_lines(
 ) {
     story.say(name);
     let from = story.len();
-    play_on::<ListSheet>(story, small, opening, lines);
+    played!(story, play_on::<ListSheet>(story, small, opening, lines));
     let to = story.len();
-    play_on::<GridSheet>(story, small, opening, lines);
+    played!(story, play_on::<GridSheet>(story, small, opening, lines));
     story.compare(from, to, to, "on the grid sheet");
 }
 
@@ -176,10 +169,8 @@ fn tell_lecture<'i, S: Sheet<'i>>(story: &mut Story, sheet: &S, lecture: &Placed
         "lectures of the course",
         u64::from(sheet.count(lecture.course)),
     );
-    let row = again!(story, NoMemory, sheet.course_row(lecture.course));
-    story.lectures(sheet.instance(), row);
-    let row = again!(story, NoMemory, sheet.slot_row(lecture.slot));
-    story.lectures(sheet.instance(), row);
+    story.lectures(sheet.instance(), sheet.course_row(lecture.course));
+    story.lectures(sheet.instance(), sheet.slot_row(lecture.slot));
     tell_sheet(story, sheet);
 }
 
@@ -200,9 +191,9 @@ fn place<'i, S: Sheet<'i>>(story: &mut Story, sheet: &mut S, edit: &Edit) {
 
 /// Tells what a copy of a sheet has of a lecture.
 fn tell_copy<'i, S: Sheet<'i>>(story: &mut Story, sheet: &S, lecture: &Placed) {
-    match again!(story, NoMemory, sheet.copy()) {
+    match sheet.copy() {
         Ok(copy) => tell_lecture(story, &copy, lecture),
-        Err(NoMemory) => story.say("no memory"),
+        Err(NoMemory) => story.no_memory(),
     }
 }
 
@@ -217,7 +208,7 @@ fn one_placement<'i, S: Sheet<'i>>(story: &mut Story, small: &'i Instance) {
             tell_lecture(story, &sheet, &geo);
             tell_copy(story, &sheet, &geo);
         }
-        Err(NoMemory) => story.say("no memory"),
+        Err(NoMemory) => story.no_memory(),
     }
 }
 
@@ -225,9 +216,9 @@ fn one_placement<'i, S: Sheet<'i>>(story: &mut Story, small: &'i Instance) {
 pub(crate) fn play_placement(story: &mut Story, small: &Instance) {
     story.say("one placement");
     let from = story.len();
-    one_placement::<ListSheet>(story, small);
+    played!(story, one_placement::<ListSheet>(story, small));
     let to = story.len();
-    one_placement::<GridSheet>(story, small);
+    played!(story, one_placement::<GridSheet>(story, small));
     story.compare(from, to, to, "on the grid sheet");
 }
 
@@ -243,7 +234,7 @@ fn accepts<'i, S: Sheet<'i>>(story: &mut Story, sheet: &S, cell: Cell) {
 /// is not there.
 fn accepts_some<'i, S: Sheet<'i>>(story: &mut Story, small: &'i Instance, lectures: &[Placed]) {
     let Some(sheet) = sheet_of::<S>(story, small, lectures) else {
-        return story.say("no sheet");
+        return story.no_memory();
     };
     for (course, slot, room) in [(2, 1, Some(0)), (1, 5, None), (3, 1, Some(0))] {
         let cell = Cell {
@@ -259,9 +250,9 @@ fn accepts_some<'i, S: Sheet<'i>>(story: &mut Story, small: &'i Instance, lectur
 pub(crate) fn play_accepted(story: &mut Story, small: &Instance, lectures: &[Placed]) {
     story.say("accepted changes");
     let from = story.len();
-    accepts_some::<ListSheet>(story, small, lectures);
+    played!(story, accepts_some::<ListSheet>(story, small, lectures));
     let to = story.len();
-    accepts_some::<GridSheet>(story, small, lectures);
+    played!(story, accepts_some::<GridSheet>(story, small, lectures));
     story.compare(from, to, to, "on the grid sheet");
 }
 
@@ -270,8 +261,8 @@ fn tell_rows(story: &mut Story, small: &Instance, call: &Call) {
     if !call.fits(small) {
         return story.say("unfit");
     }
-    let Ok(rows) = again!(story, NoMemory, reads(story.alloc(), small, call)) else {
-        return story.say("no memory");
+    let Ok(rows) = reads(story.alloc(), small, call) else {
+        return story.no_memory();
     };
     for row in &rows {
         match row {
@@ -286,7 +277,7 @@ pub(crate) fn play_rows(story: &mut Story, small: &Instance) {
     for line in ["price place alg B 0 0", "swap geo 0 1 top 0 2"] {
         story.say(line);
         match call_of(small, line) {
-            Some(call) => tell_rows(story, small, &call),
+            Some(call) => played!(story, tell_rows(story, small, &call)),
             None => story.say("bad line"),
         }
     }

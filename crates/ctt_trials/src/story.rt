@@ -23,6 +23,7 @@ pub(crate) struct Story {
     text: Vec<u8>,
     line: String,
     again: u64,
+    is_wanting: bool,
     is_lost: bool,
 }
 
@@ -63,6 +64,7 @@ impl Story {
             text,
             line,
             again: 0,
+            is_wanting: false,
             is_lost: false,
         })
     }
@@ -79,6 +81,22 @@ impl Story {
     /// Notes that a call is made again.
     pub(crate) fn call_again(&mut self) {
         self.again = self.again.saturating_add(1);
+    }
+
+    /// Notes that a call wanted memory, for which the case is to be played again.
+    pub(crate) fn no_memory(&mut self) {
+        self.is_wanting = true;
+    }
+
+    /// Whether a call wanted memory. Then what was told from a place on is taken back.
+    pub(crate) fn takes_back(&mut self, from: usize) -> bool {
+        if !self.is_wanting {
+            return false;
+        }
+        self.is_wanting = false;
+        self.text.truncate(from);
+        self.call_again();
+        true
     }
 
     /// Tells bytes.
@@ -114,6 +132,21 @@ impl Story {
         self.bytes(b"\n");
     }
 
+    /// Tells a fault by its words and its place; none is want of memory.
+    pub(crate) fn fault(&mut self, fault: Option<(&'static str, u64)>) {
+        match fault {
+            Some((words, at)) => self.pair(words, at),
+            None => self.no_memory(),
+        }
+    }
+
+    /// Tells at which lecture an opening is refused.
+    pub(crate) fn unlawful(&mut self, instance: &Instance, at: u64, fault: EditFault) {
+        self.pair("opening", at);
+        self.bytes(b" ");
+        self.refused(instance, fault);
+    }
+
     /// Tells an answer.
     pub(crate) fn answer(&mut self, instance: &Instance, answer: &Answer) {
         let is_written = answer_fits(instance, answer)
@@ -135,7 +168,7 @@ impl Story {
     pub(crate) fn reply(&mut self, instance: &Instance, told: Result<Reply, NoMemory>) {
         match told {
             Ok(reply) => self.answer(instance, &Answer::Replied(reply)),
-            Err(NoMemory) => self.say("no memory"),
+            Err(NoMemory) => self.no_memory(),
         }
     }
 
@@ -146,7 +179,7 @@ impl Story {
                 let list = Reply::Lectures(Lectures::new(list));
                 self.answer(instance, &Answer::Replied(list));
             }
-            Err(NoMemory) => self.say("no memory"),
+            Err(NoMemory) => self.no_memory(),
         }
     }
 
@@ -154,7 +187,7 @@ impl Story {
     pub(crate) fn text(&mut self, told: Result<Vec<u8>, NoMemory>) {
         match told {
             Ok(text) => self.bytes(&text),
-            Err(NoMemory) => self.say("no memory"),
+            Err(NoMemory) => self.no_memory(),
         }
     }
 

@@ -1,7 +1,4 @@
-//! The small instance with one of its solutions, and how texts are read.
-
-use crate::story::Story;
-use ctt_text::{Instance, Placed, ReadFault, SolutionFault, read_instance, read_solution};
+//! The texts of the small instance, of its solutions and of a journal.
 
 /// The text of an instance of three courses, of which alg and geo are members of a curriculum, and alg and top have one
 /// teacher: with these numbers of constraints and of members, and these words at its end.
@@ -38,25 +35,3 @@ pub(crate) const CLASH: &str = "alg A 0 0\ntop B 0 0\n";
 /// The journal of a draft on the solution without top, in which top is refused.
 pub(crate) const JOURNAL: &str =
     "journal 1\nentry 0 1\nplace top A 0 1\nrefused roomtaken geo\nEND.\n";
-
-/// Reads an instance.
-pub(crate) fn read_text(story: &mut Story, text: &[u8]) -> Result<Instance, ReadFault> {
-    again!(
-        story,
-        ReadFault::NoMemory,
-        read_instance(story.alloc(), text)
-    )
-}
-
-/// Reads a solution.
-pub(crate) fn read_lectures(
-    story: &mut Story,
-    small: &Instance,
-    text: &[u8],
-) -> Result<Vec<Placed>, SolutionFault> {
-    again!(
-        story,
-        SolutionFault::NoMemory,
-        read_solution(story.alloc(), small, text)
-    )
-}

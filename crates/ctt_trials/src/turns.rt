@@ -187,7 +187,7 @@ pub(crate) fn look_at_end<'i, S: Sheet<'i>, J: Naming, R: Wait>(
 }
 
 /// The instance of a desk, which a planner tells.
-fn instance_of<'i, S: Sheet<'i>, J: Naming>(
+pub(crate) fn instance_of<'i, S: Sheet<'i>, J: Naming>(
     seats: &mut [Option<Seat<'i, S, J>>],
 ) -> Option<&'i Instance>
     ensures { IfSome result (λ small. small.now ≡ J.problem) }
@@ -195,20 +195,4 @@ fn instance_of<'i, S: Sheet<'i>, J: Naming>(
     let (seat, small) = seat_at(seats, VIEWER)?.instance();
     put_back(seats, VIEWER, seat);
     small
-}
-
-/// The same, asked for again where memory is wanted.
-pub(crate) fn instance_found<'i, S: Sheet<'i>, J: Naming>(
-    story: &mut Story,
-    seats: &mut [Option<Seat<'i, S, J>>],
-) -> Option<&'i Instance>
-    ensures { IfSome result (λ small. small.now ≡ J.problem) }
-{
-    match instance_of(seats) {
-        Some(small) => Some(small),
-        None => {
-            story.call_again();
-            instance_of(seats)
-        }
-    }
 }
