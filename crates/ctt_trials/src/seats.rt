@@ -183,12 +183,13 @@ impl<'i, S: Sheet<'i>, J: Naming> Seat<'i, S, J> {
     pub(crate) fn instance(self) -> (Self, Option<&'i Instance>)
         ensures { IfSome result.1 (λ small. small.now ≡ J.problem) }
     {
-        match self.open() {
-            (Seat::Drafting(drafting), _told) => {
+        let (seat, _told) = self.open();
+        match seat {
+            Seat::Drafting(drafting) => {
                 let small = drafting.instance();
                 (Seat::Free(drafting.abandon()), Some(small))
             }
-            (Seat::Free(planner), _told) => (Seat::Free(planner), None),
+            Seat::Free(planner) => (Seat::Free(planner), None),
         }
     }
 
