@@ -54,7 +54,10 @@ fn tell_files(story: &mut Story, small: &mut Instance) {
 /// The small instance, in which one room is barred.
 fn play_on<R: Wait>(story: &mut Story, rt: &R, small: &Instance) {
     story.say("an old journal");
-    audit_text::<GridSheet>(story, small, &[], OLD_JOURNAL);
+    played!(
+        story,
+        audit_text::<GridSheet>(story, small, &[], OLD_JOURNAL)
+    );
     let (Ok(solution), Ok(without_top)) = (
         read_solution(story.alloc(), small, SOLUTION.as_bytes()),
         read_solution(story.alloc(), small, WITHOUT_TOP.as_bytes()),
