@@ -97,7 +97,7 @@ lane() {
 }
 
 # How many runs were noted as this.
-noted() { cat lane.* | grep -c "$1"; }
+noted() { cat lane.* | grep -c "$@"; }
 
 wanted=$("$trials")
 wanted=${wanted%again *}
