@@ -219,19 +219,26 @@ fn events_of(alloc: Global, small: &Instance, script: &str) -> Result<Vec<Event>
     Ok(events)
 }
 
+/// Whether a desk of the instance with so many planners can be asked to answer these events.
+fn all_fit(events: &[Event], instance: &Instance, planners: u16) -> bool
+    ensures { IsTrue result ↔ Each (EventFits instance.now planners) events.now }
+{
+    events.iter().all(|event| event.fits(instance, planners))
+}
+
 /// What a desk answers to events at once.
 fn answers<'i, S: Sheet<'i>>(
     story: &mut Story,
     desk: &mut Desk<'i, S, KeepAll>,
     events: &[Event],
 ) -> Result<Vec<Answer>, NoMemory> {
-    if !desk.takes(events) {
+    if !all_fit(events, desk.instance(), desk.planners()) {
         return Err(NoMemory);
     }
     match desk.run(events) {
         Err(NoMemory) => {
             story.call_again();
-            if desk.takes(events) {
+            if all_fit(events, desk.instance(), desk.planners()) {
                 desk.run(events)
             } else {
                 Err(NoMemory)
