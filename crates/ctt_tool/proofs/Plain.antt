@@ -1,5 +1,5 @@
 -- The faults of texts, files and crews: none is of the words, nor of what is written.
-use Rattle.std.proofs.Common.{◌≡◌, ◌⊎◌, ⊎_elim, ◌∷◌, [], ◌∙◌, inl, inr, sym, subst, ℕ, List, IfErr, IfSome, IsErrAnd, Option, Some, None, Result, Ok, Err}
+use Rattle.std.proofs.Common.{◌≡◌, ⊎_elim, ◌∷◌, [], ◌∙◌, inl, inr, sym, subst, ℕ, List, IfErr, IfSome, IsErrAnd, Option, Some, None, Result, Ok, Err}
 use Rattle.std.specs.Global.{Global}
 use Rattle.std.specs.String.{string_bytes}
 use Rattle.std.specs.declared.string.String.{String}
