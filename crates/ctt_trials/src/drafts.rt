@@ -5,7 +5,7 @@ ghost use Rattle.ctt_edits.specs.Calls.{CallFits};
 
 use crate::sheets::{call_of, empty_sheet, tell_cells, tell_sheet};
 use crate::story::Story;
-use ctt_board::{Cell, Change, GridSheet, ListSheet, Sheet};
+use ctt_board::{Cell, Change, GridSheet, ListSheet, Sheet, Timetable};
 use ctt_core::Answer;
 use ctt_draft::{Draft, KeepAll, replay};
 use ctt_edits::{Call, Reply};
@@ -163,6 +163,15 @@ fn long_draft<'i, S: Sheet<'i>>(story: &mut Story, sheet: &mut S) {
     settle(story, draft, sheet);
 }
 
+/// Places a lecture of `top`, by a change.
+fn place_top<S: Timetable>(sheet: &mut S)
+    ensures { S.problem sheet.new ≡ S.problem sheet.old }
+{
+    if let Some(change) = Change::of(&[top()]) {
+        let _is_made = replay(&[change], sheet);
+    }
+}
+
 /// Drafts on one kind of sheet.
 fn play_on<'i, S: Sheet<'i>>(story: &mut Story, small: &'i Instance) {
     let (Ok(mut sheet), Ok(mut other)) = (
@@ -171,9 +180,7 @@ fn play_on<'i, S: Sheet<'i>>(story: &mut Story, small: &'i Instance) {
     ) else {
         return story.no_memory();
     };
-    if let Some(change) = Change::of(&[top()]) {
-        let _is_made = replay(&[change], &mut other);
-    }
+    place_top(&mut other);
     one_draft(story, &mut sheet, &other);
 }
 
