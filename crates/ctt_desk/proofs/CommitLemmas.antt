@@ -87,6 +87,3 @@ left_present i t0 before j f p d r is of base begins longer legal one =
     let same : before ≡ j = prefix_whole before j begins (omega (arith, size, one)) in
     let left : whole d.problem d.base (calls_of d.asked) ≡ after i t0 f = left_on i t0 j f p d of (base ∙ ap (after i t0) same) longer in
     subst (λ (x : RemainsValue). IsAfter i t0 x.problem x.present f) (sym is) (record { same = of; legal = legal; list = left })
-
-pub left_base : (i : Problem) (t0 : List Placed) (before : List JournalEntry) (d : DraftValue) (r : RemainsValue) → r ≡ left_of d → d.problem ≡ i → d.base ≡ after i t0 before → Legal i t0 before → IsAfter i t0 r.problem r.base before
-left_base i t0 before d r is of base legal = subst (λ (x : RemainsValue). IsAfter i t0 x.problem x.base before) (sym is) (record { same = of; legal = legal; list = base })

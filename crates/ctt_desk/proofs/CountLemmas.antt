@@ -1,13 +1,13 @@
 -- How many entries each planner has in a journal.
-use Rattle.std.proofs.Common.{◌≡◌, ◌≢◌, ◌==◌, ◌+◌, ◌≤◌, ◌<◌, ℕ, zero, suc, List, [], ◌∷◌, ◌++◌, length, cond, set, get_or, inl, inr, refl, sym, ap, ap₂, ◌∙◌, arith, eq-eqb, length-append, length-set}
+use Rattle.std.proofs.Common.{◌≡◌, ◌≢◌, ◌==◌, ◌+◌, ◌≤◌, ◌<◌, ℕ, zero, suc, List, [], ◌∷◌, ◌++◌, length, cond, set, get_or, inl, inr, refl, sym, ap, ap₂, ◌∙◌, arith, length-append, length-set}
 use Rattle.std.specs.Prelude.{slice_index_or}
 use Rattle.std.proofs.lemmas.Bool.{cases_eq, ne_eqb}
 use Rattle.std.proofs.lemmas.List.{get_or-set_same, get_or-set_other, get_or_default}
-use Rattle.std.proofs.lemmas.List.Elements.{filter-append}
 use Rattle.std.proofs.lemmas.List.Sums.{length-filter, count_by-le-length}
 use Rattle.ctt_draft.specs.declared.asked.Asked.{Asked}
 use Rattle.ctt_core.specs.declared.journal.JournalEntry.{JournalEntry}
 use Rattle.ctt_desk.specs.Histories.{own, entry_of, Counted}
+use Rattle.ctt_desk.proofs.OwnLemmas.{own-append, counted_now}
 
 -- one more planner without an entry
 pub nought_more : (xs : List ℕ) → ((p : ℕ) → slice_index_or xs p 0 ≡ 0) → (p : ℕ) → slice_index_or (xs ++ 0 ∷ []) p 0 ≡ 0
@@ -24,12 +24,6 @@ own-fewer p h = omega (arith, length-filter (λ (e : JournalEntry). e.planner ==
 pub fewer : (p count : ℕ) (h more : List JournalEntry) (e : JournalEntry) → more ≡ h ++ e ∷ [] → count ≡ length (own p h) → count < length more
 fewer p count h more e is same = omega (arith, own-fewer p h, ap length is, length-append h (e ∷ []))
 
-own_more : (p : ℕ) (h : List JournalEntry) (e : JournalEntry) → length (own p (h ++ e ∷ [])) ≡ length (own p h) + length (own p (e ∷ []))
-own_more p h e = ap length (filter-append (λ (e : JournalEntry). e.planner == p) h (e ∷ [])) ∙ length-append (own p h) (own p (e ∷ []))
-
-own_one : (p : ℕ) (asked : List Asked) → length (own p (entry_of p asked ∷ [])) ≡ 1
-own_one p asked = ap (λ b. length (cond b (entry_of p asked ∷ []) [])) (eq-eqb p p refl)
-
 own_none : (p q : ℕ) (asked : List Asked) → p ≢ q → length (own q (entry_of p asked ∷ [])) ≡ 0
 own_none p q asked apart = ap (λ b. length (cond b (entry_of p asked ∷ []) [])) (ne_eqb p q apart)
 
@@ -38,11 +32,10 @@ pub count_read : (planners p k count : ℕ) (counts : List ℕ) (h : List Journa
 count_read planners p k count counts h c lt at read =
     read ∙ ap (λ n. get_or counts n count) at ∙ get_or_default counts p count 0 (omega (arith, lt, c.0)) ∙ c.1 p lt
 
-mine_more : (p count : ℕ) (h : List JournalEntry) (asked : List Asked) → count ≡ length (own p h) → count + 1 ≡ length (own p (h ++ entry_of p asked ∷ []))
-mine_more p count h asked is = omega (arith, is, own_more p h (entry_of p asked), own_one p asked)
-
 others_same : (p q : ℕ) (h : List JournalEntry) (asked : List Asked) → q ≢ p → length (own q h) ≡ length (own q (h ++ entry_of p asked ∷ []))
-others_same p q h asked apart = omega (arith, own_more q h (entry_of p asked), own_none p q asked (λ e. apart (sym e)))
+others_same p q h asked apart =
+    let e : JournalEntry = entry_of p asked in
+    omega (arith, ap length (own-append q h (e ∷ [])) ∙ length-append (own q h) (own q (e ∷ [])), own_none p q asked (λ same. apart (sym same)))
 
 -- one more entry of planner p
 pub counted_more : (planners p k count : ℕ) (counts : List ℕ) (h : List JournalEntry) (asked : List Asked) → Counted planners counts h → p < planners → k ≡ p → count ≡ length (own p h) → Counted planners (set counts k (count + 1)) (h ++ entry_of p asked ∷ [])
@@ -50,6 +43,6 @@ counted_more planners p k count counts h asked c lt at is = (length-set counts k
   where
     each : (q : ℕ) → q < planners → get_or (set counts k (count + 1)) q 0 ≡ length (own q (h ++ entry_of p asked ∷ []))
     each q less = elim (cases_eq q p) [
-      | inl same ↦ ap₂ (λ a b. get_or (set counts a (count + 1)) b 0) at same ∙ get_or-set_same counts p (count + 1) 0 (omega (arith, lt, c.0)) ∙ mine_more p count h asked is ∙ ap (λ n. length (own n (h ++ entry_of p asked ∷ []))) (sym same)
+      | inl same ↦ ap₂ (λ a b. get_or (set counts a (count + 1)) b 0) at same ∙ get_or-set_same counts p (count + 1) 0 (omega (arith, lt, c.0)) ∙ sym (counted_now p count h (h ++ entry_of p asked ∷ []) asked refl (sym is)) ∙ ap (λ n. length (own n (h ++ entry_of p asked ∷ []))) (sym same)
       | inr apart ↦ ap (λ a. get_or (set counts a (count + 1)) q 0) at ∙ get_or-set_other counts p q (count + 1) 0 apart ∙ c.1 q less ∙ others_same p q h asked apart
     ]

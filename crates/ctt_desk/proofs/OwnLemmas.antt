@@ -1,5 +1,5 @@
 -- What a history has of one planner, and what an accepted commit makes of it.
-use Rattle.std.proofs.Common.{◌≡◌, ◌==◌, ◌+◌, ◌≤◌, ℕ, cond, List, [], ◌∷◌, ◌++◌, length, take, None, Some, inl, inr, refl, sym, ap, ◌∙◌, subst, arith, eq-eqb, length-append}
+use Rattle.std.proofs.Common.{◌≡◌, ◌==◌, ◌+◌, ◌≤◌, ℕ, cond, List, [], ◌∷◌, ◌++◌, length, take, None, inl, inr, refl, sym, ap, ◌∙◌, subst, arith, eq-eqb, length-append}
 use Rattle.std.proofs.lemmas.List.{append-nil, take_all}
 use Rattle.std.proofs.lemmas.List.Elements.{filter-append}
 use mathlib.Core.List.{IsPrefix}
@@ -9,9 +9,8 @@ use Rattle.ctt_draft.specs.Drafts.{calls_of, stale}
 use Rattle.ctt_draft.specs.declared.asked.Asked.{Asked}
 use Rattle.ctt_core.specs.Runs.{after, Legal}
 use Rattle.ctt_core.specs.declared.journal.JournalEntry.{JournalEntry}
-use Rattle.ctt_edits.specs.declared.row.Row.{Row}
-use Rattle.ctt_desk.specs.Histories.{own, entry_of, IsSeen, IsNotHis}
-use Rattle.ctt_desk.specs.Planners.{PlannerValue, DraftingValue, Grows, IsAccepted, IsForeign, IsStale}
+use Rattle.ctt_desk.specs.Histories.{own, entry_of, IsNotHis}
+use Rattle.ctt_desk.specs.Planners.{PlannerValue, DraftingValue, Grows, IsAccepted, IsForeign}
 use Rattle.ctt_desk.proofs.PrefixLemmas.{prefix_self}
 
 nothing : {A : Type 0} (xs : List A) → length xs ≡ 0 → xs ≡ []
@@ -68,7 +67,7 @@ grown i t0 p q f is begins legal = subst (λ (x : PlannerValue). Grows i t0 p x)
 pub foreign : (i : Problem) (t0 : List Placed) (v d : DraftingValue) (q : PlannerValue) (j f : List JournalEntry) (count : ℕ) → v ≡ d → IsNotHis j v.planner.number v.planner.committed v.planner.front f count → q ≡ seen_up_to v.planner f → Legal i t0 f → IsForeign i t0 d q count
 foreign i t0 v d q j f count is (inl w) becomes legal = subst (λ (x : DraftingValue). IsForeign i t0 x q count) is (record {
   planner = grown i t0 v.planner q f becomes (subst (λ (x : List JournalEntry). IsPrefix v.planner.front x) (sym w.0) (prefix_self v.planner.front)) legal;
-  other = inl w.2;
+  other = inl (w.2, ap (λ (x : PlannerValue). x.front) becomes ∙ w.0);
 })
 foreign i t0 v d q j f count is (inr w) becomes legal = subst (λ (x : DraftingValue). IsForeign i t0 x q count) is (record {
   planner = grown i t0 v.planner q f becomes w.0.1 legal;
@@ -76,12 +75,6 @@ foreign i t0 v d q j f count is (inr w) becomes legal = subst (λ (x : DraftingV
     w.1 ∙ ap (λ (x : List JournalEntry). length (own v.planner.number x)) (sym w.0.0) ∙ ap (λ (x : PlannerValue). length (own x.number x.front)) (sym becomes),
     λ e. w.2 (e ∙ ap (λ (x : PlannerValue). x.committed) becomes),
   );
-})
-
-pub stale_now : (i : Problem) (t0 : List Placed) (v d : DraftingValue) (q : PlannerValue) (j f : List JournalEntry) (row : Row) → v ≡ d → IsSeen j v.planner.front f → stale i v.base (after i t0 j) (calls_of v.asked) ≡ Some row → q ≡ seen_up_to v.planner f → Legal i t0 f → IsStale i t0 d q row
-stale_now i t0 v d q j f row is seen differs becomes legal = subst (λ (x : DraftingValue). IsStale i t0 x q row) is (record {
-  planner = grown i t0 v.planner q f becomes seen.1 legal;
-  differs = subst (λ (x : List JournalEntry). stale i v.base (after i t0 x) (calls_of v.asked) ≡ Some row) (sym (ap (λ (x : PlannerValue). x.front) becomes ∙ seen.0)) differs;
 })
 
 -- and why it is accepted

@@ -85,10 +85,10 @@ pub record IsAccepted (i : Problem) (opening : List Placed) (d : DraftingValue) 
   pub counted : length (own d.planner.number f) ≡ d.planner.committed + 1
   pub planner : q ≡ record { number = d.planner.number; committed = d.planner.committed + 1; front = f }
 
--- the draft d was refused: its planner, who is q now, had seen more drafts than the journal has, namely count; or the journal, which q has seen, has so many drafts of his, and not as many as he committed
+-- the draft d was refused: its planner, who is q now, had seen more drafts than the journal has, namely count, and his front is as it was; or the journal, which q has seen, has so many drafts of his, and not as many as he committed
 pub record IsForeign (i : Problem) (opening : List Placed) (d : DraftingValue) (q : PlannerValue) (count : ℕ) : Type 0 where
   pub planner : Grows i opening d.planner q
-  pub other : (count < length d.planner.front) ⊎ ((count ≡ length (own q.number q.front)) × (count ≢ q.committed))
+  pub other : ((count < length d.planner.front) × (q.front ≡ d.planner.front)) ⊎ ((count ≡ length (own q.number q.front)) × (count ≢ q.committed))
 
 -- or q has seen the history after which this row, the least one that was read and differs, is another one
 pub record IsStale (i : Problem) (opening : List Placed) (d : DraftingValue) (q : PlannerValue) (row : Row) : Type 0 where

@@ -2,6 +2,7 @@
 use Rattle.std.specs.Prelude.{◌≡◌, List}
 use Rattle.ctt_text.specs.Problem.{Problem}
 use Rattle.ctt_text.specs.declared.placed.Placed.{Placed}
+use Rattle.ctt_desk.specs.Histories.{IsHis}
 use Rattle.ctt_desk.specs.Planners.{PlannerValue, DraftingValue, Grows, IsForeign, IsStale}
 use Rattle.ctt_desk.specs.declared.refusal.Refusal.{Refusal}
 use Rattle.ctt_desk.specs.declared.refusal.Refusal.TheVariants.{NotYours, Stale, NoMemory}
@@ -10,10 +11,10 @@ use Rattle.ctt_desk.specs.declared.refusal.RefreshRefusal.TheVariants.{NoPlace a
 use Rattle.ctt_desk.specs.declared.shared_fault.SharedFault.{SharedFault}
 use Rattle.ctt_desk.specs.declared.shared_fault.SharedFault.TheVariants.{Unlawful, NoPlace, NoMemory as OutOfMemory}
 
--- why a draft was refused, and what is left
+-- why a draft was refused, and what is left; rows are compared only where the journal, which q has seen, has as many of his drafts as he committed
 abbrev pub IsRefused : {X Y : Type 0} → Problem → List Placed → DraftingValue → Refusal X Y → Type 0
 IsRefused i opening d (NotYours q count) = IsForeign i opening d q count
-IsRefused i opening d (Stale q row) = IsStale i opening d q row
+IsRefused i opening d (Stale q row) = IsStale i opening d q row × IsHis q.front q.number q.committed
 IsRefused i opening d (NoMemory back) = back ≡ d
 
 -- why a draft was not brought up to date, and what is left

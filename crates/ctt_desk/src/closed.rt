@@ -31,7 +31,9 @@ impl<S: Timetable, J: Naming> Model for Closed<S, J> {
 
     ghost view = { λ c. c.journal.items };
 
-    ghost invariant = { λ c. Standing J.problem (S.problem c.sheet) J.opening (S.list c.sheet) c.journal.items × (c.front ≡ c.journal.items) };
+    ghost invariant = { λ c.
+        Standing J.problem (S.problem c.sheet) J.opening (S.list c.sheet) c.journal.items
+        × (c.front ≡ c.journal.items) };
 }
 
 impl<S: Timetable, J: Naming> Closed<S, J> {

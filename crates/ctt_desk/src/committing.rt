@@ -13,14 +13,15 @@ use crate::receipt::Receipt;
 use crate::refusal::Refusal;
 use crate::shared_desk::SharedDesk;
 use ctt_board::{Sheet, Timetable};
+use ctt_text::let_go;
 use std::sync::{Mutex, MutexGuard, Wait};
 use std::thread::yield_now;
 
 /// How often a thread tries to have the lock before it sleeps.
 const TRIES: u32 = 100;
 
-/// What lies under the lock. It is held for some microseconds: a thread that lets others run meanwhile
-/// has it sooner than one that sleeps and has to be woken.
+/// What lies under the lock. It is held for some microseconds: a thread that lets others run
+/// meanwhile has it sooner than one that sleeps and has to be woken.
 fn held<'l, T, R: Wait>(rt: &R, lock: &'l Mutex<T>) -> MutexGuard<'l, T> {
     for _ in 0..TRIES {
         if let Some(guard) = lock.try_lock() {
@@ -32,8 +33,9 @@ fn held<'l, T, R: Wait>(rt: &R, lock: &'l Mutex<T>) -> MutexGuard<'l, T> {
 }
 
 impl<'i, S: Sheet<'i>, J: Naming> Drafting<'i, S, J> {
-    /// Commits the draft: it is accepted where no row that it read has changed since it was opened, or last
-    /// refreshed. Its sheet is kept, and what else was drafted is dropped when the lock is free again.
+    /// Commits the draft: it is accepted where no row that it read has changed since it was opened,
+    /// or last refreshed. Its sheet is kept, and what else was drafted is dropped when the lock is
+    /// free again.
     pub fn commit<R: Wait>(
         self,
         rt: &R,
@@ -49,7 +51,7 @@ impl<'i, S: Sheet<'i>, J: Naming> Drafting<'i, S, J> {
             committed,
             mut front,
             place,
-            kept: _,
+            kept,
         } = planner;
         let before = front.again();
         let mut locked = held(rt, &desk.locked);
@@ -62,12 +64,15 @@ impl<'i, S: Sheet<'i>, J: Naming> Drafting<'i, S, J> {
             committed,
             front,
             place,
-            kept: None,
+            kept,
         };
         match outcome {
             Ok(remains) => Ok(planner.accepted(Kept::left_by(remains, before, seen))),
             Err((draft, cause)) => match cause {
-                Cause::NotYours(count) => Err(Refusal::NotYours(planner, count)),
+                Cause::NotYours(count) => {
+                    let_go(draft);
+                    Err(Refusal::NotYours(planner, count))
+                }
                 Cause::Stale(row) => {
                     let kept = Kept::of_base(draft, before);
                     Err(Refusal::Stale(planner.keeping(kept), row))

@@ -29,9 +29,14 @@ impl<'i, S: Timetable, J: Naming> Model for Drafting<'i, S, J> {
 
     ghost Value = { DraftingValue };
 
-    ghost view = { λ d. record { planner = d.planner; base = d.draft.value.base; asked = d.draft.value.asked } };
+    ghost view = { λ d. record {
+      planner = d.planner;
+      base = d.draft.value.base;
+      asked = d.draft.value.asked;
+    } };
 
-    ghost invariant = { λ d. (d.draft.value.problem ≡ J.problem) × (d.draft.value.base ≡ after J.problem J.opening d.planner.front) };
+    ghost invariant = { λ d. (d.draft.value.problem ≡ J.problem)
+        × (d.draft.value.base ≡ after J.problem J.opening d.planner.front) };
 }
 
 impl<'i, S: Sheet<'i>, J: Naming> Drafting<'i, S, J> {
@@ -42,11 +47,13 @@ impl<'i, S: Sheet<'i>, J: Naming> Drafting<'i, S, J> {
         self.draft.instance()
     }
 
-    /// Makes a call in the draft, where nobody else's work is seen. Where memory is wanted the call was
-    /// not made.
+    /// Makes a call in the draft, where nobody else's work is seen. Where memory is wanted the call
+    /// was not made.
     pub fn call(&mut self, call: Call) -> Result<Reply, NoMemory>
         requires { CallFits J.problem call }
-        ensures ok { IfOk result (λ told. (told ≡ reply J.problem (present_of J.problem self.old) call) × (self.new ≡ asked_also self.old call told)) }
+        ensures ok { IfOk result (λ told.
+            (told ≡ reply J.problem (present_of J.problem self.old) call)
+            × (self.new ≡ asked_also self.old call told)) }
         ensures fits { IfOk result (IsReply J.problem) }
         ensures err { OnErr result (self.new ≡ self.old) }
     {
@@ -56,7 +63,7 @@ impl<'i, S: Sheet<'i>, J: Naming> Drafting<'i, S, J> {
         self.draft.call(call)
     }
 
-    /// Gives the draft up. Its sheet is kept.
+    /// Gives the draft up. Its sheet is kept. It takes no memory.
     pub fn abandon(self) -> Planner<S, J>
         ensures { result ≡ self.entry.planner }
     {

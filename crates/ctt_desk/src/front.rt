@@ -38,7 +38,8 @@ impl<J: Naming> Model for Front<J> {
 
     ghost view = { λ f. f.seen.log };
 
-    ghost invariant = { λ f. (f.drafts ≡ length f.seen.log) × (f.seen.book ≡ J.book) × Legal J.problem J.opening f.seen.log };
+    ghost invariant = { λ f. (f.drafts ≡ length f.seen.log) × (f.seen.book ≡ J.book)
+        × Legal J.problem J.opening f.seen.log };
 }
 
 /// A desk's word, and the front that has seen nothing, of a book that was just opened.
@@ -122,11 +123,12 @@ impl<J: Naming> Front<J> {
         }
     }
 
-    /// Adds an entry to all that was seen. Were the history longer, which the lock excludes, this would
-    /// wait for ever.
+    /// Adds an entry to all that was seen. Were the history longer, which the lock excludes, this
+    /// would wait for ever.
     pub(crate) fn extend<R: Wait>(&mut self, rt: &R, head: &Head<J>, entry: &JournalEntry)
         requires room { length self.old + 1 < 2 ^ 64 }
-        requires legal { replies_in entry.now.asked ≡ replies J.problem (after J.problem J.opening self.old) (calls_of entry.now.asked) }
+        requires legal { replies_in entry.now.asked
+            ≡ replies J.problem (after J.problem J.opening self.old) (calls_of entry.now.asked) }
         ensures { self.new ≡ self.old ++ entry.now ∷ [] }
     {
         let mut seen = self.seen.again();

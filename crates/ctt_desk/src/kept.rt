@@ -16,8 +16,8 @@ use ctt_text::NoMemory;
 use std::alloc::Global;
 use std::marker::Model;
 
-/// The sheet of a planner's last draft, and the history after which it is the opening. Contracts see the
-/// history.
+/// The sheet of a planner's last draft, and the history after which it is the opening. Contracts
+/// see the history.
 #[derive(Drop)]
 pub(crate) struct Kept<S: Timetable, J: Naming> {
     idle: Idle<S>,
@@ -45,11 +45,12 @@ impl<S: Timetable, J: Naming> Kept<S, J> {
         Kept { idle, front }
     }
 
-    /// What is left of a draft that was accepted: the timetable as its calls left it, where the commit came
-    /// right behind the history before, and else its base.
+    /// What is left of a draft that was accepted: the timetable as its calls left it, where the
+    /// commit came right behind the history before, and else its base.
     pub(crate) fn left_by(remains: Remains<S>, before: Front<J>, seen: Front<J>) -> Self
         requires base { IsAfter J.problem J.opening remains.problem remains.base before }
-        requires present { length seen - length before ≡ 1 → IsAfter J.problem J.opening remains.problem remains.present seen }
+        requires present { length seen - length before ≡ 1
+            → IsAfter J.problem J.opening remains.problem remains.present seen }
     {
         if seen.len().saturating_sub(before.len()) == 1 {
             Kept::new(remains.into_present(), seen)
@@ -58,8 +59,8 @@ impl<S: Timetable, J: Naming> Kept<S, J> {
         }
     }
 
-    /// The sheet, when the changes up to another history are made, if they are known, after which it costs
-    /// this.
+    /// The sheet, when the changes up to another history are made, if they are known, after which
+    /// it costs this.
     fn followed(self, trail: &Trail<J>, to: &Front<J>, cost: Cost) -> Option<Idle<S>>
         requires { cost ≡ penalty J.problem (after J.problem J.opening to.now) }
         ensures problem { IfSome result (λ idle. idle.problem ≡ J.problem) }
@@ -83,11 +84,11 @@ impl<'i, S: Sheet<'i>, J: Naming> Kept<S, J> {
     }
 }
 
-/// A draft on a published timetable, in which nothing was asked yet: on the sheet that is kept, where the
-/// changes that it lacks are known, and else on a copy.
+/// A draft on a published timetable, in which nothing was asked yet: on the sheet that is kept,
+/// where the changes that it lacks are known, and else on a copy.
 pub(crate) fn draft_on<'i, S: Sheet<'i>, J: Naming>(
     alloc: Global,
-    kept: Option<Box<Kept<S, J>>>,
+    kept: Option<Kept<S, J>>,
     shown: &Shown<S, J>,
     seen: &Front<J>,
 ) -> Result<Box<Draft<'i, S, KeepAll>>, NoMemory>
@@ -98,7 +99,7 @@ pub(crate) fn draft_on<'i, S: Sheet<'i>, J: Naming>(
 {
     if let Some(kept) = kept {
         let cost = shown.sheet.cost();
-        if let Some(idle) = Box::into_inner(kept).followed(&shown.trail, seen, cost) {
+        if let Some(idle) = kept.followed(&shown.trail, seen, cost) {
             return Ok(Box::new(alloc, Draft::reopen(alloc, idle))?);
         }
     }

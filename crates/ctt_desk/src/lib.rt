@@ -1,4 +1,5 @@
-//! The running desk: planners on threads draft on copies that are published, and commit under one lock.
+//! The running desk: planners on threads draft on copies that are published, and commit under one
+//! lock.
 #![tactic(auto)]
 
 mod book;

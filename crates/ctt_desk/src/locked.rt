@@ -1,6 +1,6 @@
 //! What lies under the lock.
 
-ghost use Rattle.std.specs.Prelude.{◌≡◌, ◌++◌, ◌∷◌, [], ◌<◌, drop, length, true, None, Some, Ok, IfOk, IfErr};
+ghost use Rattle.std.specs.Prelude.{◌≡◌, ◌++◌, ◌∷◌, [], ◌<◌, drop, length, true, None, Some, IfOk, IfErr};
 ghost use mathlib.Core.List.{IsPrefix};
 ghost use Rattle.ctt_draft.specs.Drafts.{calls_of, changes, stale};
 ghost use Rattle.ctt_draft.specs.DraftValues.{IsTold, Settles};
@@ -18,7 +18,7 @@ use ctt_board::{Change, Sheet, Timetable};
 use ctt_core::{JournalEntry, PlannerNo};
 use ctt_draft::{AskedCalls, Draft, KeepAll, Remains, Work};
 use ctt_edits::Row;
-use ctt_text::{NoMemory, Placed};
+use ctt_text::Placed;
 use left_right::Absorb;
 use std::alloc::{AllocError, Global};
 use std::marker::Model;
@@ -26,7 +26,7 @@ use std::mem;
 use std::sync::Wait;
 
 /// Why a draft is not accepted.
-#[derive(Clone, Copy, PartialEq, Eq)]
+#[derive(Drop)]
 pub(crate) enum Cause {
     /// The planner has seen more drafts than the journal has, namely this many; or the journal has
     /// another number of this planner's drafts, namely this one.
@@ -37,8 +37,8 @@ pub(crate) enum Cause {
     NoMemory,
 }
 
-/// The desk's opening and its journal, and the end by which its timetable is published, which is kept
-/// nowhere else. Contracts see the journal.
+/// The desk's opening and its journal, and the end by which its timetable is published, which is
+/// kept nowhere else. Contracts see the journal.
 pub(crate) struct Locked<S: Timetable, J: Naming>
 where
     Shown<S, J>: Absorb<Update<J>, State = Common>,
@@ -66,7 +66,13 @@ where
 
     ghost view = { λ l. l.journal.items };
 
-    ghost invariant = { λ l. IsLocked J.problem J.opening l.opening.items J.planners l.counts.items l.journal.items × (l.front ≡ l.journal.items) × IsSomeAnd l.writer (λ w. IsPublished J.problem w.desk.shown.value.problem J.opening w.desk.shown.value.list l.journal.items w.desk.shown.value.history × (drop w.behind w.log.items ≡ [])) };
+    ghost invariant = { λ l.
+        IsLocked J.problem J.opening l.opening.items J.planners l.counts.items l.journal.items
+        × (l.front ≡ l.journal.items)
+        × IsSomeAnd l.writer (λ w.
+        IsPublished J.problem w.desk.shown.value.problem J.opening w.desk.shown.value.list
+        l.journal.items w.desk.shown.value.history
+        × (drop w.behind w.log.items ≡ [])) };
 }
 
 /// No draft for each of so many planners.
@@ -92,7 +98,9 @@ fn put_back<S: Timetable, J: Naming>(slot: &mut Option<Publisher<S, J>>, writer:
 /// Ends a draft whose calls are to stay as they are.
 fn end<'i, S: Sheet<'i>>(draft: Box<Draft<'i, S, KeepAll>>) -> (AskedCalls, Vec<Change>, Remains<S>)
     ensures asked { result.0 ≡ draft.entry.value.asked }
-    ensures changes { result.1.items ≡ changes draft.entry.value.problem draft.entry.value.base (calls_of draft.entry.value.asked) }
+    ensures changes { result.1.items
+        ≡ changes draft.entry.value.problem draft.entry.value.base
+        (calls_of draft.entry.value.asked) }
     ensures told { IsTold draft.entry.value.problem draft.entry.value.base draft.entry.value.asked }
     ensures remains { result.2 ≡ left_of draft.entry.value }
 {
@@ -114,7 +122,8 @@ impl<S: Timetable, J: Naming> Locked<S, J> {
         requires opening { opening.items ≡ J.opening }
         requires counts { Counted J.planners counts.items [] }
         requires front { front ≡ [] }
-        requires published { IsAfter J.problem J.opening writer.desk.shown.value.problem writer.desk.shown.value.list writer.desk.shown.value.history }
+        requires published { IsAfter J.problem J.opening writer.desk.shown.value.problem
+            writer.desk.shown.value.list writer.desk.shown.value.history }
         requires history { writer.desk.shown.value.history ≡ [] }
         requires rests { drop writer.behind writer.log.items ≡ [] }
         ensures { result ≡ [] }
@@ -132,7 +141,8 @@ impl<S: Timetable, J: Naming> Locked<S, J> {
 
     /// What is published.
     fn shown(&self) -> &Shown<S, J>
-        ensures { IsPublished J.problem result.now.problem J.opening result.now.list self.now result.now.history }
+        ensures { IsPublished J.problem result.now.problem J.opening result.now.list self.now
+            result.now.history }
     {
         match &self.writer {
             Some(writer) => writer.published(),
@@ -180,13 +190,18 @@ impl<'i, S: Sheet<'i>, J: Naming> Locked<S, J> {
         requires base { draft.value.base ≡ after J.problem J.opening front.old }
         requires planner { number < J.planners }
         ensures legal { Legal J.problem J.opening self.old }
-        ensures fresh { IfOk result (λ _. IsFreshAt J.problem J.opening self.old number committed draft.entry.value) }
-        ensures journal { IfOk result (λ _. self.new ≡ self.old ++ entry_of number draft.entry.value.asked ∷ []) }
+        ensures fresh { IfOk result (λ _.
+            IsFreshAt J.problem J.opening self.old number committed draft.entry.value) }
+        ensures journal { IfOk result (λ _.
+            self.new ≡ self.old ++ entry_of number draft.entry.value.asked ∷ []) }
         ensures front { IfOk result (λ _. front.new ≡ self.new) }
         ensures begins { IfOk result (λ _. IsPrefix front.old self.old) }
         ensures seen { Legal J.problem J.opening front.new }
         ensures remains { IfOk result (λ remains. remains ≡ left_of draft.entry.value) }
-        ensures err { IfErr result (λ refused. (self.new ≡ self.old) × (refused.0.value ≡ draft.entry.value) × IsCause J.problem J.opening self.old number committed front.old front.new draft.entry.value refused.1) }
+        ensures err { IfErr result (λ refused. (self.new ≡ self.old)
+            × (refused.0.value ≡ draft.entry.value)
+            × IsCause J.problem J.opening self.old number committed front.old front.new
+            draft.entry.value refused.1) }
     {
         if !front.begins(&self.front) {
             return Err((draft, Cause::NotYours(self.front.len())));
@@ -197,45 +212,43 @@ impl<'i, S: Sheet<'i>, J: Naming> Locked<S, J> {
             return Err((draft, Cause::NotYours(count)));
         }
         match self.stale(&draft, front) {
-            Ok(None) => {
+            None => {
                 let is_latest = front.is(&self.front);
                 let remains = self.accept(rt, number, draft, is_latest)?;
                 *front = self.front.again();
                 Ok(remains)
             }
-            Ok(Some(row)) => {
+            Some(row) => {
                 *front = self.front.again();
                 Err((draft, Cause::Stale(row)))
             }
-            Err(_) => Err((draft, Cause::NoMemory)),
         }
     }
 
-    /// The least row that a draft read and that has changed since the history on which it stands. Where that is
-    /// the journal there is nothing to compare, and where the changes since are known only the rows that they touch.
-    fn stale(
-        &self,
-        draft: &Draft<'i, S, KeepAll>,
-        front: &Front<J>,
-    ) -> Result<Option<Row>, NoMemory>
+    /// The least row that a draft read and that has changed since the history on which it stands.
+    /// Where that is the journal there is nothing to compare, and where the changes since are known
+    /// only the rows that they touch.
+    fn stale(&self, draft: &Draft<'i, S, KeepAll>, front: &Front<J>) -> Option<Row>
         requires problem { draft.now.problem ≡ J.problem }
         requires base { draft.now.base ≡ after J.problem J.opening front.now }
-        ensures row { result ≡ Ok (stale J.problem draft.now.base (after J.problem J.opening self.now) (calls_of draft.now.asked)) }
-        ensures fresh { result ≡ Ok None → Settles draft.now (after J.problem J.opening self.now) }
+        ensures row { result
+            ≡ stale J.problem draft.now.base (after J.problem J.opening self.now)
+            (calls_of draft.now.asked) }
+        ensures fresh { result ≡ None → Settles draft.now (after J.problem J.opening self.now) }
     {
         let shown = self.shown();
         if front.is(&shown.front) {
             draft.settles_on_base();
-            return Ok(None);
+            return None;
         }
         match shown.trail.between(front, &shown.front) {
-            Some(changes) => draft.stale_after(changes, &shown.sheet),
-            None => draft.stale(&shown.sheet),
+            Some(changes) => draft.stale_after(changes, &shown.sheet).unwrap(),
+            None => draft.stale(&shown.sheet).unwrap(),
         }
     }
 
-    /// Enters a draft into the journal, and publishes the timetable that it makes, which is the draft's
-    /// where this stands on the journal.
+    /// Enters a draft into the journal, and publishes the timetable that it makes, which is the
+    /// draft's where this stands on the journal.
     fn accept<R: Wait>(
         &mut self,
         rt: &R,
@@ -247,9 +260,11 @@ impl<'i, S: Sheet<'i>, J: Naming> Locked<S, J> {
         requires planner { number < J.planners }
         requires settles { Settles draft.value (after J.problem J.opening self.old) }
         requires latest { is_latest ≡ true → draft.value.base ≡ after J.problem J.opening self.old }
-        ensures journal { IfOk result (λ _. self.new ≡ self.old ++ entry_of number draft.entry.value.asked ∷ []) }
+        ensures journal { IfOk result (λ _.
+            self.new ≡ self.old ++ entry_of number draft.entry.value.asked ∷ []) }
         ensures remains { IfOk result (λ remains. remains ≡ left_of draft.entry.value) }
-        ensures err { IfErr result (λ refused. (self.new ≡ self.old) × (refused.0.value ≡ draft.entry.value) × (refused.1 ≡ OutOfMemory)) }
+        ensures err { IfErr result (λ refused. (self.new ≡ self.old)
+            × (refused.0.value ≡ draft.entry.value) × (refused.1 ≡ OutOfMemory)) }
     {
         if self.journal.reserve(1).is_err() {
             return Err((draft, Cause::NoMemory));

@@ -2,8 +2,8 @@
 
 use std::marker::Brand;
 
-/// Which desk it is. A desk, its planners, their draftings and the receipts have one name, so none of
-/// them is used with another desk. A caller chooses what a name says where it passes `Brand`.
+/// Which desk it is. A desk, its planners, their draftings and the receipts have one name, so none
+/// of them is used with another desk. A caller chooses what a name says where it passes `Brand`.
 pub trait Naming {
     ghost use Rattle.std.specs.Prelude.{ℕ, List};
     ghost use Rattle.logbook.specs.Pages.{Book};

@@ -36,13 +36,18 @@ impl<S: Timetable> Model for Opened<S> {
 
     ghost Value = { OpenedValue };
 
-    ghost view = { λ o. record { problem = S.problem o.sheet; list = o.opening.items; book = o.seen.book } };
+    ghost view = { λ o. record {
+      problem = S.problem o.sheet;
+      list = o.opening.items;
+      book = o.seen.book;
+    } };
 
-    ghost invariant = { λ o. (S.list o.sheet ≡ o.opening.items) × (o.seen.log ≡ []) × (o.word ≡ head_of o.seen.book) };
+    ghost invariant = { λ o. (S.list o.sheet ≡ o.opening.items) × (o.seen.log ≡ [])
+        × (o.word ≡ head_of o.seen.book) };
 }
 
-/// How many changes are kept with a published timetable: four times as many as may be made in place of a copy, by
-/// the cells that a copy copies.
+/// How many changes are kept with a published timetable: four times as many as may be made in place
+/// of a copy, by the cells that a copy copies.
 fn room_for_changes(instance: &Instance) -> usize {
     instance.limits_hold();
     let cells = instance.courses() as usize * instance.slots() as usize;
@@ -50,8 +55,8 @@ fn room_for_changes(instance: &Instance) -> usize {
 }
 
 impl<'i, S: Sheet<'i>> Opened<S> {
-    /// The timetable of these lectures, which are placed in their order, whatever it is. It is refused
-    /// at the first lecture that cannot be placed.
+    /// The timetable of these lectures, which are placed in their order, whatever it is. It is
+    /// refused at the first lecture that cannot be placed.
     pub fn new(
         alloc: Global,
         instance: &'i Instance,

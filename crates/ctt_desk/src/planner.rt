@@ -1,6 +1,6 @@
 //! Planners.
 
-ghost use Rattle.std.specs.Prelude.{◌≡◌, ◌+◌, ◌<◌, ◌≤◌, ◌↔◌, [], length, IsTrue, IfOk, IfErr};
+ghost use Rattle.std.specs.Prelude.{◌≡◌, ◌+◌, ◌<◌, ◌≤◌, ◌↔◌, ◌⊎◌, [], length, IsTrue, IfOk, IfErr};
 ghost use mathlib.Core.List.{IsPrefix};
 ghost use Rattle.ctt_edits.specs.Fitting.{IsReply};
 ghost use Rattle.ctt_edits.specs.Looks.{LookFits, shown as shown_of};
@@ -20,11 +20,11 @@ use ctt_board::{Sheet, Timetable};
 use ctt_core::PlannerNo;
 use ctt_edits::{Look, Reply, laws};
 use ctt_text::NoMemory;
-use std::alloc::Global;
+use std::alloc::{AllocError, Global};
 use std::marker::Model;
 
-/// One who drafts. Contracts see the number, how many drafts were committed, and the front: the history
-/// that the planner has seen.
+/// One who drafts. Contracts see the number, how many drafts were committed, and the front: the
+/// history that the planner has seen.
 #[derive(Drop)]
 pub struct Planner<S: Timetable, J: Naming> {
     pub(crate) alloc: Global,
@@ -33,8 +33,8 @@ pub struct Planner<S: Timetable, J: Naming> {
     pub(crate) front: Front<J>,
     /// It is there but while the planner reads.
     pub(crate) place: Option<Place<S, J>>,
-    /// The sheet of the last draft, for a draft to come.
-    pub(crate) kept: Option<Box<Kept<S, J>>>,
+    /// The sheet of the last draft, for a draft to come, and room for it.
+    pub(crate) kept: Box<Option<Kept<S, J>>>,
 }
 
 impl<S: Timetable, J: Naming> Model for Planner<S, J> {
@@ -47,24 +47,31 @@ impl<S: Timetable, J: Naming> Model for Planner<S, J> {
 
     ghost view = { λ p. record { number = p.number; committed = p.committed; front = p.front } };
 
-    ghost invariant = { λ p. (p.number < J.planners) × Legal J.problem J.opening p.front × (p.committed ≤ length (own p.number p.front)) × IsSome p.place };
+    ghost invariant = { λ p. (p.number < J.planners) × Legal J.problem J.opening p.front
+        × (p.committed ≤ length (own p.number p.front)) × IsSome p.place };
 }
 
 impl<S: Timetable, J: Naming> Planner<S, J> {
     /// A planner of the desk who has committed nothing.
-    pub(crate) fn new(alloc: Global, number: u16, front: &Front<J>, place: Place<S, J>) -> Self
+    pub(crate) fn new(
+        alloc: Global,
+        number: u16,
+        front: &Front<J>,
+        place: Place<S, J>,
+    ) -> Result<Self, AllocError>
         requires number { number < J.planners }
         requires front { front.now ≡ [] }
-        ensures { result ≡ new_planner number }
+        ensures { IfOk result (λ planner. planner ≡ new_planner number) }
     {
-        Planner {
+        let kept = Box::new(alloc, None)?;
+        Ok(Planner {
             alloc,
             number: PlannerNo::new(number),
             committed: 0,
             front: front.again(),
             place: Some(place),
-            kept: None,
-        }
+            kept,
+        })
     }
 
     /// The planner's number.
@@ -98,16 +105,17 @@ impl<S: Timetable, J: Naming> Planner<S, J> {
         self.front.begins(history)
     }
 
-    /// The planner, who keeps a sheet, if there is memory.
+    /// The planner, who keeps a sheet.
     pub(crate) fn keeping(self, kept: Kept<S, J>) -> Self
         ensures { result ≡ self }
     {
-        let kept = Box::new(self.alloc, kept).ok();
-        Planner { kept, ..self }
+        let mut planner = self;
+        *planner.kept = Some(kept);
+        planner
     }
 
-    /// The planner with one commit more, which is the last one in his front, and its receipt. He keeps
-    /// a sheet, if there is memory.
+    /// The planner with one commit more, which is the last one in his front, and its receipt. He
+    /// keeps a sheet.
     pub(crate) fn accepted(self, kept: Kept<S, J>) -> (Self, Receipt<J>)
         requires { length (own self.number self.front) ≡ self.committed + 1 }
         ensures planner { result.0 ≡ committed_more self }
@@ -119,19 +127,18 @@ impl<S: Timetable, J: Naming> Planner<S, J> {
         let receipt = Receipt {
             front: self.front.again(),
         };
-        let kept = Box::new(self.alloc, kept).ok();
         let planner = Planner {
             committed: committed + 1,
-            kept,
             ..self
         };
-        (planner, receipt)
+        (planner.keeping(kept), receipt)
     }
 
     /// Takes in what a receipt shows.
     pub fn learn(&mut self, receipt: &Receipt<J>)
         ensures grows { Grows J.problem J.opening self.old self.new }
         ensures receipt { IsPrefix receipt.now self.new.front }
+        ensures one { (self.new.front ≡ self.old.front) ⊎ (self.new.front ≡ receipt.now) }
     {
         self.front = self.front.longer(&receipt.front);
     }
@@ -141,38 +148,19 @@ impl<'i, S: Sheet<'i>, J: Naming> Planner<S, J> {
     /// Opens a draft on the timetable that was published last, which the planner has then seen.
     pub fn open(self) -> Result<Drafting<'i, S, J>, (Self, SharedFault)>
         ensures ok { IfOk result (IsOpen J.problem J.opening self) }
-        ensures err { IfErr result (λ refused. IsUnread J.problem J.opening self refused.0 refused.1) }
+        ensures err { IfErr result (λ refused.
+            IsUnread J.problem J.opening self refused.0 refused.1) }
     {
-        let Planner {
-            alloc,
-            number,
-            committed,
-            front,
-            place,
-            kept,
-        } = self;
-        match enter(place.unwrap(), &front) {
+        let mut planner = self;
+        match enter(planner.place.take().unwrap(), &planner.front) {
             Err(place) => {
-                let planner = Planner {
-                    alloc,
-                    number,
-                    committed,
-                    front,
-                    place: Some(place),
-                    kept,
-                };
+                planner.place = Some(place);
                 Err((planner, SharedFault::NoPlace))
             }
             Ok((visit, seen)) => {
-                let opened = draft_on(alloc, kept, visit.get(), &seen);
-                let planner = Planner {
-                    alloc,
-                    number,
-                    committed,
-                    front: seen,
-                    place: Some(visit.leave()),
-                    kept: None,
-                };
+                let opened = draft_on(planner.alloc, planner.kept.take(), visit.get(), &seen);
+                planner.place = Some(visit.leave());
+                planner.front = seen;
                 match opened {
                     Ok(draft) => Ok(Drafting { planner, draft }),
                     Err(_) => Err((planner, SharedFault::NoMemory)),
@@ -194,7 +182,7 @@ impl<'i, S: Sheet<'i>, J: Naming> Planner<S, J> {
                 Err(SharedFault::NoPlace)
             }
             Ok((visit, seen)) => {
-                let told = shown(self.alloc, &visit.get().sheet, look);
+                let told = look_at(self.alloc, &visit.get().sheet, look);
                 self.place = Some(visit.leave());
                 self.front = seen;
                 Ok(told?)
@@ -204,9 +192,10 @@ impl<'i, S: Sheet<'i>, J: Naming> Planner<S, J> {
 }
 
 /// What a look shows of a sheet.
-fn shown<'i, S: Sheet<'i>>(alloc: Global, sheet: &S, look: &Look) -> Result<Reply, NoMemory>
+fn look_at<'i, S: Sheet<'i>>(alloc: Global, sheet: &S, look: &Look) -> Result<Reply, NoMemory>
     requires { LookFits (S.problem sheet.now) look.now }
-    ensures told { IfOk result (λ told. told ≡ shown_of (S.problem sheet.now) (S.list sheet.now) look.now) }
+    ensures told { IfOk result (λ told.
+        told ≡ shown_of (S.problem sheet.now) (S.list sheet.now) look.now) }
     ensures fits { IfOk result (IsReply (S.problem sheet.now)) }
 {
     laws::replies_fit();

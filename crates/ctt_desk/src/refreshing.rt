@@ -19,8 +19,8 @@ use ctt_draft::{Draft, KeepAll};
 use ctt_edits::Row;
 use ctt_text::NoMemory;
 
-/// Brings a draft up to date with a published timetable, as `Draft::refresh` does. Where that is the one on
-/// which the draft stands there is nothing to do.
+/// Brings a draft up to date with a published timetable, as `Draft::refresh` does. Where that is
+/// the one on which the draft stands there is nothing to do.
 fn refresh_on<'i, S: Sheet<'i>, J: Naming>(
     draft: &mut Draft<'i, S, KeepAll>,
     front: &Front<J>,
@@ -28,7 +28,9 @@ fn refresh_on<'i, S: Sheet<'i>, J: Naming>(
 ) -> Result<Option<Row>, NoMemory>
     requires problem { draft.old.problem ≡ J.problem }
     requires base { draft.old.base ≡ after J.problem J.opening front.now }
-    ensures ok { IfOk result (λ found. (found ≡ stale J.problem draft.old.base shown.now.list (calls_of draft.old.asked)) × (draft.new ≡ refreshed draft.old shown.now.list found)) }
+    ensures ok { IfOk result (λ found.
+        (found ≡ stale J.problem draft.old.base shown.now.list (calls_of draft.old.asked))
+        × (draft.new ≡ refreshed draft.old shown.now.list found)) }
     ensures err { OnErr result (draft.new ≡ draft.old) }
 {
     if front.is(&shown.front) {
@@ -39,8 +41,9 @@ fn refresh_on<'i, S: Sheet<'i>, J: Naming>(
 }
 
 impl<'i, S: Sheet<'i>, J: Naming> Drafting<'i, S, J> {
-    /// Brings the draft up to date: where no row that it read has changed since it was opened, or last
-    /// refreshed, it goes on from the timetable that was published last, which the planner has then seen.
+    /// Brings the draft up to date: where no row that it read has changed since it was opened, or
+    /// last refreshed, it goes on from the timetable that was published last, which the planner has
+    /// then seen.
     pub fn refresh(self) -> Result<Self, RefreshRefusal<'i, S, J>>
         ensures ok { IfOk result (IsRefreshed J.problem J.opening self.entry) }
         ensures err { IfErr result (IsNotRefreshed J.problem J.opening self.entry) }

@@ -9,11 +9,12 @@ use ctt_edits::Row;
 /// Why a draft was not accepted.
 #[derive(Drop)]
 pub enum Refusal<'i, S: Timetable, J: Naming> {
-    /// The journal has another number of drafts of this planner than the planner committed, namely this
-    /// one. The draft has ended.
+    /// The planner has seen more drafts than the journal has, namely this many; or the journal has
+    /// another number of this planner's drafts than the planner committed, namely this one. The
+    /// draft has ended.
     NotYours(Planner<S, J>, u64),
-    /// This row, the least of those that were read and have changed since the draft was opened, or last
-    /// refreshed. The draft has ended.
+    /// This row, the least of those that were read and have changed since the draft was opened, or
+    /// last refreshed. The draft has ended.
     Stale(Planner<S, J>, Row),
     /// There is not enough memory. The draft is as it was.
     NoMemory(Drafting<'i, S, J>),
@@ -26,7 +27,7 @@ pub enum RefreshRefusal<'i, S: Timetable, J: Naming> {
     NoPlace(Drafting<'i, S, J>),
     /// There is not enough memory. The draft is as it was.
     NoMemory(Drafting<'i, S, J>),
-    /// This row, the least of those that were read and have changed since the draft was opened, or last
-    /// refreshed. The draft has ended.
+    /// This row, the least of those that were read and have changed since the draft was opened, or
+    /// last refreshed. The draft has ended.
     Stale(Planner<S, J>, Row),
 }

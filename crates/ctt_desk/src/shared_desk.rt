@@ -2,6 +2,7 @@
 
 ghost use Rattle.std.specs.Prelude.{◌≡◌, ◌≤◌, ◌↔◌, [], length, All, IsTrue, IfOk, IfErr};
 ghost use mathlib.Core.List.{IsPrefix};
+ghost use Rattle.ctt_core.specs.Runs.{Legal};
 ghost use Rattle.ctt_desk.specs.Planners.{new_planners};
 ghost use Rattle.ctt_desk.specs.Faults.{IsWant};
 
@@ -16,6 +17,7 @@ use crate::shared_fault::SharedFault;
 use crate::shown::{Common, Publisher, Shown, place, publisher};
 use crate::update::Update;
 use ctt_board::Timetable;
+use ctt_text::let_go;
 use left_right::Absorb;
 use std::alloc::Global;
 use std::sync::{Mutex, Wait};
@@ -45,7 +47,9 @@ fn planners<S: Timetable, J: Naming>(
         let Some(place) = place(writer) else {
             return Err(SharedFault::NoPlace);
         };
-        let planner = Planner::new(alloc, number, front, place);
+        let Ok(planner) = Planner::new(alloc, number, front, place) else {
+            return Err(SharedFault::NoMemory);
+        };
         if planners.push(planner).is_err() {
             return Err(SharedFault::NoMemory);
         }
@@ -66,9 +70,18 @@ fn begins_with_all<S: Timetable, J: Naming>(planners: &[Planner<S, J>], history:
     true
 }
 
+/// Computes nothing: its contract says that the fronts of planners are legal.
+fn fronts_are_legal<S: Timetable, J: Naming>(planners: &[Planner<S, J>])
+    ensures { All (λ p. Legal J.problem J.opening p.front) planners.now }
+{
+    for planner in planners {
+        planner.seen();
+    }
+}
+
 impl<S: Timetable, J: Naming> SharedDesk<S, J> {
-    /// The desk that opens so, with so many planners, who are numbered from 0 and have committed and seen
-    /// nothing.
+    /// The desk that opens so, with so many planners, who are numbered from 0 and have committed
+    /// and seen nothing.
     pub fn new<R: Wait>(
         rt: &R,
         named: Named<S, J>,
@@ -93,34 +106,38 @@ impl<S: Timetable, J: Naming> SharedDesk<S, J> {
         let counts = no_counts(alloc, count)?;
         let places = usize::from(count).max(1);
         let writer = publisher(rt, alloc, sheet, &front, places, room)?;
-        match planners(alloc, count, &front, &writer) {
+        let made = planners(alloc, count, &front, &writer);
+        let locked = Locked::new(alloc, opening, counts, front, head, writer);
+        match made {
             Ok(planners) => {
-                let locked = Locked::new(alloc, opening, counts, front, head, writer);
                 let desk = SharedDesk {
                     locked: Mutex::new(locked),
                 };
                 Ok((desk, planners))
             }
             Err(fault) => {
-                writer.take(rt);
+                let_go(locked.close(rt));
                 Err(fault)
             }
         }
     }
 
-    /// Ends the desk, and gives its journal with its timetable: as `Ok` where the journal begins with
-    /// the front of each of these planners, who stay as they are.
+    /// Ends the desk, and gives its journal with its timetable: as `Ok` where the journal begins
+    /// with the front of each of these planners, who stay as they are.
     pub fn close<R: Wait>(
         self,
         rt: &R,
         planners: &mut [Planner<S, J>],
     ) -> Result<Closed<S, J>, Closed<S, J>>
         ensures same { planners.new ≡ planners.old }
+        ensures legal { All (λ p. Legal J.problem J.opening p.front) planners.new }
         ensures ok { IfOk result (λ closed. All (λ p. IsPrefix p.front closed) planners.old) }
-        ensures err { IfErr result (λ closed. All (λ p. length p.front ≤ length closed) planners.old → ⊥) }
+        ensures err { IfErr result (λ closed.
+            All (λ p. length p.front ≤ length closed) planners.old → ⊥) }
     {
         let SharedDesk { locked } = self;
         let closed = locked.into_inner().close(rt);
+        fronts_are_legal(planners);
         if begins_with_all(planners, closed.front()) {
             Ok(closed)
         } else {

@@ -8,8 +8,8 @@ use std::alloc::AllocError;
 /// What stands against a desk, a draft or a look.
 #[derive(Clone, Copy, PartialEq, Eq)]
 pub enum SharedFault {
-    /// The first lecture of the opening that cannot be placed, counted from 1, and what stands against
-    /// it.
+    /// The first lecture of the opening that cannot be placed, counted from 1, and what stands
+    /// against it.
     Unlawful(u64, EditFault),
     /// `left_right` refused a place, or to enter.
     NoPlace,

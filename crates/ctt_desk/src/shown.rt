@@ -12,7 +12,7 @@ use crate::update::Update;
 use crossbeam_utils::rule::{Outcome, Protocol};
 use ctt_board::Timetable;
 use ctt_core::JournalEntry;
-use ctt_text::{Instance, NoMemory, Placed};
+use ctt_text::{Instance, NoMemory, Placed, let_go};
 use left_right::Absorb;
 use left_right::reader::{Reader, Reading};
 use left_right::writer::Writer;
@@ -38,7 +38,8 @@ impl<S: Timetable, J: Naming> Model for Shown<S, J> {
 
     ghost view = { λ s. common (S.problem s.sheet) (S.list s.sheet) s.front };
 
-    ghost invariant = { λ s. IsAfter J.problem J.opening (S.problem s.sheet) (S.list s.sheet) s.front };
+    ghost invariant = { λ s.
+        IsAfter J.problem J.opening (S.problem s.sheet) (S.list s.sheet) s.front };
 }
 
 /// What both copies have in common. No value of it is made.
@@ -136,7 +137,9 @@ pub(crate) fn enter<S: Timetable, J: Naming>(
     place: Place<S, J>,
     front: &Front<J>,
 ) -> Result<(Visit<S, J>, Front<J>), Place<S, J>>
-    ensures right { IfOk result (λ entered. IsAfter J.problem J.opening entered.0.part.value.problem entered.0.part.value.list entered.1) }
+    ensures right { IfOk result (λ entered.
+        IsAfter J.problem J.opening entered.0.part.value.problem entered.0.part.value.list
+        entered.1) }
     ensures begins { IfOk result (λ entered. IsPrefix front.now entered.1) }
 {
     let visit = match place.enter_as::<Sees<J>>() {
@@ -166,7 +169,9 @@ pub(crate) fn copies<S: Timetable, J: Naming>(
     requires places { (0 < places) × (places < 2 ^ 32) }
     requires opening { IsAfter J.problem J.opening (S.problem opening) (S.list opening) front.now }
     requires front { front.now ≡ [] }
-    ensures right { IfOk result (λ writer. IsAfter J.problem J.opening writer.desk.shown.value.problem writer.desk.shown.value.list writer.desk.shown.value.history) }
+    ensures right { IfOk result (λ writer.
+        IsAfter J.problem J.opening writer.desk.shown.value.problem writer.desk.shown.value.list
+        writer.desk.shown.value.history) }
     ensures front { IfOk result (λ writer. writer.desk.shown.value.history ≡ []) }
     ensures rests { IfOk result (λ writer. drop writer.behind writer.log.items ≡ []) }
 {
@@ -192,9 +197,12 @@ pub(crate) fn publish_if_room<S: Timetable, J: Naming, R: Wait>(
     requires rests { drop writer.behind writer.log.items ≡ [] }
     requires behind { update.before ≡ writer.desk.shown.value.history }
     requires begins { IsPrefix writer.desk.shown.value.history update.front }
-    requires right { IsAfter J.problem J.opening writer.desk.shown.value.problem (apply_all update.changes writer.desk.shown.value.list) update.front }
+    requires right { IsAfter J.problem J.opening writer.desk.shown.value.problem
+        (apply_all update.changes writer.desk.shown.value.list) update.front }
     ensures rests { drop result.0.behind result.0.log.items ≡ [] }
-    ensures right { IfOk result.1 (λ _. IsAfter J.problem J.opening result.0.desk.shown.value.problem result.0.desk.shown.value.list update.front) }
+    ensures right { IfOk result.1 (λ _.
+        IsAfter J.problem J.opening result.0.desk.shown.value.problem result.0.desk.shown.value.list
+        update.front) }
     ensures front { IfOk result.1 (λ _. result.0.desk.shown.value.history ≡ update.front) }
     ensures err { IfErr result.1 (λ back. (back ≡ update) × (result.0.desk ≡ writer.desk)) }
 {
@@ -208,8 +216,8 @@ pub(crate) fn publish_if_room<S: Timetable, J: Naming, R: Wait>(
     }
 }
 
-/// Publishes an update, all at once. It waits where there is no room for it, as there always is behind
-/// two publishings.
+/// Publishes an update, all at once. It waits where there is no room for it, as there always is
+/// behind two publishings.
 pub(crate) fn publish<S: Timetable, J: Naming, R: Wait>(
     rt: &R,
     writer: Publisher<S, J>,
@@ -218,9 +226,11 @@ pub(crate) fn publish<S: Timetable, J: Naming, R: Wait>(
     requires rests { drop writer.behind writer.log.items ≡ [] }
     requires behind { update.before ≡ writer.desk.shown.value.history }
     requires begins { IsPrefix writer.desk.shown.value.history update.front }
-    requires right { IsAfter J.problem J.opening writer.desk.shown.value.problem (apply_all update.changes writer.desk.shown.value.list) update.front }
+    requires right { IsAfter J.problem J.opening writer.desk.shown.value.problem
+        (apply_all update.changes writer.desk.shown.value.list) update.front }
     ensures rests { drop result.behind result.log.items ≡ [] }
-    ensures right { IsAfter J.problem J.opening result.desk.shown.value.problem result.desk.shown.value.list update.front }
+    ensures right { IsAfter J.problem J.opening result.desk.shown.value.problem
+        result.desk.shown.value.list update.front }
     ensures front { result.desk.shown.value.history ≡ update.front }
 {
     let mut writer = writer;
@@ -243,9 +253,11 @@ fn publish_same<S: Timetable, J: Naming, R: Wait>(
     writer: Publisher<S, J>,
 ) -> (Publisher<S, J>, Result<(), NoMemory>)
     requires rests { drop writer.behind writer.log.items ≡ [] }
-    requires right { IsAfter J.problem J.opening writer.desk.shown.value.problem writer.desk.shown.value.list writer.desk.shown.value.history }
+    requires right { IsAfter J.problem J.opening writer.desk.shown.value.problem
+        writer.desk.shown.value.list writer.desk.shown.value.history }
     ensures rests { drop result.0.behind result.0.log.items ≡ [] }
-    ensures right { IsAfter J.problem J.opening result.0.desk.shown.value.problem result.0.desk.shown.value.list result.0.desk.shown.value.history }
+    ensures right { IsAfter J.problem J.opening result.0.desk.shown.value.problem
+        result.0.desk.shown.value.list result.0.desk.shown.value.history }
     ensures front { result.0.desk.shown.value.history ≡ writer.desk.shown.value.history }
 {
     let update = Update::none(alloc, &writer.published().front);
@@ -256,8 +268,9 @@ fn publish_same<S: Timetable, J: Naming, R: Wait>(
     }
 }
 
-/// An opening and a copy of it, which have room for the update of each commit: two updates lie in the
-/// writing end at most, of which a publishing drops the older one, so it publishes twice what is there.
+/// An opening and a copy of it, which have room for the update of each commit: two updates lie in
+/// the writing end at most, of which a publishing drops the older one, so it publishes twice what
+/// is there.
 pub(crate) fn publisher<S: Timetable, J: Naming, R: Wait>(
     rt: &R,
     alloc: Global,
@@ -269,7 +282,9 @@ pub(crate) fn publisher<S: Timetable, J: Naming, R: Wait>(
     requires places { (0 < places) × (places < 2 ^ 32) }
     requires opening { IsAfter J.problem J.opening (S.problem opening) (S.list opening) front.now }
     requires front { front.now ≡ [] }
-    ensures right { IfOk result (λ writer. IsAfter J.problem J.opening writer.desk.shown.value.problem writer.desk.shown.value.list writer.desk.shown.value.history) }
+    ensures right { IfOk result (λ writer.
+        IsAfter J.problem J.opening writer.desk.shown.value.problem writer.desk.shown.value.list
+        writer.desk.shown.value.history) }
     ensures front { IfOk result (λ writer. writer.desk.shown.value.history ≡ []) }
     ensures rests { IfOk result (λ writer. drop writer.behind writer.log.items ≡ []) }
 {
@@ -277,7 +292,7 @@ pub(crate) fn publisher<S: Timetable, J: Naming, R: Wait>(
     let (writer, once) = publish_same(rt, alloc, writer);
     let (writer, twice) = publish_same(rt, alloc, writer);
     if once.is_err() || twice.is_err() {
-        writer.take(rt);
+        let_go(writer.take(rt));
         return Err(NoMemory);
     }
     Ok(writer)

@@ -26,9 +26,9 @@ impl<J: Naming> Model for Mark<J> {
     ghost view = { λ m. record { front = m.front; at = m.at } };
 }
 
-/// The changes of the commits that were accepted lately, with the history after each: a sheet that is
-/// the opening after one of these histories becomes the opening after the last one by the changes since.
-/// Contracts see the last history and the changes.
+/// The changes of the commits that were accepted lately, with the history after each: a sheet that
+/// is the opening after one of these histories becomes the opening after the last one by the
+/// changes since. Contracts see the last history and the changes.
 #[derive(Drop)]
 pub(crate) struct Trail<J: Naming> {
     marks: Vec<Mark<J>>,
@@ -102,9 +102,13 @@ impl<J: Naming> Trail<J> {
         self.front = front.again();
     }
 
-    /// Adds the changes of a commit that comes behind the last history, where there is room for them.
+    /// Adds the changes of a commit that comes behind the last history, where there is room for
+    /// them.
     fn add(&mut self, update: &Update<J>) -> bool
-        ensures { IsTrue result → self.new ≡ record { front = update.now.front; changes = self.old.changes ++ update.now.changes } }
+        ensures { IsTrue result → self.new ≡ record {
+          front = update.now.front;
+          changes = self.old.changes ++ update.now.changes;
+        } }
     {
         let changes = update.changes();
         let left = self.changes.capacity() - self.changes.len();
@@ -117,8 +121,8 @@ impl<J: Naming> Trail<J> {
         true
     }
 
-    /// Adds the changes of a commit, or forgets those before it where it does not come behind them, or
-    /// where there is no room. It takes no memory.
+    /// Adds the changes of a commit, or forgets those before it where it does not come behind them,
+    /// or where there is no room. It takes no memory.
     pub(crate) fn follow(&mut self, update: &Update<J>)
         ensures { self.new.front ≡ update.now.front }
     {
@@ -132,8 +136,9 @@ impl<J: Naming> Trail<J> {
     }
 
     /// How many of the changes were made before a history ended, where it is marked.
-    fn place(&self, history: &Front<J>) -> Option<usize>
-        ensures { IfSome result (λ place. LeadsOn J.problem J.opening self.now.front self.now.changes place history.now) }
+    fn made_before(&self, history: &Front<J>) -> Option<usize>
+        ensures { IfSome result (λ made.
+            LeadsOn J.problem J.opening self.now.front self.now.changes made history.now) }
     {
         let oldest = self.marks.first()?.front.len();
         let number = history.len().checked_sub(oldest)?;
@@ -144,16 +149,17 @@ impl<J: Naming> Trail<J> {
         Some(mark.at)
     }
 
-    /// The changes that lead from the opening after one history to the opening after another, if they
-    /// are known, and not more than a quarter of those for which there is room.
+    /// The changes that lead from the opening after one history to the opening after another, if
+    /// they are known, and not more than a quarter of those for which there is room.
     pub(crate) fn between(&self, from: &Front<J>, to: &Front<J>) -> Option<&[Change]>
-        ensures { IfSome result (λ changes. LeadsOn J.problem J.opening to.now changes.now 0 from.now) }
+        ensures { IfSome result (λ changes.
+            LeadsOn J.problem J.opening to.now changes.now 0 from.now) }
     {
         if !self.front.is(to) {
             return None;
         }
-        let place = self.place(from)?;
-        let changes = &self.changes[place..];
+        let made = self.made_before(from)?;
+        let changes = &self.changes[made..];
         if changes.len() > self.changes.capacity() / 4 {
             return None;
         }

@@ -32,7 +32,8 @@ impl<J: Naming> Model for Update<J> {
 
     ghost view = { λ u. record { changes = u.changes.items; before = u.before; front = u.front } };
 
-    ghost invariant = { λ u. LeadsOn J.problem J.opening u.front u.changes.items 0 u.before × IfSome u.cost (λ x. x ≡ penalty J.problem (after J.problem J.opening u.front)) };
+    ghost invariant = { λ u. LeadsOn J.problem J.opening u.front u.changes.items 0 u.before
+        × IfSome u.cost (λ x. x ≡ penalty J.problem (after J.problem J.opening u.front)) };
 }
 
 impl<J: Naming> Update<J> {
@@ -79,11 +80,12 @@ impl<J: Naming> Update<J> {
         }
     }
 
-    /// The changes: they lead from the opening after the history before to the opening after the one
-    /// with the commit.
+    /// The changes: they lead from the opening after the history before to the opening after the
+    /// one with the commit.
     pub(crate) fn changes(&self) -> &[Change]
         ensures changes { result.now ≡ self.now.changes }
-        ensures leads { LeadsOn J.problem J.opening self.now.front self.now.changes 0 self.now.before }
+        ensures leads { LeadsOn J.problem J.opening self.now.front self.now.changes 0
+            self.now.before }
     {
         self.changes.as_slice()
     }
@@ -104,7 +106,8 @@ impl<J: Naming> Update<J> {
 
     /// What the timetable costs behind that history, where it is known.
     pub(crate) fn cost(&self) -> Option<Cost>
-        ensures { IfSome result (λ x. x ≡ penalty J.problem (after J.problem J.opening self.now.front)) }
+        ensures { IfSome result (λ x.
+            x ≡ penalty J.problem (after J.problem J.opening self.now.front)) }
     {
         self.cost
     }

@@ -1,4 +1,4 @@
-use Rattle.std.proofs.Common.{rules, ◌≡◌, Ok, ◌∙◌, ap, subst}
+use Rattle.std.proofs.Common.{rules, ◌≡◌, ◌∙◌, ap, subst}
 use Rattle.ctt_draft.specs.DraftValues.{DraftValue, Settles}
 use Rattle.ctt_core.specs.Runs.{after}
 use Rattle.ctt_desk.proofs.locked.Locked.commit.Goals as goal
@@ -14,6 +14,6 @@ pub accept-requires : goal.accept-requires
 accept-requires g c κs =
     let is : c.deref.result.now ≡ c.args.draft.value = search rules in
     let settles : Settles c.args.draft.value (after g.J.Naming.problem g.J.Naming.opening c.args.self.now) =
-    subst (λ (d : DraftValue). Settles d (after g.J.Naming.problem g.J.Naming.opening c.args.self.now)) is (c.stale.ensures.fresh (c.in-Ok-None.is ∙ ap Ok c.in-Ok-None.field-0-is))
+    subst (λ (d : DraftValue). Settles d (after g.J.Naming.problem g.J.Naming.opening c.args.self.now)) is (c.stale.ensures.fresh c.in-None.is)
     in
     search rules

@@ -4,7 +4,7 @@ use Rattle.ctt_text.specs.Problem.{IsProblem}
 use Rattle.ctt_edits.specs.Fitting.{IsReply}
 use Rattle.ctt_edits.specs.Looks.{shown}
 use Rattle.ctt_edits.specs.declared.call.Call.TheVariants.{Look as Looks}
-use Rattle.ctt_desk.proofs.planner.shown.Goals as goal
+use Rattle.ctt_desk.proofs.planner.look_at.Goals as goal
 
 pub returns-clause-fits : goal.returns-clause-fits
 returns-clause-fits g c =
