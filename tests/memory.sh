@@ -1,9 +1,15 @@
 #!/usr/bin/env bash
-# Refuses each request for memory of some runs of the program as it was built, alone and with all after it, by a `malloc` in
-# front of the C library's. Each such run has to end with status 3 and 'timedesk: no memory', or as it does with memory, where
-# the request only gives memory back. Run by hand, since it needs a C compiler. The last line is 'N passed, M failed'.
+# Refuses requests for memory, by a `malloc` in front of the C library's.
+#
+# Of the trials each request is refused alone, from the first on until a run meets no refusal. Each run has to print what the trials
+# print with memory, but for the number of calls that were made again: which is at least 1, unless the request only gave memory back,
+# or kept something for later that can be done without. Of the program each request of some runs is refused, alone and with all after
+# it: it has to end with status 3 and 'timedesk: no memory' and store nothing, or to end as it does with memory.
+#
+# It needs a C compiler. TRIALS and PROGRAM name other builds. The last line is 'N passed, M failed', of runs that met a refusal.
 set -u
 here=$(CDPATH='' cd -- "$(dirname -- "${BASH_SOURCE[0]}")/.." && pwd) || exit 1
+trials=${TRIALS:-$here/crates/ctt_trials/out/ctt_trials}
 program=${PROGRAM:-$here/crates/ctt_tool/out/ctt_tool}
 room=$(mktemp -d) || exit 1
 trap 'rm -rf -- "$room"' EXIT
@@ -11,42 +17,54 @@ cat >"$room/refuse.c" <<'C'
 #define _GNU_SOURCE
 #include <dlfcn.h>
 #include <fcntl.h>
+#include <malloc.h>
+#include <stdatomic.h>
 #include <stdlib.h>
-#include <sys/mman.h>
 #include <unistd.h>
 
-static long own, number;
-/* how many requests there were: in a file, since the program may end without a word to the C library */
-static long *asked = &own;
+static atomic_long asked;
+static long number;
 static int later;
+static int met = -1;
 static void *(*next_malloc)(size_t);
 static void *(*next_realloc)(void *, size_t);
 
 __attribute__((constructor)) static void begin(void) {
-    const char *name = getenv("ASKED");
+    const char *name = getenv("MET");
     next_malloc = dlsym(RTLD_NEXT, "malloc");
     next_realloc = dlsym(RTLD_NEXT, "realloc");
     number = getenv("REFUSE") ? atol(getenv("REFUSE")) : 0;
     later = getenv("REFUSE_LATER") != 0;
     if (name) {
-        int file = open(name, O_RDWR | O_CREAT | O_TRUNC, 0600);
-        if (file >= 0 && ftruncate(file, sizeof own) == 0) {
-            void *shared = mmap(0, sizeof own, PROT_READ | PROT_WRITE, MAP_SHARED, file, 0);
-            asked = shared == MAP_FAILED ? &own : shared;
-        }
+        met = open(name, O_WRONLY | O_CREAT | O_TRUNC, 0600);
     }
-    *asked = 0;
+    /* what was asked for until now was not asked for by the program */
+    atomic_store(&asked, 0);
 }
 
-static int refused(void) {
-    ++*asked;
-    return number > 0 && (later ? *asked >= number : *asked == number);
+/* whether the request is refused: which kind it is is noted, since the program may end without a word to the C library */
+static int refused(const char kind[5]) {
+    long now = atomic_fetch_add(&asked, 1) + 1;
+    if (number == 0 || (later ? now < number : now != number)) {
+        return 0;
+    }
+    if (met >= 0 && write(met, kind, 5) != 5) {
+        _exit(99);
+    }
+    return 1;
 }
 
-void *malloc(size_t size) { return next_malloc && refused() ? 0 : next_malloc ? next_malloc(size) : 0; }
-void *realloc(void *old, size_t size) { return refused() ? 0 : next_realloc(old, size); }
+void *malloc(size_t size) { return next_malloc && !refused("more\n") ? next_malloc(size) : 0; }
+
+void *realloc(void *old, size_t size) {
+    return refused(old && size <= malloc_usable_size(old) ? "less\n" : "more\n") ? 0 : next_realloc(old, size);
+}
 C
-cc -O1 -shared -fPIC -o "$room/refuse.so" "$room/refuse.c" -ldl || exit 1
+compiler=$(command -v cc || command -v gcc || command -v clang) || {
+    echo 'no C compiler was found, so no memory was refused'
+    exit 1
+}
+"$compiler" -O1 -shared -fPIC -o "$room/refuse.so" "$room/refuse.c" -ldl || exit 1
 cp -- "$here"/examples/*.ctt "$here"/examples/*.sol "$here"/examples/*.txt "$room"
 cd -- "$room" || exit 1
 head -n 4 s.sol >s0.sol
@@ -55,21 +73,59 @@ echo 'Barred: 2 alg A top A END.' >barred
 # a draft that is brought up to date, and one that turns out to be stale
 printf '%s\n' '0 open' '0 place geo A 0 1' '2 open' '2 slot 0 2' '1 open' '1 place top B 0 2' '1 commit' '0 refresh' '2 refresh' '0 slot 0 2' \
     '0 commit' >refreshed
+lanes=$(nproc)
 
-passed=0
-failed=0
-for words in 'check small.ctt s.sol' 'check small.ctt s.sol --json' 'check comp07.ctt comp07.sol' 'check small.ctt small.ctt' \
-    'check nowhere s.sol' 'check small.ctt s.sol --barred barred' 'run small.ctt row9.txt' \
-    'run small.ctt row9.txt --start s0.sol --journal journal' 'run small.ctt refreshed --barred barred --journal journal' \
-    'audit small.ctt told --start s0.sol' --help frobnicate; do
-    LD_PRELOAD=$room/refuse.so ASKED=$room/asked "$program" $words >out 2>err
+# Runs the trials with each request refused whose number is that of the lane, or so many more, and notes how each run ended.
+lane() {
+    local number printed told kind
+    for ((number = $1; ; number += lanes)); do
+        printed=$(LD_PRELOAD=$room/refuse.so MET=met.$1 REFUSE=$number "$trials" 2>/dev/null && echo done)
+        kind=
+        read -r kind <"met.$1"
+        [ -n "$kind" ] || break
+        told=${printed##*again }
+        if [ "${printed%again *}" != "$wanted" ] || [[ ! $told =~ ^[0-9]+$'\n'done$ ]]; then
+            echo "FAILED: the trials, request $number"
+        elif [[ $told != 0* ]]; then
+            echo again
+        elif [ "$kind" = less ]; then
+            echo back
+        else
+            echo without
+        fi
+    done
+}
+
+# How many runs were noted as this.
+noted() { cat lane.* | grep -c "$@"; }
+
+wanted=$("$trials")
+wanted=${wanted%again *}
+if [ -z "$wanted" ]; then
+    echo 'the trials print nothing'
+    exit 1
+fi
+for ((first = 1; first <= lanes; first++)); do
+    lane "$first" >"lane.$first" &
+done
+wait
+cat lane.* | grep FAILED | head -n 20
+passed=$(noted -v FAILED)
+failed=$(noted FAILED)
+echo "the trials met $((passed + failed)) refusals: $(noted again) calls were made again, $(noted back) requests gave memory back," \
+    "$(noted without) could be done without"
+
+of_trials=$passed
+for words in 'check small.ctt s.sol --json --barred barred' 'check small.ctt small.ctt' \
+    'run small.ctt refreshed --barred barred --journal journal' 'audit small.ctt told --start s0.sol' frobnicate; do
+    "$program" $words >out 2>err
     wanted=$?
-    asked=$(od -An -t d8 asked)
     for later in '' REFUSE_LATER=1; do
-        for ((number = 1; number <= asked; number++)); do
+        for ((number = 1; ; number++)); do
             rm -f journal
-            env LD_PRELOAD="$room/refuse.so" REFUSE=$number $later "$program" $words >out.now 2>err.now
+            env LD_PRELOAD="$room/refuse.so" MET=met REFUSE=$number $later "$program" $words >out.now 2>err.now
             status=$?
+            [ -s met ] || break
             # answers may be printed before the memory for the journal is wanted, which is not stored then
             if [[ $words == *--journal* ]] && [ -s out.now ] && [ ! -e journal ] && cmp -s out out.now; then
                 : >out.now
@@ -84,5 +140,6 @@ for words in 'check small.ctt s.sol' 'check small.ctt s.sol --json' 'check comp0
         done
     done
 done
+echo "the program met $((passed - of_trials)) more"
 echo "$passed passed, $failed failed"
 [ "$failed" = 0 ]

@@ -1,8 +1,8 @@
-//! The small instance, one of its solutions, and short names for what is in them.
+//! The small instance, and short names for what is in it.
 
 use crate::stopped::Stopped;
 use ctt_rules::Cost;
-use ctt_text::{CourseNo, Instance, Placed, RoomNo, SlotNo, read_instance, read_solution};
+use ctt_text::{CourseNo, Instance, Placed, RoomNo, SlotNo, read_instance};
 use std::alloc::Global;
 
 /// Three courses, of which alg and geo are members of a curriculum, and alg and top have one
@@ -28,35 +28,9 @@ geo 0 0
 END.
 ";
 
-/// A solution of it.
-pub(crate) const SOLUTION: &str = "alg A 0 0
-alg B 1 0
-geo A 0 1
-geo A 1 2
-top B 0 2
-";
-
-/// The instance of a text.
-pub(crate) fn instance_of(alloc: Global, text: &str) -> Result<Instance, Stopped> {
-    read_instance(alloc, text.as_bytes()).or(Err(Stopped::TextRefused))
-}
-
 /// The small instance.
 pub(crate) fn small_instance(alloc: Global) -> Result<Instance, Stopped> {
-    instance_of(alloc, SMALL)
-}
-
-/// The lectures of a solution's text.
-pub(crate) fn lectures_of(
-    alloc: Global,
-    instance: &Instance,
-    text: &str,
-) -> Result<Vec<Placed>, Stopped> {
-    read_solution(alloc, instance, text.as_bytes()).or(Err(Stopped::TextRefused))
-}
-
-pub(crate) fn alg() -> CourseNo {
-    CourseNo::new(0)
+    read_instance(alloc, SMALL.as_bytes()).or(Err(Stopped::TextRefused))
 }
 
 pub(crate) fn geo() -> CourseNo {

@@ -1,8 +1,7 @@
-//! Why a test could not be played to its end; and lists that are asked for, for which there may be no memory.
+//! Why a test could not be played to its end.
 
 use ctt_text::NoMemory;
 use std::alloc::{AllocError, AllocFailed};
-use std::process::Abort;
 
 /// What a test met that it did not look for.
 #[derive(Clone, Copy, Debug)]
@@ -35,15 +34,4 @@ impl<T: Drop> From<AllocFailed<T>> for Stopped {
     fn from(_e: AllocFailed<T>) -> Stopped {
         Stopped::NoMemory
     }
-}
-
-/// Stops where a list that was asked for has not these elements.
-pub(crate) fn expect_list<T: PartialEq + Drop>(
-    rt: &impl Abort,
-    told: Result<Vec<T>, NoMemory>,
-    wanted: &[T],
-) -> Result<(), Stopped> {
-    let told = told?;
-    assert!(rt; told.as_slice() == wanted);
-    Ok(())
 }

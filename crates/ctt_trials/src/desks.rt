@@ -1,0 +1,274 @@
+//! A script as events on a desk that keeps its journal: one by one, and at once. What the desk leaves is told, and its
+//! journal is written, read and audited.
+
+ghost use Rattle.std.specs.Prelude.{◌≡◌, ◌↔◌, IsTrue, length};
+ghost use Rattle.std.specs.List.{AllByRecursion as Each};
+ghost use Rattle.ctt_edits.specs.Fitting.{AreFew, IsShortReply};
+ghost use Rattle.ctt_core.specs.Entries.{EntryFits};
+ghost use Rattle.ctt_core.specs.Runs.{EventFits};
+ghost use Rattle.ctt_script.specs.Entries.{IsShort};
+
+use crate::faults::of_journal;
+use crate::sheets::lectures_fit;
+use crate::story::Story;
+use ctt_board::Sheet;
+use ctt_core::{Answer, Desk, DeskFault, Event, JournalEntry, Verdict, audit};
+use ctt_draft::KeepAll;
+use ctt_edits::Reply;
+use ctt_script::{Lines, PLANNERS, read_journal, read_line, write_journal};
+use ctt_text::{Instance, NoMemory, Placed, let_go};
+use std::alloc::{AllocError, Global};
+
+/// How many events a script has at most.
+const EVENTS: usize = 64;
+
+/// Whether a reply can be written.
+fn is_short_reply(reply: &Reply) -> bool
+    ensures { IsTrue result ↔ IsShortReply reply.now }
+{
+    match reply {
+        Reply::Lectures(list) => list.as_slice().len() <= 999_999_999,
+        Reply::Done | Reply::Refused(_) | Reply::Costs(_) | Reply::Price(_) => true,
+    }
+}
+
+/// Whether an entry can be written.
+fn is_short(entry: &JournalEntry) -> bool
+    ensures { IsTrue result ↔ IsShort entry.now }
+{
+    let asked = entry.asked.as_slice();
+    asked.len() <= 999_999_999 && asked.iter().all(|one| is_short_reply(&one.reply))
+}
+
+/// Whether entries can be written.
+fn are_short(entries: &[JournalEntry]) -> bool
+    ensures { IsTrue result ↔ Each IsShort entries.now }
+{
+    entries.iter().all(|entry| is_short(entry))
+}
+
+/// Whether the numbers of entries are those of an instance.
+fn entries_fit(small: &Instance, entries: &[JournalEntry]) -> bool
+    ensures { IsTrue result ↔ Each (EntryFits small.now) entries.now }
+{
+    entries.iter().all(|entry| entry.fits(small))
+}
+
+/// Tells what is found of entries.
+fn tell_verdict<'i, S: Sheet<'i>>(
+    story: &mut Story,
+    small: &'i Instance,
+    opening: &[Placed],
+    entries: &[JournalEntry],
+) {
+    if !lectures_fit(small, opening) || !entries_fit(small, entries) {
+        return story.say("unfit");
+    }
+    match audit::<S>(story.alloc(), small, opening, entries) {
+        Ok(Verdict::Agrees) => story.say("agrees"),
+        Ok(Verdict::Differs(entry, call)) => {
+            story.pair("differs", entry);
+            story.count("", call);
+        }
+        Ok(Verdict::BadOpening(at, fault)) => story.unlawful(small, at, fault),
+        Err(NoMemory) => story.no_memory(),
+    }
+}
+
+/// Reads and audits the text of a journal.
+pub(crate) fn audit_text<'i, S: Sheet<'i>>(
+    story: &mut Story,
+    small: &'i Instance,
+    opening: &[Placed],
+    text: &[u8],
+) {
+    match read_journal(story.alloc(), small, text) {
+        Ok(entries) => tell_verdict::<S>(story, small, opening, &entries),
+        Err(fault) => story.fault(of_journal(fault)),
+    }
+}
+
+/// Tells the journal of entries, and what is found of it.
+pub(crate) fn tell_journal<'i, S: Sheet<'i>>(
+    story: &mut Story,
+    small: &'i Instance,
+    opening: &[Placed],
+    entries: &[JournalEntry],
+) {
+    if !entries_fit(small, entries) || !are_short(entries) || entries.len() > 999_999_999 {
+        return story.say("unfit");
+    }
+    match write_journal(story.alloc(), small, entries) {
+        Ok(text) => {
+            story.bytes(&text);
+            audit_text::<S>(story, small, opening, &text);
+        }
+        Err(NoMemory) => story.no_memory(),
+    }
+}
+
+/// Tells the lectures, the cost and the journal of a desk.
+pub(crate) fn tell_desk<'i, S: Sheet<'i>>(
+    story: &mut Story,
+    small: &'i Instance,
+    opening: &[Placed],
+    desk: &Desk<'i, S, KeepAll>,
+) {
+    story.lectures(small, desk.list());
+    story.costs(small, desk.cost());
+    tell_journal::<S>(story, small, opening, desk.journal());
+}
+
+/// A desk with these lectures, for as many planners as a script has.
+fn desk_with<'i, S: Sheet<'i>>(
+    story: &mut Story,
+    small: &'i Instance,
+    opening: &[Placed],
+) -> Option<Desk<'i, S, KeepAll>> {
+    if !lectures_fit(small, opening) {
+        return None;
+    }
+    match Desk::new(story.alloc(), small, opening, PLANNERS) {
+        Ok(desk) => Some(desk),
+        Err(DeskFault::NoMemory) => {
+            story.no_memory();
+            None
+        }
+        Err(DeskFault::Unlawful(at, fault)) => {
+            story.unlawful(small, at, fault);
+            None
+        }
+    }
+}
+
+/// Whether an event is one of a desk.
+fn event_fits<'i, S: Sheet<'i>>(desk: &Desk<'i, S, KeepAll>, event: &Event) -> bool
+    ensures { IsTrue result ↔ EventFits desk.now.problem (length desk.now.drafts) event.now }
+{
+    event.fits(desk.instance(), desk.planners())
+}
+
+/// What a desk answers to an event. Where that is want of memory, it is asked again.
+fn answer<'i, S: Sheet<'i>>(
+    story: &mut Story,
+    desk: &mut Desk<'i, S, KeepAll>,
+    event: &Event,
+) -> Answer {
+    if !event_fits(desk, event) {
+        return Answer::NoMemory;
+    }
+    match desk.step(*event) {
+        Answer::NoMemory => {
+            story.call_again();
+            if event_fits(desk, event) {
+                desk.step(*event)
+            } else {
+                Answer::NoMemory
+            }
+        }
+        answer => answer,
+    }
+}
+
+/// Answers a script line by line.
+fn answer_lines<'i, S: Sheet<'i>>(
+    story: &mut Story,
+    small: &'i Instance,
+    desk: &mut Desk<'i, S, KeepAll>,
+    script: &str,
+) {
+    for line in Lines::new(script.as_bytes()) {
+        match read_line(small, line) {
+            Some(event) => {
+                let answer = answer(story, desk, &event);
+                story.answer(small, &answer);
+            }
+            None if line.is_empty() => {}
+            None => story.say("bad line"),
+        }
+    }
+}
+
+/// Plays a script event by event, and answers where its answers end in what was told.
+pub(crate) fn step<'i, S: Sheet<'i>>(
+    story: &mut Story,
+    small: &'i Instance,
+    opening: &[Placed],
+    script: &str,
+) -> usize {
+    let Some(mut desk) = desk_with::<S>(story, small, opening) else {
+        return story.len();
+    };
+    answer_lines(story, small, &mut desk, script);
+    let end = story.len();
+    tell_desk(story, small, opening, &desk);
+    let_go(desk);
+    end
+}
+
+/// The events of a script, with none for a bad line.
+fn events_of(alloc: Global, small: &Instance, script: &str) -> Result<Vec<Event>, AllocError> {
+    let mut events = Vec::with_capacity(alloc, EVENTS)?;
+    for line in Lines::new(script.as_bytes()) {
+        if let Some(event) = read_line(small, line) {
+            if events.push(event).is_err() {
+                return Err(AllocError);
+            }
+        }
+    }
+    Ok(events)
+}
+
+/// What a desk answers to events at once.
+fn answers<'i, S: Sheet<'i>>(
+    story: &mut Story,
+    desk: &mut Desk<'i, S, KeepAll>,
+    events: &[Event],
+) -> Result<Vec<Answer>, NoMemory> {
+    if !desk.takes(events) {
+        return Err(NoMemory);
+    }
+    match desk.run(events) {
+        Err(NoMemory) => {
+            story.call_again();
+            if desk.takes(events) {
+                desk.run(events)
+            } else {
+                Err(NoMemory)
+            }
+        }
+        told => told,
+    }
+}
+
+/// Whether an event wanted memory.
+fn is_wanting(answers: &[Answer]) -> bool {
+    answers
+        .iter()
+        .any(|answer| matches!(answer, Answer::NoMemory))
+}
+
+/// Plays a script at once. Where an event wanted memory, the events behind it met another desk than they should.
+pub(crate) fn run<'i, S: Sheet<'i>>(
+    story: &mut Story,
+    small: &'i Instance,
+    opening: &[Placed],
+    script: &str,
+) {
+    let Ok(events) = events_of(story.alloc(), small, script) else {
+        return story.no_memory();
+    };
+    let Some(mut desk) = desk_with::<S>(story, small, opening) else {
+        return;
+    };
+    match answers(story, &mut desk, &events) {
+        Ok(answers) if !is_wanting(&answers) => {
+            for answer in &answers {
+                story.answer(small, answer);
+            }
+            tell_desk(story, small, opening, &desk);
+        }
+        _ => story.no_memory(),
+    }
+    let_go(desk);
+}

@@ -1,0 +1,192 @@
+//! Drafts by themselves, on both kinds of sheets.
+
+ghost use Rattle.std.specs.Prelude.{◌≡◌, ◌↔◌, IsTrue, IfOk};
+ghost use Rattle.ctt_edits.specs.Calls.{CallFits};
+
+use crate::sheets::{call_of, empty_sheet, tell_cells, tell_sheet};
+use crate::story::Story;
+use ctt_board::{Cell, Change, GridSheet, ListSheet, Sheet};
+use ctt_core::Answer;
+use ctt_draft::{Draft, KeepAll, replay};
+use ctt_edits::{Call, Reply};
+use ctt_text::{CourseNo, Instance, NoMemory, RoomNo, SlotNo};
+
+/// top in the third period of the first day, in room B.
+fn top() -> Cell {
+    Cell {
+        course: CourseNo::new(2),
+        slot: SlotNo::new(2),
+        room: Some(RoomNo::new(1)),
+    }
+}
+
+/// Opens a draft on a sheet.
+fn open<'i, S: Sheet<'i>>(story: &Story, sheet: &S) -> Result<Draft<'i, S, KeepAll>, NoMemory>
+    ensures { IfOk result (λ draft. draft.problem ≡ S.problem sheet.now) }
+{
+    Draft::open(story.alloc(), sheet)
+}
+
+/// Whether a call has numbers of a draft's instance.
+fn call_fits<'i, S: Sheet<'i>>(draft: &Draft<'i, S, KeepAll>, call: &Call) -> bool
+    ensures { IsTrue result ↔ CallFits draft.now.problem call.now }
+{
+    call.fits(draft.instance())
+}
+
+/// What a draft answers to a call.
+fn ask<'i, S: Sheet<'i>>(
+    story: &mut Story,
+    draft: &mut Draft<'i, S, KeepAll>,
+    call: Call,
+) -> Option<Reply>
+    ensures { draft.new.problem ≡ draft.old.problem }
+{
+    if !call_fits(draft, &call) {
+        return None;
+    }
+    match draft.call(call) {
+        Ok(reply) => Some(reply),
+        Err(NoMemory) => {
+            story.call_again();
+            draft.call(call).ok()
+        }
+    }
+}
+
+/// Asks a draft what a line says, and tells the answer.
+fn ask_line<'i, S: Sheet<'i>>(story: &mut Story, draft: &mut Draft<'i, S, KeepAll>, line: &str)
+    ensures { draft.new.problem ≡ draft.old.problem }
+{
+    let small = draft.instance();
+    match call_of(small, line) {
+        Some(call) => match ask(story, draft, call) {
+            Some(reply) => story.answer(small, &Answer::Replied(reply)),
+            None => story.no_memory(),
+        },
+        None => story.say("bad line"),
+    }
+}
+
+/// Tells whether a draft is stale against a sheet.
+fn tell_stale<'i, S: Sheet<'i>>(story: &mut Story, draft: &Draft<'i, S, KeepAll>, sheet: &S)
+    requires { S.problem sheet.now ≡ draft.now.problem }
+{
+    match draft.stale(sheet) {
+        Ok(Some(row)) => story.answer(sheet.instance(), &Answer::Stale(row)),
+        Ok(None) => story.say("not stale"),
+        Err(NoMemory) => story.no_memory(),
+    }
+}
+
+/// Makes the changes of a draft again on a copy of a sheet.
+fn tell_replayed<'i, S: Sheet<'i>>(story: &mut Story, draft: &Draft<'i, S, KeepAll>, sheet: &S) {
+    match sheet.copy() {
+        Ok(mut copy) => {
+            story.count("replayed", u64::from(replay(draft.changes(), &mut copy)));
+            tell_sheet(story, &copy);
+        }
+        Err(NoMemory) => story.no_memory(),
+    }
+}
+
+/// Tells the cells that a draft would put back, and how many changes and calls it has.
+fn tell_work<'i, S: Sheet<'i>>(story: &mut Story, draft: &Draft<'i, S, KeepAll>) {
+    tell_cells(story, draft.undo());
+    story.count("changes", draft.changes().len() as u64);
+    story.count("calls", draft.asked().len() as u64);
+}
+
+/// Ends a draft, and settles it on a sheet, unless it is stale there.
+fn settle<'i, S: Sheet<'i>>(story: &mut Story, draft: Draft<'i, S, KeepAll>, sheet: &mut S)
+    requires { S.problem sheet.old ≡ draft.problem }
+{
+    match draft.stale(sheet) {
+        Ok(None) => {
+            let work = draft.finish();
+            story.count("calls", work.asked.len());
+            story.count("changes", work.changes.len() as u64);
+            work.settle(sheet);
+            tell_sheet(story, sheet);
+        }
+        Ok(Some(_)) | Err(NoMemory) => story.say("not settled"),
+    }
+}
+
+/// A draft on an empty sheet that looks at a slot and places geo. Another sheet has top in that slot.
+fn one_draft<'i, S: Sheet<'i>>(story: &mut Story, sheet: &mut S, other: &S)
+    requires { S.problem other.now ≡ S.problem sheet.old }
+{
+    let Ok(mut draft) = open(story, sheet) else {
+        return story.no_memory();
+    };
+    ask_line(story, &mut draft, "slot 0 2");
+    ask_line(story, &mut draft, "place geo A 0 1");
+    tell_stale(story, &draft, sheet);
+    tell_stale(story, &draft, other);
+    tell_replayed(story, &draft, other);
+    tell_work(story, &draft);
+    settle(story, draft, sheet);
+}
+
+/// A draft of a thousand calls, which places geo and drops it again by turns.
+fn long_draft<'i, S: Sheet<'i>>(story: &mut Story, sheet: &mut S) {
+    let Ok(mut draft) = open(story, sheet) else {
+        return story.no_memory();
+    };
+    let mut done = 0u64;
+    for turn in 0..1000u64 {
+        let line = if turn % 2 == 0 {
+            "place geo A 0 1"
+        } else {
+            "drop geo 0 1"
+        };
+        let call = call_of(draft.instance(), line);
+        if let Some(call) = call {
+            if matches!(ask(story, &mut draft, call), Some(Reply::Done)) {
+                done = done.saturating_add(1);
+            }
+        }
+    }
+    story.count("done", done);
+    tell_work(story, &draft);
+    settle(story, draft, sheet);
+}
+
+/// Drafts on one kind of sheet.
+fn play_on<'i, S: Sheet<'i>>(story: &mut Story, small: &'i Instance) {
+    let (Ok(mut sheet), Ok(mut other)) = (
+        empty_sheet::<S>(story, small),
+        empty_sheet::<S>(story, small),
+    ) else {
+        return story.no_memory();
+    };
+    if let Some(change) = Change::of(&[top()]) {
+        let _is_made = replay(&[change], &mut other);
+    }
+    one_draft(story, &mut sheet, &other);
+}
+
+/// A long draft on one kind of sheet, which is empty.
+fn play_long_on<'i, S: Sheet<'i>>(story: &mut Story, small: &'i Instance) {
+    match empty_sheet::<S>(story, small) {
+        Ok(mut sheet) => long_draft(story, &mut sheet),
+        Err(NoMemory) => story.no_memory(),
+    }
+}
+
+/// Drafts on both kinds of sheets.
+pub(crate) fn play(story: &mut Story, small: &Instance) {
+    story.say("drafts");
+    let from = story.len();
+    played!(story, play_on::<ListSheet>(story, small));
+    let to = story.len();
+    played!(story, play_on::<GridSheet>(story, small));
+    story.compare(from, to, to, "on the grid sheet");
+    story.say("a draft of a thousand calls");
+    let from = story.len();
+    played!(story, play_long_on::<ListSheet>(story, small));
+    let to = story.len();
+    played!(story, play_long_on::<GridSheet>(story, small));
+    story.compare(from, to, to, "on the grid sheet");
+}

@@ -1,0 +1,318 @@
+//! A script that is read from a device, and its answers that are written to one; also where the devices fail.
+
+use crate::desks::tell_desk;
+use crate::devices::{Broken, Failing, Memory, Shelf};
+use crate::sheets::lectures_fit;
+use crate::story::Story;
+use ctt_board::{GridSheet, Sheet};
+use ctt_core::Desk;
+use ctt_draft::KeepAll;
+use ctt_script::{Device, Failed, InputFault, ScriptFault, Sink, put_all, read_all, run_script};
+use ctt_text::{Instance, Placed, let_go};
+use std::alloc::AllocError;
+
+/// How many bytes an input has at most.
+const LIMIT: usize = 4_096;
+
+/// How an input is read.
+#[derive(Drop)]
+struct Reading<'a> {
+    text: &'a [u8],
+    /// The number of the read that fails, counted from 1; none where it is 0.
+    fails_at: u64,
+    /// How many reads were tried.
+    pulls: u64,
+}
+
+impl<'a> Reading<'a> {
+    fn new(text: &'a [u8], fails_at: u64) -> Self {
+        Reading {
+            text,
+            fails_at,
+            pulls: 0,
+        }
+    }
+}
+
+/// Runs a script.
+fn run_once<'i, S: Sheet<'i>>(
+    story: &Story,
+    small: &'i Instance,
+    opening: &[Placed],
+    reading: &mut Reading,
+    shelf: &mut Shelf,
+) -> Result<Desk<'i, S, KeepAll>, ScriptFault> {
+    if !lectures_fit(small, opening) {
+        return Err(ScriptFault::NoMemory);
+    }
+    let mut reader = Memory::new(reading.text, reading.fails_at);
+    let ran = run_script(story.alloc(), small, opening, &mut reader, shelf, &mut None);
+    reading.pulls = reader.pulls();
+    ran
+}
+
+/// Runs a script, and once more where memory is wanted, then on a writer as it was before.
+fn run<'i, S: Sheet<'i>>(
+    story: &mut Story,
+    small: &'i Instance,
+    opening: &[Placed],
+    reading: &mut Reading,
+    shelf: &mut Shelf,
+    failing: Failing,
+) -> Result<Desk<'i, S, KeepAll>, ScriptFault> {
+    shelf.renew(failing);
+    match run_once(story, small, opening, reading, shelf) {
+        Err(ScriptFault::NoMemory) => {
+            story.call_again();
+            shelf.renew(failing);
+            run_once(story, small, opening, reading, shelf)
+        }
+        ran => ran,
+    }
+}
+
+/// Tells why a script could not be run.
+fn tell_fault(story: &mut Story, small: &Instance, fault: ScriptFault) {
+    match fault {
+        ScriptFault::Unlawful(at, fault) => story.unlawful(small, at, fault),
+        ScriptFault::Read => story.say("failed read"),
+        ScriptFault::TooLong => story.say("too long"),
+        ScriptFault::Write => story.say("failed write"),
+        ScriptFault::NoMemory => story.no_memory(),
+    }
+}
+
+/// Plays a script that is read from one device, and whose answers are written to another.
+pub(crate) fn play_script<'i, S: Sheet<'i>>(
+    story: &mut Story,
+    small: &'i Instance,
+    opening: &[Placed],
+    script: &str,
+) {
+    let Ok(mut shelf) = Shelf::new(story.alloc(), Failing::Never) else {
+        return story.no_memory();
+    };
+    let mut reading = Reading::new(script.as_bytes(), 0);
+    let ran = run::<S>(
+        story,
+        small,
+        opening,
+        &mut reading,
+        &mut shelf,
+        Failing::Never,
+    );
+    story.bytes(shelf.held());
+    match ran {
+        Ok(desk) => {
+            tell_desk(story, small, opening, &desk);
+            let_go(desk);
+        }
+        Err(fault) => tell_fault(story, small, fault),
+    }
+}
+
+/// A script with its answers, for devices that fail.
+#[derive(Clone, Copy)]
+pub(crate) struct Told<'a> {
+    pub(crate) script: &'a [u8],
+    pub(crate) answers: &'a [u8],
+}
+
+/// Runs a script on a writer that fails, and answers whether that is a failed write.
+fn fails_to_write<'i, S: Sheet<'i>>(
+    story: &mut Story,
+    small: &'i Instance,
+    told: Told,
+    shelf: &mut Shelf,
+    failing: Failing,
+) -> bool {
+    let mut reading = Reading::new(told.script, 0);
+    let ran = run::<S>(story, small, &[], &mut reading, shelf, failing);
+    match ran {
+        Ok(desk) => {
+            let_go(desk);
+            false
+        }
+        Err(fault) => fault == ScriptFault::Write,
+    }
+}
+
+/// Runs a script on a reader whose read with this number fails, and answers whether that is a failed read, behind which no
+/// other one was tried.
+fn fails_to_read<'i, S: Sheet<'i>>(
+    story: &mut Story,
+    small: &'i Instance,
+    told: Told,
+    shelf: &mut Shelf,
+    fails_at: u64,
+) -> bool {
+    let mut reading = Reading::new(told.script, fails_at);
+    let ran = run::<S>(story, small, &[], &mut reading, shelf, Failing::Never);
+    match ran {
+        Ok(desk) => {
+            let_go(desk);
+            false
+        }
+        Err(fault) => fault == ScriptFault::Read && reading.pulls == fails_at,
+    }
+}
+
+/// Behind how many bytes a writer may fail so that the script has a failed write, and these bytes were written.
+fn failing_writes(story: &mut Story, small: &Instance, told: Told, shelf: &mut Shelf) -> u64 {
+    let mut failed = 0u64;
+    for behind in 0..told.answers.len() {
+        let failing = Failing::Behind(behind);
+        if fails_to_write::<GridSheet>(story, small, told, shelf, failing)
+            && told.answers.starts_with(shelf.held())
+            && shelf.held().len() == behind
+        {
+            failed = failed.saturating_add(1);
+        }
+    }
+    failed
+}
+
+/// Behind how many bytes a reader may fail so that the script has a failed read, and nothing was written.
+fn failing_reads(story: &mut Story, small: &Instance, told: Told, shelf: &mut Shelf) -> u64 {
+    let mut failed = 0u64;
+    for behind in 0..=told.script.len() as u64 {
+        if fails_to_read::<GridSheet>(story, small, told, shelf, behind.saturating_add(1))
+            && shelf.held().is_empty()
+        {
+            failed = failed.saturating_add(1);
+        }
+    }
+    failed
+}
+
+/// Tells how a script ends on a writer that fails, and what was written.
+fn tell_failing(
+    story: &mut Story,
+    small: &Instance,
+    told: Told,
+    shelf: &mut Shelf,
+    failing: Failing,
+) {
+    let is_failed = fails_to_write::<GridSheet>(story, small, told, shelf, failing);
+    story.count("a failed write", u64::from(is_failed));
+    story.count("flushes", shelf.flushes());
+    story.count("bytes", shelf.held().len() as u64);
+    story.bytes(shelf.held());
+    story.say("");
+}
+
+/// A script on devices that fail.
+fn play_failing(story: &mut Story, small: &Instance, told: Told, shelf: &mut Shelf) {
+    let failed = failing_writes(story, small, told, shelf);
+    story.count("writers that fail behind some bytes", failed);
+    let failed = failing_reads(story, small, told, shelf);
+    story.count("readers that fail behind some bytes", failed);
+    story.say("a writer that takes nothing");
+    tell_failing(story, small, told, shelf, Failing::Idle);
+    story.say("a writer whose flush fails");
+    tell_failing(story, small, told, shelf, Failing::Flush);
+    story.say("a writer that fails behind three bytes");
+    let bad = Told {
+        script: b"0 commit",
+        answers: b"no draft\n",
+    };
+    tell_failing(story, small, bad, shelf, Failing::Behind(3));
+}
+
+/// Reads a text from a device.
+fn read(story: &mut Story, reading: &mut Reading, limit: usize) -> Result<Vec<u8>, InputFault> {
+    let mut reader = Memory::new(reading.text, reading.fails_at);
+    let told = read_all(story.alloc(), &mut reader, limit);
+    reading.pulls = reader.pulls();
+    if matches!(told, Err(InputFault::NoMemory)) {
+        story.no_memory();
+    }
+    told
+}
+
+/// Behind how many bytes a reader of a text may fail so that this is a failed read, and no other one was tried.
+fn failing_reads_of(story: &mut Story, text: &[u8]) -> u64 {
+    let mut failed = 0u64;
+    for behind in 0..=text.len() as u64 {
+        let fails_at = behind.saturating_add(1);
+        let mut reading = Reading::new(text, fails_at);
+        let told = read(story, &mut reading, LIMIT);
+        if matches!(told, Err(InputFault::Read)) && reading.pulls == fails_at {
+            failed = failed.saturating_add(1);
+        }
+    }
+    failed
+}
+
+/// Behind how many bytes a writer may fail so that a text has a failed write, and these bytes were written.
+fn failing_writes_of(text: &[u8], shelf: &mut Shelf) -> u64 {
+    let mut failed = 0u64;
+    for behind in 0..text.len() {
+        shelf.renew(Failing::Behind(behind));
+        if put_all(shelf, text).is_err()
+            && text.starts_with(shelf.held())
+            && shelf.held().len() == behind
+        {
+            failed = failed.saturating_add(1);
+        }
+    }
+    failed
+}
+
+/// Tells how a text is read that may have four bytes.
+fn tell_limited(story: &mut Story, text: &[u8]) {
+    let mut reading = Reading::new(text, 0);
+    match read(story, &mut reading, 4) {
+        Ok(bytes) => {
+            story.bytes(&bytes);
+            story.say("");
+        }
+        Err(InputFault::TooLong) => story.say("too long"),
+        Err(_) => story.say("not read"),
+    }
+}
+
+/// Readers and writers of std whose calls all fail.
+fn broken(story: &mut Story) {
+    let mut broken = Device::new(Broken);
+    let fault = read_all(story.alloc(), &mut broken, 4).err();
+    story.count("a failed read", u64::from(fault == Some(InputFault::Read)));
+    let mut broken = Device::new(Broken);
+    story.count(
+        "a failed write",
+        u64::from(put_all(&mut broken, b"no") == Err(Failed)),
+    );
+    let mut broken = Device::new(Broken);
+    story.count(
+        "a failed flush",
+        u64::from(Sink::flush(&mut broken) == Err(Failed)),
+    );
+}
+
+/// Texts that are read from devices that fail, and written to such.
+pub(crate) fn play_texts(story: &mut Story, read: &[&[u8]], written: &[&[u8]]) {
+    story.say("texts on devices that fail");
+    let Ok(mut shelf) = Shelf::new(story.alloc(), Failing::Never) else {
+        return story.no_memory();
+    };
+    for text in read {
+        let failed = failing_reads_of(story, text);
+        story.count("failed reads", failed);
+    }
+    for text in written {
+        let failed = failing_writes_of(text, &mut shelf);
+        story.count("failed writes", failed);
+    }
+    tell_limited(story, b"four");
+    tell_limited(story, b"fives");
+    broken(story);
+}
+
+/// A script with its answers on devices that fail.
+pub(crate) fn play_devices(story: &mut Story, small: &Instance, told: Told) {
+    story.say("a script on devices that fail");
+    match Shelf::new(story.alloc(), Failing::Never) {
+        Ok(mut shelf) => play_failing(story, small, told, &mut shelf),
+        Err(AllocError) => story.no_memory(),
+    }
+}

@@ -1,0 +1,221 @@
+//! A script on a shared desk, played by its planners on one thread, of whom one learns each receipt.
+
+ghost use Rattle.ctt_desk.specs.Names.{IsNamed};
+
+use crate::desks::tell_journal;
+use crate::seats::Seat;
+use crate::sheets::lectures_fit;
+use crate::story::Story;
+use crate::turns::{answer_lines, instance_of, leave, look_at_end, sit};
+use ctt_board::{GridSheet, ListSheet, Sheet, Timetable};
+use ctt_desk::{Closed, Named, Naming, Opened, Planner, SharedDesk, SharedFault};
+use ctt_text::{Instance, Placed, let_go};
+use std::alloc::AllocError;
+use std::marker::{Brand, PhantomData};
+use std::sync::Wait;
+
+/// How many planners a desk has.
+const PLANNERS: u16 = 4;
+
+/// A script, and the lectures with which the desk opens on which it is played.
+#[derive(Clone, Copy)]
+pub(crate) struct Script<'a> {
+    pub(crate) opening: &'a [Placed],
+    pub(crate) lines: &'a str,
+}
+
+/// What was told of a script that was played before: where its answers begin and end, and where what the desk left ends.
+#[derive(Clone, Copy)]
+pub(crate) struct Before {
+    pub(crate) answers: usize,
+    pub(crate) end: usize,
+    pub(crate) all: usize,
+}
+
+/// The opening of a desk.
+fn opened<'i, S: Sheet<'i>>(
+    story: &Story,
+    small: &'i Instance,
+    opening: &[Placed],
+) -> Result<Opened<S>, SharedFault> {
+    if !lectures_fit(small, opening) {
+        return Err(SharedFault::NoMemory);
+    }
+    Opened::<S>::new(story.alloc(), small, opening)
+}
+
+/// Room for the planners of a desk.
+fn room_for<T: Drop>(story: &Story) -> Result<Vec<T>, AllocError> {
+    Vec::with_capacity(story.alloc(), usize::from(PLANNERS))
+}
+
+/// The planners play a script at their desk.
+fn play_at<'i, S: Sheet<'i>, J: Naming, R: Wait>(
+    story: &mut Story,
+    rt: &R,
+    desk: &SharedDesk<S, J>,
+    seats: &mut [Option<Seat<'i, S, J>>],
+    script: Script,
+    before: Before,
+) {
+    let Some(small) = instance_of(seats) else {
+        return story.no_memory();
+    };
+    let here = story.len();
+    answer_lines(story, rt, desk, small, seats, script.lines);
+    story.compare(before.answers, before.end, here, "on a shared desk");
+    look_at_end(story, rt, desk, small, seats);
+}
+
+/// Tells what a closed desk has.
+fn tell_closed<'i, S: Sheet<'i>, J: Naming>(
+    story: &mut Story,
+    small: &'i Instance,
+    opening: &[Placed],
+    closed: &Closed<S, J>,
+) {
+    story.lectures(small, closed.list());
+    story.costs(small, closed.cost());
+    tell_journal::<S>(story, small, opening, closed.journal());
+}
+
+/// Tells how many drafts each planner has seen, and committed.
+fn tell_seen<S: Timetable, J: Naming>(story: &mut Story, planners: &[Planner<S, J>]) {
+    for planner in planners {
+        story.pair("seen", planner.seen());
+        story.count(" committed", planner.committed());
+    }
+}
+
+/// Closes a desk with all its planners.
+fn close<'i, S: Sheet<'i>, J: Naming, R: Wait>(
+    story: &mut Story,
+    rt: &R,
+    desk: SharedDesk<S, J>,
+    small: &'i Instance,
+    planners: &mut Vec<Planner<S, J>>,
+    script: Script,
+    before: Before,
+) {
+    let here = story.len();
+    match desk.close(rt, planners.as_mut_slice()) {
+        Ok(closed) => {
+            tell_closed(story, small, script.opening, &closed);
+            let_go(closed);
+        }
+        Err(closed) => {
+            story.say("not closed with all");
+            let_go(closed);
+        }
+    }
+    story.compare(before.end, before.all, here, "what it left");
+    tell_seen(story, planners);
+}
+
+/// Plays a script on a desk that is opened for it.
+fn play_named<'i, S: Sheet<'i>, J: Naming, R: Wait>(
+    story: &mut Story,
+    rt: &R,
+    named: Named<S, J>,
+    small: &'i Instance,
+    script: Script,
+    before: Before,
+) {
+    let (Ok(mut seats), Ok(mut planners)) = (room_for(story), room_for(story)) else {
+        let_go(named);
+        return story.no_memory();
+    };
+    match SharedDesk::<S, J>::new(rt, named) {
+        Ok((desk, all)) => {
+            sit(&mut seats, all);
+            play_at(story, rt, &desk, &mut seats, script, before);
+            leave(seats, &mut planners);
+            close(story, rt, desk, small, &mut planners, script, before);
+            let_go(planners);
+        }
+        Err(_fault) => story.no_memory(),
+    }
+}
+
+/// Plays a script on a desk of list sheets of which is known which one it is.
+fn named_on_list<'i, J: Naming, R: Wait>(
+    story: &mut Story,
+    rt: &R,
+    opened: Opened<ListSheet<'i>>,
+    count: u16,
+    small: &'i Instance,
+    script: Script,
+    before: Before,
+)
+    requires { IsNamed J.problem J.opening J.planners J.book opened count }
+{
+    let named = Named {
+        opened,
+        count,
+        name: PhantomData,
+    };
+    play_named::<ListSheet, J, R>(story, rt, named, small, script, before);
+}
+
+/// Plays a script on a desk of list sheets.
+fn on_list<R: Wait>(story: &mut Story, rt: &R, small: &Instance, script: Script, before: Before) {
+    match opened::<ListSheet>(story, small, script.opening) {
+        Ok(opened) => named_on_list::<Brand, R>(story, rt, opened, PLANNERS, small, script, before),
+        Err(_fault) => story.no_memory(),
+    }
+}
+
+/// Plays a script on a desk of grid sheets of which is known which one it is.
+fn named_on_grid<'i, J: Naming, R: Wait>(
+    story: &mut Story,
+    rt: &R,
+    opened: Opened<GridSheet<'i>>,
+    count: u16,
+    small: &'i Instance,
+    script: Script,
+    before: Before,
+)
+    requires { IsNamed J.problem J.opening J.planners J.book opened count }
+{
+    let named = Named {
+        opened,
+        count,
+        name: PhantomData,
+    };
+    play_named::<GridSheet, J, R>(story, rt, named, small, script, before);
+}
+
+/// Plays a script on a desk of grid sheets.
+fn on_grid<R: Wait>(story: &mut Story, rt: &R, small: &Instance, script: Script, before: Before) {
+    match opened::<GridSheet>(story, small, script.opening) {
+        Ok(opened) => named_on_grid::<Brand, R>(story, rt, opened, PLANNERS, small, script, before),
+        Err(_fault) => story.no_memory(),
+    }
+}
+
+/// Plays a script on shared desks of both kinds of sheets.
+pub(crate) fn play<R: Wait>(
+    story: &mut Story,
+    rt: &R,
+    small: &Instance,
+    script: Script,
+    before: Before,
+) {
+    let from = story.len();
+    played!(story, on_list(story, rt, small, script, before));
+    let to = story.len();
+    played!(story, on_grid(story, rt, small, script, before));
+    story.compare(from, to, to, "on a shared desk on the grid sheet");
+}
+
+/// Tells why a desk cannot open with some lectures.
+pub(crate) fn tell_unlawful(story: &mut Story, small: &Instance, lectures: &[Placed]) {
+    match opened::<GridSheet>(story, small, lectures) {
+        Ok(opened) => {
+            story.say("opened");
+            let_go(opened);
+        }
+        Err(SharedFault::Unlawful(at, fault)) => story.unlawful(small, at, fault),
+        Err(_fault) => story.no_memory(),
+    }
+}

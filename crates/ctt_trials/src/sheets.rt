@@ -1,0 +1,284 @@
+//! Cases on one sheet: what is placed, asked and refused, on both kinds of sheets.
+
+ghost use Rattle.std.specs.Prelude.{◌≡◌, ◌↔◌, IsTrue, IfOk};
+ghost use Rattle.std.specs.List.{AllByRecursion as Each};
+ghost use Rattle.ctt_text.specs.Timetable.{Fits};
+ghost use Rattle.ctt_edits.specs.Edits.{EditFits};
+ghost use Rattle.ctt_edits.specs.Looks.{LookFits};
+
+use crate::story::Story;
+use ctt_board::{Cell, Change, GridSheet, ListSheet, Sheet};
+use ctt_core::{Event, PlannerNo, placed};
+use ctt_edits::{Call, Edit, Look, Row, check, look, reads};
+use ctt_script::{Lines, read_own_line};
+use ctt_text::{CourseNo, Instance, NoMemory, Placed, RoomNo, SlotNo};
+
+/// geo in the second period of the first day, in room A.
+fn geo() -> Placed {
+    Placed {
+        course: CourseNo::new(1),
+        slot: SlotNo::new(1),
+        room: RoomNo::new(0),
+    }
+}
+
+/// The call that a line asks for.
+pub(crate) fn call_of(small: &Instance, line: &str) -> Option<Call> {
+    match read_own_line(small, PlannerNo::new(0), line.as_bytes()) {
+        Some(Event::Ask(_planner, call)) => Some(call),
+        _ => None,
+    }
+}
+
+/// Whether lectures have numbers of the instance.
+pub(crate) fn lectures_fit(small: &Instance, lectures: &[Placed]) -> bool
+    ensures { IsTrue result ↔ Each (Fits small.now) lectures.now }
+{
+    lectures.iter().all(|lecture| lecture.fits(small))
+}
+
+/// Whether a lecture has numbers of the instance of a sheet.
+fn lecture_fits<'i, S: Sheet<'i>>(sheet: &S, lecture: &Placed) -> bool
+    ensures { IsTrue result ↔ Fits (S.problem sheet.now) lecture.now }
+{
+    lecture.fits(sheet.instance())
+}
+
+/// Whether an edit has numbers of the instance of a sheet.
+fn edit_fits<'i, S: Sheet<'i>>(sheet: &S, edit: &Edit) -> bool
+    ensures { IsTrue result ↔ EditFits (S.problem sheet.now) edit.now }
+{
+    edit.fits(sheet.instance())
+}
+
+/// Whether a look has numbers of the instance of a sheet.
+fn look_fits<'i, S: Sheet<'i>>(sheet: &S, asked: &Look) -> bool
+    ensures { IsTrue result ↔ LookFits (S.problem sheet.now) asked.now }
+{
+    asked.fits(sheet.instance())
+}
+
+/// An empty sheet.
+pub(crate) fn empty_sheet<'i, S: Sheet<'i>>(
+    story: &Story,
+    small: &'i Instance,
+) -> Result<S, NoMemory>
+    ensures { IfOk result (λ sheet. S.problem sheet ≡ small.now) }
+{
+    S::empty(story.alloc(), small)
+}
+
+/// A sheet with lectures, or none where they are no opening.
+fn sheet_of<'i, S: Sheet<'i>>(
+    story: &Story,
+    small: &'i Instance,
+    lectures: &[Placed],
+) -> Option<S> {
+    if !lectures_fit(small, lectures) {
+        return None;
+    }
+    placed(story.alloc(), small, lectures).ok()
+}
+
+/// Tells the cells of a change: course, slot and room by their numbers, or that the room is none.
+pub(crate) fn tell_cells(story: &mut Story, cells: &[Cell]) {
+    for cell in cells {
+        story.pair("cell", u64::from(cell.course.get()));
+        story.pair("", u64::from(cell.slot.get()));
+        match cell.room {
+            Some(room) => story.count("", u64::from(room.get())),
+            None => story.say(" none"),
+        }
+    }
+}
+
+/// Makes an edit on a sheet.
+fn make<'i, S: Sheet<'i>>(story: &mut Story, sheet: &mut S, edit: &Edit) {
+    if !edit_fits(sheet, edit) {
+        return story.say("unfit");
+    }
+    match check(sheet, edit) {
+        Ok(change) => {
+            sheet.apply(&change);
+            story.say("done");
+        }
+        Err(fault) => story.refused(sheet.instance(), fault),
+    }
+}
+
+/// Looks at a sheet.
+fn show<'i, S: Sheet<'i>>(story: &mut Story, sheet: &S, asked: &Look) {
+    if !look_fits(sheet, asked) {
+        return story.say("unfit");
+    }
+    story.reply(sheet.instance(), look(story.alloc(), sheet, asked));
+}
+
+/// Tells the lectures and the cost of a sheet.
+pub(crate) fn tell_sheet<'i, S: Sheet<'i>>(story: &mut Story, sheet: &S) {
+    story.lectures(sheet.instance(), sheet.list());
+    story.costs(sheet.instance(), sheet.cost());
+}
+
+/// Plays lines, each of which is a call, on a sheet that has these lectures at first.
+fn play_on<'i, S: Sheet<'i>>(
+    story: &mut Story,
+    small: &'i Instance,
+    opening: &[Placed],
+    lines: &[&str],
+) {
+    let Some(mut sheet) = sheet_of::<S>(story, small, opening) else {
+        return story.no_memory();
+    };
+    for line in lines {
+        match call_of(small, line) {
+            Some(Call::Edit(edit)) => make(story, &mut sheet, &edit),
+            Some(Call::Look(asked)) => show(story, &sheet, &asked),
+            None => story.say("bad line"),
+        }
+    }
+    tell_sheet(story, &sheet);
+}
+
+/// Plays lines on both kinds of sheets.
+pub(crate) fn play_lines(
+    story: &mut Story,
+    small: &Instance,
+    name: &str,
+    opening: &[Placed],
+    lines: &[&str],
+) {
+    story.say(name);
+    let from = story.len();
+    played!(story, play_on::<ListSheet>(story, small, opening, lines));
+    let to = story.len();
+    played!(story, play_on::<GridSheet>(story, small, opening, lines));
+    story.compare(from, to, to, "on the grid sheet");
+}
+
+/// Tells what a sheet has of a lecture, in each way in which it can be read.
+fn tell_lecture<'i, S: Sheet<'i>>(story: &mut Story, sheet: &S, lecture: &Placed) {
+    if !lecture_fits(sheet, lecture) {
+        return story.say("unfit");
+    }
+    match sheet.room_at(lecture.course, lecture.slot) {
+        Some(room) => story.count("room", u64::from(room.get())),
+        None => story.say("no room"),
+    }
+    story.count(
+        "lectures of the course",
+        u64::from(sheet.count(lecture.course)),
+    );
+    story.lectures(sheet.instance(), sheet.course_row(lecture.course));
+    story.lectures(sheet.instance(), sheet.slot_row(lecture.slot));
+    tell_sheet(story, sheet);
+}
+
+/// Places a lecture, and tells the change that this is, with what it costs.
+fn place<'i, S: Sheet<'i>>(story: &mut Story, sheet: &mut S, edit: &Edit) {
+    if !edit_fits(sheet, edit) {
+        return story.say("unfit");
+    }
+    match check(sheet, edit) {
+        Ok(change) => {
+            tell_cells(story, change.cells());
+            story.count("less", sheet.delta(&change).unsigned_abs());
+            sheet.apply(&change);
+        }
+        Err(fault) => story.refused(sheet.instance(), fault),
+    }
+}
+
+/// Tells what a copy of a sheet has of a lecture.
+fn tell_copy<'i, S: Sheet<'i>>(story: &mut Story, sheet: &S, lecture: &Placed) {
+    match sheet.copy() {
+        Ok(copy) => tell_lecture(story, &copy, lecture),
+        Err(NoMemory) => story.no_memory(),
+    }
+}
+
+/// One placement on an empty sheet.
+fn one_placement<'i, S: Sheet<'i>>(story: &mut Story, small: &'i Instance) {
+    match empty_sheet::<S>(story, small) {
+        Ok(mut sheet) => {
+            tell_sheet(story, &sheet);
+            let geo = geo();
+            let edit = Edit::Place(geo.course, geo.slot, geo.room);
+            place(story, &mut sheet, &edit);
+            tell_lecture(story, &sheet, &geo);
+            tell_copy(story, &sheet, &geo);
+        }
+        Err(NoMemory) => story.no_memory(),
+    }
+}
+
+/// One placement on both kinds of sheets.
+pub(crate) fn play_placement(story: &mut Story, small: &Instance) {
+    story.say("one placement");
+    let from = story.len();
+    played!(story, one_placement::<ListSheet>(story, small));
+    let to = story.len();
+    played!(story, one_placement::<GridSheet>(story, small));
+    story.compare(from, to, to, "on the grid sheet");
+}
+
+/// Tells whether a sheet accepts the change of one cell.
+fn accepts<'i, S: Sheet<'i>>(story: &mut Story, sheet: &S, cell: Cell) {
+    match Change::of(&[cell]) {
+        Some(change) => story.count("accepted", u64::from(sheet.accepts(&change))),
+        None => story.say("no change"),
+    }
+}
+
+/// Which changes a sheet accepts: an addition of top where the room is taken, a removal of geo, and a cell of a course that
+/// is not there.
+fn accepts_some<'i, S: Sheet<'i>>(story: &mut Story, small: &'i Instance, lectures: &[Placed]) {
+    let Some(sheet) = sheet_of::<S>(story, small, lectures) else {
+        return story.no_memory();
+    };
+    for (course, slot, room) in [(2, 1, Some(0)), (1, 5, None), (3, 1, Some(0))] {
+        let cell = Cell {
+            course: CourseNo::new(course),
+            slot: SlotNo::new(slot),
+            room: room.map(RoomNo::new),
+        };
+        accepts(story, &sheet, cell);
+    }
+}
+
+/// Which changes both kinds of sheets accept.
+pub(crate) fn play_accepted(story: &mut Story, small: &Instance, lectures: &[Placed]) {
+    story.say("accepted changes");
+    let from = story.len();
+    played!(story, accepts_some::<ListSheet>(story, small, lectures));
+    let to = story.len();
+    played!(story, accepts_some::<GridSheet>(story, small, lectures));
+    story.compare(from, to, to, "on the grid sheet");
+}
+
+/// Tells the rows that a call reads.
+fn tell_rows(story: &mut Story, small: &Instance, call: &Call) {
+    if !call.fits(small) {
+        return story.say("unfit");
+    }
+    let Ok(rows) = reads(story.alloc(), small, call) else {
+        return story.no_memory();
+    };
+    for row in &rows {
+        match row {
+            Row::Course(course) => story.count("course", u64::from(course.get())),
+            Row::Slot(slot) => story.count("slot", u64::from(slot.get())),
+        }
+    }
+}
+
+/// The rows that some calls read.
+pub(crate) fn play_rows(story: &mut Story, small: &Instance) {
+    for line in ["price place alg B 0 0", "swap geo 0 1 top 0 2"] {
+        story.say(line);
+        match call_of(small, line) {
+            Some(call) => played!(story, tell_rows(story, small, &call)),
+            None => story.say("bad line"),
+        }
+    }
+}

@@ -1,0 +1,213 @@
+//! What is told of the trials, and how many calls were made again.
+
+ghost use Rattle.std.specs.Prelude.{◌↔◌, IsTrue};
+ghost use Rattle.ctt_script.specs.Entries.{AnswerFits, RowFits};
+
+use ctt_core::Answer;
+use ctt_edits::{EditFault, Lectures, Reply, Row};
+use ctt_rules::Cost;
+use ctt_script::{Sink, put_all, write_answer};
+use ctt_text::{Instance, NoMemory, Placed};
+use std::alloc::Global;
+
+/// How many bytes are told at most.
+const ROOM: usize = 65_536;
+
+/// How many bytes a line has at most.
+const LINE: usize = 4_096;
+
+/// A text, with room for all that is told, so that telling takes no memory.
+#[derive(Drop)]
+pub(crate) struct Story {
+    alloc: Global,
+    text: Vec<u8>,
+    line: String,
+    again: u64,
+    is_wanting: bool,
+    is_lost: bool,
+}
+
+/// Whether the number of a row is one of the instance.
+fn row_fits(instance: &Instance, row: &Row) -> bool
+    ensures { IsTrue result ↔ RowFits instance.now row.now }
+{
+    match row {
+        Row::Course(course) => course.fits(instance),
+        Row::Slot(slot) => slot.fits(instance),
+    }
+}
+
+/// Whether an answer can be written.
+fn answer_fits(instance: &Instance, answer: &Answer) -> bool
+    ensures { IsTrue result ↔ AnswerFits instance.now answer.now }
+{
+    match answer {
+        Answer::Replied(reply) => reply.fits(instance),
+        Answer::Stale(row) => row_fits(instance, row),
+        Answer::Opened
+        | Answer::AlreadyOpen
+        | Answer::NoDraft
+        | Answer::Committed(_)
+        | Answer::Refreshed
+        | Answer::Abandoned
+        | Answer::NoMemory => true,
+    }
+}
+
+impl Story {
+    /// A text in which nothing is told yet, if there is memory.
+    pub(crate) fn new(alloc: Global) -> Option<Story> {
+        let text = Vec::with_capacity(alloc, ROOM).ok()?;
+        let line = String::with_capacity(alloc, LINE).ok()?;
+        Some(Story {
+            alloc,
+            text,
+            line,
+            again: 0,
+            is_wanting: false,
+            is_lost: false,
+        })
+    }
+
+    pub(crate) fn alloc(&self) -> Global {
+        self.alloc
+    }
+
+    /// How many bytes are told.
+    pub(crate) fn len(&self) -> usize {
+        self.text.len()
+    }
+
+    /// Notes that a call is made again.
+    pub(crate) fn call_again(&mut self) {
+        self.again = self.again.saturating_add(1);
+    }
+
+    /// Notes that a call wanted memory, for which the case is to be played again.
+    pub(crate) fn no_memory(&mut self) {
+        self.is_wanting = true;
+    }
+
+    /// Whether a call wanted memory. Then what was told from a place on is taken back.
+    pub(crate) fn takes_back(&mut self, from: usize) -> bool {
+        if !self.is_wanting {
+            return false;
+        }
+        self.is_wanting = false;
+        self.text.truncate(from);
+        self.call_again();
+        true
+    }
+
+    /// Tells bytes.
+    pub(crate) fn bytes(&mut self, bytes: &[u8]) {
+        if self.text.extend_from_slice(bytes).is_err() {
+            self.is_lost = true;
+        }
+    }
+
+    /// Tells a line.
+    pub(crate) fn say(&mut self, words: &str) {
+        self.bytes(words.as_bytes());
+        self.bytes(b"\n");
+    }
+
+    /// Tells the line that was written, if it was.
+    fn end_line(&mut self, is_written: bool) {
+        if !is_written || self.text.extend_from_slice(self.line.as_bytes()).is_err() {
+            self.is_lost = true;
+        }
+        self.line.clear();
+    }
+
+    /// Tells a word with a number, without ending the line.
+    pub(crate) fn pair(&mut self, word: &str, number: u64) {
+        let is_written = write!(self.line, "{word} {number}").is_ok();
+        self.end_line(is_written);
+    }
+
+    /// Tells a line of a word and a number.
+    pub(crate) fn count(&mut self, word: &str, number: u64) {
+        self.pair(word, number);
+        self.bytes(b"\n");
+    }
+
+    /// Tells a fault by its words and its place; none is want of memory.
+    pub(crate) fn fault(&mut self, fault: Option<(&'static str, u64)>) {
+        match fault {
+            Some((words, at)) => self.pair(words, at),
+            None => self.no_memory(),
+        }
+    }
+
+    /// Tells at which lecture an opening is refused.
+    pub(crate) fn unlawful(&mut self, instance: &Instance, at: u64, fault: EditFault) {
+        self.pair("opening", at);
+        self.bytes(b" ");
+        self.refused(instance, fault);
+    }
+
+    /// Tells an answer.
+    pub(crate) fn answer(&mut self, instance: &Instance, answer: &Answer) {
+        let is_written = answer_fits(instance, answer)
+            && write_answer(&mut self.line, instance, answer).is_ok();
+        self.end_line(is_written);
+    }
+
+    /// Tells a fault.
+    pub(crate) fn refused(&mut self, instance: &Instance, fault: EditFault) {
+        self.answer(instance, &Answer::Replied(Reply::Refused(fault)));
+    }
+
+    /// Tells costs.
+    pub(crate) fn costs(&mut self, instance: &Instance, cost: Cost) {
+        self.answer(instance, &Answer::Replied(Reply::Costs(cost)));
+    }
+
+    /// Tells what a call answers that gives a reply.
+    pub(crate) fn reply(&mut self, instance: &Instance, told: Result<Reply, NoMemory>) {
+        match told {
+            Ok(reply) => self.answer(instance, &Answer::Replied(reply)),
+            Err(NoMemory) => self.no_memory(),
+        }
+    }
+
+    /// Tells what a call answers that gives lectures.
+    pub(crate) fn lectures(&mut self, instance: &Instance, told: Result<Vec<Placed>, NoMemory>) {
+        match told {
+            Ok(list) => {
+                let list = Reply::Lectures(Lectures::new(list));
+                self.answer(instance, &Answer::Replied(list));
+            }
+            Err(NoMemory) => self.no_memory(),
+        }
+    }
+
+    /// Tells what a call answers that gives a text.
+    pub(crate) fn text(&mut self, told: Result<Vec<u8>, NoMemory>) {
+        match told {
+            Ok(text) => self.bytes(&text),
+            Err(NoMemory) => self.no_memory(),
+        }
+    }
+
+    /// Compares what was told from the third place on with what was told from the first to the second: where it is the
+    /// same, that is told in its place.
+    pub(crate) fn compare(&mut self, from: usize, to: usize, here: usize, way: &str) {
+        let is_same = match (self.text.get(from..to), self.text.get(here..)) {
+            (Some(before), Some(now)) => before == now,
+            _ => false,
+        };
+        if is_same {
+            self.text.truncate(here);
+            self.bytes(way.as_bytes());
+            self.say(": the same");
+        }
+    }
+
+    /// Writes all that was told, and how many calls were made again, and answers whether nothing was lost.
+    pub(crate) fn write<W: Sink>(&mut self, writer: &mut W) -> bool {
+        self.count("again", self.again);
+        !self.is_lost && put_all(writer, &self.text).is_ok() && writer.flush().is_ok()
+    }
+}
