@@ -38,8 +38,8 @@ use Rattle.ctt_script.specs.CallPlaces.{course, room, teacher, curriculum, slot,
 use Rattle.ctt_script.specs.ReplyPlaces.{fault_after, fault_form, lecture, lectures, count, amount, costs, reply_after, reply_form}
 use Rattle.ctt_script.specs.JournalPlaces.{asked_form, entry_form, journal_form}
 use Rattle.ctt_script.specs.JournalText.{JournalSpells, JournalBreaksAt, journal_answer, IsJournalCauseOf}
-use Rattle.ctt_script.proofs.CallFits.{yields_call}
-use Rattle.ctt_script.proofs.EntryFits.{yields_journal}
+use Rattle.ctt_script.proofs.CallLemmas.{yields_call}
+use Rattle.ctt_script.proofs.EntryLemmas.{yields_journal}
 
 -- a fault of a place, which names a word
 abbrev IsOfWord : JournalFault → Type 0

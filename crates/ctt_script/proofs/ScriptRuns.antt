@@ -15,10 +15,11 @@ use Rattle.ctt_core.specs.Runs.{Turn, RunFits, Right, accepted_of}
 use Rattle.ctt_core.specs.Desks.{DeskValue}
 use Rattle.ctt_core.specs.Laws.{Stands}
 use Rattle.ctt_script.specs.AnswerText.{answered, answers_after, run_after, answer_text, script_run}
-use Rattle.ctt_script.specs.Answering.{AppendsFront, Wrote, WroteFront}
+use Rattle.ctt_script.specs.Answering.{Wrote, WroteFront}
 use Rattle.ctt_edits.specs.Fitting.{AreFew}
 use Rattle.ctt_core.specs.Entries.{EntryFits}
 use Rattle.ctt_script.specs.Entries.{IsShort, IsEntry, IsWritable}
+use Rattle.ctt_script.specs.Output.{AppendsFront}
 use Rattle.ctt_script.specs.ScriptText.{script, lines_of, item, has_words}
 use Rattle.ctt_script.proofs.AnswersFit.{journal_is}
 use Rattle.ctt_board.proofs.LawfulLemmas.{length-filter_le}
@@ -54,6 +55,11 @@ all_said v w i (Some bytes) read text before after same stands whole known h =
     let said : Appends before after (answers_after v.problem v.opening [] (script i text)) = subst (λ bs. Appends before after bs) grown h.taken in
     let first : Appends before after (answers_after i v.opening [] (script i text)) = subst (λ j. Appends before after (answers_after j v.opening [] (script i text))) same said in
     subst (λ bs. Appends before after (answer_text i w.opening bs)) all (subst (λ t. Appends before after (answers_after i t [] (script i text))) (sym h.answered.same.opening) first)
+
+-- what was read is within the limit
+pub read_short : (left : Option (List ℕ)) (read : List ℕ) (limit : ℕ) → IfSome left (λ bytes. read ≡ bytes) → length read ≤ limit → IfSome left (λ bytes. length bytes ≤ limit)
+read_short None read limit known short = tt
+read_short (Some bytes) read limit known short = omega (arith, ap length known, short)
 
 -- the desk stands at the events of the script
 pub script_done : (v w : DeskValue) (i : Problem) (left : Option (List ℕ)) (read text : List ℕ) (before after : Option (List ℕ)) → v.problem ≡ i → Stands v [] → text ≡ read → IfSome left (λ bytes. read ≡ bytes) → Wrote v w (script i text) before after

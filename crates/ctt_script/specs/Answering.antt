@@ -1,16 +1,13 @@
 -- A desk that answers items one after another, and what is written of its answers.
-use Rattle.std.specs.Prelude.{ℕ, ◌≡◌, List, [], ◌++◌, take, Option}
+use Rattle.std.specs.Prelude.{◌≡◌, ℕ, List, [], ◌++◌, Option}
 use Rattle.std.specs.Io.KnownBytes.{Appends}
 use Rattle.ctt_core.specs.Runs.{Turn}
 use Rattle.ctt_core.specs.Desks.{DeskValue, SameDesk}
 use Rattle.ctt_core.specs.Laws.{Stands}
 use Rattle.ctt_core.specs.declared.event.Event.{Event}
 use Rattle.ctt_script.specs.AnswerText.{answers_after, run_after}
+use Rattle.ctt_script.specs.Output.{AppendsFront}
 use Rattle.ctt_script.specs.ScriptText.{items_of}
-
--- known bytes grow by a front of bs, which may be all of bs or nothing
-abbrev pub AppendsFront : Option (List ℕ) → Option (List ℕ) → List ℕ → Type 0
-AppendsFront old new bs = (k : ℕ) × Appends old new (take k bs)
 
 -- the desk stands at some run
 abbrev pub IsAtRun : DeskValue → Type 0

@@ -1,5 +1,5 @@
 -- What a crew is answered, and what is written of it.
-use Rattle.std.specs.Prelude.{ℕ, ◌≡◌, ◌+◌, List, [], ◌∷◌, ◌++◌, codes, length, Option, Some, None}
+use Rattle.std.specs.Prelude.{ℕ, ◌≡◌, ◌+◌, ◌<◌, List, [], ◌∷◌, ◌++◌, codes, length, Option, Some, None}
 use Rattle.std.specs.Fmt.{decimal}
 use Rattle.ctt_text.specs.Problem.{Problem}
 use Rattle.ctt_text.specs.declared.placed.Placed.{Placed}
@@ -17,6 +17,8 @@ use Rattle.ctt_script.specs.AnswerText.{answer_words}
 use Rattle.ctt_script.specs.Entries.{AnswerFits}
 use Rattle.ctt_script.specs.WrittenText.{line}
 use Rattle.ctt_script.specs.WrittenWords.{cost_words}
+use Rattle.ctt_script.specs.declared.crew_fault.CrewFault.{CrewFault}
+use Rattle.ctt_script.specs.declared.crew_fault.CrewFault.TheVariants as crew_fault
 use Rattle.ctt_script.specs.declared.seat.Told.{Told}
 use Rattle.ctt_script.specs.declared.seat.Told.TheVariants.{Answer as Answered, NotYours, NoPlace}
 
@@ -63,3 +65,15 @@ pub record IsCrewText (problem : Problem) (opening : List Placed) (planners : �
   pub history : List JournalEntry
   pub legal : Legal problem opening history
   pub is : text ≡ crew_text answers (length history) (penalty problem (after problem opening history))
+
+-- the fault of a desk that opens empty, as a crew's
+abbrev pub of_shared : SharedFault → CrewFault
+of_shared (Unlawful at f) = crew_fault.NoMemory
+of_shared Unplaced = crew_fault.NoPlace
+of_shared NoMemory = crew_fault.NoMemory
+
+-- a fault of a crew of so many planners: of one of them the thread could not be started
+abbrev pub IsCrewFault : ℕ → CrewFault → Type 0
+IsCrewFault planners (crew_fault.NoThread p) = p < planners
+IsCrewFault planners crew_fault.NoPlace = Unit {0}
+IsCrewFault planners crew_fault.NoMemory = Unit {0}

@@ -18,4 +18,5 @@ pub mod ScriptText
 pub mod WrittenText
 pub mod WrittenWords
 pub mod Minutes
+pub mod Seats
 pub mod AuditedText

@@ -5,3 +5,7 @@ use Rattle.std.specs.Io.KnownBytes.{Appends}
 -- known bytes grow by a front of bs, and not by all of bs
 abbrev pub AppendsPart : Option (List ℕ) → Option (List ℕ) → List ℕ → Type 0
 AppendsPart old new bs = (k : ℕ) × (k < length bs) × Appends old new (take k bs)
+
+-- known bytes grow by a front of bs, which may be all of bs or nothing
+abbrev pub AppendsFront : Option (List ℕ) → Option (List ℕ) → List ℕ → Type 0
+AppendsFront old new bs = (k : ℕ) × Appends old new (take k bs)

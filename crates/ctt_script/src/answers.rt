@@ -15,7 +15,8 @@ use std::alloc::AllocError;
 /// Adds the line of a draft that is refused for a row that has changed.
 fn write_stale(text: &mut String, instance: &Instance, row: &Row) -> Result<(), AllocError>
     requires { RowFits instance.now row.now }
-    ensures { OnOk result (string_bytes text.new ≡ string_bytes text.old ++ line (codes "stale" ∷ row_words instance.now row.now)) }
+    ensures { OnOk result (string_bytes text.new
+        ≡ string_bytes text.old ++ line (codes "stale" ∷ row_words instance.now row.now)) }
 {
     match row {
         Row::Course(course) => {
@@ -36,7 +37,8 @@ pub fn write_answer(
     answer: &Answer,
 ) -> Result<(), AllocError>
     requires { AnswerFits instance.now answer.now }
-    ensures { OnOk result (string_bytes text.new ≡ string_bytes text.old ++ line (answer_words instance.now answer.now)) }
+    ensures { OnOk result (string_bytes text.new
+        ≡ string_bytes text.old ++ line (answer_words instance.now answer.now)) }
 {
     match answer {
         Answer::Opened => text.push_str("opened\n"),

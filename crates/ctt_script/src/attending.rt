@@ -1,9 +1,10 @@
 //! What a planner of a crew does, on a thread of his own.
 
-ghost use Rattle.std.specs.Prelude.{◌≡◌, ◌<◌, ℕ, IfSome, OnOk, ◌++◌, string_bytes};
+ghost use Rattle.std.specs.Prelude.{◌≡◌, ◌<◌, ℕ, IfOk, IfSome, IsOk, None, OnOk, ◌++◌, string_bytes};
 ghost use Rattle.ctt_edits.specs.Calls.{CallFits};
 ghost use Rattle.ctt_core.specs.Runs.{EventFits};
 ghost use Rattle.ctt_script.specs.CrewText.{call_in, ToldFits, told_words};
+ghost use Rattle.ctt_script.specs.Seats.{AnswersCall, AnswersLine};
 ghost use Rattle.ctt_script.specs.WrittenText.{line};
 
 use crate::answers::{write_answer, write_bad_line};
@@ -24,7 +25,8 @@ use std::sync::Wait;
 /// Adds the line of what a planner of a crew is answered.
 fn write_told(text: &mut String, instance: &Instance, told: &Told) -> Result<(), AllocError>
     requires { ToldFits instance.now told.now }
-    ensures { OnOk result (string_bytes text.new ≡ string_bytes text.old ++ line (told_words instance.now told.now)) }
+    ensures { OnOk result (string_bytes text.new
+        ≡ string_bytes text.old ++ line (told_words instance.now told.now)) }
 {
     match told {
         Told::Answer(answer) => write_answer(text, instance, answer),
@@ -42,18 +44,24 @@ fn answer_call<'i, S: Sheet<'i>, J: Naming>(
 ) -> Result<(), AllocError>
     requires same { J.problem ≡ instance.now }
     requires fits { CallFits instance.now call }
+    ensures { OnOk result
+        (AnswersCall instance.now call seat.old seat.new (string_bytes text.old)
+        (string_bytes text.new)) }
 {
     let told = seat.ask(call);
     write_told(text, instance, &told)
 }
 
 /// The value, if what was to be written was written.
-fn kept_if<T: Drop>(value: T, written: Result<(), AllocError>) -> Result<T, NoMemory> {
+fn kept_if<T: Drop>(value: T, written: Result<(), AllocError>) -> Result<T, NoMemory>
+    ensures { IfOk result (λ kept. (kept ≡ value) × IsOk written) }
+{
     written?;
     Ok(value)
 }
 
-/// Answers a line of a planner's script, in which this event was read, or none, and adds the line of the answer.
+/// Answers a line of a planner's script, in which this event was read, which is no call, or none, and adds the line of
+/// the answer.
 fn answer_own_line<'i, S: Sheet<'i>, J: Naming, R: Wait>(
     rt: &R,
     desk: &SharedDesk<S, J>,
@@ -64,7 +72,12 @@ fn answer_own_line<'i, S: Sheet<'i>, J: Naming, R: Wait>(
     text: &mut String,
 ) -> Result<Seat<'i, S, J>, NoMemory>
     requires same { J.problem ≡ instance.now }
-    requires fits { (planners : ℕ) → planner < planners → IfSome read (EventFits instance.now planners) }
+    requires no_call { call_in read ≡ None }
+    requires fits { (planners : ℕ) → planner < planners
+        → IfSome read (EventFits instance.now planners) }
+    ensures { IfOk result (λ next.
+        AnswersLine instance.now J.opening read seat.entry next (string_bytes text.old)
+        (string_bytes text.new)) }
 {
     match read {
         Some(event) => {

@@ -39,7 +39,8 @@ fn audit_reply<'i, S: Sheet<'i>>(
 ) -> Result<(), JournalFault>
     requires { IfSome auditor.old.told (IsReply auditor.old.problem) }
     ensures heard { OnOk result (HeardReply auditor.old reader.old auditor.new reader.new) }
-    ensures fault { IfErr result (λ fault. Fails wants_memory fault (reads (reply_form auditor.old.problem) reader.old)) }
+    ensures fault { IfErr result (λ fault.
+        Fails wants_memory fault (reads (reply_form auditor.old.problem) reader.old)) }
     ensures problem { auditor.new.problem ≡ auditor.old.problem }
     ensures lectures { auditor.new.lectures ≡ auditor.old.lectures }
     ensures entries { auditor.new.entries ≡ auditor.old.entries }
@@ -63,7 +64,9 @@ fn audit_one_asked<'i, S: Sheet<'i>>(
     auditor: &mut Auditor<S>,
 ) -> Result<(), JournalFault>
     requires { auditor.old.made ≡ None }
-    ensures read { GivesRead (λ _. (auditor.new.asked, reader.new)) result (reads (one_more (asked_form auditor.old.problem) auditor.old.asked) reader.old) }
+    ensures read { GivesRead (λ _.
+        (auditor.new.asked, reader.new)) result
+        (reads (one_more (asked_form auditor.old.problem) auditor.old.asked) reader.old) }
     ensures problem { auditor.new.problem ≡ auditor.old.problem }
     ensures lectures { auditor.new.lectures ≡ auditor.old.lectures }
     ensures entries { auditor.new.entries ≡ auditor.old.entries }
@@ -86,7 +89,9 @@ fn audit_so_many_asked<'i, S: Sheet<'i>>(
 ) -> Result<(), JournalFault>
     requires asked { auditor.old.asked ≡ [] }
     requires made { auditor.old.made ≡ None }
-    ensures read { GivesRead (λ _. (auditor.new.asked, reader.new)) result (reads (list_of (asked_form auditor.old.problem) count) reader.old) }
+    ensures read { GivesRead (λ _.
+        (auditor.new.asked, reader.new)) result
+        (reads (list_of (asked_form auditor.old.problem) count) reader.old) }
     ensures problem { auditor.new.problem ≡ auditor.old.problem }
     ensures lectures { auditor.new.lectures ≡ auditor.old.lectures }
     ensures entries { auditor.new.entries ≡ auditor.old.entries }
@@ -108,7 +113,9 @@ fn audit_one_entry<'i, S: Sheet<'i>>(
 ) -> Result<(), JournalFault>
     requires asked { auditor.old.asked ≡ [] }
     requires made { auditor.old.made ≡ None }
-    ensures read { GivesRead (λ _. (auditor.new.entries, reader.new)) result (reads (one_more (entry_form auditor.old.problem) auditor.old.entries) reader.old) }
+    ensures read { GivesRead (λ _.
+        (auditor.new.entries, reader.new)) result
+        (reads (one_more (entry_form auditor.old.problem) auditor.old.entries) reader.old) }
     ensures problem { auditor.new.problem ≡ auditor.old.problem }
     ensures lectures { auditor.new.lectures ≡ auditor.old.lectures }
     ensures asked { OnOk result (auditor.new.asked ≡ []) }
@@ -133,7 +140,9 @@ fn audit_so_many_entries<'i, S: Sheet<'i>>(
     requires entries { auditor.old.entries ≡ [] }
     requires asked { auditor.old.asked ≡ [] }
     requires made { auditor.old.made ≡ None }
-    ensures read { GivesRead (λ _. (auditor.new.entries, reader.new)) result (reads (list_of (entry_form auditor.old.problem) count) reader.old) }
+    ensures read { GivesRead (λ _.
+        (auditor.new.entries, reader.new)) result
+        (reads (list_of (entry_form auditor.old.problem) count) reader.old) }
     ensures problem { auditor.new.problem ≡ auditor.old.problem }
     ensures lectures { auditor.new.lectures ≡ auditor.old.lectures }
 {
@@ -154,7 +163,9 @@ fn audit_entries<'i, S: Sheet<'i>>(
     requires entries { auditor.old.entries ≡ [] }
     requires asked { auditor.old.asked ≡ [] }
     requires made { auditor.old.made ≡ None }
-    ensures read { GivesRead (λ _. (auditor.new.entries, reader.new)) result (reads (journal_form auditor.old.problem) reader.old) }
+    ensures read { GivesRead (λ _.
+        (auditor.new.entries, reader.new)) result
+        (reads (journal_form auditor.old.problem) reader.old) }
     ensures problem { auditor.new.problem ≡ auditor.old.problem }
     ensures lectures { auditor.new.lectures ≡ auditor.old.lectures }
 {
@@ -218,10 +229,15 @@ pub fn audit_journal<'i, S: Sheet<'i>>(
     requires { Each (Fits instance.now) lectures.now }
     ensures text { OnOk result (IsUtf8 text.now) }
     ensures found { IfOk result (AuditsText instance.now lectures.now (words text.now)) }
-    ensures accepted { (entries : List JournalEntry) → IsUtf8 text.now → JournalSpells instance.now (words text.now) entries → MatchResult result (IsVerdict instance.now lectures.now entries) (λ fault. fault ≡ NoMemory) }
+    ensures accepted { (entries : List JournalEntry) → IsUtf8 text.now
+        → JournalSpells instance.now (words text.now) entries
+        → MatchResult result (IsVerdict instance.now lectures.now entries) (λ fault. fault
+        ≡ NoMemory) }
     ensures fault { IfErr result (IsJournalCauseOf instance.now text.now) }
     ensures not_text { ¬ IsUtf8 text.now → result ≡ Err (NotText (utf8_valid_len text.now)) }
-    ensures broken { (k : ℕ) (fault : JournalFault) → IsUtf8 text.now → JournalBreaksAt instance.now (words text.now) k fault → (result ≡ Err fault) ⊎ (result ≡ Err NoMemory) }
+    ensures broken { (k : ℕ) (fault : JournalFault) → IsUtf8 text.now
+        → JournalBreaksAt instance.now (words text.now) k fault → (result ≡ Err fault)
+        ⊎ (result ≡ Err NoMemory) }
 {
     match str::from_utf8(text) {
         Ok(text) => audit_text::<S>(alloc, instance, lectures, text),

@@ -17,7 +17,8 @@ use ctt_text::{Instance, Reader};
 /// What stands behind `place`.
 #[tactic(auto, using(crate::proofs::JournalSteps::read_bind, crate::proofs::JournalSteps::read_done), unfolding(crate::specs::CallPlaces::edit_after))]
 fn read_place(reader: &mut Reader, instance: &Instance) -> Result<Edit, JournalFault>
-    ensures { IsRead (λ edit. (edit, reader.new)) result (reads (edit_after instance.now edit.Place) reader.old) }
+    ensures { IsRead (λ edit. (edit, reader.new)) result
+        (reads (edit_after instance.now edit.Place) reader.old) }
 {
     let course = read_course(reader, instance)?;
     let room = read_room(reader, instance)?;
@@ -28,7 +29,8 @@ fn read_place(reader: &mut Reader, instance: &Instance) -> Result<Edit, JournalF
 /// What stands behind `move`.
 #[tactic(auto, using(crate::proofs::JournalSteps::read_bind, crate::proofs::JournalSteps::read_done), unfolding(crate::specs::CallPlaces::edit_after))]
 fn read_move(reader: &mut Reader, instance: &Instance) -> Result<Edit, JournalFault>
-    ensures { IsRead (λ edit. (edit, reader.new)) result (reads (edit_after instance.now edit.Move) reader.old) }
+    ensures { IsRead (λ edit. (edit, reader.new)) result
+        (reads (edit_after instance.now edit.Move) reader.old) }
 {
     let course = read_course(reader, instance)?;
     let slot = read_slot(reader, instance)?;
@@ -40,7 +42,8 @@ fn read_move(reader: &mut Reader, instance: &Instance) -> Result<Edit, JournalFa
 /// What stands behind `swap`.
 #[tactic(auto, using(crate::proofs::JournalSteps::read_bind, crate::proofs::JournalSteps::read_done), unfolding(crate::specs::CallPlaces::edit_after))]
 fn read_swap(reader: &mut Reader, instance: &Instance) -> Result<Edit, JournalFault>
-    ensures { IsRead (λ edit. (edit, reader.new)) result (reads (edit_after instance.now edit.Swap) reader.old) }
+    ensures { IsRead (λ edit. (edit, reader.new)) result
+        (reads (edit_after instance.now edit.Swap) reader.old) }
 {
     let course = read_course(reader, instance)?;
     let slot = read_slot(reader, instance)?;
@@ -52,7 +55,8 @@ fn read_swap(reader: &mut Reader, instance: &Instance) -> Result<Edit, JournalFa
 /// What stands behind `reroom`.
 #[tactic(auto, using(crate::proofs::JournalSteps::read_bind, crate::proofs::JournalSteps::read_done), unfolding(crate::specs::CallPlaces::edit_after))]
 fn read_reroom(reader: &mut Reader, instance: &Instance) -> Result<Edit, JournalFault>
-    ensures { IsRead (λ edit. (edit, reader.new)) result (reads (edit_after instance.now edit.Reroom) reader.old) }
+    ensures { IsRead (λ edit. (edit, reader.new)) result
+        (reads (edit_after instance.now edit.Reroom) reader.old) }
 {
     let course = read_course(reader, instance)?;
     let room = read_room(reader, instance)?;
@@ -63,7 +67,8 @@ fn read_reroom(reader: &mut Reader, instance: &Instance) -> Result<Edit, Journal
 /// What stands behind `drop`.
 #[tactic(auto, using(crate::proofs::JournalSteps::read_bind, crate::proofs::JournalSteps::read_done), unfolding(crate::specs::CallPlaces::edit_after))]
 fn read_drop(reader: &mut Reader, instance: &Instance) -> Result<Edit, JournalFault>
-    ensures { IsRead (λ edit. (edit, reader.new)) result (reads (edit_after instance.now edit.Drop) reader.old) }
+    ensures { IsRead (λ edit. (edit, reader.new)) result
+        (reads (edit_after instance.now edit.Drop) reader.old) }
 {
     let course = read_course(reader, instance)?;
     let slot = read_slot(reader, instance)?;
@@ -76,7 +81,8 @@ fn read_edit_after(
     instance: &Instance,
     kind: EditKind,
 ) -> Result<Edit, JournalFault>
-    ensures { IsRead (λ edit. (edit, reader.new)) result (reads (edit_after instance.now kind) reader.old) }
+    ensures { IsRead (λ edit. (edit, reader.new)) result
+        (reads (edit_after instance.now kind) reader.old) }
 {
     match kind {
         EditKind::Place => read_place(reader, instance),
@@ -90,7 +96,8 @@ fn read_edit_after(
 /// The words of an edit.
 #[tactic(auto, using(crate::proofs::JournalSteps::read_bind), unfolding(crate::specs::CallPlaces::edit_form))]
 pub(crate) fn read_edit(reader: &mut Reader, instance: &Instance) -> Result<Edit, JournalFault>
-    ensures { IsRead (λ edit. (edit, reader.new)) result (reads (edit_form instance.now) reader.old) }
+    ensures { IsRead (λ edit. (edit, reader.new)) result
+        (reads (edit_form instance.now) reader.old) }
 {
     let kind = read_edit_kind(reader)?;
     read_edit_after(reader, instance, kind)
@@ -103,7 +110,8 @@ fn read_look_after(
     instance: &Instance,
     kind: LookKind,
 ) -> Result<Look, JournalFault>
-    ensures { IsRead (λ look. (look, reader.new)) result (reads (look_after instance.now kind) reader.old) }
+    ensures { IsRead (λ look. (look, reader.new)) result
+        (reads (look_after instance.now kind) reader.old) }
 {
     Ok(match kind {
         LookKind::Course => Look::Course(read_course(reader, instance)?),
@@ -118,8 +126,9 @@ fn read_look_after(
 
 /// The words of a look.
 #[tactic(auto, using(crate::proofs::JournalSteps::read_bind), unfolding(crate::specs::CallPlaces::look_form))]
-pub fn read_look(reader: &mut Reader, instance: &Instance) -> Result<Look, JournalFault>
-    ensures { IsRead (λ look. (look, reader.new)) result (reads (look_form instance.now) reader.old) }
+pub(crate) fn read_look(reader: &mut Reader, instance: &Instance) -> Result<Look, JournalFault>
+    ensures { IsRead (λ look. (look, reader.new)) result
+        (reads (look_form instance.now) reader.old) }
 {
     let kind = read_look_kind(reader)?;
     read_look_after(reader, instance, kind)
@@ -132,7 +141,8 @@ pub(crate) fn read_call_after(
     instance: &Instance,
     kind: CallKind,
 ) -> Result<Call, JournalFault>
-    ensures { IsRead (λ call. (call, reader.new)) result (reads (call_after instance.now kind) reader.old) }
+    ensures { IsRead (λ call. (call, reader.new)) result
+        (reads (call_after instance.now kind) reader.old) }
 {
     match kind {
         CallKind::Edit(kind) => Ok(Call::Edit(read_edit_after(reader, instance, kind)?)),
@@ -142,8 +152,9 @@ pub(crate) fn read_call_after(
 
 /// The words of a call.
 #[tactic(auto, using(crate::proofs::JournalSteps::read_bind), unfolding(crate::specs::CallPlaces::call_form))]
-pub fn read_call(reader: &mut Reader, instance: &Instance) -> Result<Call, JournalFault>
-    ensures { IsRead (λ call. (call, reader.new)) result (reads (call_form instance.now) reader.old) }
+pub(crate) fn read_call(reader: &mut Reader, instance: &Instance) -> Result<Call, JournalFault>
+    ensures { IsRead (λ call. (call, reader.new)) result
+        (reads (call_form instance.now) reader.old) }
 {
     let kind = read_call_kind(reader)?;
     read_call_after(reader, instance, kind)

@@ -1,5 +1,9 @@
 //! Why a crew could not work.
 
+ghost use Rattle.std.specs.Prelude.{◌≡◌};
+ghost use Rattle.ctt_script.specs.CrewText.{of_shared};
+ghost use Rattle.ctt_script.specs.declared.crew_fault.CrewFault.TheVariants as crew_fault;
+
 use ctt_core::PlannerNo;
 use ctt_desk::SharedFault;
 use ctt_text::NoMemory;
@@ -17,6 +21,8 @@ pub enum CrewFault {
 }
 
 impl From<SharedFault> for CrewFault {
+    ghost from_gives = { λ fault given. given ≡ of_shared fault };
+
     /// A crew's desk opens empty, so it wants memory or a place and nothing else.
     fn from(fault: SharedFault) -> CrewFault {
         match fault {
@@ -27,18 +33,24 @@ impl From<SharedFault> for CrewFault {
 }
 
 impl From<NoMemory> for CrewFault {
+    ghost from_gives = { λ _ given. given ≡ crew_fault.NoMemory };
+
     fn from(_error: NoMemory) -> CrewFault {
         CrewFault::NoMemory
     }
 }
 
 impl From<AllocError> for CrewFault {
+    ghost from_gives = { λ _ given. given ≡ crew_fault.NoMemory };
+
     fn from(_error: AllocError) -> CrewFault {
         CrewFault::NoMemory
     }
 }
 
 impl<T: Drop> From<AllocFailed<T>> for CrewFault {
+    ghost from_gives = { λ _ given. given ≡ crew_fault.NoMemory };
+
     fn from(_error: AllocFailed<T>) -> CrewFault {
         CrewFault::NoMemory
     }

@@ -1,10 +1,11 @@
 //! A crew: planners on threads, each with a script of his own.
 
-ghost use Rattle.std.specs.Prelude.{◌≡◌, ◌≤◌, ◌<◌, ◌+◌, ℕ, [], length, IfOk, IsOkAnd, OnOk, ◌++◌, ◌∷◌, codes, map, string_bytes};
+ghost use Rattle.std.specs.Prelude.{◌≡◌, ◌⊎◌, ◌≤◌, ◌<◌, ◌+◌, ℕ, [], length, IfErr, IfOk, IsErrAnd, IsOkAnd, OnOk, ◌++◌, ◌∷◌, codes, map, string_bytes};
 ghost use Rattle.std.specs.Fmt.{decimal};
 ghost use Rattle.ctt_rules.specs.declared.cost.Cost.{Cost};
 ghost use Rattle.ctt_desk.specs.Names.{IsNamed};
-ghost use Rattle.ctt_script.specs.CrewText.{IsCrewText, crew_text};
+ghost use Rattle.ctt_script.specs.CrewText.{IsCrewFault, IsCrewText, crew_text};
+ghost use Rattle.ctt_script.specs.declared.crew_fault.CrewFault.TheVariants as crew_fault;
 
 use crate::attending::{Attendance, GridAttendance, attend_on_grid};
 use crate::crew_fault::CrewFault;
@@ -28,7 +29,8 @@ fn joined<R: Threads>(
     alloc: Global,
     threads: Vec<JoinHandle<Result<String, NoMemory>>>,
 ) -> Result<Vec<String>, CrewFault>
-    ensures { IfOk result (λ answers. length answers.items ≡ length threads.items) }
+    ensures each { IfOk result (λ answers. length answers.items ≡ length threads.items) }
+    ensures fault { IfErr result (λ fault. fault ≡ crew_fault.NoMemory) }
 {
     let mut answers = Vec::with_capacity(alloc, threads.len())?;
     for thread in threads {
@@ -43,7 +45,9 @@ fn added<T: Drop, E: Drop>(
     started: Result<T, E>,
     planner: PlannerNo,
 ) -> Result<(), CrewFault>
-    ensures { OnOk result (length threads.new.items ≡ length threads.old.items + 1) }
+    ensures added { OnOk result (length threads.new.items ≡ length threads.old.items + 1) }
+    ensures fault { IfErr result (λ fault. (fault ≡ crew_fault.NoThread planner)
+        ⊎ (fault ≡ crew_fault.NoMemory)) }
 {
     match started {
         Ok(thread) => Ok(threads.push(thread)?),
@@ -58,13 +62,16 @@ fn work_at_once<'i, 'x, J: Naming + Send + Sync, R: Threads + Wait + Sync, G: Ga
     desk: &'x SharedDesk<GridSheet<'i>, J>,
     works: Vec<(Planner<GridSheet<'i>, J>, Attendance<'i, 'x, J, G>)>,
 ) -> Result<Vec<String>, CrewFault>
-    ensures { IfOk result (λ answers. length answers.items ≡ length works.entry.items) }
+    ensures each { IfOk result (λ answers. length answers.items ≡ length works.entry.items) }
+    ensures fault { IfErr result (IsCrewFault J.planners) }
 {
     thread::scope(
         thread::scope_env(),
         rt,
         |scope| -> Result<Vec<String>, CrewFault>
-            ensures { IfOk result (λ answers. length answers.items ≡ length works.entry.items) }
+            ensures each { IfOk result (λ answers. length answers.items
+                ≡ length works.entry.items) }
+            ensures fault { IfErr result (IsCrewFault J.planners) }
         {
             let mut threads = Vec::new(alloc);
             for (planner, attendance) in works {
@@ -95,7 +102,8 @@ fn attendances<'i, 'x, P: Drop, J: Naming, G: Gate>(
 ) -> Result<Vec<(P, Attendance<'i, 'x, J, G>)>, CrewFault>
     requires problem { J.problem ≡ instance.now }
     requires counted { length planners.items ≡ length scripts.now }
-    ensures { IfOk result (λ works. length works.items ≡ length scripts.now) }
+    ensures each { IfOk result (λ works. length works.items ≡ length scripts.now) }
+    ensures fault { IfErr result (λ fault. fault ≡ crew_fault.NoMemory) }
 {
     let mut works = Vec::with_capacity(alloc, scripts.len())?;
     for (planner, script) in planners.into_iter().zip(scripts) {
@@ -122,7 +130,8 @@ fn crew_report(
     entries: usize,
     cost: &Cost,
 ) -> Result<Vec<u8>, NoMemory>
-    ensures { IfOk result (λ text. text.items ≡ crew_text (map string_bytes answers.items) entries cost.now) }
+    ensures { IfOk result (λ text. text.items
+        ≡ crew_text (map string_bytes answers.items) entries cost.now) }
 {
     // Each planner's answers are let go once they are copied, so that all of them never lie in memory twice.
     let mut text = String::new(alloc);
@@ -141,7 +150,8 @@ fn closing_report<S: Timetable, J: Naming>(
     closed: &Closed<S, J>,
     answers: Vec<String>,
 ) -> Result<Vec<u8>, NoMemory>
-    ensures { IfOk result (λ text. IsCrewText J.problem J.opening (length answers.items) text.items) }
+    ensures { IfOk result (λ text.
+        IsCrewText J.problem J.opening (length answers.items) text.items) }
 {
     let entries = closed.journal().len();
     let cost = closed.cost();
@@ -153,7 +163,8 @@ fn desk_named<S: Timetable, J: Naming, R: Wait>(
     rt: &R,
     named: Named<S, J>,
 ) -> Result<(SharedDesk<S, J>, Vec<Planner<S, J>>), CrewFault>
-    ensures { IfOk result (λ made. length made.1.items ≡ named.count) }
+    ensures each { IfOk result (λ made. length made.1.items ≡ named.count) }
+    ensures fault { IfErr result (IsCrewFault J.planners) }
 {
     Ok(SharedDesk::new(rt, named)?)
 }
@@ -176,7 +187,11 @@ fn report_if_answered<S: Timetable, J: Naming>(
     closed: &Closed<S, J>,
     answers: Result<Vec<String>, CrewFault>,
 ) -> Result<Vec<u8>, CrewFault>
-    ensures { IfOk result (λ text. IsOkAnd answers (λ answers. IsCrewText J.problem J.opening (length answers.items) text.items)) }
+    ensures text { IfOk result (λ text.
+        IsOkAnd answers (λ answers. IsCrewText J.problem J.opening
+        (length answers.items) text.items)) }
+    ensures fault { IfErr result (λ fault. (fault ≡ crew_fault.NoMemory)
+        ⊎ IsErrAnd answers (λ told. fault ≡ told)) }
 {
     let answers = answers?;
     Ok(closing_report(alloc, closed, answers)?)
@@ -189,7 +204,11 @@ fn last_report<S: Timetable, J: Naming, R: Wait>(
     desk: SharedDesk<S, J>,
     answers: Result<Vec<String>, CrewFault>,
 ) -> Result<Vec<u8>, CrewFault>
-    ensures { IfOk result (λ text. IsOkAnd answers (λ answers. IsCrewText J.problem J.opening (length answers.items) text.items)) }
+    ensures text { IfOk result (λ text.
+        IsOkAnd answers (λ answers. IsCrewText J.problem J.opening
+        (length answers.items) text.items)) }
+    ensures fault { IfErr result (λ fault. (fault ≡ crew_fault.NoMemory)
+        ⊎ IsErrAnd answers (λ told. fault ≡ told)) }
 {
     let closed = end(rt, alloc, desk);
     let report = report_if_answered(alloc, &closed, answers);
@@ -209,7 +228,8 @@ fn answers_at<'i, J: Naming + Send + Sync, R: Threads + Wait + Sync, G: Gate>(
 ) -> Result<Vec<String>, CrewFault>
     requires problem { J.problem ≡ instance.now }
     requires counted { length planners.items ≡ length scripts.now }
-    ensures { IfOk result (λ answers. length answers.items ≡ length scripts.now) }
+    ensures each { IfOk result (λ answers. length answers.items ≡ length scripts.now) }
+    ensures fault { IfErr result (IsCrewFault J.planners) }
 {
     let works = attendances(alloc, instance, planners, scripts, gate)?;
     work_at_once(rt, alloc, desk, works)
@@ -228,7 +248,8 @@ fn crew_named<'i, J: Naming + Send + Sync, R: Threads + Wait + Sync, G: Gate>(
     requires named { IsNamed J.problem J.opening J.planners J.book opened count }
     requires problem { opened.problem ≡ instance.now }
     requires counted { length scripts.now ≡ count }
-    ensures { IfOk result (λ text. IsCrewText J.problem J.opening J.planners text.items) }
+    ensures text { IfOk result (λ text. IsCrewText J.problem J.opening J.planners text.items) }
+    ensures fault { IfErr result (IsCrewFault J.planners) }
 {
     let named = Named {
         opened,
@@ -264,7 +285,9 @@ pub fn crew<'i, R: Threads + Wait + Sync, G: Gate>(
 ) -> Result<Vec<u8>, CrewFault>
     requires some { 1 ≤ length scripts.now }
     requires few { length scripts.now ≤ 64 }
-    ensures { IfOk result (λ text. IsCrewText instance.now [] (length scripts.now) text.items) }
+    ensures text { IfOk result (λ text.
+        IsCrewText instance.now [] (length scripts.now) text.items) }
+    ensures fault { IfErr result (IsCrewFault (length scripts.now)) }
 {
     let opened = empty_opening::<GridSheet<'i>>(alloc, instance)?;
     let count = scripts.len() as u16;

@@ -1,6 +1,6 @@
 //! Running a script.
 
-ghost use Rattle.std.specs.Prelude.{◌≡◌, ◌⊎◌, ◌↔◌, ℕ, ◌++◌, ◌∷◌, [], ◌<◌, List, length, true, false, Ok, Err, IfOk, IfErr, OnOk, OnErr, IfSome, Some, is_some, string_bytes};
+ghost use Rattle.std.specs.Prelude.{◌≡◌, ◌⊎◌, ◌↔◌, ℕ, ◌++◌, ◌∷◌, [], ◌<◌, ◌≤◌, List, length, true, false, Ok, Err, IfOk, IfErr, OnOk, OnErr, IfSome, Some, is_some, string_bytes};
 ghost use Rattle.std.specs.List.{AllByRecursion as Each};
 ghost use Rattle.std.specs.Option.{option_map};
 ghost use Rattle.std.specs.Io.KnownBytes.{Appends, Keeps};
@@ -13,21 +13,22 @@ ghost use Rattle.ctt_core.specs.Laws.{Stands};
 ghost use Rattle.ctt_edits.specs.Openings.{opening};
 ghost use Rattle.ctt_core.specs.declared.desk_fault.DeskFault.TheVariants as desk_fault;
 ghost use Rattle.ctt_script.specs.AnswerText.{answer_text, answer_words, script_run};
-ghost use Rattle.ctt_script.specs.Answering.{Answered, AppendsFront, IsAtRun, WritesOut, Wrote, WroteFront};
+ghost use Rattle.ctt_script.specs.Answering.{Answered, IsAtRun, WritesOut, Wrote, WroteFront};
 ghost use Rattle.ctt_script.specs.Entries.{AnswerFits, IsWritable};
 ghost use Rattle.ctt_script.specs.Minutes.{IsMinuted, blank, noted};
+ghost use Rattle.ctt_script.specs.Output.{AppendsFront};
 ghost use Rattle.ctt_script.specs.RunFaults.{IsCauseOf, MayHaveWritten};
 ghost use Rattle.ctt_script.specs.ScriptText.{items_of, script};
 ghost use Rattle.ctt_script.specs.WrittenText.{line};
 ghost use Rattle.ctt_script.specs.declared.script_fault.ScriptFault.TheVariants as script_fault;
 
 use crate::answers::{write_answer, write_bad_line};
-use crate::input::read_all;
+use crate::input::{INPUT_LIMIT, read_all};
 use crate::lines::Lines;
 use crate::minutes::Minutes;
-use crate::script::{has_words, read_line_of};
+use crate::script::{PLANNERS, has_words, read_line_of};
 use crate::script_fault::ScriptFault;
-use crate::sink::{Sink, put_all};
+use crate::sink::{Sink, put_all, put_whole};
 use crate::source::{Failed, Source};
 use ctt_board::Sheet;
 use ctt_core::{Answer, Desk, Event};
@@ -35,17 +36,11 @@ use ctt_draft::Keeping;
 use ctt_text::{Instance, NoMemory, Placed, let_go};
 use std::alloc::{AllocError, Global};
 
-/// How many planners a script has.
-pub const PLANNERS: u16 = 64;
-
-/// How many bytes a script has at most.
-const LIMIT: usize = 67_108_864;
-
 /// From how many bytes on answers are written out: few writes, and little room.
 const PIECE: usize = 32_768;
 
 /// Adds the line of an answer, and notes it where there are minutes.
-fn tell(
+fn add_answer(
     answers: &mut String,
     minutes: &mut Option<Minutes>,
     instance: &Instance,
@@ -54,8 +49,10 @@ fn tell(
 ) -> Result<(), NoMemory>
     requires event { IfSome minutes.old (λ m. EventFits instance.now (length m.drafts) event.now) }
     requires answer { AnswerFits instance.now answer.now }
-    ensures written { OnOk result (string_bytes answers.new ≡ string_bytes answers.old ++ line (answer_words instance.now answer.now)) }
-    ensures noted { OnOk result (minutes.new ≡ option_map (noted instance.now event.now answer.now) minutes.old) }
+    ensures written { OnOk result (string_bytes answers.new
+        ≡ string_bytes answers.old ++ line (answer_words instance.now answer.now)) }
+    ensures noted { OnOk result (minutes.new
+        ≡ option_map (noted instance.now event.now answer.now) minutes.old) }
     ensures given { OnOk result (is_some minutes.new ≡ is_some minutes.old) }
 {
     write_answer(answers, instance, answer)?;
@@ -78,7 +75,9 @@ fn answer_event<'i, S: Sheet<'i>, K: Keeping>(
     requires fits { EventFits instance.now 64 event.now }
     requires stands { IsAtRun desk.old }
     requires minuted { IsMinuted instance.now desk.old minutes.old }
-    ensures answered { OnOk result (Answered desk.old desk.new (string_bytes answers.old) (string_bytes answers.new) (Some event.now ∷ [])) }
+    ensures answered { OnOk result
+        (Answered desk.old desk.new (string_bytes answers.old) (string_bytes answers.new)
+        (Some event.now ∷ [])) }
     ensures minuted { OnOk result (IsMinuted instance.now desk.new minutes.new) }
     ensures given { OnOk result (is_some minutes.new ≡ is_some minutes.old) }
 {
@@ -88,7 +87,7 @@ fn answer_event<'i, S: Sheet<'i>, K: Keeping>(
     if let Answer::NoMemory = answer {
         return Err(NoMemory);
     }
-    tell(answers, minutes, instance, event, &answer)?;
+    add_answer(answers, minutes, instance, event, &answer)?;
     desk.reuse(answer);
     Ok(())
 }
@@ -107,7 +106,9 @@ fn answer_line<'i, S: Sheet<'i>, K: Keeping>(
     requires planners { length desk.old.drafts ≡ 64 }
     requires stands { IsAtRun desk.old }
     requires minuted { IsMinuted instance.now desk.old minutes.old }
-    ensures answered { OnOk result (Answered desk.old desk.new (string_bytes answers.old) (string_bytes answers.new) (items_of instance.now (line.now ∷ []))) }
+    ensures answered { OnOk result
+        (Answered desk.old desk.new (string_bytes answers.old) (string_bytes answers.new)
+        (items_of instance.now (line.now ∷ []))) }
     ensures minuted { OnOk result (IsMinuted instance.now desk.new minutes.new) }
     ensures given { OnOk result (is_some minutes.new ≡ is_some minutes.old) }
 {
@@ -120,8 +121,11 @@ fn answer_line<'i, S: Sheet<'i>, K: Keeping>(
 
 /// Writes answers out where they are many.
 fn write_full<W: Sink>(writer: &mut W, answers: &mut String) -> Result<(), Failed>
-    ensures written { OnOk result (WritesOut (W.taken writer.old) (W.taken writer.new) (string_bytes answers.old) (string_bytes answers.new)) }
-    ensures part { OnErr result (AppendsFront (W.taken writer.old) (W.taken writer.new) (string_bytes answers.old)) }
+    ensures written { OnOk result
+        (WritesOut (W.taken writer.old) (W.taken writer.new) (string_bytes answers.old)
+        (string_bytes answers.new)) }
+    ensures part { OnErr result
+        (AppendsFront (W.taken writer.old) (W.taken writer.new) (string_bytes answers.old)) }
     ensures marked { OnErr result (W.has_failed writer.new ≡ true) }
     ensures unmarked { OnOk result (W.has_failed writer.new ≡ W.has_failed writer.old) }
 {
@@ -133,7 +137,7 @@ fn write_full<W: Sink>(writer: &mut W, answers: &mut String) -> Result<(), Faile
     Ok(())
 }
 
-/// Answers the lines of a script, and writes the answers.
+/// Answers the lines of a script, writes the answers, and passes them on.
 fn answer_lines<'i, S: Sheet<'i>, K: Keeping, W: Sink>(
     alloc: Global,
     desk: &mut Desk<'i, S, K>,
@@ -148,11 +152,17 @@ fn answer_lines<'i, S: Sheet<'i>, K: Keeping, W: Sink>(
     requires minuted { IsMinuted instance.now desk.old minutes.old }
     ensures minuted { OnOk result (IsMinuted instance.now desk.new minutes.new) }
     ensures given { OnOk result (is_some minutes.new ≡ is_some minutes.old) }
-    ensures written { OnOk result (Wrote desk.old desk.new (script instance.now text.now) (W.taken writer.old) (W.taken writer.new)) }
-    ensures part { OnErr result (WroteFront desk.old (script instance.now text.now) (W.taken writer.old) (W.taken writer.new)) }
-    ensures fault { IfErr result (λ fault. (fault ≡ script_fault.Write) ⊎ (fault ≡ script_fault.NoMemory)) }
+    ensures written { OnOk result
+        (Wrote desk.old desk.new (script instance.now text.now) (W.taken writer.old)
+        (W.taken writer.new)) }
+    ensures part { OnErr result
+        (WroteFront desk.old (script instance.now text.now) (W.taken writer.old)
+        (W.taken writer.new)) }
+    ensures fault { IfErr result (λ fault. (fault ≡ script_fault.Write)
+        ⊎ (fault ≡ script_fault.NoMemory)) }
     ensures failed { (result ≡ Err script_fault.Write) → W.has_failed writer.new ≡ true }
-    ensures unmarked { (result ≡ Err script_fault.Write) ⊎ (W.has_failed writer.new ≡ W.has_failed writer.old) }
+    ensures unmarked { (result ≡ Err script_fault.Write)
+        ⊎ (W.has_failed writer.new ≡ W.has_failed writer.old) }
 {
     let is_text = str::from_utf8(text).is_ok();
     let mut answers = String::new(alloc);
@@ -160,7 +170,7 @@ fn answer_lines<'i, S: Sheet<'i>, K: Keeping, W: Sink>(
         answer_line(desk, instance, line, is_text, &mut answers, minutes)?;
         write_full(writer, &mut answers)?;
     }
-    put_all(writer, answers.as_bytes())?;
+    put_whole(writer, answers.as_bytes())?;
     Ok(())
 }
 
@@ -170,8 +180,8 @@ fn answer_lines<'i, S: Sheet<'i>, K: Keeping, W: Sink>(
 /// which begin blank for 64 planners and are then those of the desk.
 ///
 /// The script is read whole before anything is written, and it is not read where the opening is
-/// refused. Where a write fails, or memory is wanted, a front of the answers may have been written, and the
-/// minutes are not to be used.
+/// refused. A flush that fails is a failed write. Where a write fails, or memory is wanted, a front of the
+/// answers may have been written, and the minutes are not to be used.
 pub fn run_script<'i, S: Sheet<'i>, K: Keeping, R: Source, W: Sink>(
     alloc: Global,
     instance: &'i Instance,
@@ -193,23 +203,28 @@ pub fn run_script<'i, S: Sheet<'i>, K: Keeping, R: Source, W: Sink>(
     ensures entries { IfOk result (λ desk. IsWritable instance.now desk.journal) }
     ensures minutes { IfOk result (λ desk. IsMinuted instance.now desk minutes.new) }
     ensures given { OnOk result (is_some minutes.new ≡ is_some minutes.old) }
+    ensures short { OnOk result (IfSome (R.left reader.old) (λ text. length text ≤ 67108864)) }
 
-    ensures cause { IfErr result (λ fault. IsCauseOf instance.now lectures.now (R.left reader.old) fault) }
-    ensures refused { (at : ℕ) (fault : EditFault) → opening instance.now lectures.now ≡ Err (at, fault)
+    ensures cause { IfErr result (λ fault.
+        IsCauseOf instance.now lectures.now (R.left reader.old) fault) }
+    ensures refused { (at : ℕ) (fault : EditFault)
+        → opening instance.now lectures.now ≡ Err (at, fault)
         → (result ≡ Err (script_fault.Unlawful at fault)) ⊎ (result ≡ Err script_fault.NoMemory) }
-    ensures unread { (at : ℕ) (fault : EditFault) → opening instance.now lectures.now ≡ Err (at, fault)
+    ensures unread { (at : ℕ) (fault : EditFault)
+        → opening instance.now lectures.now ≡ Err (at, fault)
         → (reader.new ≡ reader.old) × (writer.new ≡ writer.old) }
     ensures read { (result ≡ Err script_fault.Read) ↔ (R.has_failed reader.new ≡ true) }
     ensures unwritten { IfErr result (λ fault. MayHaveWritten fault ⊎ (writer.new ≡ writer.old)) }
     ensures failed { (result ≡ Err script_fault.Write) → W.has_failed writer.new ≡ true }
-    ensures unmarked { (result ≡ Err script_fault.Write) ⊎ (W.has_failed writer.new ≡ W.has_failed writer.old) }
+    ensures unmarked { (result ≡ Err script_fault.Write)
+        ⊎ (W.has_failed writer.new ≡ W.has_failed writer.old) }
     ensures front { OnErr result ((t0 : List Lecture) → opening instance.now lectures.now ≡ Ok t0
         → IfSome (R.left reader.old) (λ text. AppendsFront (W.taken writer.old) (W.taken writer.new) (answer_text instance.now t0 text))) }
 {
     instance.limits_hold();
     let mut desk: Desk<'i, S, K> = Desk::new(alloc, instance, lectures, PLANNERS)?;
     desk.lawful();
-    let text = match read_all(alloc, reader, LIMIT) {
+    let text = match read_all(alloc, reader, INPUT_LIMIT) {
         Ok(text) => text,
         Err(fault) => {
             let_go(desk);

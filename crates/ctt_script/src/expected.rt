@@ -30,7 +30,8 @@ fn words_in(_instance: &Instance, reply: &Reply) -> u64
 /// Makes this the line of a reply, behind the end of the line before it.
 fn write_expected(text: &mut String, instance: &Instance, reply: &Reply) -> Result<(), AllocError>
     requires { ReplyFits instance.now reply.now }
-    ensures { OnOk result (string_bytes text.new ≡ codes "\n" ++ line (reply_words instance.now reply.now)) }
+    ensures { OnOk result (string_bytes text.new
+        ≡ codes "\n" ++ line (reply_words instance.now reply.now)) }
 {
     text.clear();
     text.push('\n')?;
@@ -45,7 +46,8 @@ pub(crate) fn take_reply(
     expected: Option<&Reply>,
 ) -> Result<bool, AllocError>
     requires { IfSome expected (λ reply. IsReply instance.now reply.now) }
-    ensures taken { IfOk result (λ taken. taken ≡ true → Expected instance.now (option_map (λ r. r.now) expected.entry) reader.old reader.new) }
+    ensures taken { IfOk result (λ taken. taken ≡ true
+        → Expected instance.now (option_map (λ r. r.now) expected.entry) reader.old reader.new) }
     ensures kept { IfOk result (λ taken. taken ≡ false → reader.new ≡ reader.old) }
 {
     let Some(reply) = expected else {

@@ -65,7 +65,8 @@ impl Gathered {
 /// answers whether it did.
 fn gather(gathered: &mut Gathered, instance: &Instance, lecture: &Placed) -> bool
     requires { Fits instance.now lecture.now }
-    ensures added { result ≡ true → gathered.new ≡ gathered.old ++ lecture_part instance.now lecture.now }
+    ensures added { result ≡ true
+        → gathered.new ≡ gathered.old ++ lecture_part instance.now lecture.now }
     ensures kept { result ≡ false → gathered.new ≡ gathered.old }
 {
     let at = gathered.len;
@@ -92,7 +93,8 @@ pub(crate) fn write_lecture(
     lecture: &Placed,
 ) -> Result<(), AllocError>
     requires { Fits instance.now lecture.now }
-    ensures { OnOk result (string_bytes text.new ≡ string_bytes text.old ++ lecture_part instance.now lecture.now) }
+    ensures { OnOk result (string_bytes text.new
+        ≡ string_bytes text.old ++ lecture_part instance.now lecture.now) }
 {
     push_word(text, instance.course_name(lecture.course))?;
     push_word(text, instance.room_name(lecture.room))?;
@@ -107,7 +109,8 @@ pub(crate) fn add_lecture(
     lecture: &Placed,
 ) -> Result<(), AllocError>
     requires { Fits instance.now lecture.now }
-    ensures { OnOk result (string_bytes text.new ++ gathered.new ≡ (string_bytes text.old ++ gathered.old) ++ lecture_part instance.now lecture.now) }
+    ensures { OnOk result (string_bytes text.new ++ gathered.new
+        ≡ (string_bytes text.old ++ gathered.old) ++ lecture_part instance.now lecture.now) }
 {
     if gather(gathered, instance, lecture) {
         return Ok(());

@@ -5,6 +5,9 @@ ghost use Rattle.std.specs.Prelude.{◌≡◌, ◌↔◌, ◌+◌, ◌<◌, ◌�
 use crate::source::Source;
 use std::alloc::{AllocError, Global};
 
+/// The most bytes that an input of the program may have: 64 MiB.
+pub const INPUT_LIMIT: usize = 67_108_864;
+
 /// Why an input could not be read.
 #[derive(Clone, Copy, PartialEq, Eq)]
 pub enum InputFault {

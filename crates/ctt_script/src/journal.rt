@@ -33,7 +33,8 @@ fn read_asked(
     reader: &mut Reader,
     instance: &Instance,
 ) -> Result<Asked, JournalFault>
-    ensures { GivesRead (λ asked. (asked, reader.new)) result (reads (asked_form instance.now) reader.old) }
+    ensures { GivesRead (λ asked. (asked, reader.new)) result
+        (reads (asked_form instance.now) reader.old) }
 {
     let call = read_call(reader, instance)?;
     let reply = read_reply(alloc, reader, instance)?;
@@ -48,7 +49,8 @@ fn read_one_asked(
     instance: &Instance,
     asked: &mut Vec<Asked>,
 ) -> Result<(), JournalFault>
-    ensures { GivesRead (λ _. (asked.new.items, reader.new)) result (reads (one_more (asked_form instance.now) asked.old.items) reader.old) }
+    ensures { GivesRead (λ _. (asked.new.items, reader.new)) result
+        (reads (one_more (asked_form instance.now) asked.old.items) reader.old) }
 {
     let one = read_asked(alloc, reader, instance)?;
     asked.push(one)?;
@@ -62,7 +64,8 @@ fn read_so_many_asked(
     instance: &Instance,
     count: u32,
 ) -> Result<Vec<Asked>, JournalFault>
-    ensures { GivesRead (λ asked. (asked.items, reader.new)) result (reads (list_of (asked_form instance.now) count) reader.old) }
+    ensures { GivesRead (λ asked. (asked.items, reader.new)) result
+        (reads (list_of (asked_form instance.now) count) reader.old) }
 {
     let mut asked = Vec::with_capacity(alloc, (count as usize).min(16))?;
     for _ in 0..count {
@@ -78,7 +81,8 @@ fn read_entry(
     reader: &mut Reader,
     instance: &Instance,
 ) -> Result<JournalEntry, JournalFault>
-    ensures { GivesRead (λ entry. (entry, reader.new)) result (reads (entry_form instance.now) reader.old) }
+    ensures { GivesRead (λ entry. (entry, reader.new)) result
+        (reads (entry_form instance.now) reader.old) }
 {
     read_label(reader, "entry")?;
     let planner = read_number_below(reader, 1000)?;
@@ -98,7 +102,8 @@ fn read_one_entry(
     instance: &Instance,
     entries: &mut Vec<JournalEntry>,
 ) -> Result<(), JournalFault>
-    ensures { GivesRead (λ _. (entries.new.items, reader.new)) result (reads (one_more (entry_form instance.now) entries.old.items) reader.old) }
+    ensures { GivesRead (λ _. (entries.new.items, reader.new)) result
+        (reads (one_more (entry_form instance.now) entries.old.items) reader.old) }
 {
     let entry = read_entry(alloc, reader, instance)?;
     entries.push(entry)?;
@@ -112,7 +117,8 @@ fn read_so_many_entries(
     instance: &Instance,
     count: u32,
 ) -> Result<Vec<JournalEntry>, JournalFault>
-    ensures { GivesRead (λ entries. (entries.items, reader.new)) result (reads (list_of (entry_form instance.now) count) reader.old) }
+    ensures { GivesRead (λ entries. (entries.items, reader.new)) result
+        (reads (list_of (entry_form instance.now) count) reader.old) }
 {
     let mut entries = Vec::new(alloc);
     for _ in 0..count {
@@ -128,7 +134,8 @@ fn read_entries(
     reader: &mut Reader,
     instance: &Instance,
 ) -> Result<Vec<JournalEntry>, JournalFault>
-    ensures { GivesRead (λ entries. (entries.items, reader.new)) result (reads (journal_form instance.now) reader.old) }
+    ensures { GivesRead (λ entries. (entries.items, reader.new)) result
+        (reads (journal_form instance.now) reader.old) }
 {
     read_label(reader, "journal")?;
     let count = read_count(reader)?;
@@ -143,7 +150,8 @@ pub(crate) fn read_text(
     instance: &Instance,
     text: &str,
 ) -> Result<Vec<JournalEntry>, JournalFault>
-    ensures { Gives wants_memory (λ list. list.items) result (journal_answer instance.now (words text.now)) }
+    ensures { Gives wants_memory (λ list.
+        list.items) result (journal_answer instance.now (words text.now)) }
 {
     let mut reader = Reader::new(text);
     read_entries(alloc, &mut reader, instance)
@@ -164,10 +172,14 @@ pub fn read_journal(
     ensures fits { IfOk result (λ list. Each (EntryFits instance.now) list.items) }
     ensures few { IfOk result (λ list. AreFew list.items) }
     ensures short { IfOk result (λ list. Each IsShort list.items) }
-    ensures accepted { (entries : List JournalEntry) → IsUtf8 text.now → JournalSpells instance.now (words text.now) entries → MatchResult result (λ list. list.items ≡ entries) (λ fault. fault ≡ NoMemory) }
+    ensures accepted { (entries : List JournalEntry) → IsUtf8 text.now
+        → JournalSpells instance.now (words text.now) entries
+        → MatchResult result (λ list. list.items ≡ entries) (λ fault. fault ≡ NoMemory) }
     ensures fault { IfErr result (IsJournalCauseOf instance.now text.now) }
     ensures not_text { ¬ IsUtf8 text.now → result ≡ Err (NotText (utf8_valid_len text.now)) }
-    ensures broken { (k : ℕ) (fault : JournalFault) → IsUtf8 text.now → JournalBreaksAt instance.now (words text.now) k fault → (result ≡ Err fault) ⊎ (result ≡ Err NoMemory) }
+    ensures broken { (k : ℕ) (fault : JournalFault) → IsUtf8 text.now
+        → JournalBreaksAt instance.now (words text.now) k fault → (result ≡ Err fault)
+        ⊎ (result ≡ Err NoMemory) }
 {
     instance.limits_hold();
     match str::from_utf8(text) {

@@ -103,7 +103,8 @@ impl Minutes {
     /// Writes the entry of a planner's draft.
     fn enter(&mut self, planner: PlannerNo) -> Result<(), NoMemory>
         requires { planner < length self.old.drafts }
-        ensures { OnOk result (self.new ≡ with_entry planner (notes_at self.old.drafts planner) self.old) }
+        ensures { OnOk result (self.new
+            ≡ with_entry planner (notes_at self.old.drafts planner) self.old) }
     {
         let count = self.count.checked_add(1).ok_or(NoMemory)?;
         let notes = &self.drafts[planner.get() as usize];
@@ -134,7 +135,8 @@ impl Minutes {
         requires planner { planner < length self.old.drafts }
         requires call { CallFits instance.now call.now }
         requires answer { AnswerFits instance.now answer.now }
-        ensures { OnOk result (self.new ≡ noted_ask instance.now planner call.now answer.now self.old) }
+        ensures { OnOk result (self.new
+            ≡ noted_ask instance.now planner call.now answer.now self.old) }
     {
         if let Answer::Replied(reply) = answer {
             return self.drafts[planner.get() as usize].add(instance, call, reply);

@@ -12,7 +12,8 @@ use std::alloc::AllocError;
 
 /// Adds a blank and a word.
 pub(crate) fn push_word(text: &mut String, word: &str) -> Result<(), AllocError>
-    ensures { OnOk result (string_bytes text.new ≡ string_bytes text.old ++ (codes " " ++ word.now)) }
+    ensures { OnOk result (string_bytes text.new
+        ≡ string_bytes text.old ++ (codes " " ++ word.now)) }
 {
     text.push(' ')?;
     text.push_str(word)
@@ -37,7 +38,8 @@ fn push_digits(text: &mut String, number: u64) -> Result<(), AllocError>
 /// Adds a blank and a number.
 #[inline(always)]
 pub(crate) fn push_number(text: &mut String, number: u64) -> Result<(), AllocError>
-    ensures { OnOk result (string_bytes text.new ≡ string_bytes text.old ++ (codes " " ++ decimal number)) }
+    ensures { OnOk result (string_bytes text.new
+        ≡ string_bytes text.old ++ (codes " " ++ decimal number)) }
 {
     text.push(' ')?;
     if number < 10 {
@@ -48,7 +50,8 @@ pub(crate) fn push_number(text: &mut String, number: u64) -> Result<(), AllocErr
 
 /// Adds a blank and a number with its sign.
 pub(crate) fn push_signed(text: &mut String, number: i64) -> Result<(), AllocError>
-    ensures { OnOk result (string_bytes text.new ≡ string_bytes text.old ++ (codes " " ++ signed_decimal number)) }
+    ensures { OnOk result (string_bytes text.new
+        ≡ string_bytes text.old ++ (codes " " ++ signed_decimal number)) }
 {
     text.push(' ')?;
     text.push_str(Buffer::new().format(number))
@@ -61,7 +64,8 @@ pub(crate) fn push_slot(
     slot: SlotNo,
 ) -> Result<(), AllocError>
     requires { slot < slot_count instance.now }
-    ensures { OnOk result (string_bytes text.new ≡ string_bytes text.old ++ slot_part instance.now slot) }
+    ensures { OnOk result (string_bytes text.new
+        ≡ string_bytes text.old ++ slot_part instance.now slot) }
 {
     let (day, period) = (instance.day_of(slot), instance.period_of(slot));
     push_number(text, u64::from(day))?;
@@ -70,7 +74,8 @@ pub(crate) fn push_slot(
 
 /// Adds the last word of a line, and its end.
 pub(crate) fn end_with_word(text: &mut String, word: &str) -> Result<(), AllocError>
-    ensures { OnOk result (string_bytes text.new ≡ string_bytes text.old ++ rest_of_line (word.now ∷ [])) }
+    ensures { OnOk result (string_bytes text.new
+        ≡ string_bytes text.old ++ rest_of_line (word.now ∷ [])) }
 {
     push_word(text, word)?;
     text.push('\n')
@@ -78,7 +83,8 @@ pub(crate) fn end_with_word(text: &mut String, word: &str) -> Result<(), AllocEr
 
 /// Adds the last number of a line, and its end.
 pub(crate) fn end_with_number(text: &mut String, number: u64) -> Result<(), AllocError>
-    ensures { OnOk result (string_bytes text.new ≡ string_bytes text.old ++ rest_of_line (decimal number ∷ [])) }
+    ensures { OnOk result (string_bytes text.new
+        ≡ string_bytes text.old ++ rest_of_line (decimal number ∷ [])) }
 {
     push_number(text, number)?;
     text.push('\n')
@@ -91,7 +97,9 @@ pub(crate) fn end_with_slot(
     slot: SlotNo,
 ) -> Result<(), AllocError>
     requires { slot < slot_count instance.now }
-    ensures { OnOk result (string_bytes text.new ≡ string_bytes text.old ++ rest_of_line (day_word instance.now slot ∷ period_word instance.now slot ∷ [])) }
+    ensures { OnOk result (string_bytes text.new
+        ≡ string_bytes text.old ++ rest_of_line
+        (day_word instance.now slot ∷ period_word instance.now slot ∷ [])) }
 {
     push_slot(text, instance, slot)?;
     text.push('\n')

@@ -52,7 +52,8 @@ pub(crate) fn read_count(reader: &mut Reader) -> Result<u32, JournalFault>
 #[tactic(auto, using(crate::proofs::JournalSteps::read_number_below), unfolding(crate::specs::ReplyPlaces::count))]
 pub(crate) fn read_number_below(reader: &mut Reader, limit: u16) -> Result<u16, JournalFault>
     ensures limit { IfOk result (λ number. number < limit) }
-    ensures exact { IsRead (λ number. (number, reader.new)) result (reads (word (number_below limit) 0) reader.old) }
+    ensures exact { IsRead (λ number.
+        (number, reader.new)) result (reads (word (number_below limit) 0) reader.old) }
 {
     let at = reader.next();
     let number = read_count(reader)?;
@@ -76,7 +77,8 @@ pub(crate) fn read_amount(reader: &mut Reader) -> Result<u64, JournalFault>
 /// A price.
 #[tactic(auto, using(crate::proofs::JournalSteps::read_word))]
 pub(crate) fn read_price(reader: &mut Reader) -> Result<i64, JournalFault>
-    ensures { IsRead (λ price. (price, reader.new)) result (reads (word price_of (pos 0)) reader.old) }
+    ensures { IsRead (λ price. (price, reader.new)) result
+        (reads (word price_of (pos 0)) reader.old) }
 {
     let at = reader.next();
     let word = read_word(reader)?;
@@ -89,7 +91,8 @@ pub(crate) fn read_course(
     reader: &mut Reader,
     instance: &Instance,
 ) -> Result<CourseNo, JournalFault>
-    ensures { IsRead (λ course. (course, reader.new)) result (reads (course instance.now) reader.old) }
+    ensures { IsRead (λ course. (course, reader.new)) result
+        (reads (course instance.now) reader.old) }
 {
     next_course(reader, instance)
 }
@@ -108,7 +111,8 @@ pub(crate) fn read_teacher(
     reader: &mut Reader,
     instance: &Instance,
 ) -> Result<TeacherNo, JournalFault>
-    ensures { IsRead (λ teacher. (teacher, reader.new)) result (reads (teacher instance.now) reader.old) }
+    ensures { IsRead (λ teacher. (teacher, reader.new)) result
+        (reads (teacher instance.now) reader.old) }
 {
     let at = reader.next();
     let name = read_word(reader)?;
@@ -121,7 +125,8 @@ pub(crate) fn read_curriculum(
     reader: &mut Reader,
     instance: &Instance,
 ) -> Result<CurriculumNo, JournalFault>
-    ensures { IsRead (λ curriculum. (curriculum, reader.new)) result (reads (curriculum instance.now) reader.old) }
+    ensures { IsRead (λ curriculum. (curriculum, reader.new)) result
+        (reads (curriculum instance.now) reader.old) }
 {
     let at = reader.next();
     let name = read_word(reader)?;
@@ -143,7 +148,8 @@ pub(crate) fn read_slot(reader: &mut Reader, instance: &Instance) -> Result<Slot
 /// The word of an edit.
 #[tactic(auto, using(crate::proofs::JournalSteps::read_word))]
 pub(crate) fn read_edit_kind(reader: &mut Reader) -> Result<EditKind, JournalFault>
-    ensures { IsRead (λ kind. (kind, reader.new)) result (reads (word edit_kind edit.Place) reader.old) }
+    ensures { IsRead (λ kind. (kind, reader.new)) result
+        (reads (word edit_kind edit.Place) reader.old) }
 {
     let at = reader.next();
     let word = read_word(reader)?;
@@ -153,7 +159,8 @@ pub(crate) fn read_edit_kind(reader: &mut Reader) -> Result<EditKind, JournalFau
 /// The word of a look.
 #[tactic(auto, using(crate::proofs::JournalSteps::read_word))]
 pub(crate) fn read_look_kind(reader: &mut Reader) -> Result<LookKind, JournalFault>
-    ensures { IsRead (λ kind. (kind, reader.new)) result (reads (word look_kind look.Cost) reader.old) }
+    ensures { IsRead (λ kind. (kind, reader.new)) result
+        (reads (word look_kind look.Cost) reader.old) }
 {
     let at = reader.next();
     let word = read_word(reader)?;
@@ -163,7 +170,8 @@ pub(crate) fn read_look_kind(reader: &mut Reader) -> Result<LookKind, JournalFau
 /// The word of a call.
 #[tactic(auto, using(crate::proofs::JournalSteps::read_word))]
 pub(crate) fn read_call_kind(reader: &mut Reader) -> Result<CallKind, JournalFault>
-    ensures { IsRead (λ kind. (kind, reader.new)) result (reads (word call_kind (kind.Look look.Cost)) reader.old) }
+    ensures { IsRead (λ kind. (kind, reader.new)) result
+        (reads (word call_kind (kind.Look look.Cost)) reader.old) }
 {
     let at = reader.next();
     let word = read_word(reader)?;
@@ -173,7 +181,8 @@ pub(crate) fn read_call_kind(reader: &mut Reader) -> Result<CallKind, JournalFau
 /// The word of a reply.
 #[tactic(auto, using(crate::proofs::JournalSteps::read_word))]
 pub(crate) fn read_reply_kind(reader: &mut Reader) -> Result<ReplyKind, JournalFault>
-    ensures { IsRead (λ kind. (kind, reader.new)) result (reads (word reply_kind reply.Done) reader.old) }
+    ensures { IsRead (λ kind. (kind, reader.new)) result
+        (reads (word reply_kind reply.Done) reader.old) }
 {
     let at = reader.next();
     let word = read_word(reader)?;
@@ -183,7 +192,8 @@ pub(crate) fn read_reply_kind(reader: &mut Reader) -> Result<ReplyKind, JournalF
 /// The word of a fault.
 #[tactic(auto, using(crate::proofs::JournalSteps::read_word))]
 pub(crate) fn read_fault_kind(reader: &mut Reader) -> Result<FaultKind, JournalFault>
-    ensures { IsRead (λ kind. (kind, reader.new)) result (reads (word fault_kind fault.NotPlaced) reader.old) }
+    ensures { IsRead (λ kind. (kind, reader.new)) result
+        (reads (word fault_kind fault.NotPlaced) reader.old) }
 {
     let at = reader.next();
     let word = read_word(reader)?;

@@ -23,7 +23,8 @@ fn read_fault_after(
     instance: &Instance,
     kind: FaultKind,
 ) -> Result<EditFault, JournalFault>
-    ensures { IsRead (λ fault. (fault, reader.new)) result (reads (fault_after instance.now kind) reader.old) }
+    ensures { IsRead (λ fault. (fault, reader.new)) result
+        (reads (fault_after instance.now kind) reader.old) }
 {
     match kind {
         FaultKind::NotPlaced => Ok(EditFault::NotPlaced),
@@ -41,7 +42,8 @@ fn read_fault_after(
 /// The words of a fault.
 #[tactic(auto, using(crate::proofs::JournalSteps::read_bind), unfolding(crate::specs::ReplyPlaces::fault_form))]
 fn read_fault(reader: &mut Reader, instance: &Instance) -> Result<EditFault, JournalFault>
-    ensures { IsRead (λ fault. (fault, reader.new)) result (reads (fault_form instance.now) reader.old) }
+    ensures { IsRead (λ fault. (fault, reader.new)) result
+        (reads (fault_form instance.now) reader.old) }
 {
     let kind = read_fault_kind(reader)?;
     read_fault_after(reader, instance, kind)
@@ -50,7 +52,8 @@ fn read_fault(reader: &mut Reader, instance: &Instance) -> Result<EditFault, Jou
 /// The words of a lecture.
 #[tactic(auto, using(crate::proofs::JournalSteps::read_bind, crate::proofs::JournalSteps::read_done), unfolding(crate::specs::ReplyPlaces::lecture))]
 fn read_lecture(reader: &mut Reader, instance: &Instance) -> Result<Placed, JournalFault>
-    ensures { IsRead (λ lecture. (lecture, reader.new)) result (reads (lecture instance.now) reader.old) }
+    ensures { IsRead (λ lecture. (lecture, reader.new)) result
+        (reads (lecture instance.now) reader.old) }
 {
     let course = read_course(reader, instance)?;
     let room = read_room(reader, instance)?;
@@ -65,7 +68,8 @@ fn read_one_lecture(
     instance: &Instance,
     lectures: &mut Vec<Placed>,
 ) -> Result<(), JournalFault>
-    ensures { GivesRead (λ _. (lectures.new.items, reader.new)) result (reads (one_more (lecture instance.now) lectures.old.items) reader.old) }
+    ensures { GivesRead (λ _. (lectures.new.items, reader.new)) result
+        (reads (one_more (lecture instance.now) lectures.old.items) reader.old) }
 {
     let lecture = read_lecture(reader, instance)?;
     lectures.push(lecture)?;
@@ -79,7 +83,8 @@ fn read_so_many_lectures(
     instance: &Instance,
     count: u32,
 ) -> Result<Vec<Placed>, JournalFault>
-    ensures { GivesRead (λ lectures. (lectures.items, reader.new)) result (reads (list_of (lecture instance.now) count) reader.old) }
+    ensures { GivesRead (λ lectures. (lectures.items, reader.new)) result
+        (reads (list_of (lecture instance.now) count) reader.old) }
 {
     let mut lectures = Vec::with_capacity(alloc, (count as usize).min(16))?;
     for _ in 0..count {
@@ -95,7 +100,8 @@ fn read_lectures(
     reader: &mut Reader,
     instance: &Instance,
 ) -> Result<Vec<Placed>, JournalFault>
-    ensures { GivesRead (λ lectures. (lectures.items, reader.new)) result (reads (lectures instance.now) reader.old) }
+    ensures { GivesRead (λ lectures. (lectures.items, reader.new)) result
+        (reads (lectures instance.now) reader.old) }
 {
     let count = read_count(reader)?;
     read_so_many_lectures(alloc, reader, instance, count)
@@ -126,7 +132,8 @@ fn read_reply_after(
     instance: &Instance,
     kind: ReplyKind,
 ) -> Result<Reply, JournalFault>
-    ensures { GivesRead (λ reply. (reply, reader.new)) result (reads (reply_after instance.now kind) reader.old) }
+    ensures { GivesRead (λ reply. (reply, reader.new)) result
+        (reads (reply_after instance.now kind) reader.old) }
 {
     match kind {
         ReplyKind::Done => Ok(Reply::Done),
@@ -141,12 +148,13 @@ fn read_reply_after(
 
 /// The words of a reply.
 #[tactic(auto, using(crate::proofs::JournalSteps::read_bind), unfolding(crate::specs::ReplyPlaces::reply_form))]
-pub fn read_reply(
+pub(crate) fn read_reply(
     alloc: Global,
     reader: &mut Reader,
     instance: &Instance,
 ) -> Result<Reply, JournalFault>
-    ensures { GivesRead (λ reply. (reply, reader.new)) result (reads (reply_form instance.now) reader.old) }
+    ensures { GivesRead (λ reply. (reply, reader.new)) result
+        (reads (reply_form instance.now) reader.old) }
 {
     let kind = read_reply_kind(reader)?;
     read_reply_after(alloc, reader, instance, kind)

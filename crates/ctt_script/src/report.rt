@@ -15,21 +15,24 @@ use std::alloc::{AllocError, Global};
 
 /// Adds a line that says a text.
 fn push_line(report: &mut String, key: &str, text: &str) -> Result<(), AllocError>
-    ensures { OnOk result (string_bytes report.new ≡ string_bytes report.old ++ line key.now text.now) }
+    ensures { OnOk result (string_bytes report.new
+        ≡ string_bytes report.old ++ line key.now text.now) }
 {
     writeln!(report, "{key} {text}")
 }
 
 /// Adds a line that says a number.
 fn push_count(report: &mut String, key: &str, count: u64) -> Result<(), AllocError>
-    ensures { OnOk result (string_bytes report.new ≡ string_bytes report.old ++ count_line key.now count) }
+    ensures { OnOk result (string_bytes report.new
+        ≡ string_bytes report.old ++ count_line key.now count) }
 {
     writeln!(report, "{key} {count}")
 }
 
 /// Adds the line of the lectures in barred rooms, where some room is barred.
 fn push_barred(report: &mut String, barred: bool, count: u64) -> Result<(), AllocError>
-    ensures { OnOk result (string_bytes report.new ≡ string_bytes report.old ++ barred_line barred count) }
+    ensures { OnOk result (string_bytes report.new
+        ≡ string_bytes report.old ++ barred_line barred count) }
 {
     if barred {
         push_count(report, "barred", count)
@@ -40,7 +43,8 @@ fn push_barred(report: &mut String, barred: bool, count: u64) -> Result<(), Allo
 
 /// Adds a line that says yes or no.
 fn push_answer(report: &mut String, key: &str, answer: bool) -> Result<(), AllocError>
-    ensures { OnOk result (string_bytes report.new ≡ string_bytes report.old ++ answer_line key.now answer) }
+    ensures { OnOk result (string_bytes report.new
+        ≡ string_bytes report.old ++ answer_line key.now answer) }
 {
     push_line(report, key, if answer { "yes" } else { "no" })
 }
@@ -53,7 +57,9 @@ fn text(
     assessment: Assessment,
 ) -> Result<String, AllocError>
     requires { total assessment.cost < 2 ^ 64 }
-    ensures { IfOk result (λ text. string_bytes text ≡ text_of name.now barred assessment.hard assessment.cost assessment.lawful assessment.complete) }
+    ensures { IfOk result (λ text. string_bytes text
+        ≡ text_of name.now barred assessment.hard assessment.cost assessment.lawful
+        assessment.complete) }
 {
     let Assessment {
         hard,
@@ -143,7 +149,9 @@ fn json(
     assessment: Assessment,
 ) -> Result<Value, AllocError>
     requires { total assessment.cost < 2 ^ 64 }
-    ensures { IfOk result (λ value. view value ≡ data_of name.now barred assessment.hard assessment.cost assessment.lawful assessment.complete) }
+    ensures { IfOk result (λ value. view value
+        ≡ data_of name.now barred assessment.hard assessment.cost assessment.lawful
+        assessment.complete) }
 {
     let Assessment {
         hard,

@@ -8,7 +8,7 @@ ghost use Rattle.ctt_core.specs.declared.event.Event.{Event};
 ghost use Rattle.ctt_script.specs.JournalWords.{word, reads, IsRead};
 ghost use Rattle.ctt_script.specs.Kinds.{step_kind};
 ghost use Rattle.ctt_script.specs.ScriptPlaces.{first_of, step_after, event_after, event_form, own_first_of, own_after, own_form};
-ghost use Rattle.ctt_script.specs.ScriptText.{whole, item, own_item, has_words, script};
+ghost use Rattle.ctt_script.specs.ScriptText.{whole, item, own_item, has_words};
 ghost use Rattle.ctt_script.specs.declared.kinds.StepKind.TheVariants as step;
 ghost use Rattle.ctt_script.specs.declared.script.Start.TheVariants as begin;
 ghost use Rattle.ctt_script.specs.declared.script.OwnStart.TheVariants as own;
@@ -18,12 +18,12 @@ use crate::amounts::number_below;
 use crate::calls::{read_call_after, read_look};
 use crate::journal_fault::JournalFault;
 use crate::kinds::{StepKind, is_word, step_kind};
-use crate::lines::Lines;
 use crate::places::read_word;
 use ctt_core::{Event, PlannerNo};
-use ctt_text::{Instance, NoMemory, Reader, Words};
-use std::alloc::Global;
-use std::marker::Model;
+use ctt_text::{Instance, Reader, Words};
+
+/// How many planners a script has, and a crew at most.
+pub const PLANNERS: u16 = 64;
 
 /// How a line begins.
 #[derive(Clone, Copy)]
@@ -40,14 +40,15 @@ fn first_of(word: &str) -> Option<Start>
     if is_word(word, "show") {
         Some(Start::Show)
     } else {
-        Some(Start::Planner(PlannerNo::new(number_below(word.as_bytes(), 64)?)))
+        Some(Start::Planner(PlannerNo::new(number_below(word.as_bytes(), PLANNERS)?)))
     }
 }
 
 /// The first word of a line.
 #[tactic(auto, using(crate::proofs::JournalSteps::read_word))]
 fn read_start(reader: &mut Reader) -> Result<Start, JournalFault>
-    ensures { IsRead (λ start. (start, reader.new)) result (reads (word first_of begin.Show) reader.old) }
+    ensures { IsRead (λ start. (start, reader.new)) result
+        (reads (word first_of begin.Show) reader.old) }
 {
     let at = reader.next();
     let word = read_word(reader)?;
@@ -57,7 +58,8 @@ fn read_start(reader: &mut Reader) -> Result<Start, JournalFault>
 /// The word of a step.
 #[tactic(auto, using(crate::proofs::JournalSteps::read_word))]
 fn read_step_kind(reader: &mut Reader) -> Result<StepKind, JournalFault>
-    ensures { IsRead (λ kind. (kind, reader.new)) result (reads (word step_kind step.Open) reader.old) }
+    ensures { IsRead (λ kind. (kind, reader.new)) result
+        (reads (word step_kind step.Open) reader.old) }
 {
     let at = reader.next();
     let word = read_word(reader)?;
@@ -73,7 +75,8 @@ fn read_step_after(
     planner: PlannerNo,
     kind: StepKind,
 ) -> Result<Event, JournalFault>
-    ensures { IsRead (λ event. (event, reader.new)) result (reads (step_after instance.now planner kind) reader.old) }
+    ensures { IsRead (λ event. (event, reader.new)) result
+        (reads (step_after instance.now planner kind) reader.old) }
 {
     match kind {
         StepKind::Open => Ok(Event::Open(planner)),
@@ -91,7 +94,8 @@ fn read_event_after(
     instance: &Instance,
     start: Start,
 ) -> Result<Event, JournalFault>
-    ensures { IsRead (λ event. (event, reader.new)) result (reads (event_after instance.now start) reader.old) }
+    ensures { IsRead (λ event. (event, reader.new)) result
+        (reads (event_after instance.now start) reader.old) }
 {
     match start {
         Start::Show => Ok(Event::Show(read_look(reader, instance)?)),
@@ -105,7 +109,8 @@ fn read_event_after(
 /// The words of an event.
 #[tactic(auto, using(crate::proofs::JournalSteps::read_bind), unfolding(crate::specs::ScriptPlaces::event_form))]
 fn read_event(reader: &mut Reader, instance: &Instance) -> Result<Event, JournalFault>
-    ensures { IsRead (λ event. (event, reader.new)) result (reads (event_form instance.now) reader.old) }
+    ensures { IsRead (λ event. (event, reader.new)) result
+        (reads (event_form instance.now) reader.old) }
 {
     let start = read_start(reader)?;
     read_event_after(reader, instance, start)
@@ -133,7 +138,8 @@ fn own_first_of(word: &str) -> Option<OwnStart>
 /// The first word of a line of one planner's own script.
 #[tactic(auto, using(crate::proofs::JournalSteps::read_word))]
 fn read_own_start(reader: &mut Reader) -> Result<OwnStart, JournalFault>
-    ensures { IsRead (λ start. (start, reader.new)) result (reads (word own_first_of own.Show) reader.old) }
+    ensures { IsRead (λ start. (start, reader.new)) result
+        (reads (word own_first_of own.Show) reader.old) }
 {
     let at = reader.next();
     let word = read_word(reader)?;
@@ -148,7 +154,8 @@ fn read_own_after(
     planner: PlannerNo,
     start: OwnStart,
 ) -> Result<Event, JournalFault>
-    ensures { IsRead (λ event. (event, reader.new)) result (reads (own_after instance.now planner start) reader.old) }
+    ensures { IsRead (λ event. (event, reader.new)) result
+        (reads (own_after instance.now planner start) reader.old) }
 {
     match start {
         OwnStart::Show => Ok(Event::Show(read_look(reader, instance)?)),
@@ -163,7 +170,8 @@ fn read_own_event(
     instance: &Instance,
     planner: PlannerNo,
 ) -> Result<Event, JournalFault>
-    ensures { IsRead (λ event. (event, reader.new)) result (reads (own_form instance.now planner) reader.old) }
+    ensures { IsRead (λ event. (event, reader.new)) result
+        (reads (own_form instance.now planner) reader.old) }
 {
     let start = read_own_start(reader)?;
     read_own_after(reader, instance, planner, start)
@@ -171,7 +179,8 @@ fn read_own_event(
 
 /// The event that was read, if no word is left behind it.
 fn only_event(reader: &Reader, read: Result<Event, JournalFault>) -> Option<Event>
-    ensures { (all : Result (Event × Left) JournalFault) → IsRead (λ event. (event, reader.now)) read all → result ≡ whole all }
+    ensures { (all : Result (Event × Left) JournalFault)
+        → IsRead (λ event. (event, reader.now)) read all → result ≡ whole all }
 {
     match read {
         Ok(event) => {
@@ -228,7 +237,8 @@ pub fn read_line(instance: &Instance, line: &[u8]) -> Option<Event>
 pub fn read_own_line(instance: &Instance, planner: PlannerNo, line: &[u8]) -> Option<Event>
     ensures item { result ≡ own_item instance.now planner line.now }
     ensures words { OnSome result (has_words line.now ≡ true) }
-    ensures fits { (planners : ℕ) → planner < planners → IfSome result (EventFits instance.now planners) }
+    ensures fits { (planners : ℕ) → planner < planners
+        → IfSome result (EventFits instance.now planners) }
 {
     instance.limits_hold();
     let text = text_of(line, false)?;
@@ -242,50 +252,4 @@ pub(crate) fn has_words(line: &[u8]) -> bool
     ensures { result ≡ has_words line.now }
 {
     Words::new(line).next().is_some()
-}
-
-/// What a line asks for: an event, or nothing that is known.
-#[derive(Drop)]
-pub struct Item {
-    event: Option<Event>,
-}
-
-impl Model for Item {
-    ghost use Rattle.std.specs.Prelude.{Option};
-    ghost use Rattle.ctt_core.specs.declared.event.Event.{Event};
-
-    ghost Value = { Option Event };
-
-    ghost view = { λ x. x.event };
-}
-
-impl Item {
-    /// The item of a line.
-    pub fn of(instance: &Instance, line: &[u8]) -> Self
-        ensures { result ≡ item instance.now line.now }
-    {
-        Item {
-            event: read_line(instance, line),
-        }
-    }
-
-    /// The event; none for a bad line.
-    pub fn event(&self) -> Option<Event>
-        ensures { result ≡ self.now }
-    {
-        self.event
-    }
-}
-
-/// The items of a script: one for each line that has words.
-pub fn read_script(alloc: Global, instance: &Instance, text: &[u8]) -> Result<Vec<Item>, NoMemory>
-    ensures { IfOk result (λ items. items.items ≡ script instance.now text.now) }
-{
-    let mut items = Vec::new(alloc);
-    for line in Lines::new(text) {
-        if has_words(line) {
-            items.push(Item::of(instance, line))?;
-        }
-    }
-    Ok(items)
 }

@@ -22,7 +22,7 @@ pub enum ScriptFault {
     Read,
     /// The script has more than 67,108,864 bytes.
     TooLong,
-    /// A write failed, or took nothing.
+    /// A write or a flush failed, or a write took nothing.
     Write,
     /// There is not enough memory.
     NoMemory,

@@ -1,10 +1,11 @@
 //! A planner of a crew, with or without an open draft, and what he is answered.
 
-ghost use Rattle.std.specs.Prelude.{ℕ, ◌≡◌};
+ghost use Rattle.std.specs.Prelude.{ℕ, ◌≡◌, None, Some};
 ghost use Rattle.ctt_edits.specs.Calls.{CallFits};
 ghost use Rattle.ctt_edits.specs.Looks.{LookFits};
 ghost use Rattle.ctt_core.specs.Runs.{EventFits};
-ghost use Rattle.ctt_script.specs.CrewText.{ToldFits, told_unread};
+ghost use Rattle.ctt_script.specs.CrewText.{ToldFits, call_in, told_unread};
+ghost use Rattle.ctt_script.specs.Seats.{Abandons, Asks, Commits, Opens, Refreshes, Shows, Takes};
 
 use ctt_board::{Sheet, Timetable};
 use ctt_core::{Answer, Event};
@@ -47,7 +48,8 @@ fn unread<J: Naming>(fault: SharedFault) -> Told
 impl<'i, S: Sheet<'i>, J: Naming> Seat<'i, S, J> {
     /// Opens a draft.
     fn open(self) -> (Self, Told)
-        ensures { ToldFits J.problem result.1 }
+        ensures fits { ToldFits J.problem result.1 }
+        ensures opens { Opens J.problem J.opening self.entry result.0 result.1 }
     {
         match self {
             Seat::Free(planner) => match planner.open() {
@@ -60,10 +62,11 @@ impl<'i, S: Sheet<'i>, J: Naming> Seat<'i, S, J> {
         }
     }
 
-    /// Makes a call in the draft. Of all that a line may ask for, this is the most frequent; it moves no seat.
+    /// Makes the call in the draft. Of all that a line may ask for, this is the most frequent; it moves no seat.
     pub(crate) fn ask(&mut self, call: Call) -> Told
         requires { CallFits J.problem call }
-        ensures { ToldFits J.problem result }
+        ensures fits { ToldFits J.problem result }
+        ensures asks { Asks J.problem call self.old self.new result }
     {
         match self {
             Seat::Free(_) => Told::Answer(Answer::NoDraft),
@@ -76,7 +79,8 @@ impl<'i, S: Sheet<'i>, J: Naming> Seat<'i, S, J> {
 
     /// Commits the draft.
     fn commit<R: Wait>(self, rt: &R, desk: &SharedDesk<S, J>) -> (Self, Told)
-        ensures { ToldFits J.problem result.1 }
+        ensures fits { ToldFits J.problem result.1 }
+        ensures commits { Commits J.problem J.opening self.entry result.0 result.1 }
     {
         match self {
             Seat::Free(planner) => (Seat::Free(planner), Told::Answer(Answer::NoDraft)),
@@ -100,7 +104,8 @@ impl<'i, S: Sheet<'i>, J: Naming> Seat<'i, S, J> {
 
     /// Brings the draft up to date.
     fn refresh(self) -> (Self, Told)
-        ensures { ToldFits J.problem result.1 }
+        ensures fits { ToldFits J.problem result.1 }
+        ensures refreshes { Refreshes J.problem J.opening self.entry result.0 result.1 }
     {
         match self {
             Seat::Free(planner) => (Seat::Free(planner), Told::Answer(Answer::NoDraft)),
@@ -119,7 +124,8 @@ impl<'i, S: Sheet<'i>, J: Naming> Seat<'i, S, J> {
 
     /// Gives the draft up.
     fn abandon(self) -> (Self, Told)
-        ensures { ToldFits J.problem result.1 }
+        ensures fits { ToldFits J.problem result.1 }
+        ensures abandons { Abandons self.entry result.0 result.1 }
     {
         match self {
             Seat::Free(planner) => (Seat::Free(planner), Told::Answer(Answer::NoDraft)),
@@ -133,7 +139,8 @@ impl<'i, S: Sheet<'i>, J: Naming> Seat<'i, S, J> {
     /// Looks at the timetable as it stands, if no draft is open.
     fn show(self, look: &Look) -> (Self, Told)
         requires { LookFits J.problem look.now }
-        ensures { ToldFits J.problem result.1 }
+        ensures fits { ToldFits J.problem result.1 }
+        ensures shows { Shows J.problem J.opening look.now self.entry result.0 result.1 }
     {
         match self {
             Seat::Free(planner) => {
@@ -153,18 +160,16 @@ impl<'i, S: Sheet<'i>, J: Naming> Seat<'i, S, J> {
         }
     }
 
-    /// Does what a line asks for. The planner goes on from where that leaves him.
+    /// Does what a line asks for that is no call. The planner goes on from where that leaves him.
     pub(crate) fn take<R: Wait>(self, rt: &R, desk: &SharedDesk<S, J>, event: Event) -> (Self, Told)
-        requires { (n : ℕ) × EventFits J.problem n event }
-        ensures { ToldFits J.problem result.1 }
+        requires no_call { call_in (Some event) ≡ None }
+        requires fits { (n : ℕ) × EventFits J.problem n event }
+        ensures fits { ToldFits J.problem result.1 }
+        ensures takes { Takes J.problem J.opening event self.entry result.0 result.1 }
     {
         match event {
             Event::Open(_) => self.open(),
-            Event::Ask(_, call) => {
-                let mut seat = self;
-                let told = seat.ask(call);
-                (seat, told)
-            }
+            Event::Ask(_, _) => unreachable!(),
             Event::Commit(_) => self.commit(rt, desk),
             Event::Refresh(_) => self.refresh(),
             Event::Abandon(_) => self.abandon(),

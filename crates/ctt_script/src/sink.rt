@@ -2,7 +2,7 @@
 
 ghost use Rattle.std.specs.Prelude.{◌≡◌, ◌<◌, ◌≤◌, [], true, length, take, IfOk, OnOk, OnErr};
 ghost use Rattle.std.specs.Io.KnownBytes.{Appends, Keeps};
-ghost use Rattle.ctt_script.specs.Output.{AppendsPart};
+ghost use Rattle.ctt_script.specs.Output.{AppendsFront, AppendsPart};
 
 use crate::source::Failed;
 
@@ -61,4 +61,19 @@ pub fn put_all<W: Sink>(writer: &mut W, bytes: &[u8]) -> Result<(), Failed>
         written += n;
     }
     Ok(())
+}
+
+/// Writes all of `bytes` as `put_all` does, and passes them on.
+///
+/// `Failed` also where they were all taken and the flush fails. No flush is tried after a failed write.
+pub fn put_whole<W: Sink>(writer: &mut W, bytes: &[u8]) -> Result<(), Failed>
+    ensures all { OnOk result (Appends (W.taken writer.old) (W.taken writer.new) bytes.now) }
+    ensures front { OnErr result
+        (AppendsFront (W.taken writer.old) (W.taken writer.new) bytes.now) }
+
+    ensures marked { OnErr result (W.has_failed writer.new ≡ true) }
+    ensures unmarked { OnOk result (W.has_failed writer.new ≡ W.has_failed writer.old) }
+{
+    put_all(writer, bytes)?;
+    writer.flush()
 }

@@ -38,7 +38,9 @@ fn write_roomed(
     lecture: &Placed,
 ) -> Result<(), AllocError>
     requires { Fits instance.now lecture.now }
-    ensures { OnOk result (string_bytes text.new ≡ string_bytes text.old ++ (kind.now ++ rest_of_line (lecture_words instance.now lecture.now))) }
+    ensures { OnOk result (string_bytes text.new
+        ≡ string_bytes text.old ++
+        (kind.now ++ rest_of_line (lecture_words instance.now lecture.now))) }
 {
     text.push_str(kind)?;
     write_lecture(text, instance, lecture)?;
@@ -54,7 +56,9 @@ fn push_at(
 ) -> Result<(), AllocError>
     requires course { course < course_count instance.now }
     requires slot { slot < slot_count instance.now }
-    ensures { OnOk result (string_bytes text.new ≡ string_bytes text.old ++ (codes " " ++ (course_word instance.now course ++ slot_part instance.now slot))) }
+    ensures { OnOk result (string_bytes text.new
+        ≡ string_bytes text.old ++
+        (codes " " ++ (course_word instance.now course ++ slot_part instance.now slot))) }
 {
     push_word(text, instance.course_name(course))?;
     push_slot(text, instance, slot)
@@ -63,7 +67,8 @@ fn push_at(
 /// Adds the line of an edit.
 fn write_edit(text: &mut String, instance: &Instance, edit: &Edit) -> Result<(), AllocError>
     requires { EditFits instance.now edit.now }
-    ensures { OnOk result (string_bytes text.new ≡ string_bytes text.old ++ line (edit_words instance.now edit.now)) }
+    ensures { OnOk result (string_bytes text.new
+        ≡ string_bytes text.old ++ line (edit_words instance.now edit.now)) }
 {
     match *edit {
         Edit::Place(course, slot, room) => {
@@ -94,7 +99,8 @@ fn write_edit(text: &mut String, instance: &Instance, edit: &Edit) -> Result<(),
 
 /// Adds a line of two words.
 fn write_named(text: &mut String, kind: &str, name: &str) -> Result<(), AllocError>
-    ensures { OnOk result (string_bytes text.new ≡ string_bytes text.old ++ line (kind.now ∷ name.now ∷ [])) }
+    ensures { OnOk result (string_bytes text.new
+        ≡ string_bytes text.old ++ line (kind.now ∷ name.now ∷ [])) }
 {
     text.push_str(kind)?;
     end_with_word(text, name)
@@ -103,7 +109,8 @@ fn write_named(text: &mut String, kind: &str, name: &str) -> Result<(), AllocErr
 /// Adds the line of a look.
 fn write_look(text: &mut String, instance: &Instance, look: &Look) -> Result<(), AllocError>
     requires { LookFits instance.now look.now }
-    ensures { OnOk result (string_bytes text.new ≡ string_bytes text.old ++ line (look_words instance.now look.now)) }
+    ensures { OnOk result (string_bytes text.new
+        ≡ string_bytes text.old ++ line (look_words instance.now look.now)) }
 {
     match look {
         Look::Course(course) => write_named(text, "course", instance.course_name(*course)),
@@ -127,9 +134,14 @@ fn write_look(text: &mut String, instance: &Instance, look: &Look) -> Result<(),
 }
 
 /// Adds the line of a call.
-pub fn write_call(text: &mut String, instance: &Instance, call: &Call) -> Result<(), AllocError>
+pub(crate) fn write_call(
+    text: &mut String,
+    instance: &Instance,
+    call: &Call,
+) -> Result<(), AllocError>
     requires { CallFits instance.now call.now }
-    ensures { OnOk result (string_bytes text.new ≡ string_bytes text.old ++ line (call_words instance.now call.now)) }
+    ensures { OnOk result (string_bytes text.new
+        ≡ string_bytes text.old ++ line (call_words instance.now call.now)) }
 {
     match call {
         Call::Look(look) => write_look(text, instance, look),
@@ -144,7 +156,8 @@ pub fn write_fault(
     fault: &EditFault,
 ) -> Result<(), AllocError>
     requires { FaultFits instance.now fault.now }
-    ensures { OnOk result (string_bytes text.new ≡ string_bytes text.old ++ line (fault_words instance.now fault.now)) }
+    ensures { OnOk result (string_bytes text.new
+        ≡ string_bytes text.old ++ line (fault_words instance.now fault.now)) }
 {
     match fault {
         EditFault::NotPlaced => text.push_str("notplaced\n"),
@@ -168,7 +181,8 @@ fn write_refused(
     fault: &EditFault,
 ) -> Result<(), AllocError>
     requires { FaultFits instance.now fault.now }
-    ensures { OnOk result (string_bytes text.new ≡ string_bytes text.old ++ line (codes "refused" ∷ fault_words instance.now fault.now)) }
+    ensures { OnOk result (string_bytes text.new
+        ≡ string_bytes text.old ++ line (codes "refused" ∷ fault_words instance.now fault.now)) }
 {
     text.push_str("refused ")?;
     write_fault(text, instance, fault)
@@ -181,7 +195,8 @@ fn write_lectures(
     lectures: &[Placed],
 ) -> Result<(), AllocError>
     requires { Each (Fits instance.now) lectures.now }
-    ensures { OnOk result (string_bytes text.new ≡ string_bytes text.old ++ line (reply_words instance.now (Lectures lectures.now))) }
+    ensures { OnOk result (string_bytes text.new
+        ≡ string_bytes text.old ++ line (reply_words instance.now (Lectures lectures.now))) }
 {
     text.push_str("lectures")?;
     push_number(text, lectures.len() as u64)?;
@@ -195,7 +210,8 @@ fn write_lectures(
 
 /// Adds the line of four costs.
 pub(crate) fn write_costs(text: &mut String, cost: &Cost) -> Result<(), AllocError>
-    ensures { OnOk result (string_bytes text.new ≡ string_bytes text.old ++ line (cost_words cost.now)) }
+    ensures { OnOk result (string_bytes text.new
+        ≡ string_bytes text.old ++ line (cost_words cost.now)) }
 {
     let Cost {
         capacity,
@@ -212,7 +228,8 @@ pub(crate) fn write_costs(text: &mut String, cost: &Cost) -> Result<(), AllocErr
 
 /// Adds the line of a price.
 fn write_price(text: &mut String, price: i64) -> Result<(), AllocError>
-    ensures { OnOk result (string_bytes text.new ≡ string_bytes text.old ++ line (codes "price" ∷ signed_decimal price ∷ [])) }
+    ensures { OnOk result (string_bytes text.new
+        ≡ string_bytes text.old ++ line (codes "price" ∷ signed_decimal price ∷ [])) }
 {
     text.push_str("price")?;
     push_signed(text, price)?;
@@ -220,9 +237,14 @@ fn write_price(text: &mut String, price: i64) -> Result<(), AllocError>
 }
 
 /// Adds the line of a reply.
-pub fn write_reply(text: &mut String, instance: &Instance, reply: &Reply) -> Result<(), AllocError>
+pub(crate) fn write_reply(
+    text: &mut String,
+    instance: &Instance,
+    reply: &Reply,
+) -> Result<(), AllocError>
     requires { ReplyFits instance.now (reply.now) }
-    ensures { OnOk result (string_bytes text.new ≡ string_bytes text.old ++ line (reply_words instance.now (reply.now))) }
+    ensures { OnOk result (string_bytes text.new
+        ≡ string_bytes text.old ++ line (reply_words instance.now (reply.now))) }
 {
     match reply {
         Reply::Done => text.push_str("done\n"),
@@ -236,7 +258,8 @@ pub fn write_reply(text: &mut String, instance: &Instance, reply: &Reply) -> Res
 /// Adds the lines of a call and its reply.
 fn write_asked(text: &mut String, instance: &Instance, asked: &Asked) -> Result<(), AllocError>
     requires { AskedFits instance.now asked.now }
-    ensures { OnOk result (string_bytes text.new ≡ string_bytes text.old ++ asked_text instance.now asked.now) }
+    ensures { OnOk result (string_bytes text.new
+        ≡ string_bytes text.old ++ asked_text instance.now asked.now) }
 {
     write_call(text, instance, &asked.call)?;
     write_reply(text, instance, &asked.reply)
@@ -248,7 +271,8 @@ pub(crate) fn write_entry_head(
     planner: PlannerNo,
     calls: u64,
 ) -> Result<(), AllocError>
-    ensures { OnOk result (string_bytes text.new ≡ string_bytes text.old ++ line (codes "entry" ∷ decimal planner ∷ decimal calls ∷ [])) }
+    ensures { OnOk result (string_bytes text.new
+        ≡ string_bytes text.old ++ line (codes "entry" ∷ decimal planner ∷ decimal calls ∷ [])) }
 {
     text.push_str("entry")?;
     push_number(text, u64::from(planner.get()))?;
@@ -262,7 +286,8 @@ fn write_entry(
     entry: &JournalEntry,
 ) -> Result<(), AllocError>
     requires { EntryFits instance.now entry.now }
-    ensures { OnOk result (string_bytes text.new ≡ string_bytes text.old ++ entry_text instance.now entry.now) }
+    ensures { OnOk result (string_bytes text.new
+        ≡ string_bytes text.old ++ entry_text instance.now entry.now) }
 {
     let asked = entry.asked.as_slice();
     write_entry_head(text, entry.planner, asked.len() as u64)?;
@@ -285,7 +310,8 @@ pub fn write_journal(
     requires short { Each IsShort entries.now }
     ensures text { IfOk result (λ text. text.items ≡ journal_text instance.now entries.now) }
     ensures utf8 { IfOk result (λ text. IsUtf8 text.items) }
-    ensures spelled { IfOk result (λ text. (rest : List ℕ) → JournalSpells instance.now (words (text.items ++ rest)) entries.now) }
+    ensures spelled { IfOk result (λ text. (rest : List ℕ)
+        → JournalSpells instance.now (words (text.items ++ rest)) entries.now) }
 {
     instance.limits_hold();
     instance.names_are_words();

@@ -1,5 +1,5 @@
 -- What is found of a journal, by the files that were read.
-use Rattle.std.proofs.Common.{◌≡◌, ◌∙◌, ℕ, List, Option, Some, None, Result, Ok, Err, IfOk, IfErr, IfSome, IsErrAnd, inl, sym, subst}
+use Rattle.std.proofs.Common.{◌≡◌, ◌∙◌, ℕ, List, Option, Some, None, Result, Ok, Err, IfOk, IfSome, inl, inr, subst}
 use Rattle.std.proofs.lemmas.Option.{IfSome_then}
 use Rattle.std.specs.Global.{Global}
 use Rattle.std.specs.List.{AllByRecursion as Each}
@@ -12,9 +12,11 @@ use Rattle.ctt_text.specs.Words.{words}
 use Rattle.ctt_text.specs.declared.placed.Placed.{Placed}
 use Rattle.ctt_core.specs.declared.auditing.Verdict.{Verdict}
 use Rattle.ctt_script.specs.AuditedText.{AuditsText}
-use Rattle.ctt_tool.specs.Audits.{FindsIn, IsRefusedJournal, VerdictFits}
-use Rattle.ctt_tool.specs.Faults.{status_of}
-use Rattle.ctt_tool.specs.Texts.{Held, Holds, IsJournalText, IsNoJournal, IsStart}
+use Rattle.ctt_core.specs.declared.auditing.Verdict.TheVariants as found
+use Rattle.ctt_core.specs.declared.journal.JournalEntry.{JournalEntry}
+use Rattle.ctt_tool.specs.Audits.{FindsIn, IsVerdictFault, VerdictFits}
+use Rattle.ctt_tool.specs.Refusals.{IsOfAudited}
+use Rattle.ctt_tool.specs.Texts.{Held, Holds, IsJournalText, IsStart}
 use Rattle.ctt_tool.specs.declared.fault.Fault.{Fault}
 use Rattle.ctt_tool.proofs.Desks.{verdict_fits}
 
@@ -34,16 +36,16 @@ module _ (problem : Problem) (lectures : List Placed) (bytes : List ℕ) where
   finds_fit (Ok v) fit audits = verdict_fits problem lectures audits.entries v fit audits.found
   finds_fit (Err fault) fit audits = tt
 
-  -- a text that is no journal is what the file holds
-  pub refused_in : {T : Type 0} (r : Result T Fault) (journal : String Global) (start : Option (String Global)) (held : Held) → IfErr r (λ fault. status_of fault ≡ 1 → IsNoJournal problem bytes)
-      → Holds held journal (λ text. bytes ≡ text) → IfErr r (λ fault. status_of fault ≡ 1 → IsRefusedJournal problem held journal start)
-  refused_in (Ok v) journal start held cause told = tt
-  refused_in (Err fault) journal start held cause told = λ one. inl (IfSome_then _ told (λ text same. subst (IsNoJournal problem) same (cause one)))
+-- the file holds the journal that was read
+pub journal_in : (problem : Problem) (held : Option (List ℕ)) (bytes : List ℕ) (entries : List JournalEntry) → IfSome held (λ text. bytes ≡ text) → IsJournalText problem bytes entries → IfSome held (λ text. IsJournalText problem text entries)
+journal_in problem held bytes entries told is = IfSome_then held told (λ text same. subst (λ b. IsJournalText problem b entries) same is)
 
--- a fault that is passed on
-pub passed_on : {T : Type 0} (r : Result T Fault) (fault : Fault) (P : Fault → Type 0) → IsErrAnd r (λ e. e ≡ fault) → P fault → IfErr r P
-passed_on (Ok x) fault P is h = tt
-passed_on (Err e) fault P is h = subst P (sym is) h
+-- a verdict that is not printed is of the journal's audit
+pub verdict_refused : (problem : Problem) (journal : String Global) (start : Option (String Global)) (held : Held) (verdict : Verdict) (fault : Fault) → FindsIn problem journal start held verdict → IsVerdictFault problem verdict fault → IsOfAudited journal start held problem fault
+verdict_refused problem journal start held found.Agrees fault finds is = absurd is
+verdict_refused problem journal start held (found.Differs entry call) fault finds is = inl (inl (inr (inr is)))
+verdict_refused problem journal start held (found.BadOpening at why) fault finds is =
+    inr (finds.entries, finds.is_journal, inr (at, why, record { lectures = finds.lectures; is_start = finds.is_start; refused = finds.found }, is))
 
 -- the bytes that were read are what the file tells
 pub told_of : (held : Option (List ℕ)) (bytes items : List ℕ) → bytes ≡ items → IfSome held (λ text. items ≡ text) → IfSome held (λ text. bytes ≡ text)

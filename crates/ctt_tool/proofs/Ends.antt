@@ -1,17 +1,17 @@
 -- How the program ends, by its status.
-use Rattle.std.proofs.Common.{◌≡◌, ◌≢◌, ◌∙◌, ◌⊎◌, sym, inl, inr, ⊎_elim, ℕ, List, [], Option, arith}
+use Rattle.std.proofs.Common.{◌≡◌, ◌≢◌, ◌∙◌, ◌⊎◌, sym, inl, inr, ⊎_elim, subst, ℕ, Bool, List, [], Option, arith}
 use Rattle.ctt_tool.specs.Faults.{KeptUnless, MayHaveWritten, SaysFault, status_of}
 use Rattle.ctt_tool.specs.Jobs.{faults_of}
 use Rattle.ctt_tool.specs.Outcomes.{outcome_status}
 use Rattle.ctt_tool.specs.Texts.{Held}
-use Rattle.ctt_tool.specs.Work.{DoesAsAsked}
+use Rattle.ctt_tool.specs.Work.{DoesAsAsked, HasCause, IsOfWords}
 use Rattle.ctt_tool.specs.declared.fault.Fault.{Fault}
 use Rattle.ctt_tool.specs.declared.fault.Fault.TheVariants.{Barred, CannotRead, CannotWrite, Instance, Journal, NoMemory, NoPlace, NoThread, Opening, Solution, TooLong, TooManyScripts, Words, WordsNotText}
 use Rattle.ctt_tool.specs.declared.job.Job.TheVariants.{Audit, Check, Crew, Run}
 use Rattle.ctt_tool.specs.declared.outcome.Outcome.{Outcome}
 use Rattle.ctt_tool.specs.declared.outcome.Outcome.TheVariants.{Done, Differs}
 use Rattle.ctt_tool.proofs.Causes.{three_is_one}
-use Rattle.ctt_tool.proofs.Known.{says_weaker}
+use Rattle.ctt_tool.proofs.Known.{says_caused, says_weaker}
 
 -- status 0 is that of a job that was done
 pub ends_done : (outcome : Outcome) (status : ℕ) (D : Outcome → Type 0) → status ≡ outcome_status outcome → D outcome → status ≡ 0 → D Done
@@ -25,9 +25,6 @@ ends_differs Differs status D is does some = does
 
 pub one_is_some : (status : ℕ) → status ≡ 1 → status ≢ 0
 one_is_some status one zero = omega (arith, one, zero)
-
-pub three_is_not_one : {C : Type 0} (fault : Fault) → status_of fault ≡ 3 → status_of fault ≡ 1 → C
-three_is_not_one fault three one = absurd (omega (arith, three, one))
 
 -- and 2 is that of a fault
 pub two_is_of_fault : (fault : Fault) (status : ℕ) → (status ≡ status_of fault) ⊎ (status ≡ 3) → status ≡ 2 → status_of fault ≡ 2
@@ -83,7 +80,14 @@ unprinted_one NoThread P (inl may) one = absurd may
 unprinted_one NoPlace P (inl may) one = absurd may
 
 -- what is so of these words is so of some
-pub of_some_words : (words : List (List ℕ)) (D : List (List ℕ) → Type 0) (M : Type 0) (C : Fault → Type 0) (status : ℕ) (old new : Option (List ℕ)) → D words ⊎ (M ⊎ SaysFault C status old new)
-    → ((some : List (List ℕ)) × D some) ⊎ (M ⊎ SaysFault (λ _. Unit {0}) status old new)
-of_some_words words D M C status old new (inl does) = inl (words, does)
-of_some_words words D M C status old new (inr said) = inr (says_weaker M C (λ _. Unit {0}) status old new (λ fault has. tt) said)
+pub of_some_words : (words : List (List ℕ)) (held : Held) (failed : Bool) (D : List (List ℕ) → Type 0) (M : Type 0) (status : ℕ) (old new : Option (List ℕ)) → D words ⊎ (M ⊎ SaysFault (HasCause words held failed) status old new)
+    → ((some : List (List ℕ)) × D some) ⊎ (M ⊎ SaysFault (IsOfWords held failed) status old new)
+of_some_words words held failed D M status old new (inl does) = inl (words, does)
+of_some_words words held failed D M status old new (inr said) = inr (says_weaker M (HasCause words held failed) (IsOfWords held failed) status old new (λ fault has. inr (words, has)) said)
+
+-- and a word that is no text needs no more
+pub of_no_words : (held : Held) (failed : Bool) (M : Type 0) (fault : Fault) (status : ℕ) (old new : Option (List ℕ)) → (fault ≡ WordsNotText) ⊎ (fault ≡ NoMemory) → M ⊎ SaysFault (λ told. (told ≡ fault) ⊎ (told ≡ NoMemory)) status old new
+    → M ⊎ SaysFault (IsOfWords held failed) status old new
+of_no_words held failed M fault status old new is said =
+    let memory : IsOfWords held failed NoMemory = inr ([], tt) in
+    says_caused M (IsOfWords held failed) fault status old new (⊎_elim (λ same. inl same) (λ same. subst (IsOfWords held failed) (sym same) memory) is) memory said

@@ -1,22 +1,17 @@
 -- What holds where bytes are told.
-use Rattle.std.proofs.Common.{◌≡◌, ◌≤◌, ◌<◌, ◌⊎◌, ◌++◌, ◌∷◌, ⊎_elim, length, arith, string_bytes, inl, inr, ℕ, Bool, true, List, refl, sym, subst, IfErr, IfSome, IsErrAnd, OnOk, Option, Some, None, Result, Ok, Err}
-use Rattle.std.specs.Global.{Global}
+use Rattle.std.proofs.Common.{◌≡◌, ◌≤◌, ◌<◌, ◌⊎◌, ⊎_elim, length, arith, string_bytes, inl, inr, ℕ, Bool, true, List, refl, sym, subst, IfErr, IsErrAnd, OnOk, Option, Result, Ok, Err}
 use Rattle.std.specs.Io.KnownBytes.{Appends}
-use Rattle.std.specs.declared.string.String.{String}
 use Rattle.std.proofs.lemmas.List.{length-map}
-use Rattle.ctt_tool.specs.Faults.{IfUnwritten, IsLineOf, IsOfFiles, IsOneOf, KeptUnless, SaysFault, status_of}
-use Rattle.ctt_tool.specs.Jobs.{HasScripts, given, IsJobOf, IsOfJob, IsRefusal, Storing, faults_of, files_of, scripts_of}
-use Rattle.ctt_tool.specs.Work.{AsksForTooMany, HasCause}
+use Rattle.ctt_tool.specs.Faults.{IfUnwritten, IsLineOf, KeptUnless, SaysFault, status_of}
+use Rattle.ctt_tool.specs.Jobs.{HasScripts, IsJobOf, IsRefusal, Storing, faults_of, scripts_of}
+use Rattle.ctt_tool.specs.Refusals.{IsOfAudited, IsOfScript, IsOfScripts, IsOfSolution}
+use Rattle.ctt_tool.specs.Texts.{Held}
+use Rattle.ctt_tool.specs.Work.{AsksForRefusedText, AsksForTooMany, HasCause, IsOfJob}
 use Rattle.ctt_tool.specs.declared.fault.Fault.{Fault}
 use Rattle.ctt_tool.specs.declared.fault.Fault.TheVariants.{Barred, CannotRead, CannotWrite, Instance, Journal, NoMemory, NoPlace, NoThread, Opening, Solution, TooLong, TooManyScripts, Words, WordsNotText}
 use Rattle.ctt_tool.specs.declared.job.Job.{Job}
 use Rattle.ctt_tool.specs.declared.job.Job.TheVariants.{Audit, Check, Crew, Run}
-
-pub both_told : {X Y : Type 0} (o : Option X) (p : Option Y) (P : X → Type 0) (Q : Y → Type 0) (R : X → Y → Type 0) → ((x : X) (y : Y) → P x → Q y → R x y)
-    → IfSome o P → IfSome p Q → IfSome o (λ x. IfSome p (R x))
-both_told None p P Q R more first second = tt
-both_told (Some x) None P Q R more first second = tt
-both_told (Some x) (Some y) P Q R more first second = more x y first second
+use Rattle.ctt_tool.proofs.Plain.{IsPlain, audited_plain, behind_plain, script_plain, scripts_plain, solution_file_plain, unwritten_more}
 
 pub on_ok_weaker : {T E : Type 0} (r : Result T E) (P Q : Type 0) → (P → Q) → OnOk r P → OnOk r Q
 on_ok_weaker (Ok x) P Q more holds = more holds
@@ -39,88 +34,77 @@ pub says_caused : (M : Type 0) (D : Fault → Type 0) (fault : Fault) (status : 
 says_caused M D fault status old new has memory said =
     says_weaker M (λ told. (told ≡ fault) ⊎ (told ≡ NoMemory)) D status old new (λ told is. ⊎_elim (λ same. subst D (sym same) has) (λ same. subst D (sym same) memory) is) said
 
-pub if_err_both : {T E : Type 0} (r : Result T E) (P Q R : E → Type 0) → ((e : E) → P e → Q e → R e) → IfErr r P → IfErr r Q → IfErr r R
-if_err_both (Ok x) P Q R more p q = tt
-if_err_both (Err e) P Q R more p q = more e p q
+-- the words are refused
+abbrev IsWord : Fault → Type 0
+IsWord (Words text) = Unit {0}
+IsWord WordsNotText = Unit {0}
+IsWord _ = ⊥
 
--- a fault of one of these files is one of more files
-pub of_more_files : (names more : List (String Global)) (held : List ℕ → Option (List ℕ)) (fault : Fault) → ((name : String Global) → IsOneOf name names → IsOneOf name more)
-    → IsOfFiles names held fault → IsOfFiles more held fault
-of_more_files names more held (CannotRead name) within is = within name is
-of_more_files names more held (TooLong name) within is = (within name is.0, is.1)
-of_more_files names more held _ within is = tt
+-- a fault of a job is a plain one, but for too many scripts, which only a crew has
+job_plain : (job : Job) (held : Held) (fault : Fault) → IsOfJob job held fault → IsPlain fault ⊎ ((fault ≡ TooManyScripts) × (64 < length (scripts_of job)))
+job_plain (Check instance barred solution json) held fault is = inl (behind_plain (IsOfSolution solution) (solution_file_plain solution) held instance barred fault is)
+job_plain (Run instance barred script start journal) held fault is = inl (behind_plain (IsOfScript script start) (script_plain script start) held instance barred fault is)
+job_plain (Audit instance barred journal start) held fault is = inl (behind_plain (IsOfAudited journal start) (audited_plain journal start) held instance barred fault is)
+job_plain (Crew instance barred scripts) held fault (inl many) = inr many
+job_plain (Crew instance barred scripts) held fault (inr other) = inl (behind_plain (IsOfScripts scripts.items) (scripts_plain scripts.items) held instance barred fault other)
 
--- files behind others that may be given are among all of these, and those in front are
-pub one_behind : (barred : Option (String Global)) (names : List (String Global)) (name : String Global) → IsOneOf name names → IsOneOf name (given barred ++ names)
-one_behind None names name one = one
-one_behind (Some other) names name one = inr one
+-- no job refuses the words that ask for it
+job_words : {C : Type 0} (job : Job) (held : Held) (fault : Fault) → (IsPlain fault → C) → (fault ≡ TooManyScripts → C) → IsOfJob job held fault → C
+job_words job held fault plain many is = ⊎_elim plain (λ crew. many crew.0) (job_plain job held fault is)
 
-pub one_in_front : (barred : Option (String Global)) (first : String Global) (names : List (String Global)) (name : String Global) → IsOneOf name (first ∷ given barred) → IsOneOf name (first ∷ given barred ++ names)
-one_in_front barred first names name (inl same) = inl same
-one_in_front None first names name (inr none) = absurd none
-one_in_front (Some other) first names name (inr (inl same)) = inr (inl same)
-one_in_front (Some other) first names name (inr (inr none)) = absurd none
-
--- scripts are too many only for a crew, and threads and places are only a crew's
-too_many : (job : Job) → IsOfJob job TooManyScripts → 64 < length (scripts_of job)
-too_many (Check instance barred solution json) is = absurd is
-too_many (Run instance barred script start journal) is = absurd is
-too_many (Audit instance barred journal start) is = absurd is
-too_many (Crew instance barred scripts) is = is
-
-some_scripts : (job : Job) → IsOfJob job NoThread → 1 ≤ length (scripts_of job)
-some_scripts (Check instance barred solution json) is = absurd is
-some_scripts (Run instance barred script start journal) is = absurd is
-some_scripts (Audit instance barred journal start) is = absurd is
-some_scripts (Crew instance barred scripts) is = is
-
-some_places : (job : Job) → IsOfJob job NoPlace → 1 ≤ length (scripts_of job)
-some_places (Check instance barred solution json) is = absurd is
-some_places (Run instance barred script start journal) is = absurd is
-some_places (Audit instance barred journal start) is = absurd is
-some_places (Crew instance barred scripts) is = is
-
--- and no job refuses the words that ask for it
-no_words : (job : Job) (text : String Global) → IsOfJob job (Words text) → ⊥
-no_words (Check instance barred solution json) text is = is
-no_words (Run instance barred script start journal) text is = is
-no_words (Audit instance barred journal start) text is = is
-no_words (Crew instance barred scripts) text is = is
-
-no_word : (job : Job) → IsOfJob job WordsNotText → ⊥
-no_word (Check instance barred solution json) is = is
-no_word (Run instance barred script start journal) is = is
-no_word (Audit instance barred journal start) is = is
-no_word (Crew instance barred scripts) is = is
+not_many : {C : Type 0} (fault : Fault) → IsWord fault → fault ≡ TooManyScripts → C
+not_many fault word same = absurd (subst IsWord same word)
 
 -- the cause of a fault of a job
-pub job_caused : (words : List (List ℕ)) (held : List ℕ → Option (List ℕ)) (failed : Bool) (job : Job) (Q : Type 0) (fault : Fault) → IsJobOf words job → IsOfFiles (files_of job) held fault
-    → IfUnwritten fault ((failed ≡ true) ⊎ Storing job) (IsOfJob job fault × Q) → HasCause words held failed fault
-job_caused words held failed job Q CannotWrite is file unwritten = ⊎_elim inl (λ storing. inr (job, is, storing)) unwritten
-job_caused words held failed job Q (CannotRead name) is file unwritten = (job, is, file)
-job_caused words held failed job Q (TooLong name) is file unwritten = (job, is, file)
-job_caused words held failed job Q TooManyScripts is file unwritten = (job, is, too_many job unwritten.0)
-job_caused words held failed job Q NoThread is file unwritten = (job, is, some_scripts job unwritten.0)
-job_caused words held failed job Q NoPlace is file unwritten = (job, is, some_places job unwritten.0)
-job_caused words held failed job Q _ is file unwritten = tt
+pub job_caused : (words : List (List ℕ)) (held : Held) (failed : Bool) (job : Job) (U : Type 0) (fault : Fault) → IsJobOf words job → IfUnwritten fault ((failed ≡ true) ⊎ Storing job) (IsOfJob job held fault × U) → HasCause words held failed fault
+job_caused words held failed job U (Instance number at) is cause = (job, is, cause.0)
+job_caused words held failed job U (Solution number at) is cause = (job, is, cause.0)
+job_caused words held failed job U (Barred number at) is cause = (job, is, cause.0)
+job_caused words held failed job U (Journal number at) is cause = (job, is, cause.0)
+job_caused words held failed job U (Opening text) is cause = (job, is, cause.0)
+job_caused words held failed job U (CannotRead name) is cause = (job, is, cause.0)
+job_caused words held failed job U (TooLong name) is cause = (job, is, cause.0)
+job_caused words held failed job U CannotWrite is cause = ⊎_elim inl (λ storing. inr (job, is, storing)) cause
+job_caused words held failed job U NoMemory is cause = tt
+job_caused words held failed job U (Words text) is cause = job_words job held (Words text) (λ plain. absurd plain) (λ same. not_many (Words text) tt same) cause.0
+job_caused words held failed job U WordsNotText is cause = job_words job held WordsNotText (λ plain. absurd plain) (λ same. not_many WordsNotText tt same) cause.0
+job_caused words held failed job U TooManyScripts is cause = (job, is, cause.0)
+job_caused words held failed job U NoThread is cause = (job, is, cause.0)
+job_caused words held failed job U NoPlace is cause = (job, is, cause.0)
 
--- a refusal of a job is that of too many scripts
-pub job_refused : (words : List (List ℕ)) (job : Job) (P Q : Type 0) (fault : Fault) → IsJobOf words job → IfUnwritten fault P (IsOfJob job fault × Q) → status_of fault ≡ 2
-    → IsRefusal (faults_of words) ⊎ AsksForTooMany words
-job_refused words job P Q TooManyScripts is unwritten two = inr (job, is, too_many job unwritten.0)
-job_refused words job P Q (Words text) is unwritten two = absurd (no_words job text unwritten.0)
-job_refused words job P Q WordsNotText is unwritten two = absurd (no_word job unwritten.0)
-job_refused words job P Q (Instance number at) is unwritten two = absurd (omega (arith, two))
-job_refused words job P Q (Solution number at) is unwritten two = absurd (omega (arith, two))
-job_refused words job P Q (Barred number at) is unwritten two = absurd (omega (arith, two))
-job_refused words job P Q (Journal number at) is unwritten two = absurd (omega (arith, two))
-job_refused words job P Q (Opening text) is unwritten two = absurd (omega (arith, two))
-job_refused words job P Q (CannotRead name) is unwritten two = absurd (omega (arith, two))
-job_refused words job P Q (TooLong name) is unwritten two = absurd (omega (arith, two))
-job_refused words job P Q CannotWrite is unwritten two = absurd (omega (arith, two))
-job_refused words job P Q NoMemory is unwritten two = absurd (omega (arith, two))
-job_refused words job P Q NoThread is unwritten two = absurd (omega (arith, two))
-job_refused words job P Q NoPlace is unwritten two = absurd (omega (arith, two))
+-- words are refused for their faults, or for too many scripts
+pub refused_two : (words : List (List ℕ)) (held : Held) (failed : Bool) (fault : Fault) → HasCause words held failed fault → status_of fault ≡ 2 → IsRefusal (faults_of words) ⊎ AsksForTooMany words
+refused_two words held failed (Instance number at) has two = absurd (omega (arith, two))
+refused_two words held failed (Solution number at) has two = absurd (omega (arith, two))
+refused_two words held failed (Barred number at) has two = absurd (omega (arith, two))
+refused_two words held failed (Journal number at) has two = absurd (omega (arith, two))
+refused_two words held failed (Opening text) has two = absurd (omega (arith, two))
+refused_two words held failed (CannotRead name) has two = absurd (omega (arith, two))
+refused_two words held failed (TooLong name) has two = absurd (omega (arith, two))
+refused_two words held failed CannotWrite has two = absurd (omega (arith, two))
+refused_two words held failed NoMemory has two = absurd (omega (arith, two))
+refused_two words held failed (Words text) has two = inl has
+refused_two words held failed WordsNotText has two = absurd has
+refused_two words held failed TooManyScripts has two = inr (has.0, has.1, ⊎_elim (λ plain. absurd plain) (λ many. many.1) (job_plain has.0 held TooManyScripts has.2))
+refused_two words held failed NoThread has two = absurd (omega (arith, two))
+refused_two words held failed NoPlace has two = absurd (omega (arith, two))
+
+-- and a text is refused by a job that they ask for
+pub asked_one : (words : List (List ℕ)) (held : Held) (failed : Bool) (fault : Fault) → HasCause words held failed fault → status_of fault ≡ 1 → AsksForRefusedText words held
+asked_one words held failed (Instance number at) has one = ((Instance number at), one, has)
+asked_one words held failed (Solution number at) has one = ((Solution number at), one, has)
+asked_one words held failed (Barred number at) has one = ((Barred number at), one, has)
+asked_one words held failed (Journal number at) has one = ((Journal number at), one, has)
+asked_one words held failed (Opening text) has one = ((Opening text), one, has)
+asked_one words held failed (CannotRead name) has one = absurd (omega (arith, one))
+asked_one words held failed (TooLong name) has one = absurd (omega (arith, one))
+asked_one words held failed CannotWrite has one = absurd (omega (arith, one))
+asked_one words held failed NoMemory has one = absurd (omega (arith, one))
+asked_one words held failed (Words text) has one = absurd (omega (arith, one))
+asked_one words held failed WordsNotText has one = absurd (omega (arith, one))
+asked_one words held failed TooManyScripts has one = absurd (omega (arith, one))
+asked_one words held failed NoThread has one = absurd (omega (arith, one))
+asked_one words held failed NoPlace has one = absurd (omega (arith, one))
 
 -- a job that words ask for has what a crew needs
 pub job_has_scripts : (words : List (List ℕ)) (job : Job) → IsJobOf words job → HasScripts job
@@ -152,17 +136,4 @@ kept_unless NoThread S K kept = kept
 kept_unless NoPlace S K kept = kept
 
 pub kept_weaker : (fault : Fault) (S R K L : Type 0) → (S → R) → (K → L) → KeptUnless fault S K → KeptUnless fault R L
-kept_weaker CannotWrite S R K L more kept is = ⊎_elim (λ same. inl (kept same)) (λ stored. inr (more stored)) is
-kept_weaker NoMemory S R K L more kept is = kept is
-kept_weaker (Instance number at) S R K L more kept is = kept is
-kept_weaker (Solution number at) S R K L more kept is = kept is
-kept_weaker (Barred number at) S R K L more kept is = kept is
-kept_weaker (Journal number at) S R K L more kept is = kept is
-kept_weaker (Opening text) S R K L more kept is = kept is
-kept_weaker (CannotRead name) S R K L more kept is = kept is
-kept_weaker (TooLong name) S R K L more kept is = kept is
-kept_weaker (Words text) S R K L more kept is = kept is
-kept_weaker WordsNotText S R K L more kept is = kept is
-kept_weaker TooManyScripts S R K L more kept is = kept is
-kept_weaker NoThread S R K L more kept is = kept is
-kept_weaker NoPlace S R K L more kept is = kept is
+kept_weaker fault S R K L more kept is = unwritten_more fault (K ⊎ S) K (L ⊎ R) L (λ either. ⊎_elim (λ same. inl (kept same)) (λ stored. inr (more stored)) either) kept is

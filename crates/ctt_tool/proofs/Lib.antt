@@ -4,6 +4,7 @@ pub mod Rows
 pub mod Walks
 pub mod Entered
 pub mod Taken
+pub mod Plain
 pub mod Known
 pub mod Causes
 pub mod Desks

@@ -1,5 +1,5 @@
--- What the command `audit` prints, and which texts it refuses.
-use Rattle.std.specs.Prelude.{◌≡◌, ◌⊎◌, ℕ, List, [], ◌∷◌, Option, codes}
+-- What the command `audit` finds and prints.
+use Rattle.std.specs.Prelude.{◌≡◌, ℕ, List, [], ◌∷◌, Option, codes}
 use Rattle.std.specs.Fmt.{decimal}
 use Rattle.std.specs.Global.{Global}
 use Rattle.std.specs.Io.KnownBytes.{Appends}
@@ -9,23 +9,32 @@ use Rattle.ctt_text.specs.declared.placed.Placed.{Placed}
 use Rattle.ctt_edits.specs.Fitting.{FaultFits}
 use Rattle.ctt_core.specs.Audits.{IsVerdict}
 use Rattle.ctt_core.specs.declared.auditing.Verdict.{Verdict}
-use Rattle.ctt_core.specs.declared.auditing.Verdict.TheVariants as verdict
+use Rattle.ctt_core.specs.declared.auditing.Verdict.TheVariants as found
 use Rattle.ctt_core.specs.declared.journal.JournalEntry.{JournalEntry}
 use Rattle.ctt_script.specs.WrittenText.{line}
-use Rattle.ctt_tool.specs.Texts.{Held, Holds, IsInstanceIn, IsJournalText, IsNoInstanceIn, IsNoJournal, IsRefusedStart, IsStart}
+use Rattle.ctt_tool.specs.Faults.{IsOpeningFault}
+use Rattle.ctt_tool.specs.Texts.{Held, Holds, IsInstanceIn, IsJournalText, IsStart}
+use Rattle.ctt_tool.specs.declared.fault.Fault.{Fault}
+use Rattle.ctt_tool.specs.declared.fault.Fault.TheVariants.{NoMemory}
 use Rattle.ctt_tool.specs.declared.outcome.Outcome.{Outcome}
 use Rattle.ctt_tool.specs.declared.outcome.Outcome.TheVariants.{Done, Differs}
 
 -- the verdict is printed, and the program ends as it says
 abbrev pub PrintsVerdict : Verdict → Outcome → Option (List ℕ) → Option (List ℕ) → Type 0
-PrintsVerdict verdict.Agrees outcome old new = (outcome ≡ Done) × Appends old new (line (codes "agrees" ∷ []))
-PrintsVerdict (verdict.Differs entry call) outcome old new = (outcome ≡ Differs) × Appends old new (line (codes "differs" ∷ decimal entry ∷ decimal call ∷ []))
-PrintsVerdict (verdict.BadOpening at fault) outcome old new = ⊥
+PrintsVerdict found.Agrees outcome old new = (outcome ≡ Done) × Appends old new (line (codes "agrees" ∷ []))
+PrintsVerdict (found.Differs entry call) outcome old new = (outcome ≡ Differs) × Appends old new (line (codes "differs" ∷ decimal entry ∷ decimal call ∷ []))
+PrintsVerdict (found.BadOpening at fault) outcome old new = ⊥
 
 -- the fault of an opening names a course of the instance, if it names one
 abbrev pub VerdictFits : Problem → Verdict → Type 0
-VerdictFits problem (verdict.BadOpening at fault) = FaultFits problem fault
+VerdictFits problem (found.BadOpening at fault) = FaultFits problem fault
 VerdictFits problem _ = Unit {0}
+
+-- why a verdict is not printed: the opening is refused, or memory is wanted
+abbrev pub IsVerdictFault : Problem → Verdict → Fault → Type 0
+IsVerdictFault problem found.Agrees fault = ⊥
+IsVerdictFault problem (found.Differs entry call) fault = fault ≡ NoMemory
+IsVerdictFault problem (found.BadOpening at why) fault = IsOpeningFault problem at why fault
 
 -- of an instance, this is found of the journal in the file, on the opening with the start
 pub record FindsIn (problem : Problem) (journal : String Global) (start : Option (String Global)) (held : Held) (verdict : Verdict) : Type 0 where
@@ -50,12 +59,3 @@ pub record AuditsJournal (instance : String Global) (barred : Option (String Glo
   pub problem : Problem
   pub is_instance : IsInstanceIn held instance barred problem
   pub audits : AuditsOn problem journal start outcome held old new
-
--- the file holds no journal of the instance, or there is no timetable to open with
-abbrev pub IsRefusedJournal : Problem → Held → String Global → Option (String Global) → Type 0
-IsRefusedJournal problem held journal start = Holds held journal (IsNoJournal problem) ⊎ IsRefusedStart problem held start
-
--- there is no instance, or one with which the other files are refused
-abbrev pub IsRefusedAudit : Held → String Global → Option (String Global) → String Global → Option (String Global) → Type 0
-IsRefusedAudit held instance barred journal start = IsNoInstanceIn held instance barred
-    ⊎ ((problem : Problem) × IsInstanceIn held instance barred problem × IsRefusedJournal problem held journal start)

@@ -1,12 +1,12 @@
--- What the command `check` prints, and which texts it refuses.
-use Rattle.std.specs.Prelude.{◌⊎◌, ℕ, Bool, true, false, List, Option}
+-- What the command `check` prints.
+use Rattle.std.specs.Prelude.{ℕ, Bool, true, false, List, Option}
 use Rattle.std.specs.Global.{Global}
 use Rattle.std.specs.Io.KnownBytes.{Appends}
 use Rattle.std.specs.declared.string.String.{String}
 use Rattle.ctt_text.specs.Problem.{Problem}
 use Rattle.ctt_text.specs.declared.placed.Placed.{Placed}
 use Rattle.ctt_script.specs.ReportText.{IsJsonReport, IsTextReport}
-use Rattle.ctt_tool.specs.Texts.{Held, Holds, IsInstanceIn, IsNoInstanceIn, IsNoSolution, IsSolutionText}
+use Rattle.ctt_tool.specs.Texts.{Held, Holds, IsInstanceIn, IsSolutionText}
 
 -- the report as JSON where it is asked for, and else as text
 abbrev pub IsReport : Bool → Problem → List Placed → List ℕ → Type 0
@@ -29,8 +29,3 @@ pub record IsReportOn (json : Bool) (instance : String Global) (barred : Option 
 abbrev pub PrintsReport : Bool → String Global → Option (String Global) → String Global → Held → Option (List ℕ) → Option (List ℕ) → Type 0
 PrintsReport json instance barred solution held old new =
     (bytes : List ℕ) × IsReportOn json instance barred solution held bytes × Appends old new bytes
-
--- there is no instance, or no solution of it
-abbrev pub IsRefusedCheck : Held → String Global → Option (String Global) → String Global → Type 0
-IsRefusedCheck held instance barred solution = IsNoInstanceIn held instance barred
-    ⊎ ((problem : Problem) × IsInstanceIn held instance barred problem × Holds held solution (IsNoSolution problem))

@@ -1,5 +1,5 @@
 -- The faults of the program: their numbers and their statuses.
-use Rattle.std.specs.Prelude.{◌≡◌, ◌⊎◌, ◌++◌, ◌<◌, ◌≤◌, ℕ, List, [], ◌∷◌, Option, IfSome, codes, length}
+use Rattle.std.specs.Prelude.{◌≡◌, ◌⊎◌, ◌++◌, ℕ, List, Option, codes}
 use Rattle.std.specs.Fmt.{decimal}
 use Rattle.std.specs.Global.{Global}
 use Rattle.std.specs.Io.KnownBytes.{Appends}
@@ -80,20 +80,7 @@ opening_line problem at fault = codes "timedesk: opening " ++ (decimal at ++ (co
 
 -- the fault of such an opening, or there is no memory for its line
 abbrev pub IsOpeningFault : Problem → ℕ → EditFault → Fault → Type 0
-IsOpeningFault problem at fault (Opening text) = string_bytes text ≡ opening_line problem at fault
-IsOpeningFault problem at fault NoMemory = Unit {0}
-IsOpeningFault problem at fault (Instance number word) = ⊥
-IsOpeningFault problem at fault (Solution number word) = ⊥
-IsOpeningFault problem at fault (Barred number word) = ⊥
-IsOpeningFault problem at fault (Journal number word) = ⊥
-IsOpeningFault problem at fault (CannotRead name) = ⊥
-IsOpeningFault problem at fault (TooLong name) = ⊥
-IsOpeningFault problem at fault CannotWrite = ⊥
-IsOpeningFault problem at fault (Words text) = ⊥
-IsOpeningFault problem at fault WordsNotText = ⊥
-IsOpeningFault problem at fault TooManyScripts = ⊥
-IsOpeningFault problem at fault NoThread = ⊥
-IsOpeningFault problem at fault NoPlace = ⊥
+IsOpeningFault problem at fault told = ((text : String Global) × (told ≡ Opening text) × (string_bytes text ≡ opening_line problem at fault)) ⊎ (told ≡ NoMemory)
 
 -- a fault of a run that names a course of the instance, if it names one
 abbrev pub RunFaultFits : Problem → ScriptFault → Type 0
@@ -125,90 +112,10 @@ status_of NoMemory = 3
 status_of NoThread = 3
 status_of NoPlace = 3
 
--- the file of this name cannot be read, or is too long, or its bytes find no room
-abbrev pub IsOfFile : String Global → Fault → Type 0
-IsOfFile name (CannotRead file) = file ≡ name
-IsOfFile name (TooLong file) = file ≡ name
-IsOfFile name NoMemory = Unit {0}
-IsOfFile name (Instance number at) = ⊥
-IsOfFile name (Solution number at) = ⊥
-IsOfFile name (Barred number at) = ⊥
-IsOfFile name (Journal number at) = ⊥
-IsOfFile name (Opening text) = ⊥
-IsOfFile name (Words text) = ⊥
-IsOfFile name WordsNotText = ⊥
-IsOfFile name CannotWrite = ⊥
-IsOfFile name TooManyScripts = ⊥
-IsOfFile name NoThread = ⊥
-IsOfFile name NoPlace = ⊥
-
--- the fault lies in a text or its file, or memory was wanted
-abbrev pub IsOfTexts : Fault → Type 0
-IsOfTexts (Instance number at) = Unit {0}
-IsOfTexts (Solution number at) = Unit {0}
-IsOfTexts (Barred number at) = Unit {0}
-IsOfTexts (Journal number at) = Unit {0}
-IsOfTexts (Opening text) = Unit {0}
-IsOfTexts (CannotRead name) = Unit {0}
-IsOfTexts (TooLong name) = Unit {0}
-IsOfTexts NoMemory = Unit {0}
-IsOfTexts (Words text) = ⊥
-IsOfTexts WordsNotText = ⊥
-IsOfTexts CannotWrite = ⊥
-IsOfTexts TooManyScripts = ⊥
-IsOfTexts NoThread = ⊥
-IsOfTexts NoPlace = ⊥
-
--- a file cannot be read, or is too long, or its bytes find no room
-abbrev pub IsOfReading : Fault → Type 0
-IsOfReading (CannotRead name) = Unit {0}
-IsOfReading (TooLong name) = Unit {0}
-IsOfReading NoMemory = Unit {0}
-IsOfReading (Instance number at) = ⊥
-IsOfReading (Solution number at) = ⊥
-IsOfReading (Barred number at) = ⊥
-IsOfReading (Journal number at) = ⊥
-IsOfReading (Opening text) = ⊥
-IsOfReading (Words text) = ⊥
-IsOfReading WordsNotText = ⊥
-IsOfReading CannotWrite = ⊥
-IsOfReading TooManyScripts = ⊥
-IsOfReading NoThread = ⊥
-IsOfReading NoPlace = ⊥
-
--- the fault lies in a text or its file, or memory was wanted, or, of a crew of so many scripts, they are too many, or a planner had no place or no thread
-abbrev pub IsOfCrew : ℕ → Fault → Type 0
-IsOfCrew scripts TooManyScripts = 64 < scripts
-IsOfCrew scripts NoThread = 1 ≤ scripts
-IsOfCrew scripts NoPlace = 1 ≤ scripts
-IsOfCrew scripts (Instance number at) = Unit {0}
-IsOfCrew scripts (Solution number at) = Unit {0}
-IsOfCrew scripts (Barred number at) = Unit {0}
-IsOfCrew scripts (Journal number at) = Unit {0}
-IsOfCrew scripts (Opening text) = Unit {0}
-IsOfCrew scripts (CannotRead name) = Unit {0}
-IsOfCrew scripts (TooLong name) = Unit {0}
-IsOfCrew scripts NoMemory = Unit {0}
-IsOfCrew scripts (Words text) = ⊥
-IsOfCrew scripts WordsNotText = ⊥
-IsOfCrew scripts CannotWrite = ⊥
-
 -- P where standard output could not be written, and else Q
 abbrev pub IfUnwritten : Fault → Type 0 → Type 0 → Type 0
 IfUnwritten CannotWrite P Q = P
-IfUnwritten (Instance number at) P Q = Q
-IfUnwritten (Solution number at) P Q = Q
-IfUnwritten (Barred number at) P Q = Q
-IfUnwritten (Journal number at) P Q = Q
-IfUnwritten (Opening text) P Q = Q
-IfUnwritten (CannotRead name) P Q = Q
-IfUnwritten (TooLong name) P Q = Q
-IfUnwritten NoMemory P Q = Q
-IfUnwritten (Words text) P Q = Q
-IfUnwritten WordsNotText P Q = Q
-IfUnwritten TooManyScripts P Q = Q
-IfUnwritten NoThread P Q = Q
-IfUnwritten NoPlace P Q = Q
+IfUnwritten _ P Q = Q
 
 -- K, unless a file that had to be stored could not be written, and then S
 abbrev pub KeptUnless : Fault → Type 0 → Type 0 → Type 0
@@ -218,18 +125,7 @@ KeptUnless fault S K = IfUnwritten fault (K ⊎ S) K
 abbrev pub MayHaveWritten : Fault → Type 0
 MayHaveWritten CannotWrite = Unit {0}
 MayHaveWritten NoMemory = Unit {0}
-MayHaveWritten (Instance number at) = ⊥
-MayHaveWritten (Solution number at) = ⊥
-MayHaveWritten (Barred number at) = ⊥
-MayHaveWritten (Journal number at) = ⊥
-MayHaveWritten (Opening text) = ⊥
-MayHaveWritten (CannotRead name) = ⊥
-MayHaveWritten (TooLong name) = ⊥
-MayHaveWritten (Words text) = ⊥
-MayHaveWritten WordsNotText = ⊥
-MayHaveWritten TooManyScripts = ⊥
-MayHaveWritten NoThread = ⊥
-MayHaveWritten NoPlace = ⊥
+MayHaveWritten _ = ⊥
 
 -- the bytes end with the end of a line
 abbrev pub EndsLine : List ℕ → Type 0
@@ -239,18 +135,8 @@ EndsLine bytes = (front : List ℕ) × (bytes ≡ front ++ codes "\n")
 abbrev pub IsLineOf : Fault → List ℕ → Type 0
 IsLineOf (Words text) bytes = bytes ≡ string_bytes text
 IsLineOf (Opening text) bytes = bytes ≡ string_bytes text
-IsLineOf (Instance number at) bytes = EndsLine bytes
-IsLineOf (Solution number at) bytes = EndsLine bytes
-IsLineOf (Barred number at) bytes = EndsLine bytes
-IsLineOf (Journal number at) bytes = EndsLine bytes
-IsLineOf (CannotRead name) bytes = EndsLine bytes
-IsLineOf (TooLong name) bytes = EndsLine bytes
-IsLineOf WordsNotText bytes = EndsLine bytes
-IsLineOf CannotWrite bytes = EndsLine bytes
-IsLineOf TooManyScripts bytes = EndsLine bytes
-IsLineOf NoThread bytes = EndsLine bytes
-IsLineOf NoPlace bytes = EndsLine bytes
 IsLineOf NoMemory bytes = bytes ≡ codes "timedesk: no memory\n"
+IsLineOf _ bytes = EndsLine bytes
 
 -- such a line is said
 abbrev pub SaysLineOf : Fault → Option (List ℕ) → Option (List ℕ) → Type 0
@@ -259,14 +145,3 @@ SaysLineOf fault old new = (bytes : List ℕ) × IsLineOf fault bytes × Appends
 -- the line of a fault of this status, for which there is cause, is said
 abbrev pub SaysFault : (Fault → Type 0) → ℕ → Option (List ℕ) → Option (List ℕ) → Type 0
 SaysFault HasCause status old new = (fault : Fault) × HasCause fault × (status_of fault ≡ status) × SaysLineOf fault old new
-
--- one of these files
-abbrev pub IsOneOf : String Global → List (String Global) → Type 0
-IsOneOf name [] = ⊥
-IsOneOf name (other ∷ others) = (name ≡ other) ⊎ IsOneOf name others
-
--- a file that cannot be read is one of these, and so is one that is too long, which then tells no less bytes
-abbrev pub IsOfFiles : List (String Global) → (List ℕ → Option (List ℕ)) → Fault → Type 0
-IsOfFiles names held (CannotRead name) = IsOneOf name names
-IsOfFiles names held (TooLong name) = IsOneOf name names × IfSome (held (string_bytes name)) (λ text. 67108864 < length text)
-IsOfFiles names held _ = Unit {0}

@@ -1,5 +1,5 @@
 -- Which job the words of a command line ask for, and what is said where they ask for none.
-use Rattle.std.specs.Prelude.{◌≡◌, ◌≢◌, ◌≤◌, ◌⊎◌, Bool, List, [], ◌∷◌, ◌++◌, Option, Some, None, IsSome, codes, length, map, option_map}
+use Rattle.std.specs.Prelude.{◌≡◌, ◌≢◌, ◌≤◌, ◌⊎◌, Bool, List, [], Option, Some, None, IsSome, codes, length, map, option_map}
 use Rattle.std.specs.Global.{Global}
 use Rattle.std.specs.String.{string_bytes}
 use Rattle.std.specs.declared.string.String.{String}
@@ -7,8 +7,6 @@ use Rattle.clap.specs.Words.{IsAmong, Kinds, Row, Text, all_of, fault_of, first_
 use Rattle.clap.specs.declared.error.kind.ErrorKind.{ErrorKind}
 use Rattle.clap.specs.declared.error.kind.ErrorKind.TheVariants.{DisplayHelp, DisplayVersion, OutOfMemory}
 use Rattle.ctt_tool.specs.CommandLine.{IsOnOrOff, is_on, timedesk}
-use Rattle.ctt_tool.specs.Faults.{IsOfCrew, IsOfTexts}
-use Rattle.ctt_tool.specs.declared.fault.Fault.{Fault}
 use Rattle.ctt_tool.specs.declared.job.Job.{Job}
 use Rattle.ctt_tool.specs.declared.job.Job.TheVariants.{Audit, Check, Crew, Run}
 use Rattle.ctt_tool.specs.declared.job.WordsFault.{WordsFault}
@@ -95,18 +93,6 @@ abbrev pub IsGiven : Option (String Global) → Type 0
 IsGiven None = ⊥
 IsGiven (Some name) = Unit {0}
 
--- the file that is given, if one is
-abbrev pub given : Option (String Global) → List (String Global)
-given None = []
-given (Some name) = name ∷ []
-
--- the files that the job reads
-abbrev pub files_of : Job → List (String Global)
-files_of (Check instance barred solution json) = instance ∷ given barred ++ solution ∷ []
-files_of (Run instance barred script start journal) = instance ∷ given barred ++ script ∷ given start
-files_of (Audit instance barred journal start) = instance ∷ given barred ++ journal ∷ given start
-files_of (Crew instance barred scripts) = instance ∷ given barred ++ scripts.items
-
 -- the scripts that a crew is given
 abbrev pub scripts_of : Job → List (String Global)
 scripts_of (Check instance barred solution json) = []
@@ -127,13 +113,6 @@ Storing (Check instance barred solution json) = ⊥
 Storing (Run instance barred script start journal) = IsGiven journal
 Storing (Audit instance barred journal start) = ⊥
 Storing (Crew instance barred scripts) = ⊥
-
--- a fault that the job may meet, but for an output that cannot be written
-abbrev pub IsOfJob : Job → Fault → Type 0
-IsOfJob (Check instance barred solution json) fault = IsOfTexts fault
-IsOfJob (Run instance barred script start journal) fault = IsOfTexts fault
-IsOfJob (Audit instance barred journal start) fault = IsOfTexts fault
-IsOfJob (Crew instance barred scripts) fault = IsOfCrew (length scripts.items) fault
 
 -- the job is that of the command that `clap` finds in the words, with what its matches have
 abbrev pub IsJobOf : List Text → Job → Type 0

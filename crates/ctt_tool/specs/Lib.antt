@@ -3,6 +3,7 @@ pub mod Jobs
 pub mod Faults
 pub mod Outcomes
 pub mod Texts
+pub mod Refusals
 pub mod Checks
 pub mod Runs
 pub mod Audits

@@ -1,5 +1,5 @@
--- What the command `run` prints and stores, and which texts it refuses.
-use Rattle.std.specs.Prelude.{◌≡◌, ◌⊎◌, ℕ, List, Option, Some, None, Ok}
+-- What the command `run` prints and stores.
+use Rattle.std.specs.Prelude.{◌≡◌, ◌≤◌, ℕ, List, Option, Some, None, Ok, length}
 use Rattle.std.specs.Global.{Global}
 use Rattle.std.specs.Io.KnownBytes.{Appends}
 use Rattle.std.specs.declared.string.String.{String}
@@ -9,19 +9,20 @@ use Rattle.ctt_edits.specs.Openings.{opening}
 use Rattle.ctt_core.specs.Runs.{accepted_of}
 use Rattle.ctt_script.specs.AnswerText.{answer_text, script_run}
 use Rattle.ctt_script.specs.WrittenText.{journal_text}
-use Rattle.ctt_tool.specs.Texts.{Held, Holds, IsInstanceIn, IsNoInstanceIn, IsRefusedStart, IsStart}
+use Rattle.ctt_tool.specs.Texts.{Held, Holds, IsInstanceIn, IsStart}
 
 -- where a file is given, it holds what it should; where none is, no file has changed
 abbrev pub Stores : Option (String Global) → Held → Held → (List ℕ → Type 0) → Type 0
 Stores None before after P = after ≡ before
 Stores (Some name) before after P = Holds after name P
 
--- of an instance, the script is run on a desk that opens with the start: its answers are printed, and the accepted drafts are stored as a journal where a file is given
+-- of an instance, the script, which is within the limit, is run on a desk that opens with the start: its answers are printed, and the accepted drafts are stored as a journal where a file is given
 pub record RunsOn (problem : Problem) (script : String Global) (start journal : Option (String Global)) (before after : Held) (old new : Option (List ℕ)) : Type 0 where
   pub lectures : List Placed
   pub is_start : IsStart problem before start lectures
   pub opened : List Placed
   pub opens : opening problem lectures ≡ Ok opened
+  pub short : Holds before script (λ text. length text ≤ 67108864)
   pub prints : Holds before script (λ text. Appends old new (answer_text problem opened text))
   pub stores : Stores journal before after (λ bytes. Holds before script (λ text. bytes ≡ journal_text problem (accepted_of (script_run problem opened text))))
 
@@ -30,8 +31,3 @@ pub record RunsScript (instance : String Global) (barred : Option (String Global
   pub problem : Problem
   pub is_instance : IsInstanceIn before instance barred problem
   pub runs : RunsOn problem script start journal before after old new
-
--- there is no instance, or no timetable to open with
-abbrev pub IsRefusedRun : Held → String Global → Option (String Global) → Option (String Global) → Type 0
-IsRefusedRun held instance barred start = IsNoInstanceIn held instance barred
-    ⊎ ((problem : Problem) × IsInstanceIn held instance barred problem × IsRefusedStart problem held start)

@@ -1,5 +1,5 @@
 -- Which texts are taken, and which are refused.
-use Rattle.std.specs.Prelude.{◌≡◌, ◌⊎◌, ℕ, Bool, List, [], ◌∷◌, Option, Some, None, IfSome, Err}
+use Rattle.std.specs.Prelude.{◌≡◌, ℕ, Bool, List, [], ◌∷◌, Option, Some, None, IfSome, Err}
 use Rattle.std.specs.Global.{Global}
 use Rattle.std.specs.Str.{IsUtf8}
 use Rattle.std.specs.String.{string_bytes}
@@ -65,21 +65,11 @@ abbrev pub IsBarredBy : Held → Option (String Global) → Problem → Problem 
 IsBarredBy held None read problem = problem ≡ read
 IsBarredBy held (Some name) read problem = Holds held name (λ text. IsBarredText read text problem)
 
--- a file is given whose text does not say which rooms are barred
-abbrev pub IsNotBarredBy : Held → Option (String Global) → Problem → Type 0
-IsNotBarredBy held None read = ⊥
-IsNotBarredBy held (Some name) read = Holds held name (IsNoBarred read)
-
 -- the instance in a file, with the rooms barred that another file says, if one is given
 pub record IsInstanceIn (held : Held) (instance : String Global) (barred : Option (String Global)) (problem : Problem) : Type 0 where
   pub read : Problem
   pub is_instance : Holds held instance (λ text. IsInstanceText text read)
   pub is_barred : IsBarredBy held barred read problem
-
--- the file holds no instance, or one for which the other file does not say which rooms are barred
-abbrev pub IsNoInstanceIn : Held → String Global → Option (String Global) → Type 0
-IsNoInstanceIn held instance barred = Holds held instance IsNoInstance
-    ⊎ ((read : Problem) × Holds held instance (λ text. IsInstanceText text read) × IsNotBarredBy held barred read)
 
 -- the text is that of no timetable, as a solution of the instance
 abbrev pub IsNoSolution : Problem → List ℕ → Type 0
@@ -94,17 +84,8 @@ abbrev pub IsStart : Problem → Held → Option (String Global) → List Placed
 IsStart problem held None lectures = lectures ≡ []
 IsStart problem held (Some name) lectures = Holds held name (λ text. IsSolutionText problem text lectures)
 
--- a file is given whose text is that of no solution
-abbrev pub IsNoStart : Problem → Held → Option (String Global) → Type 0
-IsNoStart problem held None = ⊥
-IsNoStart problem held (Some name) = Holds held name (IsNoSolution problem)
-
 -- the lectures that a desk opens with cannot all be placed: this one is the first, counted from 1, and this stands against it
 pub record IsUnlawfulStart (problem : Problem) (held : Held) (start : Option (String Global)) (at : ℕ) (fault : EditFault) : Type 0 where
   pub lectures : List Placed
   pub is_start : IsStart problem held start lectures
   pub refused : opening problem lectures ≡ Err (at, fault)
-
--- there is no timetable to open with
-abbrev pub IsRefusedStart : Problem → Held → Option (String Global) → Type 0
-IsRefusedStart problem held start = IsNoStart problem held start ⊎ ((at : ℕ) × (fault : EditFault) × IsUnlawfulStart problem held start at fault)

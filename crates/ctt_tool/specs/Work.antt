@@ -1,15 +1,16 @@
 -- What the program has done where it ends well, and what was the cause where it did not.
-use Rattle.std.specs.Prelude.{◌≡◌, ◌⊎◌, ◌<◌, ◌≤◌, Bool, true, List, [], Option, length}
+use Rattle.std.specs.Prelude.{◌≡◌, ◌⊎◌, ◌<◌, Bool, true, List, [], Option, length}
 use Rattle.clap.specs.Words.{Text}
-use Rattle.ctt_tool.specs.Audits.{AuditsJournal, IsRefusedAudit}
-use Rattle.ctt_tool.specs.Checks.{IsRefusedCheck, PrintsReport}
+use Rattle.ctt_tool.specs.Audits.{AuditsJournal}
+use Rattle.ctt_tool.specs.Checks.{PrintsReport}
 use Rattle.ctt_tool.specs.Crews.{PrintsCrew}
-use Rattle.ctt_tool.specs.Faults.{IsOfFiles}
-use Rattle.ctt_tool.specs.Jobs.{IsJobOf, IsRequest, Storing, faults_of, files_of, scripts_of}
-use Rattle.ctt_tool.specs.Runs.{IsRefusedRun, RunsScript}
-use Rattle.ctt_tool.specs.Texts.{Held, IsNoInstanceIn}
+use Rattle.ctt_tool.specs.Faults.{status_of}
+use Rattle.ctt_tool.specs.Jobs.{IsJobOf, IsRefusal, IsRequest, Storing, faults_of, scripts_of}
+use Rattle.ctt_tool.specs.Refusals.{IsOfAudit, IsOfCheck, IsOfCrew, IsOfRun}
+use Rattle.ctt_tool.specs.Runs.{RunsScript}
+use Rattle.ctt_tool.specs.Texts.{Held}
 use Rattle.ctt_tool.specs.declared.fault.Fault.{Fault}
-use Rattle.ctt_tool.specs.declared.fault.Fault.TheVariants.{CannotRead, CannotWrite, NoPlace, NoThread, TooLong, TooManyScripts}
+use Rattle.ctt_tool.specs.declared.fault.Fault.TheVariants.{CannotWrite, NoMemory, Words, WordsNotText}
 use Rattle.ctt_tool.specs.declared.job.Job.{Job}
 use Rattle.ctt_tool.specs.declared.job.Job.TheVariants.{Audit, Check, Crew, Run}
 use Rattle.ctt_tool.specs.declared.outcome.Outcome.{Outcome}
@@ -31,20 +32,20 @@ abbrev pub DoesAsAsked : List Text → Outcome → Held → Held → Option Text
 DoesAsAsked words outcome before after old new = (IsRequest (faults_of words) × (outcome ≡ Done) × (after ≡ before))
     ⊎ ((faults_of words ≡ []) × ((job : Job) × IsJobOf words job × DoesJob job outcome before after old new))
 
--- a text of the job is refused, over these files, where they tell their bytes
-abbrev pub HasRefusedText : Job → Held → Type 0
-HasRefusedText (Check instance barred solution json) held = IsRefusedCheck held instance barred solution
-HasRefusedText (Run instance barred script start journal) held = IsRefusedRun held instance barred start
-HasRefusedText (Audit instance barred journal start) held = IsRefusedAudit held instance barred journal start
-HasRefusedText (Crew instance barred scripts) held = IsNoInstanceIn held instance barred
+-- a fault that the job may meet, over these files, where they tell their bytes; an output that cannot be written aside
+abbrev pub IsOfJob : Job → Held → Fault → Type 0
+IsOfJob (Check instance barred solution json) held fault = IsOfCheck held instance barred solution fault
+IsOfJob (Run instance barred script start journal) held fault = IsOfRun held instance barred script start fault
+IsOfJob (Audit instance barred journal start) held fault = IsOfAudit held instance barred journal start fault
+IsOfJob (Crew instance barred scripts) held fault = IsOfCrew held instance barred scripts.items fault
+
+-- the words ask for a job that meets this fault
+abbrev pub AsksFor : List Text → Held → Fault → Type 0
+AsksFor words held fault = (job : Job) × IsJobOf words job × IsOfJob job held fault
 
 -- the words ask for a job of which a text is refused
 abbrev pub AsksForRefusedText : List Text → Held → Type 0
-AsksForRefusedText words held = (job : Job) × IsJobOf words job × HasRefusedText job held
-
--- the words ask for a job at one of whose files the machine failed so
-abbrev pub AsksForFiles : List Text → Held → Fault → Type 0
-AsksForFiles words held fault = (job : Job) × IsJobOf words job × IsOfFiles (files_of job) held fault
+AsksForRefusedText words held = (fault : Fault) × (status_of fault ≡ 1) × AsksFor words held fault
 
 -- the words ask for a job that stores a file
 abbrev pub AsksToStore : List Text → Type 0
@@ -54,16 +55,14 @@ AsksToStore words = (job : Job) × IsJobOf words job × Storing job
 abbrev pub AsksForTooMany : List Text → Type 0
 AsksForTooMany words = (job : Job) × IsJobOf words job × (64 < length (scripts_of job))
 
--- the words ask for a crew
-abbrev pub AsksForCrew : List Text → Type 0
-AsksForCrew words = (job : Job) × IsJobOf words job × (1 ≤ length (scripts_of job))
-
--- the cause of a fault of the machine, or of too many scripts, by the words, the files, and whether standard output failed; wanted memory has none
+-- the cause of a fault, by the words, the files, and whether standard output failed; wanted memory has none, and words that are given are text
 abbrev pub HasCause : List Text → Held → Bool → Fault → Type 0
 HasCause words held failed CannotWrite = (failed ≡ true) ⊎ AsksToStore words
-HasCause words held failed (CannotRead name) = AsksForFiles words held (CannotRead name)
-HasCause words held failed (TooLong name) = AsksForFiles words held (TooLong name)
-HasCause words held failed TooManyScripts = AsksForTooMany words
-HasCause words held failed NoThread = AsksForCrew words
-HasCause words held failed NoPlace = AsksForCrew words
-HasCause words held failed _ = Unit {0}
+HasCause words held failed NoMemory = Unit {0}
+HasCause words held failed (Words text) = IsRefusal (faults_of words)
+HasCause words held failed WordsNotText = ⊥
+HasCause words held failed fault = AsksFor words held fault
+
+-- the cause of a fault by some words, or a word is no text
+abbrev pub IsOfWords : Held → Bool → Fault → Type 0
+IsOfWords held failed fault = (fault ≡ WordsNotText) ⊎ ((words : List Text) × HasCause words held failed fault)

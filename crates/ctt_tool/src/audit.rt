@@ -1,17 +1,16 @@
 //! The command `audit`.
 
-ghost use Rattle.std.specs.Prelude.{◌≡◌, ◌⊎◌, ℕ, [], ◌∷◌, ◌++◌, true, None, OnOk, IfOk, IfErr};
+ghost use Rattle.std.specs.Prelude.{◌≡◌, List, true, OnOk, IfOk, IfErr};
 ghost use Rattle.std.specs.List.{AllByRecursion as Each};
 ghost use Rattle.std.specs.Str.{IsUtf8};
 ghost use Rattle.ctt_text.specs.Timetable.{Fits};
 ghost use Rattle.ctt_text.specs.Words.{words};
-ghost use Rattle.ctt_edits.specs.declared.fault.EditFault.{EditFault};
-ghost use Rattle.ctt_core.specs.declared.auditing.Verdict.TheVariants.{BadOpening};
+ghost use Rattle.ctt_core.specs.declared.journal.JournalEntry.{JournalEntry};
 ghost use Rattle.ctt_script.specs.AuditedText.{AuditsText};
-ghost use Rattle.ctt_tool.specs.Audits.{AuditsJournal, AuditsOn, FindsIn, IsRefusedAudit, IsRefusedJournal, PrintsVerdict, VerdictFits};
-ghost use Rattle.ctt_tool.specs.Faults.{IfUnwritten, IsOfFiles, IsOfTexts, status_of};
-ghost use Rattle.ctt_tool.specs.Jobs.{given};
-ghost use Rattle.ctt_tool.specs.Texts.{IsNoJournal};
+ghost use Rattle.ctt_tool.specs.Audits.{AuditsJournal, AuditsOn, FindsIn, IsVerdictFault, PrintsVerdict, VerdictFits};
+ghost use Rattle.ctt_tool.specs.Faults.{IfUnwritten};
+ghost use Rattle.ctt_tool.specs.Refusals.{IsNoJournalOf, IsOfAudit, IsOfAudited};
+ghost use Rattle.ctt_tool.specs.Texts.{IsJournalText};
 
 use crate::fault::Fault;
 use crate::files::{Files, read_file};
@@ -33,14 +32,12 @@ fn print_verdict<W: Sink>(
     verdict: Verdict,
 ) -> Result<Outcome, Fault>
     requires { VerdictFits instance.now verdict }
-    ensures prints { IfOk result (λ outcome. PrintsVerdict verdict outcome (W.taken out.old) (W.taken out.new)) }
+    ensures prints { IfOk result (λ outcome.
+        PrintsVerdict verdict outcome (W.taken out.old) (W.taken out.new)) }
     ensures unmarked { OnOk result (W.has_failed out.new ≡ W.has_failed out.old) }
-    ensures fault { IfErr result (λ fault. IfUnwritten fault
+    ensures cause { IfErr result (λ fault. IfUnwritten fault
         (W.has_failed out.new ≡ true)
-        (IsOfTexts fault × (out.new ≡ out.old))) }
-    ensures file { IfErr result (IsOfFiles [] (λ _. None)) }
-    ensures cause { IfErr result (λ fault. status_of fault ≡ 1
-        → (at : ℕ) × (found : EditFault) × (verdict ≡ BadOpening at found)) }
+        (IsVerdictFault instance.now verdict fault × (out.new ≡ out.old))) }
 {
     match verdict {
         Verdict::Agrees => {
@@ -66,18 +63,16 @@ fn verdict_of<'i, S: Sheet<'i>>(
     requires { Each (Fits instance.now) lectures.now }
     ensures text { OnOk result (IsUtf8 text.now) }
     ensures found { IfOk result (AuditsText instance.now lectures.now (words text.now)) }
-    ensures fault { IfErr result IsOfTexts }
-    ensures file { IfErr result (IsOfFiles [] (λ _. None)) }
-    ensures cause { IfErr result (λ fault. status_of fault ≡ 1 → IsNoJournal instance.now text.now) }
+    ensures cause { IfErr result (IsNoJournalOf instance.now text.now) }
 {
     Ok(audit_journal::<S>(alloc, instance, lectures, text)?)
 }
 
 /// Refuses a text that is no journal.
 fn check_journal(alloc: Global, instance: &Instance, text: &[u8]) -> Result<(), Fault>
-    ensures fault { IfErr result IsOfTexts }
-    ensures file { IfErr result (IsOfFiles [] (λ _. None)) }
-    ensures cause { IfErr result (λ fault. status_of fault ≡ 1 → IsNoJournal instance.now text.now) }
+    ensures journal { OnOk result ((entries : List JournalEntry)
+        × IsJournalText instance.now text.now entries) }
+    ensures cause { IfErr result (IsNoJournalOf instance.now text.now) }
 {
     read_journal(alloc, instance, text)?;
     Ok(())
@@ -95,10 +90,7 @@ fn fetch_verdict<'i, S: Sheet<'i>, F: Files>(
     ensures found { IfOk result (FindsIn instance.now journal start (F.held files.old)) }
     ensures fits { IfOk result (VerdictFits instance.now) }
     ensures kept { F.held files.new ≡ F.held files.old }
-    ensures fault { IfErr result IsOfTexts }
-    ensures file { IfErr result (IsOfFiles (journal ∷ given start) (F.held files.old)) }
-    ensures cause { IfErr result (λ fault. status_of fault ≡ 1
-        → IsRefusedJournal instance.now (F.held files.old) journal start) }
+    ensures cause { IfErr result (IsOfAudited journal start (F.held files.old) instance.now) }
 {
     let text = read_file(alloc, files, journal)?;
     match fetch_start(alloc, files, instance, start) {
@@ -119,16 +111,14 @@ fn audit_on<'i, S: Sheet<'i>, F: Files, W: Sink>(
     journal: String,
     start: Option<String>,
 ) -> Result<Outcome, Fault>
-    ensures audits { IfOk result (λ outcome. AuditsOn instance.now journal start outcome (F.held files.old)
+    ensures audits { IfOk result (λ outcome.
+        AuditsOn instance.now journal start outcome (F.held files.old)
         (W.taken out.old) (W.taken out.new)) }
     ensures unmarked { OnOk result (W.has_failed out.new ≡ W.has_failed out.old) }
-    ensures fault { IfErr result (λ fault. IfUnwritten fault
+    ensures kept { F.held files.new ≡ F.held files.old }
+    ensures cause { IfErr result (λ fault. IfUnwritten fault
         (W.has_failed out.new ≡ true)
-        (IsOfTexts fault × (out.new ≡ out.old))) }
-    ensures unstored { F.held files.new ≡ F.held files.old }
-    ensures file { IfErr result (IsOfFiles (journal ∷ given start) (F.held files.old)) }
-    ensures cause { IfErr result (λ fault. status_of fault ≡ 1
-        → IsRefusedJournal instance.now (F.held files.old) journal start) }
+        (IsOfAudited journal start (F.held files.old) instance.now fault × (out.new ≡ out.old))) }
 {
     let verdict = fetch_verdict::<S, F>(alloc, files, instance, journal, start)?;
     print_verdict(alloc, out, instance, verdict)
@@ -145,16 +135,14 @@ pub fn audit<F: Files, W: Sink>(
     journal: String,
     start: Option<String>,
 ) -> Result<Outcome, Fault>
-    ensures audits { IfOk result (λ outcome. AuditsJournal instance barred journal start outcome (F.held files.old)
+    ensures audits { IfOk result (λ outcome.
+        AuditsJournal instance barred journal start outcome (F.held files.old)
         (W.taken out.old) (W.taken out.new)) }
     ensures unmarked { OnOk result (W.has_failed out.new ≡ W.has_failed out.old) }
-    ensures fault { IfErr result (λ fault. IfUnwritten fault
+    ensures kept { F.held files.new ≡ F.held files.old }
+    ensures cause { IfErr result (λ fault. IfUnwritten fault
         (W.has_failed out.new ≡ true)
-        (IsOfTexts fault × (out.new ≡ out.old))) }
-    ensures unstored { F.held files.new ≡ F.held files.old }
-    ensures file { IfErr result (IsOfFiles (instance ∷ given barred ++ journal ∷ given start) (F.held files.old)) }
-    ensures cause { IfErr result (λ fault. status_of fault ≡ 1
-        → IsRefusedAudit (F.held files.old) instance barred journal start) }
+        (IsOfAudit (F.held files.old) instance barred journal start fault × (out.new ≡ out.old))) }
 {
     let instance = fetch_instance(alloc, files, instance, barred)?;
     let audited = audit_on::<GridSheet, F, W>(alloc, files, out, &instance, journal, start);

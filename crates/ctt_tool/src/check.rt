@@ -1,12 +1,11 @@
 //! The command `check`.
 
-ghost use Rattle.std.specs.Prelude.{◌≡◌, [], ◌∷◌, ◌++◌, true, OnOk, IfOk, IfErr, IfSome};
+ghost use Rattle.std.specs.Prelude.{◌≡◌, true, OnOk, IfOk, IfErr, IfSome};
 ghost use Rattle.std.specs.String.{string_bytes};
 ghost use Rattle.ctt_text.specs.Timetable.{IsTimetable};
-ghost use Rattle.ctt_tool.specs.Checks.{IsRefusedCheck, IsReport, IsReportFor, IsReportOn, PrintsReport};
-ghost use Rattle.ctt_tool.specs.Faults.{IfUnwritten, IsOfFiles, IsOfTexts, status_of};
-ghost use Rattle.ctt_tool.specs.Jobs.{given};
-ghost use Rattle.ctt_tool.specs.Texts.{IsNoSolution};
+ghost use Rattle.ctt_tool.specs.Checks.{IsReport, IsReportFor, IsReportOn, PrintsReport};
+ghost use Rattle.ctt_tool.specs.Faults.{IfUnwritten};
+ghost use Rattle.ctt_tool.specs.Refusals.{IsOfCheck, IsOfSolution};
 
 use crate::fault::Fault;
 use crate::files::Files;
@@ -45,10 +44,7 @@ fn report_for<F: Files>(
         IfSome (F.held files.old (string_bytes solution)) (λ text.
         IsReportFor json instance.now text bytes.items)) }
     ensures kept { F.held files.new ≡ F.held files.old }
-    ensures fault { IfErr result IsOfTexts }
-    ensures file { IfErr result (IsOfFiles (solution ∷ []) (F.held files.old)) }
-    ensures cause { IfErr result (λ fault. status_of fault ≡ 1
-        → IfSome (F.held files.old (string_bytes solution)) (IsNoSolution instance.now)) }
+    ensures cause { IfErr result (IsOfSolution solution (F.held files.old) instance.now) }
 {
     let timetable = fetch_solution(alloc, files, instance, solution)?;
     Ok(report(alloc, instance, &timetable, json)?)
@@ -64,12 +60,10 @@ fn report_on<F: Files>(
     solution: String,
     json: bool,
 ) -> Result<Vec<u8>, Fault>
-    ensures reports { IfOk result (λ bytes. IsReportOn json instance barred solution (F.held files.old) bytes.items) }
+    ensures reports { IfOk result (λ bytes.
+        IsReportOn json instance barred solution (F.held files.old) bytes.items) }
     ensures kept { F.held files.new ≡ F.held files.old }
-    ensures fault { IfErr result IsOfTexts }
-    ensures file { IfErr result (IsOfFiles (instance ∷ given barred ++ solution ∷ []) (F.held files.old)) }
-    ensures cause { IfErr result (λ fault. status_of fault ≡ 1
-        → IsRefusedCheck (F.held files.old) instance barred solution) }
+    ensures cause { IfErr result (IsOfCheck (F.held files.old) instance barred solution) }
 {
     let instance = fetch_instance(alloc, files, instance, barred)?;
     let report = report_for(alloc, files, &instance, solution, json);
@@ -91,12 +85,9 @@ pub fn check<F: Files, W: Sink>(
         (W.taken out.old) (W.taken out.new)) }
     ensures kept { F.held files.new ≡ F.held files.old }
     ensures unmarked { OnOk result (W.has_failed out.new ≡ W.has_failed out.old) }
-    ensures fault { IfErr result (λ fault. IfUnwritten fault
+    ensures cause { IfErr result (λ fault. IfUnwritten fault
         (W.has_failed out.new ≡ true)
-        (IsOfTexts fault × (out.new ≡ out.old))) }
-    ensures file { IfErr result (IsOfFiles (instance ∷ given barred ++ solution ∷ []) (F.held files.old)) }
-    ensures cause { IfErr result (λ fault. status_of fault ≡ 1
-        → IsRefusedCheck (F.held files.old) instance barred solution) }
+        (IsOfCheck (F.held files.old) instance barred solution fault × (out.new ≡ out.old))) }
 {
     let report = report_on(alloc, files, instance, barred, solution, json)?;
     print(out, &report)

@@ -1,26 +1,22 @@
 //! The command `crew`.
 
-ghost use Rattle.std.specs.Prelude.{◌≡◌, ◌⊎◌, ◌≤◌, ◌<◌, [], ◌∷◌, ◌++◌, Err, length, true, OnOk, IfOk, IfErr};
+ghost use Rattle.std.specs.Prelude.{◌≡◌, ◌≤◌, ◌<◌, [], Err, length, true, OnOk, IfOk, IfErr};
 ghost use Rattle.ctt_script.specs.CrewText.{IsCrewText};
 ghost use Rattle.ctt_tool.specs.Crews.{IsOfCrewOn, PrintsCrew};
-ghost use Rattle.ctt_tool.specs.Faults.{IfUnwritten, IsOfCrew, IsOfFiles, status_of};
-ghost use Rattle.ctt_tool.specs.Jobs.{given};
-ghost use Rattle.ctt_tool.specs.Texts.{IsNoInstanceIn};
-ghost use Rattle.ctt_tool.specs.declared.fault.Fault.TheVariants.{NoMemory, NoPlace, NoThread, TooManyScripts};
+ghost use Rattle.ctt_tool.specs.Faults.{IfUnwritten};
+ghost use Rattle.ctt_tool.specs.Refusals.{IsOfCrew, IsOfInstanceOr, IsOfScripts, IsOfWork};
+ghost use Rattle.ctt_tool.specs.declared.fault.Fault.TheVariants.{TooManyScripts};
 
 use crate::fault::Fault;
 use crate::files::{Files, read_files};
 use crate::output::print;
 use crate::texts::fetch_instance;
-use ctt_script::{NoGate, Sink};
+use ctt_script::{NoGate, PLANNERS, Sink};
 use ctt_text::{Instance, let_go};
 use std::alloc::Global;
 use std::marker::Sync;
 use std::sync::Wait;
 use std::thread::Threads;
-
-/// The most scripts that a crew may have.
-const SCRIPT_LIMIT: usize = 64;
 
 /// What a crew writes that follows these scripts.
 fn answers<R: Threads + Wait + Sync>(
@@ -31,8 +27,9 @@ fn answers<R: Threads + Wait + Sync>(
 ) -> Result<Vec<u8>, Fault>
     requires some { 1 ≤ length texts.now }
     requires few { length texts.now ≤ 64 }
-    ensures crew { IfOk result (λ bytes. IsCrewText instance.now [] (length texts.now) bytes.items) }
-    ensures fault { IfErr result (λ fault. (fault ≡ NoPlace) ⊎ ((fault ≡ NoThread) ⊎ (fault ≡ NoMemory))) }
+    ensures crew { IfOk result (λ bytes.
+        IsCrewText instance.now [] (length texts.now) bytes.items) }
+    ensures cause { IfErr result IsOfWork }
 {
     let mut scripts: Vec<&[u8]> = Vec::with_capacity(alloc, texts.len())?;
     for text in texts {
@@ -51,11 +48,10 @@ fn answers_on<R: Threads + Wait + Sync, F: Files>(
 ) -> Result<Vec<u8>, Fault>
     requires some { 1 ≤ length scripts.items }
     requires few { length scripts.items ≤ 64 }
-    ensures crew { IfOk result (λ bytes. IsCrewText instance.now [] (length scripts.items) bytes.items) }
+    ensures crew { IfOk result (λ bytes.
+        IsCrewText instance.now [] (length scripts.items) bytes.items) }
     ensures kept { F.held files.new ≡ F.held files.old }
-    ensures fault { IfErr result (IsOfCrew (length scripts.items)) }
-    ensures machine { IfErr result (λ fault. status_of fault ≡ 3) }
-    ensures file { IfErr result (IsOfFiles scripts.items (F.held files.old)) }
+    ensures cause { IfErr result (IsOfScripts scripts.items (F.held files.old) instance.now) }
 {
     let texts = read_files(alloc, files, scripts)?;
     answers(rt, alloc, instance, &texts)
@@ -73,11 +69,11 @@ fn report<R: Threads + Wait + Sync, F: Files>(
 ) -> Result<Vec<u8>, Fault>
     requires some { 1 ≤ length scripts.items }
     requires few { length scripts.items ≤ 64 }
-    ensures crew { IfOk result (λ bytes. IsOfCrewOn instance barred (length scripts.items) (F.held files.old) bytes.items) }
+    ensures crew { IfOk result (λ bytes.
+        IsOfCrewOn instance barred (length scripts.items) (F.held files.old) bytes.items) }
     ensures kept { F.held files.new ≡ F.held files.old }
-    ensures fault { IfErr result (IsOfCrew (length scripts.items)) }
-    ensures file { IfErr result (IsOfFiles (instance ∷ given barred ++ scripts.items) (F.held files.old)) }
-    ensures cause { IfErr result (λ fault. status_of fault ≡ 1 → IsNoInstanceIn (F.held files.old) instance barred) }
+    ensures cause { IfErr result
+        (IsOfInstanceOr (IsOfScripts scripts.items) (F.held files.old) instance barred) }
 {
     let instance = fetch_instance(alloc, files, instance, barred)?;
     let answers = answers_on(rt, alloc, files, &instance, scripts);
@@ -98,18 +94,17 @@ pub fn crew<R: Threads + Wait + Sync, F: Files, W: Sink>(
     scripts: Vec<String>,
 ) -> Result<(), Fault>
     requires { 1 ≤ length scripts.items }
-    ensures prints { OnOk result (PrintsCrew instance barred (length scripts.items) (F.held files.old)
+    ensures prints { OnOk result
+        (PrintsCrew instance barred (length scripts.items) (F.held files.old)
         (W.taken out.old) (W.taken out.new)) }
     ensures many { 64 < length scripts.items → result ≡ Err TooManyScripts }
     ensures kept { F.held files.new ≡ F.held files.old }
     ensures unmarked { OnOk result (W.has_failed out.new ≡ W.has_failed out.old) }
-    ensures fault { IfErr result (λ fault. IfUnwritten fault
+    ensures cause { IfErr result (λ fault. IfUnwritten fault
         (W.has_failed out.new ≡ true)
-        (IsOfCrew (length scripts.items) fault × (out.new ≡ out.old))) }
-    ensures file { IfErr result (IsOfFiles (instance ∷ given barred ++ scripts.items) (F.held files.old)) }
-    ensures cause { IfErr result (λ fault. status_of fault ≡ 1 → IsNoInstanceIn (F.held files.old) instance barred) }
+        (IsOfCrew (F.held files.old) instance barred scripts.items fault × (out.new ≡ out.old))) }
 {
-    if scripts.len() > SCRIPT_LIMIT {
+    if scripts.len() > PLANNERS as usize {
         return Err(Fault::TooManyScripts);
     }
     let report = report(rt, alloc, files, instance, barred, scripts)?;

@@ -1,14 +1,12 @@
 //! Files by name.
 
-ghost use Rattle.std.specs.Prelude.{◌≡◌, ◌≤◌, ◌<◌, length, map, Err, false, Some, None, OnOk, IfOk, IfErr, IfSome, vec_len};
+ghost use Rattle.std.specs.Prelude.{◌≡◌, ◌≤◌, length, map, false, Some, None, OnOk, IfOk, IfErr, IfSome, vec_len};
 ghost use Rattle.std.specs.String.{string_bytes};
-ghost use Rattle.ctt_tool.specs.Faults.{IsOfFile, IsOfFiles, IsOfReading};
+ghost use Rattle.ctt_tool.specs.Refusals.{IsOfFile, IsOfFiles};
 ghost use Rattle.ctt_tool.specs.Texts.{HoldInTurn};
-ghost use Rattle.ctt_tool.specs.declared.fault.Fault.TheVariants.{TooLong};
 
 use crate::fault::Fault;
-use crate::output::put_whole;
-use ctt_script::{Device, Failed, InputFault, Source, read_all};
+use ctt_script::{Device, Failed, INPUT_LIMIT, InputFault, Source, put_whole, read_all};
 use std::alloc::Global;
 use std::{fs, rt};
 
@@ -72,18 +70,13 @@ impl<'r, R: rt::Files> Files for SystemFiles<'r, R> {
     }
 }
 
-/// The most bytes that an input may have: 64 MiB.
-pub const INPUT_LIMIT: usize = 67_108_864;
-
 /// All bytes of a file, of which no read is tried again.
 pub fn read_file<F: Files>(alloc: Global, files: &mut F, name: String) -> Result<Vec<u8>, Fault>
     ensures all { IfOk result (λ bytes.
         IfSome (F.held files.old (string_bytes name)) (λ held. bytes.items ≡ held)) }
     ensures kept { F.held files.new ≡ F.held files.old }
     ensures short { IfOk result (λ bytes. vec_len bytes ≤ 67108864) }
-    ensures too_long { result ≡ Err (TooLong name) →
-        IfSome (F.held files.old (string_bytes name)) (λ held. 67108864 < length held) }
-    ensures fault { IfErr result (IsOfFile name) }
+    ensures cause { IfErr result (IsOfFile (F.held files.old) name) }
 {
     let Ok(mut input) = files.fetch(&name) else {
         return Err(Fault::CannotRead(name));
@@ -102,11 +95,11 @@ pub fn read_files<F: Files>(
     files: &mut F,
     names: Vec<String>,
 ) -> Result<Vec<Vec<u8>>, Fault>
-    ensures all { IfOk result (λ texts. HoldInTurn (F.held files.old) names.items (map (λ text. text.items) texts.items)) }
+    ensures all { IfOk result (λ texts.
+        HoldInTurn (F.held files.old) names.items (map (λ text. text.items) texts.items)) }
     ensures each { IfOk result (λ texts. length texts.items ≡ length names.items) }
     ensures kept { F.held files.new ≡ F.held files.old }
-    ensures fault { IfErr result IsOfReading }
-    ensures file { IfErr result (IsOfFiles names.items (F.held files.old)) }
+    ensures cause { IfErr result (IsOfFiles names.items (F.held files.old)) }
 {
     let mut texts = Vec::with_capacity(alloc, names.len())?;
     for name in names {

@@ -280,7 +280,8 @@ fn fault_of_words(alloc: Global, error: clap::Error) -> WordsFault
 
 /// A text of its own.
 fn owned(alloc: Global, text: Option<&str>) -> Result<Option<String>, AllocError>
-    ensures { IfOk result (λ owned. option_map string_bytes owned ≡ option_map (λ s. s.now) text.entry) }
+    ensures { IfOk result (λ owned. option_map string_bytes owned
+        ≡ option_map (λ s. s.now) text.entry) }
 {
     match text {
         Some(text) => Ok(Some(String::from_str(alloc, text)?)),
@@ -290,7 +291,8 @@ fn owned(alloc: Global, text: Option<&str>) -> Result<Option<String>, AllocError
 
 /// Texts of their own.
 fn owned_texts(alloc: Global, texts: &[&str]) -> Result<Vec<String>, AllocError>
-    ensures { IfOk result (λ owned. map string_bytes owned.items ≡ map (λ text. text.now) texts.now) }
+    ensures { IfOk result (λ owned. map string_bytes owned.items
+        ≡ map (λ text. text.now) texts.now) }
 {
     let mut owned = Vec::with_capacity(alloc, texts.len())?;
     for text in texts {
@@ -302,7 +304,8 @@ fn owned_texts(alloc: Global, texts: &[&str]) -> Result<Vec<String>, AllocError>
 /// The job of the command `check`, by its matches.
 fn check_job(alloc: Global, given: &ArgMatches<'_>) -> Result<Job, WordsFault>
     requires { NamesFiles (rows_of (found_of given.now)) }
-    ensures job { IfOk result (λ job. IsJobBy (Some (codes "check", rows_of (found_of given.now))) job) }
+    ensures job { IfOk result (λ job.
+        IsJobBy (Some (codes "check", rows_of (found_of given.now))) job) }
     ensures fault { IfErr result (λ fault. fault ≡ NoMemory) }
 {
     let instance = given.get_str("instance").unwrap();
@@ -318,7 +321,8 @@ fn check_job(alloc: Global, given: &ArgMatches<'_>) -> Result<Job, WordsFault>
 /// The job of the command `run`, by its matches.
 fn run_job(alloc: Global, given: &ArgMatches<'_>) -> Result<Job, WordsFault>
     requires { NamesScript (rows_of (found_of given.now)) }
-    ensures job { IfOk result (λ job. IsJobBy (Some (codes "run", rows_of (found_of given.now))) job) }
+    ensures job { IfOk result (λ job.
+        IsJobBy (Some (codes "run", rows_of (found_of given.now))) job) }
     ensures fault { IfErr result (λ fault. fault ≡ NoMemory) }
 {
     let instance = given.get_str("instance").unwrap();
@@ -335,7 +339,8 @@ fn run_job(alloc: Global, given: &ArgMatches<'_>) -> Result<Job, WordsFault>
 /// The job of the command `audit`, by its matches.
 fn audit_job(alloc: Global, given: &ArgMatches<'_>) -> Result<Job, WordsFault>
     requires { NamesJournal (rows_of (found_of given.now)) }
-    ensures job { IfOk result (λ job. IsJobBy (Some (codes "audit", rows_of (found_of given.now))) job) }
+    ensures job { IfOk result (λ job.
+        IsJobBy (Some (codes "audit", rows_of (found_of given.now))) job) }
     ensures fault { IfErr result (λ fault. fault ≡ NoMemory) }
 {
     let instance = given.get_str("instance").unwrap();
@@ -351,7 +356,8 @@ fn audit_job(alloc: Global, given: &ArgMatches<'_>) -> Result<Job, WordsFault>
 /// The job of the command `crew`, by its matches.
 fn crew_job(alloc: Global, given: &ArgMatches<'_>) -> Result<Job, WordsFault>
     requires { NamesScripts (rows_of (found_of given.now)) }
-    ensures job { IfOk result (λ job. IsJobBy (Some (codes "crew", rows_of (found_of given.now))) job) }
+    ensures job { IfOk result (λ job.
+        IsJobBy (Some (codes "crew", rows_of (found_of given.now))) job) }
     ensures fault { IfErr result (λ fault. fault ≡ NoMemory) }
 {
     let instance = given.get_str("instance").unwrap();

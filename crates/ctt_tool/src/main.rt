@@ -16,7 +16,7 @@ mod texts;
 
 ghost use Rattle.std.specs.Prelude.{◌≡◌, ◌≢◌, ◌≤◌, ◌⊎◌, ℕ, List, true, false, IfErr};
 ghost use Rattle.ctt_tool.specs.Faults.{SaysFault};
-ghost use Rattle.ctt_tool.specs.Work.{AsksForRefusedText, DoesAsAsked};
+ghost use Rattle.ctt_tool.specs.Work.{AsksForRefusedText, DoesAsAsked, IsOfWords};
 ghost use Rattle.ctt_tool.specs.declared.fault.Fault.TheVariants.{NoMemory, WordsNotText};
 ghost use Rattle.ctt_tool.specs.declared.outcome.Outcome.TheVariants.{Differs, Done};
 
@@ -58,7 +58,8 @@ fn serve<R: Env + AllocGlobal + Threads + Wait + Sync, F: Files, W: Sink, V: Sin
         (F.held files.old) (F.held files.new) (W.taken out.old) (W.taken out.new) }
     ensures unmarked { result ≡ 0 → W.has_failed out.new ≡ false }
     ensures unsaid { result ≡ 0 → err.new ≡ err.old }
-    ensures one { result ≡ 1 → (words : List (List ℕ)) × ((AsksForRefusedText words (F.held files.old)
+    ensures one { result ≡ 1 → (words : List (List ℕ))
+        × ((AsksForRefusedText words (F.held files.old)
         × (out.new ≡ out.old))
         ⊎ (DoesAsAsked words Differs (F.held files.old) (F.held files.new)
         (W.taken out.old) (W.taken out.new) × (err.new ≡ err.old))) }
@@ -67,7 +68,7 @@ fn serve<R: Env + AllocGlobal + Threads + Wait + Sync, F: Files, W: Sink, V: Sin
     ensures said { result ≢ 0 → ((words : List (List ℕ)) × DoesAsAsked words Differs
         (F.held files.old) (F.held files.new) (W.taken out.old) (W.taken out.new))
         ⊎ ((V.has_failed err.new ≡ true)
-        ⊎ SaysFault (λ _. Unit {0}) result (V.taken err.old) (V.taken err.new)) }
+        ⊎ SaysFault (IsOfWords (F.held files.old) (W.has_failed out.new)) result (V.taken err.old) (V.taken err.new)) }
 {
     let owned = match owned_words(rt) {
         Ok(owned) => owned,

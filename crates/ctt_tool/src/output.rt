@@ -1,21 +1,11 @@
 //! What the program prints, and what it says on standard error.
 
 ghost use Rattle.std.specs.Prelude.{◌≡◌, ◌⊎◌, true, false, OnOk, OnErr, IfErr};
-ghost use Rattle.std.specs.Io.KnownBytes.{Appends, Keeps};
+ghost use Rattle.std.specs.Io.KnownBytes.{Appends};
 ghost use Rattle.ctt_tool.specs.declared.fault.Fault.TheVariants.{CannotWrite};
 
 use crate::fault::Fault;
-use ctt_script::{Failed, Sink, put_all};
-
-/// Writes a whole text, and passes it on.
-pub fn put_whole<W: Sink>(writer: &mut W, text: &[u8]) -> Result<(), Failed>
-    ensures all { OnOk result (Appends (W.taken writer.old) (W.taken writer.new) text.now) }
-    ensures unmarked { OnOk result (W.has_failed writer.new ≡ W.has_failed writer.old) }
-    ensures marked { OnErr result (W.has_failed writer.new ≡ true) }
-{
-    put_all(writer, text)?;
-    writer.flush()
-}
+use ctt_script::{Sink, put_whole};
 
 /// Prints a whole text on standard output.
 pub fn print<W: Sink>(out: &mut W, text: &[u8]) -> Result<(), Fault>
@@ -28,19 +18,6 @@ pub fn print<W: Sink>(out: &mut W, text: &[u8]) -> Result<(), Fault>
         Ok(()) => Ok(()),
         Err(_) => Err(Fault::CannotWrite),
     }
-}
-
-/// Passes on what was printed.
-pub fn pass_on<W: Sink>(out: &mut W) -> Result<(), Fault>
-    ensures kept { Keeps (W.taken out.old) (W.taken out.new) }
-    ensures unmarked { OnOk result (W.has_failed out.new ≡ W.has_failed out.old) }
-    ensures marked { OnErr result (W.has_failed out.new ≡ true) }
-    ensures fault { IfErr result (λ fault. fault ≡ CannotWrite) }
-{
-    let Ok(()) = out.flush() else {
-        return Err(Fault::CannotWrite);
-    };
-    Ok(())
 }
 
 /// Writes a whole text on standard error, where that can be done.

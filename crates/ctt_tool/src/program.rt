@@ -1,9 +1,9 @@
 //! What the program does.
 
 ghost use Rattle.std.specs.Prelude.{◌≡◌, ◌≢◌, ◌≤◌, ◌⊎◌, [], true, false, map, OnOk, IfOk, IfErr};
-ghost use Rattle.ctt_tool.specs.Faults.{IfUnwritten, IsOfFiles, KeptUnless, MayHaveWritten, SaysFault, status_of};
-ghost use Rattle.ctt_tool.specs.Jobs.{HasScripts, IsOfJob, IsRefusal, Storing, faults_of, files_of};
-ghost use Rattle.ctt_tool.specs.Work.{AsksForRefusedText, AsksForTooMany, AsksToStore, DoesAsAsked, DoesJob, HasCause, HasRefusedText};
+ghost use Rattle.ctt_tool.specs.Faults.{IfUnwritten, KeptUnless, MayHaveWritten, SaysFault, status_of};
+ghost use Rattle.ctt_tool.specs.Jobs.{HasScripts, IsRefusal, Storing, faults_of};
+ghost use Rattle.ctt_tool.specs.Work.{AsksForRefusedText, AsksForTooMany, AsksToStore, DoesAsAsked, DoesJob, HasCause, IsOfJob};
 ghost use Rattle.ctt_tool.specs.declared.fault.Fault.TheVariants.{NoMemory};
 ghost use Rattle.ctt_tool.specs.declared.outcome.Outcome.TheVariants.{Differs, Done};
 
@@ -34,15 +34,13 @@ fn do_job<R: Threads + Wait + Sync, F: Files, W: Sink>(
     ensures done { IfOk result (λ outcome. DoesJob job outcome (F.held files.old) (F.held files.new)
         (W.taken out.old) (W.taken out.new)) }
     ensures unmarked { OnOk result (W.has_failed out.new ≡ W.has_failed out.old) }
-    ensures fault { IfErr result (λ fault. IfUnwritten fault
+    ensures cause { IfErr result (λ fault. IfUnwritten fault
         ((W.has_failed out.new ≡ true) ⊎ Storing job)
-        (IsOfJob job fault × (W.has_failed out.new ≡ W.has_failed out.old))) }
+        (IsOfJob job (F.held files.old) fault × (W.has_failed out.new ≡ W.has_failed out.old))) }
     ensures unwritten { IfErr result (λ fault. MayHaveWritten fault ⊎ (out.new ≡ out.old)) }
     ensures unstored { IfErr result (λ fault. KeptUnless fault
         ((W.has_failed out.new ≡ W.has_failed out.old) × Storing job)
         (F.held files.new ≡ F.held files.old)) }
-    ensures file { IfErr result (IsOfFiles (files_of job) (F.held files.old)) }
-    ensures cause { IfErr result (λ fault. status_of fault ≡ 1 → HasRefusedText job (F.held files.old)) }
 {
     match job {
         Job::Check {
@@ -91,20 +89,16 @@ fn do_as_asked<R: Threads + Wait + Sync, F: Files, W: Sink>(
 ) -> Result<Outcome, Fault>
     ensures done { IfOk result (λ outcome. DoesAsAsked (map (λ word. word.now) words.now) outcome
         (F.held files.old) (F.held files.new) (W.taken out.old) (W.taken out.new)) }
-    ensures refused { IfErr result (λ fault. status_of fault ≡ 2
-        → IsRefusal (faults_of (map (λ word. word.now) words.now))
-        ⊎ AsksForTooMany (map (λ word. word.now) words.now)) }
     ensures unmarked { OnOk result (W.has_failed out.new ≡ W.has_failed out.old) }
-    ensures marked { IfErr result (λ fault. (status_of fault ≡ 3) ⊎ (W.has_failed out.new ≡ W.has_failed out.old)) }
+    ensures marked { IfErr result (λ fault. (status_of fault ≡ 3)
+        ⊎ (W.has_failed out.new ≡ W.has_failed out.old)) }
     ensures unwritten { IfErr result (λ fault. MayHaveWritten fault ⊎ (out.new ≡ out.old)) }
     ensures unstored { IfErr result (λ fault. KeptUnless fault
         ((W.has_failed out.new ≡ W.has_failed out.old) × AsksToStore (map (λ word. word.now) words.now))
         (F.held files.new ≡ F.held files.old)) }
-    ensures cause { IfErr result (λ fault. status_of fault ≡ 1
-        → AsksForRefusedText (map (λ word. word.now) words.now) (F.held files.old)) }
     ensures taken { IfErr result (λ fault. status_of fault ≡ 1
         → faults_of (map (λ word. word.now) words.now) ≡ []) }
-    ensures machine { IfErr result (HasCause (map (λ word. word.now) words.now) (F.held files.old)
+    ensures cause { IfErr result (HasCause (map (λ word. word.now) words.now) (F.held files.old)
         (W.has_failed out.new)) }
 {
     match read_words(alloc, words) {
@@ -159,7 +153,8 @@ pub fn program<R: AllocGlobal + Threads + Wait + Sync, F: Files, W: Sink, V: Sin
     ensures unmarked { result ≡ 0 → W.has_failed out.new ≡ false }
     ensures unsaid { result ≡ 0 → err.new ≡ err.old }
 
-    ensures one { result ≡ 1 → (AsksForRefusedText (map (λ word. word.now) words.now) (F.held files.old)
+    ensures one { result ≡ 1
+        → (AsksForRefusedText (map (λ word. word.now) words.now) (F.held files.old)
         × (out.new ≡ out.old))
         ⊎ (DoesAsAsked (map (λ word. word.now) words.now) Differs
         (F.held files.old) (F.held files.new) (W.taken out.old) (W.taken out.new) × (err.new ≡ err.old)) }

@@ -1,25 +1,22 @@
 //! The command `run`.
 
-ghost use Rattle.std.specs.Prelude.{◌≡◌, ◌⊎◌, ◌<◌, ℕ, [], ◌∷◌, ◌++◌, length, true, false, is_some, Ok, Err, OnOk, IfOk, IfErr, IfSome};
+ghost use Rattle.std.specs.Prelude.{◌≡◌, ◌⊎◌, ◌≤◌, length, true, false, is_some, Ok, OnOk, IfOk, IfErr, IfSome};
 ghost use Rattle.std.specs.Io.KnownBytes.{Appends};
 ghost use Rattle.std.specs.List.{AllByRecursion as Each};
-ghost use Rattle.std.specs.String.{string_bytes};
 ghost use Rattle.ctt_text.specs.Timetable.{Fits};
 ghost use Rattle.ctt_edits.specs.Openings.{opening};
-ghost use Rattle.ctt_edits.specs.declared.fault.EditFault.{EditFault};
 ghost use Rattle.ctt_core.specs.Runs.{accepted_of};
 ghost use Rattle.ctt_script.specs.AnswerText.{answer_text, script_run};
 ghost use Rattle.ctt_script.specs.Minutes.{IsMinuted, blank, minutes_text};
-ghost use Rattle.ctt_tool.specs.Faults.{IfUnwritten, IsOfFiles, IsOfTexts, IsRunFault, KeptUnless, MayHaveWritten, RunFaultFits, status_of};
-ghost use Rattle.ctt_tool.specs.Jobs.{IsGiven, given};
-ghost use Rattle.ctt_tool.specs.Runs.{IsRefusedRun, RunsOn, RunsScript, Stores};
-ghost use Rattle.ctt_tool.specs.Texts.{IsRefusedStart};
+ghost use Rattle.ctt_tool.specs.Faults.{IfUnwritten, IsRunFault, KeptUnless, MayHaveWritten, RunFaultFits};
+ghost use Rattle.ctt_tool.specs.Jobs.{IsGiven};
+ghost use Rattle.ctt_tool.specs.Refusals.{IsAnswerFault, IsOfRun, IsOfScript};
+ghost use Rattle.ctt_tool.specs.Runs.{RunsOn, RunsScript, Stores};
 ghost use Rattle.ctt_tool.specs.declared.fault.Fault.TheVariants.{NoMemory as OutOfMemory};
 
 use crate::fault::Fault;
 use crate::files::Files;
 use crate::opening::refused_opening;
-use crate::output::pass_on;
 use crate::texts::{fetch_instance, fetch_start};
 use ctt_board::{GridSheet, Sheet};
 use ctt_core::Desk;
@@ -64,21 +61,16 @@ fn answer<'i, S: Sheet<'i>, R: Source, W: Sink>(
         desk.journal ≡ accepted_of (script_run instance.now desk.opening text))) }
     ensures minutes { IfOk result (λ desk. IsMinuted instance.now desk minutes.new) }
     ensures given { OnOk result (is_some minutes.new ≡ is_some minutes.old) }
+    ensures short { OnOk result (IfSome (R.left script.old) (λ text. length text ≤ 67108864)) }
     ensures unmarked { OnOk result (W.has_failed out.new ≡ W.has_failed out.old) }
 
-    ensures fault { IfErr result (λ fault. IfUnwritten fault
+    ensures cause { IfErr result (λ fault. IfUnwritten fault
         (W.has_failed out.new ≡ true)
-        (IsOfTexts fault × (W.has_failed out.new ≡ W.has_failed out.old))) }
+        (IsAnswerFault instance.now lectures.now name (R.left script.old) fault × (W.has_failed out.new ≡ W.has_failed out.old))) }
     ensures unwritten { IfErr result (λ fault. MayHaveWritten fault ⊎ (out.new ≡ out.old)) }
-    ensures file { IfErr result (IsOfFiles (name ∷ []) (λ _. R.left script.old)) }
-    ensures cause { IfErr result (λ fault. status_of fault ≡ 1
-        → (at : ℕ) × (found : EditFault) × (opening instance.now lectures.now ≡ Err (at, found))) }
 {
     match run_script(alloc, instance, lectures, script, out, minutes) {
-        Ok(desk) => {
-            pass_on(out)?;
-            Ok(desk)
-        }
+        Ok(desk) => Ok(desk),
         Err(fault) => Err(fault_of_run(alloc, instance, fault, name)),
     }
 }
@@ -132,19 +124,17 @@ fn run_on<'i, S: Sheet<'i>, F: Files, W: Sink>(
     start: Option<String>,
     journal: Option<String>,
 ) -> Result<(), Fault>
-    ensures runs { OnOk result (RunsOn instance.now script start journal (F.held files.old) (F.held files.new)
+    ensures runs { OnOk result
+        (RunsOn instance.now script start journal (F.held files.old) (F.held files.new)
         (W.taken out.old) (W.taken out.new)) }
     ensures unmarked { OnOk result (W.has_failed out.new ≡ W.has_failed out.old) }
-    ensures fault { IfErr result (λ fault. IfUnwritten fault
+    ensures cause { IfErr result (λ fault. IfUnwritten fault
         ((W.has_failed out.new ≡ true) ⊎ IsGiven journal)
-        (IsOfTexts fault × (W.has_failed out.new ≡ W.has_failed out.old))) }
+        (IsOfScript script start (F.held files.old) instance.now fault × (W.has_failed out.new ≡ W.has_failed out.old))) }
     ensures unwritten { IfErr result (λ fault. MayHaveWritten fault ⊎ (out.new ≡ out.old)) }
     ensures unstored { IfErr result (λ fault. KeptUnless fault
         ((W.has_failed out.new ≡ W.has_failed out.old) × IsGiven journal)
         (F.held files.new ≡ F.held files.old)) }
-    ensures file { IfErr result (IsOfFiles (script ∷ given start) (F.held files.old)) }
-    ensures cause { IfErr result (λ fault. status_of fault ≡ 1
-        → IsRefusedStart instance.now (F.held files.old) start) }
 {
     let Ok(mut input) = files.fetch(&script) else {
         return Err(Fault::CannotRead(script));
@@ -175,19 +165,17 @@ pub fn run<F: Files, W: Sink>(
     start: Option<String>,
     journal: Option<String>,
 ) -> Result<(), Fault>
-    ensures runs { OnOk result (RunsScript instance barred script start journal (F.held files.old) (F.held files.new)
+    ensures runs { OnOk result
+        (RunsScript instance barred script start journal (F.held files.old) (F.held files.new)
         (W.taken out.old) (W.taken out.new)) }
     ensures unmarked { OnOk result (W.has_failed out.new ≡ W.has_failed out.old) }
-    ensures fault { IfErr result (λ fault. IfUnwritten fault
+    ensures cause { IfErr result (λ fault. IfUnwritten fault
         ((W.has_failed out.new ≡ true) ⊎ IsGiven journal)
-        (IsOfTexts fault × (W.has_failed out.new ≡ W.has_failed out.old))) }
+        (IsOfRun (F.held files.old) instance barred script start fault × (W.has_failed out.new ≡ W.has_failed out.old))) }
     ensures unwritten { IfErr result (λ fault. MayHaveWritten fault ⊎ (out.new ≡ out.old)) }
     ensures unstored { IfErr result (λ fault. KeptUnless fault
         ((W.has_failed out.new ≡ W.has_failed out.old) × IsGiven journal)
         (F.held files.new ≡ F.held files.old)) }
-    ensures file { IfErr result (IsOfFiles (instance ∷ given barred ++ script ∷ given start) (F.held files.old)) }
-    ensures cause { IfErr result (λ fault. status_of fault ≡ 1
-        → IsRefusedRun (F.held files.old) instance barred start) }
 {
     let instance = fetch_instance(alloc, files, instance, barred)?;
     let done = run_on::<GridSheet, F, W>(alloc, files, out, &instance, script, start, journal);

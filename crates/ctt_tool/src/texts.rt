@@ -1,12 +1,11 @@
 //! Instances and solutions by the names of their files.
 
-ghost use Rattle.std.specs.Prelude.{◌≡◌, [], ◌∷◌, IfOk, OnOk, IfErr, IfSome};
+ghost use Rattle.std.specs.Prelude.{◌≡◌, IfOk, OnOk, IfErr, IfSome};
 ghost use Rattle.std.specs.String.{string_bytes};
 ghost use Rattle.std.specs.List.{AllByRecursion as Each};
 ghost use Rattle.ctt_text.specs.Timetable.{Fits, IsTimetable};
-ghost use Rattle.ctt_tool.specs.Faults.{IsOfFiles, IsOfTexts, status_of};
-ghost use Rattle.ctt_tool.specs.Jobs.{given};
-ghost use Rattle.ctt_tool.specs.Texts.{IsBarredBy, IsInstanceIn, IsInstanceText, IsNoInstance, IsNoInstanceIn, IsNoSolution, IsNoStart, IsNotBarredBy, IsSolutionText, IsStart};
+ghost use Rattle.ctt_tool.specs.Refusals.{IsOfBarred, IsOfInstance, IsOfInstanceIn, IsOfSolution, IsOfStart};
+ghost use Rattle.ctt_tool.specs.Texts.{IsBarredBy, IsInstanceIn, IsInstanceText, IsSolutionText, IsStart};
 
 use crate::fault::Fault;
 use crate::files::{Files, read_file};
@@ -18,10 +17,7 @@ fn fetch_alone<F: Files>(alloc: Global, files: &mut F, name: String) -> Result<I
     ensures spelled { IfOk result (λ instance.
         IfSome (F.held files.old (string_bytes name)) (λ text. IsInstanceText text instance)) }
     ensures kept { F.held files.new ≡ F.held files.old }
-    ensures fault { IfErr result IsOfTexts }
-    ensures file { IfErr result (IsOfFiles (name ∷ []) (F.held files.old)) }
-    ensures cause { IfErr result (λ fault. status_of fault ≡ 1
-        → IfSome (F.held files.old (string_bytes name)) IsNoInstance) }
+    ensures cause { IfErr result (IsOfInstance (F.held files.old) name) }
 {
     let text = read_file(alloc, files, name)?;
     Ok(read_instance(alloc, &text)?)
@@ -36,10 +32,7 @@ fn bar_rooms<F: Files>(
 ) -> Result<(), Fault>
     ensures barred { OnOk result (IsBarredBy (F.held files.old) barred instance.old instance.new) }
     ensures kept { F.held files.new ≡ F.held files.old }
-    ensures fault { IfErr result IsOfTexts }
-    ensures file { IfErr result (IsOfFiles (given barred) (F.held files.old)) }
-    ensures cause { IfErr result (λ fault. status_of fault ≡ 1
-        → IsNotBarredBy (F.held files.old) barred instance.old) }
+    ensures cause { IfErr result (IsOfBarred (F.held files.old) instance.old barred) }
 {
     let Some(name) = barred else {
         return Ok(());
@@ -56,12 +49,10 @@ pub fn fetch_instance<F: Files>(
     name: String,
     barred: Option<String>,
 ) -> Result<Instance, Fault>
-    ensures spelled { IfOk result (λ instance. IsInstanceIn (F.held files.old) name barred instance) }
+    ensures spelled { IfOk result (λ instance.
+        IsInstanceIn (F.held files.old) name barred instance) }
     ensures kept { F.held files.new ≡ F.held files.old }
-    ensures fault { IfErr result IsOfTexts }
-    ensures file { IfErr result (IsOfFiles (name ∷ given barred) (F.held files.old)) }
-    ensures cause { IfErr result (λ fault. status_of fault ≡ 1
-        → IsNoInstanceIn (F.held files.old) name barred) }
+    ensures cause { IfErr result (IsOfInstanceIn (F.held files.old) name barred) }
 {
     let mut instance = fetch_alone(alloc, files, name)?;
     match bar_rooms(alloc, files, &mut instance, barred) {
@@ -80,14 +71,12 @@ pub fn fetch_solution<F: Files>(
     instance: &Instance,
     name: String,
 ) -> Result<Vec<Placed>, Fault>
-    ensures spelled { IfOk result (λ timetable. IfSome (F.held files.old (string_bytes name)) (λ text.
+    ensures spelled { IfOk result (λ timetable.
+        IfSome (F.held files.old (string_bytes name)) (λ text.
         IsSolutionText instance.now text timetable.items)) }
     ensures timetable { IfOk result (λ timetable. IsTimetable instance.now timetable.items) }
     ensures kept { F.held files.new ≡ F.held files.old }
-    ensures fault { IfErr result IsOfTexts }
-    ensures file { IfErr result (IsOfFiles (name ∷ []) (F.held files.old)) }
-    ensures cause { IfErr result (λ fault. status_of fault ≡ 1
-        → IfSome (F.held files.old (string_bytes name)) (IsNoSolution instance.now)) }
+    ensures cause { IfErr result (IsOfSolution name (F.held files.old) instance.now) }
 {
     let text = read_file(alloc, files, name)?;
     Ok(read_solution(alloc, instance, &text)?)
@@ -100,13 +89,11 @@ pub fn fetch_start<F: Files>(
     instance: &Instance,
     start: Option<String>,
 ) -> Result<Vec<Placed>, Fault>
-    ensures spelled { IfOk result (λ lectures. IsStart instance.now (F.held files.old) start lectures.items) }
+    ensures spelled { IfOk result (λ lectures.
+        IsStart instance.now (F.held files.old) start lectures.items) }
     ensures fit { IfOk result (λ lectures. Each (Fits instance.now) lectures.items) }
     ensures kept { F.held files.new ≡ F.held files.old }
-    ensures fault { IfErr result IsOfTexts }
-    ensures file { IfErr result (IsOfFiles (given start) (F.held files.old)) }
-    ensures cause { IfErr result (λ fault. status_of fault ≡ 1
-        → IsNoStart instance.now (F.held files.old) start) }
+    ensures cause { IfErr result (IsOfStart start (F.held files.old) instance.now) }
 {
     match start {
         Some(name) => fetch_solution(alloc, files, instance, name),

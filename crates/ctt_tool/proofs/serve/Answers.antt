@@ -4,4 +4,4 @@ use Rattle.ctt_tool.proofs.Ends.{of_some_words}
 use Rattle.ctt_tool.proofs.serve.Goals as goal
 
 pub returns-clause-said : goal.returns-clause-said
-returns-clause-said g c = λ some. of_some_words _ (λ words. DoesAsAsked words Differs (g.F.Files.held c.args.files.now) (g.F.Files.held c.program.new.files) (g.W.Sink.taken c.args.out.now) (g.W.Sink.taken c.program.new.out)) _ _ _ _ _ (c.program.ensures.said some)
+returns-clause-said g c = λ some. of_some_words _ (g.F.Files.held c.args.files.now) (g.W.Sink.has_failed c.program.new.out) (λ words. DoesAsAsked words Differs (g.F.Files.held c.args.files.now) (g.F.Files.held c.program.new.files) (g.W.Sink.taken c.args.out.now) (g.W.Sink.taken c.program.new.out)) _ _ _ _ (c.program.ensures.said some)

@@ -16,11 +16,11 @@ step-answer-requires g c κs =
     let fits : EventFits c.args.desk.now.problem (length c.args.desk.now.drafts) c.args.event.now = rw (c.requires.same, c.requires.planners) c.requires.fits in
     search rules
 
-pub tell-requires-clause-event : goal.tell-requires-clause-event
-tell-requires-clause-event g c = of_noted_planners c.args.instance.now c.args.desk.now _ 64 c.args.event.now c.requires.minuted c.requires.planners c.requires.fits
+pub add_answer-requires-clause-event : goal.add_answer-requires-clause-event
+add_answer-requires-clause-event g c = of_noted_planners c.args.instance.now c.args.desk.now _ 64 c.args.event.now c.requires.minuted c.requires.planners c.requires.fits
 
-pub tell-requires-clause-answer : goal.tell-requires-clause-answer
-tell-requires-clause-answer g c =
+pub add_answer-requires-clause-answer : goal.add_answer-requires-clause-answer
+add_answer-requires-clause-answer g c =
     let v : DeskValue = c.args.desk.now in
     subst (λ i. AnswerFits i c.step-answer.result) c.requires.same
     (answer_can v c.step-answer.new.self c.args.event.now c.step-answer.result c.step-answer.ensures.same c.step-answer.ensures.stands c.in_default.not-NoMemory 64
@@ -29,9 +29,9 @@ tell-requires-clause-answer g c =
 pub returns-clause-answered : goal.returns-clause-answered
 returns-clause-answered g c =
     let v : DeskValue = c.args.desk.now in
-    let grown : string_bytes c.tell.new.answers ≡ string_bytes c.args.answers.now ++ line (answer_words v.problem c.step-answer.result) = subst (λ i. string_bytes c.tell.new.answers ≡ string_bytes c.args.answers.now ++ line (answer_words i c.step-answer.result)) (sym c.requires.same) c.in_ok-tell.ensures.written in
-    subst (λ w. Answered v w (string_bytes c.args.answers.now) (string_bytes c.tell.new.answers) (Some c.args.event.now ∷ [])) (sym c.reuse.ensures)
-    (event_answered v c.step-answer.new.self c.args.event.now c.step-answer.result c.step-answer.ensures.same c.step-answer.ensures.stands c.in_default.not-NoMemory (string_bytes c.args.answers.now) (string_bytes c.tell.new.answers) grown)
+    let grown : string_bytes c.add_answer.new.answers ≡ string_bytes c.args.answers.now ++ line (answer_words v.problem c.step-answer.result) = subst (λ i. string_bytes c.add_answer.new.answers ≡ string_bytes c.args.answers.now ++ line (answer_words i c.step-answer.result)) (sym c.requires.same) c.in_ok-add_answer.ensures.written in
+    subst (λ w. Answered v w (string_bytes c.args.answers.now) (string_bytes c.add_answer.new.answers) (Some c.args.event.now ∷ [])) (sym c.reuse.ensures)
+    (event_answered v c.step-answer.new.self c.args.event.now c.step-answer.result c.step-answer.ensures.same c.step-answer.ensures.stands c.in_default.not-NoMemory (string_bytes c.args.answers.now) (string_bytes c.add_answer.new.answers) grown)
 
 pub returns-clause-minuted : goal.returns-clause-minuted
 returns-clause-minuted g c =
@@ -40,4 +40,4 @@ returns-clause-minuted g c =
     let fits : EventFits i (length v.drafts) c.args.event.now = subst (λ n. EventFits i n c.args.event.now) (sym c.requires.planners) c.requires.fits in
     let later : Option MinutesValue = option_map (noted i c.args.event.now c.step-answer.result) c.args.minutes.now in
     let next : IsMinuted i c.step-answer.new.self later = subst (λ w. IsMinuted i w later) (sym c.step-answer.ensures.goes_on) (minuted_on i v c.args.minutes.now c.args.event.now c.step-answer.result fits c.step-answer.ensures.answer c.requires.minuted) in
-    subst (λ w. IsMinuted i w c.tell.new.minutes) (sym c.reuse.ensures) (subst (IsMinuted i c.step-answer.new.self) (sym c.in_ok-tell.ensures.noted) next)
+    subst (λ w. IsMinuted i w c.add_answer.new.minutes) (sym c.reuse.ensures) (subst (IsMinuted i c.step-answer.new.self) (sym c.in_ok-add_answer.ensures.noted) next)

@@ -1,27 +1,21 @@
-use Rattle.std.proofs.Common.{rules, ◌≡◌, true, ◌∷◌, [], ◌∙◌, List, ℕ, length, Option, Result, Ok, Err, OnErr, MatchResult, sym, subst, refl, string_bytes, take}
+use Rattle.std.proofs.Common.{rules, ◌≡◌, true, ◌∷◌, [], ◌∙◌, List, ℕ, length, Option, Result, Ok, Err, MatchResult, sym, subst, refl, string_bytes}
 use Rattle.std.specs.Io.KnownBytes.{Appends}
 use Rattle.std.specs.List.{AllByRecursion as Each}
 use Rattle.std.specs.Result.{is_ok}
 use Rattle.std.specs.Str.{IsUtf8}
 use Rattle.std.proofs.KnownBytes.{Appends-nil}
 use Rattle.ctt_core.specs.Desks.{DeskValue}
-use Rattle.ctt_script.specs.Answering.{Answered, Answering, AppendsFront, IsAtRun, Wrote, WroteFront}
-use Rattle.ctt_script.specs.Output.{AppendsPart}
+use Rattle.ctt_script.specs.Answering.{Answered, Answering, IsAtRun, Wrote, WroteFront}
+use Rattle.ctt_script.specs.Output.{AppendsFront}
 use Rattle.ctt_script.specs.ScriptText.{lines_of, items_of}
 use Rattle.ctt_script.proofs.ScriptLaws.{lines_are_text}
 use Rattle.ctt_script.proofs.AnsweringLemmas.{begins, all_written, one_more_line, more_written, front_written, still_at_run}
+use Rattle.ctt_script.proofs.OutputLemmas.{on_err}
 use Rattle.ctt_script.proofs.engine.answer_lines.Goals as goal
-
-on_err : {T E : Type 0} {P : Type 0} (r : Result T E) → P → OnErr r P
-on_err (Ok x) p = tt
-on_err (Err e) p = p
 
 ok_part : {T E : Type 0} {P : Type 0} (A : T → Type 0) (B : E → Type 0) (r : Result T E) → is_ok r ≡ true → MatchResult r (λ t. A t × P) B → P
 ok_part A B (Ok t) is m = m.1
 ok_part A B (Err e) is m = cc
-
-part_of : (old new : Option (List ℕ)) (bytes text : List ℕ) → bytes ≡ text → AppendsPart old new bytes → AppendsFront old new text
-part_of old new bytes text e part = (part.0, subst (λ bs. Appends old new (take part.0 bs)) e part.2)
 
 pub loop-line-init : goal.loop-line-init
 loop-line-init g c =
@@ -86,15 +80,15 @@ returns-in_err-write_full-clause-part g c =
     on_err c.from_residual-in_err-write_full.result (subst (λ i. WroteFront v (items_of i all) before (g.W.Sink.taken c.write_full.new.writer)) c.requires.same
     (front_written v all before c.answer_line.new.desk c.next.new.self taken (g.W.Sink.taken c.write_full.new.writer) (string_bytes c.answer_line.new.answers) next c.in_err-write_full.ensures.part))
 
-pub returns-in_err-put_all-clause-part : goal.returns-in_err-put_all-clause-part
-returns-in_err-put_all-clause-part g c =
+pub returns-in_err-put_whole-clause-part : goal.returns-in_err-put_whole-clause-part
+returns-in_err-put_whole-clause-part g c =
     let v : DeskValue = c.args.desk.now in
     let all : List (List ℕ) = lines_of c.args.text.now in
     let before : Option (List ℕ) = g.W.Sink.taken c.args.writer.now in
     let taken : Option (List ℕ) = g.W.Sink.taken c.loop-line.writer in
-    let later : Option (List ℕ) = g.W.Sink.taken c.put_all.new.writer in
-    let part : AppendsFront taken later (string_bytes c.loop-line.answers) = part_of taken later c.as_bytes.result.now (string_bytes c.loop-line.answers) c.as_bytes.ensures.value c.in_err-put_all.ensures.part in
-    on_err c.from_residual-in_err-put_all.result (subst (λ i. WroteFront v (items_of i all) before later) c.requires.same
+    let later : Option (List ℕ) = g.W.Sink.taken c.put_whole.new.writer in
+    let part : AppendsFront taken later (string_bytes c.loop-line.answers) = subst (AppendsFront taken later) c.as_bytes.ensures.value c.in_err-put_whole.ensures.front in
+    on_err c.from_residual-in_err-put_whole.result (subst (λ i. WroteFront v (items_of i all) before later) c.requires.same
     (front_written v all before c.loop-line.desk c.loop-line.line-iterator taken later (string_bytes c.loop-line.answers) c.loop-line.invariant.answering part))
 
 pub returns-clause-written : goal.returns-clause-written
@@ -103,7 +97,7 @@ returns-clause-written g c =
     let all : List (List ℕ) = lines_of c.args.text.now in
     let before : Option (List ℕ) = g.W.Sink.taken c.args.writer.now in
     let taken : Option (List ℕ) = g.W.Sink.taken c.loop-line.writer in
-    let later : Option (List ℕ) = g.W.Sink.taken c.put_all.new.writer in
+    let later : Option (List ℕ) = g.W.Sink.taken c.put_whole.new.writer in
     let none : c.loop-line.line-iterator ≡ [] = search rules in
-    let written : Appends taken later (string_bytes c.loop-line.answers) = subst (λ bs. Appends taken later bs) c.as_bytes.ensures.value c.in_ok-put_all.ensures.all in
+    let written : Appends taken later (string_bytes c.loop-line.answers) = subst (λ bs. Appends taken later bs) c.as_bytes.ensures.value c.in_ok-put_whole.ensures.all in
     subst (λ i. Wrote v c.loop-line.desk (items_of i all) before later) c.requires.same (all_written v all before c.loop-line.desk c.loop-line.line-iterator taken later (string_bytes c.loop-line.answers) none c.loop-line.invariant.answering written)

@@ -4,7 +4,7 @@ use Rattle.ctt_script.specs.Minutes.{IsMinuted}
 use Rattle.ctt_script.proofs.MinutesLemmas.{begin_blank}
 use Rattle.ctt_text.proofs.FormLaws.{ok_same}
 use Rattle.ctt_edits.specs.declared.fault.EditFault.{EditFault}
-use Rattle.ctt_script.proofs.ScriptRuns.{all_said, front_said, journal_can, script_done}
+use Rattle.ctt_script.proofs.ScriptRuns.{all_said, front_said, journal_can, read_short, script_done}
 use Rattle.ctt_script.proofs.engine.run_script.Goals as goal
 
 pub new-requires : goal.new-requires
@@ -39,3 +39,6 @@ pub returns-in-Ok-answered-clause-stands : goal.returns-in-Ok-answered-clause-st
 returns-in-Ok-answered-clause-stands g c =
     script_done c.in_ok-desk.desk c.answer_lines-answered.new.desk c.args.instance.now (g.R.Source.left c.args.reader.now) c.in-Ok.text.items c.deref.result.now _ _
     c.in_ok-desk.ensures.problem c.in_ok-desk.ensures.stands c.deref.ensures.value c.in-Ok.ensures.all c.in-Ok-answered.ensures.written
+
+pub returns-in-Ok-answered-clause-short : goal.returns-in-Ok-answered-clause-short
+returns-in-Ok-answered-clause-short g c = read_short (g.R.Source.left c.args.reader.now) c.in-Ok.text.items 67108864 c.in-Ok.ensures.all (search rules)

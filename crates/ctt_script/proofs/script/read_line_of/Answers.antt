@@ -1,7 +1,7 @@
 use Rattle.std.proofs.Common.{◌∙◌}
 use Rattle.ctt_script.specs.JournalWords.{reads}
 use Rattle.ctt_script.specs.ScriptPlaces.{event_form}
-use Rattle.ctt_script.proofs.EventFits.{item_fits}
+use Rattle.ctt_script.proofs.EventLemmas.{item_fits}
 use Rattle.ctt_script.proofs.ScriptLaws.{bad_text, item_has_words, text_asks}
 use Rattle.ctt_script.proofs.script.read_line_of.Goals as goal
 

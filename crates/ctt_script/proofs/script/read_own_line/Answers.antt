@@ -2,7 +2,7 @@ use Rattle.std.proofs.Common.{◌≡◌, ◌∙◌}
 use Rattle.ctt_script.specs.JournalWords.{reads}
 use Rattle.ctt_script.specs.ScriptPlaces.{own_form}
 use Rattle.ctt_script.specs.ScriptText.{own_item}
-use Rattle.ctt_script.proofs.EventFits.{own_item_fits}
+use Rattle.ctt_script.proofs.EventLemmas.{own_item_fits}
 use Rattle.ctt_script.proofs.ScriptLaws.{bad_text, own_item_has_words, text_asks}
 use Rattle.ctt_script.proofs.script.read_own_line.Goals as goal
 

@@ -1,10 +1,12 @@
-use Rattle.std.proofs.Common.{rules, ◌≡◌, [], sym, subst}
+use Rattle.std.proofs.Common.{rules, ◌≡◌, inl, inr, sym, subst}
+use Rattle.std.proofs.lemmas.Result.{IfErr-weaker}
 use Rattle.std.specs.List.{AllByRecursion as Each}
 use Rattle.std.specs.String.{string_bytes}
 use Rattle.ctt_text.specs.Timetable.{Fits}
-use Rattle.ctt_tool.specs.Faults.{status_of}
-use Rattle.ctt_tool.specs.Texts.{Holds, IsNoJournal, IsStart}
-use Rattle.ctt_tool.proofs.Audited.{finds_in, finds_fit, passed_on, refused_in, told_of}
+use Rattle.ctt_tool.specs.Refusals.{IsOfAudited, IsOfStart}
+use Rattle.ctt_tool.specs.Texts.{Held, Holds, IsStart}
+use Rattle.ctt_tool.proofs.Audited.{finds_in, finds_fit, journal_in, told_of}
+use Rattle.ctt_tool.proofs.Known.{passed_on}
 use Rattle.ctt_tool.proofs.audit.fetch_verdict.Goals as goal
 
 pub verdict_of-requires : goal.verdict_of-requires
@@ -26,16 +28,29 @@ returns-in-Ok-clause-fits g c =
     let lectures : Each (Fits c.args.instance.now) c.deref.result.now = subst (Each (Fits c.args.instance.now)) (sym c.deref.ensures.value) c.in-Ok.ensures.fit in
     finds_fit c.args.instance.now c.deref.result.now c.deref-in-Ok.result.now c.verdict_of.result lectures c.verdict_of.ensures.found
 
+pub returns-in_err-text-clause-cause : goal.returns-in_err-text-clause-cause
+returns-in_err-text-clause-cause g c =
+    passed_on c.from_residual.result c.in_err-text.field-0.0 (IsOfAudited c.args.journal c.args.start (g.F.Files.held c.args.files.now) c.args.instance.now) c.from_residual.ensures.1 (inl (inl c.in_err-text.ensures.cause))
+
 pub returns-in-Ok-clause-cause : goal.returns-in-Ok-clause-cause
 returns-in-Ok-clause-cause g c =
     let held = g.F.Files.held c.args.files.now in
-    let told : Holds held c.args.journal (λ text. c.deref-in-Ok.result.now ≡ text) = told_of (held (string_bytes c.args.journal)) c.deref-in-Ok.result.now c.in_ok-text.text.items c.deref-in-Ok.ensures.value c.in_ok-text.ensures.all in
-    refused_in c.args.instance.now c.deref.result.now c.deref-in-Ok.result.now c.verdict_of.result c.args.journal c.args.start held c.verdict_of.ensures.cause told
+    let bytes = c.deref-in-Ok.result.now in
+    let told : Holds held c.args.journal (λ text. bytes ≡ text) = told_of (held (string_bytes c.args.journal)) bytes c.in_ok-text.text.items c.deref-in-Ok.ensures.value c.in_ok-text.ensures.all in
+    IfErr-weaker c.verdict_of.result _ _ (λ fault no. inl (inr (bytes, told, no))) c.verdict_of.ensures.cause
 
 pub returns-in_err-check_journal-in-Err-clause-cause : goal.returns-in_err-check_journal-in-Err-clause-cause
 returns-in_err-check_journal-in-Err-clause-cause g c =
     let held = g.F.Files.held c.args.files.now in
     let bytes = c.deref-in-Err.result.now in
     let told : Holds held c.args.journal (λ text. bytes ≡ text) = told_of (held (string_bytes c.args.journal)) bytes c.in_ok-text.text.items c.deref-in-Err.ensures.value c.in_ok-text.ensures.all in
-    refused_in c.args.instance.now [] bytes c.from_residual-in_err-check_journal-in-Err.result c.args.journal c.args.start held
-    (passed_on c.from_residual-in_err-check_journal-in-Err.result c.in_err-check_journal-in-Err.field-0.0 (λ fault. status_of fault ≡ 1 → IsNoJournal c.args.instance.now bytes) c.from_residual-in_err-check_journal-in-Err.ensures.1 c.in_err-check_journal-in-Err.ensures.cause) told
+    passed_on c.from_residual-in_err-check_journal-in-Err.result c.in_err-check_journal-in-Err.field-0.0 (IsOfAudited c.args.journal c.args.start held c.args.instance.now) c.from_residual-in_err-check_journal-in-Err.ensures.1
+    (inl (inr (bytes, told, c.in_err-check_journal-in-Err.ensures.cause)))
+
+pub returns-in-Err-clause-cause : goal.returns-in-Err-clause-cause
+returns-in-Err-clause-cause g c =
+    let held = g.F.Files.held c.args.files.now in
+    let bytes = c.deref-in-Err.result.now in
+    let told : Holds held c.args.journal (λ text. bytes ≡ text) = told_of (held (string_bytes c.args.journal)) bytes c.in_ok-text.text.items c.deref-in-Err.ensures.value c.in_ok-text.ensures.all in
+    let read = c.in_ok-check_journal-in-Err.ensures.journal in
+    inr (read.0, journal_in c.args.instance.now (held (string_bytes c.args.journal)) bytes read.0 told read.1, inl (subst (λ (known : Held). IsOfStart c.args.start known c.args.instance.now c.in-Err.fault) c.in_ok-text.ensures.kept c.in-Err.ensures.cause))

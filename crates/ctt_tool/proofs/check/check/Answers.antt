@@ -1,9 +1,10 @@
-use Rattle.std.proofs.Common.{◌≡◌}
-use Rattle.ctt_tool.specs.Checks.{IsRefusedCheck}
-use Rattle.ctt_tool.specs.Faults.{status_of}
-use Rattle.ctt_tool.proofs.Known.{passed_on}
+use Rattle.std.proofs.Common.{refl}
+use Rattle.ctt_tool.specs.Refusals.{IsOfCheck, IsOfSolution}
+use Rattle.ctt_tool.proofs.Plain.{behind_plain, passed_plain, solution_file_plain}
 use Rattle.ctt_tool.proofs.check.check.Goals as goal
 
 pub returns-in_err-report-clause-cause : goal.returns-in_err-report-clause-cause
 returns-in_err-report-clause-cause g c =
-    passed_on c.from_residual.result c.in_err-report.field-0.0 (λ fault. status_of fault ≡ 1 → IsRefusedCheck (g.F.Files.held c.args.files.now) c.args.instance c.args.barred c.args.solution) c.from_residual.ensures.1 c.in_err-report.ensures.cause
+    let held = g.F.Files.held c.args.files.now in
+    passed_plain c.from_residual.result c.in_err-report.field-0.0 _ _ (IsOfCheck held c.args.instance c.args.barred c.args.solution) c.from_residual.ensures.1
+    (behind_plain (IsOfSolution c.args.solution) (solution_file_plain c.args.solution) held c.args.instance c.args.barred c.in_err-report.field-0.0 c.in_err-report.ensures.cause) c.in_err-report.ensures.cause refl

@@ -1,10 +1,10 @@
-use Rattle.std.proofs.Common.{rules, ◌≡◌, ◌∙◌, ◌∷◌, ◌<◌, ap, length, refl, subst, sym, IfSome, Err}
+use Rattle.std.proofs.Common.{rules, ◌≡◌, ◌∙◌, ◌∷◌, length, refl, subst, sym, IfSome}
 use Rattle.std.specs.String.{string_bytes}
 use Rattle.std.specs.Vec.Iter.{into_iter_items, into_iter_len}
-use Rattle.ctt_tool.specs.Faults.{IsOfFiles, IsOfReading}
+use Rattle.ctt_tool.specs.Refusals.{IsOfFile, IsOfFiles}
 use Rattle.ctt_tool.specs.Texts.{Held}
 use Rattle.ctt_tool.proofs.Known.{passed_on}
-use Rattle.ctt_tool.proofs.Scripts.{IsRead, all_counted, all_read, file_among, file_is_read, next_is_among, none_read, one_more_read}
+use Rattle.ctt_tool.proofs.Scripts.{IsRead, all_counted, all_read, next_is_among, none_read, one_more_read}
 use Rattle.ctt_tool.proofs.files.read_files.Goals as goal
 
 pub loop-name-init : goal.loop-name-init
@@ -27,17 +27,13 @@ loop-name-preserved g c =
       kept = c.in_ok-text.ensures.kept ∙ c.loop-name.invariant.kept;
     }
 
-pub returns-in_err-text-clause-fault : goal.returns-in_err-text-clause-fault
-returns-in_err-text-clause-fault g c =
-    passed_on c.from_residual-in_err-text.result c.in_err-text.field-0.0 IsOfReading c.from_residual-in_err-text.ensures.1 (file_is_read c.in-Some.name c.in_err-text.field-0.0 c.in_err-text.ensures.fault)
-
-pub returns-in_err-text-clause-file : goal.returns-in_err-text-clause-file
-returns-in_err-text-clause-file g c =
+pub returns-in_err-text-clause-cause : goal.returns-in_err-text-clause-cause
+returns-in_err-text-clause-cause g c =
     let held : Held = g.F.Files.held c.args.files.now in
     let step : into_iter_items c.loop-name.name-iterator ≡ c.in-Some.name ∷ into_iter_items c.next.new.self = search rules in
     passed_on c.from_residual-in_err-text.result c.in_err-text.field-0.0 (IsOfFiles c.args.names.items held) c.from_residual-in_err-text.ensures.1
-    (file_among c.args.names.items held c.in-Some.name c.in_err-text.field-0.0 (next_is_among _ held c.args.names.items _ _ c.in-Some.name c.loop-name.texts.items step c.loop-name.invariant.read) c.in_err-text.ensures.fault
-    (λ long. subst (λ (known : Held). IfSome (known (string_bytes c.in-Some.name)) (λ text. 67108864 < length text)) c.loop-name.invariant.kept (c.in_err-text.ensures.too_long (ap Err long))))
+    (next_is_among _ held c.args.names.items _ _ c.in-Some.name c.loop-name.texts.items c.in_err-text.field-0.0 step c.loop-name.invariant.read
+    (subst (λ (known : Held). IsOfFile known c.in-Some.name c.in_err-text.field-0.0) c.loop-name.invariant.kept c.in_err-text.ensures.cause))
 
 pub returns-clause-all : goal.returns-clause-all
 returns-clause-all g c =

@@ -1,7 +1,7 @@
 use Rattle.std.proofs.Common.{inr, rules}
 use Rattle.std.proofs.lemmas.Result.{IfErr-weaker, IfOk-weaker}
 use Rattle.ctt_tool.specs.Jobs.{HasScripts}
-use Rattle.ctt_tool.proofs.Known.{if_err_both, job_caused, job_has_scripts, job_refused, kept_weaker}
+use Rattle.ctt_tool.proofs.Known.{job_caused, job_has_scripts, kept_weaker}
 use Rattle.ctt_tool.proofs.program.do_as_asked.Goals as goal
 
 pub returns-in-Ok-clause-done : goal.returns-in-Ok-clause-done
@@ -12,14 +12,8 @@ do_job-requires g c =
     let has : HasScripts c.in-Ok.job = job_has_scripts _ c.in-Ok.job c.in-Ok.ensures.job in
     search rules
 
-pub returns-in-Ok-clause-refused : goal.returns-in-Ok-clause-refused
-returns-in-Ok-clause-refused g c = IfErr-weaker c.do_job.result _ _ (λ fault unwritten two. job_refused _ c.in-Ok.job _ _ fault c.in-Ok.ensures.job unwritten two) c.do_job.ensures.fault
-
 pub returns-in-Ok-clause-unstored : goal.returns-in-Ok-clause-unstored
 returns-in-Ok-clause-unstored g c = IfErr-weaker c.do_job.result _ _ (λ fault kept. kept_weaker fault _ _ _ _ (λ stored. (stored.0, (c.in-Ok.job, c.in-Ok.ensures.job, stored.1))) (λ same. same) kept) c.do_job.ensures.unstored
 
 pub returns-in-Ok-clause-cause : goal.returns-in-Ok-clause-cause
-returns-in-Ok-clause-cause g c = IfErr-weaker c.do_job.result _ _ (λ fault caused one. (c.in-Ok.job, c.in-Ok.ensures.job, caused one)) c.do_job.ensures.cause
-
-pub returns-in-Ok-clause-machine : goal.returns-in-Ok-clause-machine
-returns-in-Ok-clause-machine g c = if_err_both c.do_job.result _ _ _ (λ fault file unwritten. job_caused _ (g.F.Files.held c.args.files.now) _ c.in-Ok.job _ fault c.in-Ok.ensures.job file unwritten) c.do_job.ensures.file c.do_job.ensures.fault
+returns-in-Ok-clause-cause g c = IfErr-weaker c.do_job.result _ _ (λ fault is. job_caused _ (g.F.Files.held c.args.files.now) _ c.in-Ok.job _ fault c.in-Ok.ensures.job is) c.do_job.ensures.cause

@@ -1,24 +1,42 @@
-use Rattle.std.proofs.Common.{◌≡◌, subst, sym, IfErr}
-use Rattle.ctt_tool.specs.Faults.{status_of}
-use Rattle.ctt_tool.specs.Work.{HasRefusedText}
+use Rattle.std.proofs.Common.{◌≡◌, ◌⊎◌, inl, inr, ap, subst, sym, true, IfErr}
+use Rattle.std.proofs.lemmas.Result.{IfErr-weaker}
+use Rattle.ctt_tool.specs.Faults.{IfUnwritten}
+use Rattle.ctt_tool.specs.Jobs.{Storing}
+use Rattle.ctt_tool.specs.Work.{IsOfJob}
 use Rattle.ctt_tool.proofs.Known.{passed_on}
+use Rattle.ctt_tool.proofs.Plain.{unwritten_more}
 use Rattle.ctt_tool.proofs.program.do_job.Goals as goal
 
 pub returns-in_err-check-in-Check-clause-cause : goal.returns-in_err-check-in-Check-clause-cause
 returns-in_err-check-in-Check-clause-cause g c =
     let held = g.F.Files.held c.args.files.now in
     let fault = c.in_err-check-in-Check.field-0.0 in
-    passed_on c.from_residual.result fault (λ fault. status_of fault ≡ 1 → HasRefusedText c.args.job held) c.from_residual.ensures.1
-    (subst (λ job. status_of fault ≡ 1 → HasRefusedText job held) (sym c.in-Check.is) c.in_err-check-in-Check.ensures.cause)
+    let before = g.W.Sink.has_failed c.args.out.now in
+    let after = g.W.Sink.has_failed c.check.new.out in
+    passed_on c.from_residual.result fault (λ told. IfUnwritten told ((after ≡ true) ⊎ Storing c.args.job) (IsOfJob c.args.job held told × (after ≡ before))) c.from_residual.ensures.1
+    (unwritten_more fault _ _ _ _ inl (λ why. (subst (λ job. IsOfJob job held fault) (sym c.in-Check.is) why.0, ap g.W.Sink.has_failed why.1)) c.in_err-check-in-Check.ensures.cause)
+
+pub returns-in_err-crew-in-Crew-clause-cause : goal.returns-in_err-crew-in-Crew-clause-cause
+returns-in_err-crew-in-Crew-clause-cause g c =
+    let held = g.F.Files.held c.args.files.now in
+    let fault = c.in_err-crew-in-Crew.field-0.0 in
+    let before = g.W.Sink.has_failed c.args.out.now in
+    let after = g.W.Sink.has_failed c.crew.new.out in
+    passed_on c.from_residual-in_err-crew-in-Crew.result fault (λ told. IfUnwritten told ((after ≡ true) ⊎ Storing c.args.job) (IsOfJob c.args.job held told × (after ≡ before))) c.from_residual-in_err-crew-in-Crew.ensures.1
+    (unwritten_more fault _ _ _ _ inl (λ why. (subst (λ job. IsOfJob job held fault) (sym c.in-Crew.is) why.0, ap g.W.Sink.has_failed why.1)) c.in_err-crew-in-Crew.ensures.cause)
 
 pub returns-in_err-run-in-Run-clause-cause : goal.returns-in_err-run-in-Run-clause-cause
 returns-in_err-run-in-Run-clause-cause g c =
     let held = g.F.Files.held c.args.files.now in
     let fault = c.in_err-run-in-Run.field-0.0 in
-    passed_on c.from_residual-in_err-run-in-Run.result fault (λ fault. status_of fault ≡ 1 → HasRefusedText c.args.job held) c.from_residual-in_err-run-in-Run.ensures.1
-    (subst (λ job. status_of fault ≡ 1 → HasRefusedText job held) (sym c.in-Run.is) c.in_err-run-in-Run.ensures.cause)
+    let before = g.W.Sink.has_failed c.args.out.now in
+    let after = g.W.Sink.has_failed c.run.new.out in
+    passed_on c.from_residual-in_err-run-in-Run.result fault (λ told. IfUnwritten told ((after ≡ true) ⊎ Storing c.args.job) (IsOfJob c.args.job held told × (after ≡ before))) c.from_residual-in_err-run-in-Run.ensures.1
+    (subst (λ job. IfUnwritten fault ((after ≡ true) ⊎ Storing job) (IsOfJob job held fault × (after ≡ before))) (sym c.in-Run.is) c.in_err-run-in-Run.ensures.cause)
 
 pub returns-in-Audit-clause-cause : goal.returns-in-Audit-clause-cause
 returns-in-Audit-clause-cause g c =
     let held = g.F.Files.held c.args.files.now in
-    subst (λ job. IfErr c.audit.result (λ fault. status_of fault ≡ 1 → HasRefusedText job held)) (sym c.in-Audit.is) c.audit.ensures.cause
+    let before = g.W.Sink.has_failed c.args.out.now in
+    let after = g.W.Sink.has_failed c.audit.new.out in
+    IfErr-weaker c.audit.result _ _ (λ fault is. unwritten_more fault _ _ _ _ inl (λ why. (subst (λ job. IsOfJob job held fault) (sym c.in-Audit.is) why.0, ap g.W.Sink.has_failed why.1)) is) c.audit.ensures.cause

@@ -2,7 +2,7 @@ use Rattle.std.proofs.Common.{inl, inr, map, refl}
 use Rattle.ctt_tool.specs.Work.{DoesAsAsked}
 use Rattle.ctt_tool.proofs.Causes.{one_is_of_fault}
 use Rattle.ctt_tool.proofs.Ends.{differs_kept, differs_taken, ended_kept, ends_differs, ends_done, one_is_some, two_is_of_fault, unprinted_one}
-use Rattle.ctt_tool.proofs.Known.{says_caused}
+use Rattle.ctt_tool.proofs.Known.{asked_one, refused_two, says_caused}
 use Rattle.ctt_tool.proofs.program.program.Goals as goal
 
 pub returns-in-Ok-clause-done : goal.returns-in-Ok-clause-done
@@ -20,13 +20,13 @@ returns-in-Ok-clause-said g c = λ some. inl (ends_differs c.in-Ok.outcome c.sta
 pub returns-in-Err-clause-one : goal.returns-in-Err-clause-one
 returns-in-Err-clause-one g c = λ one.
     let of_fault = one_is_of_fault c.in-Err.fault c.fail_with.result c.fail_with.ensures.status one in
-    inl (c.in-Err.ensures.cause of_fault, unprinted_one c.in-Err.fault _ c.in-Err.ensures.unwritten of_fault)
+    inl (asked_one _ _ _ c.in-Err.fault c.in-Err.ensures.cause of_fault, unprinted_one c.in-Err.fault _ c.in-Err.ensures.unwritten of_fault)
 
 pub returns-in-Err-clause-said : goal.returns-in-Err-clause-said
-returns-in-Err-clause-said g c = λ some. inr (says_caused _ _ c.in-Err.fault _ _ _ c.in-Err.ensures.machine tt c.fail_with.ensures.said)
+returns-in-Err-clause-said g c = λ some. inr (says_caused _ _ c.in-Err.fault _ _ _ c.in-Err.ensures.cause tt c.fail_with.ensures.said)
 
 pub returns-in-Err-clause-refused : goal.returns-in-Err-clause-refused
-returns-in-Err-clause-refused g c = λ two. c.in-Err.ensures.refused (two_is_of_fault c.in-Err.fault c.fail_with.result c.fail_with.ensures.status two)
+returns-in-Err-clause-refused g c = λ two. refused_two _ _ _ c.in-Err.fault c.in-Err.ensures.cause (two_is_of_fault c.in-Err.fault c.fail_with.result c.fail_with.ensures.status two)
 
 pub returns-in-Ok-clause-unstored : goal.returns-in-Ok-clause-unstored
 returns-in-Ok-clause-unstored g c = λ some. inl (differs_kept _ _ _ _ _ (ends_differs c.in-Ok.outcome c.status.result (λ outcome. DoesAsAsked (map (λ word. word.now) c.args.words.now) outcome (g.F.Files.held c.args.files.now) (g.F.Files.held c.do_as_asked.new.files) (g.W.Sink.taken c.args.out.now) (g.W.Sink.taken c.do_as_asked.new.out)) c.status.ensures c.in-Ok.ensures.done some))

@@ -1,4 +1,5 @@
-use Rattle.std.proofs.Common.{rules, ◌≡◌, ◌∙◌, ap, subst, sym, false, inr, refl, List, IfSome, Some}
+use Rattle.std.proofs.Common.{rules, ◌≡◌, ◌∙◌, ◌⊎◌, ap, subst, sym, true, false, inl, inr, refl, List, IfSome, Some}
+use Rattle.std.proofs.lemmas.Result.{IfErr-weaker}
 use Rattle.std.specs.List.{AllByRecursion as Each}
 use Rattle.std.specs.String.{string_bytes}
 use Rattle.ctt_text.specs.Problem.{Problem}
@@ -7,11 +8,13 @@ use Rattle.ctt_text.specs.declared.placed.Placed.{Placed}
 use Rattle.ctt_edits.specs.Openings.{opening}
 use Rattle.ctt_core.specs.Runs.{accepted_of}
 use Rattle.ctt_script.specs.AnswerText.{script_run}
-use Rattle.ctt_tool.specs.Faults.{status_of}
-use Rattle.ctt_tool.specs.Texts.{Held, Holds, IsRefusedStart, IsStart}
-use Rattle.ctt_tool.proofs.Causes.{unstored_refuses_none}
-use Rattle.ctt_tool.proofs.Desks.{journal_stored, minutes_stored, told_through}
+use Rattle.ctt_tool.specs.Faults.{IfUnwritten}
+use Rattle.ctt_tool.specs.Jobs.{IsGiven}
+use Rattle.ctt_tool.specs.Refusals.{IsOfScript, IsOfStart}
+use Rattle.ctt_tool.specs.Texts.{Held, Holds, IsStart}
+use Rattle.ctt_tool.proofs.Desks.{answer_in, journal_stored, minutes_stored, told_through}
 use Rattle.ctt_tool.proofs.Known.{on_ok_weaker, passed_on}
+use Rattle.ctt_tool.proofs.Plain.{passed_plain, start_plain, unwritten_more}
 use Rattle.ctt_tool.proofs.run.run_on.Goals as goal
 
 pub answer-requires : goal.answer-requires
@@ -21,20 +24,24 @@ answer-requires g c κs =
     let blank = c.in_ok-minutes.ensures.blank in
     search rules
 
+pub returns-in_err-lectures-clause-cause : goal.returns-in_err-lectures-clause-cause
+returns-in_err-lectures-clause-cause g c =
+    let problem : Problem = c.args.instance.now in
+    let held : Held = g.F.Files.held c.args.files.now in
+    let is : IsOfStart c.args.start held problem c.in_err-lectures.field-0.0 = subst (λ (known : Held). IsOfStart c.args.start known problem c.in_err-lectures.field-0.0) c.in-Ok.ensures.kept c.in_err-lectures.ensures.cause in
+    passed_plain c.from_residual.result c.in_err-lectures.field-0.0 _ _ (IsOfScript c.args.script c.args.start held problem) c.from_residual.ensures.1
+    (start_plain c.args.start held problem c.in_err-lectures.field-0.0 is) (inr (inl (inl is))) refl
+
 pub returns-in_err-_desk-clause-cause : goal.returns-in_err-_desk-clause-cause
 returns-in_err-_desk-clause-cause g c =
     let problem : Problem = c.args.instance.now in
-    passed_on c.from_residual-in_err-_desk.result c.in_err-_desk.field-0.0 (λ fault. status_of fault ≡ 1 → IsRefusedStart problem (g.F.Files.held c.args.files.now) c.args.start) c.from_residual-in_err-_desk.ensures.1 (λ one.
-    let why = c.in_err-_desk.ensures.cause one in
-    inr (
-      why.0,
-      why.1,
-      record {
-        lectures = c.in_ok-lectures.lectures.items;
-        is_start = subst (λ held. IsStart problem held c.args.start c.in_ok-lectures.lectures.items) c.in-Ok.ensures.kept c.in_ok-lectures.ensures.spelled;
-        refused = ap (opening problem) (sym c.deref-2.ensures.value) ∙ why.2;
-      },
-    ))
+    let held : Held = g.F.Files.held c.args.files.now in
+    let fault = c.in_err-_desk.field-0.0 in
+    let whole : Holds held c.args.script (λ text. g.F.Input.Source.left c.in-Ok.input ≡ Some text) = subst (λ name. IfSome (held name) (λ text. g.F.Input.Source.left c.in-Ok.input ≡ Some text)) c.deref.ensures c.in-Ok.ensures.whole in
+    let start : IsStart problem held c.args.start c.deref-2.result.now =
+    subst (IsStart problem held c.args.start) (sym c.deref-2.ensures.value) (subst (λ (known : Held). IsStart problem known c.args.start c.in_ok-lectures.lectures.items) c.in-Ok.ensures.kept c.in_ok-lectures.ensures.spelled) in
+    passed_on c.from_residual-in_err-_desk.result fault (λ told. IfUnwritten told ((g.W.Sink.has_failed c.answer.new.out ≡ true) ⊎ IsGiven c.args.journal) (IsOfScript c.args.script c.args.start held problem told × (g.W.Sink.has_failed c.answer.new.out ≡ g.W.Sink.has_failed c.args.out.now))) c.from_residual-in_err-_desk.ensures.1
+    (unwritten_more fault _ _ _ _ inl (λ why. (answer_in problem c.deref-2.result.now c.args.script c.args.start held _ fault whole start why.0, why.1)) c.in_err-_desk.ensures.cause)
 
 pub returns-clause-runs : goal.returns-clause-runs
 returns-clause-runs g c =
@@ -49,6 +56,7 @@ returns-clause-runs g c =
       is_start = subst (λ known. IsStart problem known c.args.start c.in_ok-lectures.lectures.items) c.in-Ok.ensures.kept c.in_ok-lectures.ensures.spelled;
       opened = opened;
       opens = ap (opening problem) (sym c.deref-2.ensures.value) ∙ c.in_ok-_desk.ensures.opening;
+      short = told_through _ _ _ whole c.in_ok-_desk.ensures.short;
       prints = told_through _ _ _ whole c.in_ok-_desk.ensures.prints;
       stores = journal_stored c.args.journal held _ _ (held (string_bytes c.args.script)) problem c.in_ok-_desk._desk.journal c.in_ok-_desk._desk.journal (λ text. accepted_of (script_run problem opened text))
           (c.in_ok-lectures.ensures.kept ∙ c.in-Ok.ensures.kept) refl entries (minutes_stored c.args.journal _ _ _ problem c.in_ok-_desk._desk given c.in_ok-_desk.ensures.minutes stores);
@@ -56,4 +64,4 @@ returns-clause-runs g c =
 
 pub returns-clause-cause : goal.returns-clause-cause
 returns-clause-cause g c =
-    unstored_refuses_none c.store_journal.result _ _ (λ _. IsRefusedStart c.args.instance.now (g.F.Files.held c.args.files.now) c.args.start) c.store_journal.ensures.fault
+    IfErr-weaker c.store_journal.result _ _ (λ fault is. unwritten_more fault _ _ _ _ inr (λ why. (inl (inr why.0), c.in_ok-_desk.ensures.unmarked)) is) c.store_journal.ensures.fault

@@ -1,8 +1,12 @@
-use Rattle.std.proofs.Common.{◌∙◌, subst}
+use Rattle.std.proofs.Common.{◌∙◌, inl, subst}
 use Rattle.std.proofs.lemmas.Option.{IfSome_then}
-use Rattle.std.specs.String.{string_bytes}
-use Rattle.ctt_tool.specs.Texts.{IsInstanceText}
-use Rattle.ctt_tool.proofs.Causes.{instance_refused}
+use Rattle.ctt_text.specs.InstanceLaws.{IsCauseOf}
+use Rattle.ctt_tool.specs.Faults.{fault_of_instance}
+use Rattle.ctt_tool.specs.Refusals.{IsNoText, IsOfInstance}
+use Rattle.ctt_tool.specs.Texts.{IsInstanceText, IsNoInstance}
+use Rattle.ctt_tool.proofs.Causes.{no_instance}
+use Rattle.ctt_tool.proofs.Known.{passed_on}
+use Rattle.ctt_tool.proofs.Plain.{of_text}
 use Rattle.ctt_tool.proofs.texts.fetch_alone.Goals as goal
 
 pub returns-clause-spelled : goal.returns-clause-spelled
@@ -12,7 +16,11 @@ returns-clause-spelled g c =
       spells = c.in_ok-read_instance.ensures.spelled;
     }))
 
+pub returns-in_err-text-clause-cause : goal.returns-in_err-text-clause-cause
+returns-in_err-text-clause-cause g c =
+    passed_on c.from_residual.result c.in_err-text.field-0.0 (IsOfInstance (g.F.Files.held c.args.files.now) c.args.name) c.from_residual.ensures.1 (inl c.in_err-text.ensures.cause)
+
 pub returns-in_err-read_instance-clause-cause : goal.returns-in_err-read_instance-clause-cause
 returns-in_err-read_instance-clause-cause g c =
-    instance_refused c.from_residual-in_err-read_instance.result c.in_err-read_instance.field-0.0 (g.F.Files.held c.args.files.now (string_bytes c.args.name)) c.deref.result.now c.in_ok-text.text.items
-    c.from_residual-in_err-read_instance.ensures.1 c.in_err-read_instance.ensures.accepted c.deref.ensures.value c.in_ok-text.ensures.all
+    of_text c.from_residual-in_err-read_instance.result fault_of_instance c.in_err-read_instance.field-0.0 (IsNoText fault_of_instance IsCauseOf IsNoInstance) (g.F.Files.held c.args.files.now) c.args.name c.deref.result.now c.in_ok-text.text.items
+    c.from_residual-in_err-read_instance.ensures.1 (no_instance c.in_err-read_instance.field-0.0 c.deref.result.now c.in_err-read_instance.ensures.fault c.in_err-read_instance.ensures.accepted) c.deref.ensures.value c.in_ok-text.ensures.all

@@ -21,7 +21,7 @@ use Rattle.ctt_script.specs.CallPlaces.{look_form}
 use Rattle.ctt_script.specs.ScriptPlaces.{first_of, step_after, event_after, event_form, own_after, own_form}
 use Rattle.ctt_script.specs.ScriptText.{item_by, item, own_item}
 use Rattle.ctt_text.proofs.FormLaws.{Yields, yields_done, yields_bind}
-use Rattle.ctt_script.proofs.CallFits.{is_below, yields_meaning, yields_any, yields_call_after, yields_look}
+use Rattle.ctt_script.proofs.CallLemmas.{is_below, yields_meaning, yields_any, yields_call_after, yields_look}
 use Rattle.ctt_script.proofs.ScriptLaws.{item_fills}
 
 -- a planner who begins a line is one of 64

@@ -25,7 +25,7 @@ use Rattle.ctt_script.specs.JournalWords.{label}
 use Rattle.ctt_script.specs.ReplyPlaces.{fault_after, fault_form, lecture, lectures, count, amount, costs, reply_after, reply_form}
 use Rattle.ctt_script.specs.JournalPlaces.{asked_form, entry_form, journal_form}
 use Rattle.ctt_text.proofs.FormLaws.{Yields, yields_done, yields_bind, yields_list}
-use Rattle.ctt_script.proofs.CallFits.{when, yields_meaning, yields_any, yields_course, yields_room, yields_slot, yields_below, yields_call}
+use Rattle.ctt_script.proofs.CallLemmas.{when, yields_meaning, yields_any, yields_course, yields_room, yields_slot, yields_below, yields_call}
 
 amount_small : (w : List ℕ) (n : ℕ) → amount_of w ≡ Some n → IsAmount n
 amount_small w n h =

@@ -1,0 +1,120 @@
+-- Why a job is not done: the file in which the fault lies, and what stands in its text.
+use Rattle.std.specs.Prelude.{◌≡◌, ◌⊎◌, ◌<◌, ℕ, List, [], ◌∷◌, Option, Some, None, IfSome, length, Ok, Err}
+use Rattle.std.specs.Global.{Global}
+use Rattle.std.specs.declared.string.String.{String}
+use Rattle.ctt_text.specs.BarredLaws.{IsBarredCauseOf}
+use Rattle.ctt_text.specs.InstanceLaws.{IsCauseOf}
+use Rattle.ctt_text.specs.Problem.{Problem}
+use Rattle.ctt_text.specs.SolutionLaws.{IsSolutionCauseOf}
+use Rattle.ctt_text.specs.declared.placed.Placed.{Placed}
+use Rattle.ctt_edits.specs.Openings.{opening}
+use Rattle.ctt_edits.specs.declared.fault.EditFault.{EditFault}
+use Rattle.ctt_core.specs.declared.journal.JournalEntry.{JournalEntry}
+use Rattle.ctt_script.specs.JournalText.{IsJournalCauseOf}
+use Rattle.ctt_tool.specs.Faults.{IsOpeningFault, fault_of_barred, fault_of_instance, fault_of_journal, fault_of_solution, status_of}
+use Rattle.ctt_tool.specs.Texts.{Held, Holds, IsInstanceIn, IsInstanceText, IsJournalText, IsNoBarred, IsNoInstance, IsNoJournal, IsNoSolution, IsStart, IsUnlawfulStart}
+use Rattle.ctt_tool.specs.declared.fault.Fault.{Fault}
+use Rattle.ctt_tool.specs.declared.fault.Fault.TheVariants.{CannotRead, NoMemory, NoPlace, NoThread, TooLong, TooManyScripts}
+
+-- this file has more bytes than are taken
+abbrev pub IsTooLong : Held → String Global → Fault → Type 0
+IsTooLong held name fault = (fault ≡ TooLong name) × Holds held name (λ text. 67108864 < length text)
+
+-- this file cannot be read, or it is too long, or its bytes find no room
+abbrev pub IsOfFile : Held → String Global → Fault → Type 0
+IsOfFile held name fault = (fault ≡ CannotRead name) ⊎ (IsTooLong held name fault ⊎ (fault ≡ NoMemory))
+
+-- reading the text meets the fault, and where that is no want of memory the text is none of its kind
+pub record IsNoText {E : Type 0} (told : E → Fault) (Meets : List ℕ → E → Type 0) (IsNone : List ℕ → Type 0) (text : List ℕ) (fault : Fault) : Type 0 where
+  pub met : E
+  pub is : fault ≡ told met
+  pub meets : Meets text met
+  pub is_none : status_of fault ≡ 1 → IsNone text
+
+-- of this file, where its bytes are told; or it cannot be read
+abbrev pub IsOfText : (List ℕ → Fault → Type 0) → Held → String Global → Fault → Type 0
+IsOfText IsNo held name fault = IsOfFile held name fault
+    ⊎ ((text : List ℕ) × Holds held name (λ bytes. text ≡ bytes) × IsNo text fault)
+
+-- the fault lies in the instance's file
+abbrev pub IsOfInstance : Held → String Global → Fault → Type 0
+IsOfInstance held name fault = IsOfText (IsNoText fault_of_instance IsCauseOf IsNoInstance) held name fault
+
+-- in the file of the rooms that are barred in the instance that was read, if one is given
+abbrev pub IsOfBarred : Held → Problem → Option (String Global) → Fault → Type 0
+IsOfBarred held read None fault = ⊥
+IsOfBarred held read (Some name) fault = IsOfText (IsNoText fault_of_barred (IsBarredCauseOf read) (IsNoBarred read)) held name fault
+
+-- in one of these two
+abbrev pub IsOfInstanceIn : Held → String Global → Option (String Global) → Fault → Type 0
+IsOfInstanceIn held instance barred fault = IsOfInstance held instance fault
+    ⊎ ((read : Problem) × Holds held instance (λ text. IsInstanceText text read) × IsOfBarred held read barred fault)
+
+-- in one of these two, or, once the instance is read, somewhere else
+abbrev pub IsOfInstanceOr : (Held → Problem → Fault → Type 0) → Held → String Global → Option (String Global) → Fault → Type 0
+IsOfInstanceOr IsOther held instance barred fault = IsOfInstanceIn held instance barred fault
+    ⊎ ((problem : Problem) × IsInstanceIn held instance barred problem × IsOther held problem fault)
+
+-- in a solution's file
+abbrev pub IsOfSolution : String Global → Held → Problem → Fault → Type 0
+IsOfSolution name held problem fault = IsOfText (IsNoText fault_of_solution (IsSolutionCauseOf problem) (IsNoSolution problem)) held name fault
+
+-- in a journal's text, and in a journal's file
+abbrev pub IsNoJournalOf : Problem → List ℕ → Fault → Type 0
+IsNoJournalOf problem text fault = IsNoText fault_of_journal (IsJournalCauseOf problem) (IsNoJournal problem) text fault
+
+abbrev pub IsOfJournal : String Global → Held → Problem → Fault → Type 0
+IsOfJournal name held problem fault = IsOfText (IsNoJournalOf problem) held name fault
+
+-- in the file of the start, if one is given
+abbrev pub IsOfStart : Option (String Global) → Held → Problem → Fault → Type 0
+IsOfStart None held problem fault = ⊥
+IsOfStart (Some name) held problem fault = IsOfSolution name held problem fault
+
+-- or the start cannot be placed
+abbrev pub IsOfOpening : Option (String Global) → Held → Problem → Fault → Type 0
+IsOfOpening start held problem fault = IsOfStart start held problem fault
+    ⊎ ((at : ℕ) × (found : EditFault) × IsUnlawfulStart problem held start at found × IsOpeningFault problem at found fault)
+
+-- why the script in this file, of which these bytes are to be read, is not answered on a desk that opens with these lectures
+abbrev pub IsAnswerFault : Problem → List Placed → String Global → Option (List ℕ) → Fault → Type 0
+IsAnswerFault problem lectures script left fault = ((fault ≡ CannotRead script) ⊎ (fault ≡ NoMemory))
+    ⊎ (((at : ℕ) × (found : EditFault) × (opening problem lectures ≡ Err (at, found)) × IsOpeningFault problem at found fault)
+    ⊎ ((opened : List Placed) × (opening problem lectures ≡ Ok opened) × (fault ≡ TooLong script) × IfSome left (λ text. 67108864 < length text)))
+
+-- in the script's file, which is opened before the start is read, and read behind it; memory may be wanted at any time
+abbrev pub IsOfScript : String Global → Option (String Global) → Held → Problem → Fault → Type 0
+IsOfScript script start held problem fault = ((fault ≡ CannotRead script) ⊎ (fault ≡ NoMemory))
+    ⊎ (IsOfOpening start held problem fault
+    ⊎ ((lectures : List Placed) × IsStart problem held start lectures × ((opened : List Placed) × (opening problem lectures ≡ Ok opened) × IsTooLong held script fault)))
+
+-- in the journal's file, or, where that holds a journal, in the start
+abbrev pub IsOfAudited : String Global → Option (String Global) → Held → Problem → Fault → Type 0
+IsOfAudited journal start held problem fault = IsOfJournal journal held problem fault
+    ⊎ ((entries : List JournalEntry) × Holds held journal (λ text. IsJournalText problem text entries) × IsOfOpening start held problem fault)
+
+-- in one of these files, or memory was wanted
+abbrev pub IsOfFiles : List (String Global) → Held → Fault → Type 0
+IsOfFiles [] held fault = fault ≡ NoMemory
+IsOfFiles (name ∷ names) held fault = IsOfFile held name fault ⊎ IsOfFiles names held fault
+
+-- a planner had no place, or no thread, or memory was wanted
+abbrev pub IsOfWork : Fault → Type 0
+IsOfWork fault = (fault ≡ NoPlace) ⊎ ((fault ≡ NoThread) ⊎ (fault ≡ NoMemory))
+
+-- the fault lies in a script's file, or in the work of the crew
+abbrev pub IsOfScripts : List (String Global) → Held → Problem → Fault → Type 0
+IsOfScripts names held problem fault = IsOfFiles names held fault ⊎ IsOfWork fault
+
+-- why each command is refused; a crew also for more than 64 scripts
+abbrev pub IsOfCheck : Held → String Global → Option (String Global) → String Global → Fault → Type 0
+IsOfCheck held instance barred solution = IsOfInstanceOr (IsOfSolution solution) held instance barred
+
+abbrev pub IsOfRun : Held → String Global → Option (String Global) → String Global → Option (String Global) → Fault → Type 0
+IsOfRun held instance barred script start = IsOfInstanceOr (IsOfScript script start) held instance barred
+
+abbrev pub IsOfAudit : Held → String Global → Option (String Global) → String Global → Option (String Global) → Fault → Type 0
+IsOfAudit held instance barred journal start = IsOfInstanceOr (IsOfAudited journal start) held instance barred
+
+abbrev pub IsOfCrew : Held → String Global → Option (String Global) → List (String Global) → Fault → Type 0
+IsOfCrew held instance barred scripts fault = ((fault ≡ TooManyScripts) × (64 < length scripts)) ⊎ IsOfInstanceOr (IsOfScripts scripts) held instance barred fault
