@@ -269,6 +269,11 @@ impl<'a, 'i, S: Sheet<'i>> Auditor<'a, S> {
         Ok(())
     }
 
+    /// The timetable that the entries leave, where nothing differs.
+    pub fn list(&self) -> Result<Vec<Placed>, NoMemory> {
+        self.sheet.list()
+    }
+
     /// What is found of the entries that have ended.
     pub fn verdict(&self) -> Verdict
         ensures { IsVerdict self.now.problem self.now.lectures self.now.entries result }
@@ -348,4 +353,28 @@ pub fn audit<'i, S: Sheet<'i>>(
     ensures agrees { IfOk result (λ verdict. (t : List Placed) → opening instance.now lectures.now ≡ Ok t → Legal instance.now t entries.now → verdict ≡ Agrees) }
 {
     found_on::<S>(alloc, instance, lectures, entries)
+}
+
+/// What an audit finds of a journal, and the timetable that its entries leave where it agrees.
+pub fn audit_to_list<'i, S: Sheet<'i>>(
+    alloc: Global,
+    instance: &'i Instance,
+    lectures: &[Placed],
+    entries: &[JournalEntry],
+) -> Result<(Verdict, Vec<Placed>), NoMemory>
+    requires lectures { Each (Fits instance.now) lectures.now }
+    requires entries { Each (EntryFits instance.now) entries.now }
+    ensures found { IfOk result (λ x. IsVerdict instance.now lectures.now entries.now x.0) }
+{
+    match Auditor::<S>::open(alloc, instance, lectures) {
+        Ok(mut auditor) => {
+            run_entries(alloc, &mut auditor, entries)?;
+            let list = auditor.list()?;
+            Ok((auditor.verdict(), list))
+        }
+        Err(DeskFault::Unlawful(at, fault)) => {
+            Ok((Verdict::BadOpening(at, fault), Vec::new(alloc)))
+        }
+        Err(DeskFault::NoMemory) => Err(NoMemory),
+    }
 }

@@ -92,7 +92,7 @@ fn read_entry(
 
 /// One more entry.
 #[tactic(auto, using(crate::proofs::JournalSteps::read_one_more))]
-fn read_one_entry(
+pub fn read_one_entry(
     alloc: Global,
     reader: &mut Reader,
     instance: &Instance,

@@ -1,6 +1,6 @@
 //! A planner of a crew, with or without an open draft, and what he is answered.
 
-ghost use Rattle.std.specs.Prelude.{ℕ, ◌≡◌};
+ghost use Rattle.std.specs.Prelude.{ℕ, ◌≡◌, IfErr};
 ghost use Rattle.ctt_edits.specs.Calls.{CallFits};
 ghost use Rattle.ctt_edits.specs.Looks.{LookFits};
 ghost use Rattle.ctt_core.specs.Runs.{EventFits};
@@ -8,13 +8,15 @@ ghost use Rattle.ctt_script.specs.CrewText.{ToldFits, told_unread};
 
 use ctt_board::{Sheet, Timetable};
 use ctt_core::{Answer, Event};
-use ctt_desk::{Drafting, Naming, Planner, RefreshRefusal, Refusal, SharedDesk, SharedFault};
+use ctt_desk::{
+    Drafting, Naming, Planner, Receipt, RefreshRefusal, Refusal, SharedDesk, SharedFault,
+};
 use ctt_edits::{Call, Look};
 use std::sync::Wait;
 
 /// A planner at work.
 #[derive(Drop)]
-pub(crate) enum Seat<'i, S: Timetable, J: Naming> {
+pub enum Seat<'i, S: Timetable, J: Naming> {
     /// No draft is open.
     Free(Planner<S, J>),
     /// A draft is open.
@@ -23,7 +25,7 @@ pub(crate) enum Seat<'i, S: Timetable, J: Naming> {
 
 /// What a planner of a crew is answered.
 #[derive(Drop)]
-pub(crate) enum Told {
+pub enum Told {
     /// As by a desk for one thread.
     Answer(Answer),
     /// He has seen more drafts than the desk has, namely this many; or it has another number of his drafts
@@ -61,7 +63,7 @@ impl<'i, S: Sheet<'i>, J: Naming> Seat<'i, S, J> {
     }
 
     /// Makes a call in the draft. Of all that a line may ask for, this is the most frequent; it moves no seat.
-    pub(crate) fn ask(&mut self, call: Call) -> Told
+    pub fn ask(&mut self, call: Call) -> Told
         requires { CallFits J.problem call }
         ensures { ToldFits J.problem result }
     {
@@ -74,27 +76,39 @@ impl<'i, S: Sheet<'i>, J: Naming> Seat<'i, S, J> {
         }
     }
 
+    /// Commits the draft, and gives the receipt where it is accepted.
+    pub fn commit_for_receipt<R: Wait>(
+        self,
+        rt: &R,
+        desk: &SharedDesk<S, J>,
+    ) -> (Self, Result<Receipt<J>, Told>)
+        ensures { IfErr result.1 (ToldFits J.problem) }
+    {
+        match self {
+            Seat::Free(planner) => (Seat::Free(planner), Err(Told::Answer(Answer::NoDraft))),
+            Seat::Drafting(drafting) => match drafting.commit(rt, desk) {
+                Ok((planner, receipt)) => (Seat::Free(planner), Ok(receipt)),
+                Err(Refusal::Stale(planner, row)) => {
+                    (Seat::Free(planner), Err(Told::Answer(Answer::Stale(row))))
+                }
+                Err(Refusal::NotYours(planner, count)) => {
+                    (Seat::Free(planner), Err(Told::NotYours(count)))
+                }
+                Err(Refusal::NoMemory(drafting)) => {
+                    (Seat::Drafting(drafting), Err(Told::Answer(Answer::NoMemory)))
+                }
+            },
+        }
+    }
+
     /// Commits the draft.
     fn commit<R: Wait>(self, rt: &R, desk: &SharedDesk<S, J>) -> (Self, Told)
         ensures { ToldFits J.problem result.1 }
     {
-        match self {
-            Seat::Free(planner) => (Seat::Free(planner), Told::Answer(Answer::NoDraft)),
-            Seat::Drafting(drafting) => match drafting.commit(rt, desk) {
-                Ok((planner, receipt)) => {
-                    let number = receipt.number();
-                    (Seat::Free(planner), Told::Answer(Answer::Committed(number)))
-                }
-                Err(Refusal::Stale(planner, row)) => {
-                    (Seat::Free(planner), Told::Answer(Answer::Stale(row)))
-                }
-                Err(Refusal::NotYours(planner, count)) => {
-                    (Seat::Free(planner), Told::NotYours(count))
-                }
-                Err(Refusal::NoMemory(drafting)) => {
-                    (Seat::Drafting(drafting), Told::Answer(Answer::NoMemory))
-                }
-            },
+        let (seat, outcome) = self.commit_for_receipt(rt, desk);
+        match outcome {
+            Ok(receipt) => (seat, Told::Answer(Answer::Committed(receipt.number()))),
+            Err(told) => (seat, told),
         }
     }
 
@@ -154,7 +168,7 @@ impl<'i, S: Sheet<'i>, J: Naming> Seat<'i, S, J> {
     }
 
     /// Does what a line asks for. The planner goes on from where that leaves him.
-    pub(crate) fn take<R: Wait>(self, rt: &R, desk: &SharedDesk<S, J>, event: Event) -> (Self, Told)
+    pub fn take<R: Wait>(self, rt: &R, desk: &SharedDesk<S, J>, event: Event) -> (Self, Told)
         requires { (n : ℕ) × EventFits J.problem n event }
         ensures { ToldFits J.problem result.1 }
     {

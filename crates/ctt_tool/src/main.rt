@@ -4,9 +4,13 @@
 mod audit;
 mod check;
 mod crew;
+mod desk;
 mod fault;
 mod files;
 mod job;
+mod journal;
+mod list;
+mod office;
 mod opening;
 mod outcome;
 mod output;
@@ -23,6 +27,7 @@ ghost use Rattle.ctt_tool.specs.declared.outcome.Outcome.TheVariants.{Differs, D
 use ctt_script::{Device, Sink};
 use fault::Fault;
 use files::{Files, SystemFiles};
+use office::{Office, SystemOffice};
 use program::{fail_with, program};
 use std::alloc::AllocError;
 use std::marker::Sync;
@@ -44,9 +49,10 @@ fn owned_words<R: Env + AllocGlobal>(rt: &R) -> Result<Vec<String>, Fault>
 }
 
 /// Does what the words of the command line ask for, as `program` does.
-fn serve<R: Env + AllocGlobal + Threads + Wait + Sync, F: Files, W: Sink, V: Sink>(
+fn serve<R: Env + AllocGlobal + Threads + Wait + Sync, F: Files, O: Office, W: Sink, V: Sink>(
     rt: &R,
     files: &mut F,
+    office: &O,
     out: &mut W,
     err: &mut V,
 ) -> u8
@@ -80,12 +86,13 @@ fn serve<R: Env + AllocGlobal + Threads + Wait + Sync, F: Files, W: Sink, V: Sin
     let Ok(words) = words else {
         return fail_with(rt.alloc(), &Fault::NoMemory, err);
     };
-    program(rt, &words, files, out, err)
+    program(rt, &words, files, office, out, err)
 }
 
 fn main(rt: HostRuntime) -> ExitCode {
     let mut files = SystemFiles::new(&rt);
     let mut out = Device::new(rt.stdout());
     let mut err = Device::new(rt.stderr());
-    ExitCode::from(serve(&rt, &mut files, &mut out, &mut err))
+    let office = SystemOffice::new(&rt, rt.alloc(), rt.stdin(), rt.stdout());
+    ExitCode::from(serve(&rt, &mut files, &office, &mut out, &mut err))
 }

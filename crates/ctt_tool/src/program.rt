@@ -10,9 +10,13 @@ ghost use Rattle.ctt_tool.specs.declared.outcome.Outcome.TheVariants.{Differs, D
 use crate::audit::audit;
 use crate::check::check;
 use crate::crew::crew;
+use crate::desk::desk;
 use crate::fault::{Fault, NO_MEMORY};
 use crate::files::Files;
 use crate::job::{Job, WordsFault, read_words};
+use crate::journal::journal;
+use crate::list::list;
+use crate::office::Office;
 use crate::outcome::Outcome;
 use crate::output::{complain, print};
 use crate::run::run;
@@ -23,12 +27,14 @@ use std::sync::Wait;
 use std::thread::Threads;
 
 /// Does a job.
-fn do_job<R: Threads + Wait + Sync, F: Files, W: Sink>(
+fn do_job<R: Threads + Wait + Sync, F: Files, O: Office, W: Sink, V: Sink>(
     rt: &R,
     alloc: Global,
     job: Job,
     files: &mut F,
+    office: &O,
     out: &mut W,
+    err: &mut V,
 ) -> Result<Outcome, Fault>
     requires { HasScripts job }
     ensures done { IfOk result (λ outcome. DoesJob job outcome (F.held files.old) (F.held files.new)
@@ -78,16 +84,44 @@ fn do_job<R: Threads + Wait + Sync, F: Files, W: Sink>(
             crew(rt, alloc, files, out, instance, barred, scripts)?;
             Ok(Outcome::Done)
         }
+        Job::Desk {
+            instance,
+            barred,
+            seats,
+            start,
+            minutes,
+        } => {
+            desk(
+                rt, alloc, files, office, out, err, instance, barred, seats, start, minutes,
+            )?;
+            Ok(Outcome::Done)
+        }
+        Job::Journal {
+            instance,
+            barred,
+            minutes,
+        } => {
+            journal(alloc, files, out, err, instance, barred, minutes)?;
+            Ok(Outcome::Done)
+        }
+        Job::List {
+            instance,
+            barred,
+            journal,
+            start,
+        } => list(alloc, files, out, instance, barred, journal, start),
     }
 }
 
 /// Does the job that the words ask for, or gives help.
-fn do_as_asked<R: Threads + Wait + Sync, F: Files, W: Sink>(
+fn do_as_asked<R: Threads + Wait + Sync, F: Files, O: Office, W: Sink, V: Sink>(
     rt: &R,
     alloc: Global,
     words: &[&str],
     files: &mut F,
+    office: &O,
     out: &mut W,
+    err: &mut V,
 ) -> Result<Outcome, Fault>
     ensures done { IfOk result (λ outcome. DoesAsAsked (map (λ word. word.now) words.now) outcome
         (F.held files.old) (F.held files.new) (W.taken out.old) (W.taken out.new)) }
@@ -108,7 +142,7 @@ fn do_as_asked<R: Threads + Wait + Sync, F: Files, W: Sink>(
         (W.has_failed out.new)) }
 {
     match read_words(alloc, words) {
-        Ok(job) => do_job(rt, alloc, job, files, out),
+        Ok(job) => do_job(rt, alloc, job, files, office, out, err),
         Err(WordsFault::Help(text)) => {
             print(out, text.as_bytes())?;
             Ok(Outcome::Done)
@@ -143,10 +177,11 @@ pub fn fail_with<V: Sink>(alloc: Global, fault: &Fault, err: &mut V) -> u8
 /// status with which to end: 0 where it was done, 1 where a text is refused or an audit does not agree,
 /// 2 where the words are refused, or ask for too many scripts, and 3 where the machine failed. Answers go to `out`, and why a job was
 /// not done to `err`.
-pub fn program<R: AllocGlobal + Threads + Wait + Sync, F: Files, W: Sink, V: Sink>(
+pub fn program<R: AllocGlobal + Threads + Wait + Sync, F: Files, O: Office, W: Sink, V: Sink>(
     rt: &R,
     words: &[&str],
     files: &mut F,
+    office: &O,
     out: &mut W,
     err: &mut V,
 ) -> u8
@@ -178,7 +213,7 @@ pub fn program<R: AllocGlobal + Threads + Wait + Sync, F: Files, W: Sink, V: Sin
         × AsksToStore (map (λ word. word.now) words.now))) }
 {
     let alloc = rt.alloc();
-    match do_as_asked(rt, alloc, words, files, out) {
+    match do_as_asked(rt, alloc, words, files, office, out, err) {
         Ok(outcome) => outcome.status(),
         Err(fault) => fail_with(alloc, &fault, err),
     }

@@ -1,0 +1,140 @@
+//! The command `desk`.
+
+use crate::fault::Fault;
+use crate::files::Files;
+use crate::office::{Office, STANDARD};
+use crate::opening::refused_opening;
+use crate::output::print;
+use crate::texts::{fetch_instance, fetch_start};
+use ctt_core::PlannerNo;
+use ctt_office::{OfficeFault, keep_desk};
+use ctt_script::Sink;
+use ctt_text::{Instance, let_go};
+use std::alloc::{AllocError, Global};
+use std::marker::Sync;
+use std::sync::Wait;
+use std::thread::Threads;
+
+/// The most seats that a desk may have.
+const SEAT_LIMIT: usize = 64;
+
+/// Whether a seat is given again.
+fn is_repeated(seats: &[String]) -> bool {
+    for (at, seat) in seats.iter().enumerate() {
+        for other in &seats[..at] {
+            if seat.as_str() == other.as_str() {
+                return true;
+            }
+        }
+    }
+    false
+}
+
+/// Whether standard input and standard output are a seat.
+fn has_standard(seats: &[String]) -> bool {
+    seats.iter().any(|seat| seat.as_str() == STANDARD)
+}
+
+/// The name of the file from which a planner's lines come.
+fn input_name(alloc: Global, seats: &[String], planner: PlannerNo) -> Result<String, AllocError> {
+    let mut name = String::new(alloc);
+    if let Some(seat) = seats.get(planner.get() as usize) {
+        name.push_str(seat.as_str())?;
+        name.push_str(".in")?;
+    }
+    Ok(name)
+}
+
+/// The fault of a desk with these seats.
+fn fault_of_office(
+    alloc: Global,
+    instance: &Instance,
+    seats: &[String],
+    fault: OfficeFault,
+) -> Fault {
+    match fault {
+        OfficeFault::Unlawful(at, fault) => refused_opening(alloc, instance, at, &fault),
+        OfficeFault::NoPlace => Fault::NoPlace,
+        OfficeFault::NoThread(_) => Fault::NoThread,
+        OfficeFault::CannotRead(planner) => match input_name(alloc, seats, planner) {
+            Ok(name) => Fault::CannotRead(name),
+            Err(_) => Fault::NoMemory,
+        },
+        OfficeFault::CannotWrite(_) | OfficeFault::NotWritten => Fault::CannotWrite,
+        OfficeFault::NoMemory => Fault::NoMemory,
+    }
+}
+
+/// Where minutes are written, where a file is given for them.
+fn minutes_in<O: Office>(
+    office: &O,
+    minutes: Option<String>,
+) -> Result<Option<O::Minutes>, Fault> {
+    let Some(name) = minutes else {
+        return Ok(None);
+    };
+    match office.open_minutes(&name) {
+        Ok(writer) => Ok(Some(writer)),
+        Err(_) => Err(Fault::CannotWrite),
+    }
+}
+
+/// Keeps a desk of the instance until all have left, and gives the last lines.
+fn keep<R: Threads + Wait + Sync, F: Files, O: Office>(
+    rt: &R,
+    alloc: Global,
+    files: &mut F,
+    office: &O,
+    instance: &Instance,
+    seats: &[String],
+    start: Option<String>,
+    minutes: Option<String>,
+) -> Result<Vec<u8>, Fault> {
+    let lectures = fetch_start(alloc, files, instance, start)?;
+    let writer = minutes_in(office, minutes)?;
+    match keep_desk(rt, alloc, instance, &lectures, seats, office, writer) {
+        Ok(text) => Ok(text),
+        Err(fault) => Err(fault_of_office(alloc, instance, seats, fault)),
+    }
+}
+
+/// Whether the minutes' file has bytes already.
+fn check_minutes<O: Office>(office: &O, minutes: &Option<String>) -> bool {
+    match minutes {
+        Some(name) => office.has_bytes(name),
+        None => false,
+    }
+}
+
+/// Keeps a desk of an instance with these seats until all planners have left, and prints how many drafts were accepted
+/// and what all costs: on standard output, unless that is a seat, and then on standard error. Nothing is opened where the
+/// file of the minutes has bytes.
+pub fn desk<R: Threads + Wait + Sync, F: Files, O: Office, W: Sink, V: Sink>(
+    rt: &R,
+    alloc: Global,
+    files: &mut F,
+    office: &O,
+    out: &mut W,
+    err: &mut V,
+    instance: String,
+    barred: Option<String>,
+    seats: Vec<String>,
+    start: Option<String>,
+    minutes: Option<String>,
+) -> Result<(), Fault> {
+    if seats.len() > SEAT_LIMIT || is_repeated(&seats) {
+        return Err(Fault::BadSeats);
+    }
+    if check_minutes(office, &minutes) {
+        return Err(Fault::MinutesExist(minutes.unwrap()));
+    }
+    let instance = fetch_instance(alloc, files, instance, barred)?;
+    let kept = keep(rt, alloc, files, office, &instance, &seats, start, minutes);
+    let_go(instance);
+    let text = kept?;
+    if has_standard(&seats) {
+        print(err, &text)
+    } else {
+        print(out, &text)
+    }
+}

@@ -1,0 +1,52 @@
+//! The command `journal`.
+
+use crate::fault::Fault;
+use crate::files::{Files, read_file};
+use crate::output::{complain, print};
+use crate::texts::fetch_instance;
+use ctt_office::read_blocks;
+use ctt_script::{Sink, write_journal};
+use ctt_text::{Instance, let_go};
+use std::alloc::Global;
+
+/// Says at which byte an entry begins that is not whole.
+fn say_torn<V: Sink>(alloc: Global, err: &mut V, torn: Option<usize>) -> Result<(), Fault> {
+    if let Some(at) = torn {
+        let line = format!(in alloc; "timedesk: torn at byte {at}\n")?;
+        complain(err, line.as_bytes());
+    }
+    Ok(())
+}
+
+/// Prints the journal of the whole entries at the beginning of minutes.
+fn print_journal<F: Files, W: Sink, V: Sink>(
+    alloc: Global,
+    files: &mut F,
+    out: &mut W,
+    err: &mut V,
+    instance: &Instance,
+    minutes: String,
+) -> Result<(), Fault> {
+    let text = read_file(alloc, files, minutes)?;
+    let blocks = read_blocks(alloc, instance, &text)?;
+    let journal = write_journal(alloc, instance, &blocks.entries)?;
+    print(out, &journal)?;
+    say_torn(alloc, err, blocks.torn)
+}
+
+/// Prints the journal of minutes of an instance, each given by the name of its file. A last entry that is torn is left
+/// out, and said on standard error.
+pub fn journal<F: Files, W: Sink, V: Sink>(
+    alloc: Global,
+    files: &mut F,
+    out: &mut W,
+    err: &mut V,
+    instance: String,
+    barred: Option<String>,
+    minutes: String,
+) -> Result<(), Fault> {
+    let instance = fetch_instance(alloc, files, instance, barred)?;
+    let printed = print_journal(alloc, files, out, err, &instance, minutes);
+    let_go(instance);
+    printed
+}

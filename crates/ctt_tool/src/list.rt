@@ -1,0 +1,51 @@
+//! The command `list`.
+
+use crate::audit::print_verdict;
+use crate::fault::Fault;
+use crate::files::{Files, read_file};
+use crate::outcome::Outcome;
+use crate::output::print;
+use crate::texts::{fetch_instance, fetch_start};
+use ctt_board::{GridSheet, Sheet};
+use ctt_core::{Verdict, audit_to_list};
+use ctt_script::{Sink, read_journal};
+use ctt_text::{Instance, let_go, write_solution};
+use std::alloc::Global;
+
+/// Prints the timetable after a journal on this kind of sheet, or what else the audit finds.
+fn list_on<'i, S: Sheet<'i>, F: Files, W: Sink>(
+    alloc: Global,
+    files: &mut F,
+    out: &mut W,
+    instance: &'i Instance,
+    journal: String,
+    start: Option<String>,
+) -> Result<Outcome, Fault> {
+    let text = read_file(alloc, files, journal)?;
+    let entries = read_journal(alloc, instance, &text)?;
+    let lectures = fetch_start(alloc, files, instance, start)?;
+    let (verdict, list) = audit_to_list::<S>(alloc, instance, &lectures, &entries)?;
+    if let Verdict::Agrees = verdict {
+        let solution = write_solution(alloc, instance, &list)?;
+        print(out, &solution)?;
+        return Ok(Outcome::Done);
+    }
+    print_verdict(alloc, out, instance, verdict)
+}
+
+/// Prints the timetable after a journal of an instance as a solution, where the audit agrees. Each text is given by the
+/// name of its file.
+pub fn list<F: Files, W: Sink>(
+    alloc: Global,
+    files: &mut F,
+    out: &mut W,
+    instance: String,
+    barred: Option<String>,
+    journal: String,
+    start: Option<String>,
+) -> Result<Outcome, Fault> {
+    let instance = fetch_instance(alloc, files, instance, barred)?;
+    let listed = list_on::<GridSheet, F, W>(alloc, files, out, &instance, journal, start);
+    let_go(instance);
+    listed
+}
