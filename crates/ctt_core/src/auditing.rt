@@ -14,8 +14,9 @@ ghost use Rattle.ctt_draft.specs.Drafts.{after_call};
 ghost use Rattle.ctt_core.specs.Entries.{EntryFits};
 ghost use Rattle.ctt_core.specs.Runs.{Legal};
 ghost use Rattle.ctt_core.specs.Auditors.{IsToldHere, with_heard};
-ghost use Rattle.ctt_core.specs.Audits.{IsVerdict, found_more};
+ghost use Rattle.ctt_core.specs.Audits.{IsNoList, IsVerdict, LeavesList, found_more};
 ghost use Rattle.ctt_core.specs.Openings.{IsOpeningFault};
+ghost use Rattle.ctt_core.specs.declared.auditing.NoList.TheVariants.{NoMemory as OutOfMemory};
 ghost use Rattle.ctt_core.specs.declared.auditing.Verdict.TheVariants.{Agrees};
 
 use crate::desk_fault::DeskFault;
@@ -39,6 +40,23 @@ pub enum Verdict {
     BadOpening(u64, EditFault),
     /// The first reply that is another one: its entry, and its call within the entry, counted from 1.
     Differs(u64, u64),
+}
+
+/// Why a journal leaves no timetable.
+#[derive(Clone, Copy, PartialEq, Eq)]
+pub enum NoList {
+    /// An audit finds this of it.
+    Found(Verdict),
+    /// There is not enough memory.
+    NoMemory,
+}
+
+impl From<NoMemory> for NoList {
+    ghost from_gives = { λ _ none. none ≡ OutOfMemory };
+
+    fn from(_error: NoMemory) -> NoList {
+        NoList::NoMemory
+    }
 }
 
 /// Makes an edit, if nothing stands against it, and answers as a planner is told.
@@ -269,9 +287,17 @@ impl<'a, 'i, S: Sheet<'i>> Auditor<'a, S> {
         Ok(())
     }
 
-    /// The timetable that the entries leave, where nothing differs.
-    pub fn list(&self) -> Result<Vec<Placed>, NoMemory> {
-        self.sheet.list()
+    /// The timetable that the entries leave that have ended, where each was told what it is told; else what is found.
+    pub fn list(&self) -> Result<Vec<Placed>, NoList>
+        requires asked { self.now.asked ≡ [] }
+        requires ready { self.now.made ≡ None }
+        ensures list { IfOk result (λ list. LeavesList self.now.problem self.now.lectures self.now.entries list.items) }
+        ensures none { IfErr result (IsNoList self.now.problem self.now.lectures self.now.entries) }
+    {
+        match self.found {
+            Verdict::Agrees => Ok(self.sheet.list()?),
+            found => Err(NoList::Found(found)),
+        }
     }
 
     /// What is found of the entries that have ended.
@@ -355,26 +381,27 @@ pub fn audit<'i, S: Sheet<'i>>(
     found_on::<S>(alloc, instance, lectures, entries)
 }
 
-/// What an audit finds of a journal, and the timetable that its entries leave where it agrees.
-pub fn audit_to_list<'i, S: Sheet<'i>>(
+/// The timetable that a journal leaves on the opening with these lectures, where it tells what its drafts are told; else
+/// what an audit finds.
+pub fn list_after<'i, S: Sheet<'i>>(
     alloc: Global,
     instance: &'i Instance,
     lectures: &[Placed],
     entries: &[JournalEntry],
-) -> Result<(Verdict, Vec<Placed>), NoMemory>
+) -> Result<Vec<Placed>, NoList>
     requires lectures { Each (Fits instance.now) lectures.now }
     requires entries { Each (EntryFits instance.now) entries.now }
-    ensures found { IfOk result (λ x. IsVerdict instance.now lectures.now entries.now x.0) }
+    ensures list { IfOk result (λ list. LeavesList instance.now lectures.now entries.now list.items) }
+    ensures none { IfErr result (IsNoList instance.now lectures.now entries.now) }
 {
     match Auditor::<S>::open(alloc, instance, lectures) {
         Ok(mut auditor) => {
             run_entries(alloc, &mut auditor, entries)?;
-            let list = auditor.list()?;
-            Ok((auditor.verdict(), list))
+            auditor.list()
         }
         Err(DeskFault::Unlawful(at, fault)) => {
-            Ok((Verdict::BadOpening(at, fault), Vec::new(alloc)))
+            Err(NoList::Found(Verdict::BadOpening(at, fault)))
         }
-        Err(DeskFault::NoMemory) => Err(NoMemory),
+        Err(DeskFault::NoMemory) => Err(NoList::NoMemory),
     }
 }

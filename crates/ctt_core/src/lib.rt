@@ -13,7 +13,7 @@ mod planner;
 mod stock;
 
 pub use answer::Answer;
-pub use auditing::{Auditor, Verdict, audit, audit_to_list};
+pub use auditing::{Auditor, NoList, Verdict, audit, list_after};
 pub use desk::Desk;
 pub use desk_fault::DeskFault;
 pub use event::Event;

@@ -15,7 +15,7 @@ use std::sync::Wait;
 /// Who answers the lines of a planner's seat, at a desk of the instance, and enters his accepted drafts into the book,
 /// if one is kept.
 #[derive(Drop)]
-pub(crate) struct Clerk<'i, 'x, J: Naming, W: Durable + Drop> {
+pub(crate) struct Clerk<'i, 'x, J: Naming, W: Durable> {
     pub(crate) alloc: Global,
     pub(crate) instance: &'i Instance,
     pub(crate) planner: PlannerNo,
@@ -51,7 +51,7 @@ fn write_not_written(text: &mut String) -> Result<(), AllocError> {
 }
 
 /// Enters an accepted draft into the minutes, and adds the line of the answer.
-fn enter<J: Naming, R: Wait, W: Durable + Drop>(
+fn enter<J: Naming, R: Wait, W: Durable>(
     rt: &R,
     instance: &Instance,
     book: &Book<W>,
@@ -66,7 +66,7 @@ fn enter<J: Naming, R: Wait, W: Durable + Drop>(
     }
 }
 
-impl<'i, 'x, J: Naming, W: Durable + Drop> Clerk<'i, 'x, J, W> {
+impl<'i, 'x, J: Naming, W: Durable> Clerk<'i, 'x, J, W> {
     /// The entry of a draft, and room for the line of the answer: behind an accepted commit no memory is asked for.
     fn entry_of(&self, notes: &Notes, text: &mut String) -> Result<String, NoMemory> {
         let mut entry = String::new(self.alloc);

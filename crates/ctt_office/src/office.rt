@@ -52,7 +52,7 @@ fn sit_at_once<
     'x,
     J: Naming + Send + Sync,
     D: Doors,
-    W: Durable + Drop + Send,
+    W: Durable + Send,
     R: Threads + Wait + Sync,
 >(
     rt: &R,
@@ -84,7 +84,7 @@ fn sit_at_once<
 }
 
 /// The planners, each with his seat.
-fn stations<'i, 'x, P: Drop, J: Naming, D: Doors, W: Durable + Drop>(
+fn stations<'i, 'x, P: Drop, J: Naming, D: Doors, W: Durable>(
     alloc: Global,
     instance: &'i Instance,
     planners: Vec<P>,
@@ -158,7 +158,7 @@ fn close<S: Timetable, J: Naming, R: Wait>(
 }
 
 /// That the minutes are written to their end, if they are kept.
-fn checked<W: Durable + Drop, R: Wait>(
+fn checked<W: Durable, R: Wait>(
     rt: &R,
     book: Option<&Book<W>>,
     ended: Result<(), OfficeFault>,
@@ -175,7 +175,7 @@ fn keep_named<
     'i,
     J: Naming + Send + Sync,
     D: Doors,
-    W: Durable + Drop + Send,
+    W: Durable + Send,
     R: Threads + Wait + Sync,
 >(
     rt: &R,
@@ -217,7 +217,7 @@ fn opening<'i, S: Sheet<'i>>(
 pub fn keep_desk<
     'i,
     D: Doors,
-    W: Durable + Drop + Send,
+    W: Durable + Send,
     R: Threads + Wait + Sync,
 >(
     rt: &R,

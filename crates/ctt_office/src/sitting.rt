@@ -24,7 +24,7 @@ fn say<O: Sink>(out: &mut O, text: &str) -> Result<(), Failed> {
 }
 
 /// What the next line asks for; to leave, where none comes any more.
-fn next_line<'i, 'x, J: Naming, I: Source, W: Durable + Drop, R: Wait>(
+fn next_line<'i, 'x, J: Naming, I: Source, W: Durable, R: Wait>(
     rt: &R,
     clerk: &Clerk<'i, 'x, J, W>,
     lines: &mut LineReader<I>,
@@ -39,7 +39,7 @@ fn next_line<'i, 'x, J: Naming, I: Source, W: Durable + Drop, R: Wait>(
 
 /// Answers the lines of a planner until he leaves, or they end, or one of his devices fails. An open draft is then given
 /// up.
-fn sit<'i, 'x, S: Sheet<'i>, J: Naming, I: Source + Drop, O: Sink, W: Durable + Drop, R: Wait>(
+fn sit<'i, 'x, S: Sheet<'i>, J: Naming, I: Source + Drop, O: Sink, W: Durable, R: Wait>(
     rt: &R,
     clerk: &Clerk<'i, 'x, J, W>,
     desk: &SharedDesk<S, J>,
@@ -72,14 +72,14 @@ fn sit<'i, 'x, S: Sheet<'i>, J: Naming, I: Source + Drop, O: Sink, W: Durable + 
 
 /// A seat, of which nothing is open yet, and who answers there.
 #[derive(Drop)]
-pub(crate) struct Station<'i, 'x, J: Naming, D: Doors, W: Durable + Drop> {
+pub(crate) struct Station<'i, 'x, J: Naming, D: Doors, W: Durable> {
     pub(crate) clerk: Clerk<'i, 'x, J, W>,
     pub(crate) doors: &'x D,
     pub(crate) name: &'x str,
 }
 
 /// Opens the devices of a seat, and answers the planner's lines.
-fn open_and_sit<'i, 'x, S: Sheet<'i>, J: Naming, D: Doors, W: Durable + Drop, R: Wait>(
+fn open_and_sit<'i, 'x, S: Sheet<'i>, J: Naming, D: Doors, W: Durable, R: Wait>(
     station: Station<'i, 'x, J, D, W>,
     rt: &R,
     desk: &SharedDesk<S, J>,
@@ -101,14 +101,14 @@ fn open_and_sit<'i, 'x, S: Sheet<'i>, J: Naming, D: Doors, W: Durable + Drop, R:
 /// A planner with his seat, at the desk that he shares, over a grid sheet. It names the instance's lifetime once, as what
 /// goes to a thread has to.
 #[derive(Drop)]
-pub(crate) struct GridStation<'i, 'x, J: Naming, D: Doors, W: Durable + Drop> {
+pub(crate) struct GridStation<'i, 'x, J: Naming, D: Doors, W: Durable> {
     pub(crate) desk: &'x SharedDesk<GridSheet<'i>, J>,
     pub(crate) planner: Planner<GridSheet<'i>, J>,
     pub(crate) station: Station<'i, 'x, J, D, W>,
 }
 
 /// Does what a planner's seat asks for, over a grid sheet.
-pub(crate) fn sit_on_grid<'i, 'x, J: Naming, D: Doors, W: Durable + Drop, R: Wait>(
+pub(crate) fn sit_on_grid<'i, 'x, J: Naming, D: Doors, W: Durable, R: Wait>(
     work: GridStation<'i, 'x, J, D, W>,
     rt: &R,
 ) -> Result<(), OfficeFault> {

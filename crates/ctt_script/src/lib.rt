@@ -42,7 +42,7 @@ pub use gate::{Gate, NoGate};
 pub use input::{InputFault, read_all};
 pub use journal::{read_journal, read_one_entry};
 pub use journal_fault::JournalFault;
-pub use lines::Lines;
+pub use lines::{Lines, line_end};
 pub use minutes::{Minutes, Notes};
 pub use replies::read_reply;
 pub use report::{report_json, report_text};

@@ -7,7 +7,7 @@ use crate::outcome::Outcome;
 use crate::output::print;
 use crate::texts::{fetch_instance, fetch_start};
 use ctt_board::{GridSheet, Sheet};
-use ctt_core::{Verdict, audit_to_list};
+use ctt_core::{NoList, list_after};
 use ctt_script::{Sink, read_journal};
 use ctt_text::{Instance, let_go, write_solution};
 use std::alloc::Global;
@@ -24,13 +24,15 @@ fn list_on<'i, S: Sheet<'i>, F: Files, W: Sink>(
     let text = read_file(alloc, files, journal)?;
     let entries = read_journal(alloc, instance, &text)?;
     let lectures = fetch_start(alloc, files, instance, start)?;
-    let (verdict, list) = audit_to_list::<S>(alloc, instance, &lectures, &entries)?;
-    if let Verdict::Agrees = verdict {
-        let solution = write_solution(alloc, instance, &list)?;
-        print(out, &solution)?;
-        return Ok(Outcome::Done);
+    match list_after::<S>(alloc, instance, &lectures, &entries) {
+        Ok(list) => {
+            let solution = write_solution(alloc, instance, &list)?;
+            print(out, &solution)?;
+            Ok(Outcome::Done)
+        }
+        Err(NoList::Found(verdict)) => print_verdict(alloc, out, instance, verdict),
+        Err(NoList::NoMemory) => Err(Fault::NoMemory),
     }
-    print_verdict(alloc, out, instance, verdict)
 }
 
 /// Prints the timetable after a journal of an instance as a solution, where the audit agrees. Each text is given by the
