@@ -294,6 +294,7 @@ impl<'a, 'i, S: Sheet<'i>> Auditor<'a, S> {
         ensures list { IfOk result (λ list. LeavesList self.now.problem self.now.lectures self.now.entries list.items) }
         ensures none { IfErr result (IsNoList self.now.problem self.now.lectures self.now.entries) }
     {
+        self.sheet.lawful();
         match self.found {
             Verdict::Agrees => Ok(self.sheet.list()?),
             found => Err(NoList::Found(found)),

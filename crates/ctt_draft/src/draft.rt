@@ -414,7 +414,8 @@ impl<'i, S: Sheet<'i>, K: Keeping> Draft<'i, S, K> {
 impl<'i, S: Sheet<'i>> Draft<'i, S, KeepAll> {
     /// The calls with their replies, in order.
     pub fn asked(&self) -> &[Asked]
-        ensures { result.now ≡ self.now.asked }
+        ensures asked { result.now ≡ self.now.asked }
+        ensures told { IsTold self.now.problem self.now.base self.now.asked }
     {
         self.asked.as_slice()
     }

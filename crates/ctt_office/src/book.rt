@@ -1,11 +1,13 @@
 //! The book of minutes: the accepted drafts, in the order of their commits, on a writer whose bytes stay.
 
-ghost use Rattle.std.specs.Prelude.{◌≡◌, ◌+◌, ◌<◌, true, false, OnOk};
+ghost use Rattle.std.specs.Prelude.{◌≡◌, ◌+◌, ◌<◌, [], length, true, false, IsTrue, IfSome, OnOk};
 ghost use Rattle.std.specs.Io.KnownBytes.{Appends};
-ghost use Rattle.ctt_office.specs.Pages.{IsEntered, Stays};
+ghost use mathlib.Core.List.{IsPrefix};
+ghost use Rattle.ctt_office.specs.Pages.{AreMinutesOf, EndsWith, IsEntered, Stays, seen};
 ghost use Rattle.ctt_office.specs.declared.book.Attempt.TheVariants.{Entered, Failed as NotEntered, NotYet};
 
 use crate::durable::Durable;
+use ctt_desk::{Naming, Receipt};
 use ctt_script::{Failed, put_all};
 use std::marker::Model;
 use std::sync::{Condvar, Mutex, MutexGuard, Wait};
@@ -21,21 +23,24 @@ pub enum Attempt {
     Failed,
 }
 
-/// The pages of the book: a writer, and how many entries it has taken that stay.
+/// The pages of the book: a writer, and the last draft that it has taken so that it stays.
 #[derive(Drop)]
-pub struct Pages<W: Durable> {
+pub struct Pages<W: Durable, J: Naming> {
     writer: W,
-    written: u64,
+    last: Option<Receipt<J>>,
     /// Whether an entry could not be written. None is written behind it.
     failed: bool,
 }
 
-impl<W: Durable> Model for Pages<W> {
-    ghost use Rattle.ctt_office.specs.Pages.{PagesValue};
+impl<W: Durable, J: Naming> Model for Pages<W, J> {
+    ghost use Rattle.std.specs.Prelude.{◌≡◌, false};
+    ghost use Rattle.ctt_office.specs.Pages.{AreMinutesOf, PagesValue, seen};
 
     ghost Value = { PagesValue };
 
-    ghost view = { λ p. record { taken = W.Sink.taken p.writer; kept = W.kept p.writer; written = p.written; failed = p.failed } };
+    ghost view = { λ p. record { taken = W.Sink.taken p.writer; kept = W.kept p.writer; history = seen p.last; failed = p.failed } };
+
+    ghost invariant = { λ p. p.failed ≡ false → AreMinutesOf J.problem (seen p.last) (W.Sink.taken p.writer) };
 }
 
 /// Writes an entry, so that it stays.
@@ -48,41 +53,65 @@ fn write<W: Durable>(writer: &mut W, entry: &[u8]) -> Result<(), Failed>
     writer.sync()
 }
 
-impl<W: Durable> Pages<W> {
+/// How many drafts a history has that was seen, if one was.
+fn count<J: Naming>(last: &Option<Receipt<J>>) -> u64
+    ensures { result ≡ length (seen last.now) }
+{
+    match last {
+        Some(receipt) => receipt.number(),
+        None => 0,
+    }
+}
+
+/// Whether the history of a receipt begins with one that was seen, if one was.
+fn begins<J: Naming>(last: &Option<Receipt<J>>, receipt: &Receipt<J>) -> bool
+    ensures { IsTrue result → IsPrefix (seen last.now) receipt.now }
+{
+    match last {
+        Some(last) => last.begins(receipt),
+        None => true,
+    }
+}
+
+impl<W: Durable, J: Naming> Pages<W, J> {
     /// Nothing is written.
     pub fn new(writer: W) -> Self
-        ensures { result ≡ record { taken = W.Sink.taken writer; kept = W.kept writer; written = 0; failed = false } }
+        requires { IfSome (W.Sink.taken writer) (λ bytes. bytes ≡ []) }
+        ensures { result ≡ record { taken = W.Sink.taken writer; kept = W.kept writer; history = []; failed = false } }
     {
         Pages {
             writer,
-            written: 0,
+            last: None,
             failed: false,
         }
     }
 
     /// Whether an entry could not be written.
     pub fn has_failed(&self) -> bool
-        ensures { result ≡ self.now.failed }
+        ensures failed { result ≡ self.now.failed }
+        ensures minutes { result ≡ false → AreMinutesOf J.problem self.now.history self.now.taken }
     {
         self.failed
     }
 
-    /// Writes the entry of this number, where it is the next one. Entries are numbered from 1.
-    pub fn enter(&mut self, number: u64, entry: &[u8]) -> Attempt
-        ensures entered { result ≡ Entered → IsEntered number entry.now self.old self.new }
-        ensures not_yet { result ≡ NotYet → (self.new ≡ self.old) × (self.old.written + 1 < number) }
+    /// Writes the entry of the draft that was accepted last before the receipt was given, where it is the next one.
+    pub fn enter(&mut self, receipt: &Receipt<J>, entry: &[u8]) -> Attempt
+        requires { EndsWith J.problem receipt.now entry.now }
+        ensures entered { result ≡ Entered → IsEntered receipt.now entry.now self.old self.new }
+        ensures not_yet { result ≡ NotYet → (self.new ≡ self.old) × (length self.old.history + 1 < length receipt.now) }
         ensures failed { result ≡ NotEntered → self.new.failed ≡ true }
     {
-        if self.failed || number <= self.written {
+        let (written, number) = (count(&self.last), receipt.number());
+        if self.failed || number <= written || !begins(&self.last, receipt) {
             self.failed = true;
             return Attempt::Failed;
         }
-        if number - self.written > 1 {
+        if number - written > 1 {
             return Attempt::NotYet;
         }
         match write(&mut self.writer, entry) {
             Ok(()) => {
-                self.written = number;
+                self.last = Some(receipt.again());
                 Attempt::Entered
             }
             Err(_) => {
@@ -95,15 +124,17 @@ impl<W: Durable> Pages<W> {
 
 /// The book of minutes, in which threads enter.
 #[derive(Drop)]
-pub struct Book<W: Durable> {
-    pages: Mutex<Pages<W>>,
+pub struct Book<W: Durable, J: Naming> {
+    pages: Mutex<Pages<W, J>>,
     /// An entry was written, or could not be.
     turned: Condvar,
 }
 
-impl<W: Durable> Book<W> {
+impl<W: Durable, J: Naming> Book<W, J> {
     /// A book on this writer, in which nothing is written.
-    pub fn new(writer: W) -> Self {
+    pub fn new(writer: W) -> Self
+        requires { IfSome (W.Sink.taken writer) (λ bytes. bytes ≡ []) }
+    {
         Book {
             pages: Mutex::new(Pages::new(writer)),
             turned: Condvar::new(),
@@ -115,11 +146,18 @@ impl<W: Durable> Book<W> {
         self.pages.lock(rt).has_failed()
     }
 
-    /// Enters the entry of this number, when all before it are written.
-    pub fn enter<R: Wait>(&self, rt: &R, number: u64, entry: &[u8]) -> Result<(), Failed> {
+    /// Enters the draft that was accepted last before the receipt was given, when all before it are written.
+    pub fn enter<R: Wait>(
+        &self,
+        rt: &R,
+        receipt: &Receipt<J>,
+        entry: &[u8],
+    ) -> Result<(), Failed>
+        requires { EndsWith J.problem receipt.now entry.now }
+    {
         let mut pages = self.pages.lock(rt);
         for _ in rt.forever() {
-            let attempt = pages.enter(number, entry);
+            let attempt = pages.enter(receipt, entry);
             if attempt != Attempt::NotYet {
                 MutexGuard::unlock(pages);
                 self.turned.notify_all();

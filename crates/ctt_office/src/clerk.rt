@@ -1,12 +1,17 @@
 //! Who answers the lines of a planner's seat.
 
+ghost use Rattle.std.specs.Prelude.{◌≡◌, ◌++◌, ◌∷◌, [], ℕ, List, IfOk, OnOk, codes, string_bytes};
+ghost use Rattle.ctt_core.specs.Runs.{EventFits};
+ghost use Rattle.ctt_script.specs.Seats.{EndsWithDraft, open_entry};
+ghost use Rattle.ctt_office.specs.SeatText.{Adds, IsAnswerTo, LineFits, not_written};
+
 use crate::book::Book;
 use crate::durable::Durable;
 use crate::seat_line::SeatLine;
 use ctt_board::Sheet;
 use ctt_core::{Answer, Event, PlannerNo};
-use ctt_desk::{Naming, Receipt, SharedDesk};
-use ctt_script::{Notes, Seat, Told, write_bad_line, write_told};
+use ctt_desk::{Naming, SharedDesk};
+use ctt_script::{Seat, Told, write_bad_line, write_told};
 use ctt_text::{Instance, NoMemory, let_go};
 use std::alloc::{AllocError, Global};
 use std::marker::PhantomData;
@@ -19,84 +24,78 @@ pub(crate) struct Clerk<'i, 'x, J: Naming, W: Durable> {
     pub(crate) alloc: Global,
     pub(crate) instance: &'i Instance,
     pub(crate) planner: PlannerNo,
-    pub(crate) book: Option<&'x Book<W>>,
+    pub(crate) book: Option<&'x Book<W, J>>,
     pub(crate) desk: PhantomData<J>,
+    ghost same: { J.problem ≡ instance.now },
 }
 
 /// How long the line of a commit's answer is at most.
 const COMMITTED: usize = 32;
 
-/// Notes a step and what was told, for the minutes.
-fn note(
-    notes: &mut Notes,
-    instance: &Instance,
-    event: &Event,
-    told: &Told,
-) -> Result<(), NoMemory> {
-    match (event, told) {
-        (Event::Open(_), Told::Answer(Answer::Opened)) => {
-            notes.clear();
-            Ok(())
-        }
-        (Event::Ask(_, call), Told::Answer(Answer::Replied(reply))) => {
-            notes.add(instance, call, reply)
-        }
-        _ => Ok(()),
-    }
-}
-
 /// Adds the line of a draft that is not in the minutes.
-fn write_not_written(text: &mut String) -> Result<(), AllocError> {
+fn write_not_written(text: &mut String) -> Result<(), AllocError>
+    ensures { OnOk result (string_bytes text.new ≡ string_bytes text.old ++ not_written) }
+{
     text.push_str("not written\n")
 }
 
-/// Enters an accepted draft into the minutes, and adds the line of the answer.
-fn enter<J: Naming, R: Wait, W: Durable>(
-    rt: &R,
-    instance: &Instance,
-    book: &Book<W>,
-    receipt: &Receipt<J>,
-    entry: &str,
-    text: &mut String,
-) -> Result<(), AllocError> {
-    let number = receipt.number();
-    match book.enter(rt, number, entry.as_bytes()) {
-        Ok(()) => write_told(text, instance, &Told::Answer(Answer::Committed(number))),
-        Err(_) => write_not_written(text),
-    }
+/// Adds the line with which a planner leaves.
+fn write_left(text: &mut String) -> Result<(), AllocError>
+    ensures { OnOk result (string_bytes text.new ≡ string_bytes text.old ++ codes "left\n") }
+{
+    text.push_str("left\n")
+}
+
+/// The value, if what was to be written was written.
+fn kept_if<T: Drop>(value: T, written: Result<(), AllocError>) -> Result<T, NoMemory> {
+    written?;
+    Ok(value)
 }
 
 impl<'i, 'x, J: Naming, W: Durable> Clerk<'i, 'x, J, W> {
-    /// The entry of a draft, and room for the line of the answer: behind an accepted commit no memory is asked for.
-    fn entry_of(&self, notes: &Notes, text: &mut String) -> Result<String, NoMemory> {
+    /// The entry of the open draft, and room for the line of the answer: behind an accepted commit no memory is asked for.
+    fn entry_of<S: Sheet<'i>>(
+        &self,
+        seat: &Seat<'i, S, J>,
+        text: &mut String,
+    ) -> Result<String, NoMemory>
+        ensures entry { IfOk result (λ entry. string_bytes entry ≡ open_entry J.problem seat.now) }
+        ensures kept { string_bytes text.new ≡ string_bytes text.old }
+    {
         let mut entry = String::new(self.alloc);
-        notes.enter(&mut entry, self.planner)?;
+        seat.write_entry(&mut entry)?;
         text.reserve(COMMITTED)?;
         Ok(entry)
     }
 
-    /// Commits a draft, and adds the line of the answer: it is told as accepted where it is in the minutes.
+    /// Commits the draft, and adds the line of the answer: it is told as accepted where it is in the minutes.
     fn commit<S: Sheet<'i>, R: Wait>(
         &self,
         rt: &R,
         desk: &SharedDesk<S, J>,
-        book: &Book<W>,
+        book: &Book<W, J>,
         seat: Seat<'i, S, J>,
-        notes: &Notes,
         text: &mut String,
-    ) -> (Seat<'i, S, J>, Result<(), AllocError>) {
+    ) -> (Seat<'i, S, J>, Result<(), AllocError>)
+        ensures { OnOk result.1 (Adds (IsAnswerTo self.now.instance (SeatLine.Step (Event.Commit 0))) text.old text.new) }
+    {
         if book.has_failed(rt) {
             return (seat, write_not_written(text));
         }
-        let Ok(entry) = self.entry_of(notes, text) else {
+        let Ok(entry) = self.entry_of(&seat, text) else {
             let told = Told::Answer(Answer::NoMemory);
             return (seat, write_told(text, self.instance, &told));
         };
         let (seat, outcome) = seat.commit_for_receipt(rt, desk);
-        let written = match outcome {
-            Ok(receipt) => enter(rt, self.instance, book, &receipt, &entry, text),
-            Err(told) => write_told(text, self.instance, &told),
+        let told = match outcome {
+            Ok(receipt) => match book.enter(rt, &receipt, entry.as_bytes()) {
+                Ok(()) => Told::Answer(Answer::Committed(receipt.number())),
+                Err(_) => return (seat, write_not_written(text)),
+            },
+            Err(told) => told,
         };
+        let written = write_told(text, self.instance, &told);
+        let_go(told);
         (seat, written)
     }
 
@@ -106,21 +105,14 @@ impl<'i, 'x, J: Naming, W: Durable> Clerk<'i, 'x, J, W> {
         rt: &R,
         desk: &SharedDesk<S, J>,
         seat: Seat<'i, S, J>,
-        notes: &mut Notes,
         event: Event,
         text: &mut String,
-    ) -> (Seat<'i, S, J>, Result<(), NoMemory>) {
+    ) -> (Seat<'i, S, J>, Result<(), AllocError>) {
+        if let (Event::Commit(_), Some(book)) = (event, self.book) {
+            return self.commit(rt, desk, book, seat, text);
+        }
         let (seat, told) = seat.take(rt, desk, event);
-        let written = match write_told(text, self.instance, &told) {
-            Ok(()) => {
-                if self.book.is_some() {
-                    note(notes, self.instance, &event, &told)
-                } else {
-                    Ok(())
-                }
-            }
-            Err(_) => Err(NoMemory),
-        };
+        let written = write_told(text, self.instance, &told);
         let_go(told);
         (seat, written)
     }
@@ -132,28 +124,16 @@ impl<'i, 'x, J: Naming, W: Durable> Clerk<'i, 'x, J, W> {
         rt: &R,
         desk: &SharedDesk<S, J>,
         seat: Seat<'i, S, J>,
-        notes: &mut Notes,
         line: SeatLine,
         text: &mut String,
     ) -> Result<Seat<'i, S, J>, NoMemory> {
-        let (seat, written) = match line {
-            SeatLine::Blank => (seat, Ok(())),
-            SeatLine::Leave => (seat, text.push_str("left\n").map_err(|_| NoMemory)),
-            SeatLine::Bad => (seat, write_bad_line(text).map_err(|_| NoMemory)),
-            SeatLine::Step(Event::Commit(planner)) => match self.book {
-                Some(book) => {
-                    let (seat, written) = self.commit(rt, desk, book, seat, notes, text);
-                    (seat, written.map_err(|_| NoMemory))
-                }
-                None => self.step(rt, desk, seat, notes, Event::Commit(planner), text),
-            },
-            SeatLine::Step(event) => self.step(rt, desk, seat, notes, event, text),
-        };
-        match written {
-            Ok(()) => Ok(seat),
-            Err(error) => {
-                let_go(seat);
-                Err(error)
+        match line {
+            SeatLine::Blank => Ok(seat),
+            SeatLine::Leave => kept_if(seat, write_left(text)),
+            SeatLine::Bad => kept_if(seat, write_bad_line(text)),
+            SeatLine::Step(event) => {
+                let (seat, written) = self.step(rt, desk, seat, event, text);
+                kept_if(seat, written)
             }
         }
     }

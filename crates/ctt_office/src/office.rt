@@ -1,7 +1,6 @@
 //! A desk with its seats, from its opening until all have left.
 
 use crate::book::Book;
-use crate::clerk::Clerk;
 use crate::doors::Doors;
 use crate::durable::Durable;
 use crate::office_fault::OfficeFault;
@@ -90,24 +89,18 @@ fn stations<'i, 'x, P: Drop, J: Naming, D: Doors, W: Durable>(
     planners: Vec<P>,
     names: &'x [String],
     doors: &'x D,
-    book: Option<&'x Book<W>>,
+    book: Option<&'x Book<W, J>>,
 ) -> Result<Vec<(P, Station<'i, 'x, J, D, W>)>, OfficeFault> {
     let mut seats = Vec::with_capacity(alloc, names.len())?;
-    let mut number = 0;
     for (planner, name) in planners.into_iter().zip(names) {
-        let clerk = Clerk {
+        let station = Station {
             alloc,
             instance,
-            planner: PlannerNo::new(number),
             book,
-            desk: PhantomData,
-        };
-        let station = Station {
-            clerk,
             doors,
             name: name.as_str(),
+            desk: PhantomData,
         };
-        number += 1;
         if let Err(refused) = seats.push((planner, station)) {
             let_go(refused);
             let_go(seats);
@@ -158,9 +151,9 @@ fn close<S: Timetable, J: Naming, R: Wait>(
 }
 
 /// That the minutes are written to their end, if they are kept.
-fn checked<W: Durable, R: Wait>(
+fn checked<J: Naming, W: Durable, R: Wait>(
     rt: &R,
-    book: Option<&Book<W>>,
+    book: Option<&Book<W, J>>,
     ended: Result<(), OfficeFault>,
 ) -> Result<(), OfficeFault> {
     ended?;
@@ -185,7 +178,7 @@ fn keep_named<
     count: u16,
     names: &[String],
     doors: &D,
-    book: Option<&Book<W>>,
+    minutes: Option<W>,
 ) -> Result<Vec<u8>, OfficeFault> {
     let named = Named {
         opened,
@@ -193,6 +186,8 @@ fn keep_named<
         name: PhantomData,
     };
     let (desk, planners) = desk_named::<GridSheet<'i>, J, R>(rt, named)?;
+    let kept = minutes.map(Book::new);
+    let book = kept.as_ref();
     let ended = match stations(alloc, instance, planners, names, doors, book) {
         Ok(seats) => sit_at_once(rt, alloc, &desk, seats),
         Err(fault) => Err(fault),
@@ -230,15 +225,7 @@ pub fn keep_desk<
 ) -> Result<Vec<u8>, OfficeFault> {
     let opened = opening::<GridSheet<'i>>(alloc, instance, lectures)?;
     let count = names.len() as u16;
-    let book = minutes.map(Book::new);
     keep_named::<Brand, D, W, R>(
-        rt,
-        alloc,
-        instance,
-        opened,
-        count,
-        names,
-        doors,
-        book.as_ref(),
+        rt, alloc, instance, opened, count, names, doors, minutes,
     )
 }

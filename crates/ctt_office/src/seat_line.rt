@@ -1,8 +1,11 @@
 //! What a line of a seat asks for.
 
+ghost use Rattle.std.specs.Prelude.{◌≡◌, ℕ};
+ghost use Rattle.ctt_office.specs.SeatText.{LineFits, leaves, seat_line};
+
 use ctt_core::{Event, PlannerNo};
-use ctt_script::{has_words, read_own_line};
-use ctt_text::{Instance, Words};
+use ctt_script::{has_words, is_word, read_own_line};
+use ctt_text::{Instance, Reader};
 
 /// What a line of a seat asks for.
 #[derive(Clone, Copy)]
@@ -18,13 +21,24 @@ pub enum SeatLine {
 }
 
 /// Whether a line is the one with which a planner leaves.
-fn is_leave(line: &[u8]) -> bool {
-    let mut words = Words::new(line);
-    words.next() == Some(b"leave".as_slice()) && words.next().is_none()
+fn is_leave(line: &[u8]) -> bool
+    ensures { result ≡ leaves line.now }
+{
+    let Ok(text) = str::from_utf8(line) else {
+        return false;
+    };
+    let mut reader = Reader::new(text);
+    match reader.word() {
+        Some(word) => reader.is_at_end() && is_word(word, "leave"),
+        None => false,
+    }
 }
 
 /// What a line of a planner's seat asks for.
-pub fn read_seat_line(instance: &Instance, planner: PlannerNo, line: &[u8]) -> SeatLine {
+pub fn read_seat_line(instance: &Instance, planner: PlannerNo, line: &[u8]) -> SeatLine
+    ensures line { result ≡ seat_line instance.now planner line.now }
+    ensures fits { LineFits instance.now planner result }
+{
     if !has_words(line) {
         return SeatLine::Blank;
     }

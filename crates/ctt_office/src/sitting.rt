@@ -9,9 +9,10 @@ use crate::office_fault::OfficeFault;
 use crate::seat_line::{SeatLine, read_seat_line};
 use ctt_board::{GridSheet, Sheet};
 use ctt_desk::{Naming, Planner, SharedDesk};
-use ctt_script::{Failed, InputFault, Notes, Seat, Sink, Source, put_all};
-use ctt_text::{NoMemory, let_go};
+use ctt_script::{Failed, InputFault, Seat, Sink, Source, put_all};
+use ctt_text::{Instance, NoMemory, let_go};
 use std::alloc::Global;
+use std::marker::PhantomData;
 use std::sync::Wait;
 
 /// Writes the line of an answer, if there is one, and passes it on.
@@ -48,7 +49,6 @@ fn sit<'i, 'x, S: Sheet<'i>, J: Naming, I: Source + Drop, O: Sink, W: Durable, R
     out: &mut O,
 ) -> Result<(), NoMemory> {
     let mut lines = LineReader::new(clerk.alloc, input);
-    let mut notes = Notes::new(clerk.alloc);
     let mut text = String::new(clerk.alloc);
     let mut seat = Seat::Free(planner);
     for _ in rt.forever() {
@@ -61,7 +61,7 @@ fn sit<'i, 'x, S: Sheet<'i>, J: Naming, I: Source + Drop, O: Sink, W: Durable, R
             }
         };
         text.clear();
-        seat = clerk.answer(rt, desk, seat, &mut notes, line, &mut text)?;
+        seat = clerk.answer(rt, desk, seat, line, &mut text)?;
         if say(out, &text).is_err() || matches!(line, SeatLine::Leave) {
             break;
         }
@@ -70,12 +70,16 @@ fn sit<'i, 'x, S: Sheet<'i>, J: Naming, I: Source + Drop, O: Sink, W: Durable, R
     Ok(())
 }
 
-/// A seat, of which nothing is open yet, and who answers there.
+/// A seat of a desk of the instance, of which nothing is open yet.
 #[derive(Drop)]
 pub(crate) struct Station<'i, 'x, J: Naming, D: Doors, W: Durable> {
-    pub(crate) clerk: Clerk<'i, 'x, J, W>,
+    pub(crate) alloc: Global,
+    pub(crate) instance: &'i Instance,
+    pub(crate) book: Option<&'x Book<W, J>>,
     pub(crate) doors: &'x D,
     pub(crate) name: &'x str,
+    pub(crate) desk: PhantomData<J>,
+    ghost same: { J.problem ≡ instance.now },
 }
 
 /// Opens the devices of a seat, and answers the planner's lines.
@@ -85,8 +89,15 @@ fn open_and_sit<'i, 'x, S: Sheet<'i>, J: Naming, D: Doors, W: Durable, R: Wait>(
     desk: &SharedDesk<S, J>,
     planner: Planner<S, J>,
 ) -> Result<(), OfficeFault> {
-    let Station { clerk, doors, name } = station;
-    let number = clerk.planner;
+    let Station {
+        alloc,
+        instance,
+        book,
+        doors,
+        name,
+        desk: _,
+    } = station;
+    let number = planner.number();
     let Ok(input) = doors.open_input(name) else {
         let_go(planner);
         return Err(OfficeFault::CannotRead(number));
@@ -94,6 +105,13 @@ fn open_and_sit<'i, 'x, S: Sheet<'i>, J: Naming, D: Doors, W: Durable, R: Wait>(
     let Ok(mut out) = doors.open_output(name) else {
         let_go(planner);
         return Err(OfficeFault::CannotWrite(number));
+    };
+    let clerk = Clerk {
+        alloc,
+        instance,
+        planner: number,
+        book,
+        desk: PhantomData,
     };
     Ok(sit(rt, &clerk, desk, planner, input, &mut out)?)
 }

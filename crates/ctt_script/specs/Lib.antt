@@ -19,3 +19,4 @@ pub mod WrittenText
 pub mod WrittenWords
 pub mod Minutes
 pub mod AuditedText
+pub mod Seats

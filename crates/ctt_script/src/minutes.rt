@@ -6,7 +6,7 @@ ghost use Rattle.ctt_edits.specs.Calls.{CallFits};
 ghost use Rattle.ctt_edits.specs.Fitting.{ReplyFits};
 ghost use Rattle.ctt_core.specs.Runs.{EventFits};
 ghost use Rattle.ctt_script.specs.Entries.{AnswerFits};
-ghost use Rattle.ctt_script.specs.Minutes.{blank, entry_head, minutes_text, no_notes, noted, noted_ask, noted_call, noted_commit, noted_open, notes_at, with_entry};
+ghost use Rattle.ctt_script.specs.Minutes.{blank, minutes_text, no_notes, noted, noted_ask, noted_call, noted_commit, noted_open, notes_at, with_entry};
 ghost use Rattle.ctt_script.specs.WrittenText.{line};
 
 use crate::pieces::end_with_number;
@@ -19,7 +19,7 @@ use std::marker::Model;
 
 /// What a planner's open draft was asked and told, as lines.
 #[derive(Drop)]
-pub struct Notes {
+struct Notes {
     text: String,
     calls: u64,
 }
@@ -35,7 +35,7 @@ impl Model for Notes {
 
 impl Notes {
     /// Of no call.
-    pub fn new(alloc: Global) -> Self
+    fn new(alloc: Global) -> Self
         ensures { result ≡ no_notes }
     {
         Notes {
@@ -45,7 +45,7 @@ impl Notes {
     }
 
     /// Begins anew.
-    pub fn clear(&mut self)
+    fn clear(&mut self)
         ensures { self.new ≡ no_notes }
     {
         self.text.clear();
@@ -53,7 +53,7 @@ impl Notes {
     }
 
     /// Adds a call with its reply.
-    pub fn add(&mut self, instance: &Instance, call: &Call, reply: &Reply) -> Result<(), NoMemory>
+    fn add(&mut self, instance: &Instance, call: &Call, reply: &Reply) -> Result<(), NoMemory>
         requires call { CallFits instance.now call.now }
         requires reply { ReplyFits instance.now reply.now }
         ensures { OnOk result (self.new ≡ noted_call instance.now call.now reply.now self.old) }
@@ -63,14 +63,6 @@ impl Notes {
         write_reply(&mut self.text, instance, reply)?;
         self.calls = calls;
         Ok(())
-    }
-
-    /// Writes the entry of a planner whose draft this is.
-    pub fn enter(&self, text: &mut String, planner: PlannerNo) -> Result<(), NoMemory>
-        ensures { OnOk result (string_bytes text.new ≡ string_bytes text.old ++ (entry_head planner self.now.calls ++ self.now.text)) }
-    {
-        write_entry_head(text, planner, self.calls)?;
-        Ok(text.push_str(self.text.as_str())?)
     }
 }
 
@@ -114,7 +106,9 @@ impl Minutes {
         ensures { OnOk result (self.new ≡ with_entry planner (notes_at self.old.drafts planner) self.old) }
     {
         let count = self.count.checked_add(1).ok_or(NoMemory)?;
-        self.drafts[planner.get() as usize].enter(&mut self.entries, planner)?;
+        let notes = &self.drafts[planner.get() as usize];
+        write_entry_head(&mut self.entries, planner, notes.calls)?;
+        self.entries.push_str(notes.text.as_str())?;
         self.count = count;
         Ok(())
     }

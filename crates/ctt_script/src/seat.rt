@@ -1,17 +1,20 @@
 //! A planner of a crew, with or without an open draft, and what he is answered.
 
-ghost use Rattle.std.specs.Prelude.{ℕ, ◌≡◌, IfErr};
+ghost use Rattle.std.specs.Prelude.{ℕ, ◌≡◌, ◌++◌, IfErr, IfOk, OnOk, string_bytes};
 ghost use Rattle.ctt_edits.specs.Calls.{CallFits};
 ghost use Rattle.ctt_edits.specs.Looks.{LookFits};
 ghost use Rattle.ctt_core.specs.Runs.{EventFits};
 ghost use Rattle.ctt_script.specs.CrewText.{ToldFits, told_unread};
+ghost use Rattle.ctt_script.specs.Seats.{EndsWithDraft, open_entry};
 
+use crate::written::write_entry;
 use ctt_board::{Sheet, Timetable};
 use ctt_core::{Answer, Event};
 use ctt_desk::{
     Drafting, Naming, Planner, Receipt, RefreshRefusal, Refusal, SharedDesk, SharedFault,
 };
 use ctt_edits::{Call, Look};
+use std::alloc::AllocError;
 use std::sync::Wait;
 
 /// A planner at work.
@@ -76,13 +79,27 @@ impl<'i, S: Sheet<'i>, J: Naming> Seat<'i, S, J> {
         }
     }
 
+    /// Adds the entry of the open draft, as a journal has it, if a draft is open.
+    pub fn write_entry(&self, text: &mut String) -> Result<(), AllocError>
+        ensures { OnOk result (string_bytes text.new ≡ string_bytes text.old ++ open_entry J.problem self.now) }
+    {
+        match self {
+            Seat::Free(_) => Ok(()),
+            Seat::Drafting(drafting) => {
+                let instance = drafting.instance();
+                write_entry(text, instance, drafting.number(), drafting.asked())
+            }
+        }
+    }
+
     /// Commits the draft, and gives the receipt where it is accepted.
     pub fn commit_for_receipt<R: Wait>(
         self,
         rt: &R,
         desk: &SharedDesk<S, J>,
     ) -> (Self, Result<Receipt<J>, Told>)
-        ensures { IfErr result.1 (ToldFits J.problem) }
+        ensures accepted { IfOk result.1 (λ receipt. EndsWithDraft J.problem self.entry receipt) }
+        ensures refused { IfErr result.1 (ToldFits J.problem) }
     {
         match self {
             Seat::Free(planner) => (Seat::Free(planner), Err(Told::Answer(Answer::NoDraft))),
