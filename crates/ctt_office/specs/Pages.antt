@@ -9,8 +9,9 @@ use Rattle.ctt_script.specs.WrittenText.{entry_text}
 abbrev pub Stays : Option (List ℕ) → Option (List ℕ) → Type 0
 Stays kept taken = IfSome kept (λ bytes. taken ≡ Some bytes)
 
--- pages by their value: the bytes that were taken, and those of them that stay, where they are known; the history of which the entries are written, and whether one could not be
+-- pages by their value: the bytes that were taken at the start, and until now, and those of them that stay, where they are known; the history of which the entries are written, and whether one could not be
 pub record PagesValue : Type 0 where
+  pub start : Option (List ℕ)
   pub taken : Option (List ℕ)
   pub kept : Option (List ℕ)
   pub history : List JournalEntry
@@ -21,9 +22,9 @@ abbrev pub seen : Option (List JournalEntry) → List JournalEntry
 seen None = []
 seen (Some history) = history
 
--- the bytes that were taken, where they are known, are the entries of the history as a journal has them, in their order
-abbrev pub AreMinutesOf : Problem → List JournalEntry → Option (List ℕ) → Type 0
-AreMinutesOf i history taken = IfSome taken (λ bytes. bytes ≡ flat_map (entry_text i) history)
+-- what was taken since the start, where the bytes are known, are the entries of the history as a journal has them, in their order
+abbrev pub AreMinutesOf : Problem → List JournalEntry → Option (List ℕ) → Option (List ℕ) → Type 0
+AreMinutesOf i history start taken = Appends start taken (flat_map (entry_text i) history)
 
 -- the history ends with this entry, as a journal has it
 abbrev pub EndsWith : Problem → List JournalEntry → List ℕ → Type 0
@@ -33,6 +34,7 @@ EndsWith i history entry = (before : List JournalEntry) × (last : JournalEntry)
 pub record IsEntered (history : List JournalEntry) (entry : List ℕ) (old new : PagesValue) : Type 0 where
   pub sound : old.failed ≡ false
   pub still : new.failed ≡ false
+  pub started : new.start ≡ old.start
   pub history_is : new.history ≡ history
   pub taken : Appends old.taken new.taken entry
   pub kept : Stays new.kept new.taken

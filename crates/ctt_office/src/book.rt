@@ -1,6 +1,6 @@
 //! The book of minutes: the accepted drafts, in the order of their commits, on a writer whose bytes stay.
 
-ghost use Rattle.std.specs.Prelude.{◌≡◌, ◌+◌, ◌<◌, [], length, true, false, IsTrue, IfSome, OnOk};
+ghost use Rattle.std.specs.Prelude.{◌≡◌, ◌+◌, ◌<◌, [], length, true, false, IsTrue, OnOk};
 ghost use Rattle.std.specs.Io.KnownBytes.{Appends};
 ghost use mathlib.Core.List.{IsPrefix};
 ghost use Rattle.ctt_office.specs.Pages.{AreMinutesOf, EndsWith, IsEntered, Stays, seen};
@@ -10,6 +10,7 @@ use crate::durable::Durable;
 use ctt_desk::{Naming, Receipt};
 use ctt_script::{Failed, put_all};
 use std::marker::Model;
+use std::snapshot::Snapshot;
 use std::sync::{Condvar, Mutex, MutexGuard, Wait};
 
 /// What became of an entry that was to be written.
@@ -27,6 +28,8 @@ pub enum Attempt {
 #[derive(Drop)]
 pub struct Pages<W: Durable, J: Naming> {
     writer: W,
+    /// What the writer was when nothing was written.
+    start: Snapshot<W>,
     last: Option<Receipt<J>>,
     /// Whether an entry could not be written. None is written behind it.
     failed: bool,
@@ -38,9 +41,9 @@ impl<W: Durable, J: Naming> Model for Pages<W, J> {
 
     ghost Value = { PagesValue };
 
-    ghost view = { λ p. record { taken = W.Sink.taken p.writer; kept = W.kept p.writer; history = seen p.last; failed = p.failed } };
+    ghost view = { λ p. record { start = W.Sink.taken p.start.value; taken = W.Sink.taken p.writer; kept = W.kept p.writer; history = seen p.last; failed = p.failed } };
 
-    ghost invariant = { λ p. p.failed ≡ false → AreMinutesOf J.problem (seen p.last) (W.Sink.taken p.writer) };
+    ghost invariant = { λ p. p.failed ≡ false → AreMinutesOf J.problem (seen p.last) (W.Sink.taken p.start.value) (W.Sink.taken p.writer) };
 }
 
 /// Writes an entry, so that it stays.
@@ -76,10 +79,10 @@ fn begins<J: Naming>(last: &Option<Receipt<J>>, receipt: &Receipt<J>) -> bool
 impl<W: Durable, J: Naming> Pages<W, J> {
     /// Nothing is written.
     pub fn new(writer: W) -> Self
-        requires { IfSome (W.Sink.taken writer) (λ bytes. bytes ≡ []) }
-        ensures { result ≡ record { taken = W.Sink.taken writer; kept = W.kept writer; history = []; failed = false } }
+        ensures { result ≡ record { start = W.Sink.taken writer; taken = W.Sink.taken writer; kept = W.kept writer; history = []; failed = false } }
     {
         Pages {
+            start: Snapshot::of(&writer),
             writer,
             last: None,
             failed: false,
@@ -89,7 +92,7 @@ impl<W: Durable, J: Naming> Pages<W, J> {
     /// Whether an entry could not be written.
     pub fn has_failed(&self) -> bool
         ensures failed { result ≡ self.now.failed }
-        ensures minutes { result ≡ false → AreMinutesOf J.problem self.now.history self.now.taken }
+        ensures minutes { result ≡ false → AreMinutesOf J.problem self.now.history self.now.start self.now.taken }
     {
         self.failed
     }
@@ -132,9 +135,7 @@ pub struct Book<W: Durable, J: Naming> {
 
 impl<W: Durable, J: Naming> Book<W, J> {
     /// A book on this writer, in which nothing is written.
-    pub fn new(writer: W) -> Self
-        requires { IfSome (W.Sink.taken writer) (λ bytes. bytes ≡ []) }
-    {
+    pub fn new(writer: W) -> Self {
         Book {
             pages: Mutex::new(Pages::new(writer)),
             turned: Condvar::new(),

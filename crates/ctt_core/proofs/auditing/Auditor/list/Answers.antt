@@ -12,8 +12,8 @@ returns-in_ok-list-in-Agrees-clause-list g c =
     let i = g.S.Rooms.problem a.sheet in
     let u = g.S.Rooms.list a.sheet in
     let inv = c.self.invariant in
-    let asked : a.asked ≡ [] = sym (ap (λ (v : AuditorValue). v.asked) c.self.view_is) ∙ c.requires.asked in
-    let made : a.made ≡ None = sym (ap (λ (v : AuditorValue). v.made) c.self.view_is) ∙ c.requires.ready in
+    let asked : a.asked ≡ [] = ap (λ (v : AuditorValue). v.asked) c.self.view_is ∙ c.requires.asked in
+    let made : a.made ≡ None = ap (λ (v : AuditorValue). v.made) c.self.view_is ∙ c.requires.ready in
     let on : MadeOn i (after i inv.t0 a.entries) u a.asked a.differs a.made a.told = inv.goes_on c.in-Agrees.is in
     let replayed : Replayed i (after i inv.t0 a.entries) u [] a.differs =
         subst (λ q. Replayed i (after i inv.t0 a.entries) u q a.differs) asked
@@ -26,4 +26,4 @@ returns-in_ok-list-in-Agrees-clause-list g c =
       is_left = left ∙ nothing_made i (after i inv.t0 a.entries) u a.differs replayed;
       is_timetable = subst (IsTimetable i) (sym left) c.lawful.ensures.timetable;
     } in
-    subst (λ (v : AuditorValue). LeavesList v.problem v.lectures v.entries c.in_ok-list-in-Agrees.field-0.items) (sym c.self.view_is) here
+    subst (λ (v : AuditorValue). LeavesList v.problem v.lectures v.entries c.in_ok-list-in-Agrees.field-0.items) c.self.view_is here
