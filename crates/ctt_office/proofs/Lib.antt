@@ -1,3 +1,6 @@
+mod CutLemmas
+mod LeaveLemmas
 mod LineLemmas
 mod NextLemmas
 mod PagesLemmas
+mod PartLemmas

@@ -256,7 +256,7 @@ pub(crate) fn write_entry_head(
 }
 
 /// Adds the lines of the entry of a planner's draft with these calls.
-pub(crate) fn write_entry(
+pub fn write_entry(
     text: &mut String,
     instance: &Instance,
     planner: PlannerNo,
