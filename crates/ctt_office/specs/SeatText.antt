@@ -1,6 +1,7 @@
 -- What a line of a seat asks for, and what is answered.
 use Rattle.std.specs.Prelude.{ℕ, ◌≡◌, ◌⊎◌, ◌<◌, ◌&&◌, Bool, false, List, [], ◌∷◌, ◌++◌, codes, Option, Some, None, if◌then◌else◌}
 use Rattle.std.specs.Str.{bytes_eq, is_utf8}
+use Rattle.std.specs.Io.KnownBytes.{Appends}
 use Rattle.ctt_text.specs.Problem.{Problem}
 use Rattle.ctt_text.specs.Words.{words}
 use Rattle.ctt_core.specs.Runs.{EventFits}
@@ -56,3 +57,7 @@ IsAnswerTo i (Step event) answer = IsStepAnswer i answer
 -- a text grows by such an answer
 abbrev pub Adds : (List ℕ → Type 0) → List ℕ → List ℕ → Type 0
 Adds P old new = (answer : List ℕ) × P answer × (new ≡ old ++ answer)
+
+-- known bytes grow by such an answer
+abbrev pub Tells : (List ℕ → Type 0) → Option (List ℕ) → Option (List ℕ) → Type 0
+Tells P old new = (answer : List ℕ) × P answer × Appends old new answer

@@ -2,9 +2,9 @@
 //! the journal that is read from minutes.
 #![tactic(auto)]
 
+mod answering;
 mod blocks;
 mod book;
-mod clerk;
 mod doors;
 mod durable;
 mod line_reader;
