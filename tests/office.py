@@ -5,6 +5,7 @@ PROGRAM names another program. The last line is 'N passed, M failed'.
 """
 import os
 import random
+import shutil
 import signal
 import subprocess
 import sys
@@ -440,7 +441,7 @@ def sixty_four():
     check("64 seats: listed", (status, said, {c: sorted(ls) for c, ls in by_course.items()}), (0, "", shown))
 
 
-def killed(times):
+def killed(times=50):
     """Killed at any moment: what was told is in the minutes, with its draft."""
     wrong = []
     for nth in range(times):
@@ -483,6 +484,63 @@ def killed(times):
     check(f"killed {times} times", wrong, [])
 
 
+def office_script():
+    """A day with `office`: two planners, of whom one goes away and comes back."""
+    folder = os.path.join(tempfile.mkdtemp(), "day")
+    minutes = folder + ".minutes"
+    office = os.path.join(HERE, "office")
+    environment = dict(os.environ, TIMEDESK=PROGRAM)
+
+    def sit(planner, text, seconds=20):
+        done = subprocess.run(
+            [office, "sit", folder, str(planner)], input=text, capture_output=True, timeout=seconds, text=True
+        )
+        return done.returncode, done.stdout, done.stderr
+
+    def words(*more):
+        return subprocess.run([office, *more], capture_output=True, text=True, env=environment, timeout=20)
+
+    check("office without words", words().returncode, 2)
+    check("office for 65", words("open", folder, SMALL, "65").returncode, 3)
+    check("no office", words("sit", folder, "0").returncode, 3)
+    process = subprocess.Popen(
+        [office, "open", folder, SMALL, "3", "--minutes", minutes],
+        stdout=subprocess.PIPE,
+        stderr=subprocess.PIPE,
+        env=environment,
+        text=True,
+    )
+    check("the office says that it is open", process.stderr.readline().startswith("office: open, seats 0 to 2:"), True)
+    check("its folder is its owner's", os.stat(folder).st_mode & 0o777, 0o700)
+    check("an office is open there", words("open", folder, SMALL, "3").stderr, f"office: an office is open in {folder}\n")
+    check("a first planner goes away", sit(0, "open\nplace geo A 0 1\n"), (0, "opened\ndone\n", ""))
+    check("a second one commits", sit(1, "open\nplace top B 0 2\ncommit\n"), (0, "opened\ndone\ncommitted 1\n", ""))
+    held = subprocess.Popen(
+        [office, "sit", folder, "0"], stdin=subprocess.PIPE, stdout=subprocess.PIPE, text=True
+    )
+    held.stdin.write("course geo\n")
+    held.stdin.flush()
+    check("the first one finds his draft", held.stdout.readline(), "lectures 1 geo A 0 1\n")
+    check("his seat is taken", sit(0, ""), (3, "", "office: somebody sits at seat 0\n"))
+    held.stdin.write("commit\nleave\n")
+    held.stdin.flush()
+    check("he commits and leaves", held.stdout.read(), "committed 2\nleft\n")
+    held.wait(timeout=20)
+    held.stdin.close()
+    held.stdout.close()
+    check("his seat has ended", sit(0, "")[0], 3)
+    check("no such seat", sit(7, "")[:2], (3, ""))
+    process.send_signal(signal.SIGTERM)
+    printed, _ = process.communicate(timeout=PATIENCE)
+    check("the office is closed", (process.returncode, printed), (0, "journal 2\ncosts 10 10 2 0\n"))
+    check("its pipes are gone", os.listdir(folder), ["office"])
+    status, journal, said = call("journal", SMALL, minutes)
+    check("its journal", (status, journal.split("\n")[0], said), (0, "journal 2", ""))
+    if shutil.which("shellcheck"):
+        linted = subprocess.run(["shellcheck", office], capture_output=True, text=True)
+        check("shellcheck", (linted.returncode, linted.stdout), (0, ""))
+
+
 def latency():
     """Not a test: how long eight at once wait for their answers on comp07, and for commits with minutes."""
     for minutes in (False, True):
@@ -516,14 +574,17 @@ def main():
     if sys.argv[1:] == ["latency"]:
         latency()
         return
+    only = sys.argv[1:]
     tests = [one_seat, two_planners, eight_seats, goes_away, waits_for_nobody, refusals, full_disk, cuts, lists]
-    tests += [sixty_four, lambda: killed(50)]
+    tests += [office_script, sixty_four, killed]
     for test in tests:
+        if only and test.__name__ not in only:
+            continue
         signal.alarm(PATIENCE)
         try:
             test()
         except Exception as error:
-            check(getattr(test, "__name__", "killed"), repr(error), "")
+            check(f"{test.__name__} comes to its end", repr(error), "")
     signal.alarm(0)
     print(f"{passed} passed, {failed} failed")
     sys.exit(failed > 0)

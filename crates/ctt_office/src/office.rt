@@ -1,18 +1,20 @@
 //! A desk with its seats, from its opening until all have left.
 
+ghost use Rattle.std.specs.Prelude.{◌≡◌, ◌≤◌, length, IfOk};
+ghost use Rattle.ctt_desk.specs.Names.{IsNamed};
+ghost use Rattle.ctt_script.specs.CrewText.{IsCrewText};
+
 use crate::book::Book;
 use crate::doors::Doors;
 use crate::durable::Durable;
 use crate::office_fault::OfficeFault;
 use crate::sitting::{GridStation, Station, sit_on_grid};
-use ctt_board::{GridSheet, Sheet, Timetable};
+use ctt_board::{GridSheet, Timetable};
 use ctt_core::PlannerNo;
 use ctt_desk::{Closed, Named, Naming, Opened, Planner, SharedDesk};
-use ctt_rules::Cost;
-use ctt_script::write_costs;
-use ctt_text::{Instance, NoMemory, Placed, let_go};
+use ctt_script::{closing_report, end};
+use ctt_text::{Instance, let_go};
 use std::alloc::Global;
-use std::fmt::Write;
 use std::marker::{Brand, PhantomData, Send, Sync};
 use std::sync::Wait;
 use std::thread;
@@ -90,7 +92,9 @@ fn stations<'i, 'x, P: Drop, J: Naming, D: Doors, W: Durable>(
     names: &'x [String],
     doors: &'x D,
     book: Option<&'x Book<W, J>>,
-) -> Result<Vec<(P, Station<'i, 'x, J, D, W>)>, OfficeFault> {
+) -> Result<Vec<(P, Station<'i, 'x, J, D, W>)>, OfficeFault>
+    requires { J.problem ≡ instance.now }
+{
     let mut seats = Vec::with_capacity(alloc, names.len())?;
     for (planner, name) in planners.into_iter().zip(names) {
         let station = Station {
@@ -110,19 +114,6 @@ fn stations<'i, 'x, P: Drop, J: Naming, D: Doors, W: Durable>(
     Ok(seats)
 }
 
-/// The last two lines of a desk that is closed.
-fn closing_text<S: Timetable, J: Naming>(
-    alloc: Global,
-    closed: &Closed<S, J>,
-) -> Result<Vec<u8>, NoMemory> {
-    let mut text = String::new(alloc);
-    let entries = closed.journal().len();
-    let cost: Cost = closed.cost();
-    writeln!(text, "journal {entries}")?;
-    write_costs(&mut text, &cost)?;
-    Ok(text.into_bytes())
-}
-
 /// A desk of which is known which one it is, with its planners.
 fn desk_named<S: Timetable, J: Naming, R: Wait>(
     rt: &R,
@@ -131,21 +122,29 @@ fn desk_named<S: Timetable, J: Naming, R: Wait>(
     Ok(SharedDesk::new(rt, named)?)
 }
 
-/// Closes a desk whose planners are gone, and gives the last two lines, if all went well.
+/// The last lines of a desk that is closed, if all went well.
+fn last_lines<S: Timetable, J: Naming>(
+    alloc: Global,
+    closed: &Closed<S, J>,
+    ended: Result<(), OfficeFault>,
+) -> Result<Vec<u8>, OfficeFault>
+    ensures { IfOk result (λ text. IsCrewText J.problem J.opening 0 text.items) }
+{
+    ended?;
+    Ok(closing_report(alloc, closed, Vec::new(alloc))?)
+}
+
+/// Closes a desk whose planners are gone, and gives the last lines, if all went well.
 fn close<S: Timetable, J: Naming, R: Wait>(
     rt: &R,
     alloc: Global,
     desk: SharedDesk<S, J>,
     ended: Result<(), OfficeFault>,
-) -> Result<Vec<u8>, OfficeFault> {
-    let mut none = Vec::new(alloc);
-    let closed = match desk.close(rt, none.as_mut_slice()) {
-        Ok(closed) | Err(closed) => closed,
-    };
-    let text = match ended {
-        Ok(()) => closing_text(alloc, &closed).map_err(|_| OfficeFault::NoMemory),
-        Err(fault) => Err(fault),
-    };
+) -> Result<Vec<u8>, OfficeFault>
+    ensures { IfOk result (λ text. IsCrewText J.problem J.opening 0 text.items) }
+{
+    let closed = end(rt, alloc, desk);
+    let text = last_lines(alloc, &closed, ended);
     let_go(closed);
     text
 }
@@ -179,7 +178,11 @@ fn keep_named<
     names: &[String],
     doors: &D,
     minutes: Option<W>,
-) -> Result<Vec<u8>, OfficeFault> {
+) -> Result<Vec<u8>, OfficeFault>
+    requires named { IsNamed J.problem J.opening J.planners J.book opened count }
+    requires problem { opened.problem ≡ instance.now }
+    ensures { IfOk result (λ text. IsCrewText J.problem J.opening 0 text.items) }
+{
     let named = Named {
         opened,
         count,
@@ -196,34 +199,23 @@ fn keep_named<
     close::<GridSheet<'i>, J, R>(rt, alloc, desk, ended)
 }
 
-/// Opens a desk with these lectures.
-fn opening<'i, S: Sheet<'i>>(
-    alloc: Global,
-    instance: &'i Instance,
-    lectures: &[Placed],
-) -> Result<Opened<S>, OfficeFault> {
-    Ok(Opened::<S>::new(alloc, instance, lectures)?)
-}
-
-/// A desk that opens with these lectures, kept until all planners have left. Each has a seat of this name and a thread,
-/// which opens the devices of the seat; a line is answered before the next one is read. Accepted drafts are entered into
-/// the minutes, where a writer is given for them, each before its planner is told. Gives the number of accepted drafts
-/// and the costs as lines.
-pub fn keep_desk<
-    'i,
-    D: Doors,
-    W: Durable + Send,
-    R: Threads + Wait + Sync,
->(
+/// Keeps a desk until all planners have left. Each has a seat of this name and a thread, which opens the devices of the
+/// seat; a line is answered before the next one is read. Accepted drafts are entered into the minutes, where a writer is
+/// given for them, each before its planner is told. Gives the number of accepted drafts and the costs as lines.
+pub fn keep_desk<'i, D: Doors, W: Durable + Send, R: Threads + Wait + Sync>(
     rt: &R,
     alloc: Global,
     instance: &'i Instance,
-    lectures: &[Placed],
+    opened: Opened<GridSheet<'i>>,
     names: &[String],
     doors: &D,
     minutes: Option<W>,
-) -> Result<Vec<u8>, OfficeFault> {
-    let opened = opening::<GridSheet<'i>>(alloc, instance, lectures)?;
+) -> Result<Vec<u8>, OfficeFault>
+    requires problem { opened.problem ≡ instance.now }
+    requires some { 1 ≤ length names.now }
+    requires few { length names.now ≤ 64 }
+    ensures { IfOk result (λ text. IsCrewText instance.now opened.entry.list 0 text.items) }
+{
     let count = names.len() as u16;
     keep_named::<Brand, D, W, R>(
         rt, alloc, instance, opened, count, names, doors, minutes,

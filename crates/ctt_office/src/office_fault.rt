@@ -2,15 +2,12 @@
 
 use ctt_core::PlannerNo;
 use ctt_desk::SharedFault;
-use ctt_edits::EditFault;
 use ctt_text::NoMemory;
 use std::alloc::{AllocError, AllocFailed};
 
 /// Why a desk was not kept, or not to its end.
 #[derive(Clone, Copy, PartialEq, Eq)]
 pub enum OfficeFault {
-    /// The first lecture of the opening that cannot be placed, counted from 1, and what stands against it.
-    Unlawful(u64, EditFault),
     /// `left_right` refused a planner's place.
     NoPlace,
     /// The thread of this planner could not be started.
@@ -26,11 +23,11 @@ pub enum OfficeFault {
 }
 
 impl From<SharedFault> for OfficeFault {
+    /// The opening of the desk stands, so it wants memory or a place and nothing else.
     fn from(fault: SharedFault) -> OfficeFault {
         match fault {
-            SharedFault::Unlawful(at, fault) => OfficeFault::Unlawful(at, fault),
             SharedFault::NoPlace => OfficeFault::NoPlace,
-            SharedFault::NoMemory => OfficeFault::NoMemory,
+            _ => OfficeFault::NoMemory,
         }
     }
 }

@@ -35,7 +35,7 @@ pub use attending::write_told;
 pub use audited::audit_journal;
 pub use calls::{read_call, read_look};
 pub use crew_fault::CrewFault;
-pub use crew_run::crew;
+pub use crew_run::{closing_report, crew, end};
 pub use device::Device;
 pub use engine::{PLANNERS, run_script};
 pub use gate::{Gate, NoGate};

@@ -5,7 +5,9 @@ ghost use Rattle.ctt_edits.specs.Calls.{CallFits};
 ghost use Rattle.ctt_edits.specs.Looks.{LookFits};
 ghost use Rattle.ctt_core.specs.Runs.{EventFits};
 ghost use Rattle.ctt_script.specs.CrewText.{ToldFits, told_unread};
+ghost use Rattle.ctt_desk.specs.Histories.{entry_of};
 ghost use Rattle.ctt_script.specs.Seats.{EndsWithDraft, open_entry};
+ghost use Rattle.ctt_script.specs.WrittenText.{entry_text};
 
 use crate::written::write_entry;
 use ctt_board::{Sheet, Timetable};
@@ -49,6 +51,19 @@ fn unread<J: Naming>(fault: SharedFault) -> Told
     }
 }
 
+/// Adds the entry of a draft, as a journal has it.
+fn write_draft<'i, S: Sheet<'i>, J: Naming>(
+    drafting: &Drafting<'i, S, J>,
+    text: &mut String,
+) -> Result<(), AllocError>
+    ensures { OnOk result (string_bytes text.new ≡ string_bytes text.old ++ entry_text J.problem (entry_of drafting.now.planner.number drafting.now.asked)) }
+{
+    let instance = drafting.instance();
+    let number = drafting.number();
+    let asked = drafting.asked();
+    write_entry(text, &*instance, number, &*asked)
+}
+
 impl<'i, S: Sheet<'i>, J: Naming> Seat<'i, S, J> {
     /// Opens a draft.
     fn open(self) -> (Self, Told)
@@ -85,10 +100,7 @@ impl<'i, S: Sheet<'i>, J: Naming> Seat<'i, S, J> {
     {
         match self {
             Seat::Free(_) => Ok(()),
-            Seat::Drafting(drafting) => {
-                let instance = drafting.instance();
-                write_entry(text, instance, drafting.number(), drafting.asked())
-            }
+            Seat::Drafting(drafting) => write_draft(drafting, text),
         }
     }
 

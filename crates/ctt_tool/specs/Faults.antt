@@ -23,7 +23,7 @@ use Rattle.ctt_script.specs.declared.journal_fault.JournalFault.TheVariants as j
 use Rattle.ctt_script.specs.declared.script_fault.ScriptFault.{ScriptFault}
 use Rattle.ctt_script.specs.declared.script_fault.ScriptFault.TheVariants as script
 use Rattle.ctt_tool.specs.declared.fault.Fault.{Fault}
-use Rattle.ctt_tool.specs.declared.fault.Fault.TheVariants.{Barred, CannotRead, CannotWrite, Instance, Journal, NoMemory, NoPlace, NoThread, Opening, Solution, TooLong, TooManyScripts, Words, WordsNotText}
+use Rattle.ctt_tool.specs.declared.fault.Fault.TheVariants.{BadSeats, Barred, CannotRead, CannotWrite, Instance, Journal, MinutesExist, NoMemory, NoPlace, NoThread, Opening, Solution, TooLong, TooManyScripts, Words, WordsNotText}
 
 -- the fault of an instance, by its number and the byte or the word that it names
 abbrev pub fault_of_instance : ReadFault → Fault
@@ -94,6 +94,8 @@ IsOpeningFault problem at fault WordsNotText = ⊥
 IsOpeningFault problem at fault TooManyScripts = ⊥
 IsOpeningFault problem at fault NoThread = ⊥
 IsOpeningFault problem at fault NoPlace = ⊥
+IsOpeningFault problem at fault BadSeats = ⊥
+IsOpeningFault problem at fault (MinutesExist name) = ⊥
 
 -- a fault of a run that names a course of the instance, if it names one
 abbrev pub RunFaultFits : Problem → ScriptFault → Type 0
@@ -124,6 +126,8 @@ status_of CannotWrite = 3
 status_of NoMemory = 3
 status_of NoThread = 3
 status_of NoPlace = 3
+status_of BadSeats = 2
+status_of (MinutesExist name) = 3
 
 -- the file of this name cannot be read, or is too long, or its bytes find no room
 abbrev pub IsOfFile : String Global → Fault → Type 0
@@ -141,6 +145,8 @@ IsOfFile name CannotWrite = ⊥
 IsOfFile name TooManyScripts = ⊥
 IsOfFile name NoThread = ⊥
 IsOfFile name NoPlace = ⊥
+IsOfFile name BadSeats = ⊥
+IsOfFile name (MinutesExist file) = ⊥
 
 -- the fault lies in a text or its file, or memory was wanted
 abbrev pub IsOfTexts : Fault → Type 0
@@ -158,6 +164,8 @@ IsOfTexts CannotWrite = ⊥
 IsOfTexts TooManyScripts = ⊥
 IsOfTexts NoThread = ⊥
 IsOfTexts NoPlace = ⊥
+IsOfTexts BadSeats = ⊥
+IsOfTexts (MinutesExist name) = ⊥
 
 -- a file cannot be read, or is too long, or its bytes find no room
 abbrev pub IsOfReading : Fault → Type 0
@@ -175,6 +183,8 @@ IsOfReading CannotWrite = ⊥
 IsOfReading TooManyScripts = ⊥
 IsOfReading NoThread = ⊥
 IsOfReading NoPlace = ⊥
+IsOfReading BadSeats = ⊥
+IsOfReading (MinutesExist name) = ⊥
 
 -- the fault lies in a text or its file, or memory was wanted, or, of a crew of so many scripts, they are too many, or a planner had no place or no thread
 abbrev pub IsOfCrew : ℕ → Fault → Type 0
@@ -192,6 +202,27 @@ IsOfCrew scripts NoMemory = Unit {0}
 IsOfCrew scripts (Words text) = ⊥
 IsOfCrew scripts WordsNotText = ⊥
 IsOfCrew scripts CannotWrite = ⊥
+IsOfCrew scripts BadSeats = ⊥
+IsOfCrew scripts (MinutesExist name) = ⊥
+
+-- the fault lies in a text or its file, or memory was wanted, or, of a desk of so many seats, they are too many, or one is given twice, or its minutes exist, or a planner had no place or no thread
+abbrev pub IsOfDesk : ℕ → Fault → Type 0
+IsOfDesk seats BadSeats = Unit {0}
+IsOfDesk seats (MinutesExist name) = Unit {0}
+IsOfDesk seats NoThread = 1 ≤ seats
+IsOfDesk seats NoPlace = 1 ≤ seats
+IsOfDesk seats (Instance number at) = Unit {0}
+IsOfDesk seats (Solution number at) = Unit {0}
+IsOfDesk seats (Barred number at) = Unit {0}
+IsOfDesk seats (Journal number at) = Unit {0}
+IsOfDesk seats (Opening text) = Unit {0}
+IsOfDesk seats (CannotRead name) = Unit {0}
+IsOfDesk seats (TooLong name) = Unit {0}
+IsOfDesk seats NoMemory = Unit {0}
+IsOfDesk seats (Words text) = ⊥
+IsOfDesk seats WordsNotText = ⊥
+IsOfDesk seats TooManyScripts = ⊥
+IsOfDesk seats CannotWrite = ⊥
 
 -- P where standard output could not be written, and else Q
 abbrev pub IfUnwritten : Fault → Type 0 → Type 0 → Type 0
@@ -209,6 +240,8 @@ IfUnwritten WordsNotText P Q = Q
 IfUnwritten TooManyScripts P Q = Q
 IfUnwritten NoThread P Q = Q
 IfUnwritten NoPlace P Q = Q
+IfUnwritten BadSeats P Q = Q
+IfUnwritten (MinutesExist name) P Q = Q
 
 -- K, unless a file that had to be stored could not be written, and then S
 abbrev pub KeptUnless : Fault → Type 0 → Type 0 → Type 0
@@ -230,6 +263,8 @@ MayHaveWritten WordsNotText = ⊥
 MayHaveWritten TooManyScripts = ⊥
 MayHaveWritten NoThread = ⊥
 MayHaveWritten NoPlace = ⊥
+MayHaveWritten BadSeats = ⊥
+MayHaveWritten (MinutesExist name) = ⊥
 
 -- the bytes end with the end of a line
 abbrev pub EndsLine : List ℕ → Type 0
@@ -250,6 +285,8 @@ IsLineOf CannotWrite bytes = EndsLine bytes
 IsLineOf TooManyScripts bytes = EndsLine bytes
 IsLineOf NoThread bytes = EndsLine bytes
 IsLineOf NoPlace bytes = EndsLine bytes
+IsLineOf BadSeats bytes = EndsLine bytes
+IsLineOf (MinutesExist name) bytes = EndsLine bytes
 IsLineOf NoMemory bytes = bytes ≡ codes "timedesk: no memory\n"
 
 -- such a line is said

@@ -6,12 +6,13 @@ use Rattle.ctt_tool.specs.Checks.{IsRefusedCheck, PrintsReport}
 use Rattle.ctt_tool.specs.Crews.{PrintsCrew}
 use Rattle.ctt_tool.specs.Faults.{IsOfFiles}
 use Rattle.ctt_tool.specs.Jobs.{IsJobOf, IsRequest, Storing, faults_of, files_of, scripts_of}
+use Rattle.ctt_tool.specs.Lists.{ListsJournal, PrintsJournal}
 use Rattle.ctt_tool.specs.Runs.{IsRefusedRun, RunsScript}
 use Rattle.ctt_tool.specs.Texts.{Held, IsNoInstanceIn}
 use Rattle.ctt_tool.specs.declared.fault.Fault.{Fault}
 use Rattle.ctt_tool.specs.declared.fault.Fault.TheVariants.{CannotRead, CannotWrite, NoPlace, NoThread, TooLong, TooManyScripts}
 use Rattle.ctt_tool.specs.declared.job.Job.{Job}
-use Rattle.ctt_tool.specs.declared.job.Job.TheVariants.{Audit, Check, Crew, Run}
+use Rattle.ctt_tool.specs.declared.job.Job.TheVariants.{Audit, Check, Crew, Desk, Journal, Listing, Run}
 use Rattle.ctt_tool.specs.declared.outcome.Outcome.{Outcome}
 use Rattle.ctt_tool.specs.declared.outcome.Outcome.TheVariants.{Done}
 
@@ -25,6 +26,12 @@ DoesJob (Audit instance barred journal start) outcome before after old new = (af
     × AuditsJournal instance barred journal start outcome before old new
 DoesJob (Crew instance barred scripts) outcome before after old new = (outcome ≡ Done)
     × (after ≡ before) × PrintsCrew instance barred (length scripts.items) before old new
+DoesJob (Desk instance barred seats start minutes) outcome before after old new = (outcome ≡ Done)
+    × (after ≡ before)
+DoesJob (Journal instance barred minutes) outcome before after old new = (outcome ≡ Done)
+    × (after ≡ before) × PrintsJournal instance barred minutes before old new
+DoesJob (Listing instance barred journal start) outcome before after old new = (after ≡ before)
+    × ListsJournal instance barred journal start outcome before old new
 
 -- the words ask for help or the version, or `clap` finds no fault in them and they ask for a job that is done
 abbrev pub DoesAsAsked : List Text → Outcome → Held → Held → Option Text → Option Text → Type 0
@@ -37,6 +44,9 @@ HasRefusedText (Check instance barred solution json) held = IsRefusedCheck held 
 HasRefusedText (Run instance barred script start journal) held = IsRefusedRun held instance barred start
 HasRefusedText (Audit instance barred journal start) held = IsRefusedAudit held instance barred journal start
 HasRefusedText (Crew instance barred scripts) held = IsNoInstanceIn held instance barred
+HasRefusedText (Desk instance barred seats start minutes) held = IsRefusedRun held instance barred start
+HasRefusedText (Journal instance barred minutes) held = Unit {0}
+HasRefusedText (Listing instance barred journal start) held = IsRefusedAudit held instance barred journal start
 
 -- the words ask for a job of which a text is refused
 abbrev pub AsksForRefusedText : List Text → Held → Type 0

@@ -6,7 +6,9 @@ use crate::office::{Office, STANDARD};
 use crate::opening::refused_opening;
 use crate::output::print;
 use crate::texts::{fetch_instance, fetch_start};
+use ctt_board::{GridSheet, Sheet};
 use ctt_core::PlannerNo;
+use ctt_desk::{Opened, SharedFault};
 use ctt_office::{OfficeFault, keep_desk};
 use ctt_script::Sink;
 use ctt_text::{Instance, let_go};
@@ -46,14 +48,8 @@ fn input_name(alloc: Global, seats: &[String], planner: PlannerNo) -> Result<Str
 }
 
 /// The fault of a desk with these seats.
-fn fault_of_office(
-    alloc: Global,
-    instance: &Instance,
-    seats: &[String],
-    fault: OfficeFault,
-) -> Fault {
+fn fault_of_office(alloc: Global, seats: &[String], fault: OfficeFault) -> Fault {
     match fault {
-        OfficeFault::Unlawful(at, fault) => refused_opening(alloc, instance, at, &fault),
         OfficeFault::NoPlace => Fault::NoPlace,
         OfficeFault::NoThread(_) => Fault::NoThread,
         OfficeFault::CannotRead(planner) => match input_name(alloc, seats, planner) {
@@ -62,6 +58,24 @@ fn fault_of_office(
         },
         OfficeFault::CannotWrite(_) | OfficeFault::NotWritten => Fault::CannotWrite,
         OfficeFault::NoMemory => Fault::NoMemory,
+    }
+}
+
+/// The opening of a desk: the solution that a file holds, or nothing.
+fn open_on<'i, S: Sheet<'i>, F: Files>(
+    alloc: Global,
+    files: &mut F,
+    instance: &'i Instance,
+    start: Option<String>,
+) -> Result<Opened<S>, Fault> {
+    let lectures = fetch_start(alloc, files, instance, start)?;
+    match Opened::<S>::new(alloc, instance, &lectures) {
+        Ok(opened) => Ok(opened),
+        Err(SharedFault::Unlawful(at, fault)) => {
+            Err(refused_opening(alloc, instance, at, &fault))
+        }
+        Err(SharedFault::NoPlace) => Err(Fault::NoPlace),
+        Err(SharedFault::NoMemory) => Err(Fault::NoMemory),
     }
 }
 
@@ -90,11 +104,17 @@ fn keep<R: Threads + Wait + Sync, F: Files, O: Office>(
     start: Option<String>,
     minutes: Option<String>,
 ) -> Result<Vec<u8>, Fault> {
-    let lectures = fetch_start(alloc, files, instance, start)?;
-    let writer = minutes_in(office, minutes)?;
-    match keep_desk(rt, alloc, instance, &lectures, seats, office, writer) {
+    let opened = open_on::<GridSheet, F>(alloc, files, instance, start)?;
+    let writer = match minutes_in(office, minutes) {
+        Ok(writer) => writer,
+        Err(fault) => {
+            let_go(opened);
+            return Err(fault);
+        }
+    };
+    match keep_desk(rt, alloc, instance, opened, seats, office, writer) {
         Ok(text) => Ok(text),
-        Err(fault) => Err(fault_of_office(alloc, instance, seats, fault)),
+        Err(fault) => Err(fault_of_office(alloc, seats, fault)),
     }
 }
 

@@ -62,7 +62,7 @@ pub enum Job {
         minutes: String,
     },
     /// To give the timetable after a journal as a solution.
-    List {
+    Listing {
         instance: String,
         barred: Option<String>,
         journal: String,
@@ -489,7 +489,7 @@ fn list_job(alloc: Global, given: &ArgMatches<'_>) -> Result<Job, WordsFault>
 {
     let instance = given.get_str("instance").unwrap();
     let journal = given.get_str("journal").unwrap();
-    Ok(Job::List {
+    Ok(Job::Listing {
         instance: String::from_str(alloc, instance)?,
         barred: owned(alloc, given.get_str("barred"))?,
         journal: String::from_str(alloc, journal)?,

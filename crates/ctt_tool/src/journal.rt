@@ -1,5 +1,11 @@
 //! The command `journal`.
 
+ghost use Rattle.std.specs.Prelude.{◌≡◌, ◌⊎◌, [], ◌∷◌, ◌++◌, true, OnOk, OnErr, IfOk, IfErr};
+ghost use Rattle.ctt_tool.specs.Faults.{IfUnwritten, IsOfFiles, IsOfTexts, status_of};
+ghost use Rattle.ctt_tool.specs.Jobs.{given};
+ghost use Rattle.ctt_tool.specs.Lists.{PrintsEntries, PrintsJournal};
+ghost use Rattle.ctt_tool.specs.declared.fault.Fault.TheVariants.{NoMemory};
+
 use crate::fault::Fault;
 use crate::files::{Files, read_file};
 use crate::output::{complain, print};
@@ -10,7 +16,10 @@ use ctt_text::{Instance, let_go};
 use std::alloc::Global;
 
 /// Says at which byte an entry begins that is not whole.
-fn say_torn<V: Sink>(alloc: Global, err: &mut V, torn: Option<usize>) -> Result<(), Fault> {
+fn say_torn<V: Sink>(alloc: Global, err: &mut V, torn: Option<usize>) -> Result<(), Fault>
+    ensures fault { IfErr result (λ fault. fault ≡ NoMemory) }
+    ensures unsaid { OnErr result (err.new ≡ err.old) }
+{
     if let Some(at) = torn {
         let line = format!(in alloc; "timedesk: torn at byte {at}\n")?;
         complain(err, line.as_bytes());
@@ -26,7 +35,14 @@ fn print_journal<F: Files, W: Sink, V: Sink>(
     err: &mut V,
     instance: &Instance,
     minutes: String,
-) -> Result<(), Fault> {
+) -> Result<(), Fault>
+    ensures prints { OnOk result (PrintsEntries instance.now minutes (F.held files.old) (W.taken out.old) (W.taken out.new)) }
+    ensures unmarked { OnOk result (W.has_failed out.new ≡ W.has_failed out.old) }
+    ensures kept { F.held files.new ≡ F.held files.old }
+    ensures fault { IfErr result (λ fault. IfUnwritten fault (W.has_failed out.new ≡ true) (IsOfTexts fault)) }
+    ensures unsaid { OnErr result (err.new ≡ err.old) }
+    ensures file { IfErr result (IsOfFiles (minutes ∷ []) (F.held files.old)) }
+{
     let text = read_file(alloc, files, minutes)?;
     let blocks = read_blocks(alloc, instance, &text)?;
     let journal = write_journal(alloc, instance, &blocks.entries)?;
@@ -44,7 +60,14 @@ pub fn journal<F: Files, W: Sink, V: Sink>(
     instance: String,
     barred: Option<String>,
     minutes: String,
-) -> Result<(), Fault> {
+) -> Result<(), Fault>
+    ensures prints { OnOk result (PrintsJournal instance barred minutes (F.held files.old) (W.taken out.old) (W.taken out.new)) }
+    ensures unmarked { OnOk result (W.has_failed out.new ≡ W.has_failed out.old) }
+    ensures kept { F.held files.new ≡ F.held files.old }
+    ensures fault { IfErr result (λ fault. IfUnwritten fault (W.has_failed out.new ≡ true) (IsOfTexts fault)) }
+    ensures unsaid { OnErr result (err.new ≡ err.old) }
+    ensures file { IfErr result (IsOfFiles (instance ∷ given barred ++ minutes ∷ []) (F.held files.old)) }
+{
     let instance = fetch_instance(alloc, files, instance, barred)?;
     let printed = print_journal(alloc, files, out, err, &instance, minutes);
     let_go(instance);

@@ -1,5 +1,11 @@
 //! The command `list`.
 
+ghost use Rattle.std.specs.Prelude.{◌≡◌, [], ◌∷◌, ◌++◌, true, OnOk, IfOk, IfErr};
+ghost use Rattle.ctt_tool.specs.Audits.{IsRefusedAudit, IsRefusedJournal};
+ghost use Rattle.ctt_tool.specs.Faults.{IfUnwritten, IsOfFiles, IsOfTexts, status_of};
+ghost use Rattle.ctt_tool.specs.Jobs.{given};
+ghost use Rattle.ctt_tool.specs.Lists.{ListsJournal, ListsOn};
+
 use crate::audit::print_verdict;
 use crate::fault::Fault;
 use crate::files::{Files, read_file};
@@ -20,7 +26,18 @@ fn list_on<'i, S: Sheet<'i>, F: Files, W: Sink>(
     instance: &'i Instance,
     journal: String,
     start: Option<String>,
-) -> Result<Outcome, Fault> {
+) -> Result<Outcome, Fault>
+    ensures lists { IfOk result (λ outcome. ListsOn instance.now journal start outcome (F.held files.old)
+        (W.taken out.old) (W.taken out.new)) }
+    ensures unmarked { OnOk result (W.has_failed out.new ≡ W.has_failed out.old) }
+    ensures fault { IfErr result (λ fault. IfUnwritten fault
+        (W.has_failed out.new ≡ true)
+        (IsOfTexts fault × (out.new ≡ out.old))) }
+    ensures unstored { F.held files.new ≡ F.held files.old }
+    ensures file { IfErr result (IsOfFiles (journal ∷ given start) (F.held files.old)) }
+    ensures cause { IfErr result (λ fault. status_of fault ≡ 1
+        → IsRefusedJournal instance.now (F.held files.old) journal start) }
+{
     let text = read_file(alloc, files, journal)?;
     let entries = read_journal(alloc, instance, &text)?;
     let lectures = fetch_start(alloc, files, instance, start)?;
@@ -45,7 +62,18 @@ pub fn list<F: Files, W: Sink>(
     barred: Option<String>,
     journal: String,
     start: Option<String>,
-) -> Result<Outcome, Fault> {
+) -> Result<Outcome, Fault>
+    ensures lists { IfOk result (λ outcome. ListsJournal instance barred journal start outcome (F.held files.old)
+        (W.taken out.old) (W.taken out.new)) }
+    ensures unmarked { OnOk result (W.has_failed out.new ≡ W.has_failed out.old) }
+    ensures fault { IfErr result (λ fault. IfUnwritten fault
+        (W.has_failed out.new ≡ true)
+        (IsOfTexts fault × (out.new ≡ out.old))) }
+    ensures unstored { F.held files.new ≡ F.held files.old }
+    ensures file { IfErr result (IsOfFiles (instance ∷ given barred ++ journal ∷ given start) (F.held files.old)) }
+    ensures cause { IfErr result (λ fault. status_of fault ≡ 1
+        → IsRefusedAudit (F.held files.old) instance barred journal start) }
+{
     let instance = fetch_instance(alloc, files, instance, barred)?;
     let listed = list_on::<GridSheet, F, W>(alloc, files, out, &instance, journal, start);
     let_go(instance);

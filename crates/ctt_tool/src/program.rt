@@ -104,7 +104,7 @@ fn do_job<R: Threads + Wait + Sync, F: Files, O: Office, W: Sink, V: Sink>(
             journal(alloc, files, out, err, instance, barred, minutes)?;
             Ok(Outcome::Done)
         }
-        Job::List {
+        Job::Listing {
             instance,
             barred,
             journal,
