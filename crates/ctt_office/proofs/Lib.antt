@@ -1,3 +1,4 @@
+mod AnswerLemmas
 mod CutLemmas
 mod LeaveLemmas
 mod LineLemmas

@@ -43,9 +43,11 @@ cut_is_next old new is short left =
     (cut_given (λ line. (new.line ≡ line) × IsShort line) (coming old) old.left [] new.line old.held new.held tt (refl, short) (Consumes-nil (coming old)) is)
 
 pub long_is_next : (old new : ReaderValue) (line : List ℕ) → new.line ≡ [] → IsLong line → IsCut line new.held old.held → new.left ≡ old.left → GivesNext TooLong old new
-long_is_next old new line none long is left =
-    (none, subst (λ l. Gives IsLong (coming old) (prepend_known new.held l)) (sym left)
-    (cut_given IsLong (coming old) old.left [] line old.held new.held tt long (Consumes-nil (coming old)) is))
+long_is_next old new line none long is left = (
+  none,
+  subst (λ l. Gives IsLong (coming old) (prepend_known new.held l)) (sym left)
+      (cut_given IsLong (coming old) old.left [] line old.held new.held tt long (Consumes-nil (coming old)) is),
+)
 
 pub found_next : (n : Next) (old new : ReaderValue) (result : Option Next) → result ≡ Some n
     → (result ≡ Some Line → IsCut new.line new.held old.held × IsShort new.line)
@@ -125,9 +127,11 @@ ends_with_all old now is none held end =
 -- it ends where a line of what is held ends
 pub ends_there : (old now new : ReaderValue) (line : List ℕ) → IsPast old now → new.line ≡ [] → IsCut line new.held now.held → new.left ≡ now.left → GivesNext TooLong old new
 ends_there old now new line is none cut left =
-    let long : IsLong (is.gone ++ line) = (let more = length-append is.gone line in let l = is.long in omega (arith, more, l)) in
-    (none, subst (λ l. Gives IsLong (coming old) (prepend_known new.held l)) (sym left)
-    (cut_given IsLong (coming old) now.left is.gone line now.held new.held is.unended long is.lost cut))
+    let long : IsLong (is.gone ++ line) = (let more = length-append is.gone line in let l = is.long in omega (arith, more, l)) in (
+      none,
+      subst (λ l. Gives IsLong (coming old) (prepend_known new.held l)) (sym left)
+          (cut_given IsLong (coming old) now.left is.gone line now.held new.held is.unended long is.lost cut),
+    )
 
 -- what is read behind g bytes of what is held, which is a line of n bytes
 pub ends_behind : (old now : ReaderValue) (left : Option (List ℕ)) (items slice : List ℕ) (g n : ℕ) → IsPast old now → now.held ≡ drop g items → now.left ≡ left → slice ≡ drop g items

@@ -30,5 +30,5 @@ minutes_grow i start old new before history entry minutes adds prefix long ends 
     let size : length before ≡ length front = (let whole : length history ≡ length (front ++ last ∷ []) = ap length ends.2 in omega (arith, whole, many, long)) in
     let is : before ++ last ∷ [] ≡ history = one_more before prefix.0 front last same size ∙ prefix.1 in
     let text : flat_map (entry_text i) before ++ entry ≡ flat_map (entry_text i) (before ++ last ∷ []) =
-        ap (λ e. flat_map (entry_text i) before ++ e) (ends.3 ∙ sym (append-nil (entry_text i last))) ∙ sym (flat_map-append (entry_text i) before (last ∷ [])) in
+    ap (λ e. flat_map (entry_text i) before ++ e) (ends.3 ∙ sym (append-nil (entry_text i last))) ∙ sym (flat_map-append (entry_text i) before (last ∷ [])) in
     subst (λ h. Appends start new (flat_map (entry_text i) h)) is (subst (Appends start new) text (Appends-trans start old new (flat_map (entry_text i) before) entry minutes adds))

@@ -49,6 +49,7 @@ fn entry_of<'i, S: Sheet<'i>, J: Naming>(
 }
 
 /// Commits the draft, and adds the line of the answer: it is told as accepted where it is in the minutes.
+#[tactic(auto, using(crate::proofs::AnswerLemmas::ends_with))]
 fn commit<'i, S: Sheet<'i>, J: Naming, W: Durable, R: Wait>(
     rt: &R,
     alloc: Global,
@@ -65,7 +66,10 @@ fn commit<'i, S: Sheet<'i>, J: Naming, W: Durable, R: Wait>(
         return (seat, write_not_written(text));
     }
     let Ok(entry) = entry_of(alloc, &seat, text) else {
-        return (seat, write_told(text, instance, &Told::Answer(Answer::NoMemory)));
+        return (
+            seat,
+            write_told(text, instance, &Told::Answer(Answer::NoMemory)),
+        );
     };
     let (seat, outcome) = seat.commit_for_receipt(rt, desk);
     match outcome {

@@ -123,11 +123,7 @@ fn read_lines(
 /// else that is no entry is a fault, which names the first word that cannot stand in its place.
 ///
 /// Of minutes that are cut at any byte these are the first entries of those that were written.
-pub fn read_blocks(
-    alloc: Global,
-    instance: &Instance,
-    text: &[u8],
-) -> Result<Blocks, JournalFault>
+pub fn read_blocks(alloc: Global, instance: &Instance, text: &[u8]) -> Result<Blocks, JournalFault>
     ensures recovered { IfOk result (λ b. IsRecovered instance.now text.now b.entries.items (is_some b.torn)) }
     ensures torn { IfOk result (λ b. IfSome b.torn (λ at. at ≡ length (flat_map (entry_text instance.now) b.entries.items))) }
     ensures fits { IfOk result (λ b. Each (EntryFits instance.now) b.entries.items) }

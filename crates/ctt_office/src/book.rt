@@ -148,12 +148,7 @@ impl<W: Durable, J: Naming> Book<W, J> {
     }
 
     /// Enters the draft that was accepted last before the receipt was given, when all before it are written.
-    pub fn enter<R: Wait>(
-        &self,
-        rt: &R,
-        receipt: &Receipt<J>,
-        entry: &[u8],
-    ) -> Result<(), Failed>
+    pub fn enter<R: Wait>(&self, rt: &R, receipt: &Receipt<J>, entry: &[u8]) -> Result<(), Failed>
         requires { EndsWith J.problem receipt.now entry.now }
     {
         let mut pages = self.pages.lock(rt);

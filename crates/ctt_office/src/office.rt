@@ -163,13 +163,7 @@ fn checked<J: Naming, W: Durable, R: Wait>(
 }
 
 /// Keeps the seats of a desk of which is known which one it is.
-fn keep_named<
-    'i,
-    J: Naming + Send + Sync,
-    D: Doors,
-    W: Durable + Send,
-    R: Threads + Wait + Sync,
->(
+fn keep_named<'i, J: Naming + Send + Sync, D: Doors, W: Durable + Send, R: Threads + Wait + Sync>(
     rt: &R,
     alloc: Global,
     instance: &'i Instance,
@@ -217,7 +211,5 @@ pub fn keep_desk<'i, D: Doors, W: Durable + Send, R: Threads + Wait + Sync>(
     ensures { IfOk result (λ text. IsCrewText instance.now opened.entry.list 0 text.items) }
 {
     let count = names.len() as u16;
-    keep_named::<Brand, D, W, R>(
-        rt, alloc, instance, opened, count, names, doors, minutes,
-    )
+    keep_named::<Brand, D, W, R>(rt, alloc, instance, opened, count, names, doors, minutes)
 }

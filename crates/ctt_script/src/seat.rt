@@ -58,10 +58,10 @@ fn write_draft<'i, S: Sheet<'i>, J: Naming>(
 ) -> Result<(), AllocError>
     ensures { OnOk result (string_bytes text.new ≡ string_bytes text.old ++ entry_text J.problem (entry_of drafting.now.planner.number drafting.now.asked)) }
 {
-    let instance = drafting.instance();
-    let number = drafting.number();
-    let asked = drafting.asked();
-    write_entry(text, &*instance, number, &*asked)
+    let instance = (&*drafting).instance();
+    let number = (&*drafting).number();
+    let asked = (&*drafting).asked();
+    write_entry(&mut *text, &*instance, number, &*asked)
 }
 
 impl<'i, S: Sheet<'i>, J: Naming> Seat<'i, S, J> {

@@ -80,10 +80,7 @@ fn open_on<'i, S: Sheet<'i>, F: Files>(
 }
 
 /// Where minutes are written, where a file is given for them.
-fn minutes_in<O: Office>(
-    office: &O,
-    minutes: Option<String>,
-) -> Result<Option<O::Minutes>, Fault> {
+fn minutes_in<O: Office>(office: &O, minutes: Option<String>) -> Result<Option<O::Minutes>, Fault> {
     let Some(name) = minutes else {
         return Ok(None);
     };

@@ -249,8 +249,7 @@ fn desk_command<'a>(alloc: Global) -> Result<Command<'a>, AllocError>
             alloc,
             "seat",
             "SEAT",
-            "The seats of the planners, at most 64: lines come from SEAT.in, and answers go to SEAT.out; \
-             '-' is standard input and standard output",
+            "The seats of the planners, at most 64: lines come from SEAT.in, and answers go to SEAT.out",
         ),
         barred_argument(alloc),
         start_argument(alloc),
@@ -258,7 +257,7 @@ fn desk_command<'a>(alloc: Global) -> Result<Command<'a>, AllocError>
             alloc,
             "minutes",
             "FILE",
-            "The file to which each accepted draft is written before its planner is told",
+            "The file to write with each accepted draft before its planner is told",
         ),
     ]?;
     Command::new(alloc, "desk")

@@ -138,7 +138,11 @@ where
     }
 
     fn open_minutes(&self, name: &str) -> Result<Device<R::File>, Failed> {
-        match OpenOptions::new().append(true).create(true).open(self.rt, name) {
+        match OpenOptions::new()
+            .append(true)
+            .create(true)
+            .open(self.rt, name)
+        {
             Ok(file) => Ok(Device::new(file)),
             Err(_) => Err(Failed),
         }

@@ -16,8 +16,8 @@ returns-in_ok-list-in-Agrees-clause-list g c =
     let made : a.made ≡ None = ap (λ (v : AuditorValue). v.made) c.self.view_is ∙ c.requires.ready in
     let on : MadeOn i (after i inv.t0 a.entries) u a.asked a.differs a.made a.told = inv.goes_on c.in-Agrees.is in
     let replayed : Replayed i (after i inv.t0 a.entries) u [] a.differs =
-        subst (λ q. Replayed i (after i inv.t0 a.entries) u q a.differs) asked
-        (subst (λ m. MadeOn i (after i inv.t0 a.entries) u a.asked a.differs m a.told) made on) in
+    subst (λ q. Replayed i (after i inv.t0 a.entries) u q a.differs) asked
+    (subst (λ m. MadeOn i (after i inv.t0 a.entries) u a.asked a.differs m a.told) made on) in
     let left : c.in_ok-list-in-Agrees.field-0.items ≡ u = c.in_ok-list-in-Agrees.ensures in
     let here : LeavesList i a.opening.now a.entries c.in_ok-list-in-Agrees.field-0.items = record {
       t0 = inv.t0;

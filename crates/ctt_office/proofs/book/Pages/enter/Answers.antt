@@ -16,4 +16,4 @@ invariant_of-self-in-Ok g c failed =
     let prefix : IsPrefix before history = search rules in
     let long : length history ≡ length before + 1 = (let n = c.number-number.ensures.number in let m = c.count-written.ensures in omega (arith, n, m, c.if-number-written.false, c.if-number-written-gt1.false)) in
     subst (λ h. AreMinutesOf i h start (g.W.Sink.taken c.write.new.writer)) (sym c.again.ensures)
-        (minutes_grow i start (g.W.Sink.taken a.writer) (g.W.Sink.taken c.write.new.writer) before history c.args.entry.now minutes c.in-Ok.ensures.taken prefix long c.requires)
+    (minutes_grow i start (g.W.Sink.taken a.writer) (g.W.Sink.taken c.write.new.writer) before history c.args.entry.now minutes c.in-Ok.ensures.taken prefix long c.requires)
