@@ -18,7 +18,7 @@ ghost use Rattle.ctt_board.specs.Changes.{ChangeFits, apply as applied, apply_al
 ghost use Rattle.ctt_draft.specs.Undo.{undo_of, all_noted, AreWithin};
 ghost use Rattle.ctt_draft.specs.Comparisons.{LeavesRest};
 
-use crate::asked::{Asked, note_told};
+use crate::asked::{Asked, AskedCalls, note_told};
 use crate::comparing::Comparison;
 use crate::idle::Idle;
 use crate::laws;
@@ -414,9 +414,16 @@ impl<'i, S: Sheet<'i>, K: Keeping> Draft<'i, S, K> {
 impl<'i, S: Sheet<'i>> Draft<'i, S, KeepAll> {
     /// The calls with their replies, in order.
     pub fn asked(&self) -> &[Asked]
-        ensures asked { result.now ≡ self.now.asked }
-        ensures told { IsTold self.now.problem self.now.base self.now.asked }
+        ensures { result.now ≡ self.now.asked }
     {
         self.asked.as_slice()
+    }
+
+    /// A copy of the calls with their replies, in order.
+    pub fn asked_again(&self, alloc: Global) -> Result<AskedCalls, NoMemory>
+        ensures copy { IfOk result (λ copy. copy ≡ self.now.asked) }
+        ensures told { IsTold self.now.problem self.now.base self.now.asked }
+    {
+        AskedCalls::copy_of(alloc, self.asked.as_slice())
     }
 }

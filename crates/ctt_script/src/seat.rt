@@ -16,7 +16,7 @@ use ctt_desk::{
     Drafting, Naming, Planner, Receipt, RefreshRefusal, Refusal, SharedDesk, SharedFault,
 };
 use ctt_edits::{Call, Look};
-use std::alloc::AllocError;
+use ctt_text::{NoMemory, let_go};
 use std::sync::Wait;
 
 /// A planner at work.
@@ -55,13 +55,14 @@ fn unread<J: Naming>(fault: SharedFault) -> Told
 fn write_draft<'i, S: Sheet<'i>, J: Naming>(
     drafting: &Drafting<'i, S, J>,
     text: &mut String,
-) -> Result<(), AllocError>
+) -> Result<(), NoMemory>
     ensures { OnOk result (string_bytes text.new ≡ string_bytes text.old ++ entry_text J.problem (entry_of drafting.now.planner.number drafting.now.asked)) }
 {
-    let instance = (&*drafting).instance();
-    let number = (&*drafting).number();
-    let asked = (&*drafting).asked();
-    write_entry(&mut *text, &*instance, number, &*asked)
+    let instance = drafting.instance();
+    let entry = drafting.entry()?;
+    let written = write_entry(text, instance, entry.planner, entry.asked.as_slice());
+    let_go(entry);
+    Ok(written?)
 }
 
 impl<'i, S: Sheet<'i>, J: Naming> Seat<'i, S, J> {
@@ -95,7 +96,7 @@ impl<'i, S: Sheet<'i>, J: Naming> Seat<'i, S, J> {
     }
 
     /// Adds the entry of the open draft, as a journal has it, if a draft is open.
-    pub fn write_entry(&self, text: &mut String) -> Result<(), AllocError>
+    pub fn write_entry(&self, text: &mut String) -> Result<(), NoMemory>
         ensures { OnOk result (string_bytes text.new ≡ string_bytes text.old ++ open_entry J.problem self.now) }
     {
         match self {

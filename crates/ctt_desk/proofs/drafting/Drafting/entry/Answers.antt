@@ -6,7 +6,7 @@ use Rattle.ctt_draft.specs.Drafts.{AskedFits}
 use Rattle.ctt_draft.specs.DraftValues.{DraftValue, IsTold}
 use Rattle.ctt_core.proofs.JournalLemmas.{told_fit}
 use Rattle.ctt_desk.specs.Planners.{DraftingValue}
-use Rattle.ctt_desk.proofs.drafting.Drafting.asked.Goals as goal
+use Rattle.ctt_desk.proofs.drafting.Drafting.entry.Goals as goal
 
 pub returns-clause-fit : goal.returns-clause-fit
 returns-clause-fit g c =
