@@ -67,10 +67,9 @@ impl<'i, S: Sheet<'i>, J: Naming> Drafting<'i, S, J> {
     {
         self.draft.instance().limits_hold();
         self.draft.lawful();
-        Ok(JournalEntry {
-            planner: self.planner.number(),
-            asked: self.draft.asked_again(self.planner.alloc)?,
-        })
+        let asked = self.draft.asked_again(self.planner.alloc)?;
+        let planner = self.planner.number();
+        Ok(JournalEntry { planner, asked })
     }
 
     /// Gives the draft up. Its sheet is kept.
