@@ -22,7 +22,7 @@ use Rattle.ctt_text.proofs.FormLaws.{err_is_ok, err_same}
 use Rattle.ctt_tool.specs.Texts.{IsNoBarred, IsNoInstance, IsNoJournal, IsNoSolution}
 use Rattle.ctt_tool.specs.Faults.{IfUnwritten, fault_of_barred, fault_of_instance, fault_of_journal, fault_of_solution, status_of}
 use Rattle.ctt_tool.specs.declared.fault.Fault.{Fault}
-use Rattle.ctt_tool.specs.declared.fault.Fault.TheVariants.{Barred, CannotRead, CannotWrite, Instance, Journal, NoMemory, NoPlace, NoThread, Opening, Solution, TooLong, TooManyScripts, Words, WordsNotText}
+use Rattle.ctt_tool.specs.declared.fault.Fault.TheVariants.{BadSeats, Barred, CannotRead, CannotWrite, Instance, Journal, MinutesExist, NoMemory, NoPlace, NoThread, Opening, Solution, TooLong, TooManyScripts, Words, WordsNotText}
 
 -- the status that is told is that of the fault, unless it is 3
 pub one_is_of_fault : (fault : Fault) (status : ℕ) → (status ≡ status_of fault) ⊎ (status ≡ 3) → status ≡ 1 → status_of fault ≡ 1
@@ -48,6 +48,8 @@ machine_only (Words text) A K P is one = three_is_one (ap status_of (sym is.0) �
 machine_only WordsNotText A K P is one = three_is_one (ap status_of (sym is.0) ∙ one)
 machine_only TooManyScripts A K P is one = three_is_one (ap status_of (sym is.0) ∙ one)
 machine_only NoPlace A K P is one = three_is_one (ap status_of (sym is.0) ∙ one)
+machine_only BadSeats A K P is one = three_is_one (ap status_of (sym is.0) ∙ one)
+machine_only (MinutesExist name) A K P is one = three_is_one (ap status_of (sym is.0) ∙ one)
 machine_only NoThread A K P is one = three_is_one (ap status_of (sym is.0) ∙ one)
 
 pub unstored_refuses_none : {T : Type 0} (r : Result T Fault) (A K : Type 0) (P : Fault → Type 0) → IfErr r (λ fault. IfUnwritten fault A ((fault ≡ NoMemory) × K)) → IfErr r (λ fault. status_of fault ≡ 1 → P fault)

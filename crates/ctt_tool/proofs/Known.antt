@@ -5,12 +5,12 @@ use Rattle.std.specs.Io.KnownBytes.{Appends}
 use Rattle.std.specs.declared.string.String.{String}
 use Rattle.std.proofs.lemmas.List.{length-map}
 use Rattle.ctt_tool.specs.Faults.{IfUnwritten, IsLineOf, IsOfFiles, IsOneOf, KeptUnless, SaysFault, status_of}
-use Rattle.ctt_tool.specs.Jobs.{HasScripts, given, IsJobOf, IsOfJob, IsRefusal, Storing, faults_of, files_of, scripts_of}
-use Rattle.ctt_tool.specs.Work.{AsksForTooMany, HasCause}
+use Rattle.ctt_tool.specs.Jobs.{HasScripts, IsDesk, IsJobOf, IsOfJob, IsOfJobFiles, IsRefusal, Storing, faults_of, given, minutes_of, planners_of}
+use Rattle.ctt_tool.specs.Work.{AsksForDesk, AsksForTooMany, HasCause}
 use Rattle.ctt_tool.specs.declared.fault.Fault.{Fault}
-use Rattle.ctt_tool.specs.declared.fault.Fault.TheVariants.{Barred, CannotRead, CannotWrite, Instance, Journal, NoMemory, NoPlace, NoThread, Opening, Solution, TooLong, TooManyScripts, Words, WordsNotText}
+use Rattle.ctt_tool.specs.declared.fault.Fault.TheVariants.{BadSeats, Barred, CannotRead, CannotWrite, Instance, Journal, MinutesExist, NoMemory, NoPlace, NoThread, Opening, Solution, TooLong, TooManyScripts, Words, WordsNotText}
 use Rattle.ctt_tool.specs.declared.job.Job.{Job}
-use Rattle.ctt_tool.specs.declared.job.Job.TheVariants.{Audit, Check, Crew, Run}
+use Rattle.ctt_tool.specs.declared.job.Job.TheVariants.{Audit, Check, Crew, Desk, Journal as Journals, Listing, Run}
 
 pub both_told : {X Y : Type 0} (o : Option X) (p : Option Y) (P : X → Type 0) (Q : Y → Type 0) (R : X → Y → Type 0) → ((x : X) (y : Y) → P x → Q y → R x y)
     → IfSome o P → IfSome p Q → IfSome o (λ x. IfSome p (R x))
@@ -61,24 +61,52 @@ one_in_front None first names name (inr none) = absurd none
 one_in_front (Some other) first names name (inr (inl same)) = inr (inl same)
 one_in_front (Some other) first names name (inr (inr none)) = absurd none
 
--- scripts are too many only for a crew, and threads and places are only a crew's
-too_many : (job : Job) → IsOfJob job TooManyScripts → 64 < length (scripts_of job)
+-- scripts are too many only for a crew, and threads and places are only a crew's or a desk's
+too_many : (job : Job) → IsOfJob job TooManyScripts → 64 < length (planners_of job)
 too_many (Check instance barred solution json) is = absurd is
 too_many (Run instance barred script start journal) is = absurd is
 too_many (Audit instance barred journal start) is = absurd is
 too_many (Crew instance barred scripts) is = is
+too_many (Desk instance barred seats start minutes) is = absurd is
+too_many (Journals instance barred minutes) is = absurd is
+too_many (Listing instance barred journal start) is = absurd is
 
-some_scripts : (job : Job) → IsOfJob job NoThread → 1 ≤ length (scripts_of job)
+some_scripts : (job : Job) → IsOfJob job NoThread → 1 ≤ length (planners_of job)
 some_scripts (Check instance barred solution json) is = absurd is
 some_scripts (Run instance barred script start journal) is = absurd is
 some_scripts (Audit instance barred journal start) is = absurd is
 some_scripts (Crew instance barred scripts) is = is
+some_scripts (Desk instance barred seats start minutes) is = is
+some_scripts (Journals instance barred minutes) is = absurd is
+some_scripts (Listing instance barred journal start) is = absurd is
 
-some_places : (job : Job) → IsOfJob job NoPlace → 1 ≤ length (scripts_of job)
+some_places : (job : Job) → IsOfJob job NoPlace → 1 ≤ length (planners_of job)
 some_places (Check instance barred solution json) is = absurd is
 some_places (Run instance barred script start journal) is = absurd is
 some_places (Audit instance barred journal start) is = absurd is
 some_places (Crew instance barred scripts) is = is
+some_places (Desk instance barred seats start minutes) is = is
+some_places (Journals instance barred minutes) is = absurd is
+some_places (Listing instance barred journal start) is = absurd is
+
+-- seats are refused only of a desk, and so are minutes
+bad_seats : (job : Job) → IsOfJob job BadSeats → IsDesk job
+bad_seats (Check instance barred solution json) is = absurd is
+bad_seats (Run instance barred script start journal) is = absurd is
+bad_seats (Audit instance barred journal start) is = absurd is
+bad_seats (Crew instance barred scripts) is = absurd is
+bad_seats (Desk instance barred seats start minutes) is = tt
+bad_seats (Journals instance barred minutes) is = absurd is
+bad_seats (Listing instance barred journal start) is = absurd is
+
+minutes_exist : (job : Job) (name : String Global) → IsOfJob job (MinutesExist name) → minutes_of job ≡ Some name
+minutes_exist (Check instance barred solution json) name is = absurd is
+minutes_exist (Run instance barred script start journal) name is = absurd is
+minutes_exist (Audit instance barred journal start) name is = absurd is
+minutes_exist (Crew instance barred scripts) name is = absurd is
+minutes_exist (Desk instance barred seats start minutes) name is = is
+minutes_exist (Journals instance barred minutes) name is = absurd is
+minutes_exist (Listing instance barred journal start) name is = absurd is
 
 -- and no job refuses the words that ask for it
 no_words : (job : Job) (text : String Global) → IsOfJob job (Words text) → ⊥
@@ -86,15 +114,21 @@ no_words (Check instance barred solution json) text is = is
 no_words (Run instance barred script start journal) text is = is
 no_words (Audit instance barred journal start) text is = is
 no_words (Crew instance barred scripts) text is = is
+no_words (Desk instance barred seats start minutes) text is = is
+no_words (Journals instance barred minutes) text is = is
+no_words (Listing instance barred journal start) text is = is
 
 no_word : (job : Job) → IsOfJob job WordsNotText → ⊥
 no_word (Check instance barred solution json) is = is
 no_word (Run instance barred script start journal) is = is
 no_word (Audit instance barred journal start) is = is
 no_word (Crew instance barred scripts) is = is
+no_word (Desk instance barred seats start minutes) is = is
+no_word (Journals instance barred minutes) is = is
+no_word (Listing instance barred journal start) is = is
 
 -- the cause of a fault of a job
-pub job_caused : (words : List (List ℕ)) (held : List ℕ → Option (List ℕ)) (failed : Bool) (job : Job) (Q : Type 0) (fault : Fault) → IsJobOf words job → IsOfFiles (files_of job) held fault
+pub job_caused : (words : List (List ℕ)) (held : List ℕ → Option (List ℕ)) (failed : Bool) (job : Job) (Q : Type 0) (fault : Fault) → IsJobOf words job → IsOfJobFiles job held fault
     → IfUnwritten fault ((failed ≡ true) ⊎ Storing job) (IsOfJob job fault × Q) → HasCause words held failed fault
 job_caused words held failed job Q CannotWrite is file unwritten = ⊎_elim inl (λ storing. inr (job, is, storing)) unwritten
 job_caused words held failed job Q (CannotRead name) is file unwritten = (job, is, file)
@@ -102,12 +136,14 @@ job_caused words held failed job Q (TooLong name) is file unwritten = (job, is, 
 job_caused words held failed job Q TooManyScripts is file unwritten = (job, is, too_many job unwritten.0)
 job_caused words held failed job Q NoThread is file unwritten = (job, is, some_scripts job unwritten.0)
 job_caused words held failed job Q NoPlace is file unwritten = (job, is, some_places job unwritten.0)
+job_caused words held failed job Q BadSeats is file unwritten = (job, is, bad_seats job unwritten.0)
+job_caused words held failed job Q (MinutesExist name) is file unwritten = (job, is, minutes_exist job name unwritten.0)
 job_caused words held failed job Q _ is file unwritten = tt
 
--- a refusal of a job is that of too many scripts
+-- a refusal of a job is that of too many scripts, or of the seats of a desk
 pub job_refused : (words : List (List ℕ)) (job : Job) (P Q : Type 0) (fault : Fault) → IsJobOf words job → IfUnwritten fault P (IsOfJob job fault × Q) → status_of fault ≡ 2
-    → IsRefusal (faults_of words) ⊎ AsksForTooMany words
-job_refused words job P Q TooManyScripts is unwritten two = inr (job, is, too_many job unwritten.0)
+    → IsRefusal (faults_of words) ⊎ (AsksForTooMany words ⊎ AsksForDesk words)
+job_refused words job P Q TooManyScripts is unwritten two = inr (inl (job, is, too_many job unwritten.0))
 job_refused words job P Q (Words text) is unwritten two = absurd (no_words job text unwritten.0)
 job_refused words job P Q WordsNotText is unwritten two = absurd (no_word job unwritten.0)
 job_refused words job P Q (Instance number at) is unwritten two = absurd (omega (arith, two))
@@ -121,6 +157,8 @@ job_refused words job P Q CannotWrite is unwritten two = absurd (omega (arith, t
 job_refused words job P Q NoMemory is unwritten two = absurd (omega (arith, two))
 job_refused words job P Q NoThread is unwritten two = absurd (omega (arith, two))
 job_refused words job P Q NoPlace is unwritten two = absurd (omega (arith, two))
+job_refused words job P Q BadSeats is unwritten two = inr (inr (job, is, bad_seats job unwritten.0))
+job_refused words job P Q (MinutesExist name) is unwritten two = absurd (omega (arith, two))
 
 -- a job that words ask for has what a crew needs
 pub job_has_scripts : (words : List (List ℕ)) (job : Job) → IsJobOf words job → HasScripts job
@@ -128,6 +166,9 @@ job_has_scripts words (Check instance barred solution json) is = tt
 job_has_scripts words (Run instance barred script start journal) is = tt
 job_has_scripts words (Audit instance barred journal start) is = tt
 job_has_scripts words (Crew instance barred scripts) is = subst (λ n. 1 ≤ n) (length-map scripts.items string_bytes) is.2.has_some
+job_has_scripts words (Desk instance barred seats start minutes) is = subst (λ n. 1 ≤ n) (length-map seats.items string_bytes) is.2.has_some
+job_has_scripts words (Journals instance barred minutes) is = tt
+job_has_scripts words (Listing instance barred journal start) is = tt
 
 -- what holds of a fault holds where it is passed on
 pub passed_on : {T : Type 0} (r : Result T Fault) (fault : Fault) (P : Fault → Type 0) → IsErrAnd r (λ told. told ≡ fault) → P fault → IfErr r P
@@ -150,6 +191,8 @@ kept_unless WordsNotText S K kept = kept
 kept_unless TooManyScripts S K kept = kept
 kept_unless NoThread S K kept = kept
 kept_unless NoPlace S K kept = kept
+kept_unless BadSeats S K kept = kept
+kept_unless (MinutesExist name) S K kept = kept
 
 pub kept_weaker : (fault : Fault) (S R K L : Type 0) → (S → R) → (K → L) → KeptUnless fault S K → KeptUnless fault R L
 kept_weaker CannotWrite S R K L more kept is = ⊎_elim (λ same. inl (kept same)) (λ stored. inr (more stored)) is
@@ -166,3 +209,5 @@ kept_weaker WordsNotText S R K L more kept is = kept is
 kept_weaker TooManyScripts S R K L more kept is = kept is
 kept_weaker NoThread S R K L more kept is = kept is
 kept_weaker NoPlace S R K L more kept is = kept is
+kept_weaker BadSeats S R K L more kept is = kept is
+kept_weaker (MinutesExist name) S R K L more kept is = kept is

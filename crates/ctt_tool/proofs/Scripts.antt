@@ -9,7 +9,7 @@ use Rattle.clap.specs.Words.{Row, Text, all_of, first_of}
 use Rattle.ctt_tool.specs.Faults.{IsOfCrew, IsOfFile, IsOfFiles, IsOfReading, IsOfTexts, IsOneOf, status_of}
 use Rattle.ctt_tool.specs.Texts.{Held, Holds, HoldInTurn}
 use Rattle.ctt_tool.specs.declared.fault.Fault.{Fault}
-use Rattle.ctt_tool.specs.declared.fault.Fault.TheVariants.{Barred, CannotRead, CannotWrite, Instance, Journal, NoMemory, NoPlace, NoThread, Opening, Solution, TooLong, TooManyScripts, Words, WordsNotText}
+use Rattle.ctt_tool.specs.declared.fault.Fault.TheVariants.{BadSeats, Barred, CannotRead, CannotWrite, Instance, Journal, MinutesExist, NoMemory, NoPlace, NoThread, Opening, Solution, TooLong, TooManyScripts, Words, WordsNotText}
 
 -- ---- what the words give
 
@@ -108,6 +108,8 @@ file_is_read name CannotWrite is = is
 file_is_read name TooManyScripts is = is
 file_is_read name NoThread is = is
 file_is_read name NoPlace is = is
+file_is_read name BadSeats is = is
+file_is_read name (MinutesExist file) is = is
 
 pub texts_of_crew : (scripts : ℕ) (fault : Fault) → IsOfTexts fault → IsOfCrew scripts fault
 texts_of_crew scripts (CannotRead file) is = tt
@@ -124,6 +126,8 @@ texts_of_crew scripts CannotWrite is = absurd is
 texts_of_crew scripts TooManyScripts is = absurd is
 texts_of_crew scripts NoThread is = absurd is
 texts_of_crew scripts NoPlace is = absurd is
+texts_of_crew scripts BadSeats is = absurd is
+texts_of_crew scripts (MinutesExist name) is = absurd is
 
 pub reading_of_texts : (fault : Fault) → IsOfReading fault → IsOfTexts fault
 reading_of_texts (CannotRead file) is = tt
@@ -140,6 +144,8 @@ reading_of_texts CannotWrite is = is
 reading_of_texts TooManyScripts is = is
 reading_of_texts NoThread is = is
 reading_of_texts NoPlace is = is
+reading_of_texts BadSeats is = is
+reading_of_texts (MinutesExist name) is = is
 
 pub reading_is_three : (fault : Fault) → IsOfReading fault → status_of fault ≡ 3
 reading_is_three (CannotRead file) is = refl
@@ -156,6 +162,8 @@ reading_is_three CannotWrite is = absurd is
 reading_is_three TooManyScripts is = absurd is
 reading_is_three NoThread is = absurd is
 reading_is_three NoPlace is = absurd is
+reading_is_three BadSeats is = absurd is
+reading_is_three (MinutesExist name) is = absurd is
 
 -- a crew at work fails by a place, by a thread, or for want of memory
 abbrev pub IsOfWork : Fault → Type 0

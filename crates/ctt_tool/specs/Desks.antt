@@ -9,16 +9,24 @@ use Rattle.ctt_edits.specs.Openings.{opening}
 use Rattle.ctt_script.specs.CrewText.{IsCrewText}
 use Rattle.ctt_tool.specs.Texts.{Held, IsInstanceIn, IsStart}
 
+-- the start is placed, lecture by lecture, and makes this timetable
+pub record IsOpenOn (problem : Problem) (start : Option (String Global)) (held : Held) (t0 : List Placed) : Type 0 where
+  pub lectures : List Placed
+  pub is_start : IsStart problem held start lectures
+  pub opens : opening problem lectures ≡ Ok t0
+
 -- the last lines of a desk of the instance in a file that opens with the start: how many drafts were accepted, and what the timetable costs that they leave, in one order of commits
 pub record IsOfDeskOn (instance : String Global) (barred start : Option (String Global)) (held : Held) (bytes : List ℕ) : Type 0 where
   pub problem : Problem
   pub is_instance : IsInstanceIn held instance barred problem
-  pub lectures : List Placed
-  pub is_start : IsStart problem held start lectures
   pub t0 : List Placed
-  pub opens : opening problem lectures ≡ Ok t0
+  pub opens : IsOpenOn problem start held t0
   pub is_last : IsCrewText problem t0 0 bytes
 
--- such lines are said on standard output, or, where that is a seat, on standard error
-abbrev pub SaysLast : String Global → Option (String Global) → Option (String Global) → Held → Option (List ℕ) → Option (List ℕ) → Option (List ℕ) → Option (List ℕ) → Type 0
-SaysLast instance barred start held old new said_old said_new = (bytes : List ℕ) × IsOfDeskOn instance barred start held bytes × (Appends old new bytes ⊎ Appends said_old said_new bytes)
+-- such lines are printed; or nothing is, as where standard output is a seat
+abbrev pub PrintsLast : String Global → Option (String Global) → Option (String Global) → Held → Option (List ℕ) → Option (List ℕ) → Type 0
+PrintsLast instance barred start held old new = ((bytes : List ℕ) × IsOfDeskOn instance barred start held bytes × Appends old new bytes) ⊎ (new ≡ old)
+
+-- such lines are printed, or said on standard error
+abbrev pub TellsLast : String Global → Option (String Global) → Option (String Global) → Held → Option (List ℕ) → Option (List ℕ) → Option (List ℕ) → Option (List ℕ) → Type 0
+TellsLast instance barred start held old new said_old said_new = (bytes : List ℕ) × IsOfDeskOn instance barred start held bytes × (Appends old new bytes ⊎ Appends said_old said_new bytes)

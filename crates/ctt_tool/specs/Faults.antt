@@ -1,5 +1,5 @@
 -- The faults of the program: their numbers and their statuses.
-use Rattle.std.specs.Prelude.{◌≡◌, ◌⊎◌, ◌++◌, ◌<◌, ◌≤◌, ℕ, List, [], ◌∷◌, Option, IfSome, codes, length}
+use Rattle.std.specs.Prelude.{◌≡◌, ◌⊎◌, ◌++◌, ◌<◌, ◌≤◌, ℕ, List, [], ◌∷◌, Option, Some, IfSome, codes, length}
 use Rattle.std.specs.Fmt.{decimal}
 use Rattle.std.specs.Global.{Global}
 use Rattle.std.specs.Io.KnownBytes.{Appends}
@@ -205,24 +205,24 @@ IsOfCrew scripts CannotWrite = ⊥
 IsOfCrew scripts BadSeats = ⊥
 IsOfCrew scripts (MinutesExist name) = ⊥
 
--- the fault lies in a text or its file, or memory was wanted, or, of a desk of so many seats, they are too many, or one is given twice, or its minutes exist, or a planner had no place or no thread
-abbrev pub IsOfDesk : ℕ → Fault → Type 0
-IsOfDesk seats BadSeats = Unit {0}
-IsOfDesk seats (MinutesExist name) = Unit {0}
-IsOfDesk seats NoThread = 1 ≤ seats
-IsOfDesk seats NoPlace = 1 ≤ seats
-IsOfDesk seats (Instance number at) = Unit {0}
-IsOfDesk seats (Solution number at) = Unit {0}
-IsOfDesk seats (Barred number at) = Unit {0}
-IsOfDesk seats (Journal number at) = Unit {0}
-IsOfDesk seats (Opening text) = Unit {0}
-IsOfDesk seats (CannotRead name) = Unit {0}
-IsOfDesk seats (TooLong name) = Unit {0}
-IsOfDesk seats NoMemory = Unit {0}
-IsOfDesk seats (Words text) = ⊥
-IsOfDesk seats WordsNotText = ⊥
-IsOfDesk seats TooManyScripts = ⊥
-IsOfDesk seats CannotWrite = ⊥
+-- the fault lies in a text or its file, or memory was wanted, or, of a desk of so many seats with these minutes, the seats are refused, or the minutes exist, or a planner had no place or no thread
+abbrev pub IsOfDesk : ℕ → Option (String Global) → Fault → Type 0
+IsOfDesk seats minutes BadSeats = Unit {0}
+IsOfDesk seats minutes (MinutesExist name) = minutes ≡ Some name
+IsOfDesk seats minutes NoThread = 1 ≤ seats
+IsOfDesk seats minutes NoPlace = 1 ≤ seats
+IsOfDesk seats minutes (Instance number at) = Unit {0}
+IsOfDesk seats minutes (Solution number at) = Unit {0}
+IsOfDesk seats minutes (Barred number at) = Unit {0}
+IsOfDesk seats minutes (Journal number at) = Unit {0}
+IsOfDesk seats minutes (Opening text) = Unit {0}
+IsOfDesk seats minutes (CannotRead name) = Unit {0}
+IsOfDesk seats minutes (TooLong name) = Unit {0}
+IsOfDesk seats minutes NoMemory = Unit {0}
+IsOfDesk seats minutes (Words text) = ⊥
+IsOfDesk seats minutes WordsNotText = ⊥
+IsOfDesk seats minutes TooManyScripts = ⊥
+IsOfDesk seats minutes CannotWrite = ⊥
 
 -- P where standard output could not be written, and else Q
 abbrev pub IfUnwritten : Fault → Type 0 → Type 0 → Type 0
@@ -307,3 +307,14 @@ abbrev pub IsOfFiles : List (String Global) → (List ℕ → Option (List ℕ))
 IsOfFiles names held (CannotRead name) = IsOneOf name names
 IsOfFiles names held (TooLong name) = IsOneOf name names × IfSome (held (string_bytes name)) (λ text. 67108864 < length text)
 IsOfFiles names held _ = Unit {0}
+
+-- the file of the lines of one of these seats
+abbrev pub IsInputOf : String Global → List (String Global) → Type 0
+IsInputOf name [] = ⊥
+IsInputOf name (seat ∷ seats) = (string_bytes name ≡ string_bytes seat ++ codes ".in") ⊎ IsInputOf name seats
+
+-- the same of a desk, where it may also be the file of a seat's lines that cannot be read
+abbrev pub IsOfDeskFiles : List (String Global) → List (String Global) → (List ℕ → Option (List ℕ)) → Fault → Type 0
+IsOfDeskFiles names seats held (CannotRead name) = IsOneOf name names ⊎ IsInputOf name seats
+IsOfDeskFiles names seats held (TooLong name) = IsOneOf name names × IfSome (held (string_bytes name)) (λ text. 67108864 < length text)
+IsOfDeskFiles names seats held _ = Unit {0}

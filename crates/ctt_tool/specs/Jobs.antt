@@ -7,7 +7,7 @@ use Rattle.clap.specs.Words.{IsAmong, Kinds, Row, Text, all_of, fault_of, first_
 use Rattle.clap.specs.declared.error.kind.ErrorKind.{ErrorKind}
 use Rattle.clap.specs.declared.error.kind.ErrorKind.TheVariants.{DisplayHelp, DisplayVersion, OutOfMemory}
 use Rattle.ctt_tool.specs.CommandLine.{IsOnOrOff, is_on, timedesk}
-use Rattle.ctt_tool.specs.Faults.{IsOfCrew, IsOfDesk, IsOfTexts}
+use Rattle.ctt_tool.specs.Faults.{IsOfCrew, IsOfDesk, IsOfDeskFiles, IsOfFiles, IsOfTexts}
 use Rattle.ctt_tool.specs.declared.fault.Fault.{Fault}
 use Rattle.ctt_tool.specs.declared.job.Job.{Job}
 use Rattle.ctt_tool.specs.declared.job.Job.TheVariants.{Audit, Check, Crew, Desk, Journal, Listing, Run}
@@ -147,25 +147,29 @@ files_of (Desk instance barred seats start minutes) = instance ∷ given barred 
 files_of (Journal instance barred minutes) = instance ∷ given barred ++ minutes ∷ []
 files_of (Listing instance barred journal start) = instance ∷ given barred ++ journal ∷ given start
 
--- the seats that a desk is given
-abbrev pub seats_of : Job → List (String Global)
-seats_of (Check instance barred solution json) = []
-seats_of (Run instance barred script start journal) = []
-seats_of (Audit instance barred journal start) = []
-seats_of (Crew instance barred scripts) = []
-seats_of (Desk instance barred seats start minutes) = seats.items
-seats_of (Journal instance barred minutes) = []
-seats_of (Listing instance barred journal start) = []
+-- one of them cannot be read, or is too long; or, of a desk, that of a seat's lines cannot be read
+abbrev pub IsOfJobFiles : Job → (List ℕ → Option (List ℕ)) → Fault → Type 0
+IsOfJobFiles (Desk instance barred seats start minutes) held fault = IsOfDeskFiles (files_of (Desk instance barred seats start minutes)) seats.items held fault
+IsOfJobFiles job held fault = IsOfFiles (files_of job) held fault
 
--- the scripts that a crew is given
-abbrev pub scripts_of : Job → List (String Global)
-scripts_of (Check instance barred solution json) = []
-scripts_of (Run instance barred script start journal) = []
-scripts_of (Audit instance barred journal start) = []
-scripts_of (Crew instance barred scripts) = scripts.items
-scripts_of (Desk instance barred seats start minutes) = []
-scripts_of (Journal instance barred minutes) = []
-scripts_of (Listing instance barred journal start) = []
+-- the minutes that a desk is given
+abbrev pub minutes_of : Job → Option (String Global)
+minutes_of (Desk instance barred seats start minutes) = minutes
+minutes_of job = None
+
+abbrev pub IsDesk : Job → Type 0
+IsDesk (Desk instance barred seats start minutes) = Unit {0}
+IsDesk job = ⊥
+
+-- the scripts that a crew is given, or the seats of a desk
+abbrev pub planners_of : Job → List (String Global)
+planners_of (Check instance barred solution json) = []
+planners_of (Run instance barred script start journal) = []
+planners_of (Audit instance barred journal start) = []
+planners_of (Crew instance barred scripts) = scripts.items
+planners_of (Desk instance barred seats start minutes) = seats.items
+planners_of (Journal instance barred minutes) = []
+planners_of (Listing instance barred journal start) = []
 
 -- a crew is given at least one, and a desk at least one seat
 abbrev pub HasScripts : Job → Type 0
@@ -203,7 +207,7 @@ IsOfJob (Check instance barred solution json) fault = IsOfTexts fault
 IsOfJob (Run instance barred script start journal) fault = IsOfTexts fault
 IsOfJob (Audit instance barred journal start) fault = IsOfTexts fault
 IsOfJob (Crew instance barred scripts) fault = IsOfCrew (length scripts.items) fault
-IsOfJob (Desk instance barred seats start minutes) fault = IsOfDesk (length seats.items) fault
+IsOfJob (Desk instance barred seats start minutes) fault = IsOfDesk (length seats.items) minutes fault
 IsOfJob (Journal instance barred minutes) fault = IsOfTexts fault
 IsOfJob (Listing instance barred journal start) fault = IsOfTexts fault
 

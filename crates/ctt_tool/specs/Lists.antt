@@ -12,7 +12,9 @@ use Rattle.ctt_core.specs.declared.auditing.Verdict.{Verdict}
 use Rattle.ctt_core.specs.declared.auditing.Verdict.TheVariants.{Agrees}
 use Rattle.ctt_core.specs.declared.journal.JournalEntry.{JournalEntry}
 use Rattle.ctt_script.specs.WrittenText.{entry_text, journal_text}
-use Rattle.ctt_office.specs.Recovery.{IsRecovered}
+use Rattle.ctt_script.specs.declared.journal_fault.JournalFault.{JournalFault}
+use Rattle.ctt_script.specs.declared.journal_fault.JournalFault.TheVariants.{NoMemory}
+use Rattle.ctt_office.specs.Recovery.{IsMinutesFault, IsRecovered}
 use Rattle.ctt_tool.specs.Audits.{IsRefusedAudit, PrintsVerdict}
 use Rattle.ctt_tool.specs.Texts.{Held, Holds, IsInstanceIn, IsJournalText, IsNoInstanceIn, IsStart}
 use Rattle.ctt_tool.specs.declared.outcome.Outcome.{Outcome}
@@ -50,3 +52,12 @@ pub record ListsJournal (instance : String Global) (barred : Option (String Glob
   pub problem : Problem
   pub is_instance : IsInstanceIn held instance barred problem
   pub lists : ListsOn problem journal start outcome held old new
+
+-- the text is refused, as minutes of the instance
+abbrev pub IsNoMinutes : Problem → List ℕ → Type 0
+IsNoMinutes problem text = (fault : JournalFault) × (fault ≢ NoMemory) × IsMinutesFault problem text fault
+
+-- there is no instance, or one of which the file holds no minutes
+abbrev pub IsRefusedMinutes : Held → String Global → Option (String Global) → String Global → Type 0
+IsRefusedMinutes held instance barred minutes = IsNoInstanceIn held instance barred
+    ⊎ ((problem : Problem) × IsInstanceIn held instance barred problem × Holds held minutes (IsNoMinutes problem))

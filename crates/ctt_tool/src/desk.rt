@@ -1,5 +1,15 @@
 //! The command `desk`.
 
+ghost use Rattle.std.specs.Prelude.{◌≡◌, ◌⊎◌, ◌≤◌, ℕ, [], ◌∷◌, ◌++◌, Ok, Err, Some, true, length, codes, OnOk, OnErr, IfOk, IfErr, IfSome};
+ghost use Rattle.std.specs.String.{string_bytes};
+ghost use Rattle.ctt_script.specs.CrewText.{IsCrewText};
+ghost use Rattle.ctt_tool.specs.Desks.{IsOfDeskOn, IsOpenOn, TellsLast};
+ghost use Rattle.ctt_tool.specs.Faults.{IfUnwritten, IsInputOf, IsOfDesk, IsOfDeskFiles, IsOfFiles, IsOfTexts, MayHaveWritten, status_of};
+ghost use Rattle.ctt_tool.specs.Jobs.{given};
+ghost use Rattle.ctt_tool.specs.Runs.{IsRefusedRun};
+ghost use Rattle.ctt_tool.specs.Texts.{IsRefusedStart};
+ghost use Rattle.ctt_tool.specs.declared.fault.Fault.TheVariants.{BadSeats, CannotWrite, MinutesExist};
+
 use crate::fault::Fault;
 use crate::files::Files;
 use crate::office::{Office, STANDARD};
@@ -67,7 +77,14 @@ fn open_on<'i, S: Sheet<'i>, F: Files>(
     files: &mut F,
     instance: &'i Instance,
     start: Option<String>,
-) -> Result<Opened<S>, Fault> {
+) -> Result<Opened<S>, Fault>
+    ensures problem { IfOk result (λ opened. opened.problem ≡ instance.now) }
+    ensures opens { IfOk result (λ opened. IsOpenOn instance.now start (F.held files.old) opened.list) }
+    ensures kept { F.held files.new ≡ F.held files.old }
+    ensures file { IfErr result (IsOfFiles (given start) (F.held files.old)) }
+    ensures cause { IfErr result (λ fault. status_of fault ≡ 1
+        → IsRefusedStart instance.now (F.held files.old) start) }
+{
     let lectures = fetch_start(alloc, files, instance, start)?;
     match Opened::<S>::new(alloc, instance, &lectures) {
         Ok(opened) => Ok(opened),
@@ -138,7 +155,21 @@ pub fn desk<R: Threads + Wait + Sync, F: Files, O: Office, W: Sink, V: Sink>(
     seats: Vec<String>,
     start: Option<String>,
     minutes: Option<String>,
-) -> Result<(), Fault> {
+) -> Result<(), Fault>
+    requires { 1 ≤ length seats.items }
+    ensures tells { OnOk result (TellsLast instance barred start (F.held files.old)
+        (W.taken out.old) (W.taken out.new) (V.taken err.old) (V.taken err.new)) }
+    ensures unmarked { OnOk result (W.has_failed out.new ≡ W.has_failed out.old) }
+    ensures kept { F.held files.new ≡ F.held files.old }
+    ensures fault { IfErr result (λ fault. IfUnwritten fault
+        (Unit {0})
+        (IsOfDesk (length seats.items) minutes fault × (W.has_failed out.new ≡ W.has_failed out.old))) }
+    ensures unwritten { IfErr result (λ fault. MayHaveWritten fault ⊎ (out.new ≡ out.old)) }
+    ensures unsaid { OnErr result ((err.new ≡ err.old) ⊎ (V.has_failed err.new ≡ true)) }
+    ensures file { IfErr result (IsOfDeskFiles (instance ∷ given barred ++ given start) seats.items (F.held files.old)) }
+    ensures cause { IfErr result (λ fault. status_of fault ≡ 1
+        → IsRefusedRun (F.held files.old) instance barred start) }
+{
     if seats.len() > SEAT_LIMIT || is_repeated(&seats) {
         return Err(Fault::BadSeats);
     }

@@ -1,9 +1,10 @@
 //! The command `journal`.
 
-ghost use Rattle.std.specs.Prelude.{◌≡◌, ◌⊎◌, [], ◌∷◌, ◌++◌, true, OnOk, OnErr, IfOk, IfErr};
+ghost use Rattle.std.specs.Prelude.{◌≡◌, ◌⊎◌, [], ◌∷◌, ◌++◌, true, OnOk, OnErr, IfOk, IfErr, IfSome};
+ghost use Rattle.std.specs.String.{string_bytes};
 ghost use Rattle.ctt_tool.specs.Faults.{IfUnwritten, IsOfFiles, IsOfTexts, status_of};
 ghost use Rattle.ctt_tool.specs.Jobs.{given};
-ghost use Rattle.ctt_tool.specs.Lists.{PrintsEntries, PrintsJournal};
+ghost use Rattle.ctt_tool.specs.Lists.{IsNoMinutes, IsRefusedMinutes, PrintsEntries, PrintsJournal};
 ghost use Rattle.ctt_tool.specs.declared.fault.Fault.TheVariants.{NoMemory};
 
 use crate::fault::Fault;
@@ -42,6 +43,8 @@ fn print_journal<F: Files, W: Sink, V: Sink>(
     ensures fault { IfErr result (λ fault. IfUnwritten fault (W.has_failed out.new ≡ true) (IsOfTexts fault)) }
     ensures unsaid { OnErr result (err.new ≡ err.old) }
     ensures file { IfErr result (IsOfFiles (minutes ∷ []) (F.held files.old)) }
+    ensures cause { IfErr result (λ fault. status_of fault ≡ 1
+        → IfSome (F.held files.old (string_bytes minutes)) (IsNoMinutes instance.now)) }
 {
     let text = read_file(alloc, files, minutes)?;
     let blocks = read_blocks(alloc, instance, &text)?;
@@ -67,6 +70,7 @@ pub fn journal<F: Files, W: Sink, V: Sink>(
     ensures fault { IfErr result (λ fault. IfUnwritten fault (W.has_failed out.new ≡ true) (IsOfTexts fault)) }
     ensures unsaid { OnErr result (err.new ≡ err.old) }
     ensures file { IfErr result (IsOfFiles (instance ∷ given barred ++ minutes ∷ []) (F.held files.old)) }
+    ensures cause { IfErr result (λ fault. status_of fault ≡ 1 → IsRefusedMinutes (F.held files.old) instance barred minutes) }
 {
     let instance = fetch_instance(alloc, files, instance, barred)?;
     let printed = print_journal(alloc, files, out, err, &instance, minutes);

@@ -1,9 +1,9 @@
 //! What the program does.
 
-ghost use Rattle.std.specs.Prelude.{◌≡◌, ◌≢◌, ◌≤◌, ◌⊎◌, [], true, false, map, OnOk, IfOk, IfErr};
-ghost use Rattle.ctt_tool.specs.Faults.{IfUnwritten, IsOfFiles, KeptUnless, MayHaveWritten, SaysFault, status_of};
-ghost use Rattle.ctt_tool.specs.Jobs.{HasScripts, IsOfJob, IsRefusal, Storing, faults_of, files_of};
-ghost use Rattle.ctt_tool.specs.Work.{AsksForRefusedText, AsksForTooMany, AsksToStore, DoesAsAsked, DoesJob, HasCause, HasRefusedText};
+ghost use Rattle.std.specs.Prelude.{◌≡◌, ◌≢◌, ◌≤◌, ◌⊎◌, [], true, false, map, OnOk, OnErr, IfOk, IfErr};
+ghost use Rattle.ctt_tool.specs.Faults.{IfUnwritten, KeptUnless, MayHaveWritten, SaysFault, status_of};
+ghost use Rattle.ctt_tool.specs.Jobs.{HasScripts, IsOfJob, IsOfJobFiles, IsRefusal, Saying, Storing, faults_of};
+ghost use Rattle.ctt_tool.specs.Work.{AsksForDesk, AsksForRefusedText, AsksForTooMany, AsksToSay, AsksToStore, DoesAsAsked, DoesJob, HasCause, HasRefusedText};
 ghost use Rattle.ctt_tool.specs.declared.fault.Fault.TheVariants.{NoMemory};
 ghost use Rattle.ctt_tool.specs.declared.outcome.Outcome.TheVariants.{Differs, Done};
 
@@ -47,7 +47,9 @@ fn do_job<R: Threads + Wait + Sync, F: Files, O: Office, W: Sink, V: Sink>(
     ensures unstored { IfErr result (λ fault. KeptUnless fault
         ((W.has_failed out.new ≡ W.has_failed out.old) × Storing job)
         (F.held files.new ≡ F.held files.old)) }
-    ensures file { IfErr result (IsOfFiles (files_of job) (F.held files.old)) }
+    ensures quiet { IfOk result (λ outcome. (Saying job × (outcome ≡ Done)) ⊎ (err.new ≡ err.old)) }
+    ensures unsaid { OnErr result ((err.new ≡ err.old) ⊎ (V.has_failed err.new ≡ true)) }
+    ensures file { IfErr result (IsOfJobFiles job (F.held files.old)) }
     ensures cause { IfErr result (λ fault. status_of fault ≡ 1 → HasRefusedText job (F.held files.old)) }
 {
     match job {
@@ -127,7 +129,9 @@ fn do_as_asked<R: Threads + Wait + Sync, F: Files, O: Office, W: Sink, V: Sink>(
         (F.held files.old) (F.held files.new) (W.taken out.old) (W.taken out.new)) }
     ensures refused { IfErr result (λ fault. status_of fault ≡ 2
         → IsRefusal (faults_of (map (λ word. word.now) words.now))
-        ⊎ AsksForTooMany (map (λ word. word.now) words.now)) }
+        ⊎ (AsksForTooMany (map (λ word. word.now) words.now) ⊎ AsksForDesk (map (λ word. word.now) words.now))) }
+    ensures quiet { IfOk result (λ outcome. (AsksToSay (map (λ word. word.now) words.now) × (outcome ≡ Done)) ⊎ (err.new ≡ err.old)) }
+    ensures unsaid { OnErr result ((err.new ≡ err.old) ⊎ (V.has_failed err.new ≡ true)) }
     ensures unmarked { OnOk result (W.has_failed out.new ≡ W.has_failed out.old) }
     ensures marked { IfErr result (λ fault. (status_of fault ≡ 3) ⊎ (W.has_failed out.new ≡ W.has_failed out.old)) }
     ensures unwritten { IfErr result (λ fault. MayHaveWritten fault ⊎ (out.new ≡ out.old)) }
@@ -157,6 +161,7 @@ fn do_as_asked<R: Threads + Wait + Sync, F: Files, O: Office, W: Sink, V: Sink>(
 /// Where no memory is left for the line, that is said instead.
 pub fn fail_with<V: Sink>(alloc: Global, fault: &Fault, err: &mut V) -> u8
     ensures status { (result ≡ status_of fault.now) ⊎ (result ≡ 3) }
+    ensures marked { V.has_failed err.old ≡ true → V.has_failed err.new ≡ true }
     ensures said { (V.has_failed err.new ≡ true)
         ⊎ SaysFault (λ told. (told ≡ fault.now) ⊎ (told ≡ NoMemory)) result
         (V.taken err.old) (V.taken err.new) }
@@ -175,7 +180,7 @@ pub fn fail_with<V: Sink>(alloc: Global, fault: &Fault, err: &mut V) -> u8
 
 /// Does the job that the words ask for, of which the first is the program's name, and answers the
 /// status with which to end: 0 where it was done, 1 where a text is refused or an audit does not agree,
-/// 2 where the words are refused, or ask for too many scripts, and 3 where the machine failed. Answers go to `out`, and why a job was
+/// 2 where the words are refused, or ask for too many scripts or seats, and 3 where the machine failed. Answers go to `out`, and why a job was
 /// not done to `err`.
 pub fn program<R: AllocGlobal + Threads + Wait + Sync, F: Files, O: Office, W: Sink, V: Sink>(
     rt: &R,
@@ -192,7 +197,7 @@ pub fn program<R: AllocGlobal + Threads + Wait + Sync, F: Files, O: Office, W: S
     ensures done { result ≡ 0 → DoesAsAsked (map (λ word. word.now) words.now) Done
         (F.held files.old) (F.held files.new) (W.taken out.old) (W.taken out.new) }
     ensures unmarked { result ≡ 0 → W.has_failed out.new ≡ false }
-    ensures unsaid { result ≡ 0 → err.new ≡ err.old }
+    ensures unsaid { result ≡ 0 → AsksToSay (map (λ word. word.now) words.now) ⊎ (err.new ≡ err.old) }
 
     ensures one { result ≡ 1 → (AsksForRefusedText (map (λ word. word.now) words.now) (F.held files.old)
         × (out.new ≡ out.old))
@@ -200,7 +205,7 @@ pub fn program<R: AllocGlobal + Threads + Wait + Sync, F: Files, O: Office, W: S
         (F.held files.old) (F.held files.new) (W.taken out.old) (W.taken out.new) × (err.new ≡ err.old)) }
     ensures taken { result ≡ 1 → faults_of (map (λ word. word.now) words.now) ≡ [] }
     ensures refused { result ≡ 2 → IsRefusal (faults_of (map (λ word. word.now) words.now))
-        ⊎ AsksForTooMany (map (λ word. word.now) words.now) }
+        ⊎ (AsksForTooMany (map (λ word. word.now) words.now) ⊎ AsksForDesk (map (λ word. word.now) words.now)) }
     ensures said { result ≢ 0 → DoesAsAsked (map (λ word. word.now) words.now) Differs
         (F.held files.old) (F.held files.new) (W.taken out.old) (W.taken out.new)
         ⊎ ((V.has_failed err.new ≡ true)

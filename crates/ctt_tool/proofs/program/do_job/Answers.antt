@@ -22,3 +22,22 @@ pub returns-in-Audit-clause-cause : goal.returns-in-Audit-clause-cause
 returns-in-Audit-clause-cause g c =
     let held = g.F.Files.held c.args.files.now in
     subst (λ job. IfErr c.audit.result (λ fault. status_of fault ≡ 1 → HasRefusedText job held)) (sym c.in-Audit.is) c.audit.ensures.cause
+
+pub returns-in_err-desk-in-Desk-clause-cause : goal.returns-in_err-desk-in-Desk-clause-cause
+returns-in_err-desk-in-Desk-clause-cause g c =
+    let held = g.F.Files.held c.args.files.now in
+    let fault = c.in_err-desk-in-Desk.field-0.0 in
+    passed_on c.from_residual-in_err-desk-in-Desk.result fault (λ fault. status_of fault ≡ 1 → HasRefusedText c.args.job held) c.from_residual-in_err-desk-in-Desk.ensures.1
+    (subst (λ job. status_of fault ≡ 1 → HasRefusedText job held) (sym c.in-Desk.is) c.in_err-desk-in-Desk.ensures.cause)
+
+pub returns-in_err-journal-in-Journal-clause-cause : goal.returns-in_err-journal-in-Journal-clause-cause
+returns-in_err-journal-in-Journal-clause-cause g c =
+    let held = g.F.Files.held c.args.files.now in
+    let fault = c.in_err-journal-in-Journal.field-0.0 in
+    passed_on c.from_residual-in_err-journal-in-Journal.result fault (λ fault. status_of fault ≡ 1 → HasRefusedText c.args.job held) c.from_residual-in_err-journal-in-Journal.ensures.1
+    (subst (λ job. status_of fault ≡ 1 → HasRefusedText job held) (sym c.in-Journal.is) c.in_err-journal-in-Journal.ensures.cause)
+
+pub returns-in-Listing-clause-cause : goal.returns-in-Listing-clause-cause
+returns-in-Listing-clause-cause g c =
+    let held = g.F.Files.held c.args.files.now in
+    subst (λ job. IfErr c.list.result (λ fault. status_of fault ≡ 1 → HasRefusedText job held)) (sym c.in-Listing.is) c.list.ensures.cause
