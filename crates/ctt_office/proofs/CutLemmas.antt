@@ -3,8 +3,9 @@ use Rattle.std.proofs.Common.{◌≡◌, ◌⊎◌, inl, inr, ◌∙◌, ℕ, ze
 use Rattle.std.specs.List.{AllByRecursion as Each}
 use Rattle.ctt_text.specs.Left.{Left}
 use Rattle.ctt_text.specs.Forms.{Form, done, place, Fills, read}
-use Rattle.ctt_text.proofs.FormLaws.{at_once, fills_read, err_same, ok_is_err, ok_same, one_later}
-use Rattle.ctt_office.specs.Blocks.{AreBlocks, reads_by}
+use Rattle.ctt_text.specs.Reading.{reading}
+use Rattle.ctt_text.proofs.FormLaws.{Yields, at_once, err_same, fills_read, ok_is_err, ok_same, one_later, read_fills}
+use Rattle.ctt_office.specs.Blocks.{AreBlocks}
 
 -- where words that fill a form are cut, one is missing
 pub cut_misses : {F A : Type 0} (missing : ℕ → F) (form : Form F A) (front : List (List ℕ)) (w : List ℕ) (rest : List (List ℕ)) (a : A) (n : ℕ) → Fills form (front ++ w ∷ rest) a
@@ -41,7 +42,7 @@ module _ {F A : Type 0} (missing : ℕ → F) (form : Form F A) (spell : A → L
   abbrev pub AreCut : List A → List (List ℕ) → List (List ℕ) → Type 0
   AreCut es words cut = Each P es × (words ++ cut ≡ flat_map spell es)
 
-  one_read : (n : ℕ) (b e : A) (mid : Left) (words cut more : List (List ℕ)) → P e → words ≡ spell e ++ more → reads_by missing form (record { words = words; next = n }) ≡ Ok (b, mid)
+  one_read : (n : ℕ) (b e : A) (mid : Left) (words cut more : List (List ℕ)) → P e → words ≡ spell e ++ more → reading missing form (record { words = words; next = n }) ≡ Ok (b, mid)
       → (b ≡ e) × (mid ≡ record { words = more; next = n + length (spell e) })
   one_read n b e mid words cut more fit is reads =
       let all = fills_read missing form (spell e) more n e (fills e fit) in
@@ -66,10 +67,25 @@ module _ {F A : Type 0} (missing : ℕ → F) (form : Form F A) (spell : A → L
           (next.0, (let same = first.0 in let e' = next.1 in cc), next.2)
 
   -- where words that are cut are read on, one is missing, or a block is whole
-  pub fault_of_cut : (es : List A) (left : Left) (cut : List (List ℕ)) (fault : F) → AreCut es left.words cut → reads_by missing form left ≡ Err fault → (k : ℕ) × (fault ≡ missing k)
+  pub fault_of_cut : (es : List A) (left : Left) (cut : List (List ℕ)) (fault : F) → AreCut es left.words cut → reading missing form left ≡ Err fault → (k : ℕ) × (fault ≡ missing k)
   fault_of_cut [] left cut fault are is = (left.next, err_same _ _ (sym is ∙ ap (λ w. read missing form w left.next) (no_word left.words cut are.1) ∙ some left.next))
   fault_of_cut (e ∷ es) left cut fault are is = by (parts left.words cut (spell e) (flat_map spell es) are.1)
     where
       by : AreParts left.words cut (spell e) (flat_map spell es) → (k : ℕ) × (fault ≡ missing k)
       by (inl c) = (left.next + length left.words, err_same _ _ (sym is ∙ cut_misses missing form left.words c.0 c.1 e left.next (subst (λ w. Fills form w e) c.2 (fills e are.0.0))))
       by (inr c) = ok_is_err _ _ _ (sym (ap (λ w. read missing form w left.next) c.1 ∙ fills_read missing form (spell e) c.0 left.next e (fills e are.0.0)) ∙ is)
+
+-- ---- blocks that are read one after another
+
+-- with one more behind them
+pub one_more_block : {F A : Type 0} (missing : ℕ → F) (form : Form F A) (left mid rest : Left) (xs : List A) (a : A) → AreBlocks missing form left xs mid → reading missing form mid ≡ Ok (a, rest)
+    → AreBlocks missing form left (xs ++ a ∷ []) rest
+one_more_block missing form left mid rest [] a is reads = (rest, subst (λ l. reading missing form l ≡ Ok (a, rest)) (sym is) reads, refl)
+one_more_block missing form left mid rest (b ∷ bs) a is reads = (is.0, is.1, one_more_block missing form is.0 mid rest bs a is.2 reads)
+
+-- what the form yields holds of each
+pub blocks_hold : {F A : Type 0} (missing : ℕ → F) (form : Form F A) (Q : A → Type 0) → Yields Q form → (left rest : Left) (xs : List A) → AreBlocks missing form left xs rest → Each Q xs
+blocks_hold missing form Q yields left rest [] is = tt
+blocks_hold missing form Q yields left rest (a ∷ xs) is =
+    let r = read_fills missing form left.words left.next (a, is.0) is.1 in
+    (yields r.front a r.fills, blocks_hold missing form Q yields is.0 rest xs is.2)

@@ -5,3 +5,4 @@ mod LineLemmas
 mod NextLemmas
 mod PagesLemmas
 mod PartLemmas
+mod RecoveryLemmas

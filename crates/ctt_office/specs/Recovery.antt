@@ -1,8 +1,9 @@
 -- The whole entries at the beginning of minutes.
-use Rattle.std.specs.Prelude.{ℕ, ◌≡◌, ◌⊎◌, ◌≤◌, Bool, true, false, List, [], ◌∷◌, ◌++◌, length, flat_map, Option, Some, None, Result, Ok, Err}
+use Rattle.std.specs.Prelude.{ℕ, ◌≡◌, ◌⊎◌, ◌≤◌, ◌||◌, Bool, true, false, List, [], ◌∷◌, ◌++◌, length, flat_map, Option, Some, None, Result, Ok, Err}
 use Rattle.std.specs.Str.{IsUtf8}
 use Rattle.ctt_text.specs.Left.{Left}
 use Rattle.ctt_text.specs.Problem.{Problem}
+use Rattle.ctt_text.specs.Reading.{reading}
 use Rattle.ctt_text.specs.Words.{words}
 use Rattle.ctt_core.specs.declared.journal.JournalEntry.{JournalEntry}
 use Rattle.ctt_script.specs.JournalPlaces.{entry_form}
@@ -10,7 +11,7 @@ use Rattle.ctt_script.specs.JournalWords.{missing}
 use Rattle.ctt_script.specs.WrittenText.{entry_text}
 use Rattle.ctt_script.specs.declared.journal_fault.JournalFault.{JournalFault}
 use Rattle.ctt_script.specs.declared.journal_fault.JournalFault.TheVariants.{BadWord, Missing, NoMemory, NotText}
-use Rattle.ctt_office.specs.Blocks.{AreBlocks, reads_by}
+use Rattle.ctt_office.specs.Blocks.{AreBlocks}
 use Rattle.ctt_office.specs.Lines.{IsOpen}
 
 -- the bytes are whole lines
@@ -27,7 +28,7 @@ IsEnd rest = rest.words ≡ []
 
 -- an entry begins that lacks a word
 abbrev pub LacksWord : Problem → Left → Type 0
-LacksWord i rest = (k : ℕ) × (reads_by missing (entry_form i) rest ≡ Err (Missing k))
+LacksWord i rest = (k : ℕ) × (reading missing (entry_form i) rest ≡ Err (Missing k))
 
 -- what comes behind the entries: nothing, or an entry that lacks a word, and whether it is that
 abbrev pub Stops : Problem → Left → Bool → Type 0
@@ -37,21 +38,22 @@ Stops i rest true = LacksWord i rest
 -- the fault of the entry that begins there; wanted memory has no cause
 abbrev pub IsEntryFault : Problem → Left → JournalFault → Type 0
 IsEntryFault i rest NoMemory = Unit {0}
-IsEntryFault i rest fault = reads_by missing (entry_form i) rest ≡ Err fault
+IsEntryFault i rest fault = reading missing (entry_form i) rest ≡ Err fault
 
 -- the entries were read as far as they are whole, or up to a fault
 abbrev pub IsReadWhole : Problem → Left → Result Bool JournalFault → List JournalEntry → Type 0
 IsReadWhole i left (Ok lacks) entries = (rest : Left) × AreEntries i left entries rest × Stops i rest lacks
 IsReadWhole i left (Err fault) entries = (rest : Left) × AreEntries i left entries rest × IsEntryFault i rest fault
 
-abbrev pub is_some_byte : List ℕ → Bool
-is_some_byte [] = false
-is_some_byte (b ∷ bs) = true
+abbrev pub has_byte : List ℕ → Bool
+has_byte [] = false
+has_byte (b ∷ bs) = true
 
--- whether something is torn: an entry lacks a word, or a line has no end
-abbrev pub or_cut : Bool → List ℕ → Bool
-or_cut true tail = true
-or_cut false tail = is_some_byte tail
+-- of whole lines these entries are read, and behind them nothing stands, or an entry that lacks a word
+pub record IsReadOf (i : Problem) (lines : List ℕ) (entries : List JournalEntry) (lacks : Bool) : Type 0 where
+  pub rest : Left
+  pub reads_them : AreEntries i (record { words = words lines; next = 1 }) entries rest
+  pub stops : Stops i rest lacks
 
 -- the text has whole lines, which begin with these entries; behind them stands nothing, or an entry that lacks a word, and behind the lines one without an end
 pub record IsRecovered (i : Problem) (text : List ℕ) (entries : List JournalEntry) (torn : Bool) : Type 0 where
@@ -60,24 +62,17 @@ pub record IsRecovered (i : Problem) (text : List ℕ) (entries : List JournalEn
   pub all : text ≡ lines ++ tail
   pub ends : EndsLine lines
   pub unended : IsOpen tail
-  pub rest : Left
-  pub reads_them : AreEntries i (record { words = words lines; next = 1 }) entries rest
   pub lacks : Bool
-  pub stops : Stops i rest lacks
-  pub torn_is : torn ≡ or_cut lacks tail
+  pub reads_them : IsReadOf i lines entries lacks
+  pub torn_is : torn ≡ lacks || has_byte tail
 
--- of n bytes of the text of entries these are the first entries, and torn tells where the next one begins, if a part of it is there
-pub record IsBeginning (i : Problem) (entries : List JournalEntry) (n : ℕ) (kept : List JournalEntry) (torn : Option ℕ) : Type 0 where
-  pub more : List JournalEntry
-  pub all : entries ≡ kept ++ more
-  pub within : length (flat_map (entry_text i) kept) ≤ n
+-- the cause of a fault in whole lines that are text: the entry behind those that are whole has it; wanted memory has none
+abbrev pub IsLinesFault : Problem → List ℕ → JournalFault → Type 0
+IsLinesFault i lines (NotText byte) = ⊥
+IsLinesFault i lines NoMemory = Unit {0}
+IsLinesFault i lines (Missing k) = ⊥
+IsLinesFault i lines (BadWord k) = (entries : List JournalEntry) × (rest : Left) × AreEntries i (record { words = words lines; next = 1 }) entries rest × (reading missing (entry_form i) rest ≡ Err (BadWord k))
 
--- the cause of a fault: the whole lines are no text, or the entry behind those that are whole has it
+-- the cause of a fault in minutes: the whole lines at their beginning are no text, or have it
 abbrev pub IsMinutesFault : Problem → List ℕ → JournalFault → Type 0
-IsMinutesFault i text fault = (lines tail : List ℕ) × (text ≡ lines ++ tail) × EndsLine lines × IsOpen tail × IsCauseIn i lines fault
-  where
-    IsCauseIn : Problem → List ℕ → JournalFault → Type 0
-    IsCauseIn i lines (NotText byte) = ¬ IsUtf8 lines
-    IsCauseIn i lines NoMemory = Unit {0}
-    IsCauseIn i lines (Missing k) = ⊥
-    IsCauseIn i lines (BadWord k) = (entries : List JournalEntry) × (rest : Left) × AreEntries i (record { words = words lines; next = 1 }) entries rest × (reads_by missing (entry_form i) rest ≡ Err (BadWord k))
+IsMinutesFault i text fault = (lines tail : List ℕ) × (text ≡ lines ++ tail) × EndsLine lines × IsOpen tail × ((¬ IsUtf8 lines × ((byte : ℕ) × (fault ≡ NotText byte))) ⊎ IsLinesFault i lines fault)

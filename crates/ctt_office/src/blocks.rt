@@ -1,8 +1,8 @@
 //! The whole entries at the beginning of minutes.
 
-ghost use Rattle.std.specs.Prelude.{◌≡◌, ◌≤◌, ◌⊎◌, ℕ, List, [], length, take, drop, flat_map, IfOk, IfErr, IfSome, MatchResult, is_some, string_bytes};
+ghost use Rattle.std.specs.Prelude.{◌≡◌, ◌≤◌, ◌||◌, ℕ, Bool, List, [], length, take, drop, flat_map, IfOk, IfErr, IfSome, MatchResult, is_some};
+ghost use mathlib.Core.List.{IsPrefix};
 ghost use Rattle.std.specs.List.{AllByRecursion as Each};
-ghost use Rattle.std.specs.Str.{IsUtf8};
 ghost use Rattle.ctt_core.specs.Entries.{EntryFits};
 ghost use Rattle.ctt_core.specs.declared.journal.JournalEntry.{JournalEntry};
 ghost use Rattle.ctt_edits.specs.Fitting.{AreFew};
@@ -10,7 +10,7 @@ ghost use Rattle.ctt_script.specs.Entries.{IsEntry, IsShort};
 ghost use Rattle.ctt_script.specs.WrittenText.{entry_text};
 ghost use Rattle.ctt_script.specs.declared.journal_fault.JournalFault.TheVariants.{NoMemory as OutOfMemory};
 ghost use Rattle.ctt_office.specs.Lines.{IsOpen};
-ghost use Rattle.ctt_office.specs.Recovery.{EndsLine, IsBeginning, IsMinutesFault, IsReadWhole, IsRecovered};
+ghost use Rattle.ctt_office.specs.Recovery.{EndsLine, IsLinesFault, IsMinutesFault, IsReadOf, IsReadWhole, IsRecovered};
 
 use ctt_core::JournalEntry;
 use ctt_script::{JournalFault, read_entry, write_entry};
@@ -91,7 +91,15 @@ fn read_lines(
     instance: &Instance,
     lines: &str,
     is_cut: bool,
-) -> Result<Blocks, JournalFault> {
+) -> Result<Blocks, JournalFault>
+    ensures read { IfOk result (λ b. (lacks : Bool) × IsReadOf instance.now lines.now b.entries.items lacks × (is_some b.torn ≡ lacks || is_cut)) }
+    ensures torn { IfOk result (λ b. IfSome b.torn (λ at. at ≡ length (flat_map (entry_text instance.now) b.entries.items))) }
+    ensures fits { IfOk result (λ b. Each (EntryFits instance.now) b.entries.items) }
+    ensures few { IfOk result (λ b. AreFew b.entries.items) }
+    ensures short { IfOk result (λ b. Each IsShort b.entries.items) }
+    ensures fault { IfErr result (IsLinesFault instance.now lines.now) }
+{
+    instance.limits_hold();
     let mut reader = Reader::new(lines);
     let mut entries = Vec::new(alloc);
     let lacks = match read_whole(alloc, &mut reader, instance, &mut entries) {
@@ -129,7 +137,7 @@ pub fn read_blocks(alloc: Global, instance: &Instance, text: &[u8]) -> Result<Bl
     ensures fits { IfOk result (λ b. Each (EntryFits instance.now) b.entries.items) }
     ensures few { IfOk result (λ b. AreFew b.entries.items) }
     ensures short { IfOk result (λ b. Each IsShort b.entries.items) }
-    ensures cut { (entries : List JournalEntry) (n : ℕ) → Each (IsEntry instance.now) entries → text.now ≡ take n (flat_map (entry_text instance.now) entries) → MatchResult result (λ b. IsBeginning instance.now entries n b.entries.items b.torn) (λ fault. fault ≡ OutOfMemory) }
+    ensures cut { (entries : List JournalEntry) (n : ℕ) → Each (IsEntry instance.now) entries → text.now ≡ take n (flat_map (entry_text instance.now) entries) → MatchResult result (λ b. IsPrefix b.entries.items entries) (λ fault. fault ≡ OutOfMemory) }
     ensures fault { IfErr result (IsMinutesFault instance.now text.now) }
 {
     instance.limits_hold();
