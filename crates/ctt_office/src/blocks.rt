@@ -3,6 +3,7 @@
 ghost use Rattle.std.specs.Prelude.{◌≡◌, ◌≤◌, ◌||◌, ℕ, Bool, List, [], length, take, drop, flat_map, IfOk, IfErr, IfSome, MatchResult, is_some};
 ghost use mathlib.Core.List.{IsPrefix};
 ghost use Rattle.std.specs.List.{AllByRecursion as Each};
+ghost use Rattle.std.specs.Str.{IsUtf8};
 ghost use Rattle.ctt_core.specs.Entries.{EntryFits};
 ghost use Rattle.ctt_core.specs.declared.journal.JournalEntry.{JournalEntry};
 ghost use Rattle.ctt_edits.specs.Fitting.{AreFew};
@@ -137,7 +138,7 @@ pub fn read_blocks(alloc: Global, instance: &Instance, text: &[u8]) -> Result<Bl
     ensures fits { IfOk result (λ b. Each (EntryFits instance.now) b.entries.items) }
     ensures few { IfOk result (λ b. AreFew b.entries.items) }
     ensures short { IfOk result (λ b. Each IsShort b.entries.items) }
-    ensures cut { (entries : List JournalEntry) (n : ℕ) → Each (IsEntry instance.now) entries → text.now ≡ take n (flat_map (entry_text instance.now) entries) → MatchResult result (λ b. IsPrefix b.entries.items entries) (λ fault. fault ≡ OutOfMemory) }
+    ensures cut { (entries : List JournalEntry) (n : ℕ) → Each (IsEntry instance.now) entries → IsUtf8 (flat_map (entry_text instance.now) entries) → text.now ≡ take n (flat_map (entry_text instance.now) entries) → MatchResult result (λ b. IsPrefix b.entries.items entries) (λ fault. fault ≡ OutOfMemory) }
     ensures fault { IfErr result (IsMinutesFault instance.now text.now) }
 {
     instance.limits_hold();
