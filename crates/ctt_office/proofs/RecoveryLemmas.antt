@@ -64,7 +64,7 @@ module _ (i : Problem) (is : IsProblem i) (named : IsNamed i) where
       → AreEntries i (record { words = words lines; next = 1 }) bs rest → (more : List JournalEntry) × (es ≡ bs ++ more)
   first_entries es bs lines behind rest fit all ends are =
       let r = read_of_cut missing (entry_form i) (entry_words i) (IsEntry i) (entry_fills i is named) (lacks_first i) es bs (record { words = words lines; next = 1 }) rest (words behind)
-          (lines_are_cut es lines behind fit all ends) are in
+      (lines_are_cut es lines behind fit all ends) are in
       (r.0, r.1)
 
   -- and a fault behind them is that of a word that is missing
@@ -72,5 +72,5 @@ module _ (i : Problem) (is : IsProblem i) (named : IsNamed i) where
       → AreEntries i (record { words = words lines; next = 1 }) bs rest → reads (entry_form i) rest ≡ Err fault → (k : ℕ) × (fault ≡ Missing k)
   only_missing es bs lines behind rest fault fit all ends are is_fault =
       let r = read_of_cut missing (entry_form i) (entry_words i) (IsEntry i) (entry_fills i is named) (lacks_first i) es bs (record { words = words lines; next = 1 }) rest (words behind)
-          (lines_are_cut es lines behind fit all ends) are in
+      (lines_are_cut es lines behind fit all ends) are in
       fault_of_cut missing (entry_form i) (entry_words i) (IsEntry i) (entry_fills i is named) (lacks_first i) r.0 rest (words behind) fault r.2 is_fault

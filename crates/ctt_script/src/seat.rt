@@ -125,7 +125,10 @@ impl<'i, S: Sheet<'i>, J: Naming> Seat<'i, S, J> {
                     (Seat::Free(planner), Err(Told::NotYours(count)))
                 }
                 Err(Refusal::NoMemory(drafting)) => {
-                    (Seat::Drafting(drafting), Err(Told::Answer(Answer::NoMemory)))
+                    (
+                        Seat::Drafting(drafting),
+                        Err(Told::Answer(Answer::NoMemory)),
+                    )
                 }
             },
         }

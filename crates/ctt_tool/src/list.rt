@@ -1,10 +1,17 @@
 //! The command `list`.
 
-ghost use Rattle.std.specs.Prelude.{◌≡◌, [], ◌∷◌, ◌++◌, true, OnOk, IfOk, IfErr};
+ghost use Rattle.std.specs.Prelude.{◌≡◌, ℕ, [], ◌∷◌, ◌++◌, true, None, Err, OnOk, IfOk, IfErr, IfSome};
+ghost use Rattle.std.specs.List.{AllByRecursion as Each};
+ghost use Rattle.std.specs.String.{string_bytes};
+ghost use Rattle.ctt_text.specs.Timetable.{Fits};
+ghost use Rattle.ctt_edits.specs.Openings.{opening};
+ghost use Rattle.ctt_edits.specs.declared.fault.EditFault.{EditFault};
+ghost use Rattle.ctt_core.specs.Entries.{EntryFits};
 ghost use Rattle.ctt_tool.specs.Audits.{IsRefusedAudit, IsRefusedJournal};
 ghost use Rattle.ctt_tool.specs.Faults.{IfUnwritten, IsOfFiles, IsOfTexts, status_of};
 ghost use Rattle.ctt_tool.specs.Jobs.{given};
-ghost use Rattle.ctt_tool.specs.Lists.{ListsJournal, ListsOn};
+ghost use Rattle.ctt_tool.specs.Lists.{ListsJournal, ListsOn, PrintsLeft};
+ghost use Rattle.ctt_tool.specs.Texts.{IsJournalText, IsNoJournal};
 
 use crate::audit::print_verdict;
 use crate::fault::Fault;
@@ -13,12 +20,64 @@ use crate::outcome::Outcome;
 use crate::output::print;
 use crate::texts::{fetch_instance, fetch_start};
 use ctt_board::{GridSheet, Sheet};
-use ctt_core::{NoList, list_after};
+use ctt_core::{JournalEntry, NoList, list_after};
 use ctt_script::{Sink, read_journal};
-use ctt_text::{Instance, let_go, write_solution};
+use ctt_text::{Instance, Placed, let_go, write_solution};
 use std::alloc::Global;
 
-/// Prints the timetable after a journal on this kind of sheet, or what else the audit finds.
+/// The entries of the journal in a file.
+fn fetch_entries<F: Files>(
+    alloc: Global,
+    files: &mut F,
+    instance: &Instance,
+    journal: String,
+) -> Result<Vec<JournalEntry>, Fault>
+    ensures spelled { IfOk result (λ entries. IfSome (F.held files.old (string_bytes journal)) (λ text.
+        IsJournalText instance.now text entries.items)) }
+    ensures fit { IfOk result (λ entries. Each (EntryFits instance.now) entries.items) }
+    ensures kept { F.held files.new ≡ F.held files.old }
+    ensures fault { IfErr result IsOfTexts }
+    ensures file { IfErr result (IsOfFiles (journal ∷ []) (F.held files.old)) }
+    ensures cause { IfErr result (λ fault. status_of fault ≡ 1
+        → IfSome (F.held files.old (string_bytes journal)) (IsNoJournal instance.now)) }
+{
+    let text = read_file(alloc, files, journal)?;
+    Ok(read_journal(alloc, instance, &text)?)
+}
+
+/// Prints the timetable that entries leave on the opening with these lectures, or what an audit finds.
+fn print_left<'i, S: Sheet<'i>, W: Sink>(
+    alloc: Global,
+    out: &mut W,
+    instance: &'i Instance,
+    lectures: &[Placed],
+    entries: &[JournalEntry],
+) -> Result<Outcome, Fault>
+    requires lectures { Each (Fits instance.now) lectures.now }
+    requires entries { Each (EntryFits instance.now) entries.now }
+    ensures prints { IfOk result (λ outcome. PrintsLeft instance.now lectures.now entries.now outcome
+        (W.taken out.old) (W.taken out.new)) }
+    ensures unmarked { OnOk result (W.has_failed out.new ≡ W.has_failed out.old) }
+    ensures fault { IfErr result (λ fault. IfUnwritten fault
+        (W.has_failed out.new ≡ true)
+        (IsOfTexts fault × (out.new ≡ out.old))) }
+    ensures file { IfErr result (IsOfFiles [] (λ _. None)) }
+    ensures cause { IfErr result (λ fault. status_of fault ≡ 1
+        → (at : ℕ) × (found : EditFault) × (opening instance.now lectures.now ≡ Err (at, found))) }
+{
+    match list_after::<S>(alloc, instance, lectures, entries) {
+        Ok(list) => {
+            let solution = write_solution(alloc, instance, &list)?;
+            print(out, &solution)?;
+            Ok(Outcome::Done)
+        }
+        Err(NoList::Found(verdict)) => print_verdict(alloc, out, instance, verdict),
+        Err(NoList::NoMemory) => Err(Fault::NoMemory),
+    }
+}
+
+/// Prints the timetable after the journal in a file on this kind of sheet, or what an audit finds. The file of the start
+/// is read behind that of the journal.
 fn list_on<'i, S: Sheet<'i>, F: Files, W: Sink>(
     alloc: Global,
     files: &mut F,
@@ -38,18 +97,17 @@ fn list_on<'i, S: Sheet<'i>, F: Files, W: Sink>(
     ensures cause { IfErr result (λ fault. status_of fault ≡ 1
         → IsRefusedJournal instance.now (F.held files.old) journal start) }
 {
-    let text = read_file(alloc, files, journal)?;
-    let entries = read_journal(alloc, instance, &text)?;
-    let lectures = fetch_start(alloc, files, instance, start)?;
-    match list_after::<S>(alloc, instance, &lectures, &entries) {
-        Ok(list) => {
-            let solution = write_solution(alloc, instance, &list)?;
-            print(out, &solution)?;
-            Ok(Outcome::Done)
+    let entries = fetch_entries(alloc, files, instance, journal)?;
+    let lectures = match fetch_start(alloc, files, instance, start) {
+        Ok(lectures) => lectures,
+        Err(fault) => {
+            let_go(entries);
+            return Err(fault);
         }
-        Err(NoList::Found(verdict)) => print_verdict(alloc, out, instance, verdict),
-        Err(NoList::NoMemory) => Err(Fault::NoMemory),
-    }
+    };
+    let printed = print_left::<S, W>(alloc, out, instance, &lectures, &entries);
+    let_go(entries);
+    printed
 }
 
 /// Prints the timetable after a journal of an instance as a solution, where the audit agrees. Each text is given by the
