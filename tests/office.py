@@ -3,6 +3,7 @@
 
 PROGRAM names another program. The last line is 'N passed, M failed'.
 """
+import atexit
 import os
 import random
 import shutil
@@ -25,6 +26,14 @@ PATIENCE = int(os.environ.get("PATIENCE", "300"))
 
 passed = 0
 failed = 0
+
+
+def room(folder=None):
+    """A folder of its own, which goes when the tests end."""
+    made = tempfile.mkdtemp(dir=folder)
+    atexit.register(shutil.rmtree, made, ignore_errors=True)
+    return made
+
 
 
 def check(name, found, wanted):
@@ -82,7 +91,7 @@ class Desk:
     """A desk with so many seats, in a folder of its own."""
 
     def __init__(self, seats, *options, instance=SMALL, folder=None, minutes=True, limit=None):
-        self.folder = tempfile.mkdtemp(dir=folder)
+        self.folder = room(folder)
         self.minutes = os.path.join(self.folder, "minutes")
         self.seats = [Seat(self.folder, str(p)) for p in range(seats)]
         words = [PROGRAM, "desk", instance, *(s.path for s in self.seats), *options]
@@ -258,7 +267,7 @@ def goes_away():
 
 def waits_for_nobody():
     """Nobody waits for a seat at which nobody sits."""
-    folder = tempfile.mkdtemp()
+    folder = room()
     seats = [Seat(folder, str(p)) for p in range(2)]
     process = subprocess.Popen(
         [PROGRAM, "desk", SMALL, *(s.path for s in seats)], stdout=subprocess.PIPE, stderr=subprocess.PIPE
@@ -275,7 +284,7 @@ def waits_for_nobody():
 
 def refusals():
     """Words, files and minutes that are refused."""
-    folder = tempfile.mkdtemp()
+    folder = room()
     minutes = os.path.join(folder, "minutes")
     seats = "timedesk: at most 64 seats, each once\n"
     check("65 seats", call("desk", SMALL, *map(str, range(65))), (2, "", seats))
@@ -354,7 +363,7 @@ def cuts():
         "entry 0 3\nplace geo A 0 1\ndone\nslot 0 0\nlectures 1 alg B 0 0\nprice place top B 0 2\nprice 5\n",
     ]
     whole = "".join(entries)
-    path = os.path.join(tempfile.mkdtemp(), "minutes")
+    path = os.path.join(room(), "minutes")
     wrong = []
     for length in range(len(whole) + 1):
         with open(path, "w") as file:
@@ -381,7 +390,7 @@ def cuts():
 
 def lists():
     """The timetable after a journal."""
-    folder = tempfile.mkdtemp()
+    folder = room()
     journal = os.path.join(folder, "journal")
     with open(journal, "w") as file:
         file.write("journal 1\nentry 0 1\nplace geo A 0 1\ndone\nEND.\n")
@@ -477,7 +486,7 @@ def killed(times=50):
                 wrong.append((nth, "no minutes"))
             continue
         (status, _), audited, journal = audit(desk)
-        blocks = ["entry" + block for block in journal.removesuffix("END.\n").split("entry")[1:]]
+        blocks = ["entry" + block for block in journal[: -len("END.\n")].split("entry")[1:]]
         missing = [n for n, draft in told.items() if n > len(blocks) or blocks[n - 1] != draft]
         if status != 0 or audited != (0, "agrees\n", "") or missing:
             wrong.append((nth, status, audited, missing))
@@ -486,7 +495,7 @@ def killed(times=50):
 
 def office_script():
     """A day with `office`: two planners, of whom one goes away and comes back."""
-    folder = os.path.join(tempfile.mkdtemp(), "day")
+    folder = os.path.join(room(), "day")
     minutes = folder + ".minutes"
     office = os.path.join(HERE, "office")
     environment = dict(os.environ, TIMEDESK=PROGRAM)
