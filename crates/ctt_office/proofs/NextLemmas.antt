@@ -1,10 +1,9 @@
 -- What a reader of lines gives next.
-use Rattle.std.proofs.Common.{◌≡◌, ℕ, ◌+◌, ◌-◌, ◌<◌, ◌≤◌, ◌==◌, false, List, [], ◌∷◌, ◌++◌, length, take, drop, Option, Some, None, refl, sym, ap, subst, ◌∙◌, arith, append_assoc, append-nil, inl, inr}
-use Rattle.std.specs.List.{AllByRecursion as Each}
+use Rattle.std.proofs.Common.{◌≡◌, ℕ, ◌+◌, ◌-◌, ◌<◌, false, List, [], ◌∷◌, ◌++◌, length, take, drop, Option, Some, None, refl, sym, ap, subst, ◌∙◌, arith, append_assoc, append-nil, inl, inr}
 use Rattle.std.specs.Io.KnownBytes.{Consumes, IsAtEnd, Keeps, prepend_known}
 use Rattle.std.proofs.KnownBytes.{Consumes-kept, Consumes-nil, Consumes-trans}
 use Rattle.std.proofs.lemmas.List.{drop-drop, length-append, length-drop, take_all}
-use Rattle.ctt_office.specs.Lines.{Gives, GivesNext, IsCut, IsFirstLine, IsLong, IsOpen, IsShort, ReaderValue, coming}
+use Rattle.ctt_office.specs.Lines.{Gives, GivesNext, IsCut, IsLong, IsOpen, IsShort, ReaderValue, coming}
 use Rattle.ctt_office.specs.declared.line_reader.Next.{Next}
 use Rattle.ctt_office.specs.declared.line_reader.Next.TheVariants.{End, Line, TooLong}
 

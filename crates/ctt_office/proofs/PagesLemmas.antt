@@ -1,6 +1,5 @@
 -- Minutes that grow by an entry.
 use Rattle.std.proofs.Common.{◌≡◌, ◌∙◌, ◌+◌, ◌++◌, ◌∷◌, [], ℕ, List, Option, length, drop, flat_map, refl, sym, ap, subst, arith, append-nil}
-use lib.Seq.{drop-append-le}
 use Rattle.std.proofs.KnownBytes.{Appends-trans}
 use Rattle.std.proofs.lemmas.List.{length-append}
 use Rattle.std.proofs.lemmas.List.Concat.{flat_map-append}

@@ -1,5 +1,5 @@
 -- The words of whole lines, and of what stands behind them.
-use Rattle.std.proofs.Common.{◌≡◌, ◌∙◌, ℕ, Bool, true, false, not, List, [], ◌∷◌, ◌++◌, refl, sym, ap, subst, cond}
+use Rattle.std.proofs.Common.{◌≡◌, ◌∙◌, ℕ, Bool, true, false, not, List, [], ◌∷◌, ◌++◌, refl, sym, ap}
 use Rattle.ctt_text.specs.Words.{begins_word, grow, is_blank, words}
 
 grow_some : {P : Type 0} (b : ℕ) (t : Bool) (ws : List (List ℕ)) → grow b t ws ≡ [] → P

@@ -1,7 +1,7 @@
 -- The whole entries of minutes.
-use Rattle.std.proofs.Common.{◌≡◌, ◌∙◌, ◌⊎◌, inl, inr, ℕ, ◌+◌, List, [], ◌∷◌, ◌++◌, length, take, drop, flat_map, Result, Ok, Err, refl, sym, ap, subst, append_assoc, append-nil, take-append-drop}
+use Rattle.std.proofs.Common.{◌≡◌, ◌∙◌, inl, inr, ℕ, ◌+◌, List, [], ◌++◌, flat_map, Err, refl, sym, ap, append-nil}
 use Rattle.std.specs.List.{AllByRecursion as Each}
-use Rattle.ctt_text.specs.Forms.{Form, ◌>>=◌, read}
+use Rattle.ctt_text.specs.Forms.{◌>>=◌, read}
 use Rattle.ctt_text.specs.Left.{Left}
 use Rattle.ctt_text.specs.Named.{IsNamed}
 use Rattle.ctt_text.specs.Places.{fixed, known, one}

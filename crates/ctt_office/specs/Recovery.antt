@@ -1,5 +1,5 @@
 -- The whole entries at the beginning of minutes.
-use Rattle.std.specs.Prelude.{ℕ, ◌≡◌, ◌⊎◌, ◌≤◌, ◌||◌, Bool, true, false, List, [], ◌∷◌, ◌++◌, length, flat_map, Option, Some, None, Result, Ok, Err}
+use Rattle.std.specs.Prelude.{ℕ, ◌≡◌, ◌⊎◌, ◌||◌, Bool, true, false, List, [], ◌∷◌, ◌++◌, Result, Ok, Err}
 use Rattle.std.specs.Str.{IsUtf8}
 use Rattle.ctt_text.specs.Left.{Left}
 use Rattle.ctt_text.specs.Problem.{Problem}
@@ -8,7 +8,6 @@ use Rattle.ctt_text.specs.Words.{words}
 use Rattle.ctt_core.specs.declared.journal.JournalEntry.{JournalEntry}
 use Rattle.ctt_script.specs.JournalPlaces.{entry_form}
 use Rattle.ctt_script.specs.JournalWords.{missing}
-use Rattle.ctt_script.specs.WrittenText.{entry_text}
 use Rattle.ctt_script.specs.declared.journal_fault.JournalFault.{JournalFault}
 use Rattle.ctt_script.specs.declared.journal_fault.JournalFault.TheVariants.{BadWord, Missing, NoMemory, NotText}
 use Rattle.ctt_office.specs.Blocks.{AreBlocks}

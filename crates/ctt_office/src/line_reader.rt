@@ -1,6 +1,6 @@
 //! The lines of a reader, one by one, as they come.
 
-ghost use Rattle.std.specs.Prelude.{◌≡◌, ◌<◌, ◌≤◌, ◌+◌, ◌-◌, ◌++◌, ◌==◌, ℕ, List, [], true, false, length, drop, take, position, Ok, Err, Some, OnOk, OnErr, IfOk, IfSome, IfNone, vec_len};
+ghost use Rattle.std.specs.Prelude.{◌≡◌, ◌<◌, ◌≤◌, ◌+◌, ◌-◌, ◌==◌, ℕ, List, [], true, false, length, drop, take, Ok, Err, Some, OnOk, IfOk, IfSome, IfNone, vec_len};
 ghost use Rattle.std.specs.Io.KnownBytes.{Keeps, IsAtEnd};
 ghost use Rattle.ctt_script.specs.declared.input.InputFault.TheVariants.{Read};
 ghost use Rattle.ctt_office.specs.Lines.{GivesNext, HasLine, IsCut, IsLong, IsOpen, IsShort, coming};

@@ -1,6 +1,6 @@
 //! What a line of a seat asks for.
 
-ghost use Rattle.std.specs.Prelude.{◌≡◌, ℕ};
+ghost use Rattle.std.specs.Prelude.{◌≡◌};
 ghost use Rattle.ctt_office.specs.SeatText.{LineFits, leaves, seat_line};
 
 use ctt_core::{Event, PlannerNo};

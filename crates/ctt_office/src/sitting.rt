@@ -1,6 +1,6 @@
 //! A planner at a seat: his lines, each answered before the next one is read.
 
-ghost use Rattle.std.specs.Prelude.{◌≡◌, ℕ, List, IfOk, OnOk, string_bytes};
+ghost use Rattle.std.specs.Prelude.{◌≡◌, ℕ, IfOk, OnOk};
 ghost use Rattle.std.specs.Io.KnownBytes.{Appends};
 ghost use Rattle.ctt_office.specs.SeatText.{IsAnswerTo, LineFits, Tells};
 

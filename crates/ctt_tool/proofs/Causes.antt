@@ -19,6 +19,8 @@ use Rattle.ctt_script.specs.declared.journal_fault.JournalFault.{JournalFault}
 use Rattle.ctt_script.specs.declared.journal_fault.JournalFault.TheVariants as journal
 use Rattle.ctt_text.specs.declared.placed.Placed.{Placed}
 use Rattle.ctt_text.proofs.FormLaws.{err_is_ok, err_same}
+use Rattle.ctt_office.specs.Recovery.{IsMinutesFault}
+use Rattle.ctt_tool.specs.Lists.{IsNoMinutes}
 use Rattle.ctt_tool.specs.Texts.{IsNoBarred, IsNoInstance, IsNoJournal, IsNoSolution}
 use Rattle.ctt_tool.specs.Faults.{IfUnwritten, fault_of_barred, fault_of_instance, fault_of_journal, fault_of_solution, status_of}
 use Rattle.ctt_tool.specs.declared.fault.Fault.{Fault}
@@ -105,3 +107,9 @@ pub journal_refused : {T : Type 0} (r : Result T Fault) (read : JournalFault) (p
 journal_refused (Ok x) read problem told bytes items gives takes copied all = tt
 journal_refused (Err fault) read problem told bytes items gives takes copied all = λ one. IfSome_then told all (λ held same. subst (IsNoJournal problem) (copied ∙ same)
     (λ entries is. three_is_one (subst (λ fault. status_of (fault_of_journal fault) ≡ 1) (takes entries is.is_text is.spells) (sym (ap status_of gives) ∙ one))))
+
+-- and the text of minutes is that of none
+pub minutes_refused : {T : Type 0} (r : Result T Fault) (read : JournalFault) (problem : Problem) (bytes : List ℕ) → IsErrAnd r (λ fault. fault ≡ fault_of_journal read) → IsMinutesFault problem bytes read
+    → IfErr r (λ fault. status_of fault ≡ 1 → IsNoMinutes problem bytes)
+minutes_refused (Ok x) read problem bytes gives is = tt
+minutes_refused (Err fault) read problem bytes gives is = λ one. (read, (λ none. three_is_one (subst (λ fault. status_of (fault_of_journal fault) ≡ 1) none (sym (ap status_of gives) ∙ one)), is))

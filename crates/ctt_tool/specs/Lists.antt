@@ -1,8 +1,7 @@
 -- What the commands `journal` and `list` print, and which texts they refuse.
-use Rattle.std.specs.Prelude.{◌≡◌, ◌≢◌, ◌⊎◌, ◌++◌, ℕ, Bool, List, [], ◌∷◌, Option, Some, None, IfSome, is_some, codes, flat_map, length}
-use Rattle.std.specs.Fmt.{decimal}
+use Rattle.std.specs.Prelude.{◌≡◌, ◌≢◌, ◌⊎◌, ℕ, Bool, List, Option}
 use Rattle.std.specs.Global.{Global}
-use Rattle.std.specs.Io.KnownBytes.{Appends, Keeps}
+use Rattle.std.specs.Io.KnownBytes.{Appends}
 use Rattle.std.specs.declared.string.String.{String}
 use Rattle.ctt_text.specs.Problem.{Problem}
 use Rattle.ctt_text.specs.Written.{soltext}
@@ -11,14 +10,20 @@ use Rattle.ctt_core.specs.Audits.{IsVerdict, LeavesList}
 use Rattle.ctt_core.specs.declared.auditing.Verdict.{Verdict}
 use Rattle.ctt_core.specs.declared.auditing.Verdict.TheVariants.{Agrees}
 use Rattle.ctt_core.specs.declared.journal.JournalEntry.{JournalEntry}
-use Rattle.ctt_script.specs.WrittenText.{entry_text, journal_text}
+use Rattle.ctt_script.specs.WrittenText.{journal_text}
 use Rattle.ctt_script.specs.declared.journal_fault.JournalFault.{JournalFault}
 use Rattle.ctt_script.specs.declared.journal_fault.JournalFault.TheVariants.{NoMemory}
 use Rattle.ctt_office.specs.Recovery.{IsMinutesFault, IsRecovered}
-use Rattle.ctt_tool.specs.Audits.{IsRefusedAudit, PrintsVerdict}
+use Rattle.ctt_tool.specs.Audits.{PrintsVerdict}
 use Rattle.ctt_tool.specs.Texts.{Held, Holds, IsInstanceIn, IsJournalText, IsNoInstanceIn, IsStart}
 use Rattle.ctt_tool.specs.declared.outcome.Outcome.{Outcome}
 use Rattle.ctt_tool.specs.declared.outcome.Outcome.TheVariants.{Done}
+
+-- the bytes are the journal of the whole entries at the beginning of minutes
+pub record IsRecoveredJournal (problem : Problem) (text : List ℕ) (torn : Bool) (bytes : List ℕ) : Type 0 where
+  pub entries : List JournalEntry
+  pub is_recovered : IsRecovered problem text entries torn
+  pub is : bytes ≡ journal_text problem entries
 
 -- of an instance, the whole entries at the beginning of the minutes in a file are printed as a journal
 pub record PrintsEntries (problem : Problem) (minutes : String Global) (held : Held) (old new : Option (List ℕ)) : Type 0 where

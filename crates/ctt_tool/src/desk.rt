@@ -1,14 +1,13 @@
 //! The command `desk`.
 
-ghost use Rattle.std.specs.Prelude.{◌≡◌, ◌⊎◌, ◌≤◌, ℕ, [], ◌∷◌, ◌++◌, Ok, Err, Some, true, length, codes, OnOk, OnErr, IfOk, IfErr, IfSome};
+ghost use Rattle.std.specs.Prelude.{◌≡◌, ◌⊎◌, ◌≤◌, ◌<◌, [], ◌∷◌, ◌++◌, Err, None, true, length, codes, OnOk, OnErr, IfOk, IfErr};
 ghost use Rattle.std.specs.String.{string_bytes};
-ghost use Rattle.ctt_script.specs.CrewText.{IsCrewText};
-ghost use Rattle.ctt_tool.specs.Desks.{IsOfDeskOn, IsOpenOn, TellsLast};
-ghost use Rattle.ctt_tool.specs.Faults.{IfUnwritten, IsInputOf, IsOfDesk, IsOfDeskFiles, IsOfFiles, IsOfTexts, MayHaveWritten, status_of};
+ghost use Rattle.ctt_tool.specs.Desks.{IsOfDeskFrom, IsOfDeskOn, IsOfKeeping, IsOfMinutes, IsOpenOn, IsUnread, TellsLast};
+ghost use Rattle.ctt_tool.specs.Faults.{IfUnwritten, IsOfDesk, IsOfDeskFiles, IsOfFiles, IsOfTexts, MayHaveWritten, status_of};
 ghost use Rattle.ctt_tool.specs.Jobs.{given};
 ghost use Rattle.ctt_tool.specs.Runs.{IsRefusedRun};
 ghost use Rattle.ctt_tool.specs.Texts.{IsRefusedStart};
-ghost use Rattle.ctt_tool.specs.declared.fault.Fault.TheVariants.{BadSeats, CannotWrite, MinutesExist};
+ghost use Rattle.ctt_tool.specs.declared.fault.Fault.TheVariants.{BadSeats, CannotWrite, NoPlace};
 
 use crate::fault::Fault;
 use crate::files::Files;
@@ -17,7 +16,6 @@ use crate::opening::refused_opening;
 use crate::output::print;
 use crate::texts::{fetch_instance, fetch_start};
 use ctt_board::{GridSheet, Sheet};
-use ctt_core::PlannerNo;
 use ctt_desk::{Opened, SharedFault};
 use ctt_office::{OfficeFault, keep_desk};
 use ctt_script::Sink;
@@ -30,41 +28,59 @@ use std::thread::Threads;
 /// The most seats that a desk may have.
 const SEAT_LIMIT: usize = 64;
 
-/// Whether a seat is given again.
-fn is_repeated(seats: &[String]) -> bool {
-    for (at, seat) in seats.iter().enumerate() {
-        for other in &seats[..at] {
-            if seat.as_str() == other.as_str() {
-                return true;
-            }
+/// Whether a seat of this name is among these.
+fn is_among(seats: &[String], name: &str) -> bool {
+    for seat in seats {
+        if seat.as_str() == name {
+            return true;
         }
     }
     false
 }
 
-/// Whether standard input and standard output are a seat.
-fn has_standard(seats: &[String]) -> bool {
-    seats.iter().any(|seat| seat.as_str() == STANDARD)
+/// Whether a seat is given again.
+fn is_repeated(seats: &[String]) -> bool {
+    for number in 0..seats.len() {
+        if is_among(&seats[..number], seats[number].as_str()) {
+            return true;
+        }
+    }
+    false
 }
 
-/// The name of the file from which a planner's lines come.
-fn input_name(alloc: Global, seats: &[String], planner: PlannerNo) -> Result<String, AllocError> {
+/// The name of the file from which the lines of a seat come.
+fn input_name(alloc: Global, seat: &str) -> Result<String, AllocError>
+    ensures { IfOk result (λ name. string_bytes name ≡ seat.now ++ codes ".in") }
+{
     let mut name = String::new(alloc);
-    if let Some(seat) = seats.get(planner.get() as usize) {
-        name.push_str(seat.as_str())?;
-        name.push_str(".in")?;
-    }
+    name.push_str(seat)?;
+    name.push_str(".in")?;
     Ok(name)
 }
 
-/// The fault of a desk with these seats.
-fn fault_of_office(alloc: Global, seats: &[String], fault: OfficeFault) -> Fault {
+/// That the lines of a seat cannot be read.
+fn unread(alloc: Global, seat: &str) -> Fault
+    ensures { IsUnread seat.now result }
+{
+    match input_name(alloc, seat) {
+        Ok(name) => Fault::CannotRead(name),
+        Err(_) => Fault::NoMemory,
+    }
+}
+
+/// The fault of a desk with these seats. A thread that tells of a seat that is not there has failed itself.
+fn fault_of_office(alloc: Global, seats: &[String], fault: OfficeFault) -> Fault
+    requires { 1 ≤ length seats.now }
+    ensures fault { IsOfKeeping (length seats.now) result }
+    ensures file { IsOfDeskFiles [] seats.now (λ _. None) result }
+    ensures machine { status_of result ≡ 3 }
+{
     match fault {
         OfficeFault::NoPlace => Fault::NoPlace,
         OfficeFault::NoThread(_) => Fault::NoThread,
-        OfficeFault::CannotRead(planner) => match input_name(alloc, seats, planner) {
-            Ok(name) => Fault::CannotRead(name),
-            Err(_) => Fault::NoMemory,
+        OfficeFault::CannotRead(planner) => match seats.get(planner.get() as usize) {
+            Some(seat) => unread(alloc, seat.as_str()),
+            None => Fault::NoThread,
         },
         OfficeFault::CannotWrite(_) | OfficeFault::NotWritten => Fault::CannotWrite,
         OfficeFault::NoMemory => Fault::NoMemory,
@@ -81,6 +97,7 @@ fn open_on<'i, S: Sheet<'i>, F: Files>(
     ensures problem { IfOk result (λ opened. opened.problem ≡ instance.now) }
     ensures opens { IfOk result (λ opened. IsOpenOn instance.now start (F.held files.old) opened.list) }
     ensures kept { F.held files.new ≡ F.held files.old }
+    ensures fault { IfErr result (λ fault. IsOfTexts fault ⊎ (fault ≡ NoPlace)) }
     ensures file { IfErr result (IsOfFiles (given start) (F.held files.old)) }
     ensures cause { IfErr result (λ fault. status_of fault ≡ 1
         → IsRefusedStart instance.now (F.held files.old) start) }
@@ -96,8 +113,23 @@ fn open_on<'i, S: Sheet<'i>, F: Files>(
     }
 }
 
+/// The file for minutes, if one is given, unless it has bytes.
+fn unused<O: Office>(office: &O, minutes: Option<String>) -> Result<Option<String>, Fault>
+    ensures { IfErr result (IsOfMinutes minutes) }
+{
+    let Some(name) = minutes else {
+        return Ok(None);
+    };
+    if office.has_bytes(&name) {
+        return Err(Fault::MinutesExist(name));
+    }
+    Ok(Some(name))
+}
+
 /// Where minutes are written, where a file is given for them.
-fn minutes_in<O: Office>(office: &O, minutes: Option<String>) -> Result<Option<O::Minutes>, Fault> {
+fn minutes_in<O: Office>(office: &O, minutes: Option<String>) -> Result<Option<O::Minutes>, Fault>
+    ensures { IfErr result (λ fault. fault ≡ CannotWrite) }
+{
     let Some(name) = minutes else {
         return Ok(None);
     };
@@ -117,7 +149,16 @@ fn keep<R: Threads + Wait + Sync, F: Files, O: Office>(
     seats: &[String],
     start: Option<String>,
     minutes: Option<String>,
-) -> Result<Vec<u8>, Fault> {
+) -> Result<Vec<u8>, Fault>
+    requires some { 1 ≤ length seats.now }
+    requires few { length seats.now ≤ 64 }
+    ensures tells { IfOk result (λ bytes. IsOfDeskFrom instance.now start (F.held files.old) bytes.items) }
+    ensures kept { F.held files.new ≡ F.held files.old }
+    ensures fault { IfErr result (IsOfKeeping (length seats.now)) }
+    ensures file { IfErr result (IsOfDeskFiles (given start) seats.now (F.held files.old)) }
+    ensures cause { IfErr result (λ fault. status_of fault ≡ 1
+        → IsRefusedStart instance.now (F.held files.old) start) }
+{
     let opened = open_on::<GridSheet, F>(alloc, files, instance, start)?;
     let writer = match minutes_in(office, minutes) {
         Ok(writer) => writer,
@@ -132,17 +173,36 @@ fn keep<R: Threads + Wait + Sync, F: Files, O: Office>(
     }
 }
 
-/// Whether the minutes' file has bytes already.
-fn check_minutes<O: Office>(office: &O, minutes: &Option<String>) -> bool {
-    match minutes {
-        Some(name) => office.has_bytes(name),
-        None => false,
-    }
+/// The same of the instance in a file. It is read first, then the barred rooms, and then the start.
+fn report<R: Threads + Wait + Sync, F: Files, O: Office>(
+    rt: &R,
+    alloc: Global,
+    files: &mut F,
+    office: &O,
+    instance: String,
+    barred: Option<String>,
+    seats: &[String],
+    start: Option<String>,
+    minutes: Option<String>,
+) -> Result<Vec<u8>, Fault>
+    requires some { 1 ≤ length seats.now }
+    requires few { length seats.now ≤ 64 }
+    ensures tells { IfOk result (λ bytes. IsOfDeskOn instance barred start (F.held files.old) bytes.items) }
+    ensures kept { F.held files.new ≡ F.held files.old }
+    ensures fault { IfErr result (IsOfKeeping (length seats.now)) }
+    ensures file { IfErr result (IsOfDeskFiles (instance ∷ given barred ++ given start) seats.now (F.held files.old)) }
+    ensures cause { IfErr result (λ fault. status_of fault ≡ 1
+        → IsRefusedRun (F.held files.old) instance barred start) }
+{
+    let instance = fetch_instance(alloc, files, instance, barred)?;
+    let kept = keep(rt, alloc, files, office, &instance, seats, start, minutes);
+    let_go(instance);
+    kept
 }
 
 /// Keeps a desk of an instance with these seats until all planners have left, and prints how many drafts were accepted
 /// and what all costs: on standard output, unless that is a seat, and then on standard error. Nothing is opened where the
-/// file of the minutes has bytes.
+/// seats are refused or the file of the minutes has bytes.
 pub fn desk<R: Threads + Wait + Sync, F: Files, O: Office, W: Sink, V: Sink>(
     rt: &R,
     alloc: Global,
@@ -159,6 +219,7 @@ pub fn desk<R: Threads + Wait + Sync, F: Files, O: Office, W: Sink, V: Sink>(
     requires { 1 ≤ length seats.items }
     ensures tells { OnOk result (TellsLast instance barred start (F.held files.old)
         (W.taken out.old) (W.taken out.new) (V.taken err.old) (V.taken err.new)) }
+    ensures many { 64 < length seats.items → result ≡ Err BadSeats }
     ensures unmarked { OnOk result (W.has_failed out.new ≡ W.has_failed out.old) }
     ensures kept { F.held files.new ≡ F.held files.old }
     ensures fault { IfErr result (λ fault. IfUnwritten fault
@@ -173,16 +234,13 @@ pub fn desk<R: Threads + Wait + Sync, F: Files, O: Office, W: Sink, V: Sink>(
     if seats.len() > SEAT_LIMIT || is_repeated(&seats) {
         return Err(Fault::BadSeats);
     }
-    if check_minutes(office, &minutes) {
-        return Err(Fault::MinutesExist(minutes.unwrap()));
-    }
-    let instance = fetch_instance(alloc, files, instance, barred)?;
-    let kept = keep(rt, alloc, files, office, &instance, &seats, start, minutes);
-    let_go(instance);
-    let text = kept?;
-    if has_standard(&seats) {
-        print(err, &text)
+    let minutes = unused(office, minutes)?;
+    let report = report(
+        rt, alloc, files, office, instance, barred, &seats, start, minutes,
+    )?;
+    if is_among(&seats, STANDARD) {
+        print(err, &report)
     } else {
-        print(out, &text)
+        print(out, &report)
     }
 }

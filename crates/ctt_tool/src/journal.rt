@@ -1,10 +1,10 @@
 //! The command `journal`.
 
-ghost use Rattle.std.specs.Prelude.{◌≡◌, ◌⊎◌, [], ◌∷◌, ◌++◌, true, OnOk, OnErr, IfOk, IfErr, IfSome};
+ghost use Rattle.std.specs.Prelude.{◌≡◌, [], ◌∷◌, ◌++◌, true, None, is_some, OnOk, OnErr, IfOk, IfErr, IfSome};
 ghost use Rattle.std.specs.String.{string_bytes};
 ghost use Rattle.ctt_tool.specs.Faults.{IfUnwritten, IsOfFiles, IsOfTexts, status_of};
 ghost use Rattle.ctt_tool.specs.Jobs.{given};
-ghost use Rattle.ctt_tool.specs.Lists.{IsNoMinutes, IsRefusedMinutes, PrintsEntries, PrintsJournal};
+ghost use Rattle.ctt_tool.specs.Lists.{IsNoMinutes, IsRecoveredJournal, IsRefusedMinutes, PrintsEntries, PrintsJournal};
 ghost use Rattle.ctt_tool.specs.declared.fault.Fault.TheVariants.{NoMemory};
 
 use crate::fault::Fault;
@@ -28,6 +28,24 @@ fn say_torn<V: Sink>(alloc: Global, err: &mut V, torn: Option<usize>) -> Result<
     Ok(())
 }
 
+/// The journal of the whole entries at the beginning of minutes, and the byte at which an entry begins that is not whole.
+fn recovered(
+    alloc: Global,
+    instance: &Instance,
+    minutes: &[u8],
+) -> Result<(Vec<u8>, Option<usize>), Fault>
+    ensures journal { IfOk result (λ r. IsRecoveredJournal instance.now minutes.now (is_some r.1) r.0.items) }
+    ensures fault { IfErr result IsOfTexts }
+    ensures file { IfErr result (IsOfFiles [] (λ _. None)) }
+    ensures cause { IfErr result (λ fault. status_of fault ≡ 1 → IsNoMinutes instance.now minutes.now) }
+{
+    let blocks = read_blocks(alloc, instance, minutes)?;
+    let torn = blocks.torn;
+    let journal = write_journal(alloc, instance, &blocks.entries);
+    let_go(blocks);
+    Ok((journal?, torn))
+}
+
 /// Prints the journal of the whole entries at the beginning of minutes.
 fn print_journal<F: Files, W: Sink, V: Sink>(
     alloc: Global,
@@ -47,10 +65,9 @@ fn print_journal<F: Files, W: Sink, V: Sink>(
         → IfSome (F.held files.old (string_bytes minutes)) (IsNoMinutes instance.now)) }
 {
     let text = read_file(alloc, files, minutes)?;
-    let blocks = read_blocks(alloc, instance, &text)?;
-    let journal = write_journal(alloc, instance, &blocks.entries)?;
+    let (journal, torn) = recovered(alloc, instance, &text)?;
     print(out, &journal)?;
-    say_torn(alloc, err, blocks.torn)
+    say_torn(alloc, err, torn)
 }
 
 /// Prints the journal of minutes of an instance, each given by the name of its file. A last entry that is torn is left

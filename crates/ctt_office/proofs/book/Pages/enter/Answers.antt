@@ -1,6 +1,5 @@
 use Rattle.std.proofs.Common.{◌≡◌, ◌+◌, length, arith, rules, subst, sym}
 use mathlib.Core.List.{IsPrefix}
-use Rattle.std.specs.Io.KnownBytes.{Appends}
 use Rattle.ctt_office.specs.Pages.{AreMinutesOf, seen}
 use Rattle.ctt_office.proofs.PagesLemmas.{minutes_grow}
 use Rattle.ctt_office.proofs.book.Pages.enter.Goals as goal
