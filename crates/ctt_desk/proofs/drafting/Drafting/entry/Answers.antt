@@ -12,6 +12,6 @@ returns-clause-fit g c =
     let d = c.self.inside.draft.value in
     let is : IsProblem d.problem = subst IsProblem (c.instance.ensures ∙ ap (λ (x : DraftValue). x.problem) c.deref.ensures) c.limits_hold.ensures in
     let lawful : Lawful d.problem d.base = subst (λ (x : DraftValue). Lawful x.problem x.base) c.deref-2.ensures c.lawful.ensures.base in
-    let told : IsTold d.problem d.base d.asked = subst (λ (x : DraftValue). IsTold x.problem x.base x.asked) c.deref-3.ensures c.asked_again.ensures.told in
+    let told : IsTold d.problem d.base d.asked = subst (λ (x : DraftValue). IsTold x.problem x.base x.asked) c.deref-3.ensures c.in_ok-asked.ensures.told in
     let fit : Each (AskedFits g.J.Naming.problem) d.asked = subst (λ p. Each (AskedFits p) d.asked) c.self.invariant.0 (told_fit d.problem is d.base d.asked lawful told) in
-    subst (Each (AskedFits g.J.Naming.problem)) (sym (c.in_ok-asked_again.ensures.copy ∙ ap (λ (x : DraftValue). x.asked) c.deref-3.ensures)) fit
+    subst (Each (AskedFits g.J.Naming.problem)) (sym (c.in_ok-asked.ensures.copy ∙ ap (λ (x : DraftValue). x.asked) c.deref-3.ensures)) fit
