@@ -34,10 +34,12 @@ abbrev pub Stops : Problem → Left → Bool → Type 0
 Stops i rest false = IsEnd rest
 Stops i rest true = LacksWord i rest
 
--- the fault of the entry that begins there; wanted memory has no cause
+-- the fault of the entry that begins there: a word that cannot stand in its place; wanted memory has no cause
 abbrev pub IsEntryFault : Problem → Left → JournalFault → Type 0
+IsEntryFault i rest (BadWord k) = reading missing (entry_form i) rest ≡ Err (BadWord k)
 IsEntryFault i rest NoMemory = Unit {0}
-IsEntryFault i rest fault = reading missing (entry_form i) rest ≡ Err fault
+IsEntryFault i rest (Missing k) = ⊥
+IsEntryFault i rest (NotText byte) = ⊥
 
 -- the entries were read as far as they are whole, or up to a fault
 abbrev pub IsReadWhole : Problem → Left → Result Bool JournalFault → List JournalEntry → Type 0
@@ -65,12 +67,9 @@ pub record IsRecovered (i : Problem) (text : List ℕ) (entries : List JournalEn
   pub reads_them : IsReadOf i lines entries lacks
   pub torn_is : torn ≡ lacks || has_byte tail
 
--- the cause of a fault in whole lines that are text: the entry behind those that are whole has it; wanted memory has none
+-- the cause of a fault in whole lines that are text: the entry behind those that are whole has it
 abbrev pub IsLinesFault : Problem → List ℕ → JournalFault → Type 0
-IsLinesFault i lines (NotText byte) = ⊥
-IsLinesFault i lines NoMemory = Unit {0}
-IsLinesFault i lines (Missing k) = ⊥
-IsLinesFault i lines (BadWord k) = (entries : List JournalEntry) × (rest : Left) × AreEntries i (record { words = words lines; next = 1 }) entries rest × (reading missing (entry_form i) rest ≡ Err (BadWord k))
+IsLinesFault i lines fault = (entries : List JournalEntry) × (rest : Left) × AreEntries i (record { words = words lines; next = 1 }) entries rest × IsEntryFault i rest fault
 
 -- the cause of a fault in minutes: the whole lines at their beginning are no text, or have it
 abbrev pub IsMinutesFault : Problem → List ℕ → JournalFault → Type 0

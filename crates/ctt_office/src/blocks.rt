@@ -80,7 +80,8 @@ fn read_whole(
         match read_entry(alloc, reader, instance) {
             Ok(entry) => entries.push(entry)?,
             Err(JournalFault::Missing(_)) => return Ok(true),
-            Err(fault) => return Err(fault),
+            Err(JournalFault::BadWord(word)) => return Err(JournalFault::BadWord(word)),
+            Err(_) => return Err(JournalFault::NoMemory),
         }
     }
     Err(JournalFault::NoMemory)
