@@ -1,0 +1,5 @@
+pub mod Blocks
+pub mod Lines
+pub mod Pages
+pub mod Recovery
+pub mod SeatText
