@@ -22,10 +22,6 @@ pub InOrder-at : (c s : ℕ) (r : Option ℕ) (t : List Placed) → InOrder t �
 InOrder-at c s None t h = InOrder-without c s t h
 InOrder-at c s (Some r) t h = InOrder-with (at c s r) t h
 
-pub InOrder-apply : (cells : List Cell) (t : List Placed) → InOrder t → InOrder (apply cells t)
-InOrder-apply [] t h = h
-InOrder-apply (x ∷ xs) t h = InOrder-apply xs (apply_at x.course x.slot x.room t) (InOrder-at x.course x.slot x.room t h)
-
 -- any part that two timetables share they share after one change
 pub agree_at : (p : Placed → Bool) (c s : ℕ) (r : Option ℕ) (t u : List Placed) → InOrder t → InOrder u → filter p t ≡ filter p u → filter p (apply_at c s r t) ≡ filter p (apply_at c s r u)
 agree_at p c s None t u h k e = filter_filter p (stays c s) t ∙ ap (λ ls. filter (stays c s) ls) e ∙ sym (filter_filter p (stays c s) u)

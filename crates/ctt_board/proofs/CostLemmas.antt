@@ -17,7 +17,7 @@ use Rattle.ctt_rules.proofs.SumLemmas.{sum_below_le, count_below_le}
 use Rattle.ctt_rules.proofs.PartLemmas.{count_part_le}
 use Rattle.ctt_rules.proofs.TimetableLemmas.{sum_by_course, courses_fit, row_is_short, few_lectures}
 use Rattle.ctt_board.specs.Changes.{apply}
-use Rattle.ctt_board.specs.Costs.{touches, touches_part, courses_cost, curricula_cost}
+use Rattle.ctt_board.specs.Costs.{touches, touches_curriculum, courses_cost, curricula_cost}
 use Rattle.ctt_board.specs.Laws.{PenaltyFits}
 use Rattle.ctt_board.specs.declared.cell.Cell.{Cell}
 use Rattle.ctt_board.proofs.ApplyLemmas.{untouched_apply}
@@ -60,7 +60,7 @@ pub difference_of : (i : Problem) (cells : List Cell) (t : List Placed) → Each
 difference_of i cells t h k =
     let u : List Placed = apply cells t in
     let courses = sum_below_where (touches cells) (λ c. total (course_cost i u c)) (λ c. total (course_cost i t c)) (course_count i) (λ c e. ap (λ ls. total (row_cost i c ls)) (untouched_apply (λ d. d == c) cells t e)) in
-    let curricula = sum_by_where (touches_part cells) (λ q. alone_cost i (part_of q u)) (λ q. alone_cost i (part_of q t)) i.curricula (λ q e. ap (alone_cost i) (untouched_apply (λ d. has d q) cells t e)) in
+    let curricula = sum_by_where (touches_curriculum cells) (λ q. alone_cost i (part_of q u)) (λ q. alone_cost i (part_of q t)) i.curricula (λ q e. ap (alone_cost i) (untouched_apply (λ d. has d q) cells t e)) in
     omega (arith, courses, curricula, total_of i t h, total_of i u k)
 
 pub touched_difference : (i : Problem) (cells : List Cell) (t : List Placed) → IsTimetable i t → IsTimetable i (apply cells t)

@@ -96,8 +96,8 @@ module _ (i : Problem) (l : Placed) (t u : List Placed) (more : IsMore l t u) (f
       none true false n = omega arith
       none false b n = omega arith
 
-  pub parts_step : (r k : ℕ) → r < curriculum_count i → count_by (in_slot (members i r) k) u ≡ in_column (curricula_of i l.course) l.slot r k + count_by (in_slot (members i r) k) t
-  parts_step r k lr = counted_more l t u more (in_slot (members i r) k) ∙ ap (λ n. n + count_by (in_slot (members i r) k) t) (by (has l.course (members i r)) (named_once (λ q. has l.course (members i q)) r (curriculum_count i)))
+  pub curricula_step : (r k : ℕ) → r < curriculum_count i → count_by (in_slot (members i r) k) u ≡ in_column (curricula_of i l.course) l.slot r k + count_by (in_slot (members i r) k) t
+  curricula_step r k lr = counted_more l t u more (in_slot (members i r) k) ∙ ap (λ n. n + count_by (in_slot (members i r) k) t) (by (has l.course (members i r)) (named_once (λ q. has l.course (members i q)) r (curriculum_count i)))
     where
       turned : (l.slot == k) ≡ (k == l.slot)
       turned = grind (arith, nat_tests)
@@ -120,7 +120,7 @@ module _ (i : Problem) (l : Placed) (t u : List Placed) (more : IsMore l t u) (f
           days = counted_up a.days b.days _ _ _ _ _ adds.days (λ r k lr lk. days_step r k) h.days;
           used = counted_up a.used b.used _ _ _ _ _ adds.used (λ r k lr lk. used_step _ new r k lr) h.used;
           rooms = counted_up a.rooms b.rooms _ _ _ _ _ adds.rooms (λ r k lr lk. rooms_step r k) h.rooms;
-          parts = counted_up a.parts b.parts _ _ _ _ _ adds.parts (λ r k lr lk. parts_step r k lr) h.parts;
+          curricula = counted_up a.curricula b.curricula _ _ _ _ _ adds.curricula (λ r k lr lk. curricula_step r k lr) h.curricula;
         }
 
     pub counts_less : AreCounts i u b → AreCounts i t a
@@ -132,12 +132,12 @@ module _ (i : Problem) (l : Placed) (t u : List Placed) (more : IsMore l t u) (f
           days = days;
           used = counted_down a.used b.used _ _ _ _ _ adds.used (λ r k lr lk. used_step _ new r k lr) h.used;
           rooms = counted_down a.rooms b.rooms _ _ _ _ _ adds.rooms (λ r k lr lk. rooms_step r k) h.rooms;
-          parts = counted_down a.parts b.parts _ _ _ _ _ adds.parts (λ r k lr lk. parts_step r k lr) h.parts;
+          curricula = counted_down a.curricula b.curricula _ _ _ _ _ adds.curricula (λ r k lr lk. curricula_step r k lr) h.curricula;
         }
 
   -- a lecture that can come finds none of its curricula in its slot
   pub have_none : (a : Counts) → AreCounts i t a → ((q : ℕ) → q < curriculum_count i → count_by (in_slot (members i q) l.slot) u ≤ 1) → HaveNone i l a
-  have_none a h few = λ q lt. omega (arith, h.parts.counts q l.slot lt fits.1, parts_step q l.slot lt, few q lt)
+  have_none a h few = λ q lt. omega (arith, h.curricula.counts q l.slot lt fits.1, curricula_step q l.slot lt, few q lt)
 
   -- a lecture that is there is counted
   pub have_lecture : (b : Counts) → IsProblem i → AreCounts i u b → HaveLecture i l b
@@ -149,7 +149,7 @@ module _ (i : Problem) (l : Placed) (t u : List Placed) (more : IsMore l t u) (f
         days = omega (arith, h.days.counts l.course (day_of i l.slot) fits.0 day, days_step l.course (day_of i l.slot), one l.course (day_of i l.slot));
         used = omega (arith, h.used.counts 0 l.course (omega arith) fits.0, some_day);
         rooms = omega (arith, h.rooms.counts l.course l.room fits.0 fits.2, rooms_step l.course l.room, one l.course l.room);
-        parts = λ q lt. omega (arith, h.parts.counts q l.slot lt fits.1, parts_step q l.slot lt);
+        curricula = λ q lt. omega (arith, h.curricula.counts q l.slot lt fits.1, curricula_step q l.slot lt);
       }
     where
       day_one : one_at true l.course (day_of i l.slot) l.course (day_of i l.slot) ≡ 1
@@ -165,11 +165,11 @@ module _ (i : Problem) (l : Placed) (t u : List Placed) (more : IsMore l t u) (f
 abbrev pub IsZero : Grid ℕ → ℕ → ℕ → Type 0
 IsZero g rows width = (r k : ℕ) → r < rows → k < width → at g r k 0 ≡ 0
 
-pub none_counted : (i : Problem) (c : Counts) → HaveSizes i c → IsZero c.lectures 1 (course_count i) → IsZero c.days (course_count i) i.days → IsZero c.used 1 (course_count i) → IsZero c.rooms (course_count i) (room_count i) → IsZero c.parts (curriculum_count i) (slot_count i) → AreCounts i [] c
-none_counted i c h lectures days used rooms parts = record {
+pub none_counted : (i : Problem) (c : Counts) → HaveSizes i c → IsZero c.lectures 1 (course_count i) → IsZero c.days (course_count i) i.days → IsZero c.used 1 (course_count i) → IsZero c.rooms (course_count i) (room_count i) → IsZero c.curricula (curriculum_count i) (slot_count i) → AreCounts i [] c
+none_counted i c h lectures days used rooms curricula = record {
   lectures = record { size = h.lectures; counts = lectures };
   days = record { size = h.days; counts = days };
   used = record { size = h.used; counts = λ r k lr lk. used r k lr lk ∙ sym (sum_below_zero (λ d. 0) i.days (λ d lt. refl)) };
   rooms = record { size = h.rooms; counts = rooms };
-  parts = record { size = h.parts; counts = parts };
+  curricula = record { size = h.curricula; counts = curricula };
 }

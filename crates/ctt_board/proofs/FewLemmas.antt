@@ -11,7 +11,6 @@ use Rattle.ctt_rules.proofs.SumLemmas.{count_below_le}
 use Rattle.ctt_board.specs.Cells.{lecture_at, row_below}
 use Rattle.ctt_board.specs.Changes.{room_at}
 use Rattle.ctt_board.specs.Counts.{AreCounts, HaveRoom}
-use Rattle.ctt_board.specs.Grids.{column_below}
 use Rattle.ctt_board.specs.Joining.{on_day, in_room}
 use Rattle.ctt_board.specs.declared.counts.Counts.{Counts}
 use Rattle.ctt_rules.proofs.SumLemmas.{count_by-cons}
@@ -38,10 +37,6 @@ one_at_most c s (Some r) = omega arith
 row_short : (f : ℕ → Option ℕ) (c n : ℕ) → length (row_below f c n) ≤ n
 row_short f c zero = omega arith
 row_short f c (suc n) = omega (arith, length-append (row_below f c n) (lecture_at c n (f n)), row_short f c n, one_at_most c n (f n))
-
-column_short : (f : ℕ → Option ℕ) (s n : ℕ) → length (column_below f s n) ≤ n
-column_short f s zero = omega arith
-column_short f s (suc n) = omega (arith, length-append (column_below f s n) (lecture_at n s (f n)), column_short f s n, one_at_most n s (f n))
 
 module _ (i : Problem) (t : List Placed) (is : IsTimetable i t) (p : IsProblem i) where
   course_short : (c : ℕ) → length (course_row c t) ≤ 2000

@@ -146,8 +146,8 @@ module _ (i : Problem) (l : Placed) (t u : List Placed) (more : IsMore l t u) (f
   without_it q e k = omega (arith, counted_more l t u more (in_slot q k) ∙ ap (λ b. cond (b && l.slot == k) 1 0 + by_slot q t k) e)
 
   module _ (t_fits : Each (λ (x : Placed). x.slot < slot_count i) t) (u_fits : Each (λ (x : Placed). x.slot < slot_count i) u) where
-    one_part : (q : List ℕ) → alone_cost i (part_of q u) + cond (has c q) (2 * alone_beside i (by_slot q t) l.slot) 0 ≡ alone_cost i (part_of q t) + cond (has c q) (2 * stands_alone i (by_slot q t) l.slot) 0
-    one_part q = elim (cases_Bool (has c q)) [
+    one_curriculum : (q : List ℕ) → alone_cost i (part_of q u) + cond (has c q) (2 * alone_beside i (by_slot q t) l.slot) 0 ≡ alone_cost i (part_of q t) + cond (has c q) (2 * stands_alone i (by_slot q t) l.slot) 0
+    one_curriculum q = elim (cases_Bool (has c q)) [
       | inl y ↦ rw y (omega (arith, alone_counted i q u u_fits, alone_counted i q t t_fits, one_more_alone i (by_slot q t) (by_slot q u) l.slot (with_it q y) fits.1))
       | inr n ↦ rw n (omega (arith, alone_counted i q u u_fits, alone_counted i q t t_fits, sum_below_same (alone_at i (by_slot q u)) (alone_at i (by_slot q t)) (slot_count i) (same n)))
     ]
@@ -155,17 +155,17 @@ module _ (i : Problem) (l : Placed) (t u : List Placed) (more : IsMore l t u) (f
         same : has c q ≡ false → (k : ℕ) → alone_at i (by_slot q u) k ≡ alone_at i (by_slot q t) k
         same n k = ap₂ (λ b m. cond b 0 m) (ap₂ (λ a b. (ltb 0 (period_of i k) && ltb 0 a) || (ltb (period_of i k + 1) i.periods && ltb 0 b)) (without_it q n (k - 1)) (without_it q n (k + 1))) (without_it q n k)
 
-    its_parts : (f : List ℕ → ℕ) → sum_by (λ q. cond (has c q) (2 * f q) 0) i.curricula ≡ 2 * sum_by (λ n. f (members i n)) (curricula_of i c)
-    its_parts f =
+    its_curricula : (f : List ℕ → ℕ) → sum_by (λ q. cond (has c q) (2 * f q) 0) i.curricula ≡ 2 * sum_by (λ n. f (members i n)) (curricula_of i c)
+    its_curricula f =
         ap (sum_by (λ q. cond (has c q) (2 * f q) 0)) (sym (take_all (length i.curricula) i.curricula (omega arith)))
         ∙ sum_by_numbers (λ q. has c q) (λ q. 2 * f q) [] i.curricula (length i.curricula) (omega arith)
         ∙ sum_by_twice (λ n. f (members i n)) (curricula_of i c)
 
     pub compactness_join : sum_by (λ q. alone_cost i (part_of q u)) i.curricula + (joining i t l).company ≡ sum_by (λ q. alone_cost i (part_of q t)) i.curricula + (joining i t l).alone
     compactness_join =
-        ap (λ n. sum_by (λ q. alone_cost i (part_of q u)) i.curricula + n) (sym (its_parts (λ q. alone_beside i (by_slot q t) l.slot)))
-        ∙ sum_by_balance (λ q. alone_cost i (part_of q u)) (λ q. cond (has c q) (2 * alone_beside i (by_slot q t) l.slot) 0) (λ q. alone_cost i (part_of q t)) (λ q. cond (has c q) (2 * stands_alone i (by_slot q t) l.slot) 0) i.curricula one_part
-        ∙ ap (λ n. sum_by (λ q. alone_cost i (part_of q t)) i.curricula + n) (its_parts (λ q. stands_alone i (by_slot q t) l.slot))
+        ap (λ n. sum_by (λ q. alone_cost i (part_of q u)) i.curricula + n) (sym (its_curricula (λ q. alone_beside i (by_slot q t) l.slot)))
+        ∙ sum_by_balance (λ q. alone_cost i (part_of q u)) (λ q. cond (has c q) (2 * alone_beside i (by_slot q t) l.slot) 0) (λ q. alone_cost i (part_of q t)) (λ q. cond (has c q) (2 * stands_alone i (by_slot q t) l.slot) 0) i.curricula one_curriculum
+        ∙ ap (λ n. sum_by (λ q. alone_cost i (part_of q t)) i.curricula + n) (its_curricula (λ q. stands_alone i (by_slot q t) l.slot))
 
 -- all of it
 pub joins : (i : Problem) (l : Placed) (t u : List Placed) → IsMore l t u → Fits i l → Each (Fits i) t → Each (Fits i) u → Joins i t u (joining i t l)

@@ -20,9 +20,9 @@ pub mod BetweenLemmas
 pub mod SheetLemmas
 pub mod GainLemmas
 pub mod HolderLemmas
-mod HeldLemmas
 mod AfterLemmas
 mod FewLemmas
+mod CutLemmas
 pub mod LawfulLemmas
 pub mod SettleLemmas
 pub mod FitLemmas

@@ -13,11 +13,11 @@ use Rattle.ctt_text.proofs.TimetableLemmas.{Each-at, Each-map}
 use Rattle.ctt_rules.specs.Hard.{Lawful, conflicts}
 use Rattle.ctt_rules.proofs.SumLemmas.{count_by-cons}
 use Rattle.ctt_board.specs.Joining.{IsMore, in_slot, by_slot, alone_at, stands_alone, count_before, count_after}
-use Rattle.ctt_board.specs.Seen.{Sees, seen_part, NoneThere, OneThere}
+use Rattle.ctt_board.specs.Seen.{Sees, seen_curriculum, NoneThere, OneThere}
 use Rattle.ctt_board.specs.Tables.{at}
 use Rattle.ctt_board.specs.declared.later.Later.{Later}
 use Rattle.ctt_board.proofs.CountedLemmas.{counted_more}
-use Rattle.ctt_board.proofs.SeenLemmas.{part_is}
+use Rattle.ctt_board.proofs.SeenLemmas.{curriculum_is}
 use Rattle.ctt_board.proofs.SlotFacts.{later_slot}
 
 -- by the counts of the slots beside
@@ -155,16 +155,16 @@ module _ (i : Problem) (l : Placed) where
 
   -- a lecture that can come, and one that is there
   pub none_yet : (t u : List Placed) (v : Later) → IsMore l t u → Lawful i t → Lawful i u → Sees i v t → NoneThere i v l
-  none_yet t u v more lt lu sees = of_course i l.course (λ q. seen_part i v q l.slot ≡ 0) (λ q known y. omega (arith, part_is i v t sees lt.timetable.fits q known l.slot, one_there i u q l.slot lu known, counted_more l t u more (in_slot (members i q) l.slot), ap (λ b. cond {A = ℕ} b 1 0) (mine q y)))
+  none_yet t u v more lt lu sees = of_course i l.course (λ q. seen_curriculum i v q l.slot ≡ 0) (λ q known y. omega (arith, curriculum_is i v t sees lt.timetable.fits q known l.slot, one_there i u q l.slot lu known, counted_more l t u more (in_slot (members i q) l.slot), ap (λ b. cond {A = ℕ} b 1 0) (mine q y)))
 
   pub one_seen : (t : List Placed) (v : Later) → Lawful i t → Sees i v t → OneThere i v l
-  one_seen t v lt sees = of_course i l.course (λ q. seen_part i v q l.slot ≤ 1) (λ q known y. omega (arith, part_is i v t sees lt.timetable.fits q known l.slot, one_there i t q l.slot lt known))
+  one_seen t v lt sees = of_course i l.course (λ q. seen_curriculum i v q l.slot ≤ 1) (λ q known y. omega (arith, curriculum_is i v t sees lt.timetable.fits q known l.slot, one_there i t q l.slot lt known))
 
   -- it leaves
   pub left_none : (v w : Later) → w.counts.now ≡ v.counts.now → w.added.items ≡ v.added.items → w.removed.items ≡ v.removed.items ++ l ∷ [] → OneThere i v l → NoneThere i w l
   left_none v w counts added removed one = step (curricula_of i l.course) one (of_course i l.course (λ q. in_slot (members i q) l.slot l ≡ true) (λ q known y. mine q y))
     where
-      each : (q : ℕ) → seen_part i v q l.slot ≤ 1 → in_slot (members i q) l.slot l ≡ true → seen_part i w q l.slot ≡ 0
+      each : (q : ℕ) → seen_curriculum i v q l.slot ≤ 1 → in_slot (members i q) l.slot l ≡ true → seen_curriculum i w q l.slot ≡ 0
       each q few here = by (ltb l.slot (slot_count i)) few
         where
           p : Placed → Bool
@@ -173,10 +173,10 @@ module _ (i : Problem) (l : Placed) where
           gone : count_by p w.removed.items ≡ count_by p v.removed.items + 1
           gone = ap (count_by p) removed ∙ sum_by-append (λ x. cond (p x) 1 0) v.removed.items (l ∷ []) ∙ ap (λ n. count_by p v.removed.items + n) (count_by-cons p l [] ∙ ap (λ b. cond {A = ℕ} b 1 0 + 0) here)
 
-          by : (b : Bool) → cond b ((at v.counts.now.parts q l.slot 0 + count_by p v.added.items) - count_by p v.removed.items) 0 ≤ 1 → cond b ((at w.counts.now.parts q l.slot 0 + count_by p w.added.items) - count_by p w.removed.items) 0 ≡ 0
-          by true k = omega (arith, k, gone, ap (count_by p) added, ap (λ c. at c.parts q l.slot 0) counts)
+          by : (b : Bool) → cond b ((at v.counts.now.curricula q l.slot 0 + count_by p v.added.items) - count_by p v.removed.items) 0 ≤ 1 → cond b ((at w.counts.now.curricula q l.slot 0 + count_by p w.added.items) - count_by p w.removed.items) 0 ≡ 0
+          by true k = omega (arith, k, gone, ap (count_by p) added, ap (λ c. at c.curricula q l.slot 0) counts)
           by false k = refl
 
-      step : (qs : List ℕ) → Each (λ q. seen_part i v q l.slot ≤ 1) qs → Each (λ q. in_slot (members i q) l.slot l ≡ true) qs → Each (λ q. seen_part i w q l.slot ≡ 0) qs
+      step : (qs : List ℕ) → Each (λ q. seen_curriculum i v q l.slot ≤ 1) qs → Each (λ q. in_slot (members i q) l.slot l ≡ true) qs → Each (λ q. seen_curriculum i w q l.slot ≡ 0) qs
       step [] h k = tt
       step (q ∷ qs) h k = (each q h.0 k.0, step qs h.1 k.1)

@@ -6,8 +6,8 @@ use Rattle.std.proofs.lemmas.Bool.Decides.{nat_tests}
 use Rattle.ctt_text.specs.Lists.{put}
 use Rattle.ctt_text.specs.Timetable.{before, with, without}
 use Rattle.ctt_text.specs.declared.placed.Placed.{Placed}
-use Rattle.ctt_board.specs.Changes.{room_at, room_of, room_by, apply_at, CellFits}
-use Rattle.ctt_board.specs.Laws.{RoomsAfter}
+use Rattle.ctt_board.specs.Changes.{room_at, room_of, room_by, apply_at, apply, CellFits, CellsFit}
+use Rattle.ctt_board.specs.declared.cell.Cell.{Cell}
 
 -- the first of a row, found in the whole list
 pub find-filter : {X : Type 0} (q p : X → Bool) (xs : List X) → find p (filter q xs) ≡ find (λ x. q x && p x) xs
@@ -85,6 +85,6 @@ room_after c s (Some r) d e t fits = room_is d e (with l t) ∙ at_place ∙ ap 
       | inr n ↦ rw n (ap room_of (find_put_no (is_at d e) before l t n))
     ]
 
-pub rooms_after : RoomsAfter
+pub rooms_after : (cells : List Cell) (t : List Placed) → CellsFit cells t → (c s : ℕ) → room_at c s (apply cells t) ≡ room_by cells c s (room_at c s t)
 rooms_after [] t fits c s = refl
 rooms_after (x ∷ xs) t fits c s = rooms_after xs (apply_at x.course x.slot x.room t) fits.1 c s ∙ ap (room_by xs c s) (room_after x.course x.slot x.room c s t fits.0)

@@ -1,7 +1,7 @@
 -- Counts that are seen through a change are those of the timetable after it.
 use Rattle.std.proofs.Common.{◌≡◌, ℕ, ◌+◌, ◌-◌, ◌<◌, ◌≤◌, Bool, true, false, cond, ◌&&◌, ◌||◌, ◌==◌, ltb, List, [], ◌∷◌, ◌++◌, length, refl, ◌∙◌, sym, ap, ap₂, subst, arith, inl, inr}
-use Rattle.std.specs.List.{sum_by, count_by, AllByRecursion as Each}
-use Rattle.std.proofs.lemmas.Bool.{cases_lt, eq-eqb, ne_eqb, lt-ltb, le-ltb}
+use Rattle.std.specs.List.{sum_by, count_by, list_any, AllByRecursion as Each}
+use Rattle.std.proofs.lemmas.Bool.{cases_lt, eq-eqb, ne_eqb, lt-ltb, le-ltb, or_parts}
 use Rattle.std.proofs.lemmas.Bool.Decides.{nat_tests}
 use Rattle.std.proofs.lemmas.List.Sums.{sum_by-cons, sum_by-append, length-filter}
 use Rattle.ctt_text.specs.Lists.{has}
@@ -15,7 +15,7 @@ use Rattle.ctt_rules.proofs.TimetableLemmas.{slots_fit}
 use Rattle.ctt_board.specs.Joining.{IsMore, on_day, in_room, in_slot, by_slot, alone_at, alone_beside, stands_alone, joining}
 use Rattle.ctt_board.specs.Tables.{at, one_at}
 use Rattle.ctt_board.specs.Counts.{AreCounts}
-use Rattle.ctt_board.specs.Seen.{Sees, seen, seen_day, seen_room, seen_lectures, seen_part, seen_days, seen_joining}
+use Rattle.ctt_board.specs.Seen.{Sees, seen, seen_day, seen_room, seen_lectures, seen_curriculum, seen_days, seen_joining}
 use Rattle.ctt_board.specs.declared.later.Later.{Later}
 use Rattle.ctt_board.proofs.CountsLemmas.{used_step}
 use Rattle.ctt_text.proofs.BelongingLemmas.{curricula_fit}
@@ -52,6 +52,19 @@ none_there i q s (x ∷ xs) le h =
     let no' : in_slot q s x ≡ false = ap (λ b. has x.course q && b) (ne_eqb x.slot s (λ e. omega (arith, e, lt, le))) ∙ turned_and (has x.course q) false in
     omega (arith, sum_by-cons (λ l. cond (in_slot q s l) 1 0) x xs, none_there i q s xs le h.1, ap (λ b. cond {A = ℕ} b 1 0) no')
 
+none_in_slot : (q : List ℕ) (s : ℕ) (ls : List Placed) → list_any (λ (l : Placed). l.slot == s) ls ≡ false → count_by (in_slot q s) ls ≡ 0
+none_in_slot q s [] e = refl
+none_in_slot q s (x ∷ xs) e =
+    let parts = or_parts (x.slot == s) (list_any (λ (l : Placed). l.slot == s) xs) e in
+    let other : in_slot q s x ≡ false = ap (λ b. has x.course q && b) parts.0 ∙ turned_and (has x.course q) false in
+    omega (arith, sum_by-cons (λ l. cond (in_slot q s l) 1 0) x xs, none_in_slot q s xs parts.1, ap (λ b. cond {A = ℕ} b 1 0) other)
+
+-- a slot that no lecture comes to, or leaves
+pub unchanged : (v : Later) (q : List ℕ) (s n : ℕ) → (list_any (λ (l : Placed). l.slot == s) v.added.items || list_any (λ (l : Placed). l.slot == s) v.removed.items) ≡ false → seen v (in_slot q s) n ≡ n
+unchanged v q s n e =
+    let parts = or_parts (list_any (λ (l : Placed). l.slot == s) v.added.items) (list_any (λ (l : Placed). l.slot == s) v.removed.items) e in
+    omega (arith, none_in_slot q s v.added.items parts.0, none_in_slot q s v.removed.items parts.1)
+
 module _ (i : Problem) (v : Later) (t : List Placed) (h : Sees i v t) where
   seen_is : (p : Placed → Bool) (n : ℕ) → n ≡ count_by p h.base → seen v p n ≡ count_by p t
   seen_is p n e = omega (arith, e, h.balance (λ l. cond (p l) 1 0))
@@ -68,9 +81,9 @@ module _ (i : Problem) (v : Later) (t : List Placed) (h : Sees i v t) where
   days_is : (c : ℕ) → c < course_count i → seen_days v c ≡ days_of i (course_row c t)
   days_is c lc = omega (arith, h.counts.used.counts 0 c (omega arith) lc, h.days c lc)
 
-  pub part_is : Each (Fits i) t → (q : ℕ) → q < curriculum_count i → (s : ℕ) → seen_part i v q s ≡ by_slot (members i q) t s
-  part_is fit q lq s = elim (cases_lt s (slot_count i)) [
-    | inl lt ↦ rw (lt-ltb s (slot_count i) lt) (seen_is (in_slot (members i q) s) (at v.counts.now.parts q s 0) (h.counts.parts.counts q s lq lt))
+  pub curriculum_is : Each (Fits i) t → (q : ℕ) → q < curriculum_count i → (s : ℕ) → seen_curriculum i v q s ≡ by_slot (members i q) t s
+  curriculum_is fit q lq s = elim (cases_lt s (slot_count i)) [
+    | inl lt ↦ rw (lt-ltb s (slot_count i) lt) (seen_is (in_slot (members i q) s) (at v.counts.now.curricula q s 0) (h.counts.curricula.counts q s lq lt))
     | inr le ↦ rw (le-ltb s (slot_count i) le) (sym (none_there i (members i q) s t le (slots_fit i t fit)))
   ]
 
@@ -78,8 +91,8 @@ module _ (i : Problem) (v : Later) (t : List Placed) (h : Sees i v t) where
   joining_is l fits fit =
       let qs : List ℕ = curricula_of i l.course in
       let known : Each (λ q. q < curriculum_count i) qs = curricula_fit i l.course qs refl in
-      let alone = sum_by_each (λ q. stands_alone i (seen_part i v q) l.slot) (λ q. stands_alone i (by_slot (members i q) t) l.slot) qs (Each-each (λ q. q < curriculum_count i) (λ q. stands_alone i (seen_part i v q) l.slot ≡ stands_alone i (by_slot (members i q) t) l.slot) (λ q lt. stands_same i (seen_part i v q) (by_slot (members i q) t) (part_is fit q lt) l.slot) qs known) in
-      let company = sum_by_each (λ q. alone_beside i (seen_part i v q) l.slot) (λ q. alone_beside i (by_slot (members i q) t) l.slot) qs (Each-each (λ q. q < curriculum_count i) (λ q. alone_beside i (seen_part i v q) l.slot ≡ alone_beside i (by_slot (members i q) t) l.slot) (λ q lt. beside_same i (seen_part i v q) (by_slot (members i q) t) (part_is fit q lt) l.slot) qs known) in
+      let alone = sum_by_each (λ q. stands_alone i (seen_curriculum i v q) l.slot) (λ q. stands_alone i (by_slot (members i q) t) l.slot) qs (Each-each (λ q. q < curriculum_count i) (λ q. stands_alone i (seen_curriculum i v q) l.slot ≡ stands_alone i (by_slot (members i q) t) l.slot) (λ q lt. stands_same i (seen_curriculum i v q) (by_slot (members i q) t) (curriculum_is fit q lt) l.slot) qs known) in
+      let company = sum_by_each (λ q. alone_beside i (seen_curriculum i v q) l.slot) (λ q. alone_beside i (by_slot (members i q) t) l.slot) qs (Each-each (λ q. q < curriculum_count i) (λ q. alone_beside i (seen_curriculum i v q) l.slot ≡ alone_beside i (by_slot (members i q) t) l.slot) (λ q lt. beside_same i (seen_curriculum i v q) (by_slot (members i q) t) (curriculum_is fit q lt) l.slot) qs known) in
       rw (day_is l.course (day_of i l.slot) fits.0 (day_fits i l.slot fits.1), days_is l.course fits.0, lectures_is l.course fits.0, room_is l.course l.room fits.0 fits.2, alone, company) refl
 
 -- a lecture that leaves was one of its course on its day

@@ -12,11 +12,11 @@ abbrev pub touches : List Cell → ℕ → Bool
 touches cells c = list_any (λ x. x.course == c) cells
 
 -- some cell is of a member of the curriculum
-abbrev pub touches_part : List Cell → List ℕ → Bool
-touches_part cells q = list_any (λ x. has x.course q) cells
+abbrev pub touches_curriculum : List Cell → List ℕ → Bool
+touches_curriculum cells q = list_any (λ x. has x.course q) cells
 
 abbrev pub courses_cost : Problem → List Cell → List Placed → ℕ
 courses_cost i cells t = sum_below (λ c. cond (touches cells c) (total (course_cost i t c)) 0) (course_count i)
 
 abbrev pub curricula_cost : Problem → List Cell → List Placed → ℕ
-curricula_cost i cells t = sum_by (λ q. cond (touches_part cells q) (alone_cost i (part_of q t)) 0) i.curricula
+curricula_cost i cells t = sum_by (λ q. cond (touches_curriculum cells q) (alone_cost i (part_of q t)) 0) i.curricula

@@ -18,7 +18,7 @@ pub record HaveSizes (i : Problem) (c : Counts) : Type 0 where
   pub days : HasSize c.days (course_count i) i.days
   pub used : HasSize c.used 1 (course_count i)
   pub rooms : HasSize c.rooms (course_count i) (room_count i)
-  pub parts : HasSize c.parts (curriculum_count i) (slot_count i)
+  pub curricula : HasSize c.curricula (curriculum_count i) (slot_count i)
 
 -- the lectures that pass the test of a row and a column
 pub record Counted (g : Grid ℕ) (rows width : ℕ) (count : ℕ → ℕ → ℕ) : Type 0 where
@@ -31,7 +31,7 @@ pub record AreCounts (i : Problem) (t : List Placed) (c : Counts) : Type 0 where
   pub days : Counted c.days (course_count i) i.days (λ course day. count_by (on_day i course day) t)
   pub used : Counted c.used 1 (course_count i) (λ _ course. days_of i (course_row course t))
   pub rooms : Counted c.rooms (course_count i) (room_count i) (λ course room. count_by (in_room course room) t)
-  pub parts : Counted c.parts (curriculum_count i) (slot_count i) (λ q slot. count_by (in_slot (members i q) slot) t)
+  pub curricula : Counted c.curricula (curriculum_count i) (slot_count i) (λ q slot. count_by (in_slot (members i q) slot) t)
 
 -- what one lecture more adds to each table
 pub record AddsLecture (i : Problem) (l : Placed) (old new : Counts) : Type 0 where
@@ -39,7 +39,7 @@ pub record AddsLecture (i : Problem) (l : Placed) (old new : Counts) : Type 0 wh
   pub days : Adds old.days new.days (one_at true l.course (day_of i l.slot))
   pub used : Adds old.used new.used (one_at (at old.days l.course (day_of i l.slot) 0 == 0) 0 l.course)
   pub rooms : Adds old.rooms new.rooms (one_at true l.course l.room)
-  pub parts : Adds old.parts new.parts (in_column (curricula_of i l.course) l.slot)
+  pub curricula : Adds old.curricula new.curricula (in_column (curricula_of i l.course) l.slot)
 
 -- no number is large, so that one more fits
 pub record HaveRoom (c : Counts) : Type 0 where
@@ -50,7 +50,7 @@ pub record HaveRoom (c : Counts) : Type 0 where
 
 -- no curriculum of a lecture's course has one in its slot, so that it can have this one
 abbrev pub HaveNone : Problem → Placed → Counts → Type 0
-HaveNone i l c = (q : ℕ) → q < curriculum_count i → in_column (curricula_of i l.course) l.slot q l.slot + at c.parts q l.slot 0 ≤ 1
+HaveNone i l c = (q : ℕ) → q < curriculum_count i → in_column (curricula_of i l.course) l.slot q l.slot + at c.curricula q l.slot 0 ≤ 1
 
 -- a lecture is counted, so that it can be taken out
 pub record HaveLecture (i : Problem) (l : Placed) (c : Counts) : Type 0 where
@@ -58,4 +58,4 @@ pub record HaveLecture (i : Problem) (l : Placed) (c : Counts) : Type 0 where
   pub days : 1 ≤ at c.days l.course (day_of i l.slot) 0
   pub used : 1 ≤ at c.used 0 l.course 0
   pub rooms : 1 ≤ at c.rooms l.course l.room 0
-  pub parts : (q : ℕ) → q < curriculum_count i → in_column (curricula_of i l.course) l.slot q l.slot ≤ at c.parts q l.slot 0
+  pub curricula : (q : ℕ) → q < curriculum_count i → in_column (curricula_of i l.course) l.slot q l.slot ≤ at c.curricula q l.slot 0

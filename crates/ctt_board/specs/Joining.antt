@@ -50,11 +50,11 @@ by_slot q t s = count_by (in_slot q s) t
 -- what a lecture adds and takes, by the counts of its course on its day, of the days of its course, of its course and
 -- of its course in its room, and of the curricula by slot
 abbrev pub joining_by : Problem → Placed → ℕ → ℕ → ℕ → ℕ → (ℕ → ℕ → ℕ) → Joining
-joining_by i l on_its_day days lectures in_its_room parts = record {
+joining_by i l on_its_day days lectures in_its_room curricula = record {
   seats = unseated i l;
   day = cond (on_its_day == 0 && nat_lt days (course_of i l.course).min_days) 5 0;
-  alone = 2 * sum_by (λ q. stands_alone i (parts q) l.slot) (curricula_of i l.course);
-  company = 2 * sum_by (λ q. alone_beside i (parts q) l.slot) (curricula_of i l.course);
+  alone = 2 * sum_by (λ q. stands_alone i (curricula q) l.slot) (curricula_of i l.course);
+  company = 2 * sum_by (λ q. alone_beside i (curricula q) l.slot) (curricula_of i l.course);
   room = cond (in_its_room == 0 && nat_lt 0 lectures) 1 0;
 }
 

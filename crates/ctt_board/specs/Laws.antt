@@ -5,7 +5,7 @@ use Rattle.ctt_text.specs.Problem.{Problem, IsProblem, course_count, slot_count}
 use Rattle.ctt_text.specs.Timetable.{IsTimetable, course_row, slot_row}
 use Rattle.ctt_text.specs.declared.placed.Placed.{Placed}
 use Rattle.ctt_rules.specs.Penalty.{penalty, total}
-use Rattle.ctt_board.specs.Changes.{apply, CellsFit, room_at, room_by}
+use Rattle.ctt_board.specs.Changes.{apply}
 use Rattle.ctt_board.specs.declared.cell.Cell.{Cell}
 
 -- a change leaves the rows of the courses and slots that none of its cells names
@@ -15,10 +15,6 @@ pub record LeavesOthers (cells : List Cell) (t : List Placed) : Type 0 where
 
 abbrev pub ChangesLeaveOthers : Type 0
 ChangesLeaveOthers = (cells : List Cell) (t : List Placed) → LeavesOthers cells t
-
--- the rooms after a change that fits are those of its cells, and elsewhere those before it
-abbrev pub RoomsAfter : Type 0
-RoomsAfter = (cells : List Cell) (t : List Placed) → CellsFit cells t → (c s : ℕ) → room_at c s (apply cells t) ≡ room_by cells c s (room_at c s t)
 
 -- a timetable is no longer than its table
 abbrev pub LengthIsBounded : Type 0

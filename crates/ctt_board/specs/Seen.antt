@@ -25,8 +25,8 @@ seen_room v c r = seen v (in_room c r) (at v.counts.now.rooms c r 0)
 abbrev pub seen_lectures : Later → ℕ → ℕ
 seen_lectures v c = seen v (λ l. l.course == c) (at v.counts.now.lectures 0 c 0)
 
-abbrev pub seen_part : Problem → Later → ℕ → ℕ → ℕ
-seen_part i v q s = cond (nat_lt s (slot_count i)) (seen v (in_slot (members i q) s) (at v.counts.now.parts q s 0)) 0
+abbrev pub seen_curriculum : Problem → Later → ℕ → ℕ → ℕ
+seen_curriculum i v q s = cond (nat_lt s (slot_count i)) (seen v (in_slot (members i q) s) (at v.counts.now.curricula q s 0)) 0
 
 -- the days of a course, with those that it gained and without those that it lost
 abbrev pub seen_days : Later → ℕ → ℕ
@@ -34,14 +34,14 @@ seen_days v c = (at v.counts.now.used 0 c 0 + count_by (λ d. d == c) v.fresh.it
 
 -- what a lecture would add and take
 abbrev pub seen_joining : Problem → Later → Placed → Joining
-seen_joining i v l = joining_by i l (seen_day i v l.course (day_of i l.slot)) (seen_days v l.course) (seen_lectures v l.course) (seen_room v l.course l.room) (seen_part i v)
+seen_joining i v l = joining_by i l (seen_day i v l.course (day_of i l.slot)) (seen_days v l.course) (seen_lectures v l.course) (seen_room v l.course l.room) (seen_curriculum i v)
 
 -- the curricula of its course have no lecture in its slot, or at most one each
 abbrev pub NoneThere : Problem → Later → Placed → Type 0
-NoneThere i v l = Each (λ q. seen_part i v q l.slot ≡ 0) (curricula_of i l.course)
+NoneThere i v l = Each (λ q. seen_curriculum i v q l.slot ≡ 0) (curricula_of i l.course)
 
 abbrev pub OneThere : Problem → Later → Placed → Type 0
-OneThere i v l = Each (λ q. seen_part i v q l.slot ≤ 1) (curricula_of i l.course)
+OneThere i v l = Each (λ q. seen_curriculum i v q l.slot ≤ 1) (curricula_of i l.course)
 
 -- what is seen is this timetable
 pub record Sees (i : Problem) (v : Later) (t : List Placed) : Type 0 where

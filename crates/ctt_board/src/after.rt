@@ -129,7 +129,6 @@ impl<'a, R: Rooms> After<'a, R> {
         }
     }
 
-    /// The instance.
     pub(crate) fn instance(&self) -> &'a Instance
         ensures { result.now ≡ self.now.problem }
     {

@@ -33,7 +33,8 @@ impl Bits {
     pub(crate) fn new(alloc: Global, rows: usize, width: usize) -> Result<Self, AllocError>
         requires { rows * width ≤ 100000000 }
         ensures rows { IfOk result (λ t. (t.rows ≡ rows) × (t.width ≡ width)) }
-        ensures cells { IfOk result (λ t. (row column : ℕ) → row < rows → column < width → at t row column 0 ≡ 0) }
+        ensures cells { IfOk result
+            (λ t. (row column : ℕ) → row < rows → column < width → at t row column 0 ≡ 0) }
     {
         let words = vec![in alloc; 0; rows * width / 64 + 1]?;
         Ok(Bits { rows, width, words })
@@ -75,7 +76,6 @@ impl Bits {
         self.words[number / 64] = word & !(1 << (number % 64));
     }
 
-    /// The same bits.
     pub(crate) fn copy(&self) -> Result<Self, AllocError>
         ensures { IfOk result (λ t. t ≡ self.now) }
     {

@@ -14,7 +14,9 @@ use ctt_text::{CourseNo, Instance, Marks, SlotNo};
 /// The first of the courses that stand in a slot, which are marked, that clashes with this one.
 fn first_clash_among(instance: &Instance, standing: &Marks, course: CourseNo) -> Option<CourseNo>
     requires { course < course_count instance.now }
-    ensures { (slot : ℕ) (t : List Placed) → Lawful instance.now t → ((c : ℕ) → is_marked standing.now c ≡ is_some (room_at c slot t)) → result ≡ clash_at instance.now course slot t }
+    ensures { (slot : ℕ) (t : List Placed) → Lawful instance.now t
+        → ((c : ℕ) → is_marked standing.now c ≡ is_some (room_at c slot t))
+        → result ≡ clash_at instance.now course slot t }
 {
     instance.limits_hold();
     let courses = instance.courses() as usize;

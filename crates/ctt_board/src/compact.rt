@@ -28,14 +28,12 @@ impl Model for Compact {
 }
 
 impl Compact {
-    /// None.
     pub(crate) fn none() -> Self
         ensures { result ≡ None }
     {
         Compact { code: 0 }
     }
 
-    /// A room.
     pub(crate) fn of_room(room: RoomNo) -> Self
         requires { room < 65535 }
         ensures { result ≡ Some room }
@@ -45,7 +43,6 @@ impl Compact {
         }
     }
 
-    /// A course.
     pub(crate) fn of_course(course: CourseNo) -> Self
         requires { course < 65535 }
         ensures { result ≡ Some course }

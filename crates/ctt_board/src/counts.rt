@@ -23,7 +23,7 @@ pub(crate) struct Counts {
     /// The lectures of each course in each room.
     pub(crate) rooms: Table<u16>,
     /// Those of each curriculum in each slot, of which there is one at most.
-    pub(crate) parts: Bits,
+    pub(crate) curricula: Bits,
 }
 
 impl Counts {
@@ -41,11 +41,10 @@ impl Counts {
             days: Table::new(alloc, courses, instance.days() as usize, 0)?,
             used: Table::new(alloc, 1, courses, 0)?,
             rooms: Table::new(alloc, courses, instance.rooms() as usize, 0)?,
-            parts: Bits::new(alloc, curricula, slots)?,
+            curricula: Bits::new(alloc, curricula, slots)?,
         })
     }
 
-    /// The same counts.
     pub(crate) fn copy(&self) -> Result<Self, AllocError>
         ensures { IfOk result (λ c. c ≡ self.now) }
     {
@@ -54,7 +53,7 @@ impl Counts {
             days: self.days.copy()?,
             used: self.used.copy()?,
             rooms: self.rooms.copy()?,
-            parts: self.parts.copy()?,
+            curricula: self.curricula.copy()?,
         })
     }
 
@@ -75,7 +74,7 @@ impl Counts {
         add(&mut self.used, 0, course, before == 0);
         add(&mut self.rooms, course, lecture.room.get() as usize, true);
         let curricula = instance.curricula_of(lecture.course);
-        add_column(&mut self.parts, curricula, lecture.slot.get() as usize);
+        add_column(&mut self.curricula, curricula, lecture.slot.get() as usize);
     }
 
     /// Counts one lecture less.
@@ -94,6 +93,6 @@ impl Counts {
         take(&mut self.used, 0, course, left == 0);
         take(&mut self.rooms, course, lecture.room.get() as usize, true);
         let curricula = instance.curricula_of(lecture.course);
-        take_column(&mut self.parts, curricula, lecture.slot.get() as usize);
+        take_column(&mut self.curricula, curricula, lecture.slot.get() as usize);
     }
 }

@@ -1,12 +1,12 @@
 //! Appending the lectures of a course, whose rooms, or none, are told slot by slot.
 
-ghost use Rattle.std.specs.Prelude.{◌≡◌, ◌≤◌, ◌+◌, ◌*◌, ◌++◌, get_or, None, is_some, length, map, OnOk};
+ghost use Rattle.std.specs.Prelude.{◌≡◌, ◌≤◌, ◌+◌, ◌*◌, ◌++◌, get_or, None, is_some, is_ok, length, map, take, OnOk, OnErr};
 ghost use Rattle.std.specs.Simd.Lanes.{mask_l};
 ghost use Rattle.ctt_board.specs.Cells.{row_below, row_from, lecture_at};
 
 use crate::compact::Compact;
 use crate::filled::{GROUP, filled, filled_by_two};
-use ctt_text::{CourseNo, Placed, SlotNo};
+use ctt_text::{CourseNo, NoMemory, Placed, SlotNo};
 use std::alloc::AllocError;
 
 /// Appends the lecture of a course in a slot, if it has a room there.
@@ -16,12 +16,29 @@ pub(crate) fn append_here(
     course: CourseNo,
     slot: SlotNo,
 ) -> Result<(), AllocError>
-    ensures { OnOk result (list.new.items ≡ list.old.items ++ lecture_at course slot here) }
+    ensures row { OnOk result (list.new.items ≡ list.old.items ++ lecture_at course slot here) }
+    ensures begins { OnErr result (take (length list.old.items) list.new.items ≡ list.old.items) }
 {
     if let Some(room) = here.room() {
         list.push(Placed { course, slot, room })?;
     }
     Ok(())
+}
+
+/// Cuts a list back to so many lectures, where memory was wanting for more.
+pub(crate) fn or_cut(
+    list: &mut Vec<Placed>,
+    length: usize,
+    appended: Result<(), AllocError>,
+) -> Result<(), NoMemory>
+    ensures result { is_ok result ≡ is_ok appended }
+    ensures appended { OnOk result (list.new.items ≡ list.old.items) }
+    ensures cut { OnErr result (list.new.items ≡ take length list.old.items) }
+{
+    if appended.is_err() {
+        list.truncate(length);
+    }
+    Ok(appended?)
 }
 
 /// Appends the lectures of a course slot by slot, as where its row is shorter than a group.
@@ -31,7 +48,9 @@ fn append_each(
     course: CourseNo,
 ) -> Result<(), AllocError>
     requires { length cells.now ≤ 2000 }
-    ensures { OnOk result (list.new.items ≡ list.old.items ++ row_below (λ s. get_or cells.now s None) course (length cells.now)) }
+    ensures row { OnOk result (list.new.items
+        ≡ list.old.items ++ row_below (λ s. get_or cells.now s None) course (length cells.now)) }
+    ensures begins { OnErr result (take (length list.old.items) list.new.items ≡ list.old.items) }
 {
     for (number, here) in cells.iter().enumerate() {
         append_here(list, *here, course, SlotNo::new(number as u16))?;
@@ -51,7 +70,8 @@ fn append_filled(
     requires filled { filled ≡ mask_l (map is_some cells.now) }
     requires few { length cells.now ≤ 2 * GROUP }
     requires slots { start + length cells.now ≤ 2000 }
-    ensures { OnOk result (list.new.items ≡ list.old.items ++ row_from cells.now course start) }
+    ensures row { OnOk result (list.new.items ≡ list.old.items ++ row_from cells.now course start) }
+    ensures begins { OnErr result (take (length list.old.items) list.new.items ≡ list.old.items) }
 {
     let mut left = filled;
     let mut place = 0;
@@ -78,7 +98,9 @@ pub(crate) fn append_slots(
     course: CourseNo,
 ) -> Result<(), AllocError>
     requires { length rooms.now ≤ 2000 }
-    ensures { OnOk result (list.new.items ≡ list.old.items ++ row_below (λ s. get_or rooms.now s None) course (length rooms.now)) }
+    ensures row { OnOk result (list.new.items
+        ≡ list.old.items ++ row_below (λ s. get_or rooms.now s None) course (length rooms.now)) }
+    ensures begins { OnErr result (take (length list.old.items) list.new.items ≡ list.old.items) }
 {
     if rooms.len() < GROUP {
         return append_each(list, rooms, course);

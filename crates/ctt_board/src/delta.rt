@@ -4,7 +4,7 @@ ghost use Rattle.std.specs.Prelude.{◌≡◌, ◌≤◌, ◌+◌, ◌*◌};
 ghost use Rattle.ctt_rules.specs.Hard.{Lawful};
 ghost use Rattle.ctt_board.specs.Boards.{delta};
 ghost use Rattle.ctt_board.specs.Changes.{ChangeFits};
-ghost use Rattle.ctt_board.specs.Costs.{touches, touches_part, courses_cost, curricula_cost};
+ghost use Rattle.ctt_board.specs.Costs.{touches, touches_curriculum, courses_cost, curricula_cost};
 
 use crate::after::After;
 use crate::cell::Cell;
@@ -20,8 +20,8 @@ fn touches(cells: &[Cell], course: CourseNo) -> bool
 }
 
 /// Whether some cell is of a member of the curriculum.
-fn touches_part(cells: &[Cell], members: &[CourseNo]) -> bool
-    ensures { result ≡ touches_part cells.now members.now }
+fn touches_curriculum(cells: &[Cell], members: &[CourseNo]) -> bool
+    ensures { result ≡ touches_curriculum cells.now members.now }
 {
     cells.iter().any(|x| members.contains(&x.course))
 }
@@ -53,7 +53,7 @@ fn curricula_cost<R: Rooms>(after: &After<R>, cells: &[Cell]) -> u64
     let mut total = 0;
     for number in 0..instance.curricula() {
         let members = instance.members(CurriculumNo::new(number));
-        if touches_part(cells, members) {
+        if touches_curriculum(cells, members) {
             total += after.curriculum_cost(members);
         }
     }
@@ -62,7 +62,8 @@ fn curricula_cost<R: Rooms>(after: &After<R>, cells: &[Cell]) -> u64
 
 /// What the courses and curricula cost that some cell touches.
 fn touched_cost<R: Rooms>(after: &After<R>, cells: &[Cell]) -> u64
-    ensures value { result ≡ courses_cost after.now.problem cells.now after.now.list + curricula_cost after.now.problem cells.now after.now.list }
+    ensures value { result ≡ courses_cost after.now.problem cells.now after.now.list
+        + curricula_cost after.now.problem cells.now after.now.list }
     ensures bound { result ≤ 2000 * 3000000000000 + 20000 * 8000000 }
 {
     courses_cost(after, cells) + curricula_cost(after, cells)

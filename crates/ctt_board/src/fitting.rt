@@ -63,7 +63,8 @@ fn can_come<R: Rooms>(instance: &Instance, rooms: &R, lecture: &Placed) -> bool
 /// Whether a cell can be made.
 fn cell_fits<R: Rooms>(instance: &Instance, rooms: &R, cell: &Cell) -> bool
     requires same { R.problem rooms.now ≡ instance.now }
-    ensures { result ≡ cell_fits instance.now (R.list rooms.now) cell.now.course cell.now.slot cell.now.room }
+    ensures { result
+        ≡ cell_fits instance.now (R.list rooms.now) cell.now.course cell.now.slot cell.now.room }
 {
     rooms.lawful();
     let course = cell.course;

@@ -1,6 +1,6 @@
 //! A sheet that keeps tables of fixed size, and its costs.
 
-ghost use Rattle.std.specs.Prelude.{◌≡◌, ◌≤◌, ◌<◌, ◌+◌, pos, ◌-ℤ◌, ◌*◌, ◌++◌, ℕ, cond, get_or, [], true, false, Some, None, is_some, length, IfOk, OnOk};
+ghost use Rattle.std.specs.Prelude.{◌≡◌, ◌≤◌, ◌<◌, ◌+◌, pos, ◌-ℤ◌, ◌*◌, ◌++◌, ℕ, cond, get_or, [], true, false, Some, None, is_some, length, take, IfOk, OnOk, OnErr};
 ghost use Rattle.ctt_text.specs.Marks.{is_marked};
 ghost use Rattle.ctt_text.specs.Problem.{course_count, slot_count};
 ghost use Rattle.ctt_text.specs.Timetable.{course_row, slot_row, with, without, Fits};
@@ -17,12 +17,11 @@ use crate::after::last_room;
 use crate::cell::Cell;
 use crate::change::Change;
 use crate::compact::Compact;
-use crate::course_rows::{append_here, append_slots};
+use crate::course_rows::{append_here, append_slots, or_cut};
 use crate::fitting::fits;
 use crate::joining::{joining_of, with_lecture, without_lecture};
 use crate::later::Later;
 use crate::laws;
-use crate::same_rows::{same_course_row, same_slot_row};
 use crate::sheet::{Rooms, Sheet, Timetable};
 use crate::table::Table;
 use crate::tables::Tables;
@@ -53,10 +52,10 @@ impl<'i> Model for GridSheet<'i> {
 }
 
 impl<'i> GridSheet<'i> {
-    /// Adds a lecture.
     fn add(&mut self, lecture: &Placed)
         requires fits { Fits self.old.problem lecture.now }
-        requires empty { is_some (room_at lecture.now.course lecture.now.slot self.old.list) ≡ false }
+        requires empty { is_some (room_at lecture.now.course lecture.now.slot self.old.list)
+            ≡ false }
         requires lawful { Lawful self.old.problem (with lecture.now self.old.list) }
         ensures problem { self.new.problem ≡ self.old.problem }
         ensures list { self.new.list ≡ with lecture.now self.old.list }
@@ -70,7 +69,8 @@ impl<'i> GridSheet<'i> {
     /// Removes a lecture that is there.
     fn remove(&mut self, lecture: &Placed)
         requires fits { Fits self.old.problem lecture.now }
-        requires there { room_at lecture.now.course lecture.now.slot self.old.list ≡ Some lecture.now.room }
+        requires there { room_at lecture.now.course lecture.now.slot self.old.list
+            ≡ Some lecture.now.room }
         ensures problem { self.new.problem ≡ self.old.problem }
         ensures list { self.new.list ≡ without lecture.now.course lecture.now.slot self.old.list }
     {
@@ -80,14 +80,15 @@ impl<'i> GridSheet<'i> {
         self.cost = without_lecture(self.cost, &joining);
     }
 
-    /// Makes a cell.
     fn make(&mut self, cell: &Cell)
         requires fits { CellFits self.old.list cell.now.course cell.now.slot cell.now.room }
-        requires lawful { Lawful self.old.problem (apply_at cell.now.course cell.now.slot cell.now.room self.old.list) }
+        requires lawful { Lawful self.old.problem
+            (apply_at cell.now.course cell.now.slot cell.now.room self.old.list) }
         requires course { cell.now.course < course_count self.old.problem }
         requires slot { cell.now.slot < slot_count self.old.problem }
         ensures problem { self.new.problem ≡ self.old.problem }
-        ensures list { self.new.list ≡ apply_at cell.now.course cell.now.slot cell.now.room self.old.list }
+        ensures list { self.new.list
+            ≡ apply_at cell.now.course cell.now.slot cell.now.room self.old.list }
     {
         self.lawful();
         let course = cell.course;
@@ -116,7 +117,10 @@ impl<'i> GridSheet<'i> {
     #[inline(always)]
     fn append_if_any(&self, list: &mut Vec<Placed>, course: CourseNo) -> Result<(), AllocError>
         requires { course < course_count self.now.problem }
-        ensures { OnOk result (list.new.items ≡ list.old.items ++ course_row course self.now.list) }
+        ensures row { OnOk result
+            (list.new.items ≡ list.old.items ++ course_row course self.now.list) }
+        ensures begins { OnErr result
+            (take (length list.old.items) list.new.items ≡ list.old.items) }
     {
         if self.count(course) == 0 {
             return Ok(());
@@ -133,8 +137,11 @@ impl<'i> GridSheet<'i> {
         slot: SlotNo,
     ) -> Result<(), AllocError>
         requires slot { slot < slot_count self.now.problem }
-        requires standing { (course : ℕ) → is_marked standing.now course ≡ is_some (room_at course slot self.now.list) }
-        ensures { OnOk result (list.new.items ≡ list.old.items ++ slot_row slot self.now.list) }
+        requires standing { (course : ℕ)
+            → is_marked standing.now course ≡ is_some (room_at course slot self.now.list) }
+        ensures row { OnOk result (list.new.items ≡ list.old.items ++ slot_row slot self.now.list) }
+        ensures begins { OnErr result
+            (take (length list.old.items) list.new.items ≡ list.old.items) }
     {
         self.instance.limits_hold();
         let courses = self.instance.courses() as usize;
@@ -151,7 +158,9 @@ fn append_lecture(
 ) -> Result<(), AllocError>
     requires rows { course < rooms.now.rows }
     requires width { slot < rooms.now.width }
-    ensures { OnOk result (list.new.items ≡ list.old.items ++ lecture_at course slot (at rooms.now course slot None)) }
+    ensures row { OnOk result (list.new.items
+        ≡ list.old.items ++ lecture_at course slot (at rooms.now course slot None)) }
+    ensures begins { OnErr result (take (length list.old.items) list.new.items ≡ list.old.items) }
 {
     let here = rooms.get(course.get() as usize, slot.get() as usize);
     append_here(list, here, course, slot)
@@ -167,7 +176,10 @@ fn append_row(
     requires course { course < course_count instance.now }
     requires rows { rooms.now.rows ≡ course_count instance.now }
     requires width { rooms.now.width ≡ slot_count instance.now }
-    ensures { OnOk result (list.new.items ≡ list.old.items ++ row_below (λ s. at rooms.now course s None) course (slot_count instance.now)) }
+    ensures row { OnOk result (list.new.items
+        ≡ list.old.items
+        ++ row_below (λ s. at rooms.now course s None) course (slot_count instance.now)) }
+    ensures begins { OnErr result (take (length list.old.items) list.new.items ≡ list.old.items) }
 {
     instance.limits_hold();
     append_slots(list, rooms.row(course.get() as usize), course)
@@ -184,9 +196,12 @@ fn append_column(
     requires courses { courses ≡ rooms.now.rows }
     requires few { rooms.now.rows ≤ 2000 }
     requires width { slot < rooms.now.width }
-    requires standing { (c : ℕ) → c < rooms.now.rows → is_marked standing.now c ≡ is_some (at rooms.now c slot None) }
+    requires standing { (c : ℕ) → c < rooms.now.rows
+        → is_marked standing.now c ≡ is_some (at rooms.now c slot None) }
     requires within { (c : ℕ) → is_marked standing.now c ≡ true → c < rooms.now.rows }
-    ensures { OnOk result (list.new.items ≡ list.old.items ++ column_below (λ c. at rooms.now c slot None) slot rooms.now.rows) }
+    ensures row { OnOk result (list.new.items
+        ≡ list.old.items ++ column_below (λ c. at rooms.now c slot None) slot rooms.now.rows) }
+    ensures begins { OnErr result (take (length list.old.items) list.new.items ≡ list.old.items) }
 {
     let mut from = 0;
     while let Some(number) = standing.next_between(from, courses) {
@@ -238,13 +253,19 @@ fn step(
     requires same { sheet.now.problem ≡ instance.now }
     requires done { CellsFit done.now sheet.now.list }
     requires lawful { Lawful instance.now (apply done.now sheet.now.list) }
-    requires ready { Ready instance.now cell.now.course cell.now.slot cell.now.room (apply done.now sheet.now.list) }
+    requires ready { Ready instance.now cell.now.course cell.now.slot cell.now.room
+        (apply done.now sheet.now.list) }
     requires sees { Sees instance.now later.old (apply done.now sheet.now.list) }
     requires room { HasPlaces later.old (length done.now) }
     requires few { length done.now < 4 }
-    ensures sees { Sees instance.now later.new (apply_at cell.now.course cell.now.slot cell.now.room (apply done.now sheet.now.list)) }
+    ensures sees { Sees instance.now later.new
+        (apply_at cell.now.course cell.now.slot cell.now.room (apply done.now sheet.now.list)) }
     ensures room { HasPlaces later.new (length done.now + 1) }
-    ensures value { result ≡ pos (total (penalty instance.now (apply_at cell.now.course cell.now.slot cell.now.room (apply done.now sheet.now.list)))) -ℤ pos (total (penalty instance.now (apply done.now sheet.now.list))) }
+    ensures value { result
+        ≡ pos (total
+        (penalty instance.now
+        (apply_at cell.now.course cell.now.slot cell.now.room (apply done.now sheet.now.list))))
+        -ℤ pos (total (penalty instance.now (apply done.now sheet.now.list))) }
 {
     instance.limits_hold();
     let course = cell.course;
@@ -298,14 +319,6 @@ impl<'i> Timetable for GridSheet<'i> {
         self.cost = cost;
     }
 
-    fn same_course_row(&self, other: &Self, course: CourseNo) -> bool {
-        same_course_row(self.instance, self, other, course)
-    }
-
-    fn same_slot_row(&self, other: &Self, slot: SlotNo) -> bool {
-        same_slot_row(self.instance, self, other, slot)
-    }
-
     fn course_row(&self, course: CourseNo) -> Result<Vec<Placed>, NoMemory> {
         let count = self.count(course) as usize;
         let mut row = Vec::with_capacity(self.alloc, count)?;
@@ -314,8 +327,9 @@ impl<'i> Timetable for GridSheet<'i> {
     }
 
     fn append_course_row(&self, course: CourseNo, list: &mut Vec<Placed>) -> Result<(), NoMemory> {
-        self.append_if_any(list, course)?;
-        Ok(())
+        let length = list.len();
+        let appended = self.append_if_any(list, course);
+        or_cut(list, length, appended)
     }
 
     fn slot_row(&self, slot: SlotNo) -> Result<Vec<Placed>, NoMemory> {
@@ -330,8 +344,9 @@ impl<'i> Timetable for GridSheet<'i> {
     }
 
     fn append_slot_row(&self, slot: SlotNo, list: &mut Vec<Placed>) -> Result<(), NoMemory> {
-        self.append_standing(list, &self.standing(slot), slot)?;
-        Ok(())
+        let length = list.len();
+        let appended = self.append_standing(list, &self.standing(slot), slot);
+        or_cut(list, length, appended)
     }
 
     fn list(&self) -> Result<Vec<Placed>, NoMemory> {

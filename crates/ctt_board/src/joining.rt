@@ -33,7 +33,10 @@ pub(crate) struct Joining {
 fn missing_day(later: &Later, instance: &Instance, lecture: &Placed, on_day: u64) -> u64
     requires fits { Fits instance.now lecture.now }
     requires sizes { HaveSizes instance.now later.now.counts.now }
-    ensures value { result ≡ cond (on_day == 0 && nat_lt (seen_days later.now lecture.now.course) (course_of instance.now lecture.now.course).min_days) 5 0 }
+    ensures value { result
+        ≡ cond (on_day == 0
+        && nat_lt (seen_days later.now lecture.now.course)
+        (course_of instance.now lecture.now.course).min_days) 5 0 }
     ensures bound { result ≤ 5 }
 {
     let course = lecture.course;
@@ -43,10 +46,13 @@ fn missing_day(later: &Later, instance: &Instance, lecture: &Placed, on_day: u64
 }
 
 /// One, if a lecture would give its course a further room.
+#[inline(always)]
 fn further_room(later: &Later, instance: &Instance, lecture: &Placed) -> u64
     requires fits { Fits instance.now lecture.now }
     requires sizes { HaveSizes instance.now later.now.counts.now }
-    ensures value { result ≡ cond (seen_room later.now lecture.now.course lecture.now.room == 0 && nat_lt 0 (seen_lectures later.now lecture.now.course)) 1 0 }
+    ensures value { result
+        ≡ cond (seen_room later.now lecture.now.course lecture.now.room == 0
+        && nat_lt 0 (seen_lectures later.now lecture.now.course)) 1 0 }
     ensures bound { result ≤ 1 }
 {
     let course = lecture.course;
@@ -80,15 +86,17 @@ pub(crate) fn joining_on(
     requires sizes { HaveSizes instance.now later.now.counts.now }
     requires own { NoneThere instance.now later.now lecture.now }
     requires day { day ≡ day_of instance.now lecture.now.slot }
-    requires on_day { on_day ≡ seen_day instance.now later.now lecture.now.course (day_of instance.now lecture.now.slot) }
+    requires on_day { on_day
+        ≡ seen_day instance.now later.now lecture.now.course
+        (day_of instance.now lecture.now.slot) }
     ensures value { result ≡ seen_joining instance.now later.now lecture.now }
     ensures bound { IsSmallJoining result }
 {
     instance.limits_hold();
-    let parts = instance.curricula_of(lecture.course);
+    let curricula = instance.curricula_of(lecture.course);
     let students = instance.students(lecture.course);
     let period = period_on(instance, lecture.slot, day);
-    let met = meetings(later, instance, parts, lecture.slot, period);
+    let met = meetings(later, instance, curricula, lecture.slot, period);
     Joining {
         seats: u64::from(students.saturating_sub(instance.capacity(lecture.room))),
         day: missing_day(later, instance, lecture, on_day),

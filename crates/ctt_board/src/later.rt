@@ -1,12 +1,13 @@
 //! The counts of a timetable as a change would leave them. Nothing is changed, and no memory is
 //! taken.
 
-ghost use Rattle.std.specs.Prelude.{◌≡◌, ◌<◌, ◌≤◌, ◌+◌, ◌-◌, ℕ, [], count_by, length, cond, ◌==◌, ◌++◌, ◌∷◌};
+ghost use Rattle.std.specs.Prelude.{◌≡◌, ◌<◌, ◌≤◌, ◌+◌, ◌-◌, ℕ, [], count_by, length, cond, ◌==◌, ◌||◌, ◌++◌, ◌∷◌};
+ghost use Rattle.std.specs.List.{list_any};
 ghost use Rattle.ctt_text.specs.Problem.{course_count, slot_count, room_count, curriculum_count, members, day_of};
 ghost use Rattle.ctt_text.specs.Timetable.{Fits};
 ghost use Rattle.ctt_board.specs.Joining.{on_day, in_room, in_slot, gain_of, IsSmallJoining};
 ghost use Rattle.ctt_board.specs.Counts.{HaveSizes};
-ghost use Rattle.ctt_board.specs.Seen.{seen_day, seen_room, seen_lectures, seen_part, seen_days, seen_joining, NoneThere, OneThere};
+ghost use Rattle.ctt_board.specs.Seen.{seen, seen_day, seen_room, seen_lectures, seen_curriculum, seen_days, seen_joining, NoneThere, OneThere};
 
 use crate::counts::Counts;
 use crate::joining::{gain, joining_on};
@@ -73,24 +74,31 @@ fn of_course(lectures: &[Placed], course: CourseNo) -> u64
 
 /// Whether a lecture is of a curriculum, in a slot.
 #[tactic(auto, using(crate::proofs::SeenLemmas::turned_and))]
-fn is_in_slot(instance: &Instance, lecture: &Placed, part: CurriculumNo, slot: SlotNo) -> bool
-    requires { part < curriculum_count instance.now }
-    ensures { result ≡ in_slot (members instance.now part) slot lecture.now }
+fn is_in_slot(instance: &Instance, lecture: &Placed, curriculum: CurriculumNo, slot: SlotNo) -> bool
+    requires { curriculum < curriculum_count instance.now }
+    ensures { result ≡ in_slot (members instance.now curriculum) slot lecture.now }
 {
-    lecture.slot == slot && instance.members(part).contains(&lecture.course)
+    lecture.slot == slot && instance.members(curriculum).contains(&lecture.course)
+}
+
+/// Whether one of the lectures is in a slot.
+fn is_any_in(lectures: &[Placed], slot: SlotNo) -> bool
+    ensures { result ≡ list_any (λ l. l.slot == slot) lectures.now }
+{
+    lectures.iter().any(|l| l.slot == slot)
 }
 
 /// How many of the lectures are of a curriculum in a slot.
-#[inline(always)]
-fn in_slot(instance: &Instance, lectures: &[Placed], part: CurriculumNo, slot: SlotNo) -> u64
+fn in_slot(instance: &Instance, lectures: &[Placed], curriculum: CurriculumNo, slot: SlotNo) -> u64
     requires few { length lectures.now ≤ 4 }
-    requires part { part < curriculum_count instance.now }
-    ensures value { result ≡ count_by (in_slot (members instance.now part) slot) lectures.now }
+    requires curriculum { curriculum < curriculum_count instance.now }
+    ensures value { result
+        ≡ count_by (in_slot (members instance.now curriculum) slot) lectures.now }
     ensures bound { result ≤ 4 }
 {
     let mut count = 0;
     for lecture in lectures {
-        if is_in_slot(instance, lecture, part, slot) {
+        if is_in_slot(instance, lecture, curriculum, slot) {
             count += 1;
         }
     }
@@ -195,19 +203,51 @@ impl<'a> Later<'a> {
     }
 
     /// The lectures of a curriculum in a slot.
-    pub(crate) fn in_slot(&self, instance: &Instance, part: CurriculumNo, slot: SlotNo) -> u64
-        requires part { part < curriculum_count instance.now }
+    pub(crate) fn in_slot(&self, instance: &Instance, curriculum: CurriculumNo, slot: SlotNo) -> u64
+        requires curriculum { curriculum < curriculum_count instance.now }
         requires slot { slot < slot_count instance.now }
         requires sizes { HaveSizes instance.now self.now.counts.now }
-        ensures value { result ≡ seen_part instance.now self.now part slot }
+        ensures value { result ≡ seen_curriculum instance.now self.now curriculum slot }
         ensures bound { result ≤ 5000000000 }
     {
         let count = self
             .counts
-            .parts
-            .get(part.get() as usize, slot.get() as usize);
-        let more = in_slot(instance, &self.added, part, slot);
-        let less = in_slot(instance, &self.removed, part, slot);
+            .curricula
+            .get(curriculum.get() as usize, slot.get() as usize);
+        if self.changes(slot) {
+            self.changed_in_slot(instance, curriculum, slot, count)
+        } else {
+            count
+        }
+    }
+
+    /// Whether a lecture comes to a slot, or leaves it.
+    fn changes(&self, slot: SlotNo) -> bool
+        ensures { result
+            ≡ (list_any (λ l. l.slot == slot) self.now.added.items
+            || list_any (λ l. l.slot == slot) self.now.removed.items) }
+    {
+        is_any_in(&self.added, slot) || is_any_in(&self.removed, slot)
+    }
+
+    /// So many lectures of a curriculum in a slot, with those that come to it and without those
+    /// that leave it.
+    #[inline(never)]
+    fn changed_in_slot(
+        &self,
+        instance: &Instance,
+        curriculum: CurriculumNo,
+        slot: SlotNo,
+        count: u64,
+    ) -> u64
+        requires curriculum { curriculum < curriculum_count instance.now }
+        requires count { count ≤ 1 }
+        ensures value { result
+            ≡ seen self.now (in_slot (members instance.now curriculum) slot) count }
+        ensures bound { result ≤ 5000000000 }
+    {
+        let more = in_slot(instance, &self.added, curriculum, slot);
+        let less = in_slot(instance, &self.removed, curriculum, slot);
         (count + more).saturating_sub(less)
     }
 
@@ -224,7 +264,10 @@ impl<'a> Later<'a> {
         ensures removed { self.new.removed.items ≡ self.old.removed.items }
         ensures gone { self.new.gone.items ≡ self.old.gone.items }
         ensures added { self.new.added.items ≡ self.old.added.items ++ lecture.now ∷ [] }
-        ensures fresh { self.new.fresh.items ≡ self.old.fresh.items ++ cond (seen_day instance.now self.old lecture.now.course (day_of instance.now lecture.now.slot) == 0) (lecture.now.course ∷ []) [] }
+        ensures fresh { self.new.fresh.items
+            ≡ self.old.fresh.items
+            ++ cond (seen_day instance.now self.old lecture.now.course
+            (day_of instance.now lecture.now.slot) == 0) (lecture.now.course ∷ []) [] }
     {
         let day = instance.day_of(lecture.slot);
         let on_day = self.on_day(instance, lecture.course, day);
@@ -247,7 +290,10 @@ impl<'a> Later<'a> {
         ensures added { self.new.added.items ≡ self.old.added.items }
         ensures fresh { self.new.fresh.items ≡ self.old.fresh.items }
         ensures removed { self.new.removed.items ≡ self.old.removed.items ++ lecture.now ∷ [] }
-        ensures gone { self.new.gone.items ≡ self.old.gone.items ++ cond (seen_day instance.now self.old lecture.now.course (day_of instance.now lecture.now.slot) == 1) (lecture.now.course ∷ []) [] }
+        ensures gone { self.new.gone.items
+            ≡ self.old.gone.items
+            ++ cond (seen_day instance.now self.old lecture.now.course
+            (day_of instance.now lecture.now.slot) == 1) (lecture.now.course ∷ []) [] }
     {
         let day = instance.day_of(lecture.slot);
         let on_day = self.on_day(instance, lecture.course, day);

@@ -1,6 +1,6 @@
 //! Laws of changes and of costs, for the layers above. None of these functions computes anything.
 
-ghost use Rattle.ctt_board.specs.Laws.{ChangesLeaveOthers, RoomsAfter, LengthIsBounded, PenaltyFits};
+ghost use Rattle.ctt_board.specs.Laws.{ChangesLeaveOthers, LengthIsBounded, PenaltyFits};
 ghost use Rattle.ctt_board.specs.Fitting.{FitsAsTested};
 
 /// A change leaves the rows of the courses and slots that none of its cells names.
@@ -8,18 +8,13 @@ pub fn changes_leave_others()
     ensures { ChangesLeaveOthers }
 {}
 
-/// What stands in each cell of a timetable after a change that fits.
-pub fn rooms_after()
-    ensures { RoomsAfter }
-{}
-
 /// A timetable has at most one lecture for each course and slot.
-pub fn length_is_bounded()
+pub(crate) fn length_is_bounded()
     ensures { LengthIsBounded }
 {}
 
 /// A penalty is below 2^63, and so is each of its parts.
-pub fn penalty_fits()
+pub(crate) fn penalty_fits()
     ensures { PenaltyFits }
 {}
 

@@ -19,7 +19,6 @@ pub mod laws;
 mod list_sheet;
 mod mark_rows;
 mod meeting;
-mod same_rows;
 mod sheet;
 mod standing;
 mod table;

@@ -12,7 +12,6 @@ use crate::change::Change;
 use crate::delta::delta;
 use crate::fitting::fits;
 use crate::laws;
-use crate::same_rows::{same_course_row, same_slot_row};
 use crate::sheet::{Rooms, Sheet, Timetable};
 use crate::standing::standing_in;
 use ctt_rules::Cost;
@@ -97,7 +96,8 @@ fn make(lectures: &mut Vec<Placed>, cells: &[Cell])
 /// No lecture, and room for as many as a lawful timetable can have.
 fn reserved(alloc: Global, instance: &Instance) -> Result<Vec<Placed>, AllocError>
     ensures items { IfOk result (λ v. v.items ≡ []) }
-    ensures room { IfOk result (λ v. course_count instance.now * slot_count instance.now ≤ vec_capacity v) }
+    ensures room { IfOk result
+        (λ v. course_count instance.now * slot_count instance.now ≤ vec_capacity v) }
 {
     instance.limits_hold();
     let places = instance.courses() as usize * instance.slots() as usize;
@@ -185,14 +185,6 @@ impl<'i> Timetable for ListSheet<'i> {
         }
     }
 
-    fn same_course_row(&self, other: &Self, course: CourseNo) -> bool {
-        same_course_row(self.instance, self, other, course)
-    }
-
-    fn same_slot_row(&self, other: &Self, slot: SlotNo) -> bool {
-        same_slot_row(self.instance, self, other, slot)
-    }
-
     fn course_row(&self, course: CourseNo) -> Result<Vec<Placed>, NoMemory> {
         let row = ctt_rules::course_row(self.instance, &self.lectures, course);
         Ok(row.to_vec(*self.lectures.allocator())?)
@@ -205,12 +197,13 @@ impl<'i> Timetable for ListSheet<'i> {
 
     fn slot_row(&self, slot: SlotNo) -> Result<Vec<Placed>, NoMemory> {
         let mut row = Vec::new(*self.lectures.allocator());
-        self.append_slot_row(slot, &mut row)?;
+        append_in_slot(&mut row, &self.lectures, slot)?;
         Ok(row)
     }
 
     fn append_slot_row(&self, slot: SlotNo, list: &mut Vec<Placed>) -> Result<(), NoMemory> {
-        Ok(append_in_slot(list, &self.lectures, slot)?)
+        let row = self.slot_row(slot)?;
+        Ok(list.extend_from_slice(&row)?)
     }
 
     fn list(&self) -> Result<Vec<Placed>, NoMemory> {

@@ -72,7 +72,6 @@ impl MarkRows {
         self.words[place] &= !(1 << (number % 64));
     }
 
-    /// The marks of a row.
     #[inline(always)]
     pub(crate) fn row(&self, row: usize) -> Marks
         requires { row < self.now.rows }
@@ -83,7 +82,6 @@ impl MarkRows {
         Marks::of_words(&self.words[start..start + width])
     }
 
-    /// The same marks.
     pub(crate) fn copy(&self) -> Result<Self, AllocError>
         ensures { IfOk result (λ m. m ≡ self.now) }
     {

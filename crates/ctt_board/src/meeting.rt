@@ -6,7 +6,7 @@ ghost use Rattle.std.specs.List.{AllByRecursion as Each};
 ghost use Rattle.ctt_text.specs.Problem.{slot_count, curriculum_count, period_of};
 ghost use Rattle.ctt_board.specs.Joining.{alone_at, alone_beside, stands_alone, count_before, count_after};
 ghost use Rattle.ctt_board.specs.Counts.{HaveSizes};
-ghost use Rattle.ctt_board.specs.Seen.{seen_part};
+ghost use Rattle.ctt_board.specs.Seen.{seen_curriculum};
 
 use crate::later::Later;
 use ctt_text::{CurriculumNo, Instance, SlotNo};
@@ -22,16 +22,23 @@ pub(crate) struct Meeting {
 
 /// The lectures of a curriculum in the slot before this one, on its day.
 #[tactic(auto, using(crate::proofs::SlotFacts::later_slot, crate::proofs::SlotFacts::earlier_fits))]
-fn before(later: &Later, instance: &Instance, part: CurriculumNo, slot: SlotNo, period: u16) -> u64
-    requires part { part < curriculum_count instance.now }
+fn before(
+    later: &Later,
+    instance: &Instance,
+    curriculum: CurriculumNo,
+    slot: SlotNo,
+    period: u16,
+) -> u64
+    requires curriculum { curriculum < curriculum_count instance.now }
     requires slot { slot < slot_count instance.now }
     requires period { period ≡ period_of instance.now slot }
     requires sizes { HaveSizes instance.now later.now.counts.now }
-    ensures value { result ≡ count_before instance.now (seen_part instance.now later.now part) slot }
+    ensures value { result
+        ≡ count_before instance.now (seen_curriculum instance.now later.now curriculum) slot }
     ensures bound { result ≤ 5000000000 }
 {
     if period > 0 {
-        later.in_slot(instance, part, SlotNo::new(slot.get() - 1))
+        later.in_slot(instance, curriculum, SlotNo::new(slot.get() - 1))
     } else {
         0
     }
@@ -39,17 +46,24 @@ fn before(later: &Later, instance: &Instance, part: CurriculumNo, slot: SlotNo, 
 
 /// Those in the slot after this one.
 #[tactic(auto, using(crate::proofs::SlotFacts::next_slot))]
-fn after(later: &Later, instance: &Instance, part: CurriculumNo, slot: SlotNo, period: u16) -> u64
-    requires part { part < curriculum_count instance.now }
+fn after(
+    later: &Later,
+    instance: &Instance,
+    curriculum: CurriculumNo,
+    slot: SlotNo,
+    period: u16,
+) -> u64
+    requires curriculum { curriculum < curriculum_count instance.now }
     requires slot { slot < slot_count instance.now }
     requires period { period ≡ period_of instance.now slot }
     requires sizes { HaveSizes instance.now later.now.counts.now }
-    ensures value { result ≡ count_after instance.now (seen_part instance.now later.now part) slot }
+    ensures value { result
+        ≡ count_after instance.now (seen_curriculum instance.now later.now curriculum) slot }
     ensures bound { result ≤ 5000000000 }
 {
     instance.limits_hold();
     if period + 1 < instance.periods() {
-        later.in_slot(instance, part, SlotNo::new(slot.get() + 1))
+        later.in_slot(instance, curriculum, SlotNo::new(slot.get() + 1))
     } else {
         0
     }
@@ -59,25 +73,28 @@ fn after(later: &Later, instance: &Instance, part: CurriculumNo, slot: SlotNo, p
 fn alone_before(
     later: &Later,
     instance: &Instance,
-    part: CurriculumNo,
+    curriculum: CurriculumNo,
     slot: SlotNo,
     period: u16,
     count: u64,
 ) -> u64
-    requires part { part < curriculum_count instance.now }
+    requires curriculum { curriculum < curriculum_count instance.now }
     requires slot { slot < slot_count instance.now }
     requires period { period ≡ period_of instance.now slot }
     requires sizes { HaveSizes instance.now later.now.counts.now }
-    requires own { seen_part instance.now later.now part slot ≡ 0 }
-    requires count { count ≡ count_before instance.now (seen_part instance.now later.now part) slot }
-    ensures value { result ≡ cond (nat_lt 0 (period_of instance.now slot)) (alone_at instance.now (seen_part instance.now later.now part) (slot - 1)) 0 }
+    requires own { seen_curriculum instance.now later.now curriculum slot ≡ 0 }
+    requires count { count
+        ≡ count_before instance.now (seen_curriculum instance.now later.now curriculum) slot }
+    ensures value { result
+        ≡ cond (nat_lt 0 (period_of instance.now slot))
+        (alone_at instance.now (seen_curriculum instance.now later.now curriculum) (slot - 1)) 0 }
     ensures bound { result ≤ count }
 {
     if count == 0 {
         return 0;
     }
     let earlier = SlotNo::new(slot.get() - 1);
-    if before(later, instance, part, earlier, period - 1) > 0 {
+    if before(later, instance, curriculum, earlier, period - 1) > 0 {
         0
     } else {
         count
@@ -88,18 +105,21 @@ fn alone_before(
 fn alone_after(
     later: &Later,
     instance: &Instance,
-    part: CurriculumNo,
+    curriculum: CurriculumNo,
     slot: SlotNo,
     period: u16,
     count: u64,
 ) -> u64
-    requires part { part < curriculum_count instance.now }
+    requires curriculum { curriculum < curriculum_count instance.now }
     requires slot { slot < slot_count instance.now }
     requires period { period ≡ period_of instance.now slot }
     requires sizes { HaveSizes instance.now later.now.counts.now }
-    requires own { seen_part instance.now later.now part slot ≡ 0 }
-    requires count { count ≡ count_after instance.now (seen_part instance.now later.now part) slot }
-    ensures value { result ≡ cond (nat_lt (period_of instance.now slot + 1) instance.now.periods) (alone_at instance.now (seen_part instance.now later.now part) (slot + 1)) 0 }
+    requires own { seen_curriculum instance.now later.now curriculum slot ≡ 0 }
+    requires count { count
+        ≡ count_after instance.now (seen_curriculum instance.now later.now curriculum) slot }
+    ensures value { result
+        ≡ cond (nat_lt (period_of instance.now slot + 1) instance.now.periods)
+        (alone_at instance.now (seen_curriculum instance.now later.now curriculum) (slot + 1)) 0 }
     ensures bound { result ≤ count }
 {
     if count == 0 {
@@ -107,7 +127,7 @@ fn alone_after(
     }
     instance.limits_hold();
     let next = SlotNo::new(slot.get() + 1);
-    if after(later, instance, part, next, period + 1) > 0 {
+    if after(later, instance, curriculum, next, period + 1) > 0 {
         0
     } else {
         count
@@ -126,24 +146,26 @@ fn one_if_none(count: u64) -> u64
 fn meeting_of(
     later: &Later,
     instance: &Instance,
-    part: CurriculumNo,
+    curriculum: CurriculumNo,
     slot: SlotNo,
     period: u16,
 ) -> Meeting
-    requires part { part < curriculum_count instance.now }
+    requires curriculum { curriculum < curriculum_count instance.now }
     requires slot { slot < slot_count instance.now }
     requires period { period ≡ period_of instance.now slot }
     requires sizes { HaveSizes instance.now later.now.counts.now }
-    requires own { seen_part instance.now later.now part slot ≡ 0 }
-    ensures alone { result.alone ≡ stands_alone instance.now (seen_part instance.now later.now part) slot }
-    ensures company { result.company ≡ alone_beside instance.now (seen_part instance.now later.now part) slot }
+    requires own { seen_curriculum instance.now later.now curriculum slot ≡ 0 }
+    ensures alone { result.alone
+        ≡ stands_alone instance.now (seen_curriculum instance.now later.now curriculum) slot }
+    ensures company { result.company
+        ≡ alone_beside instance.now (seen_curriculum instance.now later.now curriculum) slot }
     ensures few { result.alone ≤ 1 }
     ensures bound { result.company ≤ 10000000000 }
 {
-    let before = before(later, instance, part, slot, period);
-    let after = after(later, instance, part, slot, period);
-    let alone_before = alone_before(later, instance, part, slot, period, before);
-    let alone_after = alone_after(later, instance, part, slot, period, after);
+    let before = before(later, instance, curriculum, slot, period);
+    let after = after(later, instance, curriculum, slot, period);
+    let alone_before = alone_before(later, instance, curriculum, slot, period, before);
+    let alone_after = alone_after(later, instance, curriculum, slot, period, after);
     Meeting {
         alone: one_if_none(before + after),
         company: alone_before + alone_after,
@@ -154,25 +176,29 @@ fn meeting_of(
 pub(crate) fn meetings(
     later: &Later,
     instance: &Instance,
-    parts: &[CurriculumNo],
+    curricula: &[CurriculumNo],
     slot: SlotNo,
     period: u16,
 ) -> Meeting
-    requires parts { Each (λ q. q < curriculum_count instance.now) parts.now }
-    requires few { length parts.now ≤ 20000 }
+    requires curricula { Each (λ q. q < curriculum_count instance.now) curricula.now }
+    requires few { length curricula.now ≤ 20000 }
     requires slot { slot < slot_count instance.now }
     requires period { period ≡ period_of instance.now slot }
     requires sizes { HaveSizes instance.now later.now.counts.now }
-    requires own { Each (λ q. seen_part instance.now later.now q slot ≡ 0) parts.now }
-    ensures alone { result.alone ≡ sum_by (λ q. stands_alone instance.now (seen_part instance.now later.now q) slot) parts.now }
-    ensures company { result.company ≡ sum_by (λ q. alone_beside instance.now (seen_part instance.now later.now q) slot) parts.now }
+    requires own { Each (λ q. seen_curriculum instance.now later.now q slot ≡ 0) curricula.now }
+    ensures alone { result.alone
+        ≡ sum_by (λ q. stands_alone instance.now
+        (seen_curriculum instance.now later.now q) slot) curricula.now }
+    ensures company { result.company
+        ≡ sum_by (λ q. alone_beside instance.now
+        (seen_curriculum instance.now later.now q) slot) curricula.now }
     ensures few { result.alone ≤ 20000 }
     ensures bound { result.company ≤ 20000 * 10000000000 }
 {
     let mut alone = 0;
     let mut company = 0;
-    for part in parts {
-        let met = meeting_of(later, instance, *part, slot, period);
+    for curriculum in curricula {
+        let met = meeting_of(later, instance, *curriculum, slot, period);
         alone += met.alone;
         company += met.company;
     }

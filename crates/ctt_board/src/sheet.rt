@@ -1,6 +1,6 @@
 //! What a sheet is.
 
-ghost use Rattle.std.specs.Prelude.{◌≡◌, ◌<◌, ◌^◌, ◌↔◌, ◌++◌, ℕ, [], length, is_some, IfOk, IfSome, OnOk, IsTrue};
+ghost use Rattle.std.specs.Prelude.{◌≡◌, ◌<◌, ◌^◌, ◌++◌, ℕ, [], length, is_some, IfOk, IfSome, OnOk, OnErr};
 ghost use Rattle.ctt_text.specs.Problem.{course_count, slot_count, room_count};
 ghost use Rattle.ctt_text.specs.Marks.{is_marked};
 ghost use Rattle.ctt_text.specs.Timetable.{course_row, slot_row};
@@ -47,7 +47,8 @@ pub trait Rooms: Drop {
     /// The courses that have a lecture in a slot.
     fn standing(&self, slot: SlotNo) -> Marks
         requires { slot < slot_count (problem self.now) }
-        ensures { (course : ℕ) → is_marked result course ≡ is_some (room_at course slot (list self.now)) };
+        ensures { (course : ℕ)
+            → is_marked result course ≡ is_some (room_at course slot (list self.now)) };
 
     /// How many lectures of a course are placed.
     fn count(&self, course: CourseNo) -> u32
@@ -82,41 +83,35 @@ pub trait Timetable: Rooms + Send + Sync {
     /// costs are reckoned. It takes no memory.
     fn apply_all(&mut self, changes: &[Change], cost: Option<Cost>)
         requires fit { ChangesFit (Self.problem self.old) changes.now (Self.list self.old) }
-        requires cost { IfSome cost (λ x. x ≡ penalty (Self.problem self.old) (apply_all changes.now (Self.list self.old))) }
+        requires cost { IfSome cost
+            (λ x. x ≡ penalty (Self.problem self.old)
+            (apply_all changes.now (Self.list self.old))) }
         ensures problem { Self.problem self.new ≡ Self.problem self.old }
         ensures list { Self.list self.new ≡ apply_all changes.now (Self.list self.old) };
-
-    /// Whether another sheet of the instance has the same lectures of a course. It takes no memory.
-    fn same_course_row(&self, other: &Self, course: CourseNo) -> bool
-        requires instance { Self.problem other.now ≡ Self.problem self.now }
-        requires course { course < course_count (Self.problem self.now) }
-        ensures { IsTrue result ↔ (course_row course (Self.list self.now) ≡ course_row course (Self.list other.now)) };
-
-    /// Whether another sheet of the instance has the same lectures in a slot. It takes no memory.
-    fn same_slot_row(&self, other: &Self, slot: SlotNo) -> bool
-        requires instance { Self.problem other.now ≡ Self.problem self.now }
-        requires slot { slot < slot_count (Self.problem self.now) }
-        ensures { IsTrue result ↔ (slot_row slot (Self.list self.now) ≡ slot_row slot (Self.list other.now)) };
 
     /// The lectures of a course, by slot.
     fn course_row(&self, course: CourseNo) -> Result<Vec<Placed>, NoMemory>
         requires { course < course_count (Self.problem self.now) }
         ensures { IfOk result (λ row. row.items ≡ course_row course (Self.list self.now)) };
 
-    /// Appends the lectures of a course, by slot, to a list.
+    /// Appends the lectures of a course, by slot, to a list, or leaves it as it was.
     fn append_course_row(&self, course: CourseNo, list: &mut Vec<Placed>) -> Result<(), NoMemory>
         requires { course < course_count (Self.problem self.now) }
-        ensures { OnOk result (list.new.items ≡ list.old.items ++ course_row course (Self.list self.now)) };
+        ensures row { OnOk result
+            (list.new.items ≡ list.old.items ++ course_row course (Self.list self.now)) }
+        ensures kept { OnErr result (list.new.items ≡ list.old.items) };
 
     /// The lectures in a slot, by course.
     fn slot_row(&self, slot: SlotNo) -> Result<Vec<Placed>, NoMemory>
         requires { slot < slot_count (Self.problem self.now) }
         ensures { IfOk result (λ row. row.items ≡ slot_row slot (Self.list self.now)) };
 
-    /// Appends the lectures in a slot, by course, to a list.
+    /// Appends the lectures in a slot, by course, to a list, or leaves it as it was.
     fn append_slot_row(&self, slot: SlotNo, list: &mut Vec<Placed>) -> Result<(), NoMemory>
         requires { slot < slot_count (Self.problem self.now) }
-        ensures { OnOk result (list.new.items ≡ list.old.items ++ slot_row slot (Self.list self.now)) };
+        ensures row { OnOk result
+            (list.new.items ≡ list.old.items ++ slot_row slot (Self.list self.now)) }
+        ensures kept { OnErr result (list.new.items ≡ list.old.items) };
 
     /// All lectures, by course and slot.
     fn list(&self) -> Result<Vec<Placed>, NoMemory>
@@ -124,14 +119,17 @@ pub trait Timetable: Rooms + Send + Sync {
 
     /// An equal sheet.
     fn copy(&self) -> Result<Self, NoMemory>
-        ensures { IfOk result (λ sheet. (Self.problem sheet ≡ Self.problem self.now) × (Self.list sheet ≡ Self.list self.now)) };
+        ensures { IfOk result
+            (λ sheet. (Self.problem sheet ≡ Self.problem self.now)
+            × (Self.list sheet ≡ Self.list self.now)) };
 }
 
 /// A lawful timetable that is kept for an instance.
 pub trait Sheet<'i>: Timetable {
     /// The empty timetable.
     fn empty(alloc: Global, instance: &'i Instance) -> Result<Self, NoMemory>
-        ensures { IfOk result (λ sheet. (Self.problem sheet ≡ instance.now) × (Self.list sheet ≡ [])) };
+        ensures { IfOk result
+            (λ sheet. (Self.problem sheet ≡ instance.now) × (Self.list sheet ≡ [])) };
 
     /// The instance.
     fn instance(&self) -> &'i Instance

@@ -12,7 +12,10 @@ use ctt_text::{CourseNo, Marks, Placed, SlotNo};
 /// Marks the course of a lecture, if it is in the slot.
 fn mark_if_there(standing: &mut Marks, lecture: &Placed, slot: SlotNo)
     requires { lecture.now.course < 2000 }
-    ensures { (course : ℕ) → is_marked standing.new course ≡ (is_marked standing.old course || (lecture.now.course == course && lecture.now.slot == slot)) }
+    ensures { (course : ℕ)
+        → is_marked standing.new course
+        ≡ (is_marked standing.old course
+        || (lecture.now.course == course && lecture.now.slot == slot)) }
 {
     if lecture.slot == slot {
         standing.mark(lecture.course.get() as usize);
@@ -34,7 +37,10 @@ pub(crate) fn standing_in(lectures: &[Placed], slot: SlotNo) -> Marks
 /// Lets the course of a cell come or leave, if the cell is in the slot.
 fn change_if_there(standing: &mut Marks, cell: &Cell, slot: SlotNo)
     requires { cell.now.course < 2000 }
-    ensures { (course : ℕ) → is_marked standing.new course ≡ cond (cell.now.course == course && cell.now.slot == slot) (is_some cell.now.room) (is_marked standing.old course) }
+    ensures { (course : ℕ)
+        → is_marked standing.new course
+        ≡ cond (cell.now.course == course && cell.now.slot == slot) (is_some cell.now.room)
+        (is_marked standing.old course) }
 {
     if cell.slot == slot {
         let course = cell.course.get() as usize;
@@ -48,7 +54,9 @@ fn change_if_there(standing: &mut Marks, cell: &Cell, slot: SlotNo)
 /// Lets the courses of these cells come into a slot and leave it.
 pub(crate) fn change_standing(standing: &mut Marks, cells: &[Cell], slot: SlotNo)
     requires { Each (λ x. x.course < 2000) cells.now }
-    ensures { (course : ℕ) → is_marked standing.new course ≡ stands_by cells.now course slot (is_marked standing.old course) }
+    ensures { (course : ℕ)
+        → is_marked standing.new course
+        ≡ stands_by cells.now course slot (is_marked standing.old course) }
 {
     for cell in cells {
         change_if_there(standing, cell, slot);

@@ -32,7 +32,8 @@ impl<T: Copy> Table<T> {
         requires { rows * width ≤ 100000000 }
         ensures rows { IfOk result (λ t. (t.rows ≡ rows) × (t.width ≡ width)) }
         ensures size { IfOk result (λ t. length t.cells ≡ rows * width) }
-        ensures cells { IfOk result (λ t. (row column : ℕ) → row < rows → column < width → at t row column value ≡ value) }
+        ensures cells { IfOk result
+            (λ t. (row column : ℕ) → row < rows → column < width → at t row column value ≡ value) }
     {
         let mut cells = Vec::new(alloc);
         cells.resize(rows * width, value)?;
@@ -53,7 +54,8 @@ impl<T: Copy> Table<T> {
     pub fn row(&self, row: usize) -> &[T]
         requires { row < self.now.rows }
         ensures width { length result.now ≡ self.now.width }
-        ensures cells { (column : ℕ) (d : T) → column < self.now.width → get_or result.now column d ≡ at self.now row column d }
+        ensures cells { (column : ℕ) (d : T) → column < self.now.width
+            → get_or result.now column d ≡ at self.now row column d }
     {
         let start = row * self.width;
         &self.cells[start..start + self.width]
@@ -65,7 +67,8 @@ impl<T: Copy> Table<T> {
         requires column { column < self.old.width }
         ensures rows { self.new.rows ≡ self.old.rows }
         ensures width { self.new.width ≡ self.old.width }
-        ensures cells { (r k : ℕ) (d : T) → k < self.old.width → at self.new r k d ≡ cond (r == row && k == column) value (at self.old r k d) }
+        ensures cells { (r k : ℕ) (d : T) → k < self.old.width
+            → at self.new r k d ≡ cond (r == row && k == column) value (at self.old r k d) }
     {
         self.cells[row * self.width + column] = value;
     }

@@ -48,7 +48,6 @@ impl Tables {
         })
     }
 
-    /// The same tables.
     pub(crate) fn copy(&self) -> Result<Self, AllocError>
         ensures { IfOk result (λ tables. tables ≡ self.now) }
     {
@@ -81,7 +80,10 @@ impl Tables {
     fn lay(&mut self, instance: &Instance, lecture: &Placed)
         requires fits { Fits instance.now lecture.now }
         requires sizes { HavePlaceSizes instance.now self.old }
-        ensures places { (t : List Placed) → ArePlaces instance.now t self.old → is_some (room_at lecture.now.course lecture.now.slot t) ≡ false → Lawful instance.now (with lecture.now t) → ArePlaces instance.now (with lecture.now t) self.new }
+        ensures places { (t : List Placed) → ArePlaces instance.now t self.old
+            → is_some (room_at lecture.now.course lecture.now.slot t) ≡ false
+            → Lawful instance.now (with lecture.now t)
+            → ArePlaces instance.now (with lecture.now t) self.new }
         ensures counts { self.new.counts ≡ self.old.counts }
     {
         instance.limits_hold();
@@ -99,7 +101,10 @@ impl Tables {
     fn lift(&mut self, instance: &Instance, lecture: &Placed)
         requires fits { Fits instance.now lecture.now }
         requires sizes { HavePlaceSizes instance.now self.old }
-        ensures places { (t : List Placed) → ArePlaces instance.now t self.old → room_at lecture.now.course lecture.now.slot t ≡ Some lecture.now.room → Lawful instance.now t → ArePlaces instance.now (without lecture.now.course lecture.now.slot t) self.new }
+        ensures places { (t : List Placed) → ArePlaces instance.now t self.old
+            → room_at lecture.now.course lecture.now.slot t ≡ Some lecture.now.room
+            → Lawful instance.now t
+            → ArePlaces instance.now (without lecture.now.course lecture.now.slot t) self.new }
         ensures counts { self.new.counts ≡ self.old.counts }
     {
         instance.limits_hold();
@@ -112,15 +117,18 @@ impl Tables {
         self.standing.unmark(slot, course);
     }
 
-    /// Adds a lecture.
     #[inline(always)]
     pub(crate) fn add(&mut self, instance: &Instance, lecture: &Placed)
         requires tables { AreTables instance.now self.old }
         requires fits { Fits instance.now lecture.now }
-        requires empty { is_some (room_at lecture.now.course lecture.now.slot (listed instance.now self.old.rooms)) ≡ false }
-        requires lawful { Lawful instance.now (with lecture.now (listed instance.now self.old.rooms)) }
+        requires empty { is_some
+            (room_at lecture.now.course lecture.now.slot (listed instance.now self.old.rooms))
+            ≡ false }
+        requires lawful { Lawful instance.now
+            (with lecture.now (listed instance.now self.old.rooms)) }
         ensures tables { AreTables instance.now self.new }
-        ensures list { listed instance.now self.new.rooms ≡ with lecture.now (listed instance.now self.old.rooms) }
+        ensures list { listed instance.now self.new.rooms
+            ≡ with lecture.now (listed instance.now self.old.rooms) }
     {
         instance.limits_hold();
         self.counts.add(instance, lecture);
@@ -132,25 +140,31 @@ impl Tables {
     pub(crate) fn remove(&mut self, instance: &Instance, lecture: &Placed)
         requires tables { AreTables instance.now self.old }
         requires fits { Fits instance.now lecture.now }
-        requires there { room_at lecture.now.course lecture.now.slot (listed instance.now self.old.rooms) ≡ Some lecture.now.room }
+        requires there { room_at lecture.now.course lecture.now.slot
+            (listed instance.now self.old.rooms) ≡ Some lecture.now.room }
         ensures tables { AreTables instance.now self.new }
-        ensures list { listed instance.now self.new.rooms ≡ without lecture.now.course lecture.now.slot (listed instance.now self.old.rooms) }
+        ensures list { listed instance.now self.new.rooms
+            ≡ without lecture.now.course lecture.now.slot (listed instance.now self.old.rooms) }
     {
         instance.limits_hold();
         self.counts.take(instance, lecture);
         self.lift(instance, lecture);
     }
 
-    /// Makes a cell.
     #[inline(always)]
     fn make(&mut self, instance: &Instance, cell: &Cell)
         requires tables { AreTables instance.now self.old }
-        requires fits { CellFits (listed instance.now self.old.rooms) cell.now.course cell.now.slot cell.now.room }
-        requires lawful { Lawful instance.now (apply_at cell.now.course cell.now.slot cell.now.room (listed instance.now self.old.rooms)) }
+        requires fits { CellFits
+            (listed instance.now self.old.rooms) cell.now.course cell.now.slot cell.now.room }
+        requires lawful { Lawful instance.now
+            (apply_at cell.now.course cell.now.slot cell.now.room
+            (listed instance.now self.old.rooms)) }
         requires course { cell.now.course < course_count instance.now }
         requires slot { cell.now.slot < slot_count instance.now }
         ensures tables { AreTables instance.now self.new }
-        ensures list { listed instance.now self.new.rooms ≡ apply_at cell.now.course cell.now.slot cell.now.room (listed instance.now self.old.rooms) }
+        ensures list { listed instance.now self.new.rooms
+            ≡ apply_at cell.now.course cell.now.slot cell.now.room
+            (listed instance.now self.old.rooms) }
     {
         let course = cell.course;
         let slot = cell.slot;
@@ -163,13 +177,13 @@ impl Tables {
         }
     }
 
-    /// Makes a change.
     #[inline(always)]
     pub(crate) fn apply(&mut self, instance: &Instance, change: &Change)
         requires tables { AreTables instance.now self.old }
         requires fits { ChangeFits instance.now change.now (listed instance.now self.old.rooms) }
         ensures tables { AreTables instance.now self.new }
-        ensures list { listed instance.now self.new.rooms ≡ apply change.now (listed instance.now self.old.rooms) }
+        ensures list { listed instance.now self.new.rooms
+            ≡ apply change.now (listed instance.now self.old.rooms) }
     {
         let cells = change.cells();
         for cell in cells {
@@ -182,7 +196,8 @@ impl Tables {
         requires tables { AreTables instance.now self.old }
         requires fit { ChangesFit instance.now changes.now (listed instance.now self.old.rooms) }
         ensures tables { AreTables instance.now self.new }
-        ensures list { listed instance.now self.new.rooms ≡ apply_all changes.now (listed instance.now self.old.rooms) }
+        ensures list { listed instance.now self.new.rooms
+            ≡ apply_all changes.now (listed instance.now self.old.rooms) }
     {
         for change in changes {
             self.apply(instance, change);

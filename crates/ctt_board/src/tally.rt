@@ -64,7 +64,8 @@ pub(crate) fn take(counts: &mut Table<u16>, row: usize, column: usize, wanted: b
 pub(crate) fn add_column(bits: &mut Bits, rows: &[CurriculumNo], column: usize)
     requires rows { Each (λ r. r < bits.old.rows) rows.now }
     requires column { column < bits.old.width }
-    requires zero { (r : ℕ) → r < bits.old.rows → in_column rows.now column r column + at bits.old r column 0 ≤ 1 }
+    requires zero { (r : ℕ) → r < bits.old.rows
+        → in_column rows.now column r column + at bits.old r column 0 ≤ 1 }
     ensures { Adds bits.old bits.new (in_column rows.now column) }
 {
     for row in rows {
@@ -76,7 +77,8 @@ pub(crate) fn add_column(bits: &mut Bits, rows: &[CurriculumNo], column: usize)
 pub(crate) fn take_column(bits: &mut Bits, rows: &[CurriculumNo], column: usize)
     requires rows { Each (λ r. r < bits.old.rows) rows.now }
     requires column { column < bits.old.width }
-    requires one { (r : ℕ) → r < bits.old.rows → in_column rows.now column r column ≤ at bits.old r column 0 }
+    requires one { (r : ℕ) → r < bits.old.rows
+        → in_column rows.now column r column ≤ at bits.old r column 0 }
     ensures { Adds bits.new bits.old (in_column rows.now column) }
 {
     for row in rows {

@@ -10,6 +10,7 @@ use crate::book::BookRule;
 use crate::shared_fault::SharedFault;
 use ctt_board::{Sheet, Timetable};
 use ctt_core::{JournalEntry, placed};
+use ctt_draft::changes_for_copy;
 use ctt_text::{Instance, Placed};
 use logbook::{Seen, Start, Word};
 use std::alloc::Global;
@@ -22,7 +23,7 @@ pub struct Opened<S: Timetable> {
     pub(crate) alloc: Global,
     pub(crate) opening: Vec<Placed>,
     pub(crate) sheet: S,
-    /// For so many changes there is to be room in what is published.
+    /// For so many changes there is to be room in what is published: four times as many as may be made in place of a copy.
     pub(crate) room: usize,
     /// The word by which the history will grow, and that there is none yet.
     pub(crate) word: Word<JournalEntry, u64, BookRule>,
@@ -46,14 +47,6 @@ impl<S: Timetable> Model for Opened<S> {
         × (o.word ≡ head_of o.seen.book) };
 }
 
-/// How many changes are kept with a published timetable: four times as many as may be made in place
-/// of a copy, by the cells that a copy copies.
-fn room_for_changes(instance: &Instance) -> usize {
-    instance.limits_hold();
-    let cells = instance.courses() as usize * instance.slots() as usize;
-    (cells / 32).clamp(64, 4000)
-}
-
 impl<'i, S: Sheet<'i>> Opened<S> {
     /// The timetable of these lectures, which are placed in their order, whatever it is. It is
     /// refused at the first lecture that cannot be placed.
@@ -74,7 +67,7 @@ impl<'i, S: Sheet<'i>> Opened<S> {
             alloc,
             opening,
             sheet,
-            room: room_for_changes(instance),
+            room: 4 * changes_for_copy(instance),
             word: Word::tracked(0, &mut first),
             seen,
         })

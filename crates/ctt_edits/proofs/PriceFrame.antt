@@ -16,7 +16,7 @@ use Rattle.ctt_rules.proofs.SumLemmas.{sum_below_same}
 use Rattle.ctt_rules.proofs.TimetableLemmas.{courses_fit}
 use Rattle.ctt_board.specs.Boards.{delta}
 use Rattle.ctt_board.specs.Changes.{apply_at, apply}
-use Rattle.ctt_board.specs.Costs.{touches, touches_part, courses_cost, curricula_cost}
+use Rattle.ctt_board.specs.Costs.{touches, touches_curriculum, courses_cost, curricula_cost}
 use Rattle.ctt_board.specs.declared.cell.Cell.{Cell}
 use Rattle.ctt_board.proofs.ApplyLemmas.{agree_apply}
 use Rattle.ctt_board.proofs.CostLemmas.{difference_of}
@@ -41,7 +41,7 @@ sum_by_passing p f g (x ∷ xs) e = omega (arith, sum_by_passing p f g xs e.1, o
 -- two timetables are the same in the rows of the courses and in the parts of the curricula that cells touch
 pub record AgreeTouched (i : Problem) (cells : List Cell) (t u : List Placed) : Type 0 where
   pub rows : (c : ℕ) → touches cells c ≡ true → course_row c t ≡ course_row c u
-  pub parts : Each (λ q. touches_part cells q ≡ true → part_of q t ≡ part_of q u) i.curricula
+  pub parts : Each (λ q. touches_curriculum cells q ≡ true → part_of q t ≡ part_of q u) i.curricula
 
 touched_same : (i : Problem) (cells : List Cell) (t u : List Placed) → AgreeTouched i cells t u → courses_cost i cells t + curricula_cost i cells t ≡ courses_cost i cells u + curricula_cost i cells u
 touched_same i cells t u a =
@@ -49,15 +49,15 @@ touched_same i cells t u a =
     sum_below_same (λ c. cond (touches cells c) (total (course_cost i t c)) 0) (λ c. cond (touches cells c) (total (course_cost i u c)) 0) (course_count i)
     (λ c. one_term (touches cells c) (total (course_cost i t c)) (total (course_cost i u c)) (λ y. ap (λ ls. total (row_cost i c ls)) (a.rows c y))) in
     let curricula : curricula_cost i cells t ≡ curricula_cost i cells u =
-    sum_by_passing (touches_part cells) (λ q. alone_cost i (part_of q t)) (λ q. alone_cost i (part_of q u)) i.curricula
-    (Each-map (λ q. touches_part cells q ≡ true → part_of q t ≡ part_of q u) (λ q. touches_part cells q ≡ true → alone_cost i (part_of q t) ≡ alone_cost i (part_of q u)) (λ q e y. ap (alone_cost i) (e y)) i.curricula a.parts) in
+    sum_by_passing (touches_curriculum cells) (λ q. alone_cost i (part_of q t)) (λ q. alone_cost i (part_of q u)) i.curricula
+    (Each-map (λ q. touches_curriculum cells q ≡ true → part_of q t ≡ part_of q u) (λ q. touches_curriculum cells q ≡ true → alone_cost i (part_of q t) ≡ alone_cost i (part_of q u)) (λ q e y. ap (alone_cost i) (e y)) i.curricula a.parts) in
     ap₂ (λ m n. m + n) courses curricula
 
 -- they still are once the cells are applied
 still_touched : (i : Problem) (cells : List Cell) (t u : List Placed) → InOrder t → InOrder u → AgreeTouched i cells t u → AgreeTouched i cells (apply cells t) (apply cells u)
 still_touched i cells t u h k a = record {
   rows = λ c y. agree_apply (λ l. l.course == c) cells t u h k (a.rows c y);
-  parts = Each-map (λ q. touches_part cells q ≡ true → part_of q t ≡ part_of q u) (λ q. touches_part cells q ≡ true → part_of q (apply cells t) ≡ part_of q (apply cells u)) (λ q e y. agree_apply (λ l. has l.course q) cells t u h k (e y)) i.curricula a.parts;
+  parts = Each-map (λ q. touches_curriculum cells q ≡ true → part_of q t ≡ part_of q u) (λ q. touches_curriculum cells q ≡ true → part_of q (apply cells t) ≡ part_of q (apply cells u)) (λ q e y. agree_apply (λ l. has l.course q) cells t u h k (e y)) i.curricula a.parts;
 }
 
 -- courses of the instance stay such
@@ -106,9 +106,9 @@ change_fits i (Reroom c s r) t f = (f.0, (f.0, tt))
 change_fits i (Drop c s) t f = (f.0, tt)
 
 -- a curriculum that is touched has a member that is touched
-touched_member : (C : Type 0) (cells : List Cell) (q : List ℕ) → touches_part cells q ≡ true → ((c : ℕ) → touches cells c ≡ true → has c q ≡ true → C) → C
+touched_member : (C : Type 0) (cells : List Cell) (q : List ℕ) → touches_curriculum cells q ≡ true → ((c : ℕ) → touches cells c ≡ true → has c q ≡ true → C) → C
 touched_member C [] q y then = cc
-touched_member C (x ∷ xs) q y then = elim (or_cases (has x.course q) (touches_part xs q) y) [
+touched_member C (x ∷ xs) q y then = elim (or_cases (has x.course q) (touches_curriculum xs q) y) [
   | inl here ↦ then x.course (or_left (x.course == x.course) (touches xs x.course) (eq-eqb x.course x.course refl)) here
   | inr more ↦ touched_member C xs q more (λ c touched member. then c (or_right (x.course == c) (touches xs c) touched) member)
 ]
@@ -121,7 +121,7 @@ any_has p c (d ∷ ds) h y = elim (or_cases (d == c) (has c ds) h) [
 ]
 
 -- with the rows of all mates of touched courses, the parts of the curricula that are touched are the same
-mates_same : (cells : List Cell) (t u : List Placed) (qs : List (List ℕ)) → Ascending t → Ascending u → ((c d : ℕ) → touches cells c ≡ true → list_any (λ q. has c q && has d q) qs ≡ true → course_row d t ≡ course_row d u) → Each (λ q. touches_part cells q ≡ true → part_of q t ≡ part_of q u) qs
+mates_same : (cells : List Cell) (t u : List Placed) (qs : List (List ℕ)) → Ascending t → Ascending u → ((c d : ℕ) → touches cells c ≡ true → list_any (λ q. has c q && has d q) qs ≡ true → course_row d t ≡ course_row d u) → Each (λ q. touches_curriculum cells q ≡ true → part_of q t ≡ part_of q u) qs
 mates_same cells t u [] h k rows = tt
 mates_same cells t u (q ∷ qs) h k rows = (
   (λ y. same_part (λ d. has d q) t u h k (λ d member. touched_member (course_row d t ≡ course_row d u) cells q y (λ c touched own. rows c d touched (or_left (has c q && has d q) (list_any (λ q. has c q && has d q) qs) (rw (own, member) refl))))),

@@ -1,6 +1,6 @@
 -- The planners of a crew.
 use Rattle.std.proofs.Common.{◌≡◌, ◌∙◌, ◌⊎◌, inl, inr, ◌+◌, ◌∷◌, [], ℕ, zero, suc, length, refl, ap, arith, sym, subst, Result, Ok, Err}
-use Rattle.std.specs.Prelude.{IfErr, IfOk, IsErrAnd, IsOk, IsOkAnd, OnOk}
+use Rattle.std.specs.Prelude.{IfErr, IfOk, IsErrAnd, IsOkAnd}
 use Rattle.std.proofs.lemmas.List.{length-append}
 use Rattle.ctt_desk.specs.Planners.{new_planner, new_planners}
 use Rattle.ctt_script.specs.CrewText.{IsCrewFault}
@@ -21,9 +21,3 @@ pub passed_or_memory : {A : Type 0} (answers : Result A CrewFault) (n : ℕ) (fa
 passed_or_memory answers n fault is (inl memory) = subst (IsCrewFault n) (sym memory) tt
 passed_or_memory (Ok a) n fault is (inr passed) = absurd passed
 passed_or_memory (Err told) n fault is (inr passed) = subst (IsCrewFault n) (sym passed) is
-
--- what is so of a value where something was written is so of it where it is kept
-pub kept_so : {A T E F : Type 0} (r : Result A E) (value : A) (written : Result T F) (P : Type 0) (Q : A → Type 0) → IfOk r (λ kept. (kept ≡ value) × IsOk written) → OnOk written P → (P → Q value) → IfOk r Q
-kept_so (Ok kept) value (Ok t) P Q is grown so = subst Q (sym is.0) (so grown)
-kept_so (Ok kept) value (Err f) P Q is grown so = let no = is.1 in cc
-kept_so (Err e) value written P Q is grown so = tt

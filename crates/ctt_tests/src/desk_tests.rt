@@ -1,5 +1,5 @@
-//! A day of six planners of one desk on the small instance: commits, refreshes, and what the others then see. `close` sees
-//! every commit. The costs were computed by hand from the rules.
+//! A day of seven planners of one desk on the small instance: a draft that is dropped, commits, refreshes, and what the
+//! others then see. `close` sees every commit. The costs were computed by hand from the rules.
 
 ghost use Rattle.std.specs.Prelude.{◌≡◌, IfSome};
 ghost use Rattle.ctt_desk.specs.Names.{IsNamed};
@@ -15,7 +15,7 @@ use ctt_core::PlannerNo;
 use ctt_desk::{
     Closed, Drafting, Named, Naming, Opened, Planner, RefreshRefusal, Refusal, SharedDesk,
 };
-use ctt_edits::{Call, Look, Row};
+use ctt_edits::{Call, Look, Reply, Row};
 use ctt_text::{Instance, Placed, SlotNo, let_go};
 use std::alloc::Global;
 use std::marker::{Brand, PhantomData};
@@ -35,6 +35,18 @@ struct Day<'i, S: Timetable, J: Naming> {
 fn drafts_next<'i, S: Sheet<'i>, J: Naming>(day: &mut Day<'i, S, J>, call: Call) -> Option<()> {
     let (drafting, _reply) = drafted(day.waiting.pop()?, call)?;
     day.open.push(drafting).ok()
+}
+
+/// The next planner drops a draft in which a lecture was placed.
+fn drops_next<'i, S: Sheet<'i>, J: Naming, R: Abort>(
+    rt: &R,
+    day: &mut Day<'i, S, J>,
+    lecture: &Placed,
+) -> Option<()> {
+    let (dropped, reply) = drafted(day.waiting.pop()?, Call::Edit(place(lecture)))?;
+    assert!(rt; matches!(reply, Reply::Done));
+    drop(dropped);
+    Some(())
 }
 
 /// The next planner looks at a slot in a draft, which is left open.
@@ -157,14 +169,16 @@ fn goes_on_next<'i, S: Sheet<'i>, J: Naming, R: Wait + Abort>(
     day.done.push(planner).ok()
 }
 
-/// A planner who has looked at a slot is stale when another one has placed a lecture there, at a commit and
-/// at a refresh. Two more, who learnt nothing, see it, and one who had placed geo before goes on with it.
+/// A draft that is dropped changes nothing, and holds up nobody. A planner who has looked at a slot is stale when
+/// another one has placed a lecture there, at a commit and at a refresh. Two more, who learnt nothing, see it, and one
+/// who had placed geo before goes on with it.
 fn turns<'i, S: Sheet<'i>, J: Naming, R: Wait + Abort>(
     rt: &R,
     desk: &SharedDesk<S, J>,
     day: &mut Day<'i, S, J>,
 ) -> Option<()> {
     let top = top_third();
+    drops_next(rt, day, &top)?;
     drafts_next(day, Call::Edit(place(&geo_second())))?;
     looks_next(day, top.slot)?;
     looks_next(day, top.slot)?;
@@ -242,11 +256,11 @@ fn every_commit_on_list<'i, R: Wait + Abort>(
     small: &'i Instance,
 ) -> Result<(), Stopped> {
     let opened = empty::<ListSheet>(alloc, small).ok_or(Stopped::NoDesk)?;
-    every_commit::<Brand, R>(rt, alloc, opened, 6)
+    every_commit::<Brand, R>(rt, alloc, opened, 7)
 }
 
 #[test]
-fn day_of_six_planners(rt: HostRuntime) -> Result<(), Stopped> {
+fn day_of_seven_planners(rt: HostRuntime) -> Result<(), Stopped> {
     let small = small_instance(rt.alloc())?;
     let played = every_commit_on_list(&rt, rt.alloc(), &small);
     let_go(small);

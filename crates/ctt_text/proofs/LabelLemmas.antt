@@ -1,7 +1,8 @@
 -- Labels: what is left of a list where one is put into it, and that one is text.
 use Rattle.std.proofs.Common.{◌≡◌, ℕ, zero, suc, ◌+◌, ◌*◌, ◌<◌, ◌≤◌, List, [], ◌∷◌, ◌++◌, length, take, drop, get_or, refl, sym, ap, subst, ◌∙◌, arith}
 use Rattle.std.specs.Str.{IsUtf8}
-use Rattle.std.proofs.lemmas.List.{length-take-le}
+use Rattle.std.proofs.lemmas.List.{drop-drop, length-take-le}
+use Rattle.std.proofs.Math.Seq.{drop-append-add, drop-append_seam}
 use Rattle.std.proofs.lemmas.Simd.{put_chunk_is}
 use Rattle.std.proofs.lemmas.Str.{IsUtf8-append, IsUtf8-from_ascii}
 use native.Mathlib.Nat.{mul-zero}
@@ -27,6 +28,19 @@ module _ {X : Type 0} where
       ap (take (i + n)) (put_chunk_is i xs ys room)
       ∙ take_behind (take i xs) (ys ++ rest) n (i + n) (omega (arith, length-take-le i xs (omega arith)))
       ∙ ap (λ r. take i xs ++ r) (take_within ys rest n le)
+
+  -- what stands behind them is as it was
+  pub drop_put : (i n : ℕ) (xs ys : List X) → n ≡ length ys → i + length ys ≤ length xs → drop (i + n) (put_chunk i xs ys) ≡ drop (i + n) xs
+  drop_put i n xs ys long room =
+      let rest = drop (length ys) (drop i xs) in
+      let front : length (take i xs) ≡ i = length-take-le i xs (omega (arith, room)) in
+      ap (drop (i + n)) (put_chunk_is i xs ys room)
+      ∙ ap (λ k. drop (k + n) (take i xs ++ (ys ++ rest))) (sym front)
+      ∙ drop-append-add (take i xs) (ys ++ rest) n
+      ∙ ap (λ k. drop k (ys ++ rest)) long
+      ∙ drop-append_seam ys rest
+      ∙ ap (λ k. drop k (drop i xs)) (sym long)
+      ∙ drop-drop n i xs
 
 -- a blank and a word
 pub spaced : (word rest : List ℕ) → take (length word + 1) (32 ∷ (word ++ rest)) ≡ 32 ∷ word

@@ -1,5 +1,5 @@
 -- What is written of a timetable.
-use Rattle.std.proofs.Common.{◌≡◌, ℕ, zero, suc, ◌+◌, ◌*◌, ◌^◌, ◌<◌, ◌≤◌, List, [], ◌∷◌, ◌++◌, length, map, flat_map, Bool, true, false, cond, not, ◌&&◌, ◌||◌, ◌==◌, refl, sym, ap, subst, Option, Some, None, ◌∙◌, arith, rules, append_assoc, true≢false}
+use Rattle.std.proofs.Common.{◌≡◌, ℕ, zero, suc, ◌+◌, ◌*◌, ◌^◌, ◌<◌, ◌≤◌, List, [], ◌∷◌, ◌++◌, length, map, flat_map, Bool, true, false, cond, not, ◌&&◌, ◌||◌, ◌==◌, refl, sym, ap, subst, Some, None, ◌∙◌, arith, rules, append_assoc, true≢false}
 use Rattle.std.specs.Prelude.{codes, fold, slice_index_or}
 use Rattle.std.specs.List.{list_any, list_all, position_or_len, AllByRecursion as Each}
 use Rattle.std.specs.Str.{bytes_eq}

@@ -1,6 +1,6 @@
 //! Short words that are copied whole.
 
-ghost use Rattle.std.specs.Prelude.{◌≡◌, ◌<◌, ◌≤◌, ◌+◌, ◌++◌, length, take, IfOk};
+ghost use Rattle.std.specs.Prelude.{◌≡◌, ◌<◌, ◌≤◌, ◌+◌, ◌++◌, length, take, drop, IfOk};
 ghost use Rattle.std.specs.Str.{IsUtf8};
 ghost use Rattle.ctt_text.specs.Labels.{IsLabelOf, IsLabelOfDigits, AreLabels, AreSlotLabels};
 
@@ -59,8 +59,8 @@ impl Label {
         Some(Label { bytes, len: 4 })
     }
 
-    /// Puts the blank and the word among some bytes, from a place on, and answers where they end. What stands
-    /// within sixteen bytes of the place is overwritten.
+    /// Puts the blank and the word among some bytes, from a place on, and answers where they end. Sixteen bytes
+    /// from the place on are overwritten, and no others.
     #[inline(always)]
     pub fn put(&self, bytes: &mut [u8], at: usize) -> usize
         requires { at + 16 ≤ length bytes.old }
@@ -68,6 +68,7 @@ impl Label {
         ensures end { result ≡ at + length self.now }
         ensures room { length self.now ≤ 16 }
         ensures bytes { take (at + length self.now) bytes.new ≡ take at bytes.old ++ self.now }
+        ensures behind { drop (at + 16) bytes.new ≡ drop (at + 16) bytes.old }
         ensures utf8 { IsUtf8 self.now }
     {
         u8x16::from_array(self.bytes).copy_to_slice(&mut bytes[at..]);

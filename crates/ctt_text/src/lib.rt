@@ -31,8 +31,8 @@ pub use no_memory::NoMemory;
 pub use numbers::number;
 pub use placed::Placed;
 pub use places::{
-    FixedFault, PlaceFault, RoomFault, SlotFault, next_course, next_day, next_fixed, next_number,
-    next_period, next_room, next_word,
+    FixedFault, PlaceFault, RoomFault, SlotFault, next_course, next_fixed, next_number, next_room,
+    next_word,
 };
 pub use reader::Reader;
 pub use solution::{read_solution, write_solution};

@@ -182,19 +182,13 @@ pub(crate) fn next_period_below<F: SlotFault + Drop>(
 }
 
 /// A day of the instance.
-pub fn next_day<F: SlotFault + Drop>(reader: &mut Reader, instance: &Instance) -> Result<u16, F>
+pub(crate) fn next_day<F: SlotFault + Drop>(
+    reader: &mut Reader,
+    instance: &Instance,
+) -> Result<u16, F>
     ensures within { IfOk result (λ day. day < instance.now.days) }
     ensures exact { Reads (λ day. (day, reader.new)) result (reading F.missing (number_if F.bad_number (λ n. nat_lt n instance.now.days) F.day_out) reader.old) }
 {
     let day = next_day_below::<F>(reader, u32::from(instance.days()))?;
     Ok(day as u16)
-}
-
-/// A period of a day of the instance.
-pub fn next_period<F: SlotFault + Drop>(reader: &mut Reader, instance: &Instance) -> Result<u16, F>
-    ensures within { IfOk result (λ period. period < instance.now.periods) }
-    ensures exact { Reads (λ period. (period, reader.new)) result (reading F.missing (number_if F.bad_number (λ n. nat_lt n instance.now.periods) F.period_out) reader.old) }
-{
-    let period = next_period_below::<F>(reader, u32::from(instance.periods()))?;
-    Ok(period as u16)
 }

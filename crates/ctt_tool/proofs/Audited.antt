@@ -1,5 +1,5 @@
 -- What is found of a journal, by the files that were read.
-use Rattle.std.proofs.Common.{◌≡◌, ◌∙◌, ℕ, List, Option, Some, None, Result, Ok, Err, IfOk, IfSome, inl, inr, subst}
+use Rattle.std.proofs.Common.{◌≡◌, ℕ, List, Option, Result, Ok, Err, IfOk, IfSome, inl, inr, subst}
 use Rattle.std.proofs.lemmas.Option.{IfSome_then}
 use Rattle.std.specs.Global.{Global}
 use Rattle.std.specs.List.{AllByRecursion as Each}
@@ -46,8 +46,3 @@ verdict_refused problem journal start held found.Agrees fault finds is = absurd 
 verdict_refused problem journal start held (found.Differs entry call) fault finds is = inl (inl (inr (inr is)))
 verdict_refused problem journal start held (found.BadOpening at why) fault finds is =
     inr (finds.entries, finds.is_journal, inr (at, why, record { lectures = finds.lectures; is_start = finds.is_start; refused = finds.found }, is))
-
--- the bytes that were read are what the file tells
-pub told_of : (held : Option (List ℕ)) (bytes items : List ℕ) → bytes ≡ items → IfSome held (λ text. items ≡ text) → IfSome held (λ text. bytes ≡ text)
-told_of None bytes items same all = tt
-told_of (Some text) bytes items same all = same ∙ all

@@ -93,5 +93,5 @@ no_journal read problem bytes meets takes fault is = record {
 
 -- a fault that is told so
 pub passed_text : {T : Type 0} (r : Result T Fault) (told : Fault) (P : Fault → Type 0) → IsErrAnd r (λ fault. fault ≡ told) → ((fault : Fault) → fault ≡ told → P fault) → IfErr r P
-passed_text (Ok x) told P gives no = tt
-passed_text (Err fault) told P gives no = no fault gives
+passed_text (Ok x) told P gives none = tt
+passed_text (Err fault) told P gives none = none fault gives

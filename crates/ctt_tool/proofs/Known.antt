@@ -153,24 +153,6 @@ pub passed_on : {T : Type 0} (r : Result T Fault) (fault : Fault) (P : Fault →
 passed_on (Ok x) fault P same holds = tt
 passed_on (Err told) fault P same holds = subst P (sym same) holds
 
--- files that are kept are kept by any fault; and what is so of the cause of the others may be said otherwise
-pub kept_unless : (fault : Fault) (S K : Type 0) → K → KeptUnless fault S K
-kept_unless CannotWrite S K kept = inl kept
-kept_unless NoMemory S K kept = kept
-kept_unless (Instance number at) S K kept = kept
-kept_unless (Solution number at) S K kept = kept
-kept_unless (Barred number at) S K kept = kept
-kept_unless (Journal number at) S K kept = kept
-kept_unless (Opening text) S K kept = kept
-kept_unless (CannotRead name) S K kept = kept
-kept_unless (TooLong name) S K kept = kept
-kept_unless (Words text) S K kept = kept
-kept_unless WordsNotText S K kept = kept
-kept_unless TooManyScripts S K kept = kept
-kept_unless NoThread S K kept = kept
-kept_unless NoPlace S K kept = kept
-kept_unless BadSeats S K kept = kept
-kept_unless (MinutesExist name) S K kept = kept
-
+-- what is so of files that are kept, and of the cause of the others, may be said otherwise
 pub kept_weaker : (fault : Fault) (S R K L : Type 0) → (S → R) → (K → L) → KeptUnless fault S K → KeptUnless fault R L
 kept_weaker fault S R K L more kept is = unwritten_more fault (K ⊎ S) K (L ⊎ R) L (λ either. ⊎_elim (λ same. inl (kept same)) (λ stored. inr (more stored)) either) kept is

@@ -29,7 +29,7 @@ left_in problem journal start held entries lectures fault is_journal is_start (i
 -- why minutes are not printed, by their file
 pub minutes_in : (problem : Problem) (minutes : String Global) (held : Held) (text : List ℕ) (fault : Fault) → Holds held minutes (λ bytes. text ≡ bytes) → IsNoMinutes problem text fault ⊎ (fault ≡ NoMemory)
     → IsOfMinutes minutes held problem fault
-minutes_in problem minutes held text fault told (inl no) = inr (text, told, no)
+minutes_in problem minutes held text fault told (inl met) = inr (text, told, met)
 minutes_in problem minutes held text fault told (inr memory) = inl (inr (inr memory))
 
 -- a seat that has a place is one of the seats

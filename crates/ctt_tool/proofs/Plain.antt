@@ -1,7 +1,7 @@
 -- The faults of texts, files and crews: none is of the words, nor of what is written.
-use Rattle.std.proofs.Common.{◌≡◌, ◌⊎◌, ⊎_elim, ◌∷◌, [], ◌∙◌, inl, inr, ap, sym, subst, refl, ℕ, List, arith, IfErr, IsErrAnd, Option, Some, None, Result, Ok, Err}
-use Rattle.std.proofs.lemmas.Option.{IfSome_then}
+use Rattle.std.proofs.Common.{◌≡◌, ◌⊎◌, ⊎_elim, ◌∷◌, [], ◌∙◌, inl, inr, sym, subst, ℕ, List, IfErr, IfSome, IsErrAnd, Option, Some, None, Result, Ok, Err}
 use Rattle.std.specs.Global.{Global}
+use Rattle.std.specs.String.{string_bytes}
 use Rattle.std.specs.declared.string.String.{String}
 use Rattle.ctt_text.specs.Problem.{Problem}
 use Rattle.ctt_text.specs.declared.fault.BarredFault.{BarredFault}
@@ -13,7 +13,7 @@ use Rattle.ctt_text.specs.declared.fault.SolutionFault.TheVariants as solution
 use Rattle.ctt_edits.specs.declared.fault.EditFault.{EditFault}
 use Rattle.ctt_script.specs.declared.journal_fault.JournalFault.{JournalFault}
 use Rattle.ctt_script.specs.declared.journal_fault.JournalFault.TheVariants as journal
-use Rattle.ctt_tool.specs.Faults.{IfUnwritten, IsOpeningFault, fault_of_barred, fault_of_instance, fault_of_journal, fault_of_solution, status_of}
+use Rattle.ctt_tool.specs.Faults.{IfUnwritten, IsOpeningFault, fault_of_barred, fault_of_instance, fault_of_journal, fault_of_solution}
 use Rattle.ctt_tool.specs.Refusals.{IsNoText, IsOfAudited, IsOfBarred, IsOfFile, IsOfFiles, IsOfInstance, IsOfInstanceIn, IsOfInstanceOr, IsOfJournal, IsOfMinutes, IsOfOpening, IsOfScript, IsOfScripts, IsOfSeats, IsOfSolution, IsOfStart, IsOfText, IsOfWork, IsUnread}
 use Rattle.ctt_tool.specs.Texts.{Held, Holds, IsInstanceIn}
 use Rattle.ctt_tool.specs.declared.fault.Fault.{Fault}
@@ -45,24 +45,6 @@ plain_written NoThread P Q plain q = q
 plain_written NoPlace P Q plain q = q
 plain_written BadSeats P Q plain q = absurd plain
 plain_written (MinutesExist name) P Q plain q = q
-
-pub plain_two : {C : Type 0} (fault : Fault) → IsPlain fault → status_of fault ≡ 2 → C
-plain_two (Instance number at) plain two = absurd (omega (arith, two))
-plain_two (Solution number at) plain two = absurd (omega (arith, two))
-plain_two (Barred number at) plain two = absurd (omega (arith, two))
-plain_two (Journal number at) plain two = absurd (omega (arith, two))
-plain_two (Opening text) plain two = absurd (omega (arith, two))
-plain_two (CannotRead name) plain two = absurd (omega (arith, two))
-plain_two (TooLong name) plain two = absurd (omega (arith, two))
-plain_two CannotWrite plain two = absurd plain
-plain_two NoMemory plain two = absurd (omega (arith, two))
-plain_two (Words text) plain two = absurd plain
-plain_two WordsNotText plain two = absurd plain
-plain_two TooManyScripts plain two = absurd plain
-plain_two NoThread plain two = absurd (omega (arith, two))
-plain_two NoPlace plain two = absurd (omega (arith, two))
-plain_two BadSeats plain two = absurd plain
-plain_two (MinutesExist name) plain two = absurd (omega (arith, two))
 
 pub unwritten_more : (fault : Fault) (P Q R S : Type 0) → (P → R) → (Q → S) → IfUnwritten fault P Q → IfUnwritten fault R S
 unwritten_more (Instance number at) P Q R S p q is = q is
@@ -126,11 +108,11 @@ file_plain held name fault is = ⊎_elim (λ same. subst IsPlain (sym same) tt) 
 
 module _ {E : Type 0} (told : E → Fault) (Meets : List ℕ → E → Type 0) (IsNone : List ℕ → Type 0) (is_plain : (met : E) → IsPlain (told met)) where
   text_plain : (text : List ℕ) (fault : Fault) → IsNoText told Meets IsNone text fault → IsPlain fault
-  text_plain text fault no = subst IsPlain (sym no.is) (is_plain no.met)
+  text_plain text fault none = subst IsPlain (sym none.is) (is_plain none.met)
 
   file_text_plain : (held : Held) (name : String Global) (fault : Fault) → IsOfText (IsNoText told Meets IsNone) held name fault → IsPlain fault
   file_text_plain held name fault (inl file) = file_plain held name fault file
-  file_text_plain held name fault (inr no) = text_plain no.0 fault no.2
+  file_text_plain held name fault (inr none) = text_plain none.0 fault none.2
 
 instance_file_plain : (held : Held) (name : String Global) (fault : Fault) → IsOfInstance held name fault → IsPlain fault
 instance_file_plain held name fault is = file_text_plain fault_of_instance _ _ instance_plain held name fault is
@@ -162,7 +144,7 @@ script_plain script start held problem fault (inr (inl opens)) = opening_plain s
 script_plain script start held problem fault (inr (inr (lectures, is_start, (opened, opens, (same, long))))) = subst IsPlain (sym same) tt
 
 pub audited_plain : (journal : String Global) (start : Option (String Global)) (held : Held) (problem : Problem) (fault : Fault) → IsOfAudited journal start held problem fault → IsPlain fault
-audited_plain journal start held problem fault is = ⊎_elim (λ no. journal_file_plain journal held problem fault no) (λ opens. opening_plain start held problem fault opens.2) is
+audited_plain journal start held problem fault is = ⊎_elim (λ none. journal_file_plain journal held problem fault none) (λ opens. opening_plain start held problem fault opens.2) is
 
 files_plain : (names : List (String Global)) (held : Held) (fault : Fault) → IsOfFiles names held fault → IsPlain fault
 files_plain [] held fault is = subst IsPlain (sym is) tt
@@ -188,12 +170,12 @@ seats_plain seats start held problem fault is =
     ⊎_elim (λ opens. opening_plain start held problem fault opens) (λ other. ⊎_elim (λ work. work_plain fault work) (λ unread. unread_plain seats fault unread) other) is
 
 pub instance_in_plain : (held : Held) (instance : String Global) (barred : Option (String Global)) (fault : Fault) → IsOfInstanceIn held instance barred fault → IsPlain fault
-instance_in_plain held instance barred fault is = ⊎_elim (λ no. instance_file_plain held instance fault no) (λ bars. barred_file_plain held bars.0 barred fault bars.2) is
+instance_in_plain held instance barred fault is = ⊎_elim (λ none. instance_file_plain held instance fault none) (λ bars. barred_file_plain held bars.0 barred fault bars.2) is
 
 -- what is said of all that may lie behind an instance
 pub behind_plain : (IsOther : Held → Problem → Fault → Type 0) → ((held : Held) (problem : Problem) (fault : Fault) → IsOther held problem fault → IsPlain fault)
     → (held : Held) (instance : String Global) (barred : Option (String Global)) (fault : Fault) → IsOfInstanceOr IsOther held instance barred fault → IsPlain fault
-behind_plain IsOther other held instance barred fault is = ⊎_elim (λ no. instance_in_plain held instance barred fault no) (λ behind. other held behind.0 fault behind.2) is
+behind_plain IsOther other held instance barred fault is = ⊎_elim (λ none. instance_in_plain held instance barred fault none) (λ behind. other held behind.0 fault behind.2) is
 
 -- ---- faults that are passed on
 
@@ -202,11 +184,16 @@ pub behind_instance : (IsOther : Held → Problem → Fault → Type 0) (held la
     → IsInstanceIn held instance barred problem → later ≡ held → IsOther later problem fault → IsOfInstanceOr IsOther held instance barred fault
 behind_instance IsOther held later instance barred problem fault is same other = inr (problem, is, subst (λ (known : Held). IsOther known problem fault) same other)
 
+-- the bytes that were read are what the file tells
+pub told_of : (held : Option (List ℕ)) (bytes items : List ℕ) → bytes ≡ items → IfSome held (λ text. items ≡ text) → IfSome held (λ text. bytes ≡ text)
+told_of None bytes items same all = tt
+told_of (Some text) bytes items same all = same ∙ all
+
 -- a text that reading refused is that of the file
 pub of_text : {T E : Type 0} (r : Result T Fault) (told : E → Fault) (met : E) (IsNo : List ℕ → Fault → Type 0) (held : Held) (name : String Global) (bytes items : List ℕ)
     → IsErrAnd r (λ fault. fault ≡ told met) → ((fault : Fault) → fault ≡ told met → IsNo bytes fault) → bytes ≡ items → Holds held name (λ text. items ≡ text) → IfErr r (λ fault. IsOfText IsNo held name fault)
-of_text (Ok x) told met IsNo held name bytes items gives no copied all = tt
-of_text (Err fault) told met IsNo held name bytes items gives no copied all = inr (bytes, IfSome_then _ all (λ text same. copied ∙ same), no fault gives)
+of_text (Ok x) told met IsNo held name bytes items gives none copied all = tt
+of_text (Err fault) told met IsNo held name bytes items gives none copied all = inr (bytes, told_of (held (string_bytes name)) bytes items copied all, none fault gives)
 
 pub passed_plain : {T : Type 0} (r : Result T Fault) (fault : Fault) (P U : Type 0) (Q : Fault → Type 0) → IsErrAnd r (λ told. told ≡ fault) → IsPlain fault → Q fault → U → IfErr r (λ told. IfUnwritten told P (Q told × U))
 passed_plain (Ok x) fault P U Q same plain q u = tt

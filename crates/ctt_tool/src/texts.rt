@@ -31,6 +31,7 @@ fn bar_rooms<F: Files>(
     barred: Option<String>,
 ) -> Result<(), Fault>
     ensures barred { OnOk result (IsBarredBy (F.held files.old) barred instance.old instance.new) }
+    ensures same { IfErr result (λ _. instance.new ≡ instance.old) }
     ensures kept { F.held files.new ≡ F.held files.old }
     ensures cause { IfErr result (IsOfBarred (F.held files.old) instance.old barred) }
 {

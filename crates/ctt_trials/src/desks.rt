@@ -9,6 +9,7 @@ ghost use Rattle.ctt_core.specs.Runs.{EventFits};
 ghost use Rattle.ctt_script.specs.Entries.{IsShort};
 
 use crate::faults::of_journal;
+use crate::lists::add;
 use crate::sheets::lectures_fit;
 use crate::story::Story;
 use ctt_board::Sheet;
@@ -148,26 +149,38 @@ fn event_fits<'i, S: Sheet<'i>>(desk: &Desk<'i, S, KeepAll>, event: &Event) -> b
     event.fits(desk.instance(), desk.planners())
 }
 
+/// What a desk answers to an event of it.
+fn step_once<'i, S: Sheet<'i>>(desk: &mut Desk<'i, S, KeepAll>, event: &Event) -> Answer {
+    if !event_fits(desk, event) {
+        return Answer::NoMemory;
+    }
+    desk.step(*event)
+}
+
 /// What a desk answers to an event. Where that is want of memory, it is asked again.
 fn answer<'i, S: Sheet<'i>>(
     story: &mut Story,
     desk: &mut Desk<'i, S, KeepAll>,
     event: &Event,
 ) -> Answer {
-    if !event_fits(desk, event) {
-        return Answer::NoMemory;
-    }
-    match desk.step(*event) {
+    match step_once(desk, event) {
         Answer::NoMemory => {
             story.call_again();
-            if event_fits(desk, event) {
-                desk.step(*event)
-            } else {
-                Answer::NoMemory
-            }
+            step_once(desk, event)
         }
         answer => answer,
     }
+}
+
+/// Tells what a desk answers to an event.
+fn tell_answer<'i, S: Sheet<'i>>(
+    story: &mut Story,
+    small: &'i Instance,
+    desk: &mut Desk<'i, S, KeepAll>,
+    event: &Event,
+) {
+    let answer = answer(story, desk, event);
+    story.answer(small, &answer);
 }
 
 /// Answers a script line by line.
@@ -179,10 +192,7 @@ fn answer_lines<'i, S: Sheet<'i>>(
 ) {
     for line in Lines::new(script.as_bytes()) {
         match read_line(small, line) {
-            Some(event) => {
-                let answer = answer(story, desk, &event);
-                story.answer(small, &answer);
-            }
+            Some(event) => tell_answer(story, small, desk, &event),
             None if line.is_empty() => {}
             None => story.say("bad line"),
         }
@@ -206,38 +216,70 @@ pub(crate) fn step<'i, S: Sheet<'i>>(
     end
 }
 
-/// The events of a script, with none for a bad line.
-fn events_of(alloc: Global, small: &Instance, script: &str) -> Result<Vec<Event>, AllocError> {
-    let mut events = Vec::with_capacity(alloc, EVENTS)?;
-    for line in Lines::new(script.as_bytes()) {
-        if let Some(event) = read_line(small, line) {
-            if events.push(event).is_err() {
-                return Err(AllocError);
-            }
-        }
-    }
-    Ok(events)
+/// What a line of a script asks for.
+trait OfLine: Drop {
+    /// None for a bad line.
+    fn of_line(small: &Instance, line: &[u8]) -> Option<Self>;
 }
 
-/// What a desk answers to events at once.
+impl OfLine for Event {
+    fn of_line(small: &Instance, line: &[u8]) -> Option<Self> {
+        read_line(small, line)
+    }
+}
+
+/// What the lines of a script ask for, with nothing for a bad line.
+fn asked_in<T: OfLine>(
+    alloc: Global,
+    small: &Instance,
+    script: &str,
+) -> Result<Vec<T>, AllocError> {
+    let mut list = Vec::with_capacity(alloc, EVENTS)?;
+    for line in Lines::new(script.as_bytes()) {
+        if let Some(one) = T::of_line(small, line) {
+            add(&mut list, one)?;
+        }
+    }
+    Ok(list)
+}
+
+/// Whether a desk of the instance with so many planners can be asked to answer these events.
+fn all_fit(events: &[Event], instance: &Instance, planners: u16) -> bool
+    ensures { IsTrue result ↔ Each (EventFits instance.now planners) events.now }
+{
+    events.iter().all(|event| event.fits(instance, planners))
+}
+
+/// Whether events are some of a desk.
+fn events_fit<'i, S: Sheet<'i>>(desk: &Desk<'i, S, KeepAll>, events: &[Event]) -> bool
+    ensures { IsTrue result ↔ Each (EventFits desk.now.problem (length desk.now.drafts)) events.now }
+{
+    all_fit(events, desk.instance(), desk.planners())
+}
+
+/// What a desk answers to events of it at once.
+fn run_once<'i, S: Sheet<'i>>(
+    desk: &mut Desk<'i, S, KeepAll>,
+    events: &[Event],
+) -> Result<Vec<Answer>, NoMemory> {
+    if !events_fit(desk, events) {
+        return Err(NoMemory);
+    }
+    desk.run(events)
+}
+
+/// What a desk answers to events at once. Where that is want of memory, it is asked again.
 fn answers<'i, S: Sheet<'i>>(
     story: &mut Story,
     desk: &mut Desk<'i, S, KeepAll>,
     events: &[Event],
 ) -> Result<Vec<Answer>, NoMemory> {
-    if !desk.takes(events) {
-        return Err(NoMemory);
-    }
-    match desk.run(events) {
+    match run_once(desk, events) {
+        Ok(answers) => Ok(answers),
         Err(NoMemory) => {
             story.call_again();
-            if desk.takes(events) {
-                desk.run(events)
-            } else {
-                Err(NoMemory)
-            }
+            run_once(desk, events)
         }
-        told => told,
     }
 }
 
@@ -248,27 +290,50 @@ fn is_wanting(answers: &[Answer]) -> bool {
         .any(|answer| matches!(answer, Answer::NoMemory))
 }
 
-/// Plays a script at once. Where an event wanted memory, the events behind it met another desk than they should.
+/// Tells what a desk answered to events at once, and what it is left with, unless an event wanted memory: then those behind
+/// it met another desk than they should.
+fn tell_run<'i, S: Sheet<'i>>(
+    story: &mut Story,
+    small: &'i Instance,
+    opening: &[Placed],
+    desk: &Desk<'i, S, KeepAll>,
+    answers: &[Answer],
+) {
+    if is_wanting(answers) {
+        return story.no_memory();
+    }
+    for answer in answers {
+        story.answer(small, answer);
+    }
+    tell_desk(story, small, opening, desk);
+}
+
+/// Plays events at once.
+fn run_events<'i, S: Sheet<'i>>(
+    story: &mut Story,
+    small: &'i Instance,
+    opening: &[Placed],
+    events: &[Event],
+) {
+    let Some(mut desk) = desk_with::<S>(story, small, opening) else {
+        return;
+    };
+    match answers(story, &mut desk, events) {
+        Ok(answers) => tell_run(story, small, opening, &desk, &answers),
+        Err(NoMemory) => story.no_memory(),
+    }
+    let_go(desk);
+}
+
+/// Plays a script at once.
 pub(crate) fn run<'i, S: Sheet<'i>>(
     story: &mut Story,
     small: &'i Instance,
     opening: &[Placed],
     script: &str,
 ) {
-    let Ok(events) = events_of(story.alloc(), small, script) else {
-        return story.no_memory();
-    };
-    let Some(mut desk) = desk_with::<S>(story, small, opening) else {
-        return;
-    };
-    match answers(story, &mut desk, &events) {
-        Ok(answers) if !is_wanting(&answers) => {
-            for answer in &answers {
-                story.answer(small, answer);
-            }
-            tell_desk(story, small, opening, &desk);
-        }
-        _ => story.no_memory(),
+    match asked_in::<Event>(story.alloc(), small, script) {
+        Ok(events) => run_events::<S>(story, small, opening, &events),
+        Err(AllocError) => story.no_memory(),
     }
-    let_go(desk);
 }

@@ -34,22 +34,32 @@ fn call_fits<'i, S: Sheet<'i>>(draft: &Draft<'i, S, KeepAll>, call: &Call) -> bo
     call.fits(draft.instance())
 }
 
-/// What a draft answers to a call.
+/// What a draft answers to a call of its instance.
+fn ask_once<'i, S: Sheet<'i>>(
+    draft: &mut Draft<'i, S, KeepAll>,
+    call: &Call,
+) -> Result<Reply, NoMemory>
+    ensures { draft.new.problem ≡ draft.old.problem }
+{
+    if !call_fits(draft, call) {
+        return Err(NoMemory);
+    }
+    draft.call(*call)
+}
+
+/// What a draft answers to a call. Where that is want of memory, it is asked again.
 fn ask<'i, S: Sheet<'i>>(
     story: &mut Story,
     draft: &mut Draft<'i, S, KeepAll>,
-    call: Call,
+    call: &Call,
 ) -> Option<Reply>
     ensures { draft.new.problem ≡ draft.old.problem }
 {
-    if !call_fits(draft, &call) {
-        return None;
-    }
-    match draft.call(call) {
+    match ask_once(draft, call) {
         Ok(reply) => Some(reply),
         Err(NoMemory) => {
             story.call_again();
-            draft.call(call).ok()
+            ask_once(draft, call).ok()
         }
     }
 }
@@ -60,7 +70,7 @@ fn ask_line<'i, S: Sheet<'i>>(story: &mut Story, draft: &mut Draft<'i, S, KeepAl
 {
     let small = draft.instance();
     match call_of(small, line) {
-        Some(call) => match ask(story, draft, call) {
+        Some(call) => match ask(story, draft, &call) {
             Some(reply) => story.answer(small, &Answer::Replied(reply)),
             None => story.no_memory(),
         },
@@ -143,7 +153,7 @@ fn long_draft<'i, S: Sheet<'i>>(story: &mut Story, sheet: &mut S) {
         };
         let call = call_of(draft.instance(), line);
         if let Some(call) = call {
-            if matches!(ask(story, &mut draft, call), Some(Reply::Done)) {
+            if matches!(ask(story, &mut draft, &call), Some(Reply::Done)) {
                 done = done.saturating_add(1);
             }
         }

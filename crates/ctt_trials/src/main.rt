@@ -22,6 +22,7 @@ mod desks;
 mod devices;
 mod drafts;
 mod faults;
+mod lists;
 mod reports;
 mod scripts;
 mod seats;

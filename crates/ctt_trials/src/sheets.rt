@@ -25,7 +25,7 @@ fn geo() -> Placed {
 /// The call that a line asks for.
 pub(crate) fn call_of(small: &Instance, line: &str) -> Option<Call> {
     match read_own_line(small, PlannerNo::new(0), line.as_bytes()) {
-        Some(Event::Ask(_planner, call)) => Some(call),
+        Some(Event::Ask(_, call)) => Some(call),
         _ => None,
     }
 }

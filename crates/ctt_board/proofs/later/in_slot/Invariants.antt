@@ -5,6 +5,6 @@ use Rattle.ctt_board.proofs.later.in_slot.Given as goal
 
 abbrev pub invariant-loop-lecture : goal.invariant-loop-lecture
 invariant-loop-lecture l = record {
-  so_far : l.count ≡ count_by (in_slot (members l.instance l.part) l.slot) (take l.lecture-index l.lectures);
+  so_far : l.count ≡ count_by (in_slot (members l.instance l.curriculum) l.slot) (take l.lecture-index l.lectures);
   few : l.count ≤ l.lecture-index;
 }

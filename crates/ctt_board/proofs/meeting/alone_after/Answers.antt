@@ -2,7 +2,7 @@ use Rattle.std.proofs.Common.{◌≡◌, ◌<◌, ◌+◌, ℕ, cond, ltb, ◌�
 use Rattle.std.proofs.lemmas.Bool.{lt-ltb}
 use Rattle.ctt_text.specs.Problem.{period_of}
 use Rattle.ctt_board.specs.Joining.{count_after}
-use Rattle.ctt_board.specs.Seen.{seen_part}
+use Rattle.ctt_board.specs.Seen.{seen_curriculum}
 use Rattle.ctt_board.proofs.MeetingLemmas.{some_after, alone_after_is}
 use Rattle.ctt_board.proofs.SlotFacts.{period_after}
 use Rattle.ctt_board.proofs.meeting.alone_after.Goals as goal
@@ -11,7 +11,7 @@ pub after-requires-clause-period : goal.after-requires-clause-period
 after-requires-clause-period c =
     let i = c.args.instance.now in
     let s = c.args.slot in
-    let f : ℕ → ℕ = seen_part i c.args.later.now c.args.part in
+    let f : ℕ → ℕ = seen_curriculum i c.args.later.now c.args.curriculum in
     let some : 0 < c.args.count = omega (arith, c.if-count-eq0.false) in
     let there = some_after i f s c.requires.own c.args.count c.requires.count some in
     let beside : c.new-next.result ≡ c.args.slot + 1 = omega (arith, c.new-next.ensures, c.get.ensures) in
@@ -21,7 +21,7 @@ pub returns-then-after-gt0-clause-value : goal.returns-then-after-gt0-clause-val
 returns-then-after-gt0-clause-value c =
     let i = c.args.instance.now in
     let s = c.args.slot in
-    let f : ℕ → ℕ = seen_part i c.args.later.now c.args.part in
+    let f : ℕ → ℕ = seen_curriculum i c.args.later.now c.args.curriculum in
     let n = c.args.count in
     let m = c.after.result in
     let some : 0 < n = omega (arith, c.if-count-eq0.false) in
@@ -32,7 +32,7 @@ pub returns-else-after-gt0-clause-value : goal.returns-else-after-gt0-clause-val
 returns-else-after-gt0-clause-value c =
     let i = c.args.instance.now in
     let s = c.args.slot in
-    let f : ℕ → ℕ = seen_part i c.args.later.now c.args.part in
+    let f : ℕ → ℕ = seen_curriculum i c.args.later.now c.args.curriculum in
     let n = c.args.count in
     let m = c.after.result in
     let some : 0 < n = omega (arith, c.if-count-eq0.false) in

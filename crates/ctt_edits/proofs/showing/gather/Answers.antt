@@ -22,7 +22,7 @@ loop-number-preserved g c =
     let same : c.new.result ≡ last = search rules in
     let within : last < end = part_within p c.loop-number.from end last c.in-Some.ensures in (
       part_more p c.loop-number.from end last t c.loop-number.list.items (course_row c.new.result t) c.append_course_row.new.list.items
-          c.lawful.ensures.timetable.ascending c.in-Some.ensures c.loop-number.invariant.0 (ap (λ n. course_row n t) same) c.in_ok-append_course_row.ensures,
+          c.lawful.ensures.timetable.ascending c.in-Some.ensures c.loop-number.invariant.0 (ap (λ n. course_row n t) same) c.in_ok-append_course_row.ensures.row,
       omega (arith, within, c.courses-end.ensures.exact, ap course_count c.instance.ensures),
     )
 

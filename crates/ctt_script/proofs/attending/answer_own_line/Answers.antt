@@ -1,9 +1,7 @@
-use Rattle.std.proofs.Common.{rules, ◌≡◌, ◌++◌, ℕ, ◌+◌, ◌<◌, List, Option, Some, None, arith, refl, sym, subst, string_bytes}
-use Rattle.std.specs.Prelude.{IfOk, IfSome}
+use Rattle.std.proofs.Common.{rules, ◌≡◌, ℕ, ◌+◌, ◌<◌, Some, None, arith, sym, subst}
+use Rattle.std.specs.Prelude.{IfSome}
 use Rattle.ctt_core.specs.Runs.{EventFits}
 use Rattle.ctt_script.specs.CrewText.{call_in}
-use Rattle.ctt_script.specs.Seats.{AnswersLine, Takes}
-use Rattle.ctt_script.proofs.CrewLemmas.{kept_so}
 use Rattle.ctt_script.proofs.attending.answer_own_line.Goals as goal
 
 pub take-seat-requires : goal.take-seat-requires

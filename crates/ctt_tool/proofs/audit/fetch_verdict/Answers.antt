@@ -5,8 +5,9 @@ use Rattle.std.specs.String.{string_bytes}
 use Rattle.ctt_text.specs.Timetable.{Fits}
 use Rattle.ctt_tool.specs.Refusals.{IsOfAudited, IsOfStart}
 use Rattle.ctt_tool.specs.Texts.{Held, Holds, IsStart}
-use Rattle.ctt_tool.proofs.Audited.{finds_in, finds_fit, journal_in, told_of}
+use Rattle.ctt_tool.proofs.Audited.{finds_in, finds_fit, journal_in}
 use Rattle.ctt_tool.proofs.Known.{passed_on}
+use Rattle.ctt_tool.proofs.Plain.{told_of}
 use Rattle.ctt_tool.proofs.audit.fetch_verdict.Goals as goal
 
 pub verdict_of-requires : goal.verdict_of-requires
@@ -37,7 +38,7 @@ returns-in-Ok-clause-cause g c =
     let held = g.F.Files.held c.args.files.now in
     let bytes = c.deref-in-Ok.result.now in
     let told : Holds held c.args.journal (λ text. bytes ≡ text) = told_of (held (string_bytes c.args.journal)) bytes c.in_ok-text.text.items c.deref-in-Ok.ensures.value c.in_ok-text.ensures.all in
-    IfErr-weaker c.verdict_of.result _ _ (λ fault no. inl (inr (bytes, told, no))) c.verdict_of.ensures.cause
+    IfErr-weaker c.verdict_of.result _ _ (λ fault none. inl (inr (bytes, told, none))) c.verdict_of.ensures.cause
 
 pub returns-in_err-check_journal-in-Err-clause-cause : goal.returns-in_err-check_journal-in-Err-clause-cause
 returns-in_err-check_journal-in-Err-clause-cause g c =
@@ -47,8 +48,8 @@ returns-in_err-check_journal-in-Err-clause-cause g c =
     passed_on c.from_residual-in_err-check_journal-in-Err.result c.in_err-check_journal-in-Err.field-0.0 (IsOfAudited c.args.journal c.args.start held c.args.instance.now) c.from_residual-in_err-check_journal-in-Err.ensures.1
     (inl (inr (bytes, told, c.in_err-check_journal-in-Err.ensures.cause)))
 
-pub returns-in-Err-clause-cause : goal.returns-in-Err-clause-cause
-returns-in-Err-clause-cause g c =
+pub returns-clause-cause : goal.returns-clause-cause
+returns-clause-cause g c =
     let held = g.F.Files.held c.args.files.now in
     let bytes = c.deref-in-Err.result.now in
     let told : Holds held c.args.journal (λ text. bytes ≡ text) = told_of (held (string_bytes c.args.journal)) bytes c.in_ok-text.text.items c.deref-in-Err.ensures.value c.in_ok-text.ensures.all in

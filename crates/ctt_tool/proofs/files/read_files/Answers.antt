@@ -3,8 +3,9 @@ use Rattle.std.specs.String.{string_bytes}
 use Rattle.std.specs.Vec.Iter.{into_iter_items, into_iter_len}
 use Rattle.ctt_tool.specs.Refusals.{IsOfFile, IsOfFiles}
 use Rattle.ctt_tool.specs.Texts.{Held}
+use Rattle.ctt_tool.specs.declared.fault.Fault.TheVariants.{NoMemory}
 use Rattle.ctt_tool.proofs.Known.{passed_on}
-use Rattle.ctt_tool.proofs.Scripts.{IsRead, all_counted, all_read, next_is_among, none_read, one_more_read}
+use Rattle.ctt_tool.proofs.Scripts.{IsRead, all_counted, all_read, memory_of_files, next_is_among, none_read, one_more_read}
 use Rattle.ctt_tool.proofs.files.read_files.Goals as goal
 
 pub loop-name-init : goal.loop-name-init
@@ -46,3 +47,13 @@ returns-clause-each g c =
     let count : into_iter_len c.loop-name.name-iterator ≡ 0 = search rules in
     let none : length (into_iter_items c.loop-name.name-iterator) ≡ 0 = sym c.loop-name.name-iterator.rest.ok.0 ∙ count in
     all_counted _ (g.F.Files.held c.args.files.now) c.args.names.items _ c.loop-name.texts.items none c.loop-name.invariant.read
+
+pub returns-in_err-texts-clause-cause : goal.returns-in_err-texts-clause-cause
+returns-in_err-texts-clause-cause g c =
+    let held : Held = g.F.Files.held c.args.files.now in
+    passed_on c.from_residual.result NoMemory (IsOfFiles c.args.names.items held) c.from_residual.ensures.1 (memory_of_files c.args.names.items held)
+
+pub returns-in_err-push-clause-cause : goal.returns-in_err-push-clause-cause
+returns-in_err-push-clause-cause g c =
+    let held : Held = g.F.Files.held c.args.files.now in
+    passed_on c.from_residual-in_err-push.result NoMemory (IsOfFiles c.args.names.items held) c.from_residual-in_err-push.ensures.1 (memory_of_files c.args.names.items held)

@@ -1,4 +1,4 @@
-use Rattle.std.proofs.Common.{◌≡◌, ◌⊎◌, inl, inr, ap, subst, sym, true, IfErr}
+use Rattle.std.proofs.Common.{◌≡◌, ◌⊎◌, inl, ap, subst, sym, true, IfErr}
 use Rattle.std.proofs.lemmas.Result.{IfErr-weaker}
 use Rattle.ctt_tool.specs.Faults.{IfUnwritten}
 use Rattle.ctt_tool.specs.Jobs.{Storing}

@@ -20,7 +20,7 @@ returns c =
       days = (b.rows.0 ∙ courses, b.rows.1 ∙ c.days.ensures.exact);
       used = (d.rows.0, d.rows.1 ∙ courses);
       rooms = (e.rows.0 ∙ courses, e.rows.1 ∙ c.rooms.ensures.exact);
-      parts = (f.rows.0 ∙ curricula, f.rows.1 ∙ slots);
+      curricula = (f.rows.0 ∙ curricula, f.rows.1 ∙ slots);
     })
     (λ r k lr lk. a.cells r k lr (omega (arith, lk, courses)))
     (λ r k lr lk. b.cells r k (omega (arith, lr, courses)) (omega (arith, lk, c.days.ensures.exact)))

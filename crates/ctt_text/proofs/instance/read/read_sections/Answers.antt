@@ -1,5 +1,4 @@
 use Rattle.std.proofs.Common.{◌∙◌, Ok, ap, subst, sym, codes}
-use Rattle.std.proofs.lemmas.Result.{err_from_is_err_and}
 use Rattle.ctt_text.specs.Forms.{times}
 use Rattle.ctt_text.specs.Places.{after}
 use Rattle.ctt_text.specs.Reading.{Fails, reading}
