@@ -6,3 +6,4 @@ mod NextLemmas
 mod PagesLemmas
 mod PartLemmas
 mod RecoveryLemmas
+mod SittingLemmas

@@ -3,3 +3,4 @@ pub mod Lines
 pub mod Pages
 pub mod Recovery
 pub mod SeatText
+pub mod Sittings

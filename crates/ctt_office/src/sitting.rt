@@ -1,8 +1,10 @@
 //! A planner at a seat: his lines, each answered before the next one is read.
 
-ghost use Rattle.std.specs.Prelude.{◌≡◌, ℕ, IfOk, OnOk};
+ghost use Rattle.std.specs.Prelude.{◌≡◌, ℕ, IfErr, IfOk, OnOk};
 ghost use Rattle.std.specs.Io.KnownBytes.{Appends};
+ghost use Rattle.ctt_office.specs.Lines.{Gives, coming};
 ghost use Rattle.ctt_office.specs.SeatText.{IsAnswerTo, LineFits, Tells};
+ghost use Rattle.ctt_office.specs.Sittings.{EndsAt, IsBroken, IsSat, asked_by};
 
 use crate::answering::answer;
 use crate::book::Book;
@@ -22,9 +24,13 @@ use std::sync::Wait;
 
 /// Why a seat has ended.
 #[derive(Clone, Copy, PartialEq, Eq)]
-enum Ending {
-    /// The planner left, or his lines ended, or one of his devices failed.
-    Gone,
+pub(crate) enum Ending {
+    /// The planner left.
+    Left,
+    /// His lines ended.
+    Ended,
+    /// One of his devices failed.
+    Broken,
     /// No memory was left for a line or its answer.
     NoMemory,
 }
@@ -59,12 +65,15 @@ fn next_line<I: Source, R: Wait>(
     planner: PlannerNo,
     lines: &mut LineReader<I>,
 ) -> Result<SeatLine, Ending>
-    ensures { IfOk result (LineFits instance.now planner) }
+    ensures fits { IfOk result (LineFits instance.now planner) }
+    ensures asked { IfOk result (λ line. Gives (λ bytes. line ≡ asked_by instance.now planner bytes) (coming lines.old) (coming lines.new)) }
+    ensures end { IfErr result (EndsAt (coming lines.old)) }
 {
     match lines.next(rt) {
         Ok(Next::Line) => Ok(read_seat_line(instance, planner, lines.line())),
         Ok(Next::TooLong) => Ok(SeatLine::Bad),
-        Ok(Next::End) | Err(InputFault::Read) => Err(Ending::Gone),
+        Ok(Next::End) => Err(Ending::Ended),
+        Err(InputFault::Read) => Err(Ending::Broken),
         Err(InputFault::TooLong | InputFault::NoMemory) => Err(Ending::NoMemory),
     }
 }
@@ -83,7 +92,8 @@ fn serve<'i, S: Sheet<'i>, J: Naming, W: Durable, O: Sink, R: Wait>(
 ) -> (Seat<'i, S, J>, Result<(), Ending>)
     requires same { J.problem ≡ instance.now }
     requires fits { (p : ℕ) × LineFits instance.now p line }
-    ensures { OnOk result.1 (Tells (IsAnswerTo instance.now line) (O.taken out.old) (O.taken out.new)) }
+    ensures told { OnOk result.1 (Tells (IsAnswerTo instance.now line) (O.taken out.old) (O.taken out.new)) }
+    ensures broken { IfErr result.1 IsBroken }
 {
     let mut text = String::new(alloc);
     let (seat, written) = answer(rt, alloc, desk, instance, book, seat, line, &mut text);
@@ -92,7 +102,7 @@ fn serve<'i, S: Sheet<'i>, J: Naming, W: Durable, O: Sink, R: Wait>(
     }
     match say(out, text.as_bytes()) {
         Ok(()) => (seat, Ok(())),
-        Err(_) => (seat, Err(Ending::Gone)),
+        Err(_) => (seat, Err(Ending::Broken)),
     }
 }
 
@@ -109,31 +119,31 @@ fn sit<'i, S: Sheet<'i>, J: Naming, W: Durable, I: Source + Drop, O: Sink, R: Wa
     out: &mut O,
 ) -> Ending
     requires { J.problem ≡ instance.now }
+    ensures { IsSat instance.now planner.entry.number (I.left input.entry) (O.taken out.old) (O.taken out.new) result }
 {
     let number = planner.number();
     let mut lines = LineReader::new(alloc, input);
     let mut seat: Seat<'i, S, J> = Seat::Free(planner);
-    let mut ending = Ending::Gone;
     for _ in rt.forever() {
         let line = match next_line(rt, instance, number, &mut lines) {
             Ok(line) => line,
             Err(why) => {
-                ending = why;
-                break;
+                let_go(seat);
+                return why;
             }
         };
         let (next, served) = serve(rt, alloc, desk, instance, book, seat, line, out);
         seat = next;
         if let Err(why) = served {
-            ending = why;
-            break;
+            let_go(seat);
+            return why;
         }
         if let SeatLine::Leave = line {
-            break;
+            let_go(seat);
+            return Ending::Left;
         }
     }
-    let_go(seat);
-    ending
+    unreachable!()
 }
 
 /// Opens the devices of a seat, and answers the planner's lines.
@@ -161,7 +171,7 @@ fn open_and_sit<'i, 'x, S: Sheet<'i>, J: Naming, D: Doors, W: Durable, R: Wait>(
         return Err(OfficeFault::CannotWrite(number));
     };
     match sit(rt, alloc, desk, instance, book, planner, input, &mut out) {
-        Ending::Gone => Ok(()),
+        Ending::Left | Ending::Ended | Ending::Broken => Ok(()),
         Ending::NoMemory => Err(OfficeFault::NoMemory),
     }
 }
