@@ -48,9 +48,16 @@ impl<'i, S: Timetable> Model for Stock<'i, S> {
 
     ghost Value = { StockValue };
 
-    ghost view = { λ s. record { problem = S.problem s.sheet; list = S.list s.sheet; log = s.log.items } };
+    ghost view = { λ s. record {
+        problem = S.problem s.sheet;
+        list = S.list s.sheet;
+        log = s.log.items;
+    } };
 
-    ghost invariant = { λ s. IsStock s.instance.now (record { problem = S.problem s.sheet; list = S.list s.sheet; log = s.log.items }) s.spares.items };
+    ghost invariant = { λ s.
+        IsStock s.instance.now
+        (record { problem = S.problem s.sheet; list = S.list s.sheet; log = s.log.items })
+        s.spares.items };
 }
 
 impl<'i, S: Sheet<'i>> Stock<'i, S> {

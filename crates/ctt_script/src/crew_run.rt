@@ -1,7 +1,6 @@
 //! A crew: planners on threads, each with a script of his own.
 
-ghost use Rattle.std.specs.Prelude.{◌≡◌, ◌⊎◌, ◌≤◌, ◌<◌, ◌+◌, ℕ, [], length, IfErr, IfOk, IsErrAnd, IsOkAnd, OnOk, ◌++◌, ◌∷◌, codes, map, string_bytes};
-ghost use Rattle.std.specs.Fmt.{decimal};
+ghost use Rattle.std.specs.Prelude.{◌≡◌, ◌⊎◌, ◌≤◌, ◌<◌, ◌+◌, [], length, IfErr, IfOk, IsErrAnd, IsOkAnd, OnOk, map, string_bytes};
 ghost use Rattle.ctt_rules.specs.declared.cost.Cost.{Cost};
 ghost use Rattle.ctt_desk.specs.Names.{IsNamed};
 ghost use Rattle.ctt_script.specs.CrewText.{IsCrewFault, IsCrewText, crew_text};

@@ -1,9 +1,9 @@
 //! A script as events on a desk that keeps its journal: one by one, and at once. What the desk leaves is told, and its
 //! journal is written, read and audited.
 
-ghost use Rattle.std.specs.Prelude.{◌≡◌, ◌↔◌, IsTrue, length};
+ghost use Rattle.std.specs.Prelude.{◌↔◌, IsTrue, length};
 ghost use Rattle.std.specs.List.{AllByRecursion as Each};
-ghost use Rattle.ctt_edits.specs.Fitting.{AreFew, IsShortReply};
+ghost use Rattle.ctt_edits.specs.Fitting.{IsShortReply};
 ghost use Rattle.ctt_core.specs.Entries.{EntryFits};
 ghost use Rattle.ctt_core.specs.Runs.{EventFits};
 ghost use Rattle.ctt_script.specs.Entries.{IsShort};
@@ -252,7 +252,8 @@ fn all_fit(events: &[Event], instance: &Instance, planners: u16) -> bool
 
 /// Whether events are some of a desk.
 fn events_fit<'i, S: Sheet<'i>>(desk: &Desk<'i, S, KeepAll>, events: &[Event]) -> bool
-    ensures { IsTrue result ↔ Each (EventFits desk.now.problem (length desk.now.drafts)) events.now }
+    ensures { IsTrue result
+        ↔ Each (EventFits desk.now.problem (length desk.now.drafts)) events.now }
 {
     all_fit(events, desk.instance(), desk.planners())
 }

@@ -1,7 +1,7 @@
 use Rattle.std.proofs.Common.{◌≡◌, ◌≤◌, ◌-◌, ◌++◌, None}
 use Rattle.ctt_board.specs.Tables.{at}
 use Rattle.ctt_board.specs.Grids.{column_below}
-use Rattle.ctt_board.proofs.grid_sheet.append_column.Given as goal
+use Rattle.ctt_board.proofs.grid_sheet.rows.append_column.Given as goal
 
 abbrev pub invariant-loop-number : goal.invariant-loop-number
 invariant-loop-number l = (l.list.items ≡ l.initial.list.items ++ column_below (λ c. at l.rooms c l.slot None) l.slot l.from) × (l.from ≤ l.rooms.rows)

@@ -6,7 +6,7 @@ use Rattle.std.proofs.lemmas.List.Sums.{sum_by-cons, count_by-le-length, length-
 use Rattle.ctt_text.specs.Lists.{has, Pairwise}
 use Rattle.ctt_text.specs.Timetable.{course_row}
 use Rattle.ctt_text.specs.declared.placed.Placed.{Placed}
-use Rattle.ctt_rules.specs.Penalty.{part_of}
+use Rattle.ctt_rules.specs.Penalty.{lectures_of}
 use Rattle.ctt_rules.specs.Neighbours.{busy}
 use Rattle.ctt_rules.proofs.SumLemmas.{count_by-cons}
 
@@ -43,12 +43,12 @@ any_filter_or a b p (x ∷ xs) = elim (cases_Bool (a x)) [
     right : (u v w : Bool) → (u || (v || w)) ≡ (v || (u || w))
     right u v w = grind arith
 
-none_of : (t : List Placed) → part_of [] t ≡ []
+none_of : (t : List Placed) → lectures_of [] t ≡ []
 none_of [] = refl
 none_of (x ∷ xs) = none_of xs
 
 -- the members by the tests of their rows
-member_first : (m : ℕ) (q : List ℕ) (t : List Placed) → part_of (m ∷ q) t ≡ filter (λ (l : Placed). (l.course == m) || has l.course q) t
+member_first : (m : ℕ) (q : List ℕ) (t : List Placed) → lectures_of (m ∷ q) t ≡ filter (λ (l : Placed). (l.course == m) || has l.course q) t
 member_first m q [] = refl
 member_first m q (x ∷ xs) = ap₂ (λ b ls. cond (b || has x.course q) (x ∷ ls) ls) (turn m x.course) (member_first m q xs)
   where
@@ -56,12 +56,12 @@ member_first m q (x ∷ xs) = ap₂ (λ b ls. cond (b || has x.course q) (x ∷ 
     turn a b = grind arith
 
 -- what some lecture of the members does, some lecture of one of them does
-pub any_part : (p : Placed → Bool) (q : List ℕ) (t : List Placed) → list_any (λ m. list_any p (course_row m t)) q ≡ list_any p (part_of q t)
-any_part p [] t = sym (ap (list_any p) (none_of t))
-any_part p (m ∷ q) t = ap (λ b. list_any p (course_row m t) || b) (any_part p q t) ∙ sym (ap (list_any p) (member_first m q t) ∙ any_filter_or (λ l. l.course == m) (λ l. has l.course q) p t)
+pub any_lecture : (p : Placed → Bool) (q : List ℕ) (t : List Placed) → list_any (λ m. list_any p (course_row m t)) q ≡ list_any p (lectures_of q t)
+any_lecture p [] t = sym (ap (list_any p) (none_of t))
+any_lecture p (m ∷ q) t = ap (λ b. list_any p (course_row m t) || b) (any_lecture p q t) ∙ sym (ap (list_any p) (member_first m q t) ∙ any_filter_or (λ l. l.course == m) (λ l. has l.course q) p t)
 
-pub busy_part : (q : List ℕ) (t : List Placed) (s : ℕ) → list_any (λ m. busy (course_row m t) s) q ≡ busy (part_of q t) s
-busy_part q t s = any_part (λ l. l.slot == s) q t
+pub busy_lectures : (q : List ℕ) (t : List Placed) (s : ℕ) → list_any (λ m. busy (course_row m t) s) q ≡ busy (lectures_of q t) s
+busy_lectures q t s = any_lecture (λ l. l.slot == s) q t
 
 absent : (m : ℕ) (q : List ℕ) → Each (λ d. (m == d) ≡ false) q → has m q ≡ false
 absent m [] h = refl
@@ -71,11 +71,11 @@ absent m (d ∷ q) h = ap₂ (λ a b. a || b) (turn d m ∙ h.0) (absent m q h.1
     turn a b = grind arith
 
 -- a count over the lectures of different courses, row by row
-pub count_part : (p : Placed → Bool) (q : List ℕ) (t : List Placed) → Pairwise (λ c d. (c == d) ≡ false) q → sum_by (λ m. count_by p (course_row m t)) q ≡ count_by p (part_of q t)
-count_part p [] t h = sym (ap (count_by p) (none_of t))
-count_part p (m ∷ q) t h =
-    sum_by-cons (λ m. count_by p (course_row m t)) m q ∙ ap (λ n. count_by p (course_row m t) + n) (count_part p q t h.1)
+pub count_lectures : (p : Placed → Bool) (q : List ℕ) (t : List Placed) → Pairwise (λ c d. (c == d) ≡ false) q → sum_by (λ m. count_by p (course_row m t)) q ≡ count_by p (lectures_of q t)
+count_lectures p [] t h = sym (ap (count_by p) (none_of t))
+count_lectures p (m ∷ q) t h =
+    sum_by-cons (λ m. count_by p (course_row m t)) m q ∙ ap (λ n. count_by p (course_row m t) + n) (count_lectures p q t h.1)
     ∙ sym (ap (count_by p) (member_first m q t) ∙ count_filter_or (λ l. l.course == m) (λ l. has l.course q) p t (λ x k. ap (λ c. has c q) (eqb-true x.course m k) ∙ absent m q h.0))
 
-pub count_part_le : (p : Placed → Bool) (q : List ℕ) (t : List Placed) → count_by p (part_of q t) ≤ length t
-count_part_le p q t = omega (arith, count_by-le-length p (part_of q t), length-filter (λ (l : Placed). has l.course q) t, count_by-le-length (λ (l : Placed). has l.course q) t)
+pub count_lectures_le : (p : Placed → Bool) (q : List ℕ) (t : List Placed) → count_by p (lectures_of q t) ≤ length t
+count_lectures_le p q t = omega (arith, count_by-le-length p (lectures_of q t), length-filter (λ (l : Placed). has l.course q) t, count_by-le-length (λ (l : Placed). has l.course q) t)

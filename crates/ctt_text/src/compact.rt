@@ -3,12 +3,12 @@
 ghost use Rattle.std.specs.Prelude.{◌≡◌, ◌<◌, Some, None};
 ghost use Rattle.ctt_text.specs.RoomTable.{room_by_code};
 
-use ctt_text::{CourseNo, RoomNo};
+use crate::ids::{CourseNo, RoomNo};
 use std::marker::Model;
 
 /// The number of a room or a course, or none. An `Option` of it takes four bytes.
 #[derive(Clone, Copy)]
-pub(crate) struct Compact {
+pub struct Compact {
     /// 0 for none, and else the number after that of the room or course.
     code: u16,
 }
@@ -28,13 +28,15 @@ impl Model for Compact {
 }
 
 impl Compact {
-    pub(crate) fn none() -> Self
+    /// Neither a room nor a course.
+    pub fn none() -> Self
         ensures { result ≡ None }
     {
         Compact { code: 0 }
     }
 
-    pub(crate) fn of_room(room: RoomNo) -> Self
+    /// This room. Its number is below 65,535.
+    pub fn of_room(room: RoomNo) -> Self
         requires { room < 65535 }
         ensures { result ≡ Some room }
     {
@@ -43,7 +45,8 @@ impl Compact {
         }
     }
 
-    pub(crate) fn of_course(course: CourseNo) -> Self
+    /// This course. Its number is below 65,535.
+    pub fn of_course(course: CourseNo) -> Self
         requires { course < 65535 }
         ensures { result ≡ Some course }
     {
@@ -53,7 +56,7 @@ impl Compact {
     }
 
     /// The room, if there is one.
-    pub(crate) fn room(self) -> Option<RoomNo>
+    pub fn room(self) -> Option<RoomNo>
         ensures { result ≡ self }
     {
         if self.code == 0 {
@@ -64,14 +67,14 @@ impl Compact {
     }
 
     /// The number that says it: 0 for none.
-    pub(crate) fn code(self) -> u16
+    pub fn code(self) -> u16
         ensures { self ≡ room_by_code result }
     {
         self.code
     }
 
     /// The course, if there is one.
-    pub(crate) fn course(self) -> Option<CourseNo>
+    pub fn course(self) -> Option<CourseNo>
         ensures { result ≡ self }
     {
         if self.code == 0 {

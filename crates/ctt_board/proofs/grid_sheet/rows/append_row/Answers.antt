@@ -4,7 +4,7 @@ use Rattle.ctt_text.specs.declared.placed.Placed.{Placed}
 use Rattle.ctt_board.specs.Cells.{row_below}
 use Rattle.ctt_board.specs.Tables.{at}
 use Rattle.ctt_board.proofs.GridLemmas.{row_same}
-use Rattle.ctt_board.proofs.grid_sheet.append_row.Goals as goal
+use Rattle.ctt_board.proofs.grid_sheet.rows.append_row.Goals as goal
 
 pub returns-clause-row : goal.returns-clause-row
 returns-clause-row c =

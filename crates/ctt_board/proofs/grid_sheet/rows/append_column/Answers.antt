@@ -4,7 +4,7 @@ use Rattle.ctt_board.specs.Tables.{at}
 use Rattle.ctt_board.proofs.CutLemmas.{begins_more}
 use Rattle.ctt_board.proofs.ColumnLemmas.{column_inside, column_next, column_ends}
 use Rattle.ctt_text.proofs.MarkLemmas.{next_of_all}
-use Rattle.ctt_board.proofs.grid_sheet.append_column.Goals as goal
+use Rattle.ctt_board.proofs.grid_sheet.rows.append_column.Goals as goal
 
 -- all courses that are marked are below their count
 below_count : (marks : ℕ → Bool) (rows courses : ℕ) → courses ≡ rows → ((c : ℕ) → marks c ≡ true → c < rows) → (c : ℕ) → marks c ≡ true → c < courses
