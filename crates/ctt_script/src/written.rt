@@ -209,7 +209,7 @@ fn write_lectures(
 }
 
 /// Adds the line of four costs.
-pub(crate) fn write_costs(text: &mut String, cost: &Cost) -> Result<(), AllocError>
+pub fn write_costs(text: &mut String, cost: &Cost) -> Result<(), AllocError>
     ensures { OnOk result (string_bytes text.new
         ≡ string_bytes text.old ++ line (cost_words cost.now)) }
 {
