@@ -1,7 +1,7 @@
 use Rattle.std.proofs.Common.{rules}
 use Rattle.ctt_draft.specs.Comparisons.{LeavesRest}
 use Rattle.ctt_draft.proofs.TouchedLemmas.{all_touched}
-use Rattle.ctt_draft.proofs.draft.staleness.Draft.stale.Goals as goal
+use Rattle.ctt_draft.proofs.draft.Draft.stale.Goals as goal
 
 pub first_stale-requires : goal.first_stale-requires
 first_stale-requires g c κs =

@@ -5,7 +5,7 @@ use Rattle.ctt_draft.specs.Comparisons.{LeavesRest}
 use Rattle.ctt_draft.specs.DraftValues.{DraftValue}
 use Rattle.ctt_draft.proofs.DraftSteps.{records_base}
 use Rattle.ctt_draft.proofs.StaleLemmas.{stale_course, stale_slot, settles}
-use Rattle.ctt_draft.proofs.draft.staleness.Draft.first_stale.Goals as goal
+use Rattle.ctt_draft.proofs.draft.Draft.first_stale.Goals as goal
 
 pub new-comparison-requires-clause-records : goal.new-comparison-requires-clause-records
 new-comparison-requires-clause-records g c = rw c.unboxed-present.ensures (records_base _ _ _ _ _ _ _ _ c.self.invariant)

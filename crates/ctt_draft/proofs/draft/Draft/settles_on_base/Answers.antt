@@ -4,7 +4,7 @@ use Rattle.ctt_draft.specs.Drafts.{calls_of}
 use Rattle.ctt_draft.specs.DraftValues.{DraftValue}
 use Rattle.ctt_draft.proofs.DraftSteps.{stale_on_base}
 use Rattle.ctt_draft.proofs.StaleLemmas.{settles}
-use Rattle.ctt_draft.proofs.draft.staleness.Draft.settles_on_base.Goals as goal
+use Rattle.ctt_draft.proofs.draft.Draft.settles_on_base.Goals as goal
 
 pub returns-clause-fresh : goal.returns-clause-fresh
 returns-clause-fresh g c = stale_on_base c.args.self.now.problem c.args.self.now.base (calls_of c.args.self.now.asked)

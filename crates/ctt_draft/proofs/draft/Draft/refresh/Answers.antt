@@ -2,7 +2,7 @@ use Rattle.std.proofs.Common.{rules, ◌≡◌, ◌∙◌, None, sym, ap, subst}
 use Rattle.ctt_board.specs.Changes.{apply_all, ChangesFit}
 use Rattle.ctt_draft.specs.Drafts.{calls_of, stale}
 use Rattle.ctt_draft.proofs.RefreshLemmas.{ok_of, changes_fit_now, refreshed_draft}
-use Rattle.ctt_draft.proofs.draft.staleness.Draft.refresh.Goals as goal
+use Rattle.ctt_draft.proofs.draft.Draft.refresh.Goals as goal
 
 pub changed_copy-requires : goal.changed_copy-requires
 changed_copy-requires g c κs =

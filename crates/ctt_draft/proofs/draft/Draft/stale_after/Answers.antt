@@ -2,7 +2,7 @@ use Rattle.std.proofs.Common.{rules, subst}
 use Rattle.ctt_text.specs.Problem.{IsProblem}
 use Rattle.ctt_draft.specs.Comparisons.{LeavesRest}
 use Rattle.ctt_draft.proofs.TouchedLemmas.{leaves_rest}
-use Rattle.ctt_draft.proofs.draft.staleness.Draft.stale_after.Goals as goal
+use Rattle.ctt_draft.proofs.draft.Draft.stale_after.Goals as goal
 
 pub first_stale-requires : goal.first_stale-requires
 first_stale-requires g c κs =
