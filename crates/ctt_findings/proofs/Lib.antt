@@ -1,0 +1,5 @@
+pub mod HearLemmas
+pub mod PointLemmas
+pub mod PairLemmas
+pub mod TakenLemmas
+pub mod ConflictLemmas
