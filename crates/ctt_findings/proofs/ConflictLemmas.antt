@@ -1,9 +1,9 @@
 -- The conflicts of one course.
-use Rattle.std.proofs.Common.{◌≡◌, ℕ, zero, suc, ◌+◌, ◌<◌, ◌≤◌, Bool, true, false, cond, not, ◌&&◌, ◌||◌, ◌==◌, nat_lt, ltb, List, [], ◌∷◌, ◌++◌, take, length, get_or, add-one, Option, Some, None, refl, ◌∙◌, sym, ap, ap₂, subst, arith, inl, inr}
+use Rattle.std.proofs.Common.{◌≡◌, ℕ, zero, suc, ◌+◌, ◌<◌, ◌≤◌, Bool, true, false, cond, not, ◌&&◌, ◌||◌, ◌==◌, nat_lt, ltb, List, [], ◌∷◌, ◌++◌, take, drop, length, get_or, add-one, Option, Some, None, refl, ◌∙◌, sym, ap, ap₂, subst, arith, inl, inr}
 use Rattle.std.specs.List.{find, filter_map, list_any, AllByRecursion as Each}
 use Rattle.std.specs.Option.{unwrap_or}
 use Rattle.std.proofs.lemmas.Bool.{cases_Bool, eqb-true, lt-ltb, le-ltb, and_parts}
-use Rattle.std.proofs.lemmas.List.{take_all}
+use Rattle.std.proofs.lemmas.List.{take_all, drop_more, drop_all}
 use Rattle.std.proofs.lemmas.List.Folds.{list_any_more, list_any-append}
 use Rattle.ctt_text.specs.Lists.{below, has}
 use Rattle.ctt_text.specs.Belonging.{curricula_of}
@@ -20,7 +20,7 @@ use Rattle.ctt_findings.specs.declared.finding.Finding.TheVariants.{Conflict}
 use Rattle.ctt_findings.proofs.HearLemmas.{filter_map_same, for_each_skip}
 
 module _ (i : Problem) (c : ℕ) where
-  abbrev behind : ℕ → Bool
+  abbrev pub behind : ℕ → Bool
   behind d = nat_lt c d && clash i c d
 
   -- behind the course, those that clash are those that are marked
@@ -29,10 +29,10 @@ module _ (i : Problem) (c : ℕ) where
       are d ∙ ap (λ b. b && clash i c d) (lt-ltb d (course_count i) within ∙ sym (lt-ltb c d (omega (arith, lt, le))))
 
   -- nothing is told up to the course itself
-  pub none_before : (t : List Placed) → for_each (where_passes behind (conflicts_between i t c)) (c + 1) ≡ []
-  none_before t =
-      for_each_skip (where_passes behind (conflicts_between i t c)) 0 (c + 1) (omega arith)
-      (λ k le lt. ap (λ b. cond (b && clash i c k) (conflicts_between i t c k) []) (le-ltb c k (omega (arith, lt))))
+  pub none_before : (t : List Placed) (n : ℕ) → n ≤ c + 1 → for_each (where_passes behind (conflicts_between i t c)) n ≡ []
+  none_before t n le =
+      for_each_skip (where_passes behind (conflicts_between i t c)) 0 n (omega arith)
+      (λ k from lt. ap (λ b. cond (b && clash i c k) (conflicts_between i t c k) []) (le-ltb c k (omega (arith, lt, le))))
 
   -- what is told of another course, by the marks on the slots
   pub between_is : (t : List Placed) (d : ℕ) (marks : ℕ → Bool) → ((s : ℕ) → marks s ≡ busy (course_row c t) s) → filter_map (conflict_finding i c marks) (course_row d t) ≡ conflicts_between i t c d
@@ -69,7 +69,23 @@ mates_of i c d =
 
 -- where some element passes, one is found
 pub none_found : {X : Type 0} (p : X → Bool) (xs : List X) → find p xs ≡ None → list_any p xs ≡ true → ⊥
+none_found p [] e any = absurd (search arith)
 none_found p (x ∷ xs) e any = elim (cases_Bool (p x)) [
   | inl yes' ↦ (let got : find p (x ∷ xs) ≡ Some x = rw yes' refl in absurd (search arith))
   | inr no' ↦ none_found p xs (rw no' at e) (rw no' at any)
 ]
+
+-- the first that passes, where those before it do not
+module _ (p : ℕ → Bool) (xs : List ℕ) (k : ℕ) (so_far : find p (drop k xs) ≡ find p xs) where
+  module _ (x : ℕ) (within : k < length xs) (at : x ≡ get_or xs k x) where
+    begins : find p xs ≡ cond (p x) (Some x) (find p (drop (k + 1) xs))
+    begins = sym so_far ∙ ap (find p) (drop_more xs k x within) ∙ ap (λ y. cond (p y) (Some y) (find p (drop (k + 1) xs))) (sym at)
+
+    pub found_here : (n : ℕ) → p x ≡ true → x ≡ unwrap_or (find p xs) n
+    found_here n passes = sym (ap (λ o. unwrap_or o n) (begins ∙ ap (λ b. cond b (Some x) (find p (drop (k + 1) xs))) passes))
+
+    pub goes_on : p x ≡ false → find p (drop (k + 1) xs) ≡ find p xs
+    goes_on fails = sym (begins ∙ ap (λ b. cond b (Some x) (find p (drop (k + 1) xs))) fails)
+
+  pub not_found : length xs ≤ k → find p xs ≡ None
+  not_found past = sym so_far ∙ ap (find p) (drop_all k xs past)

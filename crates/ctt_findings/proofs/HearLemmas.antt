@@ -1,5 +1,5 @@
 -- What a listener has heard, step by step.
-use Rattle.std.proofs.Common.{◌≡◌, ℕ, zero, suc, ◌+◌, ◌<◌, ◌≤◌, Bool, true, false, ◌&&◌, nat_lt, nat_le, List, [], ◌∷◌, ◌++◌, take, length, get_or, Option, Some, None, refl, ◌∙◌, sym, ap, subst, arith, inl, inr, add-one, append-nil}
+use Rattle.std.proofs.Common.{◌≡◌, ℕ, zero, suc, ◌+◌, ◌<◌, ◌≤◌, Bool, true, false, ◌&&◌, nat_lt, nat_le, List, [], ◌∷◌, ◌++◌, take, length, get_or, Option, Some, None, Result, Ok, Err, OnOk, refl, ◌∙◌, sym, ap, subst, arith, inl, inr, add-one, append-nil}
 use Rattle.std.specs.List.{cons_option, filter_map, AllByRecursion as Each}
 use Rattle.std.specs.Option.{option_to_list}
 use Rattle.std.proofs.lemmas.Bool.{cases_lt}
@@ -15,6 +15,11 @@ use Rattle.ctt_findings.specs.declared.finding.Finding.{Finding}
 pub hears_append : {L : Type 0} (R : L → Finding → L → Type 0) (a : L) (xs : List Finding) (b : L) (ys : List Finding) (c : L) → Hears R a xs b → Hears R b ys c → Hears R a (xs ++ ys) c
 hears_append R a [] b ys c h k = subst (λ m. Hears R m ys c) h k
 hears_append R a (x ∷ xs) b ys c h k = (h.0, h.1, hears_append R h.0 xs b ys c h.2 k)
+
+-- of the second, if all goes well
+pub heard_in : {L T E : Type 0} (R : L → Finding → L → Type 0) (a : L) (xs : List Finding) (b : L) (ys : List Finding) (c : L) (r : Result T E) → Hears R a xs b → OnOk r (Hears R b ys c) → OnOk r (Hears R a (xs ++ ys) c)
+heard_in R a xs b ys c (Ok t) h k = hears_append R a xs b ys c h k
+heard_in R a xs b ys c (Err e) h k = k
 
 cons_is : (o : Option Finding) → cons_option o [] ≡ option_to_list o
 cons_is None = refl

@@ -3,3 +3,4 @@ pub mod PointLemmas
 pub mod PairLemmas
 pub mod TakenLemmas
 pub mod ConflictLemmas
+pub mod AloneLemmas

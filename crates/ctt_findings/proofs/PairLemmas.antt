@@ -1,7 +1,7 @@
 -- The pairs of lectures that conflict, course by course.
 use Rattle.std.proofs.Common.{◌≡◌, ℕ, zero, suc, ◌+◌, ◌<◌, ◌≤◌, Bool, true, false, cond, ◌&&◌, ◌||◌, not, ◌==◌, nat_lt, List, [], ◌∷◌, ◌++◌, refl, ◌∙◌, sym, ap, ap₂, subst, arith, inl, inr}
 use Rattle.std.specs.List.{filter_map, list_any, sum_by, count_by, AllByRecursion as Each}
-use Rattle.std.proofs.lemmas.Bool.{cases_Bool, eqb-true, ne_eqb}
+use Rattle.std.proofs.lemmas.Bool.{eqb-true, ne_eqb}
 use Rattle.std.proofs.lemmas.Bool.Decides.{nat_tests}
 use Rattle.std.proofs.lemmas.List.{append_assoc}
 use Rattle.std.proofs.lemmas.List.Sums.{sum_by-cons, sum_by-append}
@@ -37,10 +37,11 @@ none_later s x (y ∷ ys) e h =
 
 one_there : (s : ℕ) (xs : List Placed) → Pairwise (λ (a b : Placed). a.slot < b.slot) xs → count_by (λ x. x.slot == s) xs ≡ cond (busy xs s) 1 0
 one_there s [] h = refl
-one_there s (x ∷ xs) h = elim (cases_Bool (x.slot == s)) [
-  | inl y ↦ rw y (omega (arith, ap (λ b. cond {A = ℕ} b 1 0) y, sum_by-cons (λ (z : Placed). cond (z.slot == s) 1 0) x xs, none_later s x xs y h.0))
-  | inr n ↦ rw n (omega (arith, ap (λ b. cond {A = ℕ} b 1 0) n, sum_by-cons (λ (z : Placed). cond (z.slot == s) 1 0) x xs, one_there s xs h.1))
-]
+one_there s (x ∷ xs) h = sum_by-cons (λ (z : Placed). cond (z.slot == s) 1 0) x xs ∙ one (x.slot == s) refl (one_there s xs h.1)
+  where
+    one : (b : Bool) → (x.slot == s) ≡ b → count_by (λ (y : Placed). y.slot == s) xs ≡ cond {A = ℕ} (busy xs s) 1 0 → cond b 1 0 + count_by (λ (y : Placed). y.slot == s) xs ≡ cond {A = ℕ} (b || busy xs s) 1 0
+    one true e more = omega (arith, none_later s x xs e h.0)
+    one false e more = omega (arith, more)
 
 -- in a slot with this lecture, of a course with a lesser number that clashes
 abbrev meets : Problem → Placed → Placed → Bool

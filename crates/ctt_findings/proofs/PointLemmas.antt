@@ -2,7 +2,7 @@
 use Rattle.std.proofs.Common.{◌≡◌, ℕ, zero, suc, ◌+◌, ◌-◌, ◌*◌, ◌<◌, ◌≤◌, Bool, true, false, cond, not, ◌&&◌, ◌==◌, nat_lt, List, [], ◌∷◌, ◌++◌, take, length, get_or, Option, Some, None, refl, ◌∙◌, sym, ap, ap₂, arith, inl, inr, add-one}
 use Rattle.std.specs.List.{cons_option, filter, filter_map, list_any, sum_by, count_by, AllByRecursion as Each}
 use Rattle.std.specs.Option.{option_to_list}
-use Rattle.std.proofs.lemmas.Bool.{cases_Bool, cases_eq, eq-eqb, ne_eqb}
+use Rattle.std.proofs.lemmas.Bool.{cases_eq, eq-eqb, ne_eqb, lt-ltb}
 use Rattle.std.proofs.lemmas.Bool.Decides.{nat_tests}
 use Rattle.std.proofs.lemmas.List.{take_all}
 use Rattle.std.proofs.lemmas.List.Sums.{sum_by-cons, sum_by-append, sum_by_more}
@@ -52,7 +52,7 @@ worth_passing p f n = worth_each (where_passes p f) n ∙ sum_below_same (λ k. 
 
 some_points : (n : ℕ) → cond (nat_lt 0 n) n 0 ≡ n
 some_points zero = refl
-some_points (suc n) = refl
+some_points (suc n) = ap (λ b. cond b (suc n) 0) (lt-ltb 0 (suc n) (omega arith))
 
 none_or_some : (p s : ℕ) → cond (not (p == s)) ((s - p) + (p - s)) 0 ≡ (s - p) + (p - s)
 none_or_some p s = elim (cases_eq p s) [
@@ -103,7 +103,7 @@ join : (b : Bool) (m n : ℕ) → cond b m 0 + cond b n 0 ≡ cond b (m + n) 0
 join true m n = refl
 join false m n = refl
 
-none : (b : Bool) → 0 ≡ cond b 0 0
+none : (b : Bool) → ◌≡◌ {A = ℕ} 0 (cond b 0 0)
 none true = refl
 none false = refl
 
@@ -124,10 +124,11 @@ passing_rows p g n t h =
 
 sum_filtered : (p : Placed → Bool) (g : Placed → ℕ) (t : List Placed) → sum_by (λ l. cond (p l) (g l) 0) t ≡ sum_by g (filter p t)
 sum_filtered p g [] = refl
-sum_filtered p g (x ∷ xs) = elim (cases_Bool (p x)) [
-  | inl y ↦ rw y (omega (arith, ap (λ b. cond b (g x) 0) y, sum_by-cons (λ l. cond (p l) (g l) 0) x xs, sum_by-cons g x (filter p xs), sum_filtered p g xs))
-  | inr n ↦ rw n (omega (arith, ap (λ b. cond b (g x) 0) n, sum_by-cons (λ l. cond (p l) (g l) 0) x xs, sum_filtered p g xs))
-]
+sum_filtered p g (x ∷ xs) = sum_by-cons (λ l. cond (p l) (g l) 0) x xs ∙ ap (λ n. cond (p x) (g x) 0 + n) (sum_filtered p g xs) ∙ one (p x)
+  where
+    one : (b : Bool) → cond b (g x) 0 + sum_by g (filter p xs) ≡ sum_by g (cond b (x ∷ filter p xs) (filter p xs))
+    one true = sym (sum_by-cons g x (filter p xs))
+    one false = omega arith
 
 twice : {X : Type 0} (p : X → Bool) (xs : List X) → sum_by (λ x. cond (p x) 2 0) xs ≡ 2 * count_by p xs
 twice p [] = refl
@@ -142,7 +143,7 @@ places_below : {X : Type 0} (f : X → ℕ) (d : X) (xs : List X) (n : ℕ) → 
 places_below f d xs zero le = refl
 places_below f d xs (suc n) le =
     ap (λ k. k + f (get_or xs n d)) (places_below f d xs n (omega (arith, le)))
-    ∙ sym (ap (λ k. sum_by f (take k xs)) (sym add-one) ∙ sum_by_more f xs n d (omega (arith, le)))
+    ∙ sym (ap (λ k. sum_by f (take k xs)) (sym (add-one n)) ∙ sum_by_more f xs n d (omega (arith, le)))
 
 pub by_places : {X : Type 0} (f : X → ℕ) (d : X) (xs : List X) → sum_below (λ k. f (get_or xs k d)) (length xs) ≡ sum_by f xs
 by_places f d xs = places_below f d xs (length xs) (omega arith) ∙ ap (sum_by f) (take_all (length xs) xs (omega arith))

@@ -38,8 +38,8 @@ common_curriculum i c d = unwrap_or (find (λ q. has d (members i q)) (curricula
 -- why two courses clash: by their teacher, or else by a curriculum
 abbrev pub cause : Problem → ℕ → ℕ → Cause
 cause i c d = if (course_of i c).teacher == (course_of i d).teacher
-  then Teacher (course_of i c).teacher
-  else Curriculum (common_curriculum i c d)
+    then Teacher (course_of i c).teacher
+    else Curriculum (common_curriculum i c d)
 
 -- a lecture in a slot in which a course stands with which its own clashes
 abbrev pub conflict_finding : Problem → ℕ → (ℕ → Bool) → Placed → Option Finding

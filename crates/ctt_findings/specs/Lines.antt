@@ -11,8 +11,8 @@ use Rattle.ctt_findings.specs.declared.finding.Finding.TheVariants.{Lectures, Co
 
 -- a word, or a number
 pub data Told : Type 0 where
-  pub word : List ℕ → Told
-  pub number : ℕ → Told
+  word : List ℕ → Told
+  number : ℕ → Told
 
 -- what is told, and by which key it is known
 pub record Fact : Type 0 where

@@ -41,7 +41,11 @@ fn slots_of(instance: &Instance, timetable: &[Placed], curriculum: CurriculumNo)
 {
     let mut slots = Marks::new();
     for course in instance.members(curriculum) {
-        mark_slots(instance, &mut slots, course_row(instance, timetable, *course));
+        mark_slots(
+            instance,
+            &mut slots,
+            course_row(instance, timetable, *course),
+        );
     }
     slots
 }
@@ -81,7 +85,11 @@ fn tell_alone<L: Listener>(
     ensures marked { IfErr result (IsMarked (L.has_failed listener.new)) }
 {
     for lecture in row {
-        tell(listener, instance, alone(instance, curriculum, slots, lecture))?;
+        tell(
+            listener,
+            instance,
+            alone(instance, curriculum, slots, lecture),
+        )?;
     }
     Ok(())
 }

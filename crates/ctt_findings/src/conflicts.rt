@@ -81,7 +81,11 @@ fn tell_between<L: Listener>(
     ensures marked { IfErr result (IsMarked (L.has_failed listener.new)) }
 {
     for lecture in row {
-        tell(listener, instance, conflict(instance, course, slots, lecture))?;
+        tell(
+            listener,
+            instance,
+            conflict(instance, course, slots, lecture),
+        )?;
     }
     Ok(())
 }
@@ -101,7 +105,11 @@ fn tell_conflicts_of<L: Listener>(
 {
     instance.limits_hold();
     let mut slots = Marks::new();
-    mark_slots(instance, &mut slots, course_row(instance, timetable, course));
+    mark_slots(
+        instance,
+        &mut slots,
+        course_row(instance, timetable, course),
+    );
     let clashing = instance.clashing(course);
     let mut from = course.get() as usize + 1;
     while let Some(number) = clashing.next_between(from, instance.courses() as usize) {

@@ -50,11 +50,17 @@ fn push_conflict(
     match cause {
         Cause::Teacher(teacher) => {
             let name = instance.teacher_name(*teacher);
-            writeln!(text, "conflict {course} {other} {day} {period} teacher {name}")
+            writeln!(
+                text,
+                "conflict {course} {other} {day} {period} teacher {name}"
+            )
         }
         Cause::Curriculum(curriculum) => {
             let name = instance.curriculum_name(*curriculum);
-            writeln!(text, "conflict {course} {other} {day} {period} curriculum {name}")
+            writeln!(
+                text,
+                "conflict {course} {other} {day} {period} curriculum {name}"
+            )
         }
     }
 }
@@ -93,11 +99,7 @@ fn push_occupancy(
 }
 
 /// Adds the line of a lecture in a barred room.
-fn push_barred(
-    text: &mut String,
-    instance: &Instance,
-    lecture: &Placed,
-) -> Result<(), AllocError>
+fn push_barred(text: &mut String, instance: &Instance, lecture: &Placed) -> Result<(), AllocError>
     requires lecture { Fits instance.now lecture.now }
     ensures { OnOk result (string_bytes text.new
         ≡ string_bytes text.old ++ line instance.now (Barred lecture.now)) }
@@ -161,7 +163,10 @@ fn push_compactness(
     let course = instance.course_name(lecture.course);
     let day = instance.day_of(lecture.slot);
     let period = instance.period_of(lecture.slot);
-    writeln!(text, "compactness {curriculum} {course} {day} {period} {points}")
+    writeln!(
+        text,
+        "compactness {curriculum} {course} {day} {period} {points}"
+    )
 }
 
 /// Adds the line of rooms of a course beyond the first.

@@ -1,6 +1,6 @@
 //! The lectures in rooms that are taken.
 
-ghost use Rattle.std.specs.Prelude.{◌≡◌, ◌<◌, ◌≤◌, ◌==◌, ◌&&◌, ◌||◌, [], ℕ, not, length, IfSome, IfOk, IfErr, OnOk};
+ghost use Rattle.std.specs.Prelude.{◌≡◌, ◌<◌, ◌≤◌, ◌==◌, ◌&&◌, ◌||◌, [], ℕ, false, not, length, IfSome, IfOk, IfErr, OnOk};
 ghost use Rattle.ctt_text.specs.Problem.{room_count, slot_count};
 ghost use Rattle.ctt_text.specs.Timetable.{IsTimetable, Fits};
 ghost use Rattle.ctt_rules.specs.Earlier.{in_row};

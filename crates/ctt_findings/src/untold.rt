@@ -13,12 +13,22 @@ pub enum Untold {
 }
 
 impl From<NoMemory> for Untold {
+    ghost use Rattle.std.specs.Prelude.{◌≡◌};
+    ghost use Rattle.ctt_findings.specs.declared.untold.Untold.TheVariants.{NoMemory as OutOfMemory};
+
+    ghost from_gives = { λ _ fault. fault ≡ OutOfMemory };
+
     fn from(_e: NoMemory) -> Untold {
         Untold::NoMemory
     }
 }
 
 impl From<AllocError> for Untold {
+    ghost use Rattle.std.specs.Prelude.{◌≡◌};
+    ghost use Rattle.ctt_findings.specs.declared.untold.Untold.TheVariants.{NoMemory as OutOfMemory};
+
+    ghost from_gives = { λ _ fault. fault ≡ OutOfMemory };
+
     fn from(_e: AllocError) -> Untold {
         Untold::NoMemory
     }
