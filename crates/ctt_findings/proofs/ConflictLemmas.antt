@@ -1,5 +1,5 @@
 -- The conflicts of one course.
-use Rattle.std.proofs.Common.{◌≡◌, ℕ, zero, suc, ◌+◌, ◌<◌, ◌≤◌, Bool, true, false, cond, not, ◌&&◌, ◌||◌, ◌==◌, nat_lt, ltb, List, [], ◌∷◌, ◌++◌, take, drop, length, get_or, add-one, Option, Some, None, refl, ◌∙◌, sym, ap, ap₂, subst, arith, inl, inr}
+use Rattle.std.proofs.Common.{◌≡◌, ℕ, zero, suc, ◌+◌, ◌<◌, ◌≤◌, Bool, true, false, cond, ◌&&◌, ◌||◌, ◌==◌, nat_lt, List, [], ◌∷◌, take, drop, length, get_or, add-one, Some, None, refl, ◌∙◌, sym, ap, ap₂, arith, inl, inr}
 use Rattle.std.specs.List.{find, filter_map, list_any, AllByRecursion as Each}
 use Rattle.std.specs.Option.{unwrap_or}
 use Rattle.std.proofs.lemmas.Bool.{cases_Bool, eqb-true, lt-ltb, le-ltb, and_parts}
@@ -7,15 +7,13 @@ use Rattle.std.proofs.lemmas.List.{take_all, drop_more, drop_all}
 use Rattle.std.proofs.lemmas.List.Folds.{list_any_more, list_any-append}
 use Rattle.ctt_text.specs.Lists.{below, has}
 use Rattle.ctt_text.specs.Belonging.{curricula_of}
-use Rattle.ctt_text.specs.Marks.{is_marked}
-use Rattle.ctt_text.specs.Problem.{Problem, course_count, course_of, curriculum_count, members, mates, clash}
+use Rattle.ctt_text.specs.Problem.{Problem, course_count, curriculum_count, members, mates, clash}
 use Rattle.ctt_text.specs.Timetable.{course_row}
 use Rattle.ctt_text.specs.declared.placed.Placed.{Placed}
 use Rattle.ctt_text.proofs.TimetableLemmas.{Each-map}
 use Rattle.ctt_rules.specs.Neighbours.{busy}
 use Rattle.ctt_rules.proofs.ListLemmas.{Each-every, Each-filter_passes}
-use Rattle.ctt_findings.specs.Findings.{common_curriculum, conflict_finding, conflicts_between, for_each, where_passes, found, cause}
-use Rattle.ctt_findings.specs.declared.finding.Finding.{Finding}
+use Rattle.ctt_findings.specs.Findings.{conflict_finding, conflicts_between, for_each, where_passes, found, cause}
 use Rattle.ctt_findings.specs.declared.finding.Finding.TheVariants.{Conflict}
 use Rattle.ctt_findings.proofs.HearLemmas.{filter_map_same, for_each_skip}
 

@@ -1,6 +1,6 @@
 -- The pairs of lectures that conflict, course by course.
-use Rattle.std.proofs.Common.{◌≡◌, ℕ, zero, suc, ◌+◌, ◌<◌, ◌≤◌, Bool, true, false, cond, ◌&&◌, ◌||◌, not, ◌==◌, nat_lt, List, [], ◌∷◌, ◌++◌, refl, ◌∙◌, sym, ap, ap₂, subst, arith, inl, inr}
-use Rattle.std.specs.List.{filter_map, list_any, sum_by, count_by, AllByRecursion as Each}
+use Rattle.std.proofs.Common.{◌≡◌, ℕ, ◌+◌, ◌<◌, Bool, true, false, cond, ◌&&◌, ◌||◌, not, ◌==◌, nat_lt, List, [], ◌∷◌, ◌++◌, refl, ◌∙◌, sym, ap, ap₂, subst, arith}
+use Rattle.std.specs.List.{sum_by, count_by, AllByRecursion as Each}
 use Rattle.std.proofs.lemmas.Bool.{eqb-true, ne_eqb}
 use Rattle.std.proofs.lemmas.Bool.Decides.{nat_tests}
 use Rattle.std.proofs.lemmas.List.{append_assoc}
@@ -15,7 +15,7 @@ use Rattle.ctt_rules.specs.Neighbours.{busy}
 use Rattle.ctt_rules.proofs.ConflictLemmas.{conflicts_tallied}
 use Rattle.ctt_rules.proofs.SumLemmas.{sum_below_same, sum_below_add, sum_below_zero, sum_by-agree}
 use Rattle.ctt_rules.proofs.TimetableLemmas.{courses_fit, row_by_slot}
-use Rattle.ctt_findings.specs.Findings.{found, cause, conflict_finding, conflicts_between, conflicts_of, conflict_findings}
+use Rattle.ctt_findings.specs.Findings.{cause, conflict_finding, conflicts_between, conflicts_of, conflict_findings}
 use Rattle.ctt_findings.specs.declared.finding.Finding.TheVariants.{Conflict}
 use Rattle.ctt_findings.proofs.PointLemmas.{worth, found_worth, worth_map, worth_each, worth_passing, passing_rows}
 

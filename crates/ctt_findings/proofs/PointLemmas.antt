@@ -1,9 +1,8 @@
 -- The points of findings, kind by kind.
-use Rattle.std.proofs.Common.{◌≡◌, ℕ, zero, suc, ◌+◌, ◌-◌, ◌*◌, ◌<◌, ◌≤◌, Bool, true, false, cond, not, ◌&&◌, ◌==◌, nat_lt, List, [], ◌∷◌, ◌++◌, take, length, get_or, Option, Some, None, refl, ◌∙◌, sym, ap, ap₂, arith, inl, inr, add-one}
+use Rattle.std.proofs.Common.{◌≡◌, ℕ, zero, suc, ◌+◌, ◌-◌, ◌*◌, ◌<◌, ◌≤◌, Bool, true, false, cond, not, ◌==◌, nat_lt, List, [], ◌∷◌, ◌++◌, take, length, get_or, Option, Some, None, refl, ◌∙◌, sym, ap, ap₂, arith, inl, inr, add-one}
 use Rattle.std.specs.List.{cons_option, filter, filter_map, list_any, sum_by, count_by, AllByRecursion as Each}
 use Rattle.std.specs.Option.{option_to_list}
 use Rattle.std.proofs.lemmas.Bool.{cases_eq, eq-eqb, ne_eqb, lt-ltb}
-use Rattle.std.proofs.lemmas.Bool.Decides.{nat_tests}
 use Rattle.std.proofs.lemmas.List.{take_all}
 use Rattle.std.proofs.lemmas.List.Sums.{sum_by-cons, sum_by-append, sum_by_more}
 use Rattle.ctt_text.specs.Lists.{sum_below, has}
@@ -14,12 +13,12 @@ use Rattle.ctt_rules.specs.Hard.{share_room, missing_count, unavailable_count, b
 use Rattle.ctt_rules.specs.Earlier.{tally, room_taken}
 use Rattle.ctt_rules.specs.Penalty.{penalty, unseated, days_cost, rooms_cost, is_alone, part_of, alone_cost}
 use Rattle.ctt_rules.proofs.ConflictLemmas.{rooms_tallied}
-use Rattle.ctt_rules.proofs.SumLemmas.{sum_below_same, sum_below_more}
+use Rattle.ctt_rules.proofs.SumLemmas.{sum_below_same}
 use Rattle.ctt_rules.proofs.TimetableLemmas.{courses_fit, sum_by_course}
 use Rattle.ctt_findings.specs.Findings.{for_each, where_passes, found, by_course, lectures_finding, availability_finding, occupancy_from, occupancy_finding, barred_finding, capacity_finding, days_finding, stability_finding, compactness_finding, alone_of, compactness_of, compactness_findings}
 use Rattle.ctt_findings.specs.Laws.{points_of}
 use Rattle.ctt_findings.specs.declared.finding.Finding.{Finding}
-use Rattle.ctt_findings.specs.declared.finding.Finding.TheVariants.{Lectures, Conflict, Availability, Occupancy, Barred, Capacity, Days, Compactness, Stability}
+use Rattle.ctt_findings.specs.declared.finding.Finding.TheVariants.{Lectures, Availability, Occupancy, Barred, Capacity, Compactness}
 
 abbrev pub worth : List Finding → ℕ
 worth xs = sum_by points_of xs

@@ -1,5 +1,5 @@
 -- Findings whose numbers are those of an instance.
-use Rattle.std.specs.Prelude.{ℕ, ◌<◌}
+use Rattle.std.specs.Prelude.{◌<◌}
 use Rattle.ctt_text.specs.Problem.{Problem, course_count, slot_count, teacher_count, curriculum_count}
 use Rattle.ctt_text.specs.Timetable.{Fits}
 use Rattle.ctt_findings.specs.declared.finding.Cause.{Cause}

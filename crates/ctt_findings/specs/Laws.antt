@@ -1,5 +1,5 @@
 -- What holds of findings.
-use Rattle.std.specs.Prelude.{◌≡◌, ℕ, ◌+◌, ◌-◌, List, length, filter_map, sum_by, []}
+use Rattle.std.specs.Prelude.{◌≡◌, ℕ, ◌+◌, ◌-◌, List, filter_map, sum_by, []}
 use Rattle.ctt_text.specs.Problem.{Problem}
 use Rattle.ctt_text.specs.Timetable.{IsTimetable}
 use Rattle.ctt_text.specs.declared.placed.Placed.{Placed}

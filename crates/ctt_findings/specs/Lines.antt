@@ -1,5 +1,5 @@
 -- Findings by name, and as lines of text.
-use Rattle.std.specs.Prelude.{ℕ, List, [], ◌∷◌, ◌++◌, map, flat_map, codes, slice_index_or}
+use Rattle.std.specs.Prelude.{ℕ, List, [], ◌∷◌, ◌++◌, flat_map, codes, slice_index_or}
 use Rattle.std.specs.Fmt.{decimal}
 use Rattle.ctt_text.specs.Problem.{Problem, day_of, period_of}
 use Rattle.ctt_text.specs.declared.placed.Placed.{Placed}

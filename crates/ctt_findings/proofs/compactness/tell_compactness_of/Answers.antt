@@ -1,4 +1,4 @@
-use Rattle.std.proofs.Common.{◌≡◌, ℕ, ◌+◌, ◌<◌, ◌≤◌, ◌&&◌, ◌∙◌, Bool, nat_lt, nat_le, not, Some, None, refl, sym, ap, subst, arith, rules}
+use Rattle.std.proofs.Common.{◌≡◌, ℕ, ◌<◌, ◌≤◌, ◌&&◌, ◌∙◌, Bool, nat_lt, nat_le, not, Some, None, ap, arith, rules}
 use Rattle.std.specs.List.{filter_map}
 use Rattle.ctt_text.specs.Lists.{has}
 use Rattle.ctt_text.specs.Marks.{is_marked, IsLeast}
@@ -26,7 +26,7 @@ loop-number-preserved g c =
     record {
       within = omega (arith, at.1);
       heard = hears_next marks (λ n. has n (members i q)) (alone_of i t q) c.loop-number.from (course_count i) known (g.L.Listener.hears i) c.args.listener.now c.loop-number.listener c.tell_alone.new.listener c.in-Some.number _ this least
-      c.loop-number.invariant.heard c.in_ok-tell_alone.ensures.heard;
+          c.loop-number.invariant.heard c.in_ok-tell_alone.ensures.heard;
     }
 
 pub returns-clause-heard : goal.returns-clause-heard

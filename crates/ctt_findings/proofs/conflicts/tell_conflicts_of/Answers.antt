@@ -1,12 +1,11 @@
-use Rattle.std.proofs.Common.{◌≡◌, ℕ, ◌+◌, ◌<◌, ◌≤◌, ◌&&◌, ◌∙◌, Bool, nat_lt, nat_le, List, [], Some, None, refl, sym, ap, subst, arith, rules}
+use Rattle.std.proofs.Common.{◌≡◌, ℕ, ◌+◌, ◌&&◌, ◌∙◌, Bool, nat_lt, nat_le, Some, None, refl, sym, ap, subst, arith, rules}
 use Rattle.std.specs.List.{filter_map}
 use Rattle.ctt_text.specs.Marks.{is_marked, IsLeast}
-use Rattle.ctt_text.specs.Problem.{clash, course_count}
+use Rattle.ctt_text.specs.Problem.{course_count}
 use Rattle.ctt_text.specs.Timetable.{course_row}
 use Rattle.ctt_rules.specs.Neighbours.{busy}
 use Rattle.ctt_findings.specs.Findings.{conflict_finding, conflicts_between}
 use Rattle.ctt_findings.specs.Hearing.{Hears}
-use Rattle.ctt_findings.specs.declared.finding.Finding.{Finding}
 use Rattle.ctt_findings.proofs.HearLemmas.{hears_next, hears_last, next_passes}
 use Rattle.ctt_findings.proofs.ConflictLemmas.{behind, passes_same, row_clashes, none_before, between_is}
 use Rattle.ctt_findings.proofs.conflicts.tell_conflicts_of.Goals as goal
@@ -50,7 +49,7 @@ loop-number-preserved g c =
       past = omega (arith, at.0, c.loop-number.invariant.past);
       within = omega (arith, at.1);
       heard = hears_next marks (behind i own) (conflicts_between i t own) c.loop-number.from (course_count i) known (g.L.Listener.hears i) c.args.listener.now c.loop-number.listener c.tell_between.new.listener c.in-Some.number _ this least
-      c.loop-number.invariant.heard c.in_ok-tell_between.ensures.heard;
+          c.loop-number.invariant.heard c.in_ok-tell_between.ensures.heard;
     }
 
 pub returns-clause-heard : goal.returns-clause-heard

@@ -1,8 +1,7 @@
-use Rattle.std.proofs.Common.{◌≡◌, ◌∙◌, ap, List}
+use Rattle.std.proofs.Common.{◌≡◌, ◌∙◌, ap}
 use Rattle.std.specs.Option.{option_to_list}
 use Rattle.ctt_text.specs.Timetable.{course_row}
 use Rattle.ctt_findings.specs.Findings.{days_finding}
-use Rattle.ctt_findings.specs.declared.finding.Finding.{Finding}
 use Rattle.ctt_findings.proofs.HearLemmas.{hears_number}
 use Rattle.ctt_findings.proofs.courses.tell_days.Goals as goal
 

@@ -1,4 +1,4 @@
-use Rattle.std.proofs.Common.{◌≡◌, List, ℕ, replicate, sym, subst, false}
+use Rattle.std.proofs.Common.{◌≡◌, replicate, sym, subst, false}
 use Rattle.ctt_rules.specs.Earlier.{in_row}
 use Rattle.ctt_rules.proofs.ConflictLemmas.{no_rows}
 use Rattle.ctt_findings.proofs.occupancy.TakenRooms.new.Goals as goal
