@@ -68,14 +68,17 @@ module _ (p q : ℕ → Bool) (f : ℕ → List Finding) (from end : ℕ) (same 
       let at = found_between p from end k least.0 in
       (at.0, at.1, sym (same k at.0 at.1) ∙ at.2)
 
+  pub skipped_to : (k : ℕ) → IsLeast (λ n. nat_lt n end && (nat_le from n && p n)) (Some k) → for_each (where_passes q f) k ≡ for_each (where_passes q f) from
+  skipped_to k least =
+      let at = next_passes k least in
+      for_each_skip (where_passes q f) from k at.0 (λ n le lt. rw (sym (same n le (omega (arith, lt, at.1))) ∙ none_between p from end n (least.1 n lt) le (omega (arith, lt, at.1))) refl)
+
   pub hears_next : {L : Type 0} (R : L → Finding → L → Type 0) (a b c : L) (k : ℕ) (this : List Finding) → this ≡ f k → IsLeast (λ n. nat_lt n end && (nat_le from n && p n)) (Some k)
       → Hears R a (for_each (where_passes q f) from) b → Hears R b this c → Hears R a (for_each (where_passes q f) (k + 1)) c
   hears_next R a b c k this is least before now =
       let at = next_passes k least in
-      let skipped : for_each (where_passes q f) k ≡ for_each (where_passes q f) from =
-      for_each_skip (where_passes q f) from k at.0 (λ n le lt. rw (sym (same n le (omega (arith, lt, at.1))) ∙ none_between p from end n (least.1 n lt) le (omega (arith, lt, at.1))) refl) in
       let here : this ≡ where_passes q f k = rw at.2 is in
-      hears_number R a b c (where_passes q f) k this here (subst (λ fs. Hears R a fs b) (sym skipped) before) now
+      hears_number R a b c (where_passes q f) k this here (subst (λ fs. Hears R a fs b) (sym (skipped_to k least)) before) now
 
   pub hears_last : {L : Type 0} (R : L → Finding → L → Type 0) (a b : L) → from ≤ end → IsLeast (λ n. nat_lt n end && (nat_le from n && p n)) None
       → Hears R a (for_each (where_passes q f) from) b → Hears R a (for_each (where_passes q f) end) b

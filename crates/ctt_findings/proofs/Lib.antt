@@ -4,3 +4,4 @@ pub mod PairLemmas
 pub mod TakenLemmas
 pub mod ConflictLemmas
 pub mod AloneLemmas
+pub mod FrontLemmas

@@ -10,7 +10,7 @@ ghost use Rattle.ctt_rules.specs.Neighbours.{busy, is_beside};
 ghost use Rattle.ctt_rules.specs.Penalty.{part_of};
 ghost use Rattle.ctt_findings.specs.Findings.{compactness_finding, compactness_findings, compactness_of};
 ghost use Rattle.ctt_findings.specs.Fitting.{FindingFits};
-ghost use Rattle.ctt_findings.specs.Hearing.{Hears, IsMarked};
+ghost use Rattle.ctt_findings.specs.Hearing.{Hears, HearsFront};
 
 use crate::finding::Finding;
 use crate::listener::{Listener, tell};
@@ -82,7 +82,8 @@ fn tell_alone<L: Listener>(
     ensures heard { OnOk result (Hears (L.hears instance.now) listener.old
         (filter_map (λ l. compactness_finding curriculum
         (not (is_beside instance.now (is_marked slots.now) l.slot)) l) row.now) listener.new) }
-    ensures marked { IfErr result (IsMarked (L.has_failed listener.new)) }
+    ensures front { IfErr result (HearsFront (L.hears instance.now) L.fails listener.old
+        (filter_map (λ l. compactness_finding curriculum (not (is_beside instance.now (is_marked slots.now) l.slot)) l) row.now) listener.new) }
 {
     for lecture in row {
         tell(
@@ -105,7 +106,8 @@ fn tell_compactness_of<L: Listener>(
     requires curriculum { curriculum < curriculum_count instance.now }
     ensures heard { OnOk result (Hears (L.hears instance.now) listener.old
         (compactness_of instance.now timetable.now curriculum) listener.new) }
-    ensures marked { IfErr result (IsMarked (L.has_failed listener.new)) }
+    ensures front { IfErr result (HearsFront (L.hears instance.now) L.fails listener.old
+        (compactness_of instance.now timetable.now curriculum) listener.new) }
 {
     let courses = members_of(instance, curriculum);
     let slots = slots_of(instance, timetable, curriculum);
@@ -127,7 +129,8 @@ pub(crate) fn tell_compactness<L: Listener>(
     requires { IsTimetable instance.now timetable.now }
     ensures heard { OnOk result (Hears (L.hears instance.now) listener.old
         (compactness_findings instance.now timetable.now) listener.new) }
-    ensures marked { IfErr result (IsMarked (L.has_failed listener.new)) }
+    ensures front { IfErr result (HearsFront (L.hears instance.now) L.fails listener.old
+        (compactness_findings instance.now timetable.now) listener.new) }
 {
     for number in 0..instance.curricula() {
         tell_compactness_of(listener, instance, timetable, CurriculumNo::new(number))?;

@@ -7,7 +7,7 @@ ghost use Rattle.ctt_text.specs.Problem.{clash, course_count, curriculum_count, 
 ghost use Rattle.ctt_text.specs.Timetable.{IsTimetable, Fits};
 ghost use Rattle.ctt_findings.specs.Findings.{cause, common_curriculum, conflict_finding, conflict_findings, conflicts_of};
 ghost use Rattle.ctt_findings.specs.Fitting.{CauseFits, FindingFits};
-ghost use Rattle.ctt_findings.specs.Hearing.{Hears, IsMarked};
+ghost use Rattle.ctt_findings.specs.Hearing.{Hears, HearsFront};
 
 use crate::finding::{Cause, Finding};
 use crate::listener::{Listener, tell};
@@ -78,7 +78,8 @@ fn tell_between<L: Listener>(
     ensures heard { OnOk result (Hears (L.hears instance.now) listener.old
         (filter_map (conflict_finding instance.now course (is_marked slots.now)) row.now)
         listener.new) }
-    ensures marked { IfErr result (IsMarked (L.has_failed listener.new)) }
+    ensures front { IfErr result (HearsFront (L.hears instance.now) L.fails listener.old
+        (filter_map (conflict_finding instance.now course (is_marked slots.now)) row.now) listener.new) }
 {
     for lecture in row {
         tell(
@@ -101,7 +102,8 @@ fn tell_conflicts_of<L: Listener>(
     requires course { course < course_count instance.now }
     ensures heard { OnOk result (Hears (L.hears instance.now) listener.old
         (conflicts_of instance.now timetable.now course) listener.new) }
-    ensures marked { IfErr result (IsMarked (L.has_failed listener.new)) }
+    ensures front { IfErr result (HearsFront (L.hears instance.now) L.fails listener.old
+        (conflicts_of instance.now timetable.now course) listener.new) }
 {
     instance.limits_hold();
     let mut slots = Marks::new();
@@ -129,7 +131,8 @@ pub(crate) fn tell_conflicts<L: Listener>(
     requires { IsTimetable instance.now timetable.now }
     ensures heard { OnOk result (Hears (L.hears instance.now) listener.old
         (conflict_findings instance.now timetable.now) listener.new) }
-    ensures marked { IfErr result (IsMarked (L.has_failed listener.new)) }
+    ensures front { IfErr result (HearsFront (L.hears instance.now) L.fails listener.old
+        (conflict_findings instance.now timetable.now) listener.new) }
 {
     for number in 0..instance.courses() {
         tell_conflicts_of(listener, instance, timetable, CourseNo::new(number))?;

@@ -5,7 +5,7 @@ ghost use Rattle.ctt_text.specs.Problem.{course_count};
 ghost use Rattle.ctt_text.specs.Timetable.{IsTimetable, course_row};
 ghost use Rattle.ctt_findings.specs.Findings.{by_course, days_finding, lectures_finding, stability_finding};
 ghost use Rattle.ctt_findings.specs.Fitting.{FindingFits};
-ghost use Rattle.ctt_findings.specs.Hearing.{Hears, IsMarked};
+ghost use Rattle.ctt_findings.specs.Hearing.{Hears, HearsFront};
 
 use crate::finding::Finding;
 use crate::listener::{Listener, tell};
@@ -67,7 +67,8 @@ pub(crate) fn tell_lectures<L: Listener>(
     requires { IsTimetable instance.now timetable.now }
     ensures heard { OnOk result (Hears (L.hears instance.now) listener.old
         (by_course instance.now timetable.now (lectures_finding instance.now)) listener.new) }
-    ensures marked { IfErr result (IsMarked (L.has_failed listener.new)) }
+    ensures front { IfErr result (HearsFront (L.hears instance.now) L.fails listener.old
+        (by_course instance.now timetable.now (lectures_finding instance.now)) listener.new) }
 {
     for number in 0..instance.courses() {
         let finding = lectures(instance, timetable, CourseNo::new(number));
@@ -85,7 +86,8 @@ pub(crate) fn tell_days<L: Listener>(
     requires { IsTimetable instance.now timetable.now }
     ensures heard { OnOk result (Hears (L.hears instance.now) listener.old
         (by_course instance.now timetable.now (days_finding instance.now)) listener.new) }
-    ensures marked { IfErr result (IsMarked (L.has_failed listener.new)) }
+    ensures front { IfErr result (HearsFront (L.hears instance.now) L.fails listener.old
+        (by_course instance.now timetable.now (days_finding instance.now)) listener.new) }
 {
     for number in 0..instance.courses() {
         let finding = days(instance, timetable, CourseNo::new(number));
@@ -103,7 +105,8 @@ pub(crate) fn tell_stability<L: Listener>(
     requires { IsTimetable instance.now timetable.now }
     ensures heard { OnOk result (Hears (L.hears instance.now) listener.old
         (by_course instance.now timetable.now (stability_finding instance.now)) listener.new) }
-    ensures marked { IfErr result (IsMarked (L.has_failed listener.new)) }
+    ensures front { IfErr result (HearsFront (L.hears instance.now) L.fails listener.old
+        (by_course instance.now timetable.now (stability_finding instance.now)) listener.new) }
 {
     for number in 0..instance.courses() {
         let finding = stability(instance, timetable, CourseNo::new(number));

@@ -5,7 +5,7 @@ ghost use Rattle.std.specs.List.{AllByRecursion as Each};
 ghost use Rattle.ctt_text.specs.Timetable.{Fits};
 ghost use Rattle.ctt_findings.specs.Findings.{availability_finding, barred_finding, capacity_finding};
 ghost use Rattle.ctt_findings.specs.Fitting.{FindingFits};
-ghost use Rattle.ctt_findings.specs.Hearing.{Hears, IsMarked};
+ghost use Rattle.ctt_findings.specs.Hearing.{Hears, HearsFront};
 
 use crate::finding::Finding;
 use crate::listener::{Listener, tell};
@@ -59,7 +59,8 @@ pub(crate) fn tell_availability<L: Listener>(
     requires { Each (Fits instance.now) timetable.now }
     ensures heard { OnOk result (Hears (L.hears instance.now) listener.old
         (filter_map (availability_finding instance.now) timetable.now) listener.new) }
-    ensures marked { IfErr result (IsMarked (L.has_failed listener.new)) }
+    ensures front { IfErr result (HearsFront (L.hears instance.now) L.fails listener.old
+        (filter_map (availability_finding instance.now) timetable.now) listener.new) }
 {
     for lecture in timetable {
         tell(listener, instance, availability(instance, lecture))?;
@@ -76,7 +77,8 @@ pub(crate) fn tell_barred<L: Listener>(
     requires { Each (Fits instance.now) timetable.now }
     ensures heard { OnOk result (Hears (L.hears instance.now) listener.old
         (filter_map (barred_finding instance.now) timetable.now) listener.new) }
-    ensures marked { IfErr result (IsMarked (L.has_failed listener.new)) }
+    ensures front { IfErr result (HearsFront (L.hears instance.now) L.fails listener.old
+        (filter_map (barred_finding instance.now) timetable.now) listener.new) }
 {
     for lecture in timetable {
         tell(listener, instance, barred(instance, lecture))?;
@@ -93,7 +95,8 @@ pub(crate) fn tell_capacity<L: Listener>(
     requires { Each (Fits instance.now) timetable.now }
     ensures heard { OnOk result (Hears (L.hears instance.now) listener.old
         (filter_map (capacity_finding instance.now) timetable.now) listener.new) }
-    ensures marked { IfErr result (IsMarked (L.has_failed listener.new)) }
+    ensures front { IfErr result (HearsFront (L.hears instance.now) L.fails listener.old
+        (filter_map (capacity_finding instance.now) timetable.now) listener.new) }
 {
     for lecture in timetable {
         tell(listener, instance, capacity(instance, lecture))?;

@@ -6,7 +6,7 @@ ghost use Rattle.ctt_text.specs.Timetable.{IsTimetable, Fits};
 ghost use Rattle.ctt_rules.specs.Earlier.{in_row};
 ghost use Rattle.ctt_findings.specs.Findings.{occupancy_finding, occupancy_from};
 ghost use Rattle.ctt_findings.specs.Fitting.{FindingFits};
-ghost use Rattle.ctt_findings.specs.Hearing.{Hears, IsMarked};
+ghost use Rattle.ctt_findings.specs.Hearing.{Hears, HearsFront};
 
 use crate::finding::Finding;
 use crate::listener::{Listener, tell};
@@ -72,7 +72,8 @@ pub(crate) fn tell_occupancy<L: Listener>(
     requires { IsTimetable instance.now timetable.now }
     ensures heard { OnOk result (Hears (L.hears instance.now) listener.old
         (occupancy_from [] timetable.now) listener.new) }
-    ensures marked { IfErr result (IsMarked (L.has_failed listener.new)) }
+    ensures front { IfErr result (HearsFront (L.hears instance.now) L.fails listener.old
+        (occupancy_from [] timetable.now) listener.new) }
 {
     instance.limits_hold();
     let mut taken = TakenRooms::new(alloc, instance.slots())?;

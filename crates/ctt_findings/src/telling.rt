@@ -3,7 +3,7 @@
 ghost use Rattle.std.specs.Prelude.{OnOk, IfErr};
 ghost use Rattle.ctt_text.specs.Timetable.{IsTimetable};
 ghost use Rattle.ctt_findings.specs.Findings.{findings, hard_findings, soft_findings};
-ghost use Rattle.ctt_findings.specs.Hearing.{Hears, IsMarked};
+ghost use Rattle.ctt_findings.specs.Hearing.{Hears, HearsFront};
 
 use crate::compactness::tell_compactness;
 use crate::conflicts::tell_conflicts;
@@ -25,7 +25,8 @@ fn tell_hard<L: Listener>(
     requires { IsTimetable instance.now timetable.now }
     ensures heard { OnOk result (Hears (L.hears instance.now) listener.old
         (hard_findings instance.now timetable.now) listener.new) }
-    ensures marked { IfErr result (IsMarked (L.has_failed listener.new)) }
+    ensures front { IfErr result (HearsFront (L.hears instance.now) L.fails listener.old
+        (hard_findings instance.now timetable.now) listener.new) }
 {
     tell_lectures(listener, instance, timetable)?;
     tell_conflicts(listener, instance, timetable)?;
@@ -43,7 +44,8 @@ fn tell_soft<L: Listener>(
     requires { IsTimetable instance.now timetable.now }
     ensures heard { OnOk result (Hears (L.hears instance.now) listener.old
         (soft_findings instance.now timetable.now) listener.new) }
-    ensures marked { IfErr result (IsMarked (L.has_failed listener.new)) }
+    ensures front { IfErr result (HearsFront (L.hears instance.now) L.fails listener.old
+        (soft_findings instance.now timetable.now) listener.new) }
 {
     tell_capacity(listener, instance, timetable)?;
     tell_days(listener, instance, timetable)?;
@@ -65,7 +67,8 @@ pub fn tell_findings<L: Listener>(
     requires { IsTimetable instance.now timetable.now }
     ensures heard { OnOk result (Hears (L.hears instance.now) listener.old
         (findings instance.now timetable.now) listener.new) }
-    ensures marked { IfErr result (IsMarked (L.has_failed listener.new)) }
+    ensures front { IfErr result (HearsFront (L.hears instance.now) L.fails listener.old
+        (findings instance.now timetable.now) listener.new) }
 {
     tell_hard(alloc, listener, instance, timetable)?;
     tell_soft(listener, instance, timetable)
