@@ -11,7 +11,7 @@ use Rattle.ctt_text.specs.Timetable.{IsTimetable, course_row}
 use Rattle.ctt_text.specs.declared.placed.Placed.{Placed}
 use Rattle.ctt_rules.specs.Hard.{share_room, missing_count, unavailable_count, barred_count, occupancy_count}
 use Rattle.ctt_rules.specs.Earlier.{tally, room_taken}
-use Rattle.ctt_rules.specs.Penalty.{penalty, unseated, days_cost, rooms_cost, is_alone, part_of, alone_cost}
+use Rattle.ctt_rules.specs.Penalty.{penalty, unseated, days_cost, rooms_cost, is_alone, lectures_of, alone_cost}
 use Rattle.ctt_rules.proofs.ConflictLemmas.{rooms_tallied}
 use Rattle.ctt_rules.proofs.SumLemmas.{sum_below_same}
 use Rattle.ctt_rules.proofs.TimetableLemmas.{courses_fit, sum_by_course}
@@ -148,20 +148,20 @@ pub by_places : {X : Type 0} (f : X → ℕ) (d : X) (xs : List X) → sum_below
 by_places f d xs = places_below f d xs (length xs) (omega arith) ∙ ap (sum_by f) (take_all (length xs) xs (omega arith))
 
 module _ (i : Problem) (t : List Placed) (h : IsTimetable i t) where
-  compactness_at : (q : ℕ) → worth (compactness_of i t q) ≡ alone_cost i (part_of (members i q) t)
+  compactness_at : (q : ℕ) → worth (compactness_of i t q) ≡ alone_cost i (lectures_of (members i q) t)
   compactness_at q =
       let ms : List ℕ = members i q in
-      let alone : Placed → Bool = is_alone i (part_of ms t) in
+      let alone : Placed → Bool = is_alone i (lectures_of ms t) in
       let two : Placed → ℕ = λ l. cond (alone l) 2 0 in
       let row : (c : ℕ) → worth (alone_of i t q c) ≡ sum_by two (course_row c t) = λ c. worth_map (λ l. compactness_finding q (alone l) l) two (λ l. found_worth (alone l) (Compactness q l 2)) (course_row c t) in
       worth_passing (λ c. has c ms) (alone_of i t q) (course_count i)
       ∙ sum_below_same (λ c. cond (has c ms) (worth (alone_of i t q c)) 0) (λ c. cond (has c ms) (sum_by two (course_row c t)) 0) (course_count i) (λ c. ap (λ n. cond (has c ms) n 0) (row c))
       ∙ passing_rows (λ c. has c ms) two (course_count i) t (courses_fit i t h)
       ∙ sum_filtered (λ l. has l.course ms) two t
-      ∙ twice alone (part_of ms t)
+      ∙ twice alone (lectures_of ms t)
 
   pub compactness_counted : worth (compactness_findings i t) ≡ (penalty i t).compactness
   compactness_counted =
       worth_each (compactness_of i t) (length i.curricula)
-      ∙ sum_below_same (λ q. worth (compactness_of i t q)) (λ q. alone_cost i (part_of (members i q) t)) (length i.curricula) compactness_at
-      ∙ by_places (λ ms. alone_cost i (part_of ms t)) [] i.curricula
+      ∙ sum_below_same (λ q. worth (compactness_of i t q)) (λ q. alone_cost i (lectures_of (members i q) t)) (length i.curricula) compactness_at
+      ∙ by_places (λ ms. alone_cost i (lectures_of ms t)) [] i.curricula

@@ -8,7 +8,7 @@ use Rattle.ctt_text.specs.Timetable.{course_row}
 use Rattle.ctt_text.specs.declared.placed.Placed.{Placed}
 use Rattle.ctt_rules.specs.Hard.{share_room}
 use Rattle.ctt_rules.specs.Neighbours.{busy}
-use Rattle.ctt_rules.specs.Penalty.{unseated, days_of, rooms_of, days_cost, rooms_cost, is_alone, part_of}
+use Rattle.ctt_rules.specs.Penalty.{unseated, days_of, rooms_of, days_cost, rooms_cost, is_alone, lectures_of}
 use Rattle.ctt_findings.specs.declared.finding.Cause.{Cause}
 use Rattle.ctt_findings.specs.declared.finding.Cause.TheVariants.{Teacher, Curriculum}
 use Rattle.ctt_findings.specs.declared.finding.Finding.{Finding}
@@ -84,7 +84,7 @@ compactness_finding q alone l = found alone (Compactness q l 2)
 
 -- the lectures of a course that stand alone among those of a curriculum
 abbrev pub alone_of : Problem → List Placed → ℕ → ℕ → List Finding
-alone_of i t q c = filter_map (λ l. compactness_finding q (is_alone i (part_of (members i q) t) l) l) (course_row c t)
+alone_of i t q c = filter_map (λ l. compactness_finding q (is_alone i (lectures_of (members i q) t) l) l) (course_row c t)
 
 -- those of the curriculum's members
 abbrev pub compactness_of : Problem → List Placed → ℕ → List Finding

@@ -7,7 +7,7 @@ ghost use Rattle.ctt_text.specs.Marks.{is_marked};
 ghost use Rattle.ctt_text.specs.Problem.{curriculum_count, members};
 ghost use Rattle.ctt_text.specs.Timetable.{IsTimetable, Fits};
 ghost use Rattle.ctt_rules.specs.Neighbours.{busy, is_beside};
-ghost use Rattle.ctt_rules.specs.Penalty.{part_of};
+ghost use Rattle.ctt_rules.specs.Penalty.{lectures_of};
 ghost use Rattle.ctt_findings.specs.Findings.{compactness_finding, compactness_findings, compactness_of};
 ghost use Rattle.ctt_findings.specs.Fitting.{FindingFits};
 ghost use Rattle.ctt_findings.specs.Hearing.{Hears, HearsFront};
@@ -37,7 +37,7 @@ fn slots_of(instance: &Instance, timetable: &[Placed], curriculum: CurriculumNo)
     requires timetable { IsTimetable instance.now timetable.now }
     requires curriculum { curriculum < curriculum_count instance.now }
     ensures { (s : ℕ) → is_marked result s
-        ≡ busy (part_of (members instance.now curriculum) timetable.now) s }
+        ≡ busy (lectures_of (members instance.now curriculum) timetable.now) s }
 {
     let mut slots = Marks::new();
     for course in instance.members(curriculum) {

@@ -19,7 +19,8 @@ use ctt_text::{CourseNo, CurriculumNo, Instance, Marks, Placed};
 fn common_curriculum(instance: &Instance, course: CourseNo, other: CourseNo) -> CurriculumNo
     requires { course < course_count instance.now }
     ensures least { result ≡ common_curriculum instance.now course other }
-    ensures within { mates instance.now course other ≡ true → result < curriculum_count instance.now }
+    ensures within { mates instance.now course other ≡ true
+        → result < curriculum_count instance.now }
 {
     for curriculum in instance.curricula_of(course) {
         if instance.members(*curriculum).contains(&other) {
