@@ -1,10 +1,11 @@
 //! The lines of findings, written out as they are found.
 
-ghost use Rattle.std.specs.Prelude.{◌≡◌, [], true, OnOk, OnErr, string_bytes};
+ghost use Rattle.std.specs.Prelude.{◌≡◌, [], true, OnOk, OnErr, IfErr, string_bytes};
 ghost use Rattle.std.specs.Io.KnownBytes.{Appends};
 ghost use Rattle.ctt_text.specs.Timetable.{IsTimetable};
 ghost use Rattle.ctt_findings.specs.Lines.{explained, line};
 ghost use Rattle.ctt_findings.specs.Writing.{Grows};
+ghost use Rattle.ctt_findings.specs.declared.untold.Untold.TheVariants.{Failed};
 
 use crate::finding::Finding;
 use crate::lines::push_line;
@@ -82,12 +83,15 @@ pub fn write_lines<W: Output>(
     requires { IsTimetable instance.now timetable.now }
     ensures lines { OnOk result (Appends (W.taken output.old) (W.taken output.new)
         (explained instance.now timetable.now)) }
+    ensures unmarked { OnOk result (W.has_failed output.new ≡ W.has_failed output.old) }
+    ensures marked { IfErr result (λ fault. fault ≡ Failed → W.has_failed output.new ≡ true) }
 {
     let mut lines = Lines {
         output,
         text: String::new(alloc),
     };
-    tell_findings(alloc, &mut lines, instance, timetable)?;
+    let told = tell_findings(alloc, &mut lines, instance, timetable);
     let Lines { output, text } = lines;
+    told?;
     output.write(text.as_bytes())
 }
