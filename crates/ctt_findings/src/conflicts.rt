@@ -19,7 +19,8 @@ use ctt_text::{CourseNo, CurriculumNo, Instance, Marks, Placed};
 fn common_curriculum(instance: &Instance, course: CourseNo, other: CourseNo) -> CurriculumNo
     requires { course < course_count instance.now }
     ensures least { result ≡ common_curriculum instance.now course other }
-    ensures within { mates instance.now course other ≡ true → result < curriculum_count instance.now }
+    ensures within { mates instance.now course other ≡ true
+        → result < curriculum_count instance.now }
 {
     for curriculum in instance.curricula_of(course) {
         if instance.members(*curriculum).contains(&other) {
@@ -79,7 +80,8 @@ fn tell_between<L: Listener>(
         (filter_map (conflict_finding instance.now course (is_marked slots.now)) row.now)
         listener.new) }
     ensures front { IfErr result (HearsFront (L.hears instance.now) L.fails listener.old
-        (filter_map (conflict_finding instance.now course (is_marked slots.now)) row.now) listener.new) }
+        (filter_map (conflict_finding instance.now course (is_marked slots.now)) row.now)
+        listener.new) }
 {
     for lecture in row {
         tell(

@@ -17,7 +17,8 @@ use ctt_text::{CourseNo, Instance, Placed};
 fn lectures(instance: &Instance, timetable: &[Placed], course: CourseNo) -> Option<Finding>
     requires timetable { IsTimetable instance.now timetable.now }
     requires course { course < course_count instance.now }
-    ensures finding { result ≡ lectures_finding instance.now course (course_row course timetable.now) }
+    ensures finding { result
+        ≡ lectures_finding instance.now course (course_row course timetable.now) }
     ensures fits { IfSome result (FindingFits instance.now) }
 {
     let placed = course_row(instance, timetable, course).len() as u64;
@@ -32,7 +33,8 @@ fn lectures(instance: &Instance, timetable: &[Placed], course: CourseNo) -> Opti
 fn days(instance: &Instance, timetable: &[Placed], course: CourseNo) -> Option<Finding>
     requires timetable { IsTimetable instance.now timetable.now }
     requires course { course < course_count instance.now }
-    ensures finding { result ≡ days_finding instance.now course (course_row course timetable.now) }
+    ensures finding { result
+        ≡ days_finding instance.now course (course_row course timetable.now) }
     ensures fits { IfSome result (FindingFits instance.now) }
 {
     let points = course_cost(instance, timetable, course).days;
@@ -48,7 +50,8 @@ fn days(instance: &Instance, timetable: &[Placed], course: CourseNo) -> Option<F
 fn stability(instance: &Instance, timetable: &[Placed], course: CourseNo) -> Option<Finding>
     requires timetable { IsTimetable instance.now timetable.now }
     requires course { course < course_count instance.now }
-    ensures finding { result ≡ stability_finding instance.now course (course_row course timetable.now) }
+    ensures finding { result
+        ≡ stability_finding instance.now course (course_row course timetable.now) }
     ensures fits { IfSome result (FindingFits instance.now) }
 {
     let points = course_cost(instance, timetable, course).stability;

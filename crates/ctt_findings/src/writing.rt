@@ -63,9 +63,13 @@ impl<'w, W: Output> Listener for Lines<'w, W> {
     ghost use Rattle.ctt_findings.specs.Writing.{Grows};
     ghost use Rattle.ctt_findings.specs.declared.untold.Untold.TheVariants.{Failed};
 
-    ghost hears = { λ i a finding b. (b.output.ghost_name ≡ a.output.ghost_name) × (W.has_failed b.output.now ≡ W.has_failed a.output.now) × Grows (W.taken a.output.now) (string_bytes a.text) (W.taken b.output.now) (string_bytes b.text) (line i finding) };
+    ghost hears = { λ i a finding b. (b.output.ghost_name ≡ a.output.ghost_name)
+        × (W.has_failed b.output.now ≡ W.has_failed a.output.now)
+        × Grows (W.taken a.output.now) (string_bytes a.text) (W.taken b.output.now)
+        (string_bytes b.text) (line i finding) };
 
-    ghost fails = { λ fault a b. (b.output.ghost_name ≡ a.output.ghost_name) × (fault ≡ Failed → W.has_failed b.output.now ≡ true) };
+    ghost fails = { λ fault a b. (b.output.ghost_name ≡ a.output.ghost_name)
+        × (fault ≡ Failed → W.has_failed b.output.now ≡ true) };
 
     fn hear(&mut self, instance: &Instance, finding: &Finding) -> Result<(), Untold> {
         push_line(&mut self.text, instance, finding)?;
@@ -73,7 +77,9 @@ impl<'w, W: Output> Listener for Lines<'w, W> {
     }
 }
 
-/// Writes the lines of all findings, as they are found.
+/// Writes the lines of all findings, as they are found, in pieces.
+///
+/// `Failed` where a write fails.
 pub fn write_lines<W: Output>(
     alloc: Global,
     output: &mut W,
@@ -84,7 +90,8 @@ pub fn write_lines<W: Output>(
     ensures lines { OnOk result (Appends (W.taken output.old) (W.taken output.new)
         (explained instance.now timetable.now)) }
     ensures unmarked { OnOk result (W.has_failed output.new ≡ W.has_failed output.old) }
-    ensures marked { IfErr result (λ fault. fault ≡ Failed → W.has_failed output.new ≡ true) }
+    ensures marked { IfErr result (λ fault.
+        fault ≡ Failed → W.has_failed output.new ≡ true) }
 {
     let mut lines = Lines {
         output,
