@@ -83,7 +83,8 @@ fn tell_alone<L: Listener>(
         (filter_map (λ l. compactness_finding curriculum
         (not (is_beside instance.now (is_marked slots.now) l.slot)) l) row.now) listener.new) }
     ensures front { IfErr result (HearsFront (L.hears instance.now) L.fails listener.old
-        (filter_map (λ l. compactness_finding curriculum (not (is_beside instance.now (is_marked slots.now) l.slot)) l) row.now) listener.new) }
+        (filter_map (λ l. compactness_finding curriculum
+        (not (is_beside instance.now (is_marked slots.now) l.slot)) l) row.now) listener.new) }
 {
     for lecture in row {
         tell(

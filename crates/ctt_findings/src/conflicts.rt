@@ -80,7 +80,8 @@ fn tell_between<L: Listener>(
         (filter_map (conflict_finding instance.now course (is_marked slots.now)) row.now)
         listener.new) }
     ensures front { IfErr result (HearsFront (L.hears instance.now) L.fails listener.old
-        (filter_map (conflict_finding instance.now course (is_marked slots.now)) row.now) listener.new) }
+        (filter_map (conflict_finding instance.now course (is_marked slots.now)) row.now)
+        listener.new) }
 {
     for lecture in row {
         tell(

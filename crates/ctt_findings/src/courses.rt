@@ -33,7 +33,8 @@ fn lectures(instance: &Instance, timetable: &[Placed], course: CourseNo) -> Opti
 fn days(instance: &Instance, timetable: &[Placed], course: CourseNo) -> Option<Finding>
     requires timetable { IsTimetable instance.now timetable.now }
     requires course { course < course_count instance.now }
-    ensures finding { result ≡ days_finding instance.now course (course_row course timetable.now) }
+    ensures finding { result
+        ≡ days_finding instance.now course (course_row course timetable.now) }
     ensures fits { IfSome result (FindingFits instance.now) }
 {
     let points = course_cost(instance, timetable, course).days;

@@ -14,7 +14,8 @@ pub enum Cause {
 /// One thing that breaks a hard rule, or that costs points.
 #[derive(Clone, Copy, PartialEq, Eq)]
 pub enum Finding {
-    /// The course has fewer lectures than are stated, or more: how many are placed, and how many stated.
+    /// The course has fewer lectures than are stated, or more: how many are placed, and how many
+    /// are stated.
     Lectures(CourseNo, u64, u32),
     /// The two courses clash and have lectures in the slot.
     Conflict(CourseNo, CourseNo, SlotNo, Cause),

@@ -12,9 +12,11 @@ mod listener;
 mod occupancy;
 mod telling;
 mod untold;
+mod writing;
 
 pub use finding::{Cause, Finding};
 pub use lines::push_line;
 pub use listener::Listener;
 pub use telling::tell_findings;
 pub use untold::Untold;
+pub use writing::{Output, write_lines};

@@ -157,7 +157,8 @@ fn push_compactness(
     requires curriculum { curriculum < curriculum_count instance.now }
     requires lecture { Fits instance.now lecture.now }
     ensures { OnOk result (string_bytes text.new
-        ≡ string_bytes text.old ++ line instance.now (Compactness curriculum lecture.now points)) }
+        ≡ string_bytes text.old
+        ++ line instance.now (Compactness curriculum lecture.now points)) }
 {
     let curriculum = instance.curriculum_name(curriculum);
     let course = instance.course_name(lecture.course);
