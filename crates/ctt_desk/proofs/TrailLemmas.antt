@@ -10,6 +10,7 @@ use Rattle.ctt_core.specs.declared.journal.JournalEntry.{JournalEntry}
 use Rattle.ctt_core.proofs.StockLemmas.{leads_now, leads_more, Each-more}
 use Rattle.ctt_desk.specs.Trails.{led, LeadsOn, MilestoneValue, AreMilestones}
 
+module _ (i : Problem) (t0 : List Placed) where
   -- more changes lead further
   leads_further : (h f : List JournalEntry) (old more : List (List Cell)) → LeadsOn i t0 f more 0 h → (n : ℕ) (g : List JournalEntry) → LeadsOn i t0 h old n g → LeadsOn i t0 f (old ++ more) n g
   leads_further h f old more u n g l =
