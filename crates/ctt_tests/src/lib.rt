@@ -5,8 +5,6 @@
 #[cfg(test)]
 mod crew_tests;
 #[cfg(test)]
-mod desk_tests;
-#[cfg(test)]
 mod desks;
 #[cfg(test)]
 mod edits;

@@ -1,11 +1,11 @@
-//! Drafts by themselves, on both kinds of sheets.
+//! Drafts by themselves.
 
 ghost use Rattle.std.specs.Prelude.{◌≡◌, ◌↔◌, IsTrue, IfOk};
 ghost use Rattle.ctt_edits.specs.Calls.{CallFits};
 
 use crate::sheets::{call_of, empty_sheet, tell_cells, tell_sheet};
 use crate::story::Story;
-use ctt_board::{Cell, Change, GridSheet, ListSheet, Sheet, Timetable};
+use ctt_board::{Cell, Change, Sheet, Timetable};
 use ctt_core::Answer;
 use ctt_draft::{Draft, KeepAll, replay};
 use ctt_edits::{Call, Reply};
@@ -69,7 +69,7 @@ fn ask_line<'i, S: Sheet<'i>>(story: &mut Story, draft: &mut Draft<'i, S, KeepAl
     ensures { draft.new.problem ≡ draft.old.problem }
 {
     let small = draft.instance();
-    match call_of(small, line) {
+    match call_of(small, line.as_bytes()) {
         Some(call) => match ask(story, draft, &call) {
             Some(reply) => story.answer(small, &Answer::Replied(reply)),
             None => story.no_memory(),
@@ -151,7 +151,7 @@ fn long_draft<'i, S: Sheet<'i>>(story: &mut Story, sheet: &mut S) {
         } else {
             "drop geo 0 1"
         };
-        let call = call_of(draft.instance(), line);
+        let call = call_of(draft.instance(), line.as_bytes());
         if let Some(call) = call {
             if matches!(ask(story, &mut draft, &call), Some(Reply::Done)) {
                 done = done.saturating_add(1);
@@ -172,8 +172,8 @@ fn place_top<S: Timetable>(sheet: &mut S)
     }
 }
 
-/// Drafts on one kind of sheet.
-fn play_on<'i, S: Sheet<'i>>(story: &mut Story, small: &'i Instance) {
+/// A draft on an empty sheet, beside another sheet.
+pub(crate) fn play<'i, S: Sheet<'i>>(story: &mut Story, small: &'i Instance) {
     let (Ok(mut sheet), Ok(mut other)) = (
         empty_sheet::<S>(story, small),
         empty_sheet::<S>(story, small),
@@ -184,26 +184,10 @@ fn play_on<'i, S: Sheet<'i>>(story: &mut Story, small: &'i Instance) {
     one_draft(story, &mut sheet, &other);
 }
 
-/// A long draft on one kind of sheet, which is empty.
-fn play_long_on<'i, S: Sheet<'i>>(story: &mut Story, small: &'i Instance) {
+/// A long draft on an empty sheet.
+pub(crate) fn play_long<'i, S: Sheet<'i>>(story: &mut Story, small: &'i Instance) {
     match empty_sheet::<S>(story, small) {
         Ok(mut sheet) => long_draft(story, &mut sheet),
         Err(NoMemory) => story.no_memory(),
     }
-}
-
-/// Drafts on both kinds of sheets.
-pub(crate) fn play(story: &mut Story, small: &Instance) {
-    story.say("drafts");
-    let from = story.len();
-    played!(story, play_on::<ListSheet>(story, small));
-    let to = story.len();
-    played!(story, play_on::<GridSheet>(story, small));
-    story.compare(from, to, to, "on the grid sheet");
-    story.say("a draft of a thousand calls");
-    let from = story.len();
-    played!(story, play_long_on::<ListSheet>(story, small));
-    let to = story.len();
-    played!(story, play_long_on::<GridSheet>(story, small));
-    story.compare(from, to, to, "on the grid sheet");
 }

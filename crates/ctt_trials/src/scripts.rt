@@ -7,7 +7,9 @@ use crate::story::Story;
 use ctt_board::{GridSheet, Sheet};
 use ctt_core::Desk;
 use ctt_draft::KeepAll;
-use ctt_script::{Device, Failed, InputFault, ScriptFault, Sink, put_all, read_all, run_script};
+use ctt_script::{
+    Device, Failed, InputFault, ScriptFault, Sink, put_all, put_whole, read_all, run_script,
+};
 use ctt_text::{Instance, Placed, let_go};
 use std::alloc::AllocError;
 
@@ -34,21 +36,41 @@ impl<'a> Reading<'a> {
     }
 }
 
-/// Runs a script.
+/// Tells what a script wrote, and what its desk has.
+fn tell_run<'i, S: Sheet<'i>>(
+    story: &mut Story,
+    small: &'i Instance,
+    opening: &[Placed],
+    shelf: &Shelf,
+    desk: &Desk<'i, S, KeepAll>,
+) {
+    story.bytes(shelf.held());
+    tell_desk(story, small, opening, desk);
+}
+
+/// Runs a script, and tells what it wrote and what its desk has, or answers why it could not be run.
 fn run_once<'i, S: Sheet<'i>>(
-    story: &Story,
+    story: &mut Story,
     small: &'i Instance,
     opening: &[Placed],
     reading: &mut Reading,
     shelf: &mut Shelf,
-) -> Result<Desk<'i, S, KeepAll>, ScriptFault> {
+) -> Result<(), ScriptFault> {
     if !lectures_fit(small, opening) {
         return Err(ScriptFault::NoMemory);
     }
     let mut reader = Memory::new(reading.text, reading.fails_at);
-    let ran = run_script(story.alloc(), small, opening, &mut reader, shelf, &mut None);
+    let ran: Result<Desk<'i, S, KeepAll>, ScriptFault> =
+        run_script(story.alloc(), small, opening, &mut reader, shelf, &mut None);
     reading.pulls = reader.pulls();
-    ran
+    match ran {
+        Ok(desk) => {
+            tell_run(story, small, opening, shelf, &desk);
+            let_go(desk);
+            Ok(())
+        }
+        Err(fault) => Err(fault),
+    }
 }
 
 /// Runs a script, and once more where memory is wanted, then on a writer as it was before.
@@ -59,16 +81,15 @@ fn run<'i, S: Sheet<'i>>(
     reading: &mut Reading,
     shelf: &mut Shelf,
     failing: Failing,
-) -> Result<Desk<'i, S, KeepAll>, ScriptFault> {
+) -> Result<(), ScriptFault> {
     shelf.renew(failing);
-    match run_once(story, small, opening, reading, shelf) {
-        Err(ScriptFault::NoMemory) => {
-            story.call_again();
-            shelf.renew(failing);
-            run_once(story, small, opening, reading, shelf)
-        }
-        ran => ran,
+    let ran = run_once::<S>(story, small, opening, reading, shelf);
+    if ran != Err(ScriptFault::NoMemory) {
+        return ran;
     }
+    story.call_again();
+    shelf.renew(failing);
+    run_once::<S>(story, small, opening, reading, shelf)
 }
 
 /// Tells why a script could not be run.
@@ -93,21 +114,9 @@ pub(crate) fn play_script<'i, S: Sheet<'i>>(
         return story.no_memory();
     };
     let mut reading = Reading::new(script.as_bytes(), 0);
-    let ran = run::<S>(
-        story,
-        small,
-        opening,
-        &mut reading,
-        &mut shelf,
-        Failing::Never,
-    );
-    story.bytes(shelf.held());
-    match ran {
-        Ok(desk) => {
-            tell_desk(story, small, opening, &desk);
-            let_go(desk);
-        }
-        Err(fault) => tell_fault(story, small, fault),
+    let failing = Failing::Never;
+    if let Err(fault) = run::<S>(story, small, opening, &mut reading, &mut shelf, failing) {
+        tell_fault(story, small, fault);
     }
 }
 
@@ -127,14 +136,7 @@ fn fails_to_write<'i, S: Sheet<'i>>(
     failing: Failing,
 ) -> bool {
     let mut reading = Reading::new(told.script, 0);
-    let ran = run::<S>(story, small, &[], &mut reading, shelf, failing);
-    match ran {
-        Ok(desk) => {
-            let_go(desk);
-            false
-        }
-        Err(fault) => fault == ScriptFault::Write,
-    }
+    run::<S>(story, small, &[], &mut reading, shelf, failing) == Err(ScriptFault::Write)
 }
 
 /// Runs a script on a reader whose read with this number fails, and answers whether that is a failed read, behind which no
@@ -148,13 +150,7 @@ fn fails_to_read<'i, S: Sheet<'i>>(
 ) -> bool {
     let mut reading = Reading::new(told.script, fails_at);
     let ran = run::<S>(story, small, &[], &mut reading, shelf, Failing::Never);
-    match ran {
-        Ok(desk) => {
-            let_go(desk);
-            false
-        }
-        Err(fault) => fault == ScriptFault::Read && reading.pulls == fails_at,
-    }
+    ran == Err(ScriptFault::Read) && reading.pulls == fails_at
 }
 
 /// Behind how many bytes a writer may fail so that the script has a failed write, and these bytes were written.
@@ -244,19 +240,33 @@ fn failing_reads_of(story: &mut Story, text: &[u8]) -> u64 {
     failed
 }
 
+/// Whether a text has a failed write on a writer that fails, which has then taken so many of its bytes.
+fn fails_to_take(shelf: &mut Shelf, text: &[u8], failing: Failing, taken: usize) -> bool {
+    shelf.renew(failing);
+    put_whole(shelf, text) == Err(Failed)
+        && text.starts_with(shelf.held())
+        && shelf.held().len() == taken
+}
+
 /// Behind how many bytes a writer may fail so that a text has a failed write, and these bytes were written.
 fn failing_writes_of(text: &[u8], shelf: &mut Shelf) -> u64 {
     let mut failed = 0u64;
     for behind in 0..text.len() {
-        shelf.renew(Failing::Behind(behind));
-        if put_all(shelf, text).is_err()
-            && text.starts_with(shelf.held())
-            && shelf.held().len() == behind
-        {
+        if fails_to_take(shelf, text, Failing::Behind(behind), behind) {
             failed = failed.saturating_add(1);
         }
     }
     failed
+}
+
+/// Tells on how many writers that fail a text has a failed write: behind some of its bytes, where nothing is taken, and where
+/// the flush alone fails.
+fn tell_failing_writes(story: &mut Story, text: &[u8], shelf: &mut Shelf) {
+    story.count("failed writes", failing_writes_of(text, shelf));
+    let is_failed = fails_to_take(shelf, text, Failing::Idle, 0);
+    story.count("where nothing is taken", u64::from(is_failed));
+    let is_failed = fails_to_take(shelf, text, Failing::Flush, text.len());
+    story.count("where the flush fails", u64::from(is_failed));
 }
 
 /// Tells how a text is read that may have four bytes.
@@ -300,8 +310,7 @@ pub(crate) fn play_texts(story: &mut Story, read: &[&[u8]], written: &[&[u8]]) {
         story.count("failed reads", failed);
     }
     for text in written {
-        let failed = failing_writes_of(text, &mut shelf);
-        story.count("failed writes", failed);
+        tell_failing_writes(story, text, &mut shelf);
     }
     tell_limited(story, b"four");
     tell_limited(story, b"fives");
