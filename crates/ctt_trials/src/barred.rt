@@ -10,9 +10,7 @@ use crate::story::Story;
 use crate::texts::{SMALL, SOLUTION, read_both};
 use crate::worked::{BARRED_ROOM, SWAP};
 use ctt_board::GridSheet;
-use ctt_text::{
-    BarredFault, Instance, Placed, let_go, read_barred, read_instance, read_solution,
-};
+use ctt_text::{BarredFault, Instance, Placed, let_go, read_barred, read_instance, read_solution};
 use std::sync::Wait;
 
 /// A journal of a draft in which top was placed in room A.

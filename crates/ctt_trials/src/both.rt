@@ -1,8 +1,7 @@
 //! Cases that are played on both kinds of sheets.
 
-use crate::drafts;
-use crate::sheets;
 use crate::story::Story;
+use crate::{drafts, sheets};
 use ctt_board::{GridSheet, ListSheet, Sheet};
 use ctt_text::{Instance, Placed};
 

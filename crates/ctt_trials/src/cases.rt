@@ -147,7 +147,10 @@ pub(crate) fn play_sheets(
     play_lines(story, small, &[], &on_empty);
     let on_solution = [
         ("prices and looks on the solution", worked::PRICES),
-        ("edits that are refused on the solution", worked::REFUSED_EDITS),
+        (
+            "edits that are refused on the solution",
+            worked::REFUSED_EDITS,
+        ),
         ("a swap", worked::SWAP),
         ("a drop", worked::DROP),
     ];

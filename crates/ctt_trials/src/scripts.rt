@@ -60,8 +60,14 @@ fn run_once<'i, S: Sheet<'i>>(
         return Err(ScriptFault::NoMemory);
     }
     let mut reader = Memory::new(reading.text, reading.fails_at);
-    let ran: Result<Desk<'i, S, KeepAll>, ScriptFault> =
-        run_script(story.alloc(), small, opening, &mut reader, shelf, &mut None);
+    let ran: Result<Desk<'i, S, KeepAll>, ScriptFault> = run_script(
+        story.alloc(),
+        small,
+        opening,
+        &mut reader,
+        shelf,
+        &mut None,
+    );
     reading.pulls = reader.pulls();
     match ran {
         Ok(desk) => {
