@@ -1,5 +1,4 @@
-//! A hundred commits of two planners, each on a thread of his own, on a desk of grid sheets: each entry is where its receipt
-//! says.
+//! A hundred commits of two planners, each on a thread of his own: each entry is where its receipt says.
 
 ghost use Rattle.ctt_desk.specs.Names.{IsNamed};
 
@@ -7,7 +6,7 @@ use crate::desks::{accepted, drafted, empty, has_list, is_entry};
 use crate::edits::place;
 use crate::small::{geo_second, small_instance, top_third};
 use crate::stopped::Stopped;
-use ctt_board::{GridSheet, Sheet, Timetable};
+use ctt_board::{ListSheet, Sheet, Timetable};
 use ctt_core::{JournalEntry, PlannerNo};
 use ctt_desk::{Closed, Named, Naming, Opened, Planner, SharedDesk};
 use ctt_edits::{Call, Edit};
@@ -61,9 +60,9 @@ fn fifty<'i, S: Sheet<'i>, J: Naming, R: Wait>(
 #[derive(Drop)]
 struct Turn<'a, 'i, J: Naming> {
     alloc: Global,
-    desk: &'a SharedDesk<GridSheet<'i>, J>,
-    done: &'a Mutex<Vec<Planner<GridSheet<'i>, J>>>,
-    planner: Planner<GridSheet<'i>, J>,
+    desk: &'a SharedDesk<ListSheet<'i>, J>,
+    done: &'a Mutex<Vec<Planner<ListSheet<'i>, J>>>,
+    planner: Planner<ListSheet<'i>, J>,
     lecture: Placed,
 }
 
@@ -76,7 +75,7 @@ fn take_turn<'a, 'i, J: Naming, R: Wait>(rt: &R, turn: Turn<'a, 'i, J>) -> Optio
         planner,
         lecture,
     } = turn;
-    let (planner, numbers) = fifty::<GridSheet<'i>, J, R>(rt, alloc, desk, planner, &lecture)?;
+    let (planner, numbers) = fifty::<ListSheet<'i>, J, R>(rt, alloc, desk, planner, &lecture)?;
     let mut done = done.lock(rt);
     let pushed = done.push(planner);
     MutexGuard::unlock(done);
@@ -88,9 +87,9 @@ fn take_turn<'a, 'i, J: Naming, R: Wait>(rt: &R, turn: Turn<'a, 'i, J>) -> Optio
 fn both_work<'i, J: Naming + Send + Sync, R: Threads + Wait + Sync>(
     rt: &R,
     alloc: Global,
-    desk: &SharedDesk<GridSheet<'i>, J>,
-    done: &Mutex<Vec<Planner<GridSheet<'i>, J>>>,
-    planners: &mut Vec<Planner<GridSheet<'i>, J>>,
+    desk: &SharedDesk<ListSheet<'i>, J>,
+    done: &Mutex<Vec<Planner<ListSheet<'i>, J>>>,
+    planners: &mut Vec<Planner<ListSheet<'i>, J>>,
 ) -> Option<(Vec<u64>, Vec<u64>)> {
     let top = Turn {
         alloc,
@@ -173,7 +172,7 @@ fn expect_hundred<S: Timetable, J: Naming>(
 fn hundred<'i, J: Naming + Send + Sync, R: Threads + Wait + Abort + Sync>(
     rt: &R,
     alloc: Global,
-    opened: Opened<GridSheet<'i>>,
+    opened: Opened<ListSheet<'i>>,
     count: u16,
 ) -> Result<(), Stopped>
     requires { IsNamed J.problem J.opening J.planners J.book opened count }
@@ -183,7 +182,7 @@ fn hundred<'i, J: Naming + Send + Sync, R: Threads + Wait + Abort + Sync>(
         count,
         name: PhantomData,
     };
-    let Ok((desk, mut planners)) = SharedDesk::<GridSheet, J>::new(rt, named) else {
+    let Ok((desk, mut planners)) = SharedDesk::<ListSheet, J>::new(rt, named) else {
         return Err(Stopped::NoDesk);
     };
     let done = Mutex::new(Vec::new(alloc));
@@ -193,22 +192,22 @@ fn hundred<'i, J: Naming + Send + Sync, R: Threads + Wait + Abort + Sync>(
     let closed = desk.close(rt, done.as_mut_slice());
     let_go((planners, done));
     assert_eq!(rt; handed, 2);
-    expect_hundred::<GridSheet, J>(rt, closed, numbers)
+    expect_hundred::<ListSheet, J>(rt, closed, numbers)
 }
 
-fn hundred_on_grid<'i, R: Threads + Wait + Abort + Sync>(
+fn hundred_on_list<'i, R: Threads + Wait + Abort + Sync>(
     rt: &R,
     alloc: Global,
     small: &'i Instance,
 ) -> Result<(), Stopped> {
-    let opened = empty::<GridSheet>(alloc, small).ok_or(Stopped::NoDesk)?;
+    let opened = empty::<ListSheet>(alloc, small).ok_or(Stopped::NoDesk)?;
     hundred::<Brand, R>(rt, alloc, opened, 2)
 }
 
 #[test]
 fn hundred_commits_on_two_threads(rt: HostRuntime) -> Result<(), Stopped> {
     let small = small_instance(rt.alloc())?;
-    let played = hundred_on_grid(&rt, rt.alloc(), &small);
+    let played = hundred_on_list(&rt, rt.alloc(), &small);
     let_go(small);
     played
 }

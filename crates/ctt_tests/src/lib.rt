@@ -5,6 +5,8 @@
 #[cfg(test)]
 mod crew_tests;
 #[cfg(test)]
+mod desk_tests;
+#[cfg(test)]
 mod desks;
 #[cfg(test)]
 mod edits;

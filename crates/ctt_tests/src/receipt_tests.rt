@@ -1,5 +1,4 @@
-//! Two planners of one desk of list sheets, of whom one learns the receipt of what the other has committed on a thread of his
-//! own.
+//! Two planners of one desk, of whom one learns the receipt of what the other has committed on a thread of his own.
 
 ghost use Rattle.ctt_desk.specs.Names.{IsNamed};
 

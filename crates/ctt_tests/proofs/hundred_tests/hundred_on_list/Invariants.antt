@@ -1,4 +1,4 @@
-use Rattle.ctt_tests.proofs.hundred_tests.hundred_on_grid.Given as goal
+use Rattle.ctt_tests.proofs.hundred_tests.hundred_on_list.Given as goal
 
 -- the desk that was just opened
 abbrev pub ghosts-hundred : goal.ghosts-hundred
