@@ -1,11 +1,9 @@
 //! The lectures in rooms that are taken.
 
-ghost use Rattle.std.specs.Prelude.{◌≡◌, ◌<◌, ◌≤◌, ◌==◌, ◌&&◌, ◌||◌, [], ℕ, false, not, length, IfSome, IfOk, IfErr, OnOk};
-ghost use Rattle.ctt_text.specs.Problem.{room_count, slot_count};
-ghost use Rattle.ctt_text.specs.Timetable.{IsTimetable, Fits};
+ghost use Rattle.std.specs.Prelude.{◌≡◌, ◌<◌, ◌==◌, ◌&&◌, ◌||◌, [], ℕ, false, length, IfOk, IfErr, OnOk};
+ghost use Rattle.ctt_text.specs.Timetable.{IsTimetable};
 ghost use Rattle.ctt_rules.specs.Earlier.{in_row};
 ghost use Rattle.ctt_findings.specs.Findings.{occupancy_finding, occupancy_from};
-ghost use Rattle.ctt_findings.specs.Fitting.{FindingFits};
 ghost use Rattle.ctt_findings.specs.Hearing.{Hears, HearsFront};
 
 use crate::finding::Finding;

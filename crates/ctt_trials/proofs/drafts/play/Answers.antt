@@ -1,5 +1,5 @@
 use Rattle.std.proofs.Common.{rules, ◌≡◌, ◌∙◌, sym}
-use Rattle.ctt_trials.proofs.drafts.play_on.Goals as goal
+use Rattle.ctt_trials.proofs.drafts.play.Goals as goal
 
 pub one_draft-requires : goal.one_draft-requires
 one_draft-requires g c κs =
