@@ -30,8 +30,8 @@ impl<'a, R: Rooms> Model for After<'a, R> {
     ghost Value = { Board };
 
     ghost view = { λ a. record {
-        problem = a.instance.now;
-        list = apply a.cells.now (R.list a.rooms.now);
+      problem = a.instance.now;
+      list = apply a.cells.now (R.list a.rooms.now);
     } };
 
     ghost invariant = { λ a.

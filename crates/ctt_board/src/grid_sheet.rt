@@ -22,8 +22,8 @@ use crate::sheet::{Rooms, Sheet, Timetable};
 use crate::tables::Tables;
 use ctt_rules::Cost;
 use ctt_text::{CourseNo, Instance, Marks, NoMemory, Placed, RoomNo, SlotNo};
-use std::alloc::{AllocError, Global};
 use rows::{append_column, append_row};
+use std::alloc::{AllocError, Global};
 use std::marker::Model;
 
 mod rows;
@@ -45,8 +45,8 @@ impl<'i> Model for GridSheet<'i> {
     ghost Value = { Board };
 
     ghost view = { λ s. record {
-        problem = s.instance.now;
-        list = listed s.instance.now s.tables.rooms;
+      problem = s.instance.now;
+      list = listed s.instance.now s.tables.rooms;
     } };
 
     ghost invariant = { λ s. IsGridSheet s.instance.now s.tables s.cost };

@@ -134,12 +134,12 @@ impl<'a, S: Timetable> Model for Auditor<'a, S> {
     ghost Value = { AuditorValue };
 
     ghost view = { λ a. record {
-        problem = S.problem a.sheet;
-        lectures = a.opening.now;
-        entries = a.entries;
-        asked = a.asked;
-        made = a.made;
-        told = a.told;
+      problem = S.problem a.sheet;
+      lectures = a.opening.now;
+      entries = a.entries;
+      asked = a.asked;
+      made = a.made;
+      told = a.told;
     } };
 
     ghost invariant = { λ a.

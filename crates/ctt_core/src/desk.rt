@@ -51,11 +51,11 @@ impl<'i, S: Timetable, K: Keeping> Model for Desk<'i, S, K> {
     ghost Value = { DeskValue };
 
     ghost view = { λ d. record {
-        problem = d.instance.now;
-        opening = d.opening.items;
-        list = d.stock.list;
-        journal = d.journal.list;
-        drafts = d.drafts.items;
+      problem = d.instance.now;
+      opening = d.opening.items;
+      list = d.stock.list;
+      journal = d.journal.list;
+      drafts = d.drafts.items;
     } };
 
     ghost invariant = { λ d.

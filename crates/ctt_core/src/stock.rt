@@ -48,9 +48,9 @@ impl<'i, S: Timetable> Model for Stock<'i, S> {
     ghost Value = { StockValue };
 
     ghost view = { λ s. record {
-        problem = S.problem s.sheet;
-        list = S.list s.sheet;
-        log = s.log.items;
+      problem = S.problem s.sheet;
+      list = S.list s.sheet;
+      log = s.log.items;
     } };
 
     ghost invariant = { λ s.

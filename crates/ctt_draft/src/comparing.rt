@@ -43,10 +43,10 @@ impl<'a, R: Rooms> Model for Comparison<'a, R> {
     ghost Value = { Compared };
 
     ghost view = { λ c. record {
-        problem = c.instance.now;
-        present = R.list c.present.now;
-        undo = c.undo.now.cells;
-        sheet = R.list c.sheet.now;
+      problem = c.instance.now;
+      present = R.list c.present.now;
+      undo = c.undo.now.cells;
+      sheet = R.list c.sheet.now;
     } };
 
     ghost invariant = { λ c.

@@ -49,9 +49,9 @@ impl<'i, S: Timetable, K: Keeping> Model for Draft<'i, S, K> {
     ghost Value = { DraftValue };
 
     ghost view = { λ d. record {
-        problem = d.instance.now;
-        base = put_back d.instance.now d.undo.cells (S.list d.present.value);
-        asked = d.asked.list;
+      problem = d.instance.now;
+      base = put_back d.instance.now d.undo.cells (S.list d.present.value);
+      asked = d.asked.list;
     } };
 
     ghost invariant = { λ d.

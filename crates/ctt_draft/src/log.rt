@@ -59,8 +59,8 @@ impl<E, K: Keeping> Model for Log<E, K> {
     ghost Value = { LogValue E };
 
     ghost view = { λ l. record {
-        list = l.all;
-        has_room = has_room K.keeps l.len (vec_len l.kept) (vec_capacity l.kept);
+      list = l.all;
+      has_room = has_room K.keeps l.len (vec_len l.kept) (vec_capacity l.kept);
     } };
 
     ghost invariant = { λ l. IsLog K.keeps l.kept.items l.len l.all };

@@ -28,9 +28,9 @@ impl<S: Timetable> Model for Remains<S> {
     ghost Value = { RemainsValue };
 
     ghost view = { λ r. record {
-        problem = S.problem r.present.value;
-        base = put_back (S.problem r.present.value) r.undo.cells (S.list r.present.value);
-        present = S.list r.present.value;
+      problem = S.problem r.present.value;
+      base = put_back (S.problem r.present.value) r.undo.cells (S.list r.present.value);
+      present = S.list r.present.value;
     } };
 
     ghost invariant = { λ r.

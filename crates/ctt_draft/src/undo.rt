@@ -26,9 +26,9 @@ impl Model for Undo {
     ghost Value = { UndoValue };
 
     ghost view = { λ u. record {
-        courses = u.table.rows;
-        slots = u.table.width;
-        cells = u.cells.items;
+      courses = u.table.rows;
+      slots = u.table.width;
+      cells = u.cells.items;
     } };
 
     ghost invariant = { λ u. IsUndo u.cells.items u.table };

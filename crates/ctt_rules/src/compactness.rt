@@ -59,7 +59,7 @@ impl Words {
         requires { Each (λ c. c < 2000) courses.now }
         ensures { (place : ℕ)
             → has_bit result place
-                ≡ list_any (λ c. has_bit (word_of self.now c) place) courses.now }
+            ≡ list_any (λ c. has_bit (word_of self.now c) place) courses.now }
     {
         let mut union = 0;
         for course in courses {
@@ -74,9 +74,9 @@ impl Words {
         requires few { length courses.now ≤ 2000 }
         ensures { result
             ≡ sum_by
-                (λ c.
-                    count_below (λ place. has_bit (word_of self.now c) place && has_bit bits place)
-                    64) courses.now }
+            (λ c.
+            count_below (λ place. has_bit (word_of self.now c) place && has_bit bits place)
+            64) courses.now }
     {
         let mut count = 0;
         for course in courses {
@@ -115,9 +115,9 @@ fn alone_within(instance: &Instance, timetable: &[Placed], first: u16) -> u64
     requires { IsTimetable instance.now timetable.now }
     ensures value { result
         ≡ sum_by
-            (λ q.
-                2 * count_by (is_alone_within instance.now first (lectures_of q timetable.now))
-                (lectures_of q timetable.now)) instance.now.curricula }
+        (λ q.
+        2 * count_by (is_alone_within instance.now first (lectures_of q timetable.now))
+        (lectures_of q timetable.now)) instance.now.curricula }
     ensures bound { result ≤ 20000 * 8000000 }
 {
     instance.limits_hold();

@@ -32,7 +32,7 @@ fn has_no_surplus(instance: &Instance, timetable: &[Placed], hard: &Hard) -> boo
 fn breaks_none(hard: &Hard) -> bool
     ensures { result
         ≡ (hard.now.conflicts == 0
-            && (hard.now.availability == 0 && (hard.now.occupancy == 0 && hard.now.barred == 0))) }
+        && (hard.now.availability == 0 && (hard.now.occupancy == 0 && hard.now.barred == 0))) }
 {
     hard.conflicts == 0 && (hard.availability == 0 && (hard.occupancy == 0 && hard.barred == 0))
 }

@@ -106,12 +106,12 @@ impl Block {
             || in_row self.old.rooms row n) }
         ensures conflicts { self.new.sharing.conflicts ≡ self.old.sharing.conflicts
             + cond (nat_le self.old.first lecture.now.slot
-                && nat_lt lecture.now.slot (self.old.first + 64))
+            && nat_lt lecture.now.slot (self.old.first + 64))
             (count_marked (λ n. in_row self.old.courses (lecture.now.slot - self.old.first) n
-                && clashes_with instance.now lecture.now.course n)) 0 }
+            && clashes_with instance.now lecture.now.course n)) 0 }
         ensures occupancy { self.new.sharing.occupancy ≡ self.old.sharing.occupancy
             + cond (nat_le self.old.first lecture.now.slot
-                && nat_lt lecture.now.slot (self.old.first + 64))
+            && nat_lt lecture.now.slot (self.old.first + 64))
             (cond (in_row self.old.rooms (lecture.now.slot - self.old.first) lecture.now.room) 1 0)
             0 }
     {

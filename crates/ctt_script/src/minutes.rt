@@ -80,9 +80,9 @@ impl Model for Minutes {
     ghost Value = { MinutesValue };
 
     ghost view = { λ m. record {
-        drafts = m.drafts.items;
-        entries = string_bytes m.entries;
-        count = m.count;
+      drafts = m.drafts.items;
+      entries = string_bytes m.entries;
+      count = m.count;
     } };
 }
 

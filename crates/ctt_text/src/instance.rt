@@ -247,7 +247,7 @@ impl Instance {
         requires { course < course_count self.now }
         ensures { (d : ℕ)
             → is_marked result.now d
-                ≡ (nat_lt d (course_count self.now) && clash self.now course d) }
+            ≡ (nat_lt d (course_count self.now) && clash self.now course d) }
     {
         &self.clashes[course.get() as usize]
     }
@@ -279,7 +279,7 @@ impl Instance {
         requires { IfSome table (HasMarks (course_count self.old) (room_count self.old)) }
         ensures { self.new
             ≡ record self.old
-                { barred = marks_in (course_count self.old * room_count self.old) table } }
+            { barred = marks_in (course_count self.old * room_count self.old) table } }
     {
         self.barred = table;
     }

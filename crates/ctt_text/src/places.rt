@@ -177,7 +177,7 @@ pub(crate) fn next_period_below<F: SlotFault + Drop>(
     ensures within { IfOk result (λ period. period < periods) }
     ensures exact { Reads (λ period. (period, reader.new)) result
         (reading F.missing (number_if F.bad_number (λ n. nat_lt n periods) F.period_out)
-            reader.old) }
+        reader.old) }
 {
     let at = reader.next();
     let period = next_number::<F>(reader)?;
@@ -196,7 +196,7 @@ pub(crate) fn next_day<F: SlotFault + Drop>(
     ensures within { IfOk result (λ day. day < instance.now.days) }
     ensures exact { Reads (λ day. (day, reader.new)) result
         (reading F.missing (number_if F.bad_number (λ n. nat_lt n instance.now.days) F.day_out)
-            reader.old) }
+        reader.old) }
 {
     let day = next_day_below::<F>(reader, u32::from(instance.days()))?;
     Ok(day as u16)

@@ -119,10 +119,10 @@ fn read_table(
         IfSome table (HasMarks (course_count instance.now) (room_count instance.now))) }
     ensures exact { GivesBarred
         (λ table.
-            (marks_in (course_count instance.now * room_count instance.now) table, reader.new))
+        (marks_in (course_count instance.now * room_count instance.now) table, reader.new))
         result
         (reads_barred (times (barred_pair instance.now) count (none_barred instance.now))
-            reader.old) }
+        reader.old) }
 {
     instance.limits_hold();
     if count == 0 {
@@ -146,7 +146,7 @@ fn read_rooms(
         IfSome table (HasMarks (course_count instance.now) (room_count instance.now))) }
     ensures exact { GivesBarred
         (λ table.
-            (marks_in (course_count instance.now * room_count instance.now) table, reader.new))
+        (marks_in (course_count instance.now * room_count instance.now) table, reader.new))
         result (reads_barred (barred_rooms instance.now) reader.old) }
 {
     next_fixed::<BarredFault>(reader, "Barred:")?;
@@ -186,7 +186,7 @@ pub fn read_barred(alloc: Global, instance: &mut Instance, text: &[u8]) -> Resul
         → IsUtf8 text.now
         → BarSpells instance.old (words text.now) table
         → MatchResult result (λ _. instance.new ≡ record instance.old { barred = table })
-            (λ fault. fault ≡ NoMemory) }
+        (λ fault. fault ≡ NoMemory) }
     ensures fault { IfErr result (IsBarredCauseOf instance.old text.now) }
     ensures not_text { ¬ IsUtf8 text.now → result ≡ Err (NotText (utf8_valid_len text.now)) }
     ensures broken { (k : ℕ) (fault : BarredFault)

@@ -19,7 +19,7 @@ fn add_to_members(
     requires { AreMembers (length lists.old) members.now }
     ensures { OnOk result
         (AddsNumber (map (λ v. v.items) lists.old) (map (λ v. v.items) lists.new) curriculum
-            (λ c. has c members.now)) }
+        (λ c. has c members.now)) }
 {
     for member in members {
         add_to(lists, member.get() as usize, curriculum)?;
@@ -37,10 +37,10 @@ fn add_all(lists: &mut [Vec<CurriculumNo>], curricula: &[Vec<CourseNo>]) -> Resu
     ensures size { OnOk result (length lists.new ≡ length lists.old) }
     ensures lists { OnOk result
         ((c : ℕ)
-            → c < length lists.old
-            → get_or (map (λ v. v.items) lists.new) c []
-                ≡ below (λ q. has c (get_or (map (λ v. v.items) curricula.now) q []))
-                    (length curricula.now)) }
+        → c < length lists.old
+        → get_or (map (λ v. v.items) lists.new) c []
+        ≡ below (λ q. has c (get_or (map (λ v. v.items) curricula.now) q []))
+        (length curricula.now)) }
 {
     for (number, members) in curricula.iter().enumerate() {
         add_to_members(lists, members, CurriculumNo::new(number as u16))?;
@@ -63,8 +63,8 @@ pub(crate) fn belonging(
         (c : ℕ)
         → c < length courses.now
         → get_or (map (λ v. v.items) v.items) c []
-            ≡ below (λ q. has c (get_or (map (λ v. v.items) curricula.now) q []))
-                (length curricula.now)) }
+        ≡ below (λ q. has c (get_or (map (λ v. v.items) curricula.now) q []))
+        (length curricula.now)) }
 {
     let mut lists = empty_lists(alloc, courses.len())?;
     add_all(&mut lists, curricula)?;

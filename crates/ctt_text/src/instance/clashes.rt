@@ -116,9 +116,9 @@ fn add_mates(rows: &mut [Marks], curricula: &[Vec<CourseNo>])
     ensures marks { (c d : ℕ)
         → c < length rows.old
         → mark_at rows.new c d
-            ≡ (not (c == d)
-                && (mark_at rows.old c d
-                    || list_any (λ q. has c q.items && has d q.items) curricula.now)) }
+        ≡ (not (c == d)
+        && (mark_at rows.old c d
+        || list_any (λ q. has c q.items && has d q.items) curricula.now)) }
 {
     add_curricula(rows, curricula);
     unmark_own(rows);
@@ -135,10 +135,10 @@ fn mark_clashes(rows: &mut [Marks], courses: &[CourseFacts], curricula: &[Vec<Co
     ensures marks { (c d : ℕ)
         → c < length courses.now
         → mark_at rows.new c d
-            ≡ (nat_lt d (length courses.now)
-                && (not (c == d)
-                    && (teacher_at courses.now c == teacher_at courses.now d
-                        || list_any (λ q. has c q.items && has d q.items) curricula.now))) }
+        ≡ (nat_lt d (length courses.now)
+        && (not (c == d)
+        && (teacher_at courses.now c == teacher_at courses.now d
+        || list_any (λ q. has c q.items && has d q.items) curricula.now))) }
 {
     mark_taught(rows, courses);
     spread(rows, courses);
@@ -159,10 +159,10 @@ pub(crate) fn clash_rows(
         (c d : ℕ)
         → c < length courses.now
         → mark_at v.items c d
-            ≡ (nat_lt d (length courses.now)
-                && (not (c == d)
-                    && (teacher_at courses.now c == teacher_at courses.now d
-                        || list_any (λ q. has c q.items && has d q.items) curricula.now)))) }
+        ≡ (nat_lt d (length courses.now)
+        && (not (c == d)
+        && (teacher_at courses.now c == teacher_at courses.now d
+        || list_any (λ q. has c q.items && has d q.items) curricula.now)))) }
 {
     let mut rows = vec![in alloc; Marks::new(); courses.len()]?;
     mark_clashes(&mut rows, courses, curricula);

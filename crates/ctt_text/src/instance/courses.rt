@@ -90,7 +90,7 @@ pub(crate) fn read_course_section(
     ensures count { IfOk result (λ section. length section.names ≡ header.now.courses) }
     ensures exact { GivesRead (λ section. (section, reader.new)) result
         (reads (after Expected (codes "COURSES:") (times course header.now.courses no_courses))
-            reader.old) }
+        reader.old) }
 {
     read_fixed(reader, "COURSES:")?;
     read_courses(alloc, reader, header.courses)

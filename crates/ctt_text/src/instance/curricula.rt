@@ -85,9 +85,9 @@ pub(crate) fn read_curriculum_section(
     requires { length courses.now.names ≤ 2000 }
     ensures { GivesRead (λ section. (section, reader.new)) result
         (reads
-            (after Expected (codes "CURRICULA:")
-                (times (curriculum courses.now.names) header.now.curricula no_curricula))
-            reader.old) }
+        (after Expected (codes "CURRICULA:")
+        (times (curriculum courses.now.names) header.now.curricula no_curricula))
+        reader.old) }
 {
     read_fixed(reader, "CURRICULA:")?;
     read_curricula(alloc, reader, &courses.names, header.curricula)

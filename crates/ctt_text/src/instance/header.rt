@@ -28,13 +28,13 @@ impl<'a> Model for Header<'a> {
     ghost Value = { Header };
 
     ghost view = { λ h. record {
-        name = h.name.now;
-        courses = h.courses;
-        rooms = h.rooms;
-        days = h.days;
-        periods = h.periods;
-        curricula = h.curricula;
-        constraints = h.constraints;
+      name = h.name.now;
+      courses = h.courses;
+      rooms = h.rooms;
+      days = h.days;
+      periods = h.periods;
+      curricula = h.curricula;
+      constraints = h.constraints;
     } };
 }
 
@@ -58,7 +58,7 @@ fn read_two_counts(
     ensures first { IfOk result (λ c. c.0 ≤ first.entry.1) }
     ensures exact { GivesRead (λ c. (c, reader.new)) result
         (reads (two_counts first.entry.0.now first.entry.1 second.entry.0.now second.entry.1)
-            reader.old) }
+        reader.old) }
 {
     let first = read_count(reader, first.0, first.1)?;
     let second = read_count(reader, second.0, second.1)?;

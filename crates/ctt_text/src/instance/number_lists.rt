@@ -14,7 +14,7 @@ pub(crate) fn add_to<N: Drop>(
     requires { place < length lists.old }
     ensures { OnOk result
         (AddsNumber (map (λ v. v.items) lists.old) (map (λ v. v.items) lists.new) number
-            (λ p. place == p)) }
+        (λ p. place == p)) }
 {
     lists[place].push(number)?;
     Ok(())

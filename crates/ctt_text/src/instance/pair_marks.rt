@@ -22,9 +22,9 @@ impl Model for PairMarks {
     ghost Value = { MarkTable };
 
     ghost view = { λ u. record {
-        rows = u.rows;
-        width = u.width;
-        marks = marks_below (u.rows * u.width) u.words.items;
+      rows = u.rows;
+      width = u.width;
+      marks = marks_below (u.rows * u.width) u.words.items;
     } };
 
     ghost invariant = { λ u. HasWords (u.rows * u.width) u.words.items };
@@ -48,7 +48,7 @@ impl PairMarks {
         requires column { column < self.old.width }
         ensures { self.new
             ≡ record self.old
-                { marks = slice_set self.old.marks (row * self.old.width + column) true } }
+            { marks = slice_set self.old.marks (row * self.old.width + column) true } }
     {
         let number = row * self.width + column;
         let word = self.words[number / 64];

@@ -70,7 +70,7 @@ pub(crate) fn read_room_section(
 ) -> Result<RoomSection, ReadFault>
     ensures { GivesRead (λ section. (section, reader.new)) result
         (reads (after Expected (codes "ROOMS:") (times room header.now.rooms no_rooms))
-            reader.old) }
+        reader.old) }
 {
     read_fixed(reader, "ROOMS:")?;
     read_rooms(alloc, reader, header.rooms)

@@ -18,9 +18,9 @@ fn add_courses(lists: &mut [Vec<CourseNo>], courses: &[CourseFacts]) -> Result<(
     ensures size { OnOk result (length lists.new ≡ length lists.old) }
     ensures lists { OnOk result
         ((h : ℕ)
-            → h < length lists.old
-            → get_or (map (λ v. v.items) lists.new) h []
-                ≡ below (λ c. teacher_at courses.now c == h) (length courses.now)) }
+        → h < length lists.old
+        → get_or (map (λ v. v.items) lists.new) h []
+        ≡ below (λ c. teacher_at courses.now c == h) (length courses.now)) }
 {
     for (number, course) in courses.iter().enumerate() {
         let teacher = course.teacher.get() as usize;
@@ -42,7 +42,7 @@ pub(crate) fn taught(
         (h : ℕ)
         → h < teachers
         → get_or (map (λ v. v.items) v.items) h []
-            ≡ below (λ c. teacher_at courses.now c == h) (length courses.now)) }
+        ≡ below (λ c. teacher_at courses.now c == h) (length courses.now)) }
 {
     let mut lists = empty_lists(alloc, teachers)?;
     add_courses(&mut lists, courses)?;

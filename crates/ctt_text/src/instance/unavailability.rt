@@ -80,9 +80,9 @@ pub(crate) fn read_unavailability_section(
     ensures width { IfOk result (λ table. table.width ≡ header.now.days * header.now.periods) }
     ensures exact { GivesRead (λ table. (table.marks, reader.new)) result
         (reads
-            (after Expected (codes "UNAVAILABILITY_CONSTRAINTS:")
-                (times (unavailability courses.now.names header.now.days header.now.periods)
-                    header.now.constraints (all_available header.now))) reader.old) }
+        (after Expected (codes "UNAVAILABILITY_CONSTRAINTS:")
+        (times (unavailability courses.now.names header.now.days header.now.periods)
+        header.now.constraints (all_available header.now))) reader.old) }
 {
     read_fixed(reader, "UNAVAILABILITY_CONSTRAINTS:")?;
     let slots = (header.days * header.periods) as usize;

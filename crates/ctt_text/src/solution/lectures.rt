@@ -68,8 +68,8 @@ impl<'i> Model for Lectures<'i> {
     ghost Value = { Held };
 
     ghost view = { λ l. record {
-        problem = l.instance.now;
-        lectures = elim l.table [ None ↦ l.list.items | Some table ↦ table.lectures ];
+      problem = l.instance.now;
+      lectures = elim l.table [ None ↦ l.list.items | Some table ↦ table.lectures ];
     } };
 
     ghost invariant = { λ l.

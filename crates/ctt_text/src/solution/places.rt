@@ -25,7 +25,7 @@ pub(crate) fn read_slot(
     ensures free { IfOk result (λ slot. has_lecture course slot lectures.now.lectures ≡ false) }
     ensures exact { GivesLectures (λ slot. (slot, reader.new)) result
         (reads_lectures (free_slot lectures.now.problem lectures.now.lectures course day)
-            reader.old) }
+        reader.old) }
 {
     let at = reader.next();
     let period = next_number::<SolutionFault>(reader)?;

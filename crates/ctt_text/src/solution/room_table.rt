@@ -45,7 +45,7 @@ fn next_held(rooms: &[Compact], from: usize) -> usize
     ensures within { result ≤ length rooms.now }
     ensures free { (slots : ℕ)
         → lectures_from slots 0 (take result rooms.now)
-            ≡ lectures_from slots 0 (take from rooms.now) }
+        ≡ lectures_from slots 0 (take from rooms.now) }
 {
     let mut cell = from;
     while cell < rooms.len() && rooms[cell].room().is_none() {
@@ -70,8 +70,8 @@ impl<'i> Model for RoomTable<'i> {
     ghost Value = { Held };
 
     ghost view = { λ l. record {
-        problem = l.instance.now;
-        lectures = lectures_from (slot_count l.instance.now) 0 l.rooms.items;
+      problem = l.instance.now;
+      lectures = lectures_from (slot_count l.instance.now) 0 l.rooms.items;
     } };
 
     ghost invariant = { λ l.
