@@ -1,14 +1,18 @@
 //! Planners with an open draft.
 
 ghost use Rattle.std.specs.Prelude.{◌≡◌, IfOk, OnErr};
+ghost use Rattle.std.specs.List.{AllByRecursion as Each};
 ghost use Rattle.ctt_edits.specs.Calls.{CallFits, reply};
 ghost use Rattle.ctt_edits.specs.Fitting.{IsReply};
+ghost use Rattle.ctt_draft.specs.Drafts.{AskedFits};
+ghost use Rattle.ctt_desk.specs.Histories.{entry_of};
 ghost use Rattle.ctt_desk.specs.Planners.{present_of, asked_also};
 
 use crate::kept::Kept;
 use crate::naming::Naming;
 use crate::planner::Planner;
 use ctt_board::{Sheet, Timetable};
+use ctt_core::JournalEntry;
 use ctt_draft::{Draft, KeepAll};
 use ctt_edits::{Call, Reply, laws};
 use ctt_text::{Instance, NoMemory};
@@ -61,6 +65,18 @@ impl<'i, S: Sheet<'i>, J: Naming> Drafting<'i, S, J> {
         self.draft.instance().limits_hold();
         self.draft.lawful();
         self.draft.call(call)
+    }
+
+    /// The entry that the draft is, if it is accepted.
+    pub fn entry(&self) -> Result<JournalEntry, NoMemory>
+        ensures entry { IfOk result (λ entry. entry ≡ entry_of self.now.planner.number self.now.asked) }
+        ensures fit { IfOk result (λ entry. Each (AskedFits J.problem) entry.asked) }
+    {
+        self.draft.instance().limits_hold();
+        self.draft.lawful();
+        let asked = self.draft.asked_again(self.planner.alloc)?;
+        let planner = self.planner.number();
+        Ok(JournalEntry { planner, asked })
     }
 
     /// Gives the draft up. Its sheet is kept. It takes no memory.

@@ -15,7 +15,7 @@ ghost use Rattle.ctt_board.specs.Changes.{apply_all};
 ghost use Rattle.ctt_draft.specs.Undo.{undo_of};
 ghost use Rattle.ctt_draft.specs.Comparisons.{LeavesRest};
 
-use crate::asked::{Asked, push_told};
+use crate::asked::{Asked, AskedCalls, push_told};
 use crate::boxed::{add, apply, boxed_copy, changed_copy, no_rows, note_cells, unboxed};
 use crate::comparing::Comparison;
 use crate::idle::Idle;
@@ -376,5 +376,12 @@ impl<'i, S: Sheet<'i>> Draft<'i, S, KeepAll> {
         ensures { result.now ≡ self.now.asked }
     {
         self.asked.as_slice()
+    }
+
+    /// A copy of the calls with their replies, in order.
+    pub fn asked_again(&self, alloc: Global) -> Result<AskedCalls, NoMemory>
+        ensures { IfOk result (λ copy. copy ≡ self.now.asked) }
+    {
+        AskedCalls::copy_of(alloc, self.asked.as_slice())
     }
 }

@@ -20,3 +20,4 @@ pub mod WrittenWords
 pub mod Minutes
 pub mod Seats
 pub mod AuditedText
+pub mod Seats

@@ -1,5 +1,5 @@
 -- A planner of a crew: what he is told, and how that leaves him.
-use Rattle.std.specs.Prelude.{◌≡◌, ◌⊎◌, ◌++◌, ℕ, List, length, Option, Some, None}
+use Rattle.std.specs.Prelude.{◌≡◌, ◌⊎◌, ◌++◌, ℕ, List, [], ◌∷◌, length, Option, Some, None}
 use Rattle.ctt_text.specs.Problem.{Problem}
 use Rattle.ctt_text.specs.declared.placed.Placed.{Placed}
 use Rattle.ctt_edits.specs.Calls.{reply}
@@ -10,6 +10,7 @@ use Rattle.ctt_core.specs.declared.answer.Answer.TheVariants as answer
 use Rattle.ctt_core.specs.declared.event.Event.{Event}
 use Rattle.ctt_core.specs.declared.event.Event.TheVariants.{Open, Ask, Commit, Refresh, Abandon, Show}
 use Rattle.ctt_core.specs.declared.journal.JournalEntry.{JournalEntry}
+use Rattle.ctt_desk.specs.Histories.{entry_of}
 use Rattle.ctt_desk.specs.Planners.{PlannerValue, DraftingValue, IsAccepted, IsOpen, IsRefreshed, IsViewed, asked_also, present_of}
 use Rattle.ctt_desk.specs.Refusals.{IsNotRefreshed, IsRefused, IsUnread}
 use Rattle.ctt_desk.specs.declared.refusal.Refusal.{Refusal}
@@ -19,7 +20,7 @@ use Rattle.ctt_desk.specs.declared.refusal.RefreshRefusal.TheVariants as unrefre
 use Rattle.ctt_desk.specs.declared.shared_fault.SharedFault.{SharedFault}
 use Rattle.ctt_script.specs.AnswerText.{bad_line}
 use Rattle.ctt_script.specs.CrewText.{told_unread, told_words}
-use Rattle.ctt_script.specs.WrittenText.{line}
+use Rattle.ctt_script.specs.WrittenText.{entry_text, line}
 use Rattle.ctt_script.specs.declared.seat.Seat.{Seat}
 use Rattle.ctt_script.specs.declared.seat.Seat.TheVariants.{Free, Drafting}
 use Rattle.ctt_script.specs.declared.seat.Told.{Told}
@@ -107,3 +108,13 @@ AnswersCall i call before after old new = (told : Told) × Asks i call before af
 abbrev pub AnswersLine : {X Y : Type 0} → Problem → List Placed → Option Event → Seat X Y → Seat X Y → List ℕ → List ℕ → Type 0
 AnswersLine i t0 None before after old new = (after ≡ before) × (new ≡ old ++ bad_line)
 AnswersLine i t0 (Some event) before after old new = (told : Told) × Takes i t0 event before after told × (new ≡ old ++ line (told_words i told))
+
+-- the entry of the open draft, as a journal has it; nothing where none is open
+abbrev pub open_entry : {X Y : Type 0} → Problem → Seat X Y → List ℕ
+open_entry i (Free p) = []
+open_entry i (Drafting d) = entry_text i (entry_of d.planner.number d.asked)
+
+-- the history ends with the draft that is open here
+abbrev pub EndsWithDraft : {X Y : Type 0} → Problem → Seat X Y → List JournalEntry → Type 0
+EndsWithDraft i (Free p) history = ⊥
+EndsWithDraft i (Drafting d) history = (before : List JournalEntry) × (history ≡ before ++ entry_of d.planner.number d.asked ∷ [])

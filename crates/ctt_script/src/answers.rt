@@ -57,7 +57,7 @@ pub fn write_answer(
 }
 
 /// Adds the answer to a line that is no event.
-pub(crate) fn write_bad_line(text: &mut String) -> Result<(), AllocError>
+pub fn write_bad_line(text: &mut String) -> Result<(), AllocError>
     ensures { OnOk result (string_bytes text.new ≡ string_bytes text.old ++ bad_line) }
 {
     text.push_str("bad line\n")

@@ -23,7 +23,7 @@ use std::marker::PhantomData;
 use std::sync::Wait;
 
 /// Adds the line of what a planner of a crew is answered.
-fn write_told(text: &mut String, instance: &Instance, told: &Told) -> Result<(), AllocError>
+pub fn write_told(text: &mut String, instance: &Instance, told: &Told) -> Result<(), AllocError>
     requires { ToldFits instance.now told.now }
     ensures { OnOk result (string_bytes text.new
         ≡ string_bytes text.old ++ line (told_words instance.now told.now)) }

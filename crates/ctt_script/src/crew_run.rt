@@ -145,7 +145,7 @@ fn crew_report(
 }
 
 /// What a crew wrote whose desk is closed.
-fn closing_report<S: Timetable, J: Naming>(
+pub fn closing_report<S: Timetable, J: Naming>(
     alloc: Global,
     closed: &Closed<S, J>,
     answers: Vec<String>,
@@ -170,7 +170,7 @@ fn desk_named<S: Timetable, J: Naming, R: Wait>(
 }
 
 /// Ends a desk whose planners are gone.
-fn end<S: Timetable, J: Naming, R: Wait>(
+pub fn end<S: Timetable, J: Naming, R: Wait>(
     rt: &R,
     alloc: Global,
     desk: SharedDesk<S, J>,

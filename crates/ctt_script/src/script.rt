@@ -248,7 +248,7 @@ pub fn read_own_line(instance: &Instance, planner: PlannerNo, line: &[u8]) -> Op
 }
 
 /// Whether a line has words.
-pub(crate) fn has_words(line: &[u8]) -> bool
+pub fn has_words(line: &[u8]) -> bool
     ensures { result ≡ has_words line.now }
 {
     Words::new(line).next().is_some()

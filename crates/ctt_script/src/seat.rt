@@ -1,21 +1,27 @@
 //! A planner of a crew, with or without an open draft, and what he is answered.
 
-ghost use Rattle.std.specs.Prelude.{ℕ, ◌≡◌, None, Some};
+ghost use Rattle.std.specs.Prelude.{ℕ, ◌≡◌, ◌++◌, None, Some, IfErr, IfOk, OnOk, string_bytes};
 ghost use Rattle.ctt_edits.specs.Calls.{CallFits};
 ghost use Rattle.ctt_edits.specs.Looks.{LookFits};
 ghost use Rattle.ctt_core.specs.Runs.{EventFits};
+ghost use Rattle.ctt_desk.specs.Histories.{entry_of};
 ghost use Rattle.ctt_script.specs.CrewText.{ToldFits, call_in, told_unread};
-ghost use Rattle.ctt_script.specs.Seats.{Abandons, Asks, Commits, Opens, Refreshes, Shows, Takes};
+ghost use Rattle.ctt_script.specs.Seats.{Abandons, Asks, Commits, EndsWithDraft, Opens, Refreshes, Shows, Takes, open_entry};
+ghost use Rattle.ctt_script.specs.WrittenText.{entry_text};
 
+use crate::written::write_entry;
 use ctt_board::{Sheet, Timetable};
 use ctt_core::{Answer, Event};
-use ctt_desk::{Drafting, Naming, Planner, RefreshRefusal, Refusal, SharedDesk, SharedFault};
+use ctt_desk::{
+    Drafting, Naming, Planner, Receipt, RefreshRefusal, Refusal, SharedDesk, SharedFault,
+};
 use ctt_edits::{Call, Look};
+use ctt_text::{NoMemory, let_go};
 use std::sync::Wait;
 
 /// A planner at work.
 #[derive(Drop)]
-pub(crate) enum Seat<'i, S: Timetable, J: Naming> {
+pub enum Seat<'i, S: Timetable, J: Naming> {
     /// No draft is open.
     Free(Planner<S, J>),
     /// A draft is open.
@@ -24,7 +30,7 @@ pub(crate) enum Seat<'i, S: Timetable, J: Naming> {
 
 /// What a planner of a crew is answered.
 #[derive(Drop)]
-pub(crate) enum Told {
+pub enum Told {
     /// As by a desk for one thread.
     Answer(Answer),
     /// He has seen more drafts than the desk has, namely this many; or it has another number of his drafts
@@ -45,6 +51,20 @@ fn unread<J: Naming>(fault: SharedFault) -> Told
     }
 }
 
+/// Adds the entry of a draft, as a journal has it.
+fn write_draft<'i, S: Sheet<'i>, J: Naming>(
+    drafting: &Drafting<'i, S, J>,
+    text: &mut String,
+) -> Result<(), NoMemory>
+    ensures { OnOk result (string_bytes text.new ≡ string_bytes text.old ++ entry_text J.problem (entry_of drafting.now.planner.number drafting.now.asked)) }
+{
+    let instance = drafting.instance();
+    let entry = drafting.entry()?;
+    let written = write_entry(text, instance, entry.planner, entry.asked.as_slice());
+    let_go(entry);
+    Ok(written?)
+}
+
 impl<'i, S: Sheet<'i>, J: Naming> Seat<'i, S, J> {
     /// Opens a draft.
     fn open(self) -> (Self, Told)
@@ -63,7 +83,7 @@ impl<'i, S: Sheet<'i>, J: Naming> Seat<'i, S, J> {
     }
 
     /// Makes the call in the draft. Of all that a line may ask for, this is the most frequent; it moves no seat.
-    pub(crate) fn ask(&mut self, call: Call) -> Told
+    pub fn ask(&mut self, call: Call) -> Told
         requires { CallFits J.problem call }
         ensures fits { ToldFits J.problem result }
         ensures asks { Asks J.problem call self.old self.new result }
@@ -73,6 +93,45 @@ impl<'i, S: Sheet<'i>, J: Naming> Seat<'i, S, J> {
             Seat::Drafting(drafting) => match drafting.call(call) {
                 Ok(reply) => Told::Answer(Answer::Replied(reply)),
                 Err(_) => Told::Answer(Answer::NoMemory),
+            },
+        }
+    }
+
+    /// Adds the entry of the open draft, as a journal has it, if a draft is open.
+    pub fn write_entry(&self, text: &mut String) -> Result<(), NoMemory>
+        ensures { OnOk result (string_bytes text.new ≡ string_bytes text.old ++ open_entry J.problem self.now) }
+    {
+        match self {
+            Seat::Free(_) => Ok(()),
+            Seat::Drafting(drafting) => write_draft(drafting, text),
+        }
+    }
+
+    /// Commits the draft, and gives the receipt where it is accepted.
+    pub fn commit_for_receipt<R: Wait>(
+        self,
+        rt: &R,
+        desk: &SharedDesk<S, J>,
+    ) -> (Self, Result<Receipt<J>, Told>)
+        ensures accepted { IfOk result.1 (λ receipt. EndsWithDraft J.problem self.entry receipt) }
+        ensures refused { IfErr result.1 (ToldFits J.problem) }
+    {
+        match self {
+            Seat::Free(planner) => (Seat::Free(planner), Err(Told::Answer(Answer::NoDraft))),
+            Seat::Drafting(drafting) => match drafting.commit(rt, desk) {
+                Ok((planner, receipt)) => (Seat::Free(planner), Ok(receipt)),
+                Err(Refusal::Stale(planner, row)) => {
+                    (Seat::Free(planner), Err(Told::Answer(Answer::Stale(row))))
+                }
+                Err(Refusal::NotYours(planner, count)) => {
+                    (Seat::Free(planner), Err(Told::NotYours(count)))
+                }
+                Err(Refusal::NoMemory(drafting)) => {
+                    (
+                        Seat::Drafting(drafting),
+                        Err(Told::Answer(Answer::NoMemory)),
+                    )
+                }
             },
         }
     }
@@ -161,7 +220,7 @@ impl<'i, S: Sheet<'i>, J: Naming> Seat<'i, S, J> {
     }
 
     /// Does what a line asks for that is no call. The planner goes on from where that leaves him.
-    pub(crate) fn take<R: Wait>(self, rt: &R, desk: &SharedDesk<S, J>, event: Event) -> (Self, Told)
+    pub fn take<R: Wait>(self, rt: &R, desk: &SharedDesk<S, J>, event: Event) -> (Self, Told)
         requires no_call { call_in (Some event) ≡ None }
         requires fits { (n : ℕ) × EventFits J.problem n event }
         ensures fits { ToldFits J.problem result.1 }

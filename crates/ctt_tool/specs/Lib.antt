@@ -10,3 +10,5 @@ pub mod Audits
 pub mod Crews
 pub mod Work
 pub mod Files
+pub mod Desks
+pub mod Lists

@@ -3,8 +3,8 @@
 ghost use Rattle.std.specs.Prelude.{◌≡◌, [], false, Some, map, codes, IfOk, IfErr, IsOkAnd, OnOk, option_map};
 ghost use Rattle.std.specs.String.{string_bytes};
 ghost use Rattle.clap.specs.Words.{AddsSubcommand, found_of, kind_of, rows_of, rule_of, subcommand_rows_of};
-ghost use Rattle.ctt_tool.specs.CommandLine.{IsCommand, audit, check, crew, flag, required_word, required_words, run, timedesk, valued};
-ghost use Rattle.ctt_tool.specs.Jobs.{IsJobBy, IsJobOf, IsOfKind, IsOfKinds, IsWhole, NamesFiles, NamesJournal, NamesScript, NamesScripts, faults_of};
+ghost use Rattle.ctt_tool.specs.CommandLine.{IsCommand, audit, check, crew, desk, flag, journal, list, required_word, required_words, run, timedesk, valued};
+ghost use Rattle.ctt_tool.specs.Jobs.{IsJobBy, IsJobOf, IsOfKind, IsOfKinds, IsWhole, NamesFiles, NamesJournal, NamesMinutes, NamesScript, NamesScripts, NamesSeats, faults_of};
 ghost use Rattle.ctt_tool.specs.declared.job.WordsFault.TheVariants.{NoMemory};
 
 use clap::error::ErrorKind;
@@ -45,6 +45,28 @@ pub enum Job {
         instance: String,
         barred: Option<String>,
         scripts: Vec<String>,
+    },
+    /// To keep a desk of an instance, which opens with a solution or empty, with a seat for each planner, and to write
+    /// minutes where a file is given for them.
+    Desk {
+        instance: String,
+        barred: Option<String>,
+        seats: Vec<String>,
+        start: Option<String>,
+        minutes: Option<String>,
+    },
+    /// To give the journal of minutes.
+    Journal {
+        instance: String,
+        barred: Option<String>,
+        minutes: String,
+    },
+    /// To give the timetable after a journal as a solution.
+    Listing {
+        instance: String,
+        barred: Option<String>,
+        journal: String,
+        start: Option<String>,
     },
 }
 
@@ -217,6 +239,66 @@ fn crew_command<'a>(alloc: Global) -> Result<Command<'a>, AllocError>
         .args(arguments)
 }
 
+/// The command `desk`.
+fn desk_command<'a>(alloc: Global) -> Result<Command<'a>, AllocError>
+    ensures { IfOk result (IsCommand desk) }
+{
+    let arguments = vec![in alloc;
+        instance_argument(alloc),
+        files_argument(
+            alloc,
+            "seat",
+            "SEAT",
+            "The seats of the planners, at most 64: lines come from SEAT.in, and answers go to SEAT.out",
+        ),
+        barred_argument(alloc),
+        start_argument(alloc),
+        valued_argument(
+            alloc,
+            "minutes",
+            "FILE",
+            "The file to write with each accepted draft before its planner is told",
+        ),
+    ]?;
+    Command::new(alloc, "desk")
+        .about("Keep a desk for planners at their terminals")
+        .args(arguments)
+}
+
+/// The command `journal`.
+fn journal_command<'a>(alloc: Global) -> Result<Command<'a>, AllocError>
+    ensures { IfOk result (IsCommand journal) }
+{
+    let arguments = vec![in alloc;
+        instance_argument(alloc),
+        file_argument(alloc, "minutes", "MINUTES", "The file of the minutes"),
+        barred_argument(alloc),
+    ]?;
+    Command::new(alloc, "journal")
+        .about("Print the journal of the minutes of a desk")
+        .args(arguments)
+}
+
+/// The command `list`.
+fn list_command<'a>(alloc: Global) -> Result<Command<'a>, AllocError>
+    ensures { IfOk result (IsCommand list) }
+{
+    let arguments = vec![in alloc;
+        instance_argument(alloc),
+        file_argument(
+            alloc,
+            "journal",
+            "JOURNAL",
+            "The file of the accepted drafts",
+        ),
+        barred_argument(alloc),
+        start_argument(alloc),
+    ]?;
+    Command::new(alloc, "list")
+        .about("Print the timetable after a journal as a solution")
+        .args(arguments)
+}
+
 /// What stands below the help.
 const STATUSES: &str = "\
 Status: 0 where it is done, also where a report says that a solution is unlawful;
@@ -260,7 +342,10 @@ fn command_line<'a>(alloc: Global) -> Result<Command<'a>, AllocError>
     let checks = with_command(Ok(bare), check_command(alloc));
     let runs = with_command(checks, run_command(alloc));
     let audits = with_command(runs, audit_command(alloc));
-    with_command(audits, crew_command(alloc))
+    let crews = with_command(audits, crew_command(alloc));
+    let desks = with_command(crews, desk_command(alloc));
+    let journals = with_command(desks, journal_command(alloc));
+    with_command(journals, list_command(alloc))
 }
 
 /// The fault that `clap` found in the words.
@@ -369,6 +454,54 @@ fn crew_job(alloc: Global, given: &ArgMatches<'_>) -> Result<Job, WordsFault>
     })
 }
 
+/// The job of the command `desk`, by its matches.
+fn desk_job(alloc: Global, given: &ArgMatches<'_>) -> Result<Job, WordsFault>
+    requires { NamesSeats (rows_of (found_of given.now)) }
+    ensures job { IfOk result (λ job. IsJobBy (Some (codes "desk", rows_of (found_of given.now))) job) }
+    ensures fault { IfErr result (λ fault. fault ≡ NoMemory) }
+{
+    let instance = given.get_str("instance").unwrap();
+    let seats = given.get_strs("seat").unwrap();
+    Ok(Job::Desk {
+        instance: String::from_str(alloc, instance)?,
+        barred: owned(alloc, given.get_str("barred"))?,
+        seats: owned_texts(alloc, seats)?,
+        start: owned(alloc, given.get_str("start"))?,
+        minutes: owned(alloc, given.get_str("minutes"))?,
+    })
+}
+
+/// The job of the command `journal`, by its matches.
+fn journal_job(alloc: Global, given: &ArgMatches<'_>) -> Result<Job, WordsFault>
+    requires { NamesMinutes (rows_of (found_of given.now)) }
+    ensures job { IfOk result (λ job. IsJobBy (Some (codes "journal", rows_of (found_of given.now))) job) }
+    ensures fault { IfErr result (λ fault. fault ≡ NoMemory) }
+{
+    let instance = given.get_str("instance").unwrap();
+    let minutes = given.get_str("minutes").unwrap();
+    Ok(Job::Journal {
+        instance: String::from_str(alloc, instance)?,
+        barred: owned(alloc, given.get_str("barred"))?,
+        minutes: String::from_str(alloc, minutes)?,
+    })
+}
+
+/// The job of the command `list`, by its matches.
+fn list_job(alloc: Global, given: &ArgMatches<'_>) -> Result<Job, WordsFault>
+    requires { NamesJournal (rows_of (found_of given.now)) }
+    ensures job { IfOk result (λ job. IsJobBy (Some (codes "list", rows_of (found_of given.now))) job) }
+    ensures fault { IfErr result (λ fault. fault ≡ NoMemory) }
+{
+    let instance = given.get_str("instance").unwrap();
+    let journal = given.get_str("journal").unwrap();
+    Ok(Job::Listing {
+        instance: String::from_str(alloc, instance)?,
+        barred: owned(alloc, given.get_str("barred"))?,
+        journal: String::from_str(alloc, journal)?,
+        start: owned(alloc, given.get_str("start"))?,
+    })
+}
+
 /// The job of a command, by the matches of the words.
 fn job_of(alloc: Global, matches: &ArgMatches<'_>) -> Result<Job, WordsFault>
     requires { IsWhole (subcommand_rows_of matches.now) }
@@ -380,6 +513,9 @@ fn job_of(alloc: Global, matches: &ArgMatches<'_>) -> Result<Job, WordsFault>
         Some(("run", given)) => run_job(alloc, given),
         Some(("audit", given)) => audit_job(alloc, given),
         Some(("crew", given)) => crew_job(alloc, given),
+        Some(("desk", given)) => desk_job(alloc, given),
+        Some(("journal", given)) => journal_job(alloc, given),
+        Some(("list", given)) => list_job(alloc, given),
         _ => unreachable!(),
     }
 }

@@ -1,0 +1,6 @@
+pub mod Blocks
+pub mod Lines
+pub mod Pages
+pub mod Recovery
+pub mod SeatText
+pub mod Sittings
