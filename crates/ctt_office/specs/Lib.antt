@@ -2,5 +2,6 @@ pub mod Blocks
 pub mod Lines
 pub mod Pages
 pub mod Recovery
+pub mod SeatAnswers
 pub mod SeatText
 pub mod Sittings

@@ -26,6 +26,10 @@ seen (Some history) = history
 abbrev pub AreMinutesOf : Problem → List JournalEntry → Option (List ℕ) → Option (List ℕ) → Type 0
 AreMinutesOf i history start taken = Appends start taken (flat_map (entry_text i) history)
 
+-- a writer has taken the entries of the history since a start, and all that it has taken stays
+abbrev pub IsInMinutes : {W : Type 0} → (W → Option (List ℕ)) → (W → Option (List ℕ)) → Problem → List JournalEntry → Type 0
+IsInMinutes {W} taken kept i history = (start : W) × (now : W) × AreMinutesOf i history (taken start) (taken now) × Stays (kept now) (taken now)
+
 -- the history ends with this entry, as a journal has it
 abbrev pub EndsWith : Problem → List JournalEntry → List ℕ → Type 0
 EndsWith i history entry = (before : List JournalEntry) × (last : JournalEntry) × (history ≡ before ++ last ∷ []) × (entry ≡ entry_text i last)

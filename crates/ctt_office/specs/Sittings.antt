@@ -1,48 +1,42 @@
--- A planner at a seat: which lines he is answered, and how he ends.
-use Rattle.std.specs.Prelude.{ℕ, ◌≡◌, ◌≢◌, List, [], ◌∷◌, ◌++◌, length, nat_le, Option, Some, IfSome, if◌then◌else◌}
+-- A planner at a seat: which lines are answered, and how he ends.
+use Rattle.std.specs.Prelude.{ℕ, ◌≡◌, ◌≢◌, List, [], ◌∷◌, ◌++◌, Option, Some, IfSome}
 use Rattle.std.specs.List.{AllByRecursion as Each}
 use Rattle.std.specs.Io.KnownBytes.{Appends, IsAtEnd}
-use Rattle.ctt_text.specs.Problem.{Problem}
 use Rattle.ctt_office.specs.Lines.{IsFirstLine}
-use Rattle.ctt_office.specs.SeatText.{IsAnswerTo, seat_line}
 use Rattle.ctt_office.specs.declared.seat_line.SeatLine.{SeatLine}
-use Rattle.ctt_office.specs.declared.seat_line.SeatLine.TheVariants.{Bad, Leave}
+use Rattle.ctt_office.specs.declared.seat_line.SeatLine.TheVariants.{Leave}
 use Rattle.ctt_office.specs.declared.sitting.Ending.{Ending}
 use Rattle.ctt_office.specs.declared.sitting.Ending.TheVariants.{Broken, Ended, Left, NoMemory}
 
--- what a line of planner p asks for; one that is too long is a bad one
-abbrev pub asked_by : Problem → ℕ → List ℕ → SeatLine
-asked_by i p line = if nat_le (length line) 65536 then seat_line i p line else Bad
-
--- the bytes begin with these lines, which are answered so, one behind another, and this is left
-abbrev pub AreAnswered : Problem → ℕ → List ℕ → List (List ℕ) → List ℕ → List ℕ → Type 0
-AreAnswered i p bytes [] answers rest = (answers ≡ []) × (rest ≡ bytes)
-AreAnswered i p bytes (line ∷ lines) answers rest = (mid : List ℕ) × (answer : List ℕ) × (later : List ℕ) × IsFirstLine line mid bytes × IsAnswerTo i (asked_by i p line) answer
-    × (answers ≡ answer ++ later) × AreAnswered i p mid lines later rest
+-- the bytes begin with these lines, which are answered as `Is` says, one behind another, each at the seat as the one before it left it, and this is left
+abbrev pub AreAnswered : {T : Type 0} → (List ℕ → SeatLine) → (SeatLine → T → T → List ℕ → Type 0) → List ℕ → T → List (List ℕ) → List ℕ → List ℕ → T → Type 0
+AreAnswered asked Is bytes before [] answers rest after = (answers ≡ []) × (rest ≡ bytes) × (after ≡ before)
+AreAnswered {T} asked Is bytes before (line ∷ lines) answers rest after = (mid : List ℕ) × (next : T) × (answer : List ℕ) × (later : List ℕ) × IsFirstLine line mid bytes
+    × Is (asked line) before next answer × (answers ≡ answer ++ later) × AreAnswered asked Is mid next lines later rest after
 
 -- by none of the lines the planner leaves
-abbrev pub GoOn : Problem → ℕ → List (List ℕ) → Type 0
-GoOn i p lines = Each (λ line. asked_by i p line ≢ Leave) lines
+abbrev pub GoOn : (List ℕ → SeatLine) → List (List ℕ) → Type 0
+GoOn asked lines = Each (λ line. asked line ≢ Leave) lines
 
 -- so he ends, with these lines answered and this left: by the last of them he leaves, or nothing is left
-abbrev pub EndsBy : Problem → ℕ → Ending → List (List ℕ) → List ℕ → Type 0
-EndsBy i p Left lines rest = (front : List (List ℕ)) × (last : List ℕ) × (lines ≡ front ++ last ∷ []) × GoOn i p front × (asked_by i p last ≡ Leave)
-EndsBy i p Ended lines rest = GoOn i p lines × (rest ≡ [])
-EndsBy i p Broken lines rest = Unit {0}
-EndsBy i p NoMemory lines rest = Unit {0}
+abbrev pub EndsBy : (List ℕ → SeatLine) → Ending → List (List ℕ) → List ℕ → Type 0
+EndsBy asked Left lines rest = (front : List (List ℕ)) × (last : List ℕ) × (lines ≡ front ++ last ∷ []) × GoOn asked front × (asked last ≡ Leave)
+EndsBy asked Ended lines rest = GoOn asked lines × (rest ≡ [])
+EndsBy asked Broken lines rest = Unit {0}
+EndsBy asked NoMemory lines rest = Unit {0}
 
--- the lines that were left to be read are answered, up to the one by which planner p leaves, or to the last
-pub record IsAnswered (i : Problem) (p : ℕ) (left old new : Option (List ℕ)) (ending : Ending) : Type 0 where
+-- the lines that were left to be read are answered, up to the one by which the planner leaves, or to the last
+pub record IsAnswered {T : Type 0} (asked : List ℕ → SeatLine) (Is : SeatLine → T → T → List ℕ → Type 0) (before : T) (left old new : Option (List ℕ)) (ending : Ending) : Type 0 where
   pub answers : List ℕ
   pub told : Appends old new answers
-  pub served : IfSome left (λ bytes. (lines : List (List ℕ)) × (rest : List ℕ) × AreAnswered i p bytes lines answers rest × EndsBy i p ending lines rest)
+  pub served : IfSome left (λ bytes. (lines : List (List ℕ)) × (rest : List ℕ) × (after : T) × AreAnswered asked Is bytes before lines answers rest after × EndsBy asked ending lines rest)
 
 -- the same, unless a device fails or memory is wanted
-abbrev pub IsSat : Problem → ℕ → Option (List ℕ) → Option (List ℕ) → Option (List ℕ) → Ending → Type 0
-IsSat i p left old new Left = IsAnswered i p left old new Left
-IsSat i p left old new Ended = IsAnswered i p left old new Ended
-IsSat i p left old new Broken = Unit {0}
-IsSat i p left old new NoMemory = Unit {0}
+abbrev pub IsSat : {T : Type 0} → (List ℕ → SeatLine) → (SeatLine → T → T → List ℕ → Type 0) → T → Option (List ℕ) → Option (List ℕ) → Option (List ℕ) → Ending → Type 0
+IsSat asked Is before left old new Left = IsAnswered asked Is before left old new Left
+IsSat asked Is before left old new Ended = IsAnswered asked Is before left old new Ended
+IsSat asked Is before left old new Broken = Unit {0}
+IsSat asked Is before left old new NoMemory = Unit {0}
 
 -- no line comes any more: none is left, or the device failed, or memory is wanted
 abbrev pub EndsAt : Option (List ℕ) → Ending → Type 0
@@ -58,8 +52,8 @@ IsBroken Ended = ⊥
 IsBroken Broken = Unit {0}
 IsBroken NoMemory = Unit {0}
 
--- so far: the lines that were read are answered, by none of them he leaves, and these bytes are still to come
-pub record IsSitting (i : Problem) (p : ℕ) (left old now : Option (List ℕ)) (still : Option (List ℕ)) : Type 0 where
+-- so far: the lines that were read are answered, which leaves the seat so, by none of them he leaves, and these bytes are still to come
+pub record IsSitting {T : Type 0} (asked : List ℕ → SeatLine) (Is : SeatLine → T → T → List ℕ → Type 0) (before : T) (left old now still : Option (List ℕ)) (after : T) : Type 0 where
   pub answers : List ℕ
   pub told : Appends old now answers
-  pub served : IfSome left (λ bytes. (lines : List (List ℕ)) × (rest : List ℕ) × (still ≡ Some rest) × AreAnswered i p bytes lines answers rest × GoOn i p lines)
+  pub served : IfSome left (λ bytes. (lines : List (List ℕ)) × (rest : List ℕ) × (still ≡ Some rest) × AreAnswered asked Is bytes before lines answers rest after × GoOn asked lines)

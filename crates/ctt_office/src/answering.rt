@@ -1,18 +1,18 @@
 //! The answer to a line of a seat.
 
-ghost use Rattle.std.specs.Prelude.{◌≡◌, ◌++◌, ℕ, IfOk, OnOk, codes, string_bytes};
-ghost use Rattle.ctt_edits.specs.Calls.{CallFits};
+ghost use Rattle.std.specs.Prelude.{◌≡◌, ◌++◌, ℕ, IfOk, Ok, OnOk, string_bytes};
 ghost use Rattle.ctt_core.specs.Runs.{EventFits};
 ghost use Rattle.ctt_script.specs.Seats.{open_entry};
-ghost use Rattle.ctt_office.specs.SeatText.{Adds, IsAnswerTo, IsStepAnswer, LineFits, not_written};
+ghost use Rattle.ctt_office.specs.Pages.{EndsWith, IsInMinutes};
+ghost use Rattle.ctt_office.specs.SeatAnswers.{Adds, IfBook, IsAnswer, IsCommitAnswer, IsCrewAnswer, IsOutcomeAnswer, IsStepAnswer, left_line, not_written};
+ghost use Rattle.ctt_office.specs.SeatText.{LineFits};
 
 use crate::book::Book;
 use crate::durable::Durable;
 use crate::seat_line::SeatLine;
 use ctt_board::Sheet;
 use ctt_core::{Answer, Event};
-use ctt_desk::{Naming, SharedDesk};
-use ctt_edits::Call;
+use ctt_desk::{Naming, Receipt, SharedDesk};
 use ctt_script::{Seat, Told, write_bad_line, write_told};
 use ctt_text::{Instance, NoMemory, let_go};
 use std::alloc::{AllocError, Global};
@@ -30,7 +30,7 @@ fn write_not_written(text: &mut String) -> Result<(), AllocError>
 
 /// Adds the line with which a planner leaves.
 fn write_left(text: &mut String) -> Result<(), AllocError>
-    ensures { OnOk result (string_bytes text.new ≡ string_bytes text.old ++ codes "left\n") }
+    ensures { OnOk result (string_bytes text.new ≡ string_bytes text.old ++ left_line) }
 {
     text.push_str("left\n")
 }
@@ -50,8 +50,31 @@ fn entry_of<'i, S: Sheet<'i>, J: Naming>(
     Ok(entry)
 }
 
-/// Commits the draft, and adds the line of the answer: it is told as accepted where it is in the minutes.
-#[tactic(auto, using(crate::proofs::AnswerLemmas::ends_with))]
+/// Enters a draft that was accepted last before the receipt was given, and adds the line of the answer: its number, when
+/// it is in the book.
+fn enter<J: Naming, W: Durable, R: Wait>(
+    rt: &R,
+    instance: &Instance,
+    book: &Book<W, J>,
+    receipt: &Receipt<J>,
+    entry: &str,
+    text: &mut String,
+) -> Result<(), AllocError>
+    requires { EndsWith J.problem receipt.now entry.now }
+    ensures { OnOk result
+        (Adds (IsOutcomeAnswer (IsInMinutes W.Sink.taken W.kept J.problem) instance.now (Ok receipt.now))
+        (string_bytes text.old) (string_bytes text.new)) }
+{
+    match book.enter(rt, receipt, entry.as_bytes()) {
+        Ok(()) => {
+            let told = Told::Answer(Answer::Committed(receipt.number()));
+            write_told(text, instance, &told)
+        }
+        Err(_) => write_not_written(text),
+    }
+}
+
+/// Commits the draft, and adds the line of the answer: it is told as accepted when it is in the book.
 fn commit<'i, S: Sheet<'i>, J: Naming, W: Durable, R: Wait>(
     rt: &R,
     alloc: Global,
@@ -62,26 +85,23 @@ fn commit<'i, S: Sheet<'i>, J: Naming, W: Durable, R: Wait>(
     text: &mut String,
 ) -> (Seat<'i, S, J>, Result<(), AllocError>)
     requires { J.problem ≡ instance.now }
-    ensures { OnOk result.1 (Adds (IsStepAnswer instance.now) (string_bytes text.old) (string_bytes text.new)) }
+    ensures { OnOk result.1
+        (Adds (IsCommitAnswer (IsInMinutes W.Sink.taken W.kept J.problem) instance.now J.opening
+        seat.entry result.0) (string_bytes text.old) (string_bytes text.new)) }
 {
     if book.has_failed(rt) {
         return (seat, write_not_written(text));
     }
     let Ok(entry) = entry_of(alloc, &seat, text) else {
-        return (
-            seat,
-            write_told(text, instance, &Told::Answer(Answer::NoMemory)),
-        );
+        let told = Told::Answer(Answer::NoMemory);
+        return (seat, write_told(text, instance, &told));
     };
-    let (seat, outcome) = seat.commit_for_receipt(rt, desk);
+    let (seat, outcome) = seat.commit(rt, desk);
     match outcome {
-        Ok(receipt) => match book.enter(rt, &receipt, entry.as_bytes()) {
-            Ok(()) => {
-                let told = Told::Answer(Answer::Committed(receipt.number()));
-                (seat, write_told(text, instance, &told))
-            }
-            Err(_) => (seat, write_not_written(text)),
-        },
+        Ok(receipt) => {
+            let written = enter(rt, instance, book, &receipt, &entry, text);
+            (seat, written)
+        }
         Err(told) => {
             let written = write_told(text, instance, &told);
             let_go(told);
@@ -90,18 +110,21 @@ fn commit<'i, S: Sheet<'i>, J: Naming, W: Durable, R: Wait>(
     }
 }
 
-/// Makes a call, and adds the line of the answer.
-fn ask<'i, S: Sheet<'i>, J: Naming>(
-    mut seat: Seat<'i, S, J>,
+/// Does a step, and adds the line of the answer, as for a planner of a crew.
+fn take<'i, S: Sheet<'i>, J: Naming, R: Wait>(
+    rt: &R,
+    desk: &SharedDesk<S, J>,
     instance: &Instance,
-    call: Call,
+    seat: Seat<'i, S, J>,
+    event: Event,
     text: &mut String,
 ) -> (Seat<'i, S, J>, Result<(), AllocError>)
     requires same { J.problem ≡ instance.now }
-    requires fits { CallFits J.problem call }
-    ensures { OnOk result.1 (Adds (IsStepAnswer instance.now) (string_bytes text.old) (string_bytes text.new)) }
+    requires fits { (n : ℕ) × EventFits J.problem n event }
+    ensures { OnOk result.1 (Adds (IsCrewAnswer instance.now J.opening event seat.entry result.0)
+        (string_bytes text.old) (string_bytes text.new)) }
 {
-    let told = seat.ask(call);
+    let (seat, told) = seat.take(rt, desk, event);
     let written = write_told(text, instance, &told);
     let_go(told);
     (seat, written)
@@ -120,18 +143,17 @@ fn step<'i, S: Sheet<'i>, J: Naming, W: Durable, R: Wait>(
 ) -> (Seat<'i, S, J>, Result<(), AllocError>)
     requires same { J.problem ≡ instance.now }
     requires fits { (n : ℕ) × EventFits J.problem n event }
-    ensures { OnOk result.1 (Adds (IsStepAnswer instance.now) (string_bytes text.old) (string_bytes text.new)) }
+    ensures { OnOk result.1
+        (Adds (IsStepAnswer (IfBook book.entry (IsInMinutes W.Sink.taken W.kept J.problem)) instance.now
+        J.opening event seat.entry result.0) (string_bytes text.old) (string_bytes text.new)) }
 {
-    if let (Event::Commit(_), Some(book)) = (event, book) {
-        return commit(rt, alloc, desk, instance, book, seat, text);
+    match event {
+        Event::Commit(_) => match book {
+            Some(book) => commit(rt, alloc, desk, instance, book, seat, text),
+            None => take(rt, desk, instance, seat, event, text),
+        },
+        _ => take(rt, desk, instance, seat, event, text),
     }
-    if let Event::Ask(_, call) = event {
-        return ask(seat, instance, call, text);
-    }
-    let (seat, told) = seat.take(rt, desk, event);
-    let written = write_told(text, instance, &told);
-    let_go(told);
-    (seat, written)
 }
 
 /// Answers a line of a seat, and adds the line of the answer, if it has one.
@@ -147,7 +169,9 @@ pub(crate) fn answer<'i, S: Sheet<'i>, J: Naming, W: Durable, R: Wait>(
 ) -> (Seat<'i, S, J>, Result<(), AllocError>)
     requires same { J.problem ≡ instance.now }
     requires fits { (p : ℕ) × LineFits instance.now p line }
-    ensures { OnOk result.1 (Adds (IsAnswerTo instance.now line) (string_bytes text.old) (string_bytes text.new)) }
+    ensures { OnOk result.1
+        (Adds (IsAnswer (IfBook book.entry (IsInMinutes W.Sink.taken W.kept J.problem)) instance.now
+        J.opening line seat.entry result.0) (string_bytes text.old) (string_bytes text.new)) }
 {
     match line {
         SeatLine::Blank => (seat, Ok(())),

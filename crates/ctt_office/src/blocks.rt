@@ -53,7 +53,8 @@ fn written_len(
     entries: &[JournalEntry],
 ) -> Result<usize, NoMemory>
     requires { Each (EntryFits instance.now) entries.now }
-    ensures { IfOk result (λ len. len ≡ length (flat_map (entry_text instance.now) entries.now)) }
+    ensures { IfOk result (λ len.
+        len ≡ length (flat_map (entry_text instance.now) entries.now)) }
 {
     let mut text = String::new(alloc);
     for entry in entries {
@@ -94,8 +95,11 @@ fn read_lines(
     lines: &str,
     is_cut: bool,
 ) -> Result<Blocks, JournalFault>
-    ensures read { IfOk result (λ b. (lacks : Bool) × IsReadOf instance.now lines.now b.entries.items lacks × (is_some b.torn ≡ lacks || is_cut)) }
-    ensures torn { IfOk result (λ b. IfSome b.torn (λ at. at ≡ length (flat_map (entry_text instance.now) b.entries.items))) }
+    ensures read { IfOk result (λ b. (lacks : Bool)
+        × IsReadOf instance.now lines.now b.entries.items lacks
+        × (is_some b.torn ≡ lacks || is_cut)) }
+    ensures torn { IfOk result (λ b. IfSome b.torn (λ at.
+        at ≡ length (flat_map (entry_text instance.now) b.entries.items))) }
     ensures fits { IfOk result (λ b. Each (EntryFits instance.now) b.entries.items) }
     ensures few { IfOk result (λ b. AreFew b.entries.items) }
     ensures short { IfOk result (λ b. Each IsShort b.entries.items) }
@@ -134,12 +138,18 @@ fn read_lines(
 ///
 /// Of minutes that are cut at any byte these are the first entries of those that were written.
 pub fn read_blocks(alloc: Global, instance: &Instance, text: &[u8]) -> Result<Blocks, JournalFault>
-    ensures recovered { IfOk result (λ b. IsRecovered instance.now text.now b.entries.items (is_some b.torn)) }
-    ensures torn { IfOk result (λ b. IfSome b.torn (λ at. at ≡ length (flat_map (entry_text instance.now) b.entries.items))) }
+    ensures recovered { IfOk result (λ b.
+        IsRecovered instance.now text.now b.entries.items (is_some b.torn)) }
+    ensures torn { IfOk result (λ b. IfSome b.torn (λ at.
+        at ≡ length (flat_map (entry_text instance.now) b.entries.items))) }
     ensures fits { IfOk result (λ b. Each (EntryFits instance.now) b.entries.items) }
     ensures few { IfOk result (λ b. AreFew b.entries.items) }
     ensures short { IfOk result (λ b. Each IsShort b.entries.items) }
-    ensures cut { (entries : List JournalEntry) (n : ℕ) → Each (IsEntry instance.now) entries → IsUtf8 (flat_map (entry_text instance.now) entries) → text.now ≡ take n (flat_map (entry_text instance.now) entries) → MatchResult result (λ b. IsPrefix b.entries.items entries) (λ fault. fault ≡ OutOfMemory) }
+    ensures cut { (entries : List JournalEntry) (n : ℕ) → Each (IsEntry instance.now) entries
+        → IsUtf8 (flat_map (entry_text instance.now) entries)
+        → text.now ≡ take n (flat_map (entry_text instance.now) entries)
+        → MatchResult result (λ b. IsPrefix b.entries.items entries)
+        (λ fault. fault ≡ OutOfMemory) }
     ensures fault { IfErr result (IsMinutesFault instance.now text.now) }
 {
     instance.limits_hold();

@@ -3,7 +3,7 @@
 ghost use Rattle.std.specs.Prelude.{◌≡◌, ◌+◌, ◌<◌, [], length, true, false, IsTrue, OnOk};
 ghost use Rattle.std.specs.Io.KnownBytes.{Appends};
 ghost use mathlib.Core.List.{IsPrefix};
-ghost use Rattle.ctt_office.specs.Pages.{AreMinutesOf, EndsWith, IsEntered, Stays, seen};
+ghost use Rattle.ctt_office.specs.Pages.{AreMinutesOf, EndsWith, IsEntered, IsInMinutes, Stays, seen};
 ghost use Rattle.ctt_office.specs.declared.book.Attempt.TheVariants.{Entered, Failed as NotEntered, NotYet};
 
 use crate::durable::Durable;
@@ -41,14 +41,22 @@ impl<W: Durable, J: Naming> Model for Pages<W, J> {
 
     ghost Value = { PagesValue };
 
-    ghost view = { λ p. record { start = W.Sink.taken p.start.value; taken = W.Sink.taken p.writer; kept = W.kept p.writer; history = seen p.last; failed = p.failed } };
+    ghost view = { λ p. record {
+      start = W.Sink.taken p.start.value;
+      taken = W.Sink.taken p.writer;
+      kept = W.kept p.writer;
+      history = seen p.last;
+      failed = p.failed;
+    } };
 
-    ghost invariant = { λ p. p.failed ≡ false → AreMinutesOf J.problem (seen p.last) (W.Sink.taken p.start.value) (W.Sink.taken p.writer) };
+    ghost invariant = { λ p. p.failed ≡ false
+        → AreMinutesOf J.problem (seen p.last) (W.Sink.taken p.start.value) (W.Sink.taken p.writer) };
 }
 
 /// Writes an entry, so that it stays.
 fn write<W: Durable>(writer: &mut W, entry: &[u8]) -> Result<(), Failed>
-    ensures taken { OnOk result (Appends (W.Sink.taken writer.old) (W.Sink.taken writer.new) entry.now) }
+    ensures taken { OnOk result
+        (Appends (W.Sink.taken writer.old) (W.Sink.taken writer.new) entry.now) }
     ensures kept { OnOk result (Stays (W.kept writer.new) (W.Sink.taken writer.new)) }
 {
     put_all(writer, entry)?;
@@ -79,7 +87,13 @@ fn begins<J: Naming>(last: &Option<Receipt<J>>, receipt: &Receipt<J>) -> bool
 impl<W: Durable, J: Naming> Pages<W, J> {
     /// Nothing is written.
     pub fn new(writer: W) -> Self
-        ensures { result ≡ record { start = W.Sink.taken writer; taken = W.Sink.taken writer; kept = W.kept writer; history = []; failed = false } }
+        ensures { result ≡ record {
+          start = W.Sink.taken writer;
+          taken = W.Sink.taken writer;
+          kept = W.kept writer;
+          history = [];
+          failed = false;
+        } }
     {
         Pages {
             start: Snapshot::of(&writer),
@@ -92,7 +106,8 @@ impl<W: Durable, J: Naming> Pages<W, J> {
     /// Whether an entry could not be written.
     pub fn has_failed(&self) -> bool
         ensures failed { result ≡ self.now.failed }
-        ensures minutes { result ≡ false → AreMinutesOf J.problem self.now.history self.now.start self.now.taken }
+        ensures minutes { result ≡ false
+            → AreMinutesOf J.problem self.now.history self.now.start self.now.taken }
     {
         self.failed
     }
@@ -101,7 +116,10 @@ impl<W: Durable, J: Naming> Pages<W, J> {
     pub fn enter(&mut self, receipt: &Receipt<J>, entry: &[u8]) -> Attempt
         requires { EndsWith J.problem receipt.now entry.now }
         ensures entered { result ≡ Entered → IsEntered receipt.now entry.now self.old self.new }
-        ensures not_yet { result ≡ NotYet → (self.new ≡ self.old) × (length self.old.history + 1 < length receipt.now) }
+        ensures not_yet { result ≡ NotYet
+            → (self.new ≡ self.old) × (length self.old.history + 1 < length receipt.now) }
+        ensures kept { result ≡ Entered
+            → IsInMinutes W.Sink.taken W.kept J.problem receipt.now }
         ensures failed { result ≡ NotEntered → self.new.failed ≡ true }
     {
         let (written, number) = (count(&self.last), receipt.number());
@@ -150,6 +168,7 @@ impl<W: Durable, J: Naming> Book<W, J> {
     /// Enters the draft that was accepted last before the receipt was given, when all before it are written.
     pub fn enter<R: Wait>(&self, rt: &R, receipt: &Receipt<J>, entry: &[u8]) -> Result<(), Failed>
         requires { EndsWith J.problem receipt.now entry.now }
+        ensures { OnOk result (IsInMinutes W.Sink.taken W.kept J.problem receipt.now) }
     {
         let mut pages = self.pages.lock(rt);
         for _ in rt.forever() {

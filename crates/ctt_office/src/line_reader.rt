@@ -47,15 +47,23 @@ impl<R: Source> Model for LineReader<R> {
 
     ghost Value = { ReaderValue };
 
-    ghost view = { λ r. record { line = take (r.end - r.start) (drop r.start r.held.items); held = drop r.given r.held.items; left = R.left r.source; pulls = R.pulls r.source; has_failed = R.has_failed r.source } };
+    ghost view = { λ r. record {
+      line = take (r.end - r.start) (drop r.start r.held.items);
+      held = drop r.given r.held.items;
+      left = R.left r.source;
+      pulls = R.pulls r.source;
+      has_failed = R.has_failed r.source;
+    } };
 
-    ghost invariant = { λ r. (r.start ≤ r.end) × (r.end ≤ r.given) × (r.given ≤ vec_len r.held) × (r.is_at_end ≡ true → IsAtEnd (R.left r.source)) };
+    ghost invariant = { λ r. (r.start ≤ r.end) × (r.end ≤ r.given) × (r.given ≤ vec_len r.held)
+        × (r.is_at_end ≡ true → IsAtEnd (R.left r.source)) };
 }
 
 /// Where the first line of bytes ends, if it does.
 #[tactic(auto, using(crate::proofs::LineLemmas::none_ends, crate::proofs::LineLemmas::cut))]
 fn first_end(bytes: &[u8]) -> Option<usize>
-    ensures cut { IfSome result (λ n. IsCut (take n bytes.now) (drop (n + 1) bytes.now) bytes.now) }
+    ensures cut { IfSome result (λ n.
+        IsCut (take n bytes.now) (drop (n + 1) bytes.now) bytes.now) }
     ensures within { IfSome result (λ n. n < length bytes.now) }
     ensures none { IfNone result (IsOpen bytes.now) }
 {
@@ -102,7 +110,8 @@ impl<R: Source> LineReader<R> {
     fn pull(&mut self) -> Result<bool, InputFault>
         ensures coming { OnOk result (Keeps (coming self.old) (coming self.new)) }
         ensures line { self.old.line ≡ [] → self.new.line ≡ [] }
-        ensures end { result ≡ Ok false → (self.new.held ≡ self.old.held) × IsAtEnd self.new.left }
+        ensures end { result ≡ Ok false
+            → (self.new.held ≡ self.old.held) × IsAtEnd self.new.left }
         ensures failed { result ≡ Err Read → self.new.has_failed ≡ true }
     {
         if self.is_at_end {
@@ -128,8 +137,10 @@ impl<R: Source> LineReader<R> {
     #[tactic(auto, using(crate::proofs::LineLemmas::cut_behind))]
     fn find(&mut self) -> Option<Next>
         ensures none { IfNone result ((self.new ≡ self.old) × IsOpen self.old.held) }
-        ensures line { result ≡ Some Line → IsCut self.new.line self.new.held self.old.held × IsShort self.new.line }
-        ensures long { result ≡ Some TooLong → (self.new.line ≡ []) × ((line : List ℕ) × IsLong line × IsCut line self.new.held self.old.held) }
+        ensures line { result ≡ Some Line
+            → IsCut self.new.line self.new.held self.old.held × IsShort self.new.line }
+        ensures long { result ≡ Some TooLong → (self.new.line ≡ [])
+            × ((line : List ℕ) × IsLong line × IsCut line self.new.held self.old.held) }
         ensures never { result ≡ Some End → ⊥ }
         ensures rest { self.new ≡ record self.old { line = self.new.line; held = self.new.held } }
     {

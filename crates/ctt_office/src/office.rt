@@ -12,7 +12,7 @@ use crate::sitting::{GridStation, Station, sit_on_grid};
 use ctt_board::{GridSheet, Timetable};
 use ctt_core::PlannerNo;
 use ctt_desk::{Closed, Named, Naming, Opened, Planner, SharedDesk};
-use ctt_script::{closing_report, end};
+use ctt_script::{closing_report, end_desk};
 use ctt_text::{Instance, let_go};
 use std::alloc::Global;
 use std::marker::{Brand, PhantomData, Send, Sync};
@@ -143,7 +143,7 @@ fn close<S: Timetable, J: Naming, R: Wait>(
 ) -> Result<Vec<u8>, OfficeFault>
     ensures { IfOk result (λ text. IsCrewText J.problem J.opening 0 text.items) }
 {
-    let closed = end(rt, alloc, desk);
+    let closed = end_desk(rt, alloc, desk);
     let text = last_lines(alloc, &closed, ended);
     let_go(closed);
     text

@@ -3,8 +3,10 @@
 ghost use Rattle.std.specs.Prelude.{◌≡◌, ℕ, IfErr, IfOk, OnOk};
 ghost use Rattle.std.specs.Io.KnownBytes.{Appends};
 ghost use Rattle.ctt_office.specs.Lines.{Gives, coming};
-ghost use Rattle.ctt_office.specs.SeatText.{IsAnswerTo, LineFits, Tells};
-ghost use Rattle.ctt_office.specs.Sittings.{EndsAt, IsBroken, IsSat, asked_by};
+ghost use Rattle.ctt_office.specs.Pages.{IsInMinutes};
+ghost use Rattle.ctt_office.specs.SeatAnswers.{IfBook, IsAnswer, Tells};
+ghost use Rattle.ctt_office.specs.SeatText.{LineFits, asked_by};
+ghost use Rattle.ctt_office.specs.Sittings.{EndsAt, IsBroken, IsSat};
 
 use crate::answering::answer;
 use crate::book::Book;
@@ -66,7 +68,9 @@ fn next_line<I: Source, R: Wait>(
     lines: &mut LineReader<I>,
 ) -> Result<SeatLine, Ending>
     ensures fits { IfOk result (LineFits instance.now planner) }
-    ensures asked { IfOk result (λ line. Gives (λ bytes. line ≡ asked_by instance.now planner bytes) (coming lines.old) (coming lines.new)) }
+    ensures asked { IfOk result (λ line.
+        Gives (λ bytes. line ≡ asked_by instance.now planner bytes)
+        (coming lines.old) (coming lines.new)) }
     ensures end { IfErr result (EndsAt (coming lines.old)) }
 {
     match lines.next(rt) {
@@ -92,7 +96,9 @@ fn serve<'i, S: Sheet<'i>, J: Naming, W: Durable, O: Sink, R: Wait>(
 ) -> (Seat<'i, S, J>, Result<(), Ending>)
     requires same { J.problem ≡ instance.now }
     requires fits { (p : ℕ) × LineFits instance.now p line }
-    ensures told { OnOk result.1 (Tells (IsAnswerTo instance.now line) (O.taken out.old) (O.taken out.new)) }
+    ensures told { OnOk result.1
+        (Tells (IsAnswer (IfBook book.entry (IsInMinutes W.Sink.taken W.kept J.problem)) instance.now
+        J.opening line seat.entry result.0) (O.taken out.old) (O.taken out.new)) }
     ensures broken { IfErr result.1 IsBroken }
 {
     let mut text = String::new(alloc);
@@ -106,7 +112,7 @@ fn serve<'i, S: Sheet<'i>, J: Naming, W: Durable, O: Sink, R: Wait>(
     }
 }
 
-/// Answers the lines of a planner until he leaves, or they end, or one of his devices fails. An open draft is then given
+/// Answers the lines of a planner at his seat until he leaves, or they end, or one of his devices fails. An open draft is then given
 /// up.
 fn sit<'i, S: Sheet<'i>, J: Naming, W: Durable, I: Source + Drop, O: Sink, R: Wait>(
     rt: &R,
@@ -114,16 +120,18 @@ fn sit<'i, S: Sheet<'i>, J: Naming, W: Durable, I: Source + Drop, O: Sink, R: Wa
     desk: &SharedDesk<S, J>,
     instance: &Instance,
     book: Option<&Book<W, J>>,
-    planner: Planner<S, J>,
+    number: PlannerNo,
+    seat: Seat<'i, S, J>,
     input: I,
     out: &mut O,
 ) -> Ending
     requires { J.problem ≡ instance.now }
-    ensures { IsSat instance.now planner.entry.number (I.left input.entry) (O.taken out.old) (O.taken out.new) result }
+    ensures { IsSat (asked_by instance.now number)
+        (IsAnswer (IfBook book.entry (IsInMinutes W.Sink.taken W.kept J.problem)) instance.now J.opening)
+        seat.entry (I.left input.entry) (O.taken out.old) (O.taken out.new) result }
 {
-    let number = planner.number();
     let mut lines = LineReader::new(alloc, input);
-    let mut seat: Seat<'i, S, J> = Seat::Free(planner);
+    let mut seat = seat;
     for _ in rt.forever() {
         let line = match next_line(rt, instance, number, &mut lines) {
             Ok(line) => line,
@@ -170,7 +178,10 @@ fn open_and_sit<'i, 'x, S: Sheet<'i>, J: Naming, D: Doors, W: Durable, R: Wait>(
         let_go(planner);
         return Err(OfficeFault::CannotWrite(number));
     };
-    match sit(rt, alloc, desk, instance, book, planner, input, &mut out) {
+    let seat = Seat::Free(planner);
+    match sit(
+        rt, alloc, desk, instance, book, number, seat, input, &mut out,
+    ) {
         Ending::Left | Ending::Ended | Ending::Broken => Ok(()),
         Ending::NoMemory => Err(OfficeFault::NoMemory),
     }

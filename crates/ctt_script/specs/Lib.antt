@@ -20,4 +20,3 @@ pub mod WrittenWords
 pub mod Minutes
 pub mod Seats
 pub mod AuditedText
-pub mod Seats

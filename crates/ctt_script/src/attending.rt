@@ -1,6 +1,6 @@
 //! What a planner of a crew does, on a thread of his own.
 
-ghost use Rattle.std.specs.Prelude.{◌≡◌, ◌<◌, ℕ, IfOk, IfSome, IsOk, None, OnOk, ◌++◌, string_bytes};
+ghost use Rattle.std.specs.Prelude.{◌≡◌, ◌<◌, ℕ, IfOk, IfSome, IsOk, OnOk, ◌++◌, string_bytes};
 ghost use Rattle.ctt_edits.specs.Calls.{CallFits};
 ghost use Rattle.ctt_core.specs.Runs.{EventFits};
 ghost use Rattle.ctt_script.specs.CrewText.{call_in, ToldFits, told_words};
@@ -60,8 +60,7 @@ fn kept_if<T: Drop>(value: T, written: Result<(), AllocError>) -> Result<T, NoMe
     Ok(value)
 }
 
-/// Answers a line of a planner's script, in which this event was read, which is no call, or none, and adds the line of
-/// the answer.
+/// Answers a line of a planner's script, in which this event was read, or none, and adds the line of the answer.
 fn answer_own_line<'i, S: Sheet<'i>, J: Naming, R: Wait>(
     rt: &R,
     desk: &SharedDesk<S, J>,
@@ -72,7 +71,6 @@ fn answer_own_line<'i, S: Sheet<'i>, J: Naming, R: Wait>(
     text: &mut String,
 ) -> Result<Seat<'i, S, J>, NoMemory>
     requires same { J.problem ≡ instance.now }
-    requires no_call { call_in read ≡ None }
     requires fits { (planners : ℕ) → planner < planners
         → IfSome read (EventFits instance.now planners) }
     ensures { IfOk result (λ next.

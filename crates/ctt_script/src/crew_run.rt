@@ -170,7 +170,7 @@ fn desk_named<S: Timetable, J: Naming, R: Wait>(
 }
 
 /// Ends a desk whose planners are gone.
-pub fn end<S: Timetable, J: Naming, R: Wait>(
+pub fn end_desk<S: Timetable, J: Naming, R: Wait>(
     rt: &R,
     alloc: Global,
     desk: SharedDesk<S, J>,
@@ -210,7 +210,7 @@ fn last_report<S: Timetable, J: Naming, R: Wait>(
     ensures fault { IfErr result (λ fault. (fault ≡ crew_fault.NoMemory)
         ⊎ IsErrAnd answers (λ told. fault ≡ told)) }
 {
-    let closed = end(rt, alloc, desk);
+    let closed = end_desk(rt, alloc, desk);
     let report = report_if_answered(alloc, &closed, answers);
     let_go(closed);
     report

@@ -34,7 +34,7 @@ pub use answers::{write_answer, write_bad_line};
 pub use attending::write_told;
 pub use audited::audit_journal;
 pub use crew_fault::CrewFault;
-pub use crew_run::{closing_report, crew, end};
+pub use crew_run::{closing_report, crew, end_desk};
 pub use device::Device;
 pub use engine::run_script;
 pub use gate::{Gate, NoGate};

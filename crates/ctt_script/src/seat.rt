@@ -1,13 +1,11 @@
 //! A planner of a crew, with or without an open draft, and what he is answered.
 
-ghost use Rattle.std.specs.Prelude.{ℕ, ◌≡◌, ◌++◌, None, Some, IfErr, IfOk, OnOk, string_bytes};
+ghost use Rattle.std.specs.Prelude.{ℕ, ◌≡◌, ◌++◌, IfErr, OnOk, string_bytes};
 ghost use Rattle.ctt_edits.specs.Calls.{CallFits};
 ghost use Rattle.ctt_edits.specs.Looks.{LookFits};
 ghost use Rattle.ctt_core.specs.Runs.{EventFits};
-ghost use Rattle.ctt_desk.specs.Histories.{entry_of};
-ghost use Rattle.ctt_script.specs.CrewText.{ToldFits, call_in, told_unread};
-ghost use Rattle.ctt_script.specs.Seats.{Abandons, Asks, Commits, EndsWithDraft, Opens, Refreshes, Shows, Takes, open_entry};
-ghost use Rattle.ctt_script.specs.WrittenText.{entry_text};
+ghost use Rattle.ctt_script.specs.CrewText.{ToldFits, told_unread};
+ghost use Rattle.ctt_script.specs.Seats.{Abandons, Asks, Commits, Opens, Refreshes, Shows, Takes, draft_text, open_entry, told_of};
 
 use crate::written::write_entry;
 use ctt_board::{Sheet, Timetable};
@@ -51,12 +49,24 @@ fn unread<J: Naming>(fault: SharedFault) -> Told
     }
 }
 
+/// What is told of a commit: how many drafts were then accepted, or why it is refused.
+fn told_of<J: Naming>(outcome: Result<Receipt<J>, Told>) -> Told
+    ensures fits { IfErr outcome.entry (ToldFits J.problem) → ToldFits J.problem result }
+    ensures told { result ≡ told_of outcome.entry }
+{
+    match outcome {
+        Ok(receipt) => Told::Answer(Answer::Committed(receipt.number())),
+        Err(told) => told,
+    }
+}
+
 /// Adds the entry of a draft, as a journal has it.
 fn write_draft<'i, S: Sheet<'i>, J: Naming>(
     drafting: &Drafting<'i, S, J>,
     text: &mut String,
 ) -> Result<(), NoMemory>
-    ensures { OnOk result (string_bytes text.new ≡ string_bytes text.old ++ entry_text J.problem (entry_of drafting.now.planner.number drafting.now.asked)) }
+    ensures { OnOk result (string_bytes text.new
+        ≡ string_bytes text.old ++ draft_text J.problem drafting.now) }
 {
     let instance = drafting.instance();
     let entry = drafting.entry()?;
@@ -99,7 +109,8 @@ impl<'i, S: Sheet<'i>, J: Naming> Seat<'i, S, J> {
 
     /// Adds the entry of the open draft, as a journal has it, if a draft is open.
     pub fn write_entry(&self, text: &mut String) -> Result<(), NoMemory>
-        ensures { OnOk result (string_bytes text.new ≡ string_bytes text.old ++ open_entry J.problem self.now) }
+        ensures { OnOk result (string_bytes text.new
+            ≡ string_bytes text.old ++ open_entry J.problem self.now) }
     {
         match self {
             Seat::Free(_) => Ok(()),
@@ -107,14 +118,14 @@ impl<'i, S: Sheet<'i>, J: Naming> Seat<'i, S, J> {
         }
     }
 
-    /// Commits the draft, and gives the receipt where it is accepted.
-    pub fn commit_for_receipt<R: Wait>(
+    /// Commits the draft, and gives the receipt where it is accepted, or else what the planner is told.
+    pub fn commit<R: Wait>(
         self,
         rt: &R,
         desk: &SharedDesk<S, J>,
     ) -> (Self, Result<Receipt<J>, Told>)
-        ensures accepted { IfOk result.1 (λ receipt. EndsWithDraft J.problem self.entry receipt) }
-        ensures refused { IfErr result.1 (ToldFits J.problem) }
+        ensures fits { IfErr result.1 (ToldFits J.problem) }
+        ensures commits { Commits J.problem J.opening self.entry result.0 result.1 }
     {
         match self {
             Seat::Free(planner) => (Seat::Free(planner), Err(Told::Answer(Answer::NoDraft))),
@@ -131,31 +142,6 @@ impl<'i, S: Sheet<'i>, J: Naming> Seat<'i, S, J> {
                         Seat::Drafting(drafting),
                         Err(Told::Answer(Answer::NoMemory)),
                     )
-                }
-            },
-        }
-    }
-
-    /// Commits the draft.
-    fn commit<R: Wait>(self, rt: &R, desk: &SharedDesk<S, J>) -> (Self, Told)
-        ensures fits { ToldFits J.problem result.1 }
-        ensures commits { Commits J.problem J.opening self.entry result.0 result.1 }
-    {
-        match self {
-            Seat::Free(planner) => (Seat::Free(planner), Told::Answer(Answer::NoDraft)),
-            Seat::Drafting(drafting) => match drafting.commit(rt, desk) {
-                Ok((planner, receipt)) => {
-                    let number = receipt.number();
-                    (Seat::Free(planner), Told::Answer(Answer::Committed(number)))
-                }
-                Err(Refusal::Stale(planner, row)) => {
-                    (Seat::Free(planner), Told::Answer(Answer::Stale(row)))
-                }
-                Err(Refusal::NotYours(planner, count)) => {
-                    (Seat::Free(planner), Told::NotYours(count))
-                }
-                Err(Refusal::NoMemory(drafting)) => {
-                    (Seat::Drafting(drafting), Told::Answer(Answer::NoMemory))
                 }
             },
         }
@@ -219,17 +205,23 @@ impl<'i, S: Sheet<'i>, J: Naming> Seat<'i, S, J> {
         }
     }
 
-    /// Does what a line asks for that is no call. The planner goes on from where that leaves him.
+    /// Does what a line asks for. The planner goes on from where that leaves him.
     pub fn take<R: Wait>(self, rt: &R, desk: &SharedDesk<S, J>, event: Event) -> (Self, Told)
-        requires no_call { call_in (Some event) ≡ None }
         requires fits { (n : ℕ) × EventFits J.problem n event }
         ensures fits { ToldFits J.problem result.1 }
         ensures takes { Takes J.problem J.opening event self.entry result.0 result.1 }
     {
         match event {
             Event::Open(_) => self.open(),
-            Event::Ask(_, _) => unreachable!(),
-            Event::Commit(_) => self.commit(rt, desk),
+            Event::Ask(_, call) => {
+                let mut seat = self;
+                let told = seat.ask(call);
+                (seat, told)
+            }
+            Event::Commit(_) => {
+                let (seat, outcome) = self.commit(rt, desk);
+                (seat, told_of(outcome))
+            }
             Event::Refresh(_) => self.refresh(),
             Event::Abandon(_) => self.abandon(),
             Event::Show(look) => self.show(&look),
