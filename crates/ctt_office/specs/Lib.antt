@@ -1,5 +1,6 @@
 pub mod Blocks
 pub mod Lines
+pub mod OfficeFaults
 pub mod Pages
 pub mod Recovery
 pub mod SeatAnswers

@@ -1,16 +1,17 @@
 //! A desk with its seats, from its opening until all have left.
 
-ghost use Rattle.std.specs.Prelude.{◌≡◌, ◌≤◌, length, IfOk};
+ghost use Rattle.std.specs.Prelude.{◌≡◌, ◌≤◌, ◌<◌, ◌+◌, ℕ, length, IfErr, IfOk, OnOk};
 ghost use Rattle.ctt_desk.specs.Names.{IsNamed};
 ghost use Rattle.ctt_script.specs.CrewText.{IsCrewText};
+ghost use Rattle.ctt_office.specs.OfficeFaults.{IsOfficeFault};
+ghost use Rattle.ctt_office.specs.declared.office_fault.OfficeFault.TheVariants.{NoMemory as OutOfMemory};
 
 use crate::book::Book;
 use crate::doors::Doors;
 use crate::durable::Durable;
-use crate::office_fault::OfficeFault;
+use crate::office_fault::{OfficeFault, SeatFault};
 use crate::sitting::{GridStation, Station, sit_on_grid};
 use ctt_board::{GridSheet, Timetable};
-use ctt_core::PlannerNo;
 use ctt_desk::{Closed, Named, Naming, Opened, Planner, SharedDesk};
 use ctt_script::{closing_report, end_desk};
 use ctt_text::{Instance, let_go};
@@ -20,30 +21,44 @@ use std::sync::Wait;
 use std::thread;
 use std::thread::{JoinHandle, Threads};
 
+/// The fault of the first seats that have one, with the seat at this place more, which ended so.
+fn ended_also(
+    ended: Result<(), OfficeFault>,
+    place: usize,
+    seat: Result<(), SeatFault>,
+) -> Result<(), OfficeFault>
+    ensures { (seats : ℕ) → place < seats → IfErr ended.entry (IsOfficeFault seats)
+        → IfErr result (IsOfficeFault seats) }
+{
+    ended?;
+    match seat {
+        Ok(()) => Ok(()),
+        Err(fault) => Err(OfficeFault::at_seat(place, fault)),
+    }
+}
+
 /// Waits until all seats have ended, and gives the fault of the first one that has one.
 fn joined<R: Threads>(
     rt: &R,
-    threads: Vec<JoinHandle<Result<(), OfficeFault>>>,
-) -> Result<(), OfficeFault> {
+    threads: Vec<JoinHandle<Result<(), SeatFault>>>,
+) -> Result<(), OfficeFault>
+    ensures { IfErr result (IsOfficeFault (length threads.items)) }
+{
     let mut ended = Ok(());
-    for thread in threads {
-        let one = thread.join(rt);
-        if ended.is_ok() {
-            ended = one;
-        }
+    for (place, thread) in threads.into_iter().enumerate() {
+        ended = ended_also(ended, place, thread.join(rt));
     }
     ended
 }
 
 /// Adds a planner's thread, if it was started.
-fn added<T: Drop, E: Drop>(
-    threads: &mut Vec<T>,
-    started: Result<T, E>,
-    planner: PlannerNo,
-) -> Result<(), OfficeFault> {
+fn added<T: Drop, E: Drop>(threads: &mut Vec<T>, started: Result<T, E>) -> Result<(), OfficeFault>
+    ensures added { OnOk result (length threads.new.items ≡ length threads.old.items + 1) }
+    ensures fault { (seats : ℕ) → IfErr result (IsOfficeFault seats) }
+{
     match started {
         Ok(thread) => Ok(threads.push(thread)?),
-        Err(_) => Err(OfficeFault::NoThread(planner)),
+        Err(_) => Err(OfficeFault::NoThread),
     }
 }
 
@@ -60,21 +75,24 @@ fn sit_at_once<
     alloc: Global,
     desk: &'x SharedDesk<GridSheet<'i>, J>,
     seats: Vec<(Planner<GridSheet<'i>, J>, Station<'i, 'x, J, D, W>)>,
-) -> Result<(), OfficeFault> {
+) -> Result<(), OfficeFault>
+    ensures { IfErr result (IsOfficeFault (length seats.entry.items)) }
+{
     thread::scope(
         thread::scope_env(),
         rt,
-        |scope| -> Result<(), OfficeFault> {
+        |scope| -> Result<(), OfficeFault>
+            ensures { IfErr result (IsOfficeFault (length seats.entry.items)) }
+        {
             let mut threads = Vec::new(alloc);
             for (planner, station) in seats {
-                let number = planner.number();
                 let work = GridStation {
                     desk,
                     planner,
                     station,
                 };
                 let sitting = move || sit_on_grid(work, rt);
-                if let Err(fault) = added(&mut threads, scope.spawn(sitting), number) {
+                if let Err(fault) = added(&mut threads, scope.spawn(sitting)) {
                     let_go(threads);
                     return Err(fault);
                 }
@@ -93,7 +111,10 @@ fn stations<'i, 'x, P: Drop, J: Naming, D: Doors, W: Durable>(
     doors: &'x D,
     book: Option<&'x Book<W, J>>,
 ) -> Result<Vec<(P, Station<'i, 'x, J, D, W>)>, OfficeFault>
-    requires { J.problem ≡ instance.now }
+    requires problem { J.problem ≡ instance.now }
+    requires counted { length planners.items ≡ length names.now }
+    ensures each { IfOk result (λ seats. length seats.items ≡ length names.now) }
+    ensures fault { IfErr result (λ fault. fault ≡ OutOfMemory) }
 {
     let mut seats = Vec::with_capacity(alloc, names.len())?;
     for (planner, name) in planners.into_iter().zip(names) {
@@ -114,11 +135,33 @@ fn stations<'i, 'x, P: Drop, J: Naming, D: Doors, W: Durable>(
     Ok(seats)
 }
 
+/// Keeps the seats of these names until all have ended.
+fn seated<'i, J: Naming + Send + Sync, D: Doors, W: Durable + Send, R: Threads + Wait + Sync>(
+    rt: &R,
+    alloc: Global,
+    desk: &SharedDesk<GridSheet<'i>, J>,
+    instance: &'i Instance,
+    planners: Vec<Planner<GridSheet<'i>, J>>,
+    names: &[String],
+    doors: &D,
+    book: Option<&Book<W, J>>,
+) -> Result<(), OfficeFault>
+    requires problem { J.problem ≡ instance.now }
+    requires counted { length planners.items ≡ length names.now }
+    ensures { IfErr result (IsOfficeFault (length names.now)) }
+{
+    let seats = stations(alloc, instance, planners, names, doors, book)?;
+    sit_at_once(rt, alloc, desk, seats)
+}
+
 /// A desk of which is known which one it is, with its planners.
 fn desk_named<S: Timetable, J: Naming, R: Wait>(
     rt: &R,
     named: Named<S, J>,
-) -> Result<(SharedDesk<S, J>, Vec<Planner<S, J>>), OfficeFault> {
+) -> Result<(SharedDesk<S, J>, Vec<Planner<S, J>>), OfficeFault>
+    ensures each { IfOk result (λ made. length made.1.items ≡ named.count) }
+    ensures fault { (seats : ℕ) → IfErr result (IsOfficeFault seats) }
+{
     Ok(SharedDesk::new(rt, named)?)
 }
 
@@ -128,7 +171,9 @@ fn last_lines<S: Timetable, J: Naming>(
     closed: &Closed<S, J>,
     ended: Result<(), OfficeFault>,
 ) -> Result<Vec<u8>, OfficeFault>
-    ensures { IfOk result (λ text. IsCrewText J.problem J.opening 0 text.items) }
+    ensures text { IfOk result (λ text. IsCrewText J.problem J.opening 0 text.items) }
+    ensures fault { (seats : ℕ) → IfErr ended.entry (IsOfficeFault seats)
+        → IfErr result (IsOfficeFault seats) }
 {
     ended?;
     Ok(closing_report(alloc, closed, Vec::new(alloc))?)
@@ -141,7 +186,9 @@ fn close<S: Timetable, J: Naming, R: Wait>(
     desk: SharedDesk<S, J>,
     ended: Result<(), OfficeFault>,
 ) -> Result<Vec<u8>, OfficeFault>
-    ensures { IfOk result (λ text. IsCrewText J.problem J.opening 0 text.items) }
+    ensures text { IfOk result (λ text. IsCrewText J.problem J.opening 0 text.items) }
+    ensures fault { (seats : ℕ) → IfErr ended.entry (IsOfficeFault seats)
+        → IfErr result (IsOfficeFault seats) }
 {
     let closed = end_desk(rt, alloc, desk);
     let text = last_lines(alloc, &closed, ended);
@@ -154,7 +201,10 @@ fn checked<J: Naming, W: Durable, R: Wait>(
     rt: &R,
     book: Option<&Book<W, J>>,
     ended: Result<(), OfficeFault>,
-) -> Result<(), OfficeFault> {
+) -> Result<(), OfficeFault>
+    ensures { (seats : ℕ) → IfErr ended.entry (IsOfficeFault seats)
+        → IfErr result (IsOfficeFault seats) }
+{
     ended?;
     match book {
         Some(book) if book.has_failed(rt) => Err(OfficeFault::NotWritten),
@@ -175,7 +225,9 @@ fn keep_named<'i, J: Naming + Send + Sync, D: Doors, W: Durable + Send, R: Threa
 ) -> Result<Vec<u8>, OfficeFault>
     requires named { IsNamed J.problem J.opening J.planners J.book opened count }
     requires problem { opened.problem ≡ instance.now }
-    ensures { IfOk result (λ text. IsCrewText J.problem J.opening 0 text.items) }
+    requires counted { length names.now ≡ count }
+    ensures text { IfOk result (λ text. IsCrewText J.problem J.opening 0 text.items) }
+    ensures fault { IfErr result (IsOfficeFault (length names.now)) }
 {
     let named = Named {
         opened,
@@ -185,11 +237,8 @@ fn keep_named<'i, J: Naming + Send + Sync, D: Doors, W: Durable + Send, R: Threa
     let (desk, planners) = desk_named::<GridSheet<'i>, J, R>(rt, named)?;
     let kept = minutes.map(Book::new);
     let book = kept.as_ref();
-    let ended = match stations(alloc, instance, planners, names, doors, book) {
-        Ok(seats) => sit_at_once(rt, alloc, &desk, seats),
-        Err(fault) => Err(fault),
-    };
-    let ended = checked(rt, book, ended);
+    let sat = seated(rt, alloc, &desk, instance, planners, names, doors, book);
+    let ended = checked(rt, book, sat);
     close::<GridSheet<'i>, J, R>(rt, alloc, desk, ended)
 }
 
@@ -208,7 +257,8 @@ pub fn keep_desk<'i, D: Doors, W: Durable + Send, R: Threads + Wait + Sync>(
     requires problem { opened.problem ≡ instance.now }
     requires some { 1 ≤ length names.now }
     requires few { length names.now ≤ 64 }
-    ensures { IfOk result (λ text. IsCrewText instance.now opened.entry.list 0 text.items) }
+    ensures text { IfOk result (λ text. IsCrewText instance.now opened.entry.list 0 text.items) }
+    ensures fault { IfErr result (IsOfficeFault (length names.now)) }
 {
     let count = names.len() as u16;
     keep_named::<Brand, D, W, R>(rt, alloc, instance, opened, count, names, doors, minutes)

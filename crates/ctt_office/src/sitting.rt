@@ -13,7 +13,7 @@ use crate::book::Book;
 use crate::doors::Doors;
 use crate::durable::Durable;
 use crate::line_reader::{LineReader, Next};
-use crate::office_fault::OfficeFault;
+use crate::office_fault::SeatFault;
 use crate::seat_line::{SeatLine, read_seat_line};
 use ctt_board::{GridSheet, Sheet, Timetable};
 use ctt_core::PlannerNo;
@@ -160,7 +160,7 @@ fn open_and_sit<'i, 'x, S: Sheet<'i>, J: Naming, D: Doors, W: Durable, R: Wait>(
     rt: &R,
     desk: &SharedDesk<S, J>,
     planner: Planner<S, J>,
-) -> Result<(), OfficeFault> {
+) -> Result<(), SeatFault> {
     let Station {
         alloc,
         instance,
@@ -172,18 +172,18 @@ fn open_and_sit<'i, 'x, S: Sheet<'i>, J: Naming, D: Doors, W: Durable, R: Wait>(
     let number = planner.number();
     let Ok(input) = doors.open_input(name) else {
         let_go(planner);
-        return Err(OfficeFault::CannotRead(number));
+        return Err(SeatFault::CannotRead);
     };
     let Ok(mut out) = doors.open_output(name) else {
         let_go(planner);
-        return Err(OfficeFault::CannotWrite(number));
+        return Err(SeatFault::CannotWrite);
     };
     let seat = Seat::Free(planner);
     match sit(
         rt, alloc, desk, instance, book, number, seat, input, &mut out,
     ) {
         Ending::Left | Ending::Ended | Ending::Broken => Ok(()),
-        Ending::NoMemory => Err(OfficeFault::NoMemory),
+        Ending::NoMemory => Err(SeatFault::NoMemory),
     }
 }
 
@@ -200,7 +200,7 @@ pub(crate) struct GridStation<'i, 'x, J: Naming, D: Doors, W: Durable> {
 pub(crate) fn sit_on_grid<'i, 'x, J: Naming, D: Doors, W: Durable, R: Wait>(
     work: GridStation<'i, 'x, J, D, W>,
     rt: &R,
-) -> Result<(), OfficeFault> {
+) -> Result<(), SeatFault> {
     let GridStation {
         desk,
         planner,

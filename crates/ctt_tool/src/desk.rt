@@ -2,6 +2,7 @@
 
 ghost use Rattle.std.specs.Prelude.{◌≡◌, ◌⊎◌, ◌≤◌, ◌<◌, ◌++◌, Err, true, length, codes, OnOk, OnErr, IfOk, IfErr};
 ghost use Rattle.std.specs.String.{string_bytes};
+ghost use Rattle.ctt_office.specs.OfficeFaults.{IsOfficeFault};
 ghost use Rattle.ctt_tool.specs.Desks.{IsOfDeskFrom, IsOfDeskOn, IsOpenOn, TellsLast};
 ghost use Rattle.ctt_tool.specs.Faults.{IfUnwritten, MayHaveWritten};
 ghost use Rattle.ctt_tool.specs.Refusals.{IsOfDesk, IsOfInstanceOr, IsOfOpening, IsOfPlan, IsOfSeats, IsOfWork, IsUnread, IsUnreadAt};
@@ -66,18 +67,16 @@ fn unread(alloc: Global, seat: &str) -> Fault
     }
 }
 
-/// The fault of a desk with these seats. A thread that tells of a seat that is not there has failed itself.
+/// The fault of a desk with these seats.
 fn fault_of_office(alloc: Global, seats: &[String], fault: OfficeFault) -> Fault
+    requires { IsOfficeFault (length seats.now) fault }
     ensures { IfUnwritten result (Unit {0}) (IsOfWork result ⊎ IsUnread seats.now result) }
 {
     match fault {
         OfficeFault::NoPlace => Fault::NoPlace,
-        OfficeFault::NoThread(_) => Fault::NoThread,
-        OfficeFault::CannotRead(planner) => match seats.get(planner.get() as usize) {
-            Some(seat) => unread(alloc, seat.as_str()),
-            None => Fault::NoThread,
-        },
-        OfficeFault::CannotWrite(_) | OfficeFault::NotWritten => Fault::CannotWrite,
+        OfficeFault::NoThread => Fault::NoThread,
+        OfficeFault::CannotRead(place) => unread(alloc, seats[place].as_str()),
+        OfficeFault::CannotWrite | OfficeFault::NotWritten => Fault::CannotWrite,
         OfficeFault::NoMemory => Fault::NoMemory,
     }
 }
