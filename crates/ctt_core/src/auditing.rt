@@ -307,7 +307,8 @@ impl<'a, 'i, S: Sheet<'i>> Auditor<'a, S> {
     pub fn list(&self) -> Result<Vec<Placed>, NoList>
         requires asked { self.now.asked ≡ [] }
         requires ready { self.now.made ≡ None }
-        ensures list { IfOk result (λ list. LeavesList self.now.problem self.now.lectures self.now.entries list.items) }
+        ensures list { IfOk result (λ list.
+            LeavesList self.now.problem self.now.lectures self.now.entries list.items) }
         ensures none { IfErr result (IsNoList self.now.problem self.now.lectures self.now.entries) }
     {
         self.sheet.lawful();

@@ -102,7 +102,8 @@ pub fn list_after<'i, S: Sheet<'i>>(
 ) -> Result<Vec<Placed>, NoList>
     requires lectures { Each (Fits instance.now) lectures.now }
     requires entries { Each (EntryFits instance.now) entries.now }
-    ensures list { IfOk result (λ list. LeavesList instance.now lectures.now entries.now list.items) }
+    ensures list { IfOk result (λ list.
+        LeavesList instance.now lectures.now entries.now list.items) }
     ensures none { IfErr result (IsNoList instance.now lectures.now entries.now) }
 {
     match Auditor::<S>::open(alloc, instance, lectures) {

@@ -69,7 +69,8 @@ impl<'i, S: Sheet<'i>, J: Naming> Drafting<'i, S, J> {
 
     /// The entry that the draft is, if it is accepted.
     pub fn entry(&self) -> Result<JournalEntry, NoMemory>
-        ensures entry { IfOk result (λ entry. entry ≡ entry_of self.now.planner.number self.now.asked) }
+        ensures entry { IfOk result (λ entry.
+            entry ≡ entry_of self.now.planner.number self.now.asked) }
         ensures fit { IfOk result (λ entry. Each (AskedFits J.problem) entry.asked) }
     {
         self.draft.instance().limits_hold();

@@ -287,7 +287,8 @@ pub fn write_entry(
     asked: &[Asked],
 ) -> Result<(), AllocError>
     requires { Each (AskedFits instance.now) asked.now }
-    ensures { OnOk result (string_bytes text.new ≡ string_bytes text.old ++ entry_text instance.now (record { planner = planner; asked = asked.now })) }
+    ensures { OnOk result (string_bytes text.new ≡ string_bytes text.old
+        ++ entry_text instance.now (record { planner = planner; asked = asked.now })) }
 {
     write_entry_head(text, planner, asked.len() as u64)?;
     for one in asked {

@@ -89,7 +89,8 @@ fn open_on<'i, S: Sheet<'i>, F: Files>(
     start: Option<String>,
 ) -> Result<Opened<S>, Fault>
     ensures problem { IfOk result (λ opened. opened.problem ≡ instance.now) }
-    ensures opens { IfOk result (λ opened. IsOpenOn instance.now start (F.held files.old) opened.list) }
+    ensures opens { IfOk result (λ opened.
+        IsOpenOn instance.now start (F.held files.old) opened.list) }
     ensures kept { F.held files.new ≡ F.held files.old }
     ensures cause { IfErr result (λ fault.
         IsOfOpening start (F.held files.old) instance.now fault ⊎ IsOfWork fault) }
@@ -144,7 +145,8 @@ fn keep<R: Threads + Wait + Sync, F: Files, O: Office>(
 ) -> Result<Vec<u8>, Fault>
     requires some { 1 ≤ length seats.now }
     requires few { length seats.now ≤ 64 }
-    ensures tells { IfOk result (λ bytes. IsOfDeskFrom instance.now start (F.held files.old) bytes.items) }
+    ensures tells { IfOk result (λ bytes.
+        IsOfDeskFrom instance.now start (F.held files.old) bytes.items) }
     ensures kept { F.held files.new ≡ F.held files.old }
     ensures cause { IfErr result (λ fault. IfUnwritten fault
         (Unit {0})
@@ -178,7 +180,8 @@ fn report<R: Threads + Wait + Sync, F: Files, O: Office>(
 ) -> Result<Vec<u8>, Fault>
     requires some { 1 ≤ length seats.now }
     requires few { length seats.now ≤ 64 }
-    ensures tells { IfOk result (λ bytes. IsOfDeskOn instance barred start (F.held files.old) bytes.items) }
+    ensures tells { IfOk result (λ bytes.
+        IsOfDeskOn instance barred start (F.held files.old) bytes.items) }
     ensures kept { F.held files.new ≡ F.held files.old }
     ensures cause { IfErr result (λ fault. IfUnwritten fault
         (Unit {0})

@@ -29,7 +29,8 @@ fn fetch_entries<F: Files>(
     instance: &Instance,
     journal: String,
 ) -> Result<Vec<JournalEntry>, Fault>
-    ensures spelled { IfOk result (λ entries. IfSome (F.held files.old (string_bytes journal)) (λ text.
+    ensures spelled { IfOk result (λ entries.
+        IfSome (F.held files.old (string_bytes journal)) (λ text.
         IsJournalText instance.now text entries.items)) }
     ensures fit { IfOk result (λ entries. Each (EntryFits instance.now) entries.items) }
     ensures kept { F.held files.new ≡ F.held files.old }
@@ -49,7 +50,8 @@ fn print_left<'i, S: Sheet<'i>, W: Sink>(
 ) -> Result<Outcome, Fault>
     requires lectures { Each (Fits instance.now) lectures.now }
     requires entries { Each (EntryFits instance.now) entries.now }
-    ensures prints { IfOk result (λ outcome. PrintsLeft instance.now lectures.now entries.now outcome
+    ensures prints { IfOk result (λ outcome.
+        PrintsLeft instance.now lectures.now entries.now outcome
         (W.taken out.old) (W.taken out.new)) }
     ensures unmarked { OnOk result (W.has_failed out.new ≡ W.has_failed out.old) }
     ensures cause { IfErr result (λ fault. IfUnwritten fault
@@ -77,7 +79,8 @@ fn list_on<'i, S: Sheet<'i>, F: Files, W: Sink>(
     journal: String,
     start: Option<String>,
 ) -> Result<Outcome, Fault>
-    ensures lists { IfOk result (λ outcome. ListsOn instance.now journal start outcome (F.held files.old)
+    ensures lists { IfOk result (λ outcome.
+        ListsOn instance.now journal start outcome (F.held files.old)
         (W.taken out.old) (W.taken out.new)) }
     ensures unmarked { OnOk result (W.has_failed out.new ≡ W.has_failed out.old) }
     ensures unstored { F.held files.new ≡ F.held files.old }
@@ -109,7 +112,8 @@ pub fn list<F: Files, W: Sink>(
     journal: String,
     start: Option<String>,
 ) -> Result<Outcome, Fault>
-    ensures lists { IfOk result (λ outcome. ListsJournal instance barred journal start outcome (F.held files.old)
+    ensures lists { IfOk result (λ outcome.
+        ListsJournal instance barred journal start outcome (F.held files.old)
         (W.taken out.old) (W.taken out.new)) }
     ensures unmarked { OnOk result (W.has_failed out.new ≡ W.has_failed out.old) }
     ensures unstored { F.held files.new ≡ F.held files.old }

@@ -63,7 +63,8 @@ fn serve<R: Env + AllocGlobal + Threads + Wait + Sync, F: Files, O: Office, W: S
     ensures done { result ≡ 0 → (words : List (List ℕ)) × DoesAsAsked words Done
         (F.held files.old) (F.held files.new) (W.taken out.old) (W.taken out.new) }
     ensures unmarked { result ≡ 0 → W.has_failed out.new ≡ false }
-    ensures unsaid { result ≡ 0 → ((words : List (List ℕ)) × AsksToSay words) ⊎ (err.new ≡ err.old) }
+    ensures unsaid { result ≡ 0
+        → ((words : List (List ℕ)) × AsksToSay words) ⊎ (err.new ≡ err.old) }
     ensures one { result ≡ 1 → (words : List (List ℕ))
         × ((AsksForRefusedText words (F.held files.old)
         × (out.new ≡ out.old))

@@ -136,7 +136,8 @@ fn do_as_asked<R: Threads + Wait + Sync, F: Files, O: Office, W: Sink, V: Sink>(
     ensures taken { IfErr result (λ fault. status_of fault ≡ 1
         → faults_of (map (λ word. word.now) words.now) ≡ []) }
     ensures quiet { IfOk result (λ outcome.
-        (AsksToSay (map (λ word. word.now) words.now) × (outcome ≡ Done)) ⊎ (err.new ≡ err.old)) }
+        (AsksToSay (map (λ word. word.now) words.now) × (outcome ≡ Done))
+        ⊎ (err.new ≡ err.old)) }
     ensures unsaid { OnErr result ((err.new ≡ err.old) ⊎ (V.has_failed err.new ≡ true)) }
     ensures cause { IfErr result (HasCause (map (λ word. word.now) words.now) (F.held files.old)
         (W.has_failed out.new)) }
@@ -176,8 +177,8 @@ pub fn fail_with<V: Sink>(alloc: Global, fault: &Fault, err: &mut V) -> u8
 
 /// Does the job that the words ask for, of which the first is the program's name, and answers the
 /// status with which to end: 0 where it was done, 1 where a text is refused or an audit does not agree,
-/// 2 where the words are refused, or ask for too many scripts or seats, and 3 where the machine failed. Answers go to `out`, and why a job was
-/// not done to `err`.
+/// 2 where the words are refused, or ask for too many scripts or seats, and 3 where the machine failed.
+/// Answers go to `out`, and why a job was not done to `err`.
 pub fn program<R: AllocGlobal + Threads + Wait + Sync, F: Files, O: Office, W: Sink, V: Sink>(
     rt: &R,
     words: &[&str],
@@ -193,7 +194,8 @@ pub fn program<R: AllocGlobal + Threads + Wait + Sync, F: Files, O: Office, W: S
     ensures done { result ≡ 0 → DoesAsAsked (map (λ word. word.now) words.now) Done
         (F.held files.old) (F.held files.new) (W.taken out.old) (W.taken out.new) }
     ensures unmarked { result ≡ 0 → W.has_failed out.new ≡ false }
-    ensures unsaid { result ≡ 0 → AsksToSay (map (λ word. word.now) words.now) ⊎ (err.new ≡ err.old) }
+    ensures unsaid { result ≡ 0
+        → AsksToSay (map (λ word. word.now) words.now) ⊎ (err.new ≡ err.old) }
 
     ensures one { result ≡ 1
         → (AsksForRefusedText (map (λ word. word.now) words.now) (F.held files.old)
