@@ -13,9 +13,10 @@ use crate::naming::Naming;
 use crate::planner::Planner;
 use ctt_board::{Sheet, Timetable};
 use ctt_core::JournalEntry;
-use ctt_draft::{Draft, KeepAll};
+use ctt_draft::{AskedCalls, Draft, KeepAll};
 use ctt_edits::{Call, Reply, laws};
 use ctt_text::{Instance, NoMemory};
+use std::alloc::Global;
 use std::marker::Model;
 
 /// A planner with an open draft. Contracts see the planner, the timetable on which the draft
@@ -41,6 +42,19 @@ impl<'i, S: Timetable, J: Naming> Model for Drafting<'i, S, J> {
 
     ghost invariant = { λ d. (d.draft.value.problem ≡ J.problem)
         × (d.draft.value.base ≡ after J.problem J.opening d.planner.front) };
+}
+
+/// A copy of the calls of a draft with their replies.
+fn asked_again<'i, S: Sheet<'i>>(
+    alloc: Global,
+    draft: &Draft<'i, S, KeepAll>,
+) -> Result<AskedCalls, NoMemory>
+    ensures asked { IfOk result (λ asked. asked ≡ draft.now.asked) }
+    ensures fit { IfOk result (Each (AskedFits draft.now.problem)) }
+{
+    draft.instance().limits_hold();
+    draft.lawful();
+    draft.asked_again(alloc)
 }
 
 impl<'i, S: Sheet<'i>, J: Naming> Drafting<'i, S, J> {
@@ -73,9 +87,7 @@ impl<'i, S: Sheet<'i>, J: Naming> Drafting<'i, S, J> {
             entry ≡ entry_of self.now.planner.number self.now.asked) }
         ensures fit { IfOk result (λ entry. Each (AskedFits J.problem) entry.asked) }
     {
-        self.draft.instance().limits_hold();
-        self.draft.lawful();
-        let asked = self.draft.asked_again(self.planner.alloc)?;
+        let asked = asked_again(self.planner.alloc, &self.draft)?;
         let planner = self.planner.number();
         Ok(JournalEntry { planner, asked })
     }
