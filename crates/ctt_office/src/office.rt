@@ -27,7 +27,7 @@ fn ended_also(
     place: usize,
     seat: Result<(), SeatFault>,
 ) -> Result<(), OfficeFault>
-    ensures { (seats : ℕ) → place < seats → IfErr ended.entry (IsOfficeFault seats)
+    ensures { (seats : ℕ) → place < seats → IfErr ended (IsOfficeFault seats)
         → IfErr result (IsOfficeFault seats) }
 {
     ended?;
@@ -172,7 +172,7 @@ fn last_lines<S: Timetable, J: Naming>(
     ended: Result<(), OfficeFault>,
 ) -> Result<Vec<u8>, OfficeFault>
     ensures text { IfOk result (λ text. IsCrewText J.problem J.opening 0 text.items) }
-    ensures fault { (seats : ℕ) → IfErr ended.entry (IsOfficeFault seats)
+    ensures fault { (seats : ℕ) → IfErr ended (IsOfficeFault seats)
         → IfErr result (IsOfficeFault seats) }
 {
     ended?;
@@ -187,7 +187,7 @@ fn close<S: Timetable, J: Naming, R: Wait>(
     ended: Result<(), OfficeFault>,
 ) -> Result<Vec<u8>, OfficeFault>
     ensures text { IfOk result (λ text. IsCrewText J.problem J.opening 0 text.items) }
-    ensures fault { (seats : ℕ) → IfErr ended.entry (IsOfficeFault seats)
+    ensures fault { (seats : ℕ) → IfErr ended (IsOfficeFault seats)
         → IfErr result (IsOfficeFault seats) }
 {
     let closed = end_desk(rt, alloc, desk);
@@ -202,7 +202,7 @@ fn checked<J: Naming, W: Durable, R: Wait>(
     book: Option<&Book<W, J>>,
     ended: Result<(), OfficeFault>,
 ) -> Result<(), OfficeFault>
-    ensures { (seats : ℕ) → IfErr ended.entry (IsOfficeFault seats)
+    ensures { (seats : ℕ) → IfErr ended (IsOfficeFault seats)
         → IfErr result (IsOfficeFault seats) }
 {
     ended?;

@@ -128,7 +128,7 @@ fn sit<'i, S: Sheet<'i>, J: Naming, W: Durable, I: Source + Drop, O: Sink, R: Wa
     requires { J.problem ≡ instance.now }
     ensures { IsSat (asked_by instance.now number)
         (IsAnswer (IfBook book.entry (IsInMinutes W.Sink.taken W.kept J.problem)) instance.now J.opening)
-        seat.entry (I.left input.entry) (O.taken out.old) (O.taken out.new) result }
+        seat.entry (I.left input) (O.taken out.old) (O.taken out.new) result }
 {
     let mut lines = LineReader::new(alloc, input);
     let mut seat = seat;

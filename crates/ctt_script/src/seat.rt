@@ -51,8 +51,8 @@ fn unread<J: Naming>(fault: SharedFault) -> Told
 
 /// What is told of a commit: how many drafts were then accepted, or why it is refused.
 fn told_of<J: Naming>(outcome: Result<Receipt<J>, Told>) -> Told
-    ensures fits { IfErr outcome.entry (ToldFits J.problem) → ToldFits J.problem result }
-    ensures told { result ≡ told_of outcome.entry }
+    ensures fits { IfErr outcome (ToldFits J.problem) → ToldFits J.problem result }
+    ensures told { result ≡ told_of outcome }
 {
     match outcome {
         Ok(receipt) => Told::Answer(Answer::Committed(receipt.number())),
