@@ -23,6 +23,11 @@ adds written P old new answer is grown = on_ok_weaker written (λ g. (answer, is
 pub adds_also : {T E : Type 0} (written : Result T E) (P Q : List ℕ → Type 0) (old new : List ℕ) → ((answer : List ℕ) → P answer → Q answer) → OnOk written (Adds P old new) → OnOk written (Adds Q old new)
 adds_also written P Q old new also grown = on_ok_weaker written (λ a. (a.0, also a.0 a.1, a.2)) grown
 
+unkept : {B : Type 0} (i : Problem) (book : Option B) (IsKept : List JournalEntry → Type 0) (outcome : Result (List JournalEntry) Told) (told : Told) (answer : List ℕ) → book ≡ None → told ≡ told_of outcome → answer ≡ told_line i told
+    → IsOutcomeAnswer (IfBook book IsKept) i outcome answer
+unkept i book IsKept (Ok history) told answer none same is = inl (subst (λ b. IfBook b IsKept history) (sym none) tt, is ∙ ap (told_line i) same)
+unkept i book IsKept (Err why) told answer none same is = is ∙ ap (told_line i) same
+
 module _ {X Y : Type 0} (i : Problem) (t0 : List Placed) where
   -- the history of a commit's receipt ends with the draft that was open
   pub ends_with : (before after : Seat X Y) (history : List JournalEntry) (entry : List ℕ) → Commits i t0 before after (Ok history) → entry ≡ open_entry i before → EndsWith i history entry
@@ -43,14 +48,9 @@ module _ {X Y : Type 0} (i : Problem) (t0 : List Placed) where
   pub a_commit : (IsKept : List JournalEntry → Type 0) (event : Event) (p : ℕ) (before after : Seat X Y) (answer : List ℕ) → event ≡ Commit p → IsCommitAnswer IsKept i t0 before after answer → IsStepAnswer IsKept i t0 event before after answer
   a_commit IsKept event p before after answer same is = subst (λ e. IsStepAnswer IsKept i t0 e before after answer) (sym same) is
 
-  unkept : {B : Type 0} (book : Option B) (IsKept : List JournalEntry → Type 0) (outcome : Result (List JournalEntry) Told) (told : Told) (answer : List ℕ) → book ≡ None → told ≡ told_of outcome → answer ≡ told_line i told
-      → IsOutcomeAnswer (IfBook book IsKept) i outcome answer
-  unkept book IsKept (Ok history) told answer none same is = inl (subst (λ b. IfBook b IsKept history) (sym none) tt, is ∙ ap (told_line i) same)
-  unkept book IsKept (Err why) told answer none same is = is ∙ ap (told_line i) same
-
   -- a commit where no book is kept
   pub no_book : {B : Type 0} (book : Option B) (IsKept : List JournalEntry → Type 0) (event : Event) (p : ℕ) (before after : Seat X Y) (answer : List ℕ) → book ≡ None → event ≡ Commit p → IsCrewAnswer i t0 event before after answer
       → IsStepAnswer (IfBook book IsKept) i t0 event before after answer
   no_book book IsKept event p before after answer none same is =
       let done = subst (λ e. IsCrewAnswer i t0 e before after answer) same is in
-      a_commit (IfBook book IsKept) event p before after answer same (inl (done.1.0, done.1.1, unkept book IsKept done.1.0 done.0 answer none done.1.2 done.2))
+      a_commit (IfBook book IsKept) event p before after answer same (inl (done.1.0, done.1.1, unkept i book IsKept done.1.0 done.0 answer none done.1.2 done.2))

@@ -1,8 +1,9 @@
 -- The whole entries of minutes.
-use Rattle.std.proofs.Common.{suc, ◌<◌, ◌∷◌, length, take, drop, get_or, subst, arith, append_assoc, take-append-drop, Bool, ◌≡◌, ◌∙◌, inl, inr, ℕ, ◌+◌, List, [], ◌++◌, flat_map, Err, refl, sym, ap, append-nil}
+use Rattle.std.proofs.Common.{suc, ◌<◌, ◌≤◌, ◌-◌, nat_lt, length-drop, ◌∷◌, length, take, drop, get_or, subst, arith, append_assoc, take-append-drop, Bool, ◌≡◌, ◌∙◌, inl, inr, ℕ, ◌+◌, List, [], ◌++◌, flat_map, Err, refl, sym, ap, append-nil}
 use Rattle.std.specs.List.{AllByRecursion as Each}
 use Rattle.std.specs.Str.{IsCharBoundary, IsUtf8}
-use Rattle.std.proofs.lemmas.Str.{IsCharBoundary-after_ascii, IsUtf8-from_is_utf8, IsUtf8-take}
+use Rattle.std.proofs.lemmas.Bool.Decides.{nat_tests}
+use Rattle.std.proofs.lemmas.Str.{IsCharBoundary-after_ascii, IsUtf8-nil, IsUtf8-take}
 use mathlib.Core.List.{IsPrefix}
 use Rattle.ctt_text.specs.Forms.{◌>>=◌, read}
 use Rattle.ctt_text.specs.Left.{Left}
@@ -23,7 +24,7 @@ use Rattle.ctt_script.specs.declared.journal_fault.JournalFault.TheVariants.{Bad
 use Rattle.ctt_script.proofs.EntryLemmas.{yields_entry}
 use Rattle.ctt_script.proofs.WrittenText.{entry_part, parts_words}
 use Rattle.ctt_script.proofs.WrittenWords.{entry_fills}
-use Rattle.ctt_office.specs.Recovery.{AreEntries, EndsLine, IsEntryFault, IsLinesFault, IsReadOf}
+use Rattle.ctt_office.specs.Recovery.{AreEntries, EndsLine, IsEntryFault, IsLinesFault, IsReadOf, has_byte}
 use Rattle.ctt_office.proofs.CutLemmas.{AreCut, blocks_hold, fault_of_cut, read_of_cut}
 use Rattle.ctt_office.proofs.PartLemmas.{words_apart}
 
@@ -38,7 +39,7 @@ pub entries_short : (i : Problem) (es : List JournalEntry) → Each (IsEntry i) 
 entries_short i es are = Each-map (IsEntry i) IsShort (λ e both. both.1) es are
 
 -- where no word is left an entry lacks its first
-lacks_first : (i : Problem) (n : ℕ) → read missing (entry_form i) [] n ≡ Err (missing n)
+pub lacks_first : (i : Problem) (n : ℕ) → read missing (entry_form i) [] n ≡ Err (missing n)
 unfolding read entry_form ◌>>=◌ fixed known one
 lacks_first i n = refl
 
@@ -71,12 +72,20 @@ ended_is_text front behind is =
     subst IsUtf8 (take_lines front behind) (IsUtf8-take text (suc (length front)) is parts)
 
 pub lines_are_text : (lines behind all : List ℕ) → EndsLine lines → IsUtf8 all → all ≡ lines ++ behind → IsUtf8 lines
-lines_are_text lines behind all (inl none) is same = subst IsUtf8 (sym none) (IsUtf8-from_is_utf8 [] refl)
+lines_are_text lines behind all (inl none) is same = subst IsUtf8 (sym none) (IsUtf8-nil)
 lines_are_text lines behind all (inr ended) is same = subst IsUtf8 (sym ended.1) (ended_is_text ended.0 behind (subst IsUtf8 (same ∙ ap (λ l. l ++ behind) ended.1) is))
 
 -- what is behind the whole lines of a text that is cut
 pub cut_all : (all text lines tail : List ℕ) (n : ℕ) → text ≡ take n all → text ≡ lines ++ tail → all ≡ lines ++ (tail ++ drop n all)
 cut_all all text lines tail n cut parts = sym (take-append-drop n all) ∙ ap (λ t. t ++ drop n all) (sym cut ∙ parts) ∙ append_assoc lines tail (drop n all)
+
+-- bytes are left behind so many where there are more than so many
+pub more_than : (n : ℕ) (bytes : List ℕ) → nat_lt n (length bytes) ≡ has_byte (drop n bytes)
+more_than n bytes = by (drop n bytes) (length-drop n bytes)
+  where
+    by : (rest : List ℕ) → length rest ≡ length bytes - n → nat_lt n (length bytes) ≡ has_byte rest
+    by [] long = (let least : length bytes ≤ n = omega (arith, long) in grind (arith, nat_tests))
+    by (b ∷ rest) long = (let more : n < length bytes = omega (arith, long) in grind (arith, nat_tests))
 
 -- ---- minutes that are cut
 

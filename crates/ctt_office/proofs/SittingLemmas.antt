@@ -22,9 +22,7 @@ module _ {T : Type 0} (asked : List ℕ → SeatLine) (Is : SeatLine → T → T
     subst (λ b. IsFirstLine line after b) are.1 cut,
     subst (λ s. Is (asked line) s next answer) are.2 is,
     ap (λ a. a ++ answer) are.0 ∙ sym (append-nil answer),
-    refl,
-    refl,
-    refl,
+    (refl, refl, refl),
   )
   more_answered bytes first seat (l ∷ lines) answers rest line after answer next are cut is = (
     are.0,

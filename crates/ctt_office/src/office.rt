@@ -212,6 +212,14 @@ fn checked<J: Naming, W: Durable, R: Wait>(
     }
 }
 
+/// A book on the writer, where one is given.
+fn book_on<W: Durable, J: Naming>(minutes: Option<W>) -> Option<Book<W, J>> {
+    match minutes {
+        Some(writer) => Some(Book::new(writer)),
+        None => None,
+    }
+}
+
 /// Keeps the seats of a desk of which is known which one it is.
 fn keep_named<'i, J: Naming + Send + Sync, D: Doors, W: Durable + Send, R: Threads + Wait + Sync>(
     rt: &R,
@@ -235,7 +243,7 @@ fn keep_named<'i, J: Naming + Send + Sync, D: Doors, W: Durable + Send, R: Threa
         name: PhantomData,
     };
     let (desk, planners) = desk_named::<GridSheet<'i>, J, R>(rt, named)?;
-    let kept = minutes.map(Book::new);
+    let kept = book_on(minutes);
     let book = kept.as_ref();
     let sat = seated(rt, alloc, &desk, instance, planners, names, doors, book);
     let ended = checked(rt, book, sat);

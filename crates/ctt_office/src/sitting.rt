@@ -1,12 +1,13 @@
 //! A planner at a seat: his lines, each answered before the next one is read.
 
-ghost use Rattle.std.specs.Prelude.{◌≡◌, ℕ, IfErr, IfOk, OnOk};
+ghost use Rattle.std.specs.Prelude.{◌≡◌, ◌≢◌, ℕ, true, false, IfErr, IfOk, OnOk};
 ghost use Rattle.std.specs.Io.KnownBytes.{Appends};
 ghost use Rattle.ctt_office.specs.Lines.{Gives, coming};
 ghost use Rattle.ctt_office.specs.Pages.{IsInMinutes};
 ghost use Rattle.ctt_office.specs.SeatAnswers.{IfBook, IsAnswer, Tells};
 ghost use Rattle.ctt_office.specs.SeatText.{LineFits, asked_by};
 ghost use Rattle.ctt_office.specs.Sittings.{EndsAt, IsBroken, IsSat};
+ghost use Rattle.ctt_office.specs.declared.seat_line.SeatLine.TheVariants.{Leave};
 
 use crate::answering::answer;
 use crate::book::Book;
@@ -91,18 +92,18 @@ fn serve<'i, S: Sheet<'i>, J: Naming, W: Durable, O: Sink, R: Wait>(
     instance: &Instance,
     book: Option<&Book<W, J>>,
     seat: Seat<'i, S, J>,
-    line: SeatLine,
+    line: &SeatLine,
     out: &mut O,
 ) -> (Seat<'i, S, J>, Result<(), Ending>)
     requires same { J.problem ≡ instance.now }
-    requires fits { (p : ℕ) × LineFits instance.now p line }
+    requires fits { (p : ℕ) × LineFits instance.now p line.now }
     ensures told { OnOk result.1
         (Tells (IsAnswer (IfBook book.entry (IsInMinutes W.Sink.taken W.kept J.problem)) instance.now
-        J.opening line seat.entry result.0) (O.taken out.old) (O.taken out.new)) }
+        J.opening line.now seat.entry result.0) (O.taken out.old) (O.taken out.new)) }
     ensures broken { IfErr result.1 IsBroken }
 {
     let mut text = String::new(alloc);
-    let (seat, written) = answer(rt, alloc, desk, instance, book, seat, line, &mut text);
+    let (seat, written) = answer(rt, alloc, desk, instance, book, seat, *line, &mut text);
     if written.is_err() {
         return (seat, Err(Ending::NoMemory));
     }
@@ -112,8 +113,20 @@ fn serve<'i, S: Sheet<'i>, J: Naming, W: Durable, O: Sink, R: Wait>(
     }
 }
 
-/// Answers the lines of a planner at his seat until he leaves, or they end, or one of his devices fails. An open draft is then given
-/// up.
+/// Whether this is the line by which the planner leaves.
+fn is_last(line: &SeatLine) -> bool
+    ensures yes { result ≡ true → line.now ≡ Leave }
+    ensures no { result ≡ false → line.now ≢ Leave }
+{
+    match *line {
+        SeatLine::Leave => true,
+        _ => false,
+    }
+}
+
+/// Answers the lines of a planner at his seat until he leaves, or they end, or one of his devices fails. An open draft is
+/// then given up.
+#[tactic(auto, using(crate::proofs::SittingLemmas::sits_down, crate::proofs::SittingLemmas::sits_on, crate::proofs::SittingLemmas::leaves_by, crate::proofs::SittingLemmas::ends_by, crate::proofs::SittingLemmas::breaks_off))]
 fn sit<'i, S: Sheet<'i>, J: Naming, W: Durable, I: Source + Drop, O: Sink, R: Wait>(
     rt: &R,
     alloc: Global,
@@ -140,15 +153,20 @@ fn sit<'i, S: Sheet<'i>, J: Naming, W: Durable, I: Source + Drop, O: Sink, R: Wa
                 return why;
             }
         };
-        let (next, served) = serve(rt, alloc, desk, instance, book, seat, line, out);
+        let is_last = is_last(&line);
+        let (next, served) = serve(rt, alloc, desk, instance, book, seat, &line, out);
         seat = next;
-        if let Err(why) = served {
-            let_go(seat);
-            return why;
-        }
-        if let SeatLine::Leave = line {
-            let_go(seat);
-            return Ending::Left;
+        match served {
+            Ok(()) => {
+                if is_last {
+                    let_go(seat);
+                    return Ending::Left;
+                }
+            }
+            Err(why) => {
+                let_go(seat);
+                return why;
+            }
         }
     }
     unreachable!()
