@@ -1,5 +1,5 @@
 -- What a planner at a seat is answered.
-use Rattle.std.proofs.Common.{◌≡◌, ◌++◌, ◌∙◌, inl, inr, List, ℕ, Option, None, Result, Ok, Err, ap, refl, subst, sym}
+use Rattle.std.proofs.Common.{◌≡◌, ◌++◌, ◌∙◌, inl, inr, List, ℕ, Option, None, Some, Result, Ok, Err, ap, refl, subst, sym}
 use Rattle.std.specs.Prelude.{OnOk}
 use Rattle.std.proofs.lemmas.Result.{on_ok_weaker}
 use Rattle.ctt_text.specs.Problem.{Problem}
@@ -28,6 +28,12 @@ unkept : {B : Type 0} (i : Problem) (book : Option B) (IsKept : List JournalEntr
 unkept i book IsKept (Ok history) told answer none same is = inl (subst (λ b. IfBook b IsKept history) (sym none) tt, is ∙ ap (told_line i) same)
 unkept i book IsKept (Err why) told answer none same is = is ∙ ap (told_line i) same
 
+kept_in : {B : Type 0} (i : Problem) (book : Option B) (b : B) (IsKept : List JournalEntry → Type 0) (outcome : Result (List JournalEntry) Told) (answer : List ℕ) → book ≡ Some b → IsOutcomeAnswer IsKept i outcome answer
+    → IsOutcomeAnswer (IfBook book IsKept) i outcome answer
+kept_in i book b IsKept (Ok history) answer some (inl is) = inl (subst (λ o. IfBook o IsKept history) (sym some) is.0, is.1)
+kept_in i book b IsKept (Ok history) answer some (inr is) = inr is
+kept_in i book b IsKept (Err told) answer some is = is
+
 module _ {X Y : Type 0} (i : Problem) (t0 : List Placed) where
   -- the history of a commit's receipt ends with the draft that was open
   pub ends_with : (before after : Seat X Y) (history : List JournalEntry) (entry : List ℕ) → Commits i t0 before after (Ok history) → entry ≡ open_entry i before → EndsWith i history entry
@@ -54,3 +60,9 @@ module _ {X Y : Type 0} (i : Problem) (t0 : List Placed) where
   no_book book IsKept event p before after answer none same is =
       let done = subst (λ e. IsCrewAnswer i t0 e before after answer) same is in
       a_commit (IfBook book IsKept) event p before after answer same (inl (done.1.0, done.1.1, unkept i book IsKept done.1.0 done.0 answer none done.1.2 done.2))
+
+  -- a commit where one is
+  pub with_book : {B : Type 0} (book : Option B) (b : B) (IsKept : List JournalEntry → Type 0) (event : Event) (p : ℕ) (before after : Seat X Y) (answer : List ℕ) → book ≡ Some b → event ≡ Commit p
+      → IsCommitAnswer IsKept i t0 before after answer → IsStepAnswer (IfBook book IsKept) i t0 event before after answer
+  with_book book b IsKept event p before after answer some same (inl is) = a_commit (IfBook book IsKept) event p before after answer same (inl (is.0, is.1, kept_in i book b IsKept is.0 answer some is.2))
+  with_book book b IsKept event p before after answer some same (inr is) = a_commit (IfBook book IsKept) event p before after answer same (inr is)

@@ -1,7 +1,7 @@
 -- A planner at a seat, line by line.
 use Rattle.std.proofs.Common.{◌≡◌, ◌≢◌, ◌∙◌, ℕ, List, [], ◌∷◌, ◌++◌, Option, Some, None, refl, sym, ap, subst, append_assoc, append-nil}
 use Rattle.std.proofs.KnownBytes.{Appends-nil, Appends-trans}
-use Rattle.std.specs.Io.KnownBytes.{IsAtEnd}
+use Rattle.std.specs.Io.KnownBytes.{IsAtEnd, prepend_known}
 use Rattle.ctt_office.specs.Lines.{Gives, IsFirstLine}
 use Rattle.ctt_office.specs.SeatAnswers.{Tells}
 use Rattle.ctt_office.specs.Sittings.{AreAnswered, EndsAt, GoOn, IsBroken, IsSat, IsSitting}
@@ -9,6 +9,11 @@ use Rattle.ctt_office.specs.declared.seat_line.SeatLine.{SeatLine}
 use Rattle.ctt_office.specs.declared.seat_line.SeatLine.TheVariants.{Leave}
 use Rattle.ctt_office.specs.declared.sitting.Ending.{Ending}
 use Rattle.ctt_office.specs.declared.sitting.Ending.TheVariants.{Broken, Ended, Left, NoMemory}
+
+-- where nothing is held all that is left is still to come
+pub all_coming : (held : List ℕ) (known left : Option (List ℕ)) → held ≡ [] → known ≡ left → prepend_known held known ≡ left
+all_coming held None left none same = same
+all_coming held (Some bytes) left none same = ap (λ h. Some (h ++ bytes)) none ∙ same
 
 module _ {T : Type 0} (asked : List ℕ → SeatLine) (Is : SeatLine → T → T → List ℕ → Type 0) where
   -- one line more is answered

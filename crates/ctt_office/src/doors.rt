@@ -1,15 +1,15 @@
 //! How seats are opened.
 
 use ctt_script::{Failed, Sink, Source};
-use std::marker::Sync;
+use std::marker::{Send, Sync};
 
 /// The devices of seats by their names. Opening one may take as long as nobody is at its other end.
 pub trait Doors: Sync {
     /// What a seat reads.
-    type Input: Source + Drop;
+    type Input: Source + Drop + Send;
 
     /// What a seat writes.
-    type Output: Sink + Drop;
+    type Output: Sink + Drop + Send;
 
     /// The device from which the lines of a seat come.
     fn open_input(&self, seat: &str) -> Result<Self::Input, Failed>;

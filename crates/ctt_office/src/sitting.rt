@@ -126,7 +126,7 @@ fn is_last(line: &SeatLine) -> bool
 
 /// Answers the lines of a planner at his seat until he leaves, or they end, or one of his devices fails. An open draft is
 /// then given up.
-#[tactic(auto, using(crate::proofs::SittingLemmas::sits_down, crate::proofs::SittingLemmas::sits_on, crate::proofs::SittingLemmas::leaves_by, crate::proofs::SittingLemmas::ends_by, crate::proofs::SittingLemmas::breaks_off))]
+#[tactic(auto, using(crate::proofs::SittingLemmas::ends_by, crate::proofs::SittingLemmas::breaks_off))]
 fn sit<'i, S: Sheet<'i>, J: Naming, W: Durable, I: Source + Drop, O: Sink, R: Wait>(
     rt: &R,
     alloc: Global,

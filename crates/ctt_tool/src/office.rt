@@ -95,7 +95,10 @@ impl<'r, R: rt::Files> SystemOffice<'r, R> {
     }
 }
 
-impl<'r, R: rt::Files + Sync> Doors for SystemOffice<'r, R> {
+impl<'r, R: rt::Files + Sync> Doors for SystemOffice<'r, R>
+where
+    R::File: Send,
+{
     type Input = Device<SeatInput<R::File>>;
 
     type Output = Device<SeatOutput<R::File>>;

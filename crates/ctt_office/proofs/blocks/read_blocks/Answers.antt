@@ -11,7 +11,7 @@ returns-in-Ok-clause-recovered c =
     let i = c.args.instance.now in
     let text = c.args.text.now in
     let len = c.lines_len-len.result in
-    let same : c.in-Ok.lines.now ≡ take len text = c.in-Ok.ensures.cases.1 in
+    let same : c.in-Ok.lines.now ≡ take len text = search rules in
     IfOk-weaker c.read_lines.result _ _ (λ b r. record {
       lines = take len text;
       tail = drop len text;
@@ -29,7 +29,7 @@ returns-in-Ok-clause-cut c = λ entries n fit utf8 cut.
     let text = c.args.text.now in
     let len = c.lines_len-len.result in
     let all = flat_map (entry_text i) entries in
-    let same : c.in-Ok.lines.now ≡ take len text = c.in-Ok.ensures.cases.1 in
+    let same : c.in-Ok.lines.now ≡ take len text = search rules in
     let behind = drop len text ++ drop n all in
     let parts : all ≡ take len text ++ behind = cut_all all text (take len text) (drop len text) n cut (sym (take-append-drop len text)) in
     let ends = c.lines_len-len.ensures.ends in
