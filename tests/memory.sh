@@ -2,9 +2,11 @@
 # Refuses requests for memory, by a `malloc` in front of the C library's.
 #
 # Of the trials each request is refused alone, from the first on until a run meets no refusal. Each run has to print what the trials
-# print with memory, but for the number of calls that were made again: which is at least 1, unless the request only gave memory back,
-# or kept something for later that can be done without. Of the program each request of some runs is refused, alone and with all after
-# it: it has to end with status 3 and 'timedesk: no memory' and store nothing, or to end as it does with memory.
+# print with memory, but for the number of calls that were made again: which is at least 1, unless the request only gave memory back.
+# Of the program each request of some runs is refused, alone and with all after it: it has to end with status 3 and 'timedesk: no
+# memory' and store nothing. It may end as it does with memory where the request only gave memory back, or is one of those of `collect`:
+# that asks for room for as many elements as may come, and where this is refused for one. Of these there are so many as stand below:
+# the words of the command line are collected twice, and `clap` collects the letters of each two words that it compares.
 #
 # It needs a C compiler. TRIALS and PROGRAM name other builds. The last line is 'N passed, M failed', of runs that met a refusal.
 set -u
@@ -91,7 +93,7 @@ lane() {
         elif [ "$kind" = less ]; then
             echo back
         else
-            echo without
+            echo "FAILED: the trials, request $number, which could be done without"
         fi
     done
 }
@@ -112,14 +114,16 @@ wait
 cat lane.* | grep FAILED | head -n 20
 passed=$(noted -v FAILED)
 failed=$(noted FAILED)
-echo "the trials met $((passed + failed)) refusals: $(noted again) calls were made again, $(noted back) requests gave memory back," \
-    "$(noted without) could be done without"
+echo "the trials met $((passed + failed)) refusals: $(noted again) calls were made again, $(noted back) requests gave memory back"
 
-of_trials=$passed
+of_trials=$((passed + failed))
+spared=0
 for words in 'check small.ctt s.sol --json --barred barred' 'check small.ctt small.ctt' \
     'run small.ctt refreshed --barred barred --journal journal' 'audit small.ctt told --start s0.sol' frobnicate; do
     "$program" $words >out 2>err
     wanted=$?
+    spare=2
+    [ "$words" = frobnicate ] && spare=24
     for later in '' REFUSE_LATER=1; do
         for ((number = 1; ; number++)); do
             rm -f journal
@@ -130,8 +134,14 @@ for words in 'check small.ctt s.sol --json --barred barred' 'check small.ctt sma
             if [[ $words == *--journal* ]] && [ -s out.now ] && [ ! -e journal ] && cmp -s out out.now; then
                 : >out.now
             fi
-            if { [ "$status" = 3 ] && [ ! -s out.now ] && [ ! -e journal ] && [ "$(<err.now)" = 'timedesk: no memory' ]; } \
-                || { [ "$status" = "$wanted" ] && cmp -s out out.now && cmp -s err err.now; }; then
+            is_same=no
+            [ "$status" = "$wanted" ] && cmp -s out out.now && cmp -s err err.now && is_same=yes
+            if [ "$is_same" = yes ] && [ -z "$later" ] && grep -q more met && [ "$spare" -gt 0 ]; then
+                spare=$((spare - 1))
+                spared=$((spared + 1))
+                passed=$((passed + 1))
+            elif { [ "$status" = 3 ] && [ ! -s out.now ] && [ ! -e journal ] && [ "$(<err.now)" = 'timedesk: no memory' ]; } \
+                || { [ "$is_same" = yes ] && ! grep -q more met; }; then
                 passed=$((passed + 1))
             else
                 failed=$((failed + 1))
@@ -140,6 +150,6 @@ for words in 'check small.ctt s.sol --json --barred barred' 'check small.ctt sma
         done
     done
 done
-echo "the program met $((passed - of_trials)) more"
+echo "the program met $((passed + failed - of_trials)) more, of which $spared were for room by a guess"
 echo "$passed passed, $failed failed"
 [ "$failed" = 0 ]

@@ -380,7 +380,7 @@ echo 'journal 0 END.' >empty.journal
 run 'a lecture in a barred room' 0 "$barred_report" '' check small.ctt s.sol --barred barred
 run 'a lecture in a barred room, as JSON' 0 "$barred_json" '' check small.ctt s.sol --json --barred barred
 run 'an opening in a barred room' 1 '' 'timedesk: opening 1 barred
-' run small.ctt row9.txt --start s.sol --barred barred
+' run small.ctt phantom.txt --start s.sol --barred barred
 run 'an opening of an audit in a barred room' 1 '' 'timedesk: opening 1 barred
 ' audit small.ctt empty.journal --start s.sol --barred barred
 echo 'Barred: 2 top A top A END.' >barred
@@ -462,8 +462,8 @@ run 'a word too few' 2 '' "$no_solution" check small.ctt
 run 'no script' 2 '' "$no_script" run small.ctt
 run 'no journal' 2 '' "$no_journal" audit small.ctt
 run 'no script of a crew' 2 '' "$no_scripts" crew small.ctt
-run 'an option without its value' 2 '' "$no_value" run small.ctt row9.txt --journal
-for words in 'check small.ctt s.sol' 'run small.ctt row9.txt' 'audit small.ctt journal' 'crew small.ctt row9.txt' \
+run 'an option without its value' 2 '' "$no_value" run small.ctt phantom.txt --journal
+for words in 'check small.ctt s.sol' 'run small.ctt phantom.txt' 'audit small.ctt journal' 'crew small.ctt phantom.txt' \
     'desk small.ctt -' 'journal small.ctt minutes' 'list small.ctt journal'; do
     # shellcheck disable=SC2086
     run "barred rooms without a file: $words" 2 '' "${no_value/--journal/--barred}" $words --barred
@@ -496,7 +496,7 @@ run 'a journal without an end' 3 '' 'timedesk: too long /dev/zero
 run 'a script without an end' 3 '' 'timedesk: too long /dev/zero
 ' run small.ctt /dev/zero --journal unwritten
 run 'a script of a crew without an end' 3 '' 'timedesk: too long /dev/zero
-' crew small.ctt row9.txt /dev/zero
+' crew small.ctt phantom.txt /dev/zero
 # days of several planners
 head -n 4 s.sol >s0.sol
 
@@ -508,7 +508,7 @@ done
 committed 1
 stale slot 0 2
 costs 10 15 0 0
-' '' run small.ctt row9.txt
+' '' run small.ctt phantom.txt
 # planner 0 has looked at a slot in which planner 1 then places a lecture
 looked='0 open -> opened
 0 slot 0 2 -> lectures 0
@@ -1088,7 +1088,7 @@ run 'each kind of call and of reply' 1 'differs 2 1
 refuses 'a journal that is not UTF-8' $'journal 0 END. \xff' 'J1 15'
 
 # openings that are refused
-for words in 'run small.ctt row9.txt --journal unwritten' 'audit small.ctt refused'; do
+for words in 'run small.ctt phantom.txt --journal unwritten' 'audit small.ctt refused'; do
     # shellcheck disable=SC2086
     run "an unlawful start: $words" 1 '' 'timedesk: opening 2 clash alg
 ' $words --start clash.sol
@@ -1130,10 +1130,10 @@ costs 10 15 0 0
 '
 for journal in no/folder folder /dev/full; do
     run "a journal that cannot be stored: $journal" 3 "$answers" 'timedesk: cannot write
-' run small.ctt row9.txt --journal "$journal"
+' run small.ctt phantom.txt --journal "$journal"
 done
 seq 1000 >journal
-run 'a journal in place of a longer file' 0 "$answers" '' run small.ctt row9.txt --journal journal
+run 'a journal in place of a longer file' 0 "$answers" '' run small.ctt phantom.txt --journal journal
 printf 'journal 1\nentry 1 1\nplace top B 0 2\ndone\nEND.\n' >wanted
 cmp -s wanted journal
 judge 'what the journal took the place of' $? 0 "$answers" ''
@@ -1142,7 +1142,7 @@ judge 'what the journal took the place of' $? 0 "$answers" ''
 mkfifo unread
 exec 3<>unread
 exec 4>unread 3>&-
-for words in 'check small.ctt s.sol' 'run small.ctt row9.txt --journal unwritten' 'audit small.ctt refused' 'crew small.ctt alone alone' --help; do
+for words in 'check small.ctt s.sol' 'run small.ctt phantom.txt --journal unwritten' 'audit small.ctt refused' 'crew small.ctt alone alone' --help; do
     read -ra words <<<"$words"
     (exec -a timedesk "$program" "${words[@]}") >/dev/full 2>err
     status=$?

@@ -8,7 +8,7 @@ use Rattle.std.proofs.lemmas.Bool.Decides.{nat_tests}
 use Rattle.ctt_text.specs.Lists.{has, sum_below}
 use Rattle.ctt_text.specs.Problem.{Problem, slot_count, day_of, period_of}
 use Rattle.ctt_text.specs.declared.placed.Placed.{Placed}
-use Rattle.ctt_rules.specs.Penalty.{next_to, part_of, alone_cost}
+use Rattle.ctt_rules.specs.Penalty.{next_to, lectures_of, alone_cost}
 use Rattle.ctt_rules.specs.Neighbours.{busy, is_beside}
 use Rattle.ctt_rules.proofs.ListLemmas.{Each-filter}
 use Rattle.ctt_rules.proofs.NeighbourLemmas.{by_period, alone_is}
@@ -173,9 +173,9 @@ by_slots b n (x ∷ xs) h =
         there false m = omega arith
 
 -- what a curriculum costs, by its counts
-pub alone_counted : (i : Problem) (q : List ℕ) (t : List Placed) → Each (λ (l : Placed). l.slot < slot_count i) t → alone_cost i (part_of q t) ≡ 2 * sum_below (alone_at i (by_slot q t)) (slot_count i)
+pub alone_counted : (i : Problem) (q : List ℕ) (t : List Placed) → Each (λ (l : Placed). l.slot < slot_count i) t → alone_cost i (lectures_of q t) ≡ 2 * sum_below (alone_at i (by_slot q t)) (slot_count i)
 alone_counted i q t h =
-    let part : List Placed = part_of q t in
+    let part : List Placed = lectures_of q t in
     let fits = Each-filter (λ (l : Placed). l.slot < slot_count i) (λ l. has l.course q) t h in
     let marks : ℕ → Bool = λ s. ltb 0 (by_slot q t s) in
     let counts : (s : ℕ) → count_by (λ (l : Placed). l.slot == s) part ≡ by_slot q t s = λ s. count_filter (λ (l : Placed). l.slot == s) (λ l. has l.course q) t in

@@ -12,9 +12,9 @@ use Rattle.ctt_text.specs.Timetable.{IsTimetable, course_row}
 use Rattle.ctt_text.specs.declared.course_facts.CourseFacts.{CourseFacts}
 use Rattle.ctt_text.specs.declared.placed.Placed.{Placed}
 use Rattle.ctt_text.proofs.TimetableLemmas.{Each-at}
-use Rattle.ctt_rules.specs.Penalty.{penalty, total, course_cost, row_cost, unseated, days_cost, rooms_cost, rooms_of, alone_cost, is_alone, part_of}
+use Rattle.ctt_rules.specs.Penalty.{penalty, total, course_cost, row_cost, unseated, days_cost, rooms_cost, rooms_of, alone_cost, is_alone, lectures_of}
 use Rattle.ctt_rules.proofs.SumLemmas.{sum_below_le, count_below_le}
-use Rattle.ctt_rules.proofs.PartLemmas.{count_part_le}
+use Rattle.ctt_rules.proofs.CurriculumLemmas.{count_lectures_le}
 use Rattle.ctt_rules.proofs.TimetableLemmas.{sum_by_course, courses_fit, row_is_short, few_lectures}
 use Rattle.ctt_board.specs.Changes.{apply}
 use Rattle.ctt_board.specs.Costs.{touches, touches_curriculum, courses_cost, curricula_cost}
@@ -27,14 +27,14 @@ sum_below_three a b c zero = refl
 sum_below_three a b c (suc n) = omega (arith, sum_below_three a b c n)
 
 -- the sum over courses and curricula, of any lectures of the instance's courses
-pub total_of : (i : Problem) (t : List Placed) → Each (λ (l : Placed). l.course < course_count i) t → total (penalty i t) ≡ sum_below (λ c. total (course_cost i t c)) (course_count i) + sum_by (λ q. alone_cost i (part_of q t)) i.curricula
+pub total_of : (i : Problem) (t : List Placed) → Each (λ (l : Placed). l.course < course_count i) t → total (penalty i t) ≡ sum_below (λ c. total (course_cost i t c)) (course_count i) + sum_by (λ q. alone_cost i (lectures_of q t)) i.curricula
 total_of i t h =
     let seats : ℕ → ℕ = λ c. sum_by (unseated i) (course_row c t) in
     let days : ℕ → ℕ = λ c. days_cost i c (course_row c t) in
     let rooms : ℕ → ℕ = λ c. rooms_cost i (course_row c t) in
     omega (arith, sum_below_three seats days rooms (course_count i), sum_by_course (unseated i) (course_count i) t h)
 
-pub total_is : (i : Problem) (t : List Placed) → IsTimetable i t → total (penalty i t) ≡ sum_below (λ c. total (course_cost i t c)) (course_count i) + sum_by (λ q. alone_cost i (part_of q t)) i.curricula
+pub total_is : (i : Problem) (t : List Placed) → IsTimetable i t → total (penalty i t) ≡ sum_below (λ c. total (course_cost i t c)) (course_count i) + sum_by (λ q. alone_cost i (lectures_of q t)) i.curricula
 total_is i t h = total_of i t (courses_fit i t h)
 
 -- sums of which the terms that do not pass are the same
@@ -60,7 +60,7 @@ pub difference_of : (i : Problem) (cells : List Cell) (t : List Placed) → Each
 difference_of i cells t h k =
     let u : List Placed = apply cells t in
     let courses = sum_below_where (touches cells) (λ c. total (course_cost i u c)) (λ c. total (course_cost i t c)) (course_count i) (λ c e. ap (λ ls. total (row_cost i c ls)) (untouched_apply (λ d. d == c) cells t e)) in
-    let curricula = sum_by_where (touches_curriculum cells) (λ q. alone_cost i (part_of q u)) (λ q. alone_cost i (part_of q t)) i.curricula (λ q e. ap (alone_cost i) (untouched_apply (λ d. has d q) cells t e)) in
+    let curricula = sum_by_where (touches_curriculum cells) (λ q. alone_cost i (lectures_of q u)) (λ q. alone_cost i (lectures_of q t)) i.curricula (λ q e. ap (alone_cost i) (untouched_apply (λ d. has d q) cells t e)) in
     omega (arith, courses, curricula, total_of i t h, total_of i u k)
 
 pub touched_difference : (i : Problem) (cells : List Cell) (t : List Placed) → IsTimetable i t → IsTimetable i (apply cells t)
@@ -88,13 +88,13 @@ module _ (i : Problem) (p : IsProblem i) (t : List Placed) (h : IsTimetable i t)
       let rooms : rooms_of i row ≤ 1000 = omega (arith, count_below_le (λ r. list_any (λ (l : Placed). l.room == r) row) (room_count i), p.rooms_few) in
       omega (arith, capacity, short, rooms, (facts_small i p c).0)
 
-  pub alone_cost_small : (q : List ℕ) → alone_cost i (part_of q t) ≤ 8000000
-  alone_cost_small q = omega (arith, count_part_le (is_alone i (part_of q t)) q t, few_lectures i t h p)
+  pub alone_cost_small : (q : List ℕ) → alone_cost i (lectures_of q t) ≤ 8000000
+  alone_cost_small q = omega (arith, count_lectures_le (is_alone i (lectures_of q t)) q t, few_lectures i t h p)
 
   pub penalty_small : total (penalty i t) ≤ 2000 * 3000000000000 + 20000 * 8000000
   penalty_small =
       let courses : sum_below (λ c. total (course_cost i t c)) (course_count i) ≤ course_count i * 3000000000000 = sum_below_le (λ c. total (course_cost i t c)) 3000000000000 (course_count i) course_cost_small in
-      let curricula : sum_by (λ q. alone_cost i (part_of q t)) i.curricula ≤ length i.curricula * 8000000 = sum_by-le (λ q. alone_cost i (part_of q t)) 8000000 i.curricula (λ k d lt. alone_cost_small (get_or i.curricula k d)) in
+      let curricula : sum_by (λ q. alone_cost i (lectures_of q t)) i.curricula ≤ length i.curricula * 8000000 = sum_by-le (λ q. alone_cost i (lectures_of q t)) 8000000 i.curricula (λ k d lt. alone_cost_small (get_or i.curricula k d)) in
       omega (arith, courses, curricula, total_is i t h, mul-le-mul_right 3000000000000 p.courses_few, mul-le-mul_right 8000000 p.curricula_few)
 
 pub penalty_fits : PenaltyFits

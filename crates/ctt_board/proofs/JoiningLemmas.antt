@@ -10,7 +10,7 @@ use Rattle.ctt_text.specs.Problem.{Problem, course_of, course_count, room_count,
 use Rattle.ctt_text.specs.Belonging.{curricula_of}
 use Rattle.ctt_text.specs.Timetable.{Fits, course_row}
 use Rattle.ctt_text.specs.declared.placed.Placed.{Placed}
-use Rattle.ctt_rules.specs.Penalty.{unseated, days_of, rooms_of, days_cost, rooms_cost, part_of, alone_cost}
+use Rattle.ctt_rules.specs.Penalty.{unseated, days_of, rooms_of, days_cost, rooms_cost, lectures_of, alone_cost}
 use Rattle.ctt_rules.proofs.SlotLemmas.{day_fits}
 use Rattle.ctt_text.proofs.TimetableLemmas.{Each-map}
 use Rattle.ctt_rules.proofs.ListLemmas.{Each-filter}
@@ -146,7 +146,7 @@ module _ (i : Problem) (l : Placed) (t u : List Placed) (more : IsMore l t u) (f
   without_it q e k = omega (arith, counted_more l t u more (in_slot q k) ∙ ap (λ b. cond (b && l.slot == k) 1 0 + by_slot q t k) e)
 
   module _ (t_fits : Each (λ (x : Placed). x.slot < slot_count i) t) (u_fits : Each (λ (x : Placed). x.slot < slot_count i) u) where
-    one_curriculum : (q : List ℕ) → alone_cost i (part_of q u) + cond (has c q) (2 * alone_beside i (by_slot q t) l.slot) 0 ≡ alone_cost i (part_of q t) + cond (has c q) (2 * stands_alone i (by_slot q t) l.slot) 0
+    one_curriculum : (q : List ℕ) → alone_cost i (lectures_of q u) + cond (has c q) (2 * alone_beside i (by_slot q t) l.slot) 0 ≡ alone_cost i (lectures_of q t) + cond (has c q) (2 * stands_alone i (by_slot q t) l.slot) 0
     one_curriculum q = elim (cases_Bool (has c q)) [
       | inl y ↦ rw y (omega (arith, alone_counted i q u u_fits, alone_counted i q t t_fits, one_more_alone i (by_slot q t) (by_slot q u) l.slot (with_it q y) fits.1))
       | inr n ↦ rw n (omega (arith, alone_counted i q u u_fits, alone_counted i q t t_fits, sum_below_same (alone_at i (by_slot q u)) (alone_at i (by_slot q t)) (slot_count i) (same n)))
@@ -161,11 +161,11 @@ module _ (i : Problem) (l : Placed) (t u : List Placed) (more : IsMore l t u) (f
         ∙ sum_by_numbers (λ q. has c q) (λ q. 2 * f q) [] i.curricula (length i.curricula) (omega arith)
         ∙ sum_by_twice (λ n. f (members i n)) (curricula_of i c)
 
-    pub compactness_join : sum_by (λ q. alone_cost i (part_of q u)) i.curricula + (joining i t l).company ≡ sum_by (λ q. alone_cost i (part_of q t)) i.curricula + (joining i t l).alone
+    pub compactness_join : sum_by (λ q. alone_cost i (lectures_of q u)) i.curricula + (joining i t l).company ≡ sum_by (λ q. alone_cost i (lectures_of q t)) i.curricula + (joining i t l).alone
     compactness_join =
-        ap (λ n. sum_by (λ q. alone_cost i (part_of q u)) i.curricula + n) (sym (its_curricula (λ q. alone_beside i (by_slot q t) l.slot)))
-        ∙ sum_by_balance (λ q. alone_cost i (part_of q u)) (λ q. cond (has c q) (2 * alone_beside i (by_slot q t) l.slot) 0) (λ q. alone_cost i (part_of q t)) (λ q. cond (has c q) (2 * stands_alone i (by_slot q t) l.slot) 0) i.curricula one_curriculum
-        ∙ ap (λ n. sum_by (λ q. alone_cost i (part_of q t)) i.curricula + n) (its_curricula (λ q. stands_alone i (by_slot q t) l.slot))
+        ap (λ n. sum_by (λ q. alone_cost i (lectures_of q u)) i.curricula + n) (sym (its_curricula (λ q. alone_beside i (by_slot q t) l.slot)))
+        ∙ sum_by_balance (λ q. alone_cost i (lectures_of q u)) (λ q. cond (has c q) (2 * alone_beside i (by_slot q t) l.slot) 0) (λ q. alone_cost i (lectures_of q t)) (λ q. cond (has c q) (2 * stands_alone i (by_slot q t) l.slot) 0) i.curricula one_curriculum
+        ∙ ap (λ n. sum_by (λ q. alone_cost i (lectures_of q t)) i.curricula + n) (its_curricula (λ q. stands_alone i (by_slot q t) l.slot))
 
 -- all of it
 pub joins : (i : Problem) (l : Placed) (t u : List Placed) → IsMore l t u → Fits i l → Each (Fits i) t → Each (Fits i) u → Joins i t u (joining i t l)

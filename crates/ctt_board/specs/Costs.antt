@@ -4,7 +4,7 @@ use Rattle.std.specs.List.{list_any}
 use Rattle.ctt_text.specs.Lists.{sum_below, has}
 use Rattle.ctt_text.specs.Problem.{Problem, course_count}
 use Rattle.ctt_text.specs.declared.placed.Placed.{Placed}
-use Rattle.ctt_rules.specs.Penalty.{course_cost, total, alone_cost, part_of}
+use Rattle.ctt_rules.specs.Penalty.{course_cost, total, alone_cost, lectures_of}
 use Rattle.ctt_board.specs.declared.cell.Cell.{Cell}
 
 -- some cell is of the course
@@ -19,4 +19,4 @@ abbrev pub courses_cost : Problem → List Cell → List Placed → ℕ
 courses_cost i cells t = sum_below (λ c. cond (touches cells c) (total (course_cost i t c)) 0) (course_count i)
 
 abbrev pub curricula_cost : Problem → List Cell → List Placed → ℕ
-curricula_cost i cells t = sum_by (λ q. cond (touches_curriculum cells q) (alone_cost i (part_of q t)) 0) i.curricula
+curricula_cost i cells t = sum_by (λ q. cond (touches_curriculum cells q) (alone_cost i (lectures_of q t)) 0) i.curricula

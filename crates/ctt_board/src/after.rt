@@ -4,7 +4,7 @@ ghost use Rattle.std.specs.Prelude.{◌≡◌, ◌<◌, ◌≤◌, true, length,
 ghost use Rattle.ctt_text.specs.Problem.{AreMembers, course_count};
 ghost use Rattle.ctt_text.specs.Timetable.{course_row};
 ghost use Rattle.ctt_rules.specs.Hard.{Lawful};
-ghost use Rattle.ctt_rules.specs.Penalty.{course_cost, total, alone_cost, part_of};
+ghost use Rattle.ctt_rules.specs.Penalty.{course_cost, total, alone_cost, lectures_of};
 ghost use Rattle.ctt_board.specs.Changes.{room_by, held_after, holder_by, is_added, is_removed, is_change, apply, CellsFit};
 
 use crate::cell::Cell;
@@ -29,9 +29,13 @@ impl<'a, R: Rooms> Model for After<'a, R> {
 
     ghost Value = { Board };
 
-    ghost view = { λ a. record { problem = a.instance.now; list = apply a.cells.now (R.list a.rooms.now) } };
+    ghost view = { λ a. record {
+      problem = a.instance.now;
+      list = apply a.cells.now (R.list a.rooms.now);
+    } };
 
-    ghost invariant = { λ a. IsAfter a.instance.now (R.problem a.rooms.now) (R.list a.rooms.now) a.cells.now };
+    ghost invariant = { λ a.
+        IsAfter a.instance.now (R.problem a.rooms.now) (R.list a.rooms.now) a.cells.now };
 }
 
 /// The room of a course in a slot after these cells, from the one before them.
@@ -169,7 +173,8 @@ impl<'a, R: Rooms> After<'a, R> {
     /// What the lectures of these courses, the members of one curriculum, cost by its compactness.
     pub(crate) fn curriculum_cost(&self, members: &[CourseNo]) -> u64
         requires { AreMembers (course_count self.now.problem) members.now }
-        ensures value { result ≡ alone_cost self.now.problem (part_of members.now self.now.list) }
+        ensures value { result
+            ≡ alone_cost self.now.problem (lectures_of members.now self.now.list) }
         ensures bound { result ≤ 8000000 }
     {
         self.lawful();

@@ -23,7 +23,11 @@ impl Model for Bits {
 
     ghost coded = { grid_code coded_ℕ };
 
-    ghost view = { λ b. record { rows = b.rows; width = b.width; cells = bits_of (b.rows * b.width) b.words.items } };
+    ghost view = { λ b. record {
+      rows = b.rows;
+      width = b.width;
+      cells = bits_of (b.rows * b.width) b.words.items;
+    } };
 
     ghost invariant = { λ b. AreBits (b.rows * b.width) b.words.items };
 }

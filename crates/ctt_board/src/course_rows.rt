@@ -4,9 +4,8 @@ ghost use Rattle.std.specs.Prelude.{◌≡◌, ◌≤◌, ◌+◌, ◌*◌, ◌+
 ghost use Rattle.std.specs.Simd.Lanes.{mask_l};
 ghost use Rattle.ctt_board.specs.Cells.{row_below, row_from, lecture_at};
 
-use crate::compact::Compact;
 use crate::filled::{GROUP, filled, filled_by_two};
-use ctt_text::{CourseNo, NoMemory, Placed, SlotNo};
+use ctt_text::{Compact, CourseNo, NoMemory, Placed, SlotNo};
 use std::alloc::AllocError;
 
 /// Appends the lecture of a course in a slot, if it has a room there.

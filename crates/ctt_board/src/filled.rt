@@ -4,7 +4,7 @@ ghost use Rattle.std.specs.Prelude.{◌≡◌, ◌≤◌, ◌*◌, map, length, 
 ghost use Rattle.std.specs.Simd.Lanes.{mask_l};
 ghost use Rattle.ctt_text.specs.RoomTable.{room_by_code};
 
-use crate::compact::Compact;
+use ctt_text::Compact;
 use std::simd::prelude::*;
 
 /// How many cells make a group.

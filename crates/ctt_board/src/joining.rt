@@ -1,9 +1,9 @@
 //! What one lecture more does to the penalty.
 
-ghost use Rattle.std.specs.Prelude.{◌≡◌, ◌<◌, ◌≤◌, ◌+◌, ◌-◌, ◌*◌, ◌&&◌, ◌==◌, ℕ, ℤ, pos, ◌-ℤ◌, nat_lt, cond, sum_by, length};
+ghost use Rattle.std.specs.Prelude.{◌≡◌, ◌<◌, ◌≤◌, ◌+◌, ◌-◌, ◌*◌, ◌&&◌, ◌==◌, nat_lt, cond};
 ghost use Rattle.ctt_text.specs.Problem.{course_of, day_of, period_of, slot_count};
 ghost use Rattle.ctt_text.specs.Timetable.{Fits};
-ghost use Rattle.ctt_rules.specs.Penalty.{total, unseated};
+ghost use Rattle.ctt_rules.specs.Penalty.{total};
 ghost use Rattle.ctt_board.specs.Joining.{IsSmallJoining, with_joining, without_joining, gain_of};
 ghost use Rattle.ctt_board.specs.Counts.{HaveSizes};
 ghost use Rattle.ctt_board.specs.Seen.{seen_day, seen_room, seen_lectures, seen_days, seen_joining, NoneThere};

@@ -1,7 +1,7 @@
 //! The counts of a timetable as a change would leave them. Nothing is changed, and no memory is
 //! taken.
 
-ghost use Rattle.std.specs.Prelude.{◌≡◌, ◌<◌, ◌≤◌, ◌+◌, ◌-◌, ℕ, [], count_by, length, cond, ◌==◌, ◌||◌, ◌++◌, ◌∷◌};
+ghost use Rattle.std.specs.Prelude.{◌≡◌, ◌<◌, ◌≤◌, ◌+◌, ◌-◌, [], count_by, length, cond, ◌==◌, ◌||◌, ◌++◌, ◌∷◌};
 ghost use Rattle.std.specs.List.{list_any};
 ghost use Rattle.ctt_text.specs.Problem.{course_count, slot_count, room_count, curriculum_count, members, day_of};
 ghost use Rattle.ctt_text.specs.Timetable.{Fits};

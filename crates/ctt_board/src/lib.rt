@@ -6,7 +6,6 @@ mod bits;
 mod cell;
 mod change;
 mod clashes;
-mod compact;
 mod counts;
 mod course_rows;
 mod delta;

@@ -1,6 +1,6 @@
 //! A sheet that keeps the list of its lectures.
 
-ghost use Rattle.std.specs.Prelude.{◌≡◌, ◌==◌, ◌&&◌, ◌≤◌, ◌<◌, ◌*◌, ℕ, ◌++◌, true, false, length, IfOk, OnOk, []};
+ghost use Rattle.std.specs.Prelude.{◌≡◌, ◌==◌, ◌&&◌, ◌≤◌, ◌<◌, ◌*◌, ◌++◌, true, false, length, IfOk, OnOk, []};
 ghost use Rattle.std.specs.List.{position_or_len};
 ghost use Rattle.std.specs.Vec.{vec_len, vec_capacity};
 ghost use Rattle.ctt_text.specs.Problem.{course_count, slot_count};
@@ -35,7 +35,8 @@ impl<'i> Model for ListSheet<'i> {
 
     ghost view = { λ s. record { problem = s.instance.now; list = s.lectures.items } };
 
-    ghost invariant = { λ s. IsListSheet s.instance.now s.lectures.items (vec_capacity s.lectures) };
+    ghost invariant = { λ s.
+        IsListSheet s.instance.now s.lectures.items (vec_capacity s.lectures) };
 }
 
 /// The place of a lecture among others in order.

@@ -25,7 +25,8 @@ impl Model for MarkRows {
 
     ghost view = { λ m. record { rows = m.rows; numbers = m.numbers; words = m.words.items } };
 
-    ghost invariant = { λ m. AreRowsOfMarks (record { rows = m.rows; numbers = m.numbers; words = m.words.items }) };
+    ghost invariant = { λ m.
+        AreRowsOfMarks (record { rows = m.rows; numbers = m.numbers; words = m.words.items }) };
 }
 
 /// How many words so many numbers need.

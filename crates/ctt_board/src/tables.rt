@@ -10,11 +10,10 @@ ghost use Rattle.ctt_board.specs.Grids.{listed, AreTables, ArePlaces, HavePlaceS
 
 use crate::cell::Cell;
 use crate::change::Change;
-use crate::compact::Compact;
 use crate::counts::Counts;
 use crate::mark_rows::MarkRows;
 use crate::table::Table;
-use ctt_text::{CourseNo, Instance, Placed, RoomNo, SlotNo};
+use ctt_text::{Compact, CourseNo, Instance, Placed, RoomNo, SlotNo};
 use std::alloc::{AllocError, Global};
 
 /// The lectures of a timetable in a table by course and slot, beside which lie others that say the same

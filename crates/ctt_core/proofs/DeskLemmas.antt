@@ -18,7 +18,7 @@ use Rattle.ctt_core.specs.declared.answer.Answer.TheVariants.{Opened, AlreadyOpe
 use Rattle.ctt_core.specs.declared.journal.JournalEntry.{JournalEntry}
 use Rattle.ctt_draft.specs.DraftValues.{DraftValue}
 use Rattle.ctt_core.specs.Runs.{after, Legal, Turn, OpenDraft, ask, begin, renew, turned, commits, draft, entry, entered, accepted_of, now, base, open_answer, ask_answer, acceptance, commit_answer, renewal, refresh_answer, abandon_answer, plain, may_want, IsRight, Right, EventFits, RunFits}
-use Rattle.ctt_core.specs.Desks.{DeskValue, draft_at, kept, StandsAt, to_open, to_ask, to_commit, to_refresh, to_abandon, answer_of, with_draft, with_call, with_base, settled, goes_on, Answers, SameDesk}
+use Rattle.ctt_core.specs.Desks.{DeskValue, draft_at, kept, StandsAt, to_open, to_ask, to_commit, to_refresh, to_abandon, answer_of, with_draft, with_call, with_base, settled, goes_on, IsAnswerTo, SameDesk}
 use Rattle.ctt_core.specs.Laws.{Stands, Serial, DeskIsPlain, DeskIsSerial}
 use Rattle.ctt_core.proofs.RunLemmas.{Good, GoodDraft, right_is_good, after-push, headline}
 
@@ -258,11 +258,11 @@ desk_is_plain v past event answer l st f a =
       at = at_now v past event answer f g st.at is a;
     }
   where
-    right_now : (v : DeskValue) (past : List Turn) (event : Event) (answer : Answer) → answer_of v event ≡ plain v.problem v.opening past event → Answers v event answer → IsRight v.problem v.opening past event answer
+    right_now : (v : DeskValue) (past : List Turn) (event : Event) (answer : Answer) → answer_of v event ≡ plain v.problem v.opening past event → IsAnswerTo v event answer → IsRight v.problem v.opening past event answer
     right_now v past event answer is (inl e) = inl (e ∙ is)
     right_now v past event answer is (inr m) = inr (m.0, ap (may_want event) (sym is) ∙ m.1)
 
-    at_now : (v : DeskValue) (past : List Turn) (event : Event) (answer : Answer) → EventFits v.problem (length v.drafts) event → Good v.problem v.opening (accepted_of past) (commits past) (λ p. draft p past) → StandsAt v past → answer_of v event ≡ plain v.problem v.opening past event → Answers v event answer → StandsAt (goes_on v event answer) (record { event = event; answer = answer } ∷ past)
+    at_now : (v : DeskValue) (past : List Turn) (event : Event) (answer : Answer) → EventFits v.problem (length v.drafts) event → Good v.problem v.opening (accepted_of past) (commits past) (λ p. draft p past) → StandsAt v past → answer_of v event ≡ plain v.problem v.opening past event → IsAnswerTo v event answer → StandsAt (goes_on v event answer) (record { event = event; answer = answer } ∷ past)
     at_now v past event answer f g s is (inl e) = subst (λ a. StandsAt (goes_on v event a) (record { event = event; answer = a } ∷ past)) (sym (e ∙ is)) (plain_goes v past event f g s)
     at_now v past event answer f g s is (inr m) = subst (λ a. StandsAt (goes_on v event a) (record { event = event; answer = a } ∷ past)) (sym m.0) (no_memory_goes v past event s)
 
@@ -277,7 +277,7 @@ desk_is_serial v past l st =
       lawful = subst (Lawful v.problem) (sym st.at.list) both.1;
     }
 
-pub serial_after : (v : DeskValue) (past : List Turn) (event : Event) (answer : Answer) → Lawful v.problem v.opening → Stands v past → EventFits v.problem (length v.drafts) event → Answers v event answer → Serial (goes_on v event answer) (record { event = event; answer = answer } ∷ past)
+pub serial_after : (v : DeskValue) (past : List Turn) (event : Event) (answer : Answer) → Lawful v.problem v.opening → Stands v past → EventFits v.problem (length v.drafts) event → IsAnswerTo v event answer → Serial (goes_on v event answer) (record { event = event; answer = answer } ∷ past)
 serial_after v past event answer l st f a =
     let k : SameDesk v (goes_on v event answer) = same_after v event answer in
     desk_is_serial (goes_on v event answer) (record { event = event; answer = answer } ∷ past)

@@ -103,8 +103,8 @@ goes_on v (Abandon p) Abandoned = with_draft p None v
 goes_on v _ _ = v
 
 -- the answer of a desk, or want of memory where it may come
-abbrev pub Answers : DeskValue → Event → Answer → Type 0
-Answers v event answer = (answer ≡ answer_of v event) ⊎ ((answer ≡ NoMemory) × (may_want event (answer_of v event) ≡ true))
+abbrev pub IsAnswerTo : DeskValue → Event → Answer → Type 0
+IsAnswerTo v event answer = (answer ≡ answer_of v event) ⊎ ((answer ≡ NoMemory) × (may_want event (answer_of v event) ≡ true))
 
 -- what a desk keeps to: its timetable and its open drafts are of its instance, its opening is lawful, and it is known which changes were made since a draft was opened, or last refreshed
 pub record IsDesk (i : Problem) (stock : StockValue) (opening : List Placed) (drafts : List (Option DraftValue)) (seen : List (Option ℕ)) (planners : ℕ) : Type 0 where

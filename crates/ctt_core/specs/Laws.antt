@@ -6,7 +6,7 @@ use Rattle.ctt_text.specs.declared.placed.Placed.{Placed}
 use Rattle.ctt_rules.specs.Hard.{Lawful}
 use Rattle.ctt_edits.specs.Openings.{opening}
 use Rattle.ctt_core.specs.Runs.{after, Legal, Turn, answered, accepted_of, now, Right, EventFits, RunFits, onto}
-use Rattle.ctt_core.specs.Desks.{DeskValue, StandsAt, goes_on, Answers}
+use Rattle.ctt_core.specs.Desks.{DeskValue, StandsAt, goes_on, IsAnswerTo}
 use Rattle.ctt_core.specs.Entries.{EntryFits}
 use Rattle.ctt_core.specs.Audits.{IsVerdict}
 use Rattle.ctt_core.specs.declared.event.Event.{Event}
@@ -27,7 +27,7 @@ pub record Stands (v : DeskValue) (past : List Turn) : Type 0 where
 
 -- a desk that stands at a right run gives the answers of a plain desk, and goes on to stand at the longer run
 abbrev pub DeskIsPlain : Type 0
-DeskIsPlain = (v : DeskValue) (past : List Turn) (event : Event) (answer : Answer) → Lawful v.problem v.opening → Stands v past → EventFits v.problem (length v.drafts) event → Answers v event answer → Stands (goes_on v event answer) (answered event answer ∷ past)
+DeskIsPlain = (v : DeskValue) (past : List Turn) (event : Event) (answer : Answer) → Lawful v.problem v.opening → Stands v past → EventFits v.problem (length v.drafts) event → IsAnswerTo v event answer → Stands (goes_on v event answer) (answered event answer ∷ past)
 
 -- of a desk that stands at a right run: its journal is the accepted history, which is legal; its timetable is the opening after the journal, and lawful
 pub record Serial (v : DeskValue) (past : List Turn) : Type 0 where

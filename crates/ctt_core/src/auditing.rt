@@ -151,9 +151,18 @@ impl<'a, S: Timetable> Model for Auditor<'a, S> {
 
     ghost Value = { AuditorValue };
 
-    ghost view = { λ a. record { problem = S.problem a.sheet; lectures = a.opening.now; entries = a.entries; asked = a.asked; made = a.made; told = a.told } };
+    ghost view = { λ a. record {
+      problem = S.problem a.sheet;
+      lectures = a.opening.now;
+      entries = a.entries;
+      asked = a.asked;
+      made = a.made;
+      told = a.told;
+    } };
 
-    ghost invariant = { λ a. IsAuditor (S.problem a.sheet) a.opening.now (S.list a.sheet) a.found a.differs a.ended a.begun a.entries a.asked a.made a.told };
+    ghost invariant = { λ a.
+        IsAuditor (S.problem a.sheet) a.opening.now (S.list a.sheet) a.found a.differs a.ended
+        a.begun a.entries a.asked a.made a.told };
 }
 
 impl<'a, 'i, S: Sheet<'i>> Auditor<'a, S> {
@@ -231,7 +240,9 @@ impl<'a, 'i, S: Sheet<'i>> Auditor<'a, S> {
     /// Hears that the call was told what it is told here. Where nothing is held of it, as something before it
     /// differs, nothing is heard, and the call stays until what it was told is heard.
     pub fn hear_same(&mut self)
-        ensures heard { (told : Told) → self.old.told ≡ Some told → self.new ≡ with_heard self.old told }
+        ensures heard { (told : Told)
+            → self.old.told ≡ Some told
+            → self.new ≡ with_heard self.old told }
         ensures kept { self.old.told ≡ None → self.new ≡ self.old }
     {
         if let Some(call) = self.made {

@@ -7,7 +7,7 @@ ghost use Rattle.ctt_rules.specs.Hard.{Lawful};
 ghost use Rattle.ctt_rules.specs.Penalty.{penalty};
 ghost use Rattle.ctt_core.specs.Runs.{after, Legal, Turn, answered, accepted_of, EventFits, onto};
 ghost use Rattle.ctt_core.specs.Laws.{Stands};
-ghost use Rattle.ctt_core.specs.Desks.{Answers, goes_on, draft_at, SameDesk};
+ghost use Rattle.ctt_core.specs.Desks.{IsAnswerTo, goes_on, draft_at, SameDesk};
 ghost use Rattle.ctt_core.specs.declared.answer.Answer.TheVariants.{NoMemory as OutOfMemory};
 ghost use Rattle.ctt_edits.specs.Openings.{opening};
 ghost use Rattle.ctt_core.specs.Openings.{IsOpeningFault};
@@ -50,9 +50,16 @@ impl<'i, S: Timetable, K: Keeping> Model for Desk<'i, S, K> {
 
     ghost Value = { DeskValue };
 
-    ghost view = { λ d. record { problem = d.instance.now; opening = d.opening.items; list = d.stock.list; journal = d.journal.list; drafts = d.drafts.items } };
+    ghost view = { λ d. record {
+      problem = d.instance.now;
+      opening = d.opening.items;
+      list = d.stock.list;
+      journal = d.journal.list;
+      drafts = d.drafts.items;
+    } };
 
-    ghost invariant = { λ d. IsDesk d.instance.now d.stock d.opening.items d.drafts.items d.seen.items d.planners };
+    ghost invariant = { λ d.
+        IsDesk d.instance.now d.stock d.opening.items d.drafts.items d.seen.items d.planners };
 }
 
 /// No draft for each of so many planners.
@@ -149,7 +156,7 @@ impl<'i, S: Sheet<'i>, K: Keeping> Desk<'i, S, K> {
     /// place there, and the timetable is the opening after the journal. It is always lawful.
     pub fn step(&mut self, event: Event) -> Answer
         requires { EventFits self.old.problem (length self.old.drafts) event }
-        ensures answer { Answers self.old event result }
+        ensures answer { IsAnswerTo self.old event result }
         ensures goes_on { self.new ≡ goes_on self.old event result }
         ensures no_memory { result ≡ OutOfMemory → self.new ≡ self.old }
         ensures same { SameDesk self.old self.new }

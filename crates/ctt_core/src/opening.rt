@@ -3,7 +3,7 @@
 ghost use Rattle.std.specs.Prelude.{◌≡◌, Ok, IfOk, IfErr};
 ghost use Rattle.std.specs.List.{AllByRecursion as Each};
 ghost use Rattle.ctt_text.specs.Timetable.{Fits};
-ghost use Rattle.ctt_edits.specs.Edits.{EditFits, edit_fault, edited};
+ghost use Rattle.ctt_edits.specs.Edits.{edit_fault};
 ghost use Rattle.ctt_edits.specs.declared.edit.Edit.TheVariants.{Place};
 ghost use Rattle.ctt_edits.specs.Openings.{opening};
 ghost use Rattle.ctt_core.specs.Openings.{IsOpeningFault, IsPlaced};

@@ -40,7 +40,6 @@ pub(crate) struct Stock<'i, S: Timetable> {
     sheet: S,
     log: Vec<Change>,
     spares: Vec<Spare<S>>,
-    limit: usize,
 }
 
 impl<'i, S: Timetable> Model for Stock<'i, S> {
@@ -48,25 +47,32 @@ impl<'i, S: Timetable> Model for Stock<'i, S> {
 
     ghost Value = { StockValue };
 
-    ghost view = { λ s. record { problem = S.problem s.sheet; list = S.list s.sheet; log = s.log.items } };
+    ghost view = { λ s. record {
+      problem = S.problem s.sheet;
+      list = S.list s.sheet;
+      log = s.log.items;
+    } };
 
-    ghost invariant = { λ s. IsStock s.instance.now (record { problem = S.problem s.sheet; list = S.list s.sheet; log = s.log.items }) s.spares.items };
+    ghost invariant = { λ s.
+        IsStock s.instance.now
+        (record { problem = S.problem s.sheet; list = S.list s.sheet; log = s.log.items })
+        s.spares.items };
 }
 
 impl<'i, S: Sheet<'i>> Stock<'i, S> {
-    /// A timetable, with nothing kept, and with room for a sheet for each of so many planners.
+    /// A timetable, with nothing kept, and with room for all that will be: a sheet for each of so many planners, and the changes.
     pub(crate) fn new(alloc: Global, sheet: S, planners: u16) -> Result<Self, AllocError>
         ensures { IfOk result (λ stock.
             stock ≡ record { problem = S.problem sheet; list = S.list sheet; log = [] }) }
     {
         let instance = sheet.instance();
         let spares = Vec::with_capacity(alloc, planners as usize)?;
+        let log = Vec::with_capacity(alloc, changes_for_copy(instance))?;
         Ok(Stock {
             instance,
             sheet,
-            log: Vec::new(alloc),
+            log,
             spares,
-            limit: changes_for_copy(instance),
         })
     }
 
@@ -179,7 +185,7 @@ impl<'i, S: Sheet<'i>> Stock<'i, S> {
     }
 
     /// Makes changes, after which the timetable costs this, where it is known; and remembers them, or
-    /// forgets all that were made where they are too many.
+    /// forgets all that were made where they are too many. It takes no memory.
     fn make<K: Keeping>(&mut self, mut work: Work<K>, cost: Option<Cost>) -> (Log<Asked, K>, bool)
         requires fit { ChangesFit self.old.problem work.changes.items self.old.list }
         requires cost { IfSome cost (λ x.
@@ -188,8 +194,9 @@ impl<'i, S: Sheet<'i>> Stock<'i, S> {
         ensures changes { self.new ≡ changed self.old work.changes.items result.1 }
     {
         self.sheet.apply_all(&work.changes, cost);
-        let left = self.limit.saturating_sub(self.log.len());
-        if work.changes.len() <= left && self.log.append(&mut work.changes).is_ok() {
+        let left = self.log.capacity() - self.log.len();
+        if work.changes.len() <= left {
+            self.log.append(&mut work.changes).unwrap();
             return (work.asked, true);
         }
         self.log.clear();

@@ -23,13 +23,13 @@ pub record UpdateValue : Type 0 where
   pub front : List JournalEntry
 
 -- a history, and how many of the changes were made before it ended
-pub record MarkValue : Type 0 where
+pub record MilestoneValue : Type 0 where
   pub front : List JournalEntry
   pub at : ℕ
 
--- from each mark on the changes lead to the opening after the history to
-abbrev pub AreMarks : Problem → List Placed → List JournalEntry → List (List Cell) → List MarkValue → Type 0
-AreMarks i opening to changes marks = Each (λ (m : MarkValue). LeadsOn i opening to changes m.at m.front) marks
+-- from each milestone on the changes lead to the opening after the history to
+abbrev pub AreMilestones : Problem → List Placed → List JournalEntry → List (List Cell) → List MilestoneValue → Type 0
+AreMilestones i opening to changes milestones = Each (λ (m : MilestoneValue). LeadsOn i opening to changes m.at m.front) milestones
 
 -- a trail: its last history, and the changes that it knows
 pub record TrailValue : Type 0 where

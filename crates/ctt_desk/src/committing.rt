@@ -1,6 +1,6 @@
 //! Commits.
 
-ghost use Rattle.std.specs.Prelude.{◌≡◌, IfOk, IfErr};
+ghost use Rattle.std.specs.Prelude.{IfOk, IfErr};
 ghost use Rattle.ctt_desk.specs.Planners.{IsAccepted};
 ghost use Rattle.ctt_desk.specs.Refusals.{IsRefused};
 

@@ -13,15 +13,15 @@ use std::marker::Model;
 
 /// A history, and how many of the changes were made before it ended.
 #[derive(Drop)]
-struct Mark<J: Naming> {
+struct Milestone<J: Naming> {
     front: Front<J>,
     at: usize,
 }
 
-impl<J: Naming> Model for Mark<J> {
-    ghost use Rattle.ctt_desk.specs.Trails.{MarkValue};
+impl<J: Naming> Model for Milestone<J> {
+    ghost use Rattle.ctt_desk.specs.Trails.{MilestoneValue};
 
-    ghost Value = { MarkValue };
+    ghost Value = { MilestoneValue };
 
     ghost view = { λ m. record { front = m.front; at = m.at } };
 }
@@ -31,19 +31,20 @@ impl<J: Naming> Model for Mark<J> {
 /// changes since. Contracts see the last history and the changes.
 #[derive(Drop)]
 pub(crate) struct Trail<J: Naming> {
-    marks: Vec<Mark<J>>,
+    milestones: Vec<Milestone<J>>,
     changes: Vec<Change>,
     front: Front<J>,
 }
 
 impl<J: Naming> Model for Trail<J> {
-    ghost use Rattle.ctt_desk.specs.Trails.{TrailValue, AreMarks};
+    ghost use Rattle.ctt_desk.specs.Trails.{TrailValue, AreMilestones};
 
     ghost Value = { TrailValue };
 
     ghost view = { λ t. record { front = t.front; changes = t.changes.items } };
 
-    ghost invariant = { λ t. AreMarks J.problem J.opening t.front t.changes.items t.marks.items };
+    ghost invariant = { λ t.
+        AreMilestones J.problem J.opening t.front t.changes.items t.milestones.items };
 }
 
 /// A copy of a change.
@@ -71,25 +72,25 @@ impl<J: Naming> Trail<J> {
     pub(crate) fn new(alloc: Global, front: &Front<J>, room: usize) -> Result<Self, AllocError>
         ensures { IfOk result (λ trail. trail ≡ record { front = front.now; changes = [] }) }
     {
-        let marks = Vec::with_capacity(alloc, room)?;
+        let milestones = Vec::with_capacity(alloc, room)?;
         let changes = Vec::with_capacity(alloc, room)?;
         let mut trail = Trail {
-            marks,
+            milestones,
             changes,
             front: front.again(),
         };
-        trail.mark();
+        trail.set_milestone();
         Ok(trail)
     }
 
-    /// Marks the place behind all changes, where there is room.
-    fn mark(&mut self)
+    /// Sets a milestone behind all changes, where there is room.
+    fn set_milestone(&mut self)
         ensures { self.new ≡ self.old }
     {
         let at = self.changes.len();
-        if self.marks.len() < self.marks.capacity() {
+        if self.milestones.len() < self.milestones.capacity() {
             let front = self.front.again();
-            self.marks.push(Mark { front, at }).unwrap();
+            self.milestones.push(Milestone { front, at }).unwrap();
         }
     }
 
@@ -97,7 +98,7 @@ impl<J: Naming> Trail<J> {
     fn begin(&mut self, front: &Front<J>)
         ensures { self.new ≡ record { front = front.now; changes = [] } }
     {
-        self.marks.clear();
+        self.milestones.clear();
         self.changes.clear();
         self.front = front.again();
     }
@@ -112,7 +113,7 @@ impl<J: Naming> Trail<J> {
     {
         let changes = update.changes();
         let left = self.changes.capacity() - self.changes.len();
-        let is_full = self.marks.len() == self.marks.capacity();
+        let is_full = self.milestones.len() == self.milestones.capacity();
         if is_full || left < changes.len() || !self.front.is(update.before()) {
             return false;
         }
@@ -132,21 +133,21 @@ impl<J: Naming> Trail<J> {
         if !self.add(update) {
             self.begin(update.front());
         }
-        self.mark();
+        self.set_milestone();
     }
 
-    /// How many of the changes were made before a history ended, where it is marked.
+    /// How many of the changes were made before a history ended, where a milestone is.
     fn made_before(&self, history: &Front<J>) -> Option<usize>
         ensures { IfSome result (λ made.
             LeadsOn J.problem J.opening self.now.front self.now.changes made history.now) }
     {
-        let oldest = self.marks.first()?.front.len();
+        let oldest = self.milestones.first()?.front.len();
         let number = history.len().checked_sub(oldest)?;
-        let mark = self.marks.get(number as usize)?;
-        if !mark.front.is(history) {
+        let milestone = self.milestones.get(number as usize)?;
+        if !milestone.front.is(history) {
             return None;
         }
-        Some(mark.at)
+        Some(milestone.at)
     }
 
     /// The changes that lead from the opening after one history to the opening after another, if

@@ -1,7 +1,7 @@
 //! Whether rows that were read are the same on the base of a draft and on a sheet.
 
 ghost use Rattle.std.specs.Prelude.{ℕ, ◌≡◌, ◌<◌, ◌≤◌, ◌↔◌, ◌==◌, ◌&&◌, ◌||◌, false, IsTrue};
-ghost use Rattle.std.specs.List.{find, list_any};
+ghost use Rattle.std.specs.List.{find};
 ghost use Rattle.std.specs.Option.{option_eq};
 ghost use Rattle.ctt_text.specs.Lists.{below};
 ghost use Rattle.ctt_text.specs.Marks.{is_marked};
@@ -42,9 +42,16 @@ impl<'a, R: Rooms> Model for Comparison<'a, R> {
 
     ghost Value = { Compared };
 
-    ghost view = { λ c. record { problem = c.instance.now; present = R.list c.present.now; undo = c.undo.now.cells; sheet = R.list c.sheet.now } };
+    ghost view = { λ c. record {
+      problem = c.instance.now;
+      present = R.list c.present.now;
+      undo = c.undo.now.cells;
+      sheet = R.list c.sheet.now;
+    } };
 
-    ghost invariant = { λ c. IsComparison c.instance.now (R.problem c.present.now) (R.problem c.sheet.now) (R.list c.present.now) (R.list c.sheet.now) c.undo.now c.courses c.slots c.touched.now };
+    ghost invariant = { λ c.
+        IsComparison c.instance.now (R.problem c.present.now) (R.problem c.sheet.now)
+        (R.list c.present.now) (R.list c.sheet.now) c.undo.now c.courses c.slots c.touched.now };
 }
 
 /// Marks the course and the slot of a cell, if a timetable has another room there.

@@ -10,26 +10,24 @@ ghost use Rattle.ctt_edits.specs.Looks.{LookFits, shown};
 ghost use Rattle.ctt_rules.specs.Hard.{Lawful};
 ghost use Rattle.ctt_draft.specs.Drafts.{calls_of, changes, stale, whole};
 ghost use Rattle.ctt_draft.specs.Replays.{replayed};
-ghost use Rattle.ctt_draft.specs.DraftValues.{present, asked_more, refreshed, IsTold, Settles};
-ghost use Rattle.ctt_board.specs.Changes.{apply_all};
+ghost use Rattle.ctt_draft.specs.DraftValues.{present, asked_more, IsTold};
 ghost use Rattle.ctt_draft.specs.Undo.{undo_of};
-ghost use Rattle.ctt_draft.specs.Comparisons.{LeavesRest};
 
 use crate::asked::{Asked, AskedCalls, push_told};
-use crate::boxed::{add, apply, boxed_copy, changed_copy, no_rows, note_cells, unboxed};
-use crate::comparing::Comparison;
+use crate::boxed::{add, apply, boxed_copy, no_rows, note_cells};
 use crate::idle::Idle;
 use crate::laws;
 use crate::log::{KeepAll, Keeping, Log};
 use crate::remains::Remains;
-use crate::touched::Touched;
 use crate::undo::Undo;
 use crate::work::Work;
 use ctt_board::{Cell, Change, Rooms, Sheet, Timetable};
-use ctt_edits::{Call, Edit, Look, Reply, Row, RowsRead, check, look_in};
+use ctt_edits::{Call, Edit, Look, Reply, RowsRead, check, look_in};
 use ctt_text::{Instance, NoMemory, Placed};
 use std::alloc::Global;
 use std::marker::Model;
+
+mod staleness;
 
 /// The base, which is the timetable at the opening or at the last refresh, the calls since the opening with
 /// their replies, and the timetable as these leave it. Nobody else's later work is seen in it. Only the last
@@ -50,9 +48,16 @@ impl<'i, S: Timetable, K: Keeping> Model for Draft<'i, S, K> {
 
     ghost Value = { DraftValue };
 
-    ghost view = { λ d. record { problem = d.instance.now; base = put_back d.instance.now d.undo.cells (S.list d.present.value); asked = d.asked.list } };
+    ghost view = { λ d. record {
+      problem = d.instance.now;
+      base = put_back d.instance.now d.undo.cells (S.list d.present.value);
+      asked = d.asked.list;
+    } };
 
-    ghost invariant = { λ d. IsDraft d.instance.now (S.problem d.present.value) (put_back d.instance.now d.undo.cells (S.list d.present.value)) (S.list d.present.value) d.asked.list d.changes.items d.undo d.rows.value };
+    ghost invariant = { λ d.
+        IsDraft d.instance.now (S.problem d.present.value)
+        (put_back d.instance.now d.undo.cells (S.list d.present.value)) (S.list d.present.value)
+        d.asked.list d.changes.items d.undo d.rows.value };
 }
 
 /// For how many calls a draft has room at first, as it mostly has several.
@@ -236,73 +241,6 @@ impl<'i, S: Sheet<'i>, K: Keeping> Draft<'i, S, K> {
         self.call_in(call, &mut spare)
     }
 
-    /// The least row that the calls read and that is not the same on a sheet of the instance, if there
-    /// is one. Where there is none, the draft's changes fit that sheet, and the calls are told the same
-    /// on it. It takes no memory, and so never fails.
-    pub fn stale(&self, sheet: &S) -> Result<Option<Row>, NoMemory>
-        requires same { S.problem sheet.now ≡ self.now.problem }
-        ensures row { result ≡ Ok (stale self.now.problem self.now.base (S.list sheet.now)
-            (calls_of self.now.asked)) }
-        ensures fresh { result ≡ Ok None → Settles self.now (S.list sheet.now) }
-    {
-        self.first_stale(sheet, &Touched::all())
-    }
-
-    /// What `stale` answers for a sheet whose timetable is the base with these changes made, of which only
-    /// the rows that the changes touch are compared.
-    pub fn stale_after(&self, changes: &[Change], sheet: &S) -> Result<Option<Row>, NoMemory>
-        requires same { S.problem sheet.now ≡ self.now.problem }
-        requires after { apply_all changes.now self.now.base ≡ S.list sheet.now }
-        ensures row { result ≡ Ok (stale self.now.problem self.now.base (S.list sheet.now)
-            (calls_of self.now.asked)) }
-        ensures fresh { result ≡ Ok None → Settles self.now (S.list sheet.now) }
-    {
-        ctt_board::laws::changes_leave_others();
-        self.instance().limits_hold();
-        self.first_stale(sheet, &Touched::by(changes))
-    }
-
-    /// The least row that the calls read and that is not the same on a sheet, of those that were touched.
-    fn first_stale(&self, sheet: &S, touched: &Touched) -> Result<Option<Row>, NoMemory>
-        requires same { S.problem sheet.now ≡ self.now.problem }
-        requires rest { LeavesRest self.now.problem self.now.base (S.list sheet.now) touched.now }
-        ensures row { result ≡ Ok (stale self.now.problem self.now.base (S.list sheet.now)
-            (calls_of self.now.asked)) }
-        ensures fresh { result ≡ Ok None → Settles self.now (S.list sheet.now) }
-    {
-        laws::draft_frame();
-        laws::settling_fits();
-        sheet.lawful();
-        let present = unboxed(&self.present);
-        let rows = unboxed(&self.rows);
-        let comparison = Comparison::new(self.instance, present, &self.undo, sheet, touched);
-        if let Some(course) = comparison.first_course(rows) {
-            return Ok(Some(Row::Course(course)));
-        }
-        if let Some(slot) = comparison.first_slot(rows) {
-            return Ok(Some(Row::Slot(slot)));
-        }
-        Ok(None)
-    }
-
-    /// Brings the draft up to date: where none of the rows that it read differs on a sheet, that sheet's
-    /// timetable is its base from now on, and its calls stay what they are. Else the least row that differs
-    /// is told, and the draft stays as it was, as it does where memory is wanted.
-    pub fn refresh(&mut self, sheet: &S) -> Result<Option<Row>, NoMemory>
-        requires { S.problem sheet.now ≡ self.old.problem }
-        ensures ok { IfOk result (λ found.
-            (found ≡ stale self.old.problem self.old.base (S.list sheet.now)
-            (calls_of self.old.asked)) × (self.new ≡ refreshed self.old (S.list sheet.now) found)) }
-        ensures err { OnErr result (self.new ≡ self.old) }
-    {
-        sheet.lawful();
-        if let Some(row) = self.stale(sheet)? {
-            return Ok(Some(row));
-        }
-        self.present = changed_copy(*self.changes.allocator(), sheet, &self.changes)?;
-        Ok(None)
-    }
-
     /// Computes nothing: its contract says that the base, and the timetable that the calls leave, are
     /// lawful, and that each call fits and was told what it is told on the base.
     pub fn lawful(&self)
@@ -355,18 +293,6 @@ impl<'i, S: Sheet<'i>, K: Keeping> Draft<'i, S, K> {
     {
         let (_work, remains) = self.end();
         remains.into_base()
-    }
-
-    /// Computes nothing: its contract says that the draft is not stale on its own base, and can be
-    /// settled there.
-    pub fn settles_on_base(&self)
-        ensures fresh { stale self.now.problem self.now.base self.now.base (calls_of self.now.asked)
-            ≡ None }
-        ensures settles { Settles self.now self.now.base }
-    {
-        laws::draft_frame();
-        laws::settling_fits();
-        let _present = &self.present;
     }
 }
 

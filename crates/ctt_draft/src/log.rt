@@ -1,6 +1,6 @@
 //! A list that grows at its end, and that is kept, or not.
 
-ghost use Rattle.std.specs.Prelude.{◌≡◌, Bool, true, false, [], ◌∷◌, ◌++◌, length, OnOk, OnErr};
+ghost use Rattle.std.specs.Prelude.{◌≡◌, Bool, true, false, [], ◌∷◌, ◌++◌, length, OnOk};
 
 use crate::ghost_list::{GhostList, Itself, Tells};
 use std::alloc::{AllocError, Global};
@@ -58,7 +58,10 @@ impl<E, K: Keeping> Model for Log<E, K> {
 
     ghost Value = { LogValue E };
 
-    ghost view = { λ l. record { list = l.all; has_room = has_room K.keeps l.len (vec_len l.kept) (vec_capacity l.kept) } };
+    ghost view = { λ l. record {
+      list = l.all;
+      has_room = has_room K.keeps l.len (vec_len l.kept) (vec_capacity l.kept);
+    } };
 
     ghost invariant = { λ l. IsLog K.keeps l.kept.items l.len l.all };
 }

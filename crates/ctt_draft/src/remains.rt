@@ -27,9 +27,16 @@ impl<S: Timetable> Model for Remains<S> {
 
     ghost Value = { RemainsValue };
 
-    ghost view = { λ r. record { problem = S.problem r.present.value; base = put_back (S.problem r.present.value) r.undo.cells (S.list r.present.value); present = S.list r.present.value } };
+    ghost view = { λ r. record {
+      problem = S.problem r.present.value;
+      base = put_back (S.problem r.present.value) r.undo.cells (S.list r.present.value);
+      present = S.list r.present.value;
+    } };
 
-    ghost invariant = { λ r. AreRemains (S.problem r.present.value) (put_back (S.problem r.present.value) r.undo.cells (S.list r.present.value)) (S.list r.present.value) r.undo };
+    ghost invariant = { λ r.
+        AreRemains (S.problem r.present.value)
+        (put_back (S.problem r.present.value) r.undo.cells (S.list r.present.value))
+        (S.list r.present.value) r.undo };
 }
 
 impl<S: Timetable> Remains<S> {

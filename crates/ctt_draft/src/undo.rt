@@ -25,7 +25,11 @@ impl Model for Undo {
 
     ghost Value = { UndoValue };
 
-    ghost view = { λ u. record { courses = u.table.rows; slots = u.table.width; cells = u.cells.items } };
+    ghost view = { λ u. record {
+      courses = u.table.rows;
+      slots = u.table.width;
+      cells = u.cells.items;
+    } };
 
     ghost invariant = { λ u. IsUndo u.cells.items u.table };
 }

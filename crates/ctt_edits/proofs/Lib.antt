@@ -13,5 +13,5 @@ pub mod ReplyLemmas
 pub mod SameLemmas
 pub mod TableLemmas
 pub mod OpeningLemmas
-pub mod PartLemmas
+pub mod GatherLemmas
 mod TaughtLemmas

@@ -9,7 +9,7 @@ use Rattle.ctt_edits.specs.Calls.{reads_course, reads_slot, reads}
 use Rattle.ctt_edits.specs.RowSets.{RowSet, has_course, has_slot, is_in, rows_of, AddsReads, between}
 use Rattle.ctt_edits.specs.declared.call.Call.{Call}
 use Rattle.ctt_edits.specs.declared.row.Row.{Row}
-use Rattle.ctt_edits.proofs.PartLemmas.{found, inside}
+use Rattle.ctt_edits.proofs.GatherLemmas.{found, inside}
 use Rattle.ctt_edits.specs.declared.row.Row.TheVariants.{Course as CourseRow, Slot as SlotRow}
 
 -- no number from n on, and below m, passes

@@ -10,7 +10,7 @@ use Rattle.ctt_text.specs.Timetable.{before, Ascending, IsTimetable, course_row}
 use Rattle.ctt_text.specs.declared.placed.Placed.{Placed}
 use Rattle.ctt_text.proofs.LectureLaws.{Each-put}
 use Rattle.ctt_text.proofs.TimetableLemmas.{Each-map}
-use Rattle.ctt_rules.specs.Penalty.{penalty, total, row_cost, course_cost, alone_cost, part_of}
+use Rattle.ctt_rules.specs.Penalty.{penalty, total, row_cost, course_cost, alone_cost, lectures_of}
 use Rattle.ctt_rules.proofs.ListLemmas.{Each-filter}
 use Rattle.ctt_rules.proofs.SumLemmas.{sum_below_same}
 use Rattle.ctt_rules.proofs.TimetableLemmas.{courses_fit}
@@ -41,7 +41,7 @@ sum_by_passing p f g (x ∷ xs) e = omega (arith, sum_by_passing p f g xs e.1, o
 -- two timetables are the same in the rows of the courses and in the parts of the curricula that cells touch
 pub record AgreeTouched (i : Problem) (cells : List Cell) (t u : List Placed) : Type 0 where
   pub rows : (c : ℕ) → touches cells c ≡ true → course_row c t ≡ course_row c u
-  pub parts : Each (λ q. touches_curriculum cells q ≡ true → part_of q t ≡ part_of q u) i.curricula
+  pub parts : Each (λ q. touches_curriculum cells q ≡ true → lectures_of q t ≡ lectures_of q u) i.curricula
 
 touched_same : (i : Problem) (cells : List Cell) (t u : List Placed) → AgreeTouched i cells t u → courses_cost i cells t + curricula_cost i cells t ≡ courses_cost i cells u + curricula_cost i cells u
 touched_same i cells t u a =
@@ -49,15 +49,15 @@ touched_same i cells t u a =
     sum_below_same (λ c. cond (touches cells c) (total (course_cost i t c)) 0) (λ c. cond (touches cells c) (total (course_cost i u c)) 0) (course_count i)
     (λ c. one_term (touches cells c) (total (course_cost i t c)) (total (course_cost i u c)) (λ y. ap (λ ls. total (row_cost i c ls)) (a.rows c y))) in
     let curricula : curricula_cost i cells t ≡ curricula_cost i cells u =
-    sum_by_passing (touches_curriculum cells) (λ q. alone_cost i (part_of q t)) (λ q. alone_cost i (part_of q u)) i.curricula
-    (Each-map (λ q. touches_curriculum cells q ≡ true → part_of q t ≡ part_of q u) (λ q. touches_curriculum cells q ≡ true → alone_cost i (part_of q t) ≡ alone_cost i (part_of q u)) (λ q e y. ap (alone_cost i) (e y)) i.curricula a.parts) in
+    sum_by_passing (touches_curriculum cells) (λ q. alone_cost i (lectures_of q t)) (λ q. alone_cost i (lectures_of q u)) i.curricula
+    (Each-map (λ q. touches_curriculum cells q ≡ true → lectures_of q t ≡ lectures_of q u) (λ q. touches_curriculum cells q ≡ true → alone_cost i (lectures_of q t) ≡ alone_cost i (lectures_of q u)) (λ q e y. ap (alone_cost i) (e y)) i.curricula a.parts) in
     ap₂ (λ m n. m + n) courses curricula
 
 -- they still are once the cells are applied
 still_touched : (i : Problem) (cells : List Cell) (t u : List Placed) → InOrder t → InOrder u → AgreeTouched i cells t u → AgreeTouched i cells (apply cells t) (apply cells u)
 still_touched i cells t u h k a = record {
   rows = λ c y. agree_apply (λ l. l.course == c) cells t u h k (a.rows c y);
-  parts = Each-map (λ q. touches_curriculum cells q ≡ true → part_of q t ≡ part_of q u) (λ q. touches_curriculum cells q ≡ true → part_of q (apply cells t) ≡ part_of q (apply cells u)) (λ q e y. agree_apply (λ l. has l.course q) cells t u h k (e y)) i.curricula a.parts;
+  parts = Each-map (λ q. touches_curriculum cells q ≡ true → lectures_of q t ≡ lectures_of q u) (λ q. touches_curriculum cells q ≡ true → lectures_of q (apply cells t) ≡ lectures_of q (apply cells u)) (λ q e y. agree_apply (λ l. has l.course q) cells t u h k (e y)) i.curricula a.parts;
 }
 
 -- courses of the instance stay such
@@ -121,7 +121,7 @@ any_has p c (d ∷ ds) h y = elim (or_cases (d == c) (has c ds) h) [
 ]
 
 -- with the rows of all mates of touched courses, the parts of the curricula that are touched are the same
-mates_same : (cells : List Cell) (t u : List Placed) (qs : List (List ℕ)) → Ascending t → Ascending u → ((c d : ℕ) → touches cells c ≡ true → list_any (λ q. has c q && has d q) qs ≡ true → course_row d t ≡ course_row d u) → Each (λ q. touches_curriculum cells q ≡ true → part_of q t ≡ part_of q u) qs
+mates_same : (cells : List Cell) (t u : List Placed) (qs : List (List ℕ)) → Ascending t → Ascending u → ((c d : ℕ) → touches cells c ≡ true → list_any (λ q. has c q && has d q) qs ≡ true → course_row d t ≡ course_row d u) → Each (λ q. touches_curriculum cells q ≡ true → lectures_of q t ≡ lectures_of q u) qs
 mates_same cells t u [] h k rows = tt
 mates_same cells t u (q ∷ qs) h k rows = (
   (λ y. same_part (λ d. has d q) t u h k (λ d member. touched_member (course_row d t ≡ course_row d u) cells q y (λ c touched own. rows c d touched (or_left (has c q && has d q) (list_any (λ q. has c q && has d q) qs) (rw (own, member) refl))))),

@@ -3,7 +3,7 @@ use Rattle.std.specs.Prelude.{ℕ, ◌<◌, ℤ, List, filter, ◌==◌, Option,
 use Rattle.ctt_text.specs.Problem.{Problem, course_of, members, course_count, slot_count, teacher_count, curriculum_count}
 use Rattle.ctt_text.specs.Timetable.{course_row, slot_row}
 use Rattle.ctt_text.specs.declared.placed.Placed.{Placed}
-use Rattle.ctt_rules.specs.Penalty.{penalty, course_cost, part_of}
+use Rattle.ctt_rules.specs.Penalty.{penalty, course_cost, lectures_of}
 use Rattle.ctt_board.specs.Boards.{delta}
 use Rattle.ctt_edits.specs.Edits.{EditFits, edit_fault, change}
 use Rattle.ctt_edits.specs.declared.edit.Edit.{Edit}
@@ -49,7 +49,7 @@ abbrev pub shown : Problem → List Placed → Look → Reply
 shown i t (Course c) = Lectures (course_row c t)
 shown i t (Slot s) = Lectures (slot_row s t)
 shown i t (Teacher h) = Lectures (teacher_row i h t)
-shown i t (Curriculum q) = Lectures (part_of (members i q) t)
+shown i t (Curriculum q) = Lectures (lectures_of (members i q) t)
 shown i t (CourseCost c) = Costs (course_cost i t c)
 shown i t (Price e) = told_or (edit_fault i t e) (Priced (price i t e))
 shown i t WholeCost = Costs (penalty i t)

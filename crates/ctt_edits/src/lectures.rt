@@ -6,7 +6,7 @@ use ctt_text::{NoMemory, Placed};
 use std::marker::Model;
 
 /// Lectures in a list, seen as this list.
-#[derive(Clone, Drop)]
+#[derive(Drop)]
 pub struct Lectures {
     list: Vec<Placed>,
 }

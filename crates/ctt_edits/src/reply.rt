@@ -11,7 +11,7 @@ use ctt_rules::Cost;
 use ctt_text::{Instance, NoMemory, Placed};
 
 /// The answer to an edit or a look.
-#[derive(Clone, Drop)]
+#[derive(Drop)]
 pub enum Reply {
     /// The edit is made.
     Done,

@@ -4,7 +4,7 @@ ghost use Rattle.std.specs.Prelude.{◌≡◌, ◌<◌, [], IfOk, OnOk, filter};
 ghost use Rattle.ctt_text.specs.Marks.{is_marked};
 ghost use Rattle.ctt_text.specs.Problem.{course_count, slot_count, teacher_count, curriculum_count, members};
 ghost use Rattle.ctt_text.specs.Timetable.{course_row, slot_row};
-ghost use Rattle.ctt_rules.specs.Penalty.{course_cost, part_of};
+ghost use Rattle.ctt_rules.specs.Penalty.{course_cost, lectures_of};
 ghost use Rattle.ctt_edits.specs.Edits.{EditFits, edit_fault};
 ghost use Rattle.ctt_edits.specs.Looks.{LookFits, price, teacher_row, told_or, shown};
 ghost use Rattle.ctt_edits.specs.declared.reply.Reply.TheVariants.{Price as Priced};
@@ -112,7 +112,7 @@ fn list_curriculum<'i, S: Sheet<'i>>(
 ) -> Result<(), NoMemory>
     requires { curriculum < curriculum_count (S.problem sheet.now) }
     ensures { OnOk result (list.new.items
-        ≡ part_of (members (S.problem sheet.now) curriculum) (S.list sheet.now)) }
+        ≡ lectures_of (members (S.problem sheet.now) curriculum) (S.list sheet.now)) }
 {
     sheet.lawful();
     let instance = sheet.instance();

@@ -8,10 +8,10 @@ use Rattle.ctt_core.specs.declared.event.Event.{Event}
 use Rattle.ctt_core.specs.declared.event.Event.TheVariants.{Abandon, Ask, Commit, Open, Refresh, Show}
 use Rattle.ctt_core.specs.declared.journal.JournalEntry.{JournalEntry}
 use Rattle.ctt_desk.specs.Histories.{entry_of}
-use Rattle.ctt_script.specs.Seats.{Commits, open_entry, told_of}
-use Rattle.ctt_script.specs.declared.seat.Seat.{Seat}
-use Rattle.ctt_script.specs.declared.seat.Seat.TheVariants.{Drafting, Free}
-use Rattle.ctt_script.specs.declared.seat.Told.{Told}
+use Rattle.ctt_crew.specs.Seats.{Commits, open_entry, told_of}
+use Rattle.ctt_crew.specs.declared.seat.Seat.{Seat}
+use Rattle.ctt_crew.specs.declared.seat.Seat.TheVariants.{Drafting, Free}
+use Rattle.ctt_crew.specs.declared.seat.Told.{Told}
 use Rattle.ctt_office.specs.Pages.{EndsWith}
 use Rattle.ctt_office.specs.SeatAnswers.{Adds, IfBook, IsCommitAnswer, IsCrewAnswer, IsOutcomeAnswer, IsStepAnswer, told_line}
 

@@ -8,12 +8,12 @@ use Rattle.ctt_core.specs.declared.event.Event.{Event}
 use Rattle.ctt_core.specs.declared.event.Event.TheVariants.{Abandon, Ask, Commit, Open, Refresh, Show}
 use Rattle.ctt_core.specs.declared.journal.JournalEntry.{JournalEntry}
 use Rattle.ctt_script.specs.AnswerText.{bad_line}
-use Rattle.ctt_script.specs.CrewText.{told_words}
-use Rattle.ctt_script.specs.Seats.{Commits, Takes, told_of}
+use Rattle.ctt_crew.specs.CrewText.{told_words}
+use Rattle.ctt_crew.specs.Seats.{Commits, Takes, told_of}
 use Rattle.ctt_script.specs.WrittenText.{line}
-use Rattle.ctt_script.specs.declared.seat.Seat.{Seat}
-use Rattle.ctt_script.specs.declared.seat.Told.{Told}
-use Rattle.ctt_script.specs.declared.seat.Told.TheVariants.{Answer as Answered}
+use Rattle.ctt_crew.specs.declared.seat.Seat.{Seat}
+use Rattle.ctt_crew.specs.declared.seat.Told.{Told}
+use Rattle.ctt_crew.specs.declared.seat.Told.TheVariants.{Answer as Answered}
 use Rattle.ctt_office.specs.declared.seat_line.SeatLine.{SeatLine}
 use Rattle.ctt_office.specs.declared.seat_line.SeatLine.TheVariants.{Bad, Blank, Leave, Step}
 

@@ -2,7 +2,7 @@
 
 ghost use Rattle.std.specs.Prelude.{◌≡◌, ◌++◌, ℕ, IfOk, Ok, OnOk, string_bytes};
 ghost use Rattle.ctt_core.specs.Runs.{EventFits};
-ghost use Rattle.ctt_script.specs.Seats.{open_entry};
+ghost use Rattle.ctt_crew.specs.Seats.{open_entry};
 ghost use Rattle.ctt_office.specs.Pages.{EndsWith, IsInMinutes};
 ghost use Rattle.ctt_office.specs.SeatAnswers.{Adds, IfBook, IsAnswer, IsCommitAnswer, IsCrewAnswer, IsOutcomeAnswer, IsStepAnswer, left_line, not_written};
 ghost use Rattle.ctt_office.specs.SeatText.{LineFits};
@@ -13,7 +13,8 @@ use crate::seat_line::SeatLine;
 use ctt_board::Sheet;
 use ctt_core::{Answer, Event};
 use ctt_desk::{Naming, Receipt, SharedDesk};
-use ctt_script::{Seat, Told, write_bad_line, write_told};
+use ctt_crew::{Seat, Told, write_told};
+use ctt_script::write_bad_line;
 use ctt_text::{Instance, NoMemory, let_go};
 use std::alloc::{AllocError, Global};
 use std::sync::Wait;

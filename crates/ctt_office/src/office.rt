@@ -2,7 +2,7 @@
 
 ghost use Rattle.std.specs.Prelude.{◌≡◌, ◌≤◌, ◌<◌, ◌+◌, ℕ, length, IfErr, IfOk, OnOk};
 ghost use Rattle.ctt_desk.specs.Names.{IsNamed};
-ghost use Rattle.ctt_script.specs.CrewText.{IsCrewText};
+ghost use Rattle.ctt_crew.specs.CrewText.{IsCrewText};
 ghost use Rattle.ctt_office.specs.OfficeFaults.{IsOfficeFault};
 ghost use Rattle.ctt_office.specs.declared.office_fault.OfficeFault.TheVariants.{NoMemory as OutOfMemory};
 
@@ -13,7 +13,7 @@ use crate::office_fault::{OfficeFault, SeatFault};
 use crate::sitting::{GridStation, Station, sit_on_grid};
 use ctt_board::{GridSheet, Timetable};
 use ctt_desk::{Closed, Named, Naming, Opened, Planner, SharedDesk};
-use ctt_script::{closing_report, end_desk};
+use ctt_crew::{closing_report, end_desk};
 use ctt_text::{Instance, let_go};
 use std::alloc::Global;
 use std::marker::{Brand, PhantomData, Send, Sync};

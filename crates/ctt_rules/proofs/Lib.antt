@@ -4,7 +4,7 @@ pub mod SlotLemmas
 pub mod BitLemmas
 pub mod DistinctLemmas
 pub mod NeighbourLemmas
-pub mod PartLemmas
+pub mod CurriculumLemmas
 pub mod TimetableLemmas
 pub mod RowLemmas
 pub mod ConflictLemmas

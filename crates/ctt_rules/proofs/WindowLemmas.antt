@@ -10,14 +10,14 @@ use Rattle.ctt_text.specs.Lists.{Pairwise, has, count_below}
 use Rattle.ctt_text.specs.Problem.{Problem, IsProblem, AreMembers, day_of, slot_count}
 use Rattle.ctt_text.specs.Timetable.{IsTimetable, Fits, course_row}
 use Rattle.ctt_text.specs.declared.placed.Placed.{Placed}
-use Rattle.ctt_rules.specs.Penalty.{next_to, is_alone, alone_cost, part_of}
+use Rattle.ctt_rules.specs.Penalty.{next_to, is_alone, alone_cost, lectures_of}
 use Rattle.ctt_rules.specs.Windows.{spaced, stands_at, has_bit, word_of, is_alone_within}
 use Rattle.ctt_text.proofs.TimetableLemmas.{Each-map}
 use Rattle.ctt_rules.proofs.BitLemmas.{bit_of_set}
 use Rattle.ctt_rules.proofs.ListLemmas.{Each-filter, Each-every, Pairwise-map}
 use Rattle.ctt_rules.proofs.SlotLemmas.{periods_above, day_fits}
 use Rattle.ctt_rules.proofs.NeighbourLemmas.{any_or, any_same, count_by-same}
-use Rattle.ctt_rules.proofs.PartLemmas.{any_part, count_part, count_part_le}
+use Rattle.ctt_rules.proofs.CurriculumLemmas.{any_lecture, count_lectures, count_lectures_le}
 use Rattle.ctt_rules.proofs.SumLemmas.{sum_below_same, sum_below_agree, sum_below_add, sum_below_one, sum_below_zero, count_by-cons, count_below_le, sum_by-agree, sum_by-join, sum_by-zero, sum_by-few}
 use Rattle.ctt_rules.proofs.TimetableLemmas.{row_by_slot, few_lectures}
 
@@ -160,10 +160,10 @@ module _ (i : Problem) (t : List Placed) (h : IsTimetable i t) (first : ℕ) (wo
       (busy_is : (place : ℕ) → has_bit busy place ≡ list_any (λ c. has_bit (word_of words c) place) q)
       (bits_are : (place : ℕ) → has_bit bits place ≡ ((ltb 0 place && ltb place 63) && (not (has_bit busy (place - 1)) && not (has_bit busy (place + 1))))) where
     abbrev part : List Placed
-    part = part_of q t
+    part = lectures_of q t
 
     busy_there : (place : ℕ) → place < 64 → has_bit busy place ≡ list_any (stands_at i first place) part
-    busy_there place lt = busy_is place ∙ any_same (λ c. has_bit (word_of words c) place) (λ c. list_any (stands_at i first place) (course_row c t)) q (λ c. right c place lt ∙ any_in_row c (stands_at i first place) t) ∙ any_part (stands_at i first place) q t
+    busy_there place lt = busy_is place ∙ any_same (λ c. has_bit (word_of words c) place) (λ c. list_any (stands_at i first place) (course_row c t)) q (λ c. right c place lt ∙ any_in_row c (stands_at i first place) t) ∙ any_lecture (stands_at i first place) q t
 
     none_beside : (l : Placed) (place : ℕ) → Fits i l → spaced i l.slot + 1 ≡ first + place → 0 < place → place < 63 → (not (has_bit busy (place - 1)) && not (has_bit busy (place + 1))) ≡ is_alone i part l
     none_beside l place f at low high =
@@ -203,7 +203,7 @@ module _ (i : Problem) (t : List Placed) (h : IsTimetable i t) (first : ℕ) (wo
     pub alone_counted : sum_by (λ c. count_below (λ place. has_bit (word_of words c) place && has_bit bits place) 64) q ≡ count_by (is_alone_within i first part) part
     alone_counted =
         sum_by-agree (λ c. count_below (λ place. has_bit (word_of words c) place && has_bit bits place) 64) (λ c. count_by (λ l. in_window l && has_bit bits (place_of l)) (course_row c t)) (row_counted bits) q
-        ∙ count_part (λ l. in_window l && has_bit bits (place_of l)) q t different
+        ∙ count_lectures (λ l. in_window l && has_bit bits (place_of l)) q t different
         ∙ count_by-same (λ l. in_window l && has_bit bits (place_of l)) (is_alone_within i first part) part (Each-map (Fits i) (λ l. (in_window l && has_bit bits (place_of l)) ≡ is_alone_within i first part l) alone_there part (Each-filter (Fits i) (λ l. has l.course q) t h.fits))
 
 -- a table of words, one bit of which is set
@@ -238,16 +238,16 @@ module _ (i : Problem) (t : List Placed) (h : IsTimetable i t) where
   alone_before first ls l = ltb (spaced i l.slot) first && is_alone i ls l
 
   abbrev cost_before : ℕ → List ℕ → ℕ
-  cost_before first q = 2 * count_by (alone_before first (part_of q t)) (part_of q t)
+  cost_before first q = 2 * count_by (alone_before first (lectures_of q t)) (lectures_of q t)
 
   -- before the first number there is none
   pub none_before : 0 ≡ sum_by (cost_before 0) i.curricula
-  none_before = sym (sum_by-zero (cost_before 0) (λ q. ap (λ n. 2 * n) (sum_by-zero (λ l. cond (alone_before 0 (part_of q t) l) 1 0) (λ l. ap (λ b. cond b 1 0) (and_left (ltb (spaced i l.slot) 0) (is_alone i (part_of q t) l) (le-ltb (spaced i l.slot) 0 (omega arith)))) (part_of q t))) i.curricula)
+  none_before = sym (sum_by-zero (cost_before 0) (λ q. ap (λ n. 2 * n) (sum_by-zero (λ l. cond (alone_before 0 (lectures_of q t) l) 1 0) (λ l. ap (λ b. cond b 1 0) (and_left (ltb (spaced i l.slot) 0) (is_alone i (lectures_of q t) l) (le-ltb (spaced i l.slot) 0 (omega arith)))) (lectures_of q t))) i.curricula)
 
   -- the numbers before a window, and those in it
-  pub window_more : (first : ℕ) → sum_by (cost_before first) i.curricula + sum_by (λ q. 2 * count_by (is_alone_within i first (part_of q t)) (part_of q t)) i.curricula ≡ sum_by (cost_before (first + 62)) i.curricula
-  window_more first = sum_by-join (cost_before first) (λ q. 2 * count_by (is_alone_within i first (part_of q t)) (part_of q t)) (cost_before (first + 62))
-      (λ q. omega (arith, sum_by-join (λ l. cond (alone_before first (part_of q t) l) 1 0) (λ l. cond (is_alone_within i first (part_of q t) l) 1 0) (λ l. cond (alone_before (first + 62) (part_of q t) l) 1 0) (λ l. each (spaced i l.slot) (is_alone i (part_of q t) l)) (part_of q t))) i.curricula
+  pub window_more : (first : ℕ) → sum_by (cost_before first) i.curricula + sum_by (λ q. 2 * count_by (is_alone_within i first (lectures_of q t)) (lectures_of q t)) i.curricula ≡ sum_by (cost_before (first + 62)) i.curricula
+  window_more first = sum_by-join (cost_before first) (λ q. 2 * count_by (is_alone_within i first (lectures_of q t)) (lectures_of q t)) (cost_before (first + 62))
+      (λ q. omega (arith, sum_by-join (λ l. cond (alone_before first (lectures_of q t) l) 1 0) (λ l. cond (is_alone_within i first (lectures_of q t) l) 1 0) (λ l. cond (alone_before (first + 62) (lectures_of q t) l) 1 0) (λ l. each (spaced i l.slot) (is_alone i (lectures_of q t) l)) (lectures_of q t))) i.curricula
     where
       by : (x y z b : Bool) → (x ≡ true) × (y ≡ false) × (z ≡ true) ⊎ (x ≡ false) × (y ≡ true) → cond (x && b) 1 0 + cond ((y && z) && b) 1 0 ≡ cond {A = ℕ} (z && b) 1 0
       by true false true true h = refl
@@ -267,9 +267,9 @@ module _ (i : Problem) (t : List Placed) (h : IsTimetable i t) where
       ])
 
   -- all numbers
-  pub all_before : (first : ℕ) → slot_count i + i.days ≤ first → sum_by (cost_before first) i.curricula ≡ sum_by (λ q. alone_cost i (part_of q t)) i.curricula
-  all_before first le = sum_by-agree (cost_before first) (λ q. alone_cost i (part_of q t)) (λ q. ap (λ n. 2 * n) (count_by-same (alone_before first (part_of q t)) (is_alone i (part_of q t)) (part_of q t)
-      (Each-map (Fits i) (λ l. alone_before first (part_of q t) l ≡ is_alone i (part_of q t) l) (λ l f. ap (λ b. b && is_alone i (part_of q t) l) (lt-ltb (spaced i l.slot) first (omega (arith, le, f.1, day_fits i l.slot f.1)))) (part_of q t) (Each-filter (Fits i) (λ l. has l.course q) t h.fits)))) i.curricula
+  pub all_before : (first : ℕ) → slot_count i + i.days ≤ first → sum_by (cost_before first) i.curricula ≡ sum_by (λ q. alone_cost i (lectures_of q t)) i.curricula
+  all_before first le = sum_by-agree (cost_before first) (λ q. alone_cost i (lectures_of q t)) (λ q. ap (λ n. 2 * n) (count_by-same (alone_before first (lectures_of q t)) (is_alone i (lectures_of q t)) (lectures_of q t)
+      (Each-map (Fits i) (λ l. alone_before first (lectures_of q t) l ≡ is_alone i (lectures_of q t) l) (λ l f. ap (λ b. b && is_alone i (lectures_of q t) l) (lt-ltb (spaced i l.slot) first (omega (arith, le, f.1, day_fits i l.slot f.1)))) (lectures_of q t) (Each-filter (Fits i) (λ l. has l.course q) t h.fits)))) i.curricula
 
-  pub alone_few : (p : List ℕ → Placed → Bool) → IsProblem i → sum_by (λ q. 2 * count_by (p q) (part_of q t)) i.curricula ≤ 20000 * 8000000
-  alone_few p limits = omega (arith, sum_by-few (λ q. 2 * count_by (p q) (part_of q t)) 8000000 (λ q. omega (arith, count_part_le (p q) q t, few_lectures i t h limits)) i.curricula, limits.curricula_few)
+  pub alone_few : (p : List ℕ → Placed → Bool) → IsProblem i → sum_by (λ q. 2 * count_by (p q) (lectures_of q t)) i.curricula ≤ 20000 * 8000000
+  alone_few p limits = omega (arith, sum_by-few (λ q. 2 * count_by (p q) (lectures_of q t)) 8000000 (λ q. omega (arith, count_lectures_le (p q) q t, few_lectures i t h limits)) i.curricula, limits.curricula_few)

@@ -28,8 +28,8 @@ abbrev pub is_alone : Problem → List Placed → Placed → Bool
 is_alone i ls l = not (list_any (λ m. next_to i l.slot m.slot) ls)
 
 -- the lectures of a curriculum's members
-abbrev pub part_of : List ℕ → List Placed → List Placed
-part_of q t = filter (λ l. has l.course q) t
+abbrev pub lectures_of : List ℕ → List Placed → List Placed
+lectures_of q t = filter (λ l. has l.course q) t
 
 -- the days and the rooms of one course, by its lectures
 abbrev pub days_cost : Problem → ℕ → List Placed → ℕ
@@ -46,7 +46,7 @@ abbrev pub penalty : Problem → List Placed → Cost
 penalty i t = record {
   capacity = sum_by (unseated i) t;
   days = sum_below (λ c. days_cost i c (course_row c t)) (course_count i);
-  compactness = sum_by (λ q. alone_cost i (part_of q t)) i.curricula;
+  compactness = sum_by (λ q. alone_cost i (lectures_of q t)) i.curricula;
   stability = sum_below (λ c. rooms_cost i (course_row c t)) (course_count i);
 }
 

@@ -3,9 +3,8 @@
 ghost use Rattle.std.specs.Prelude.{◌≡◌, ◌<◌, ◌≤◌, ◌+◌, ◌-◌, ◌*◌, ◌&&◌, ◌||◌, ◌==◌, not, nat_lt, ℕ, length, count_by, sum_by};
 ghost use Rattle.std.specs.List.{list_any, AllByRecursion as Each};
 ghost use Rattle.ctt_text.specs.Lists.{count_below};
-ghost use Rattle.ctt_text.specs.Problem.{AreMembers, course_count};
 ghost use Rattle.ctt_text.specs.Timetable.{IsTimetable, Fits};
-ghost use Rattle.ctt_rules.specs.Penalty.{penalty, part_of};
+ghost use Rattle.ctt_rules.specs.Penalty.{penalty, lectures_of};
 ghost use Rattle.ctt_rules.specs.Windows.{has_bit, is_alone_within, stands_at, word_of};
 
 use ctt_text::{CourseNo, CurriculumNo, Instance, Placed};
@@ -58,7 +57,9 @@ impl Words {
     /// The bits that some of these courses have.
     fn union(&self, courses: &[CourseNo]) -> u64
         requires { Each (λ c. c < 2000) courses.now }
-        ensures { (place : ℕ) → has_bit result place ≡ list_any (λ c. has_bit (word_of self.now c) place) courses.now }
+        ensures { (place : ℕ)
+            → has_bit result place
+            ≡ list_any (λ c. has_bit (word_of self.now c) place) courses.now }
     {
         let mut union = 0;
         for course in courses {
@@ -71,7 +72,11 @@ impl Words {
     fn count(&self, courses: &[CourseNo], bits: u64) -> u64
         requires fit { Each (λ c. c < 2000) courses.now }
         requires few { length courses.now ≤ 2000 }
-        ensures { result ≡ sum_by (λ c. count_below (λ place. has_bit (word_of self.now c) place && has_bit bits place) 64) courses.now }
+        ensures { result
+            ≡ sum_by
+            (λ c.
+            count_below (λ place. has_bit (word_of self.now c) place && has_bit bits place)
+            64) courses.now }
     {
         let mut count = 0;
         for course in courses {
@@ -84,7 +89,8 @@ impl Words {
 /// The places that are counted and have no busy one beside them.
 fn alone(busy: u64) -> u64
     ensures { (place : ℕ) → has_bit result place
-        ≡ ((nat_lt 0 place && nat_lt place 63) && (not (has_bit busy (place - 1)) && not (has_bit busy (place + 1)))) }
+        ≡ ((nat_lt 0 place && nat_lt place 63)
+        && (not (has_bit busy (place - 1)) && not (has_bit busy (place + 1)))) }
 {
     !(busy << 1 | busy >> 1) & COUNTED
 }
@@ -107,7 +113,11 @@ fn window(instance: &Instance, timetable: &[Placed], first: u16) -> Words
 /// Two points for each lecture of a curriculum that is next to none of it, in a window.
 fn alone_within(instance: &Instance, timetable: &[Placed], first: u16) -> u64
     requires { IsTimetable instance.now timetable.now }
-    ensures value { result ≡ sum_by (λ q. 2 * count_by (is_alone_within instance.now first (part_of q timetable.now)) (part_of q timetable.now)) instance.now.curricula }
+    ensures value { result
+        ≡ sum_by
+        (λ q.
+        2 * count_by (is_alone_within instance.now first (lectures_of q timetable.now))
+        (lectures_of q timetable.now)) instance.now.curricula }
     ensures bound { result ≤ 20000 * 8000000 }
 {
     instance.limits_hold();

@@ -13,7 +13,8 @@ use ctt_text::{CourseNo, Instance, Placed};
 fn has_no_surplus(instance: &Instance, timetable: &[Placed], hard: &Hard) -> bool
     requires timetable { IsTimetable instance.now timetable.now }
     requires counted { hard.now ≡ hard_counts instance.now timetable.now }
-    ensures { IsTrue result ↔ ((c : ℕ) → length (course_row c timetable.now) ≤ (course_of instance.now c).lectures) }
+    ensures { IsTrue result
+        ↔ ((c : ℕ) → length (course_row c timetable.now) ≤ (course_of instance.now c).lectures) }
 {
     if hard.lectures == 0 {
         return true;
@@ -29,7 +30,9 @@ fn has_no_surplus(instance: &Instance, timetable: &[Placed], hard: &Hard) -> boo
 
 /// Whether none of the lectures that are placed breaks a rule.
 fn breaks_none(hard: &Hard) -> bool
-    ensures { result ≡ (hard.now.conflicts == 0 && (hard.now.availability == 0 && (hard.now.occupancy == 0 && hard.now.barred == 0))) }
+    ensures { result
+        ≡ (hard.now.conflicts == 0
+        && (hard.now.availability == 0 && (hard.now.occupancy == 0 && hard.now.barred == 0))) }
 {
     hard.conflicts == 0 && (hard.availability == 0 && (hard.occupancy == 0 && hard.barred == 0))
 }

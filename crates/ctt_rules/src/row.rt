@@ -27,7 +27,10 @@ pub fn course_row<'a>(
 /// The lectures of a course, and those of the courses after it, of a timetable's lectures from this
 /// course on.
 pub(crate) fn cut_row<'a>(lectures: &'a [Placed], course: CourseNo) -> (&'a [Placed], &'a [Placed])
-    ensures { (t : List Placed) → Ascending t → lectures.now ≡ from_course course t → IsCut course t result.0.now result.1.now }
+    ensures { (t : List Placed)
+        → Ascending t
+        → lectures.now ≡ from_course course t
+        → IsCut course t result.0.now result.1.now }
 {
     let mut len = 0;
     while len < lectures.len() && lectures[len].course == course {

@@ -1,7 +1,6 @@
 //! Lectures in one slot: whose courses clash, and which share a room. A block of 64 slots is taken at a time.
 
-ghost use Rattle.std.specs.Prelude.{◌≡◌, ◌<◌, ◌≤◌, ◌+◌, ◌-◌, ◌*◌, ◌^◌, ◌==◌, ◌&&◌, ◌||◌, ℕ, [], cond, false, not, length, nat_le, nat_lt};
-ghost use Rattle.std.specs.List.{AllByRecursion as Each};
+ghost use Rattle.std.specs.Prelude.{◌≡◌, ◌<◌, ◌≤◌, ◌+◌, ◌-◌, ◌*◌, ◌^◌, ◌==◌, ◌&&◌, ◌||◌, ℕ, [], cond, false, not, nat_le, nat_lt};
 ghost use Rattle.ctt_text.specs.Marks.{is_marked, count_marked};
 ghost use Rattle.ctt_text.specs.Timetable.{IsTimetable, Fits};
 ghost use Rattle.ctt_rules.specs.Hard.{conflict_count, occupancy_count};
@@ -38,7 +37,8 @@ impl SlotMarks {
         requires row { row < 64 }
         requires number { number < 2000 }
         ensures fresh { result ≡ not (in_row self.old row number) }
-        ensures marked { (r n : ℕ) → in_row self.new r n ≡ ((row == r && number == n) || in_row self.old r n) }
+        ensures marked { (r n : ℕ)
+            → in_row self.new r n ≡ ((row == r && number == n) || in_row self.old r n) }
     {
         self.rows[row].mark(number)
     }
@@ -46,7 +46,8 @@ impl SlotMarks {
     /// How many numbers are marked in a slot and in these marks.
     fn common_count(&self, row: usize, marks: &Marks) -> u32
         requires { row < 64 }
-        ensures count { result ≡ count_marked (λ n. in_row self.now row n && is_marked marks.now n) }
+        ensures count { result
+            ≡ count_marked (λ n. in_row self.now row n && is_marked marks.now n) }
         ensures few { result ≤ 2000 }
     {
         self.rows[row].common_count(marks)
@@ -98,15 +99,21 @@ impl Block {
         requires few { self.now.sharing.occupancy + 1 < 2 ^ 64 }
         ensures first { self.new.first ≡ self.old.first }
         ensures courses { (row n : ℕ) → row < 64 → in_row self.new.courses row n
-            ≡ ((lecture.now.slot == self.old.first + row && lecture.now.course == n) || in_row self.old.courses row n) }
+            ≡ ((lecture.now.slot == self.old.first + row && lecture.now.course == n)
+            || in_row self.old.courses row n) }
         ensures rooms { (row n : ℕ) → row < 64 → in_row self.new.rooms row n
-            ≡ ((lecture.now.slot == self.old.first + row && lecture.now.room == n) || in_row self.old.rooms row n) }
+            ≡ ((lecture.now.slot == self.old.first + row && lecture.now.room == n)
+            || in_row self.old.rooms row n) }
         ensures conflicts { self.new.sharing.conflicts ≡ self.old.sharing.conflicts
-            + cond (nat_le self.old.first lecture.now.slot && nat_lt lecture.now.slot (self.old.first + 64))
-            (count_marked (λ n. in_row self.old.courses (lecture.now.slot - self.old.first) n && clashes_with instance.now lecture.now.course n)) 0 }
+            + cond (nat_le self.old.first lecture.now.slot
+            && nat_lt lecture.now.slot (self.old.first + 64))
+            (count_marked (λ n. in_row self.old.courses (lecture.now.slot - self.old.first) n
+            && clashes_with instance.now lecture.now.course n)) 0 }
         ensures occupancy { self.new.sharing.occupancy ≡ self.old.sharing.occupancy
-            + cond (nat_le self.old.first lecture.now.slot && nat_lt lecture.now.slot (self.old.first + 64))
-            (cond (in_row self.old.rooms (lecture.now.slot - self.old.first) lecture.now.room) 1 0) 0 }
+            + cond (nat_le self.old.first lecture.now.slot
+            && nat_lt lecture.now.slot (self.old.first + 64))
+            (cond (in_row self.old.rooms (lecture.now.slot - self.old.first) lecture.now.room) 1 0)
+            0 }
     {
         instance.limits_hold();
         let slot = lecture.slot.get();
@@ -124,8 +131,10 @@ impl Block {
 /// The counts of one block.
 fn count_block(instance: &Instance, timetable: &[Placed], first: u16) -> Sharing
     requires { IsTimetable instance.now timetable.now }
-    ensures conflicts { result.conflicts ≡ tally (only_in first (first + 64) (new_conflicts instance.now)) [] timetable.now }
-    ensures occupancy { result.occupancy ≡ tally (only_in first (first + 64) room_taken) [] timetable.now }
+    ensures conflicts { result.conflicts
+        ≡ tally (only_in first (first + 64) (new_conflicts instance.now)) [] timetable.now }
+    ensures occupancy { result.occupancy
+        ≡ tally (only_in first (first + 64) room_taken) [] timetable.now }
     ensures small { result.conflicts ≤ 2000 * 4000000 }
     ensures few { result.occupancy ≤ 4000000 }
 {

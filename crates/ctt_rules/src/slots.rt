@@ -35,7 +35,8 @@ fn is_beside(instance: &Instance, slots: &Marks, slot: SlotNo) -> bool
 /// How many lectures stand where no slot beside them is marked.
 pub fn count_alone(instance: &Instance, slots: &Marks, lectures: &[Placed]) -> u64
     requires { Each (Fits instance.now) lectures.now }
-    ensures count { result ≡ count_by (λ l. not (is_beside instance.now (is_marked slots.now) l.slot)) lectures.now }
+    ensures count { result
+        ≡ count_by (λ l. not (is_beside instance.now (is_marked slots.now) l.slot)) lectures.now }
     ensures few { result ≤ length lectures.now }
 {
     let mut count = 0;

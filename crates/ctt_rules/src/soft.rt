@@ -2,7 +2,6 @@
 
 ghost use Rattle.std.specs.Prelude.{◌≡◌, ◌<◌, ◌≤◌, ◌*◌, ◌^◌, length, sum_by};
 ghost use Rattle.std.specs.List.{AllByRecursion as Each};
-ghost use Rattle.ctt_text.specs.Lists.{sum_below};
 ghost use Rattle.ctt_text.specs.Problem.{course_count};
 ghost use Rattle.ctt_text.specs.Timetable.{IsTimetable, Fits, course_row};
 ghost use Rattle.ctt_rules.specs.Penalty.{penalty, course_cost, total, unseated, days_of, rooms_of, days_cost, rooms_cost};

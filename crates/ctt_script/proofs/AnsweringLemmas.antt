@@ -69,10 +69,6 @@ same_on v w u h k = record { problem = k.problem ∙ h.problem; opening = k.open
 pub none_answered : (v : DeskValue) (old : List ℕ) → Answered v v old old []
 none_answered v old = record { same = same_desk v; goes_on = λ past stands. stands; grown = λ past stands. sym (append-nil old) }
 
--- a line that is no event
-pub bad_answered : (v : DeskValue) (old new : List ℕ) → new ≡ old ++ bad_line → Answered v v old new (None ∷ [])
-bad_answered v old new e = record { same = same_desk v; goes_on = λ past stands. stands; grown = λ past stands. e ∙ ap (λ bs. old ++ bs) (sym (append-nil bad_line)) }
-
 -- items, and items after them
 pub answered_on : (v w u : DeskValue) (a b c : List ℕ) (xs ys : List (Option Event)) → Answered v w a b xs → Answered w u b c ys → Answered v u a c (xs ++ ys)
 answered_on v w u a b c xs ys h k = record {

@@ -16,7 +16,7 @@ use Rattle.ctt_core.specs.declared.answer.Answer.TheVariants.{Opened, AlreadyOpe
 use Rattle.ctt_core.specs.declared.journal.JournalEntry.{JournalEntry}
 use Rattle.std.specs.Option.{option_map}
 use Rattle.ctt_core.specs.Laws.{Stands}
-use Rattle.ctt_core.specs.Desks.{DeskValue, draft_at, with_draft, with_call, with_base, settled, goes_on, Answers, to_commit}
+use Rattle.ctt_core.specs.Desks.{DeskValue, draft_at, with_draft, with_call, with_base, settled, goes_on, IsAnswerTo, to_commit}
 use Rattle.ctt_script.specs.WrittenText.{asked_text, entry_text}
 use Rattle.ctt_script.specs.Minutes.{NotesValue, MinutesValue, no_notes, notes_at, noted_call, noted, entry_head, with_entry, with_notes, AreNotes, AreMinutes, IsMinuted, blank}
 
@@ -100,15 +100,15 @@ module _ (i : Problem) where
         }
 
     -- a commit is accepted only where there is a draft
-    has_draft : (p number : ℕ) (o : Option DraftValue) → draft_at v.drafts p ≡ o → Answers v (Commit p) (Committed number) → o ≡ None → ⊥
+    has_draft : (p number : ℕ) (o : Option DraftValue) → draft_at v.drafts p ≡ o → IsAnswerTo v (Commit p) (Committed number) → o ≡ None → ⊥
     has_draft p number o e answers none = by answers
       where
-        by : Answers v (Commit p) (Committed number) → ⊥
+        by : IsAnswerTo v (Commit p) (Committed number) → ⊥
         by (inl is) = let no : 1 ≡ 0 = ap is_commit (is ∙ ap (to_commit v) (e ∙ none)) in omega (arith, no)
         by (inr wants) = let no : 1 ≡ 0 = ap is_commit wants.0 in omega (arith, no)
 
     -- the minutes go on with the desk
-    pub go_on : (event : Event) (answer : Answer) → EventFits i (length v.drafts) event → Answers v event answer → AreMinutes i (goes_on v event answer) (noted i event answer m)
+    pub go_on : (event : Event) (answer : Answer) → EventFits i (length v.drafts) event → IsAnswerTo v event answer → AreMinutes i (goes_on v event answer) (noted i event answer m)
     go_on (Open p) Opened fits right = another_draft p (Some (record { problem = v.problem; base = v.list; asked = [] })) no_notes fits (record { text = refl; calls = refl })
     go_on (Ask p call) (Replied told) fits right = another_draft p (with_call call told (draft_at v.drafts p)) (noted_call i call told (notes_at m.drafts p)) fits.0 (call_noted (draft_at v.drafts p) (notes_at m.drafts p) call told (h.drafts p))
     go_on (Commit p) (Committed n) fits right = entry_noted p n (draft_at v.drafts p) refl fits (has_draft p n (draft_at v.drafts p) refl right)
@@ -180,7 +180,7 @@ of_noted_planners i v None n event are count fits = tt
 of_noted_planners i v (Some m) n event are count fits = subst (λ k. EventFits i k event) (sym (are.planners ∙ count)) fits
 
 -- where there are minutes they go on with the desk
-pub minuted_on : (i : Problem) (v : DeskValue) (o : Option MinutesValue) (event : Event) (answer : Answer) → EventFits i (length v.drafts) event → Answers v event answer → IsMinuted i v o → IsMinuted i (goes_on v event answer) (option_map (noted i event answer) o)
+pub minuted_on : (i : Problem) (v : DeskValue) (o : Option MinutesValue) (event : Event) (answer : Answer) → EventFits i (length v.drafts) event → IsAnswerTo v event answer → IsMinuted i v o → IsMinuted i (goes_on v event answer) (option_map (noted i event answer) o)
 minuted_on i v None event answer fits right are = tt
 minuted_on i v (Some m) event answer fits right are = go_on i v m are event answer fits right
 

@@ -170,10 +170,3 @@ lines_within (suc n) text le is = lines_step text is (λ end e. lines_within n (
 
 pub lines_are_text : (text : List ℕ) → IsUtf8 text → Each IsUtf8 (lines_of text)
 lines_are_text text is = lines_within (length text) text (omega arith) is
-
--- a line without words has no item, and another has one
-pub no_item : (i : Problem) (line : List ℕ) → has_words line ≡ false → items_of i (line ∷ []) ≡ []
-no_item i line h = rw h refl
-
-pub one_item : (i : Problem) (line : List ℕ) → has_words line ≡ true → items_of i (line ∷ []) ≡ item i line ∷ []
-one_item i line h = rw h refl

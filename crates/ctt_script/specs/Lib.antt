@@ -2,7 +2,6 @@ pub mod Amounts
 pub mod AnswerText
 pub mod Answering
 pub mod CallPlaces
-pub mod CrewText
 pub mod Device
 pub mod Entries
 pub mod JournalPlaces
@@ -18,5 +17,4 @@ pub mod ScriptText
 pub mod WrittenText
 pub mod WrittenWords
 pub mod Minutes
-pub mod Seats
 pub mod AuditedText

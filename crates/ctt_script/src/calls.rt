@@ -1,6 +1,5 @@
 //! Reading the words of a call.
 
-ghost use Rattle.std.specs.Prelude.{◌≡◌};
 ghost use Rattle.ctt_script.specs.JournalWords.{reads, IsRead};
 ghost use Rattle.ctt_script.specs.CallPlaces.{edit_after, edit_form, look_after, look_form, call_after, call_form};
 ghost use Rattle.ctt_script.specs.declared.kinds.EditKind.TheVariants as edit;

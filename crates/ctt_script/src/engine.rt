@@ -3,7 +3,7 @@
 ghost use Rattle.std.specs.Prelude.{◌≡◌, ◌⊎◌, ◌↔◌, ℕ, ◌++◌, ◌∷◌, [], ◌<◌, ◌≤◌, List, length, true, false, Ok, Err, IfOk, IfErr, OnOk, OnErr, IfSome, Some, is_some, string_bytes};
 ghost use Rattle.std.specs.List.{AllByRecursion as Each};
 ghost use Rattle.std.specs.Option.{option_map};
-ghost use Rattle.std.specs.Io.KnownBytes.{Appends, Keeps};
+ghost use Rattle.std.specs.Io.KnownBytes.{Appends};
 ghost use Rattle.std.specs.Str.{IsUtf8};
 ghost use Rattle.ctt_text.specs.Timetable.{Fits};
 ghost use Rattle.ctt_text.specs.declared.placed.Placed.{Placed as Lecture};
@@ -197,7 +197,8 @@ pub fn run_script<'i, S: Sheet<'i>, K: Keeping, R: Source, W: Sink>(
     ensures problem { IfOk result (λ desk. desk.problem ≡ instance.now) }
     ensures opening { IfOk result (λ desk. opening instance.now lectures.now ≡ Ok desk.opening) }
     ensures answers { IfOk result (λ desk. IfSome (R.left reader.old) (λ text.
-        Appends (W.taken writer.old) (W.taken writer.new) (answer_text instance.now desk.opening text))) }
+        Appends (W.taken writer.old) (W.taken writer.new)
+        (answer_text instance.now desk.opening text))) }
     ensures stands { IfOk result (λ desk. IfSome (R.left reader.old) (λ text.
         Stands desk (script_run instance.now desk.opening text))) }
     ensures entries { IfOk result (λ desk. IsWritable instance.now desk.journal) }
@@ -219,7 +220,8 @@ pub fn run_script<'i, S: Sheet<'i>, K: Keeping, R: Source, W: Sink>(
     ensures unmarked { (result ≡ Err script_fault.Write)
         ⊎ (W.has_failed writer.new ≡ W.has_failed writer.old) }
     ensures front { OnErr result ((t0 : List Lecture) → opening instance.now lectures.now ≡ Ok t0
-        → IfSome (R.left reader.old) (λ text. AppendsFront (W.taken writer.old) (W.taken writer.new) (answer_text instance.now t0 text))) }
+        → IfSome (R.left reader.old) (λ text. AppendsFront (W.taken writer.old) (W.taken writer.new)
+        (answer_text instance.now t0 text))) }
 {
     instance.limits_hold();
     let mut desk: Desk<'i, S, K> = Desk::new(alloc, instance, lectures, PLANNERS)?;

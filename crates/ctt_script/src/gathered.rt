@@ -1,7 +1,7 @@
 //! Lectures as words of a line. Their words are gathered in the function's own frame, and added to the text
 //! together: a short copy into a text costs more than its bytes.
 
-ghost use Rattle.std.specs.Prelude.{◌≡◌, ◌<◌, ◌≤◌, ◌+◌, ◌++◌, OnOk, true, false, length, take, [], codes, string_bytes};
+ghost use Rattle.std.specs.Prelude.{◌≡◌, ◌<◌, ◌≤◌, ◌+◌, ◌++◌, OnOk, true, false, take, [], string_bytes};
 ghost use Rattle.ctt_text.specs.Timetable.{Fits};
 ghost use Rattle.ctt_script.specs.WrittenText.{lecture_part};
 

@@ -1,13 +1,11 @@
 //! The journal of a desk as a text that is written while the desk answers.
 
-ghost use Rattle.std.specs.Prelude.{◌≡◌, ◌<◌, ◌+◌, ◌++◌, ◌∷◌, [], length, OnOk, IfOk, codes, string_bytes};
-ghost use Rattle.std.specs.Fmt.{decimal};
+ghost use Rattle.std.specs.Prelude.{◌≡◌, ◌<◌, length, OnOk, IfOk, string_bytes};
 ghost use Rattle.ctt_edits.specs.Calls.{CallFits};
 ghost use Rattle.ctt_edits.specs.Fitting.{ReplyFits};
 ghost use Rattle.ctt_core.specs.Runs.{EventFits};
 ghost use Rattle.ctt_script.specs.Entries.{AnswerFits};
 ghost use Rattle.ctt_script.specs.Minutes.{blank, minutes_text, no_notes, noted, noted_ask, noted_call, noted_commit, noted_open, notes_at, with_entry};
-ghost use Rattle.ctt_script.specs.WrittenText.{line};
 
 use crate::pieces::end_with_number;
 use crate::written::{write_call, write_entry_head, write_reply};
@@ -81,7 +79,11 @@ impl Model for Minutes {
 
     ghost Value = { MinutesValue };
 
-    ghost view = { λ m. record { drafts = m.drafts.items; entries = string_bytes m.entries; count = m.count } };
+    ghost view = { λ m. record {
+      drafts = m.drafts.items;
+      entries = string_bytes m.entries;
+      count = m.count;
+    } };
 }
 
 impl Minutes {

@@ -1,8 +1,6 @@
 //! One place of the text of a journal: one word, by what it means.
 
-ghost use Rattle.std.specs.Prelude.{◌≡◌, ◌<◌, IfOk, pos};
-ghost use Rattle.ctt_text.specs.Numbers.{number_of};
-ghost use Rattle.ctt_text.specs.Problem.{number_in};
+ghost use Rattle.std.specs.Prelude.{◌<◌, IfOk, pos};
 ghost use Rattle.ctt_text.specs.Reading.{word_at};
 ghost use Rattle.ctt_script.specs.Amounts.{price_of, number_below};
 ghost use Rattle.ctt_script.specs.JournalWords.{word, label, missing, reads, IsRead};

@@ -1,6 +1,5 @@
 //! Reading the words of a reply.
 
-ghost use Rattle.std.specs.Prelude.{◌≡◌};
 ghost use Rattle.ctt_text.specs.Forms.{list_of, one_more};
 ghost use Rattle.ctt_script.specs.JournalWords.{reads, IsRead, GivesRead};
 ghost use Rattle.ctt_script.specs.ReplyPlaces.{fault_after, fault_form, lecture, lectures, costs, reply_after, reply_form};

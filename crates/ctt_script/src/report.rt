@@ -6,7 +6,7 @@ ghost use Rattle.serde_json.specs.Data.{boolean, number, put as with_member, str
 ghost use Rattle.serde_json.specs.View.{members_view, view};
 ghost use Rattle.ctt_text.specs.Timetable.{IsTimetable};
 ghost use Rattle.ctt_rules.specs.Penalty.{total};
-ghost use Rattle.ctt_script.specs.ReportText.{IsJsonReport, IsTextReport, answer_line, barred_line, count_line, data_of, json_of, line, text_of};
+ghost use Rattle.ctt_script.specs.ReportText.{IsJsonReport, IsTextReport, answer_line, barred_line, count_line, data_of, line, text_of};
 
 use ctt_rules::{Assessment, assess};
 use ctt_text::{Instance, NoMemory, Placed};
@@ -119,7 +119,9 @@ fn put_barred(
     count: u64,
 ) -> Result<(), AllocError>
     ensures { OnOk result (members_view report.new.entries
-        ≡ cond barred (with_member (codes "barred") (number (unsigned count)) (members_view report.old.entries)) (members_view report.old.entries)) }
+        ≡ cond barred
+        (with_member (codes "barred") (number (unsigned count)) (members_view report.old.entries))
+        (members_view report.old.entries)) }
 {
     if barred {
         put_count(alloc, report, "barred", count)

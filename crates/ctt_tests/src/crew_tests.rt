@@ -4,7 +4,7 @@
 use crate::small::small_instance;
 use crate::stopped::Stopped;
 use ctt_core::PlannerNo;
-use ctt_script::{CrewFault, Gate, crew};
+use ctt_crew::{CrewFault, Gate, crew};
 use ctt_text::{Instance, let_go};
 use std::alloc::Global;
 use std::process::Abort;

@@ -60,12 +60,6 @@ past_words words n past = rw (get_or_past words (n / 64) 0 past, bit_at-zero (n 
 not_below : (n m : ℕ) → nat_lt n m ≡ false → m ≤ n
 not_below n m h = grind (arith, nat_tests)
 
--- a marked number is below 2,000
-pub marked_small : (words : List ℕ) → AreMarks words → (n : ℕ) → is_marked words n ≡ true → n < 2000
-marked_small words m n is = bool_case _ (nat_lt n 2000)
-    (λ small. (Decides-ltb n 2000).0 small)
-    (λ large. absurd (true≢false (sym is ∙ m.within n (not_below n 2000 large))))
-
 -- two numbers are one where their words and their bits are
 pub same_number : (m n : ℕ) → n / 64 ≡ m / 64 → n % 64 ≡ m % 64 → n ≡ m
 same_number m n word bit = sym (div-add-mod' n 64) ∙ rw (word, bit) (div-add-mod' m 64)
@@ -297,13 +291,6 @@ counted : (test : ℕ → Bool) → count_marked test ≡ count_below test limit
 unfolding count_marked limit
 counted test = refl
 
--- the count up to any bound from which on none passes
-pub count_marked_below : (test : ℕ → Bool) (n : ℕ) → n ≤ 2000 → ((k : ℕ) → n ≤ k → test k ≡ false) → count_marked test ≡ count_below test n
-count_marked_below test n few none = counted test ∙ ap (count_below test) (sym (up n (limit) few limit_is)) ∙ count_below_to test n (limit - n) none
-  where
-    up : (n l : ℕ) → n ≤ 2000 → l ≡ 2000 → n + (l - n) ≡ l
-    up n l few is = omega arith
-
 pub count_marked_above : (test : ℕ → Bool) (n : ℕ) → 2000 ≤ n → ((k : ℕ) → 2000 ≤ k → test k ≡ false) → count_below test n ≡ count_marked test
 count_marked_above test n many none = ap (count_below test) (sym (up n limit many limit_is)) ∙ count_below_to test limit (n - limit) (λ k le. none k (omega (arith, le, limit_is))) ∙ sym (counted test)
   where
@@ -420,12 +407,6 @@ later_word a first p i later lt = ap (λ b. b && is_marked a (p * 64 + i)) (afte
         let split : first / 64 * 64 + first % 64 ≡ first = div-add-mod' first 64 in
         let low : first % 64 < 64 = mod_below first 64 (omega arith) in
         grind (arith, nat_tests, split, low)
-
--- the least of those that pass is below 2,000, if none from there on passes
-pub least_small : (test : ℕ → Bool) (n : ℕ) → ((k : ℕ) → 2000 ≤ k → test k ≡ false) → test n ≡ true → n < 2000
-least_small test n past is = bool_case _ (nat_lt n 2000)
-    (λ small. (Decides-ltb n 2000).0 small)
-    (λ large. absurd (true≢false (sym is ∙ past n (not_below n 2000 large))))
 
 pub none_common : (a b : List ℕ) → AreMarks a → (n : ℕ) → 2000 ≤ n → in_both a b n ≡ false
 none_common a b are n large = ap (λ t. t && is_marked b n) (are.within n large)

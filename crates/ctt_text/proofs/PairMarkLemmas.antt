@@ -37,6 +37,3 @@ module _ (rows width row column : ℕ) (words : List ℕ) (less : row < rows) (l
       (one_changed words (row * width + column) (bit_or w (1 * 2 ^ ((row * width + column) % 64) % 2 ^ 64)) true there
       (ap (λ b. b == 1) (bit_at_set_same w64 w ((row * width + column) % 64) low))
       (λ k small other. bit_at_set_other w64 w ((row * width + column) % 64) low k other ∙ ap (λ v. bit_at v k) is))
-
-  pub has_still : (w : ℕ) → HasWords (rows * width) (slice_set words ((row * width + column) / 64) w)
-  has_still w = record { few = has.few; words_are = omega (arith, has.words_are, length-set words ((row * width + column) / 64) w) }

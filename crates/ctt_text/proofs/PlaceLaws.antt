@@ -83,10 +83,6 @@ pub then_fills : {F A B : Type 0} (fault : ℕ → F) (meaning : List ℕ → Op
 unfolding known one ◌>>=◌
 then_fills fault meaning otherwise g w ws a b h k = rw h (refl, k)
 
-pub word_fills : {F A : Type 0} (fault : ℕ → F) (meaning : List ℕ → Option A) (otherwise : A) (w : List ℕ) (a : A) → meaning w ≡ Some a → Fills (known fault meaning otherwise) (w ∷ []) a
-unfolding known one
-word_fills fault meaning otherwise w a h = rw h (refl, refl)
-
 pub yields_word : {F A : Type 0} (fault : ℕ → F) (meaning : List ℕ → Option A) (otherwise : A) (P : A → Type 0) → ((w : List ℕ) (a : A) → meaning w ≡ Some a → P a) → Yields P (known fault meaning otherwise)
 unfolding known one
 yields_word fault meaning otherwise P h [] a fills = absurd fills

@@ -21,10 +21,6 @@ or_false : (b : Bool) → (b || false) ≡ b
 or_false true = refl
 or_false false = refl
 
--- nothing was marked yet
-pub none_added : (s : List (List ℕ)) (test : ℕ → ℕ → Bool) → ((r n : ℕ) → r < length s → test r n ≡ false) → AddsMarks s s test
-none_added s test none = record { size = refl; marks = λ r n lt. sym (ap (λ b. mark_at s r n || b) (none r n lt) ∙ or_false (mark_at s r n)) }
-
 or_or : (a b c : Bool) → ((a || b) || c) ≡ (a || (b || c))
 or_or true b c = refl
 or_or false b c = refl

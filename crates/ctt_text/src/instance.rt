@@ -1,15 +1,13 @@
 //! The instance, and what it says.
 
-ghost use Rattle.std.specs.Prelude.{◌≡◌, ◌<◌, ◌≤◌, ◌*◌, ◌&&◌, ℕ, [], length, nat_lt, slice_index_or, IfSome};
+ghost use Rattle.std.specs.Prelude.{◌≡◌, ◌<◌, ◌≤◌, ◌*◌, ◌&&◌, ℕ, length, nat_lt, IfSome};
 ghost use Rattle.std.specs.List.{AllByRecursion as Each};
-ghost use Rattle.std.specs.Option.{option_map};
-ghost use Rattle.ctt_text.specs.Problem.{IsProblem, course_of, capacity_of, members, course_count, room_count, teacher_count, curriculum_count, slot_count, slot_of, day_of, period_of, clash, is_unavailable, is_barred, has_barred, number_in, IsSmall, AreMembers};
+ghost use Rattle.ctt_text.specs.Problem.{IsProblem, course_of, capacity_of, members, course_count, room_count, teacher_count, curriculum_count, slot_count, slot_of, day_of, period_of, clash, is_unavailable, is_barred, has_barred, IsSmall, AreMembers};
 ghost use Rattle.ctt_text.specs.Marks.{is_marked};
 ghost use Rattle.ctt_text.specs.Instance.{marks_in, HasMarks};
 ghost use Rattle.ctt_text.specs.Named.{IsNamed};
 ghost use Rattle.ctt_text.specs.Belonging.{curricula_of};
 ghost use Rattle.ctt_text.specs.Taught.{courses_taught_by};
-ghost use Rattle.ctt_text.specs.Labels.{IsLabelOf, IsLabelOfDigits};
 
 mod barred;
 mod belonging;
@@ -18,6 +16,7 @@ mod courses;
 mod curricula;
 mod header;
 mod members;
+mod naming;
 mod number_lists;
 mod pair_marks;
 mod places;
@@ -161,62 +160,6 @@ impl Instance {
         self.days * self.periods
     }
 
-    /// The name of a course.
-    pub fn course_name(&self, course: CourseNo) -> &str
-        requires { course < course_count self.now }
-        ensures { result.now ≡ slice_index_or self.now.course_names course [] }
-    {
-        self.course_names.name(course.get() as usize)
-    }
-
-    /// The name of a room.
-    pub fn room_name(&self, room: RoomNo) -> &str
-        requires { room < room_count self.now }
-        ensures { result.now ≡ slice_index_or self.now.room_names room [] }
-    {
-        self.room_names.name(room.get() as usize)
-    }
-
-    /// The label of a course's name; only a long name has none.
-    pub fn course_label(&self, course: CourseNo) -> Option<&Label>
-        requires { course < course_count self.now }
-        ensures { IsLabelOf (slice_index_or self.now.course_names course []) (option_map (λ l. l.now) result) }
-    {
-        self.course_labels[course.get() as usize].as_ref()
-    }
-
-    /// The label of a room's name; only a long name has none.
-    pub fn room_label(&self, room: RoomNo) -> Option<&Label>
-        requires { room < room_count self.now }
-        ensures { IsLabelOf (slice_index_or self.now.room_names room []) (option_map (λ l. l.now) result) }
-    {
-        self.room_labels[room.get() as usize].as_ref()
-    }
-
-    /// The label of a slot's day and period; only where one of them has two digits or more there is none.
-    pub fn slot_label(&self, slot: SlotNo) -> Option<&Label>
-        requires { slot < slot_count self.now }
-        ensures { IsLabelOfDigits (day_of self.now slot) (period_of self.now slot) (option_map (λ l. l.now) result) }
-    {
-        self.slot_labels[slot.get() as usize].as_ref()
-    }
-
-    /// The name of a teacher.
-    pub fn teacher_name(&self, teacher: TeacherNo) -> &str
-        requires { teacher < teacher_count self.now }
-        ensures { result.now ≡ slice_index_or self.now.teacher_names teacher [] }
-    {
-        self.teacher_names.name(teacher.get() as usize)
-    }
-
-    /// The name of a curriculum.
-    pub fn curriculum_name(&self, curriculum: CurriculumNo) -> &str
-        requires { curriculum < curriculum_count self.now }
-        ensures { result.now ≡ slice_index_or self.now.curriculum_names curriculum [] }
-    {
-        self.curriculum_names.name(curriculum.get() as usize)
-    }
-
     /// Who teaches a course.
     pub fn teacher(&self, course: CourseNo) -> TeacherNo
         requires { course < course_count self.now }
@@ -302,7 +245,9 @@ impl Instance {
     /// The courses that clash with a course.
     pub fn clashing(&self, course: CourseNo) -> &Marks
         requires { course < course_count self.now }
-        ensures { (d : ℕ) → is_marked result.now d ≡ (nat_lt d (course_count self.now) && clash self.now course d) }
+        ensures { (d : ℕ)
+            → is_marked result.now d
+            ≡ (nat_lt d (course_count self.now) && clash self.now course d) }
     {
         &self.clashes[course.get() as usize]
     }
@@ -332,7 +277,9 @@ impl Instance {
     /// Bars the rooms that a table marks for each course, and no others.
     fn bar(&mut self, table: Option<PairMarks>)
         requires { IfSome table (HasMarks (course_count self.old) (room_count self.old)) }
-        ensures { self.new ≡ record self.old { barred = marks_in (course_count self.old * room_count self.old) table } }
+        ensures { self.new
+            ≡ record self.old
+            { barred = marks_in (course_count self.old * room_count self.old) table } }
     {
         self.barred = table;
     }
@@ -370,57 +317,5 @@ impl Instance {
         ensures within { result < self.now.periods }
     {
         slot.get() % self.periods
-    }
-
-    /// The number of a course by its name.
-    pub fn find_course(&self, name: &str) -> Option<CourseNo>
-        ensures number { result ≡ number_in self.now.course_names name.now }
-        ensures within { IfSome result (λ course. course < course_count self.now) }
-    {
-        let number = self.course_names.number(name)?;
-        Some(CourseNo::new(number as u16))
-    }
-
-    /// The number of a course by its name, which is first compared with that of a guessed course.
-    pub(crate) fn course_near(&self, guess: usize, name: &str) -> Option<usize>
-        ensures number { result ≡ number_in self.now.course_names name.now }
-        ensures within { IfSome result (λ course. course < course_count self.now) }
-    {
-        self.course_names.number_near(guess, name)
-    }
-
-    /// The number of a room by its name, which is first compared with that of a guessed room.
-    pub(crate) fn room_near(&self, guess: usize, name: &str) -> Option<usize>
-        ensures number { result ≡ number_in self.now.room_names name.now }
-        ensures within { IfSome result (λ room. room < room_count self.now) }
-    {
-        self.room_names.number_near(guess, name)
-    }
-
-    /// The number of a teacher by his name.
-    pub fn find_teacher(&self, name: &str) -> Option<TeacherNo>
-        ensures number { result ≡ number_in self.now.teacher_names name.now }
-        ensures within { IfSome result (λ teacher. teacher < teacher_count self.now) }
-    {
-        let number = self.teacher_names.number(name)?;
-        Some(TeacherNo::new(number as u16))
-    }
-
-    /// The number of a curriculum by its name.
-    pub fn find_curriculum(&self, name: &str) -> Option<CurriculumNo>
-        ensures number { result ≡ number_in self.now.curriculum_names name.now }
-        ensures within { IfSome result (λ curriculum. curriculum < curriculum_count self.now) }
-    {
-        let number = self.curriculum_names.number(name)?;
-        Some(CurriculumNo::new(number as u16))
-    }
-
-    /// The number of a room by its name.
-    pub fn find_room(&self, name: &str) -> Option<RoomNo>
-        ensures number { result ≡ number_in self.now.room_names name.now }
-        ensures within { IfSome result (λ room. room < room_count self.now) }
-    {
-        let number = self.room_names.number(name)?;
-        Some(RoomNo::new(number as u16))
     }
 }

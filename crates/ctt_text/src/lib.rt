@@ -1,6 +1,7 @@
 //! The texts of curriculum-based course timetabling: instances, solutions and barred rooms.
 #![tactic(auto)]
 
+mod compact;
 mod course_facts;
 mod fault;
 mod fits;
@@ -20,6 +21,7 @@ mod solution;
 mod timetable;
 mod words;
 
+pub use compact::Compact;
 pub use course_facts::CourseFacts;
 pub use fault::{BarredFault, ReadFault, SolutionFault};
 pub use ids::{CourseNo, CurriculumNo, RoomNo, SlotNo, TeacherNo};

@@ -60,7 +60,8 @@ impl Marks {
     pub fn unmark(&mut self, number: usize) -> bool
         requires { number < 2000 }
         ensures was { result ≡ is_marked self.old number }
-        ensures marked { (n : ℕ) → is_marked self.new n ≡ (not (n == number) && is_marked self.old n) }
+        ensures marked { (n : ℕ)
+            → is_marked self.new n ≡ (not (n == number) && is_marked self.old n) }
     {
         let bit = 1u64 << (number % 64);
         let word = self.words[number / 64];
@@ -98,7 +99,9 @@ impl Marks {
 
     /// Whether any number is marked in both. All words are looked at at once, with no test between them.
     fn has_common(&self, other: &Self) -> bool
-        ensures { result ≡ false → (n : ℕ) → (is_marked self.now n && is_marked other.now n) ≡ false }
+        ensures { result ≡ false
+            → (n : ℕ)
+            → (is_marked self.now n && is_marked other.now n) ≡ false }
     {
         let mut common = 0;
         for place in 0..32 {
@@ -133,7 +136,8 @@ impl Marks {
     /// The least number below `count` that is marked in both.
     pub fn first_common_below(&self, other: &Self, count: usize) -> Option<usize>
         requires { count ≤ 2000 }
-        ensures least { IsLeast (λ n. nat_lt n count && (is_marked self.now n && is_marked other.now n)) result }
+        ensures least { IsLeast
+            (λ n. nat_lt n count && (is_marked self.now n && is_marked other.now n)) result }
         ensures within { IfSome result (λ n. n < count) }
     {
         for place in 0..(count + 63) / 64 {
@@ -149,7 +153,8 @@ impl Marks {
     /// The least marked number from `first` on and below `end`.
     pub fn next_between(&self, first: usize, end: usize) -> Option<usize>
         requires { end ≤ 2000 }
-        ensures least { IsLeast (λ n. nat_lt n end && (nat_le first n && is_marked self.now n)) result }
+        ensures least { IsLeast (λ n. nat_lt n end && (nat_le first n && is_marked self.now n))
+            result }
         ensures within { IfSome result (λ n. n < end) }
     {
         let words = &self.words;

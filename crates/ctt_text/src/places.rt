@@ -94,7 +94,8 @@ pub fn next_word<'a, F: PlaceFault + Drop>(reader: &mut Reader<'a>) -> Result<&'
 /// The fixed word of this place.
 #[tactic(auto, using(crate::proofs::Steps::read_known), unfolding(crate::specs::Places::fixed))]
 pub fn next_fixed<F: FixedFault + Drop>(reader: &mut Reader, text: &str) -> Result<(), F>
-    ensures { Reads (λ _. (tt, reader.new)) result (reading F.missing (fixed F.other_word text.now) reader.old) }
+    ensures { Reads (λ _. (tt, reader.new)) result
+        (reading F.missing (fixed F.other_word text.now) reader.old) }
 {
     let at = reader.next();
     if next_word::<F>(reader)? == text {
@@ -107,7 +108,8 @@ pub fn next_fixed<F: FixedFault + Drop>(reader: &mut Reader, text: &str) -> Resu
 /// A number, at most 999,999,999.
 #[tactic(auto, using(crate::proofs::Steps::read_known), unfolding(crate::specs::Places::number))]
 pub fn next_number<F: PlaceFault + Drop>(reader: &mut Reader) -> Result<u32, F>
-    ensures { Reads (λ number. (number, reader.new)) result (reading F.missing (number F.bad_number) reader.old) }
+    ensures { Reads (λ number. (number, reader.new)) result
+        (reading F.missing (number F.bad_number) reader.old) }
 {
     let at = reader.next();
     match reader.number() {
@@ -124,7 +126,8 @@ pub fn next_course<F: PlaceFault + Drop>(
     instance: &Instance,
 ) -> Result<CourseNo, F>
     ensures within { IfOk result (λ course. course < course_count instance.now) }
-    ensures exact { Reads (λ course. (course, reader.new)) result (reading F.missing (known_name F.unknown_course instance.now.course_names) reader.old) }
+    ensures exact { Reads (λ course. (course, reader.new)) result
+        (reading F.missing (known_name F.unknown_course instance.now.course_names) reader.old) }
 {
     let at = reader.next();
     let name = next_word::<F>(reader)?;
@@ -138,7 +141,8 @@ pub fn next_course<F: PlaceFault + Drop>(
 #[tactic(auto, using(crate::proofs::Steps::read_known), unfolding(crate::specs::Places::known_name))]
 pub fn next_room<F: RoomFault + Drop>(reader: &mut Reader, instance: &Instance) -> Result<RoomNo, F>
     ensures within { IfOk result (λ room. room < room_count instance.now) }
-    ensures exact { Reads (λ room. (room, reader.new)) result (reading F.missing (known_name F.unknown_room instance.now.room_names) reader.old) }
+    ensures exact { Reads (λ room. (room, reader.new)) result
+        (reading F.missing (known_name F.unknown_room instance.now.room_names) reader.old) }
 {
     let at = reader.next();
     let name = next_word::<F>(reader)?;
@@ -152,7 +156,8 @@ pub fn next_room<F: RoomFault + Drop>(reader: &mut Reader, instance: &Instance) 
 #[tactic(auto, using(crate::proofs::Steps::read_number_if))]
 pub(crate) fn next_day_below<F: SlotFault + Drop>(reader: &mut Reader, days: u32) -> Result<u32, F>
     ensures within { IfOk result (λ day. day < days) }
-    ensures exact { Reads (λ day. (day, reader.new)) result (reading F.missing (number_if F.bad_number (λ n. nat_lt n days) F.day_out) reader.old) }
+    ensures exact { Reads (λ day. (day, reader.new)) result
+        (reading F.missing (number_if F.bad_number (λ n. nat_lt n days) F.day_out) reader.old) }
 {
     let at = reader.next();
     let day = next_number::<F>(reader)?;
@@ -170,7 +175,9 @@ pub(crate) fn next_period_below<F: SlotFault + Drop>(
     periods: u32,
 ) -> Result<u32, F>
     ensures within { IfOk result (λ period. period < periods) }
-    ensures exact { Reads (λ period. (period, reader.new)) result (reading F.missing (number_if F.bad_number (λ n. nat_lt n periods) F.period_out) reader.old) }
+    ensures exact { Reads (λ period. (period, reader.new)) result
+        (reading F.missing (number_if F.bad_number (λ n. nat_lt n periods) F.period_out)
+        reader.old) }
 {
     let at = reader.next();
     let period = next_number::<F>(reader)?;
@@ -187,7 +194,9 @@ pub(crate) fn next_day<F: SlotFault + Drop>(
     instance: &Instance,
 ) -> Result<u16, F>
     ensures within { IfOk result (λ day. day < instance.now.days) }
-    ensures exact { Reads (λ day. (day, reader.new)) result (reading F.missing (number_if F.bad_number (λ n. nat_lt n instance.now.days) F.day_out) reader.old) }
+    ensures exact { Reads (λ day. (day, reader.new)) result
+        (reading F.missing (number_if F.bad_number (λ n. nat_lt n instance.now.days) F.day_out)
+        reader.old) }
 {
     let day = next_day_below::<F>(reader, u32::from(instance.days()))?;
     Ok(day as u16)

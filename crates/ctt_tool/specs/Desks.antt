@@ -6,7 +6,7 @@ use Rattle.std.specs.declared.string.String.{String}
 use Rattle.ctt_text.specs.Problem.{Problem}
 use Rattle.ctt_text.specs.declared.placed.Placed.{Placed}
 use Rattle.ctt_edits.specs.Openings.{opening}
-use Rattle.ctt_script.specs.CrewText.{IsCrewText}
+use Rattle.ctt_crew.specs.CrewText.{IsCrewText}
 use Rattle.ctt_tool.specs.Texts.{Held, IsInstanceIn, IsStart}
 
 -- the start is placed, lecture by lecture, and makes this timetable

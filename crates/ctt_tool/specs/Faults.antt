@@ -16,8 +16,8 @@ use Rattle.ctt_edits.specs.Fitting.{FaultFits}
 use Rattle.ctt_edits.specs.declared.fault.EditFault.{EditFault}
 use Rattle.ctt_script.specs.WrittenText.{line}
 use Rattle.ctt_script.specs.WrittenWords.{fault_words}
-use Rattle.ctt_script.specs.declared.crew_fault.CrewFault.{CrewFault}
-use Rattle.ctt_script.specs.declared.crew_fault.CrewFault.TheVariants as crew
+use Rattle.ctt_crew.specs.declared.crew_fault.CrewFault.{CrewFault}
+use Rattle.ctt_crew.specs.declared.crew_fault.CrewFault.TheVariants as crew
 use Rattle.ctt_script.specs.declared.journal_fault.JournalFault.{JournalFault}
 use Rattle.ctt_script.specs.declared.journal_fault.JournalFault.TheVariants as journal
 use Rattle.ctt_script.specs.declared.script_fault.ScriptFault.{ScriptFault}

@@ -1,7 +1,7 @@
 //! The command `crew`.
 
 ghost use Rattle.std.specs.Prelude.{◌≡◌, ◌≤◌, ◌<◌, [], Err, length, true, OnOk, IfOk, IfErr};
-ghost use Rattle.ctt_script.specs.CrewText.{IsCrewText};
+ghost use Rattle.ctt_crew.specs.CrewText.{IsCrewText};
 ghost use Rattle.ctt_tool.specs.Crews.{IsOfCrewOn, PrintsCrew};
 ghost use Rattle.ctt_tool.specs.Faults.{IfUnwritten};
 ghost use Rattle.ctt_tool.specs.Refusals.{IsOfCrew, IsOfInstanceOr, IsOfScripts, IsOfWork};
@@ -11,7 +11,8 @@ use crate::fault::Fault;
 use crate::files::{Files, read_files};
 use crate::output::print;
 use crate::texts::fetch_instance;
-use ctt_script::{NoGate, PLANNERS, Sink};
+use ctt_crew::NoGate;
+use ctt_script::{PLANNERS, Sink};
 use ctt_text::{Instance, let_go};
 use std::alloc::Global;
 use std::marker::Sync;
@@ -35,7 +36,7 @@ fn answers<R: Threads + Wait + Sync>(
     for text in texts {
         scripts.push(text.as_slice())?;
     }
-    Ok(ctt_script::crew(rt, alloc, instance, &scripts, &NoGate)?)
+    Ok(ctt_crew::crew(rt, alloc, instance, &scripts, &NoGate)?)
 }
 
 /// What a crew writes that follows the scripts in these files.

@@ -5,7 +5,8 @@ ghost use Rattle.std.specs.String.{string_bytes};
 ghost use Rattle.ctt_tool.specs.Faults.{IsLineOf, fault_of_barred, fault_of_crew, fault_of_instance, fault_of_journal, fault_of_solution, status_of};
 ghost use Rattle.ctt_tool.specs.declared.fault.Fault.TheVariants.{NoMemory};
 
-use ctt_script::{CrewFault, JournalFault};
+use ctt_crew::CrewFault;
+use ctt_script::JournalFault;
 use ctt_text::{BarredFault, ReadFault, SolutionFault};
 use std::alloc::{AllocError, AllocFailed, Global};
 use thiserror::Error;

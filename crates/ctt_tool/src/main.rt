@@ -75,7 +75,8 @@ fn serve<R: Env + AllocGlobal + Threads + Wait + Sync, F: Files, O: Office, W: S
     ensures said { result ≢ 0 → ((words : List (List ℕ)) × DoesAsAsked words Differs
         (F.held files.old) (F.held files.new) (W.taken out.old) (W.taken out.new))
         ⊎ ((V.has_failed err.new ≡ true)
-        ⊎ SaysFault (IsOfWords (F.held files.old) (W.has_failed out.new)) result (V.taken err.old) (V.taken err.new)) }
+        ⊎ SaysFault (IsOfWords (F.held files.old) (W.has_failed out.new)) result
+        (V.taken err.old) (V.taken err.new)) }
 {
     let owned = match owned_words(rt) {
         Ok(owned) => owned,

@@ -131,7 +131,8 @@ fn do_as_asked<R: Threads + Wait + Sync, F: Files, O: Office, W: Sink, V: Sink>(
         ⊎ (W.has_failed out.new ≡ W.has_failed out.old)) }
     ensures unwritten { IfErr result (λ fault. MayHaveWritten fault ⊎ (out.new ≡ out.old)) }
     ensures unstored { IfErr result (λ fault. KeptUnless fault
-        ((W.has_failed out.new ≡ W.has_failed out.old) × AsksToStore (map (λ word. word.now) words.now))
+        ((W.has_failed out.new ≡ W.has_failed out.old)
+        × AsksToStore (map (λ word. word.now) words.now))
         (F.held files.new ≡ F.held files.old)) }
     ensures taken { IfErr result (λ fault. status_of fault ≡ 1
         → faults_of (map (λ word. word.now) words.now) ≡ []) }
@@ -201,7 +202,8 @@ pub fn program<R: AllocGlobal + Threads + Wait + Sync, F: Files, O: Office, W: S
         → (AsksForRefusedText (map (λ word. word.now) words.now) (F.held files.old)
         × (out.new ≡ out.old))
         ⊎ (DoesAsAsked (map (λ word. word.now) words.now) Differs
-        (F.held files.old) (F.held files.new) (W.taken out.old) (W.taken out.new) × (err.new ≡ err.old)) }
+        (F.held files.old) (F.held files.new) (W.taken out.old) (W.taken out.new)
+        × (err.new ≡ err.old)) }
     ensures taken { result ≡ 1 → faults_of (map (λ word. word.now) words.now) ≡ [] }
     ensures refused { result ≡ 2 → IsRefusal (faults_of (map (λ word. word.now) words.now))
         ⊎ (AsksForTooMany (map (λ word. word.now) words.now)
@@ -209,7 +211,8 @@ pub fn program<R: AllocGlobal + Threads + Wait + Sync, F: Files, O: Office, W: S
     ensures said { result ≢ 0 → DoesAsAsked (map (λ word. word.now) words.now) Differs
         (F.held files.old) (F.held files.new) (W.taken out.old) (W.taken out.new)
         ⊎ ((V.has_failed err.new ≡ true)
-        ⊎ SaysFault (HasCause (map (λ word. word.now) words.now) (F.held files.old) (W.has_failed out.new))
+        ⊎ SaysFault
+        (HasCause (map (λ word. word.now) words.now) (F.held files.old) (W.has_failed out.new))
         result (V.taken err.old) (V.taken err.new)) }
     ensures unprinted { result ≡ 2 → out.new ≡ out.old }
     ensures unwritten { W.has_failed out.new ≡ true → result ≡ 3 }

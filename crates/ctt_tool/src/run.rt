@@ -66,7 +66,8 @@ fn answer<'i, S: Sheet<'i>, R: Source, W: Sink>(
 
     ensures cause { IfErr result (λ fault. IfUnwritten fault
         (W.has_failed out.new ≡ true)
-        (IsAnswerFault instance.now lectures.now name (R.left script.old) fault × (W.has_failed out.new ≡ W.has_failed out.old))) }
+        (IsAnswerFault instance.now lectures.now name (R.left script.old) fault
+        × (W.has_failed out.new ≡ W.has_failed out.old))) }
     ensures unwritten { IfErr result (λ fault. MayHaveWritten fault ⊎ (out.new ≡ out.old)) }
 {
     match run_script(alloc, instance, lectures, script, out, minutes) {
@@ -130,7 +131,8 @@ fn run_on<'i, S: Sheet<'i>, F: Files, W: Sink>(
     ensures unmarked { OnOk result (W.has_failed out.new ≡ W.has_failed out.old) }
     ensures cause { IfErr result (λ fault. IfUnwritten fault
         ((W.has_failed out.new ≡ true) ⊎ IsGiven journal)
-        (IsOfScript script start (F.held files.old) instance.now fault × (W.has_failed out.new ≡ W.has_failed out.old))) }
+        (IsOfScript script start (F.held files.old) instance.now fault
+        × (W.has_failed out.new ≡ W.has_failed out.old))) }
     ensures unwritten { IfErr result (λ fault. MayHaveWritten fault ⊎ (out.new ≡ out.old)) }
     ensures unstored { IfErr result (λ fault. KeptUnless fault
         ((W.has_failed out.new ≡ W.has_failed out.old) × IsGiven journal)
@@ -171,7 +173,8 @@ pub fn run<F: Files, W: Sink>(
     ensures unmarked { OnOk result (W.has_failed out.new ≡ W.has_failed out.old) }
     ensures cause { IfErr result (λ fault. IfUnwritten fault
         ((W.has_failed out.new ≡ true) ⊎ IsGiven journal)
-        (IsOfRun (F.held files.old) instance barred script start fault × (W.has_failed out.new ≡ W.has_failed out.old))) }
+        (IsOfRun (F.held files.old) instance barred script start fault
+        × (W.has_failed out.new ≡ W.has_failed out.old))) }
     ensures unwritten { IfErr result (λ fault. MayHaveWritten fault ⊎ (out.new ≡ out.old)) }
     ensures unstored { IfErr result (λ fault. KeptUnless fault
         ((W.has_failed out.new ≡ W.has_failed out.old) × IsGiven journal)

@@ -1,14 +1,16 @@
 //! Rooms that are barred for courses.
 
-use crate::cases::{BARRED_ROOM, play_desk};
-use crate::desks::audit_text;
+use crate::both::{Case, on_both};
+use crate::cases::play_desk;
 use crate::faults::of_barred;
+use crate::journals::audit_text;
 use crate::reports::play_reports;
-use crate::sheets::play_lines;
+use crate::shared::Script;
 use crate::story::Story;
-use crate::texts::{SMALL, SOLUTION, WITHOUT_TOP};
+use crate::texts::{SMALL, SOLUTION, read_both};
+use crate::worked::{BARRED_ROOM, SWAP};
 use ctt_board::GridSheet;
-use ctt_text::{BarredFault, Instance, let_go, read_barred, read_instance, read_solution};
+use ctt_text::{BarredFault, Instance, Placed, let_go, read_barred, read_instance, read_solution};
 use std::sync::Wait;
 
 /// A journal of a draft in which top was placed in room A.
@@ -51,6 +53,20 @@ fn tell_files(story: &mut Story, small: &mut Instance) {
     }
 }
 
+/// A swap and a script that meet the room that is barred.
+fn play_lectures<R: Wait>(
+    story: &mut Story,
+    rt: &R,
+    small: &Instance,
+    solution: &[Placed],
+    without_top: &[Placed],
+) {
+    let swap = Case::Lines(solution, SWAP);
+    on_both(story, small, "a swap into a barred room", swap);
+    let script = Script::new(without_top, BARRED_ROOM);
+    play_desk(story, rt, small, "a barred room", script);
+}
+
 /// The small instance, in which one room is barred.
 fn play_on<R: Wait>(story: &mut Story, rt: &R, small: &Instance) {
     story.say("an old journal");
@@ -58,26 +74,22 @@ fn play_on<R: Wait>(story: &mut Story, rt: &R, small: &Instance) {
         story,
         audit_text::<GridSheet>(story, small, &[], OLD_JOURNAL)
     );
-    let (Ok(solution), Ok(without_top)) = (
-        read_solution(story.alloc(), small, SOLUTION.as_bytes()),
-        read_solution(story.alloc(), small, WITHOUT_TOP.as_bytes()),
-    ) else {
-        return story.no_memory();
-    };
-    play_lines(
-        story,
-        small,
-        "a swap into a barred room",
-        &solution,
-        &["swap geo 0 1 top 0 2"],
-    );
-    play_desk(story, rt, small, "a barred room", &without_top, BARRED_ROOM);
+    match read_both(story.alloc(), small) {
+        Ok(both) => {
+            play_lectures(story, rt, small, &both.0, &both.1);
+            let_go(both);
+        }
+        Err(_fault) => story.no_memory(),
+    }
 }
 
 /// The small instance, in which alg may not have room A.
 fn play_report(story: &mut Story, small: &Instance) {
     match read_solution(story.alloc(), small, SOLUTION.as_bytes()) {
-        Ok(solution) => play_reports(story, small, &solution),
+        Ok(solution) => {
+            play_reports(story, small, &solution);
+            let_go(solution);
+        }
         Err(_fault) => story.no_memory(),
     }
 }

@@ -1,7 +1,7 @@
 //! A crew of one planner, on a thread.
 
 use crate::story::Story;
-use ctt_script::{CrewFault, NoGate, crew};
+use ctt_crew::{CrewFault, NoGate, crew};
 use ctt_text::Instance;
 use std::marker::Sync;
 use std::sync::Wait;

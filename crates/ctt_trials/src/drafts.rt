@@ -1,15 +1,15 @@
-//! Drafts by themselves, on both kinds of sheets.
+//! Drafts by themselves.
 
 ghost use Rattle.std.specs.Prelude.{◌≡◌, ◌↔◌, IsTrue, IfOk};
 ghost use Rattle.ctt_edits.specs.Calls.{CallFits};
 
 use crate::sheets::{call_of, empty_sheet, tell_cells, tell_sheet};
 use crate::story::Story;
-use ctt_board::{Cell, Change, GridSheet, ListSheet, Sheet, Timetable};
+use ctt_board::{Cell, Change, Sheet, Timetable};
 use ctt_core::Answer;
 use ctt_draft::{Draft, KeepAll, replay};
 use ctt_edits::{Call, Reply};
-use ctt_text::{CourseNo, Instance, NoMemory, RoomNo, SlotNo};
+use ctt_text::{CourseNo, Instance, NoMemory, RoomNo, SlotNo, let_go};
 
 /// top in the third period of the first day, in room B.
 fn top() -> Cell {
@@ -47,6 +47,18 @@ fn ask_once<'i, S: Sheet<'i>>(
     draft.call(*call)
 }
 
+/// What a draft answers to a call that wanted memory before.
+fn ask_again<'i, S: Sheet<'i>>(
+    story: &mut Story,
+    draft: &mut Draft<'i, S, KeepAll>,
+    call: &Call,
+) -> Option<Reply>
+    ensures { draft.new.problem ≡ draft.old.problem }
+{
+    story.call_again();
+    ask_once(draft, call).ok()
+}
+
 /// What a draft answers to a call. Where that is want of memory, it is asked again.
 fn ask<'i, S: Sheet<'i>>(
     story: &mut Story,
@@ -57,10 +69,7 @@ fn ask<'i, S: Sheet<'i>>(
 {
     match ask_once(draft, call) {
         Ok(reply) => Some(reply),
-        Err(NoMemory) => {
-            story.call_again();
-            ask_once(draft, call).ok()
-        }
+        Err(NoMemory) => ask_again(story, draft, call),
     }
 }
 
@@ -69,7 +78,7 @@ fn ask_line<'i, S: Sheet<'i>>(story: &mut Story, draft: &mut Draft<'i, S, KeepAl
     ensures { draft.new.problem ≡ draft.old.problem }
 {
     let small = draft.instance();
-    match call_of(small, line) {
+    match call_of(small, line.as_bytes()) {
         Some(call) => match ask(story, draft, &call) {
             Some(reply) => story.answer(small, &Answer::Replied(reply)),
             None => story.no_memory(),
@@ -117,9 +126,13 @@ fn settle<'i, S: Sheet<'i>>(story: &mut Story, draft: Draft<'i, S, KeepAll>, she
             story.count("calls", work.asked.len());
             story.count("changes", work.changes.len() as u64);
             work.settle(sheet);
+            let_go(work);
             tell_sheet(story, sheet);
         }
-        Ok(Some(_)) | Err(NoMemory) => story.say("not settled"),
+        Ok(Some(_)) | Err(NoMemory) => {
+            let_go(draft);
+            story.say("not settled");
+        }
     }
 }
 
@@ -151,7 +164,7 @@ fn long_draft<'i, S: Sheet<'i>>(story: &mut Story, sheet: &mut S) {
         } else {
             "drop geo 0 1"
         };
-        let call = call_of(draft.instance(), line);
+        let call = call_of(draft.instance(), line.as_bytes());
         if let Some(call) = call {
             if matches!(ask(story, &mut draft, &call), Some(Reply::Done)) {
                 done = done.saturating_add(1);
@@ -172,8 +185,8 @@ fn place_top<S: Timetable>(sheet: &mut S)
     }
 }
 
-/// Drafts on one kind of sheet.
-fn play_on<'i, S: Sheet<'i>>(story: &mut Story, small: &'i Instance) {
+/// A draft on an empty sheet, beside another sheet.
+pub(crate) fn play<'i, S: Sheet<'i>>(story: &mut Story, small: &'i Instance) {
     let (Ok(mut sheet), Ok(mut other)) = (
         empty_sheet::<S>(story, small),
         empty_sheet::<S>(story, small),
@@ -184,26 +197,10 @@ fn play_on<'i, S: Sheet<'i>>(story: &mut Story, small: &'i Instance) {
     one_draft(story, &mut sheet, &other);
 }
 
-/// A long draft on one kind of sheet, which is empty.
-fn play_long_on<'i, S: Sheet<'i>>(story: &mut Story, small: &'i Instance) {
+/// A long draft on an empty sheet.
+pub(crate) fn play_long<'i, S: Sheet<'i>>(story: &mut Story, small: &'i Instance) {
     match empty_sheet::<S>(story, small) {
         Ok(mut sheet) => long_draft(story, &mut sheet),
         Err(NoMemory) => story.no_memory(),
     }
-}
-
-/// Drafts on both kinds of sheets.
-pub(crate) fn play(story: &mut Story, small: &Instance) {
-    story.say("drafts");
-    let from = story.len();
-    played!(story, play_on::<ListSheet>(story, small));
-    let to = story.len();
-    played!(story, play_on::<GridSheet>(story, small));
-    story.compare(from, to, to, "on the grid sheet");
-    story.say("a draft of a thousand calls");
-    let from = story.len();
-    played!(story, play_long_on::<ListSheet>(story, small));
-    let to = story.len();
-    played!(story, play_long_on::<GridSheet>(story, small));
-    story.compare(from, to, to, "on the grid sheet");
 }

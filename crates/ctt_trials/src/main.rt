@@ -15,6 +15,7 @@ macro_rules! played {
 }
 
 mod barred;
+mod both;
 mod cases;
 mod crews;
 mod cuts;
@@ -22,6 +23,7 @@ mod desks;
 mod devices;
 mod drafts;
 mod faults;
+mod journals;
 mod lists;
 mod reports;
 mod scripts;
@@ -31,8 +33,8 @@ mod sheets;
 mod story;
 mod texts;
 mod turns;
+mod worked;
 
-use cases::{PHANTOM, PHANTOM_ANSWERS};
 use ctt_board::GridSheet;
 use ctt_script::Device;
 use ctt_text::{Instance, Placed, let_go, read_instance, read_solution};
@@ -43,7 +45,8 @@ use std::process::ExitCode;
 use std::sync::Wait;
 use std::thread::Threads;
 use story::Story;
-use texts::{CLASH, JOURNAL, SMALL, SOLUTION, WITHOUT_TOP};
+use texts::{CLASH, JOURNAL, SMALL, SOLUTION, read_both};
+use worked::{PHANTOM, PHANTOM_ANSWERS};
 
 /// The report on the solution.
 const REPORT: &str = "instance Small
@@ -76,21 +79,29 @@ costs 0 15 2 0
 ";
 
 /// Lectures of which the second one clashes, as the opening of a desk.
+fn play_refused(story: &mut Story, small: &Instance, lectures: &[Placed]) {
+    played!(story, cases::by_step(story, small, lectures, PHANTOM));
+    played!(story, shared::tell_unlawful(story, small, lectures));
+    played!(
+        story,
+        journals::audit_text::<GridSheet>(story, small, lectures, JOURNAL.as_bytes())
+    );
+    played!(
+        story,
+        scripts::play_script::<GridSheet>(story, small, lectures, PHANTOM)
+    );
+}
+
+/// An opening that is refused.
 fn play_unlawful(story: &mut Story, small: &Instance) {
     story.say("an unlawful opening");
-    let Ok(lectures) = read_solution(story.alloc(), small, CLASH.as_bytes()) else {
-        return story.no_memory();
-    };
-    played!(story, cases::by_step(story, small, &lectures, PHANTOM));
-    played!(story, shared::tell_unlawful(story, small, &lectures));
-    played!(
-        story,
-        desks::audit_text::<GridSheet>(story, small, &lectures, JOURNAL.as_bytes())
-    );
-    played!(
-        story,
-        scripts::play_script::<GridSheet>(story, small, &lectures, PHANTOM)
-    );
+    match read_solution(story.alloc(), small, CLASH.as_bytes()) {
+        Ok(lectures) => {
+            play_refused(story, small, &lectures);
+            let_go(lectures);
+        }
+        Err(_fault) => story.no_memory(),
+    }
 }
 
 /// A journal with a reply that was not the one that was told.
@@ -99,7 +110,7 @@ fn play_other_journal(story: &mut Story, small: &Instance, without_top: &[Placed
     let other = b"journal 1 entry 0 1 place top A 0 1 done END.";
     played!(
         story,
-        desks::audit_text::<GridSheet>(story, small, without_top, other)
+        journals::audit_text::<GridSheet>(story, small, without_top, other)
     );
 }
 
@@ -124,8 +135,18 @@ fn play_devices(story: &mut Story, small: &Instance) {
     played!(story, scripts::play_texts(story, &read, &written));
 }
 
+/// A crew of one planner, whose draft is committed, or left open.
+fn play_crews<R: Threads + Wait + Sync>(story: &mut Story, rt: &R, small: &Instance) {
+    for (name, script) in [
+        ("a crew of one", CREW),
+        ("a crew whose draft is left open", "open\nplace geo A 0 1\n"),
+    ] {
+        played!(story, crews::play(story, rt, small, name, script));
+    }
+}
+
 /// All that is played with a solution, and with the same without top.
-fn play_lectures<R: Wait>(
+fn play_lectures<R: Threads + Wait + Sync>(
     story: &mut Story,
     rt: &R,
     small: &Instance,
@@ -136,38 +157,24 @@ fn play_lectures<R: Wait>(
     played!(story, reports::play_reports(story, small, solution));
     played!(story, reports::play_written(story, small, solution));
     cases::play_sheets(story, small, solution, without_top);
-    sheets::play_placement(story, small);
-    sheets::play_accepted(story, small, solution);
-    sheets::play_rows(story, small);
-    drafts::play(story, small);
+    cases::play_drafts(story, small);
     cases::play_desks(story, rt, small, without_top);
     play_other_journal(story, small, without_top);
+    played!(story, play_unlawful(story, small));
+    play_crews(story, rt, small);
+    cuts::play(story, small);
+    play_devices(story, small);
 }
 
 /// All that is played on the small instance.
 fn play_small<R: Threads + Wait + Sync>(story: &mut Story, rt: &R, small: &Instance) {
-    let (Ok(solution), Ok(without_top)) = (
-        read_solution(story.alloc(), small, SOLUTION.as_bytes()),
-        read_solution(story.alloc(), small, WITHOUT_TOP.as_bytes()),
-    ) else {
-        return story.no_memory();
-    };
-    play_lectures(story, rt, small, &solution, &without_top);
-    played!(story, play_unlawful(story, small));
-    let left_open = "open\nplace geo A 0 1\n";
-    played!(story, crews::play(story, rt, small, "a crew of one", CREW));
-    played!(
-        story,
-        crews::play(
-            story,
-            rt,
-            small,
-            "a crew whose draft is left open",
-            left_open
-        )
-    );
-    cuts::play(story, small);
-    play_devices(story, small);
+    match read_both(story.alloc(), small) {
+        Ok(both) => {
+            play_lectures(story, rt, small, &both.0, &both.1);
+            let_go(both);
+        }
+        Err(_fault) => story.no_memory(),
+    }
 }
 
 /// All that is played without barred rooms.

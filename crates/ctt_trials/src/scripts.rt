@@ -7,7 +7,9 @@ use crate::story::Story;
 use ctt_board::{GridSheet, Sheet};
 use ctt_core::Desk;
 use ctt_draft::KeepAll;
-use ctt_script::{Device, Failed, InputFault, ScriptFault, Sink, put_all, read_all, run_script};
+use ctt_script::{
+    Device, Failed, InputFault, ScriptFault, Sink, put_all, put_whole, read_all, run_script,
+};
 use ctt_text::{Instance, Placed, let_go};
 use std::alloc::AllocError;
 
@@ -34,21 +36,51 @@ impl<'a> Reading<'a> {
     }
 }
 
-/// Runs a script.
+/// Tells what a script wrote, and what its desk has.
+fn tell_run<'i, S: Sheet<'i>>(
+    story: &mut Story,
+    small: &'i Instance,
+    opening: &[Placed],
+    shelf: &Shelf,
+    desk: &Desk<'i, S, KeepAll>,
+) {
+    story.bytes(shelf.held());
+    tell_desk(story, small, opening, desk);
+}
+
+/// Tells what a script wrote that was run, and what its desk has, or answers why it could not be run.
+fn tell_ran<'i, S: Sheet<'i>>(
+    story: &mut Story,
+    small: &'i Instance,
+    opening: &[Placed],
+    shelf: &Shelf,
+    ran: Result<Desk<'i, S, KeepAll>, ScriptFault>,
+) -> Result<(), ScriptFault> {
+    match ran {
+        Ok(desk) => {
+            tell_run(story, small, opening, shelf, &desk);
+            let_go(desk);
+            Ok(())
+        }
+        Err(fault) => Err(fault),
+    }
+}
+
+/// Runs a script, and tells what it wrote and what its desk has, or answers why it could not be run.
 fn run_once<'i, S: Sheet<'i>>(
-    story: &Story,
+    story: &mut Story,
     small: &'i Instance,
     opening: &[Placed],
     reading: &mut Reading,
     shelf: &mut Shelf,
-) -> Result<Desk<'i, S, KeepAll>, ScriptFault> {
+) -> Result<(), ScriptFault> {
     if !lectures_fit(small, opening) {
         return Err(ScriptFault::NoMemory);
     }
     let mut reader = Memory::new(reading.text, reading.fails_at);
     let ran = run_script(story.alloc(), small, opening, &mut reader, shelf, &mut None);
     reading.pulls = reader.pulls();
-    ran
+    tell_ran::<S>(story, small, opening, shelf, ran)
 }
 
 /// Runs a script, and once more where memory is wanted, then on a writer as it was before.
@@ -59,16 +91,15 @@ fn run<'i, S: Sheet<'i>>(
     reading: &mut Reading,
     shelf: &mut Shelf,
     failing: Failing,
-) -> Result<Desk<'i, S, KeepAll>, ScriptFault> {
+) -> Result<(), ScriptFault> {
     shelf.renew(failing);
-    match run_once(story, small, opening, reading, shelf) {
-        Err(ScriptFault::NoMemory) => {
-            story.call_again();
-            shelf.renew(failing);
-            run_once(story, small, opening, reading, shelf)
-        }
-        ran => ran,
+    let ran = run_once::<S>(story, small, opening, reading, shelf);
+    if ran != Err(ScriptFault::NoMemory) {
+        return ran;
     }
+    story.call_again();
+    shelf.renew(failing);
+    run_once::<S>(story, small, opening, reading, shelf)
 }
 
 /// Tells why a script could not be run.
@@ -93,21 +124,9 @@ pub(crate) fn play_script<'i, S: Sheet<'i>>(
         return story.no_memory();
     };
     let mut reading = Reading::new(script.as_bytes(), 0);
-    let ran = run::<S>(
-        story,
-        small,
-        opening,
-        &mut reading,
-        &mut shelf,
-        Failing::Never,
-    );
-    story.bytes(shelf.held());
-    match ran {
-        Ok(desk) => {
-            tell_desk(story, small, opening, &desk);
-            let_go(desk);
-        }
-        Err(fault) => tell_fault(story, small, fault),
+    let failing = Failing::Never;
+    if let Err(fault) = run::<S>(story, small, opening, &mut reading, &mut shelf, failing) {
+        tell_fault(story, small, fault);
     }
 }
 
@@ -118,27 +137,27 @@ pub(crate) struct Told<'a> {
     pub(crate) answers: &'a [u8],
 }
 
-/// Runs a script on a writer that fails, and answers whether that is a failed write.
+/// Whether a writer holds so many bytes, which are the front of a text.
+fn holds(shelf: &Shelf, text: &[u8], taken: usize) -> bool {
+    shelf.held().len() == taken && text.starts_with(shelf.held())
+}
+
+/// Runs a script on a writer that fails, and answers whether that is a failed write, behind so many bytes.
 fn fails_to_write<'i, S: Sheet<'i>>(
     story: &mut Story,
     small: &'i Instance,
     told: Told,
     shelf: &mut Shelf,
     failing: Failing,
+    taken: usize,
 ) -> bool {
     let mut reading = Reading::new(told.script, 0);
     let ran = run::<S>(story, small, &[], &mut reading, shelf, failing);
-    match ran {
-        Ok(desk) => {
-            let_go(desk);
-            false
-        }
-        Err(fault) => fault == ScriptFault::Write,
-    }
+    ran == Err(ScriptFault::Write) && holds(shelf, told.answers, taken)
 }
 
 /// Runs a script on a reader whose read with this number fails, and answers whether that is a failed read, behind which no
-/// other one was tried.
+/// other one was tried and nothing was written.
 fn fails_to_read<'i, S: Sheet<'i>>(
     story: &mut Story,
     small: &'i Instance,
@@ -148,26 +167,16 @@ fn fails_to_read<'i, S: Sheet<'i>>(
 ) -> bool {
     let mut reading = Reading::new(told.script, fails_at);
     let ran = run::<S>(story, small, &[], &mut reading, shelf, Failing::Never);
-    match ran {
-        Ok(desk) => {
-            let_go(desk);
-            false
-        }
-        Err(fault) => fault == ScriptFault::Read && reading.pulls == fails_at,
-    }
+    ran == Err(ScriptFault::Read) && reading.pulls == fails_at && shelf.held().is_empty()
 }
 
 /// Behind how many bytes a writer may fail so that the script has a failed write, and these bytes were written.
 fn failing_writes(story: &mut Story, small: &Instance, told: Told, shelf: &mut Shelf) -> u64 {
     let mut failed = 0u64;
-    for behind in 0..told.answers.len() {
-        let failing = Failing::Behind(behind);
-        if fails_to_write::<GridSheet>(story, small, told, shelf, failing)
-            && told.answers.starts_with(shelf.held())
-            && shelf.held().len() == behind
-        {
-            failed = failed.saturating_add(1);
-        }
+    for taken in 0..told.answers.len() {
+        let failing = Failing::Behind(taken);
+        let is_failed = fails_to_write::<GridSheet>(story, small, told, shelf, failing, taken);
+        failed = failed.saturating_add(u64::from(is_failed));
     }
     failed
 }
@@ -176,29 +185,33 @@ fn failing_writes(story: &mut Story, small: &Instance, told: Told, shelf: &mut S
 fn failing_reads(story: &mut Story, small: &Instance, told: Told, shelf: &mut Shelf) -> u64 {
     let mut failed = 0u64;
     for behind in 0..=told.script.len() as u64 {
-        if fails_to_read::<GridSheet>(story, small, told, shelf, behind.saturating_add(1))
-            && shelf.held().is_empty()
-        {
-            failed = failed.saturating_add(1);
-        }
+        let fails_at = behind.saturating_add(1);
+        let is_failed = fails_to_read::<GridSheet>(story, small, told, shelf, fails_at);
+        failed = failed.saturating_add(u64::from(is_failed));
     }
     failed
 }
 
-/// Tells how a script ends on a writer that fails, and what was written.
+/// Tells what a writer took on which a script failed.
+fn tell_shelf(story: &mut Story, is_failed: bool, shelf: &Shelf) {
+    story.count("a failed write", u64::from(is_failed));
+    story.count("flushes", shelf.flushes());
+    story.count("bytes", shelf.held().len() as u64);
+    story.bytes(shelf.held());
+    story.say("");
+}
+
+/// Tells how a script ends on a writer that fails behind so many bytes.
 fn tell_failing(
     story: &mut Story,
     small: &Instance,
     told: Told,
     shelf: &mut Shelf,
     failing: Failing,
+    taken: usize,
 ) {
-    let is_failed = fails_to_write::<GridSheet>(story, small, told, shelf, failing);
-    story.count("a failed write", u64::from(is_failed));
-    story.count("flushes", shelf.flushes());
-    story.count("bytes", shelf.held().len() as u64);
-    story.bytes(shelf.held());
-    story.say("");
+    let is_failed = fails_to_write::<GridSheet>(story, small, told, shelf, failing, taken);
+    tell_shelf(story, is_failed, shelf);
 }
 
 /// A script on devices that fail.
@@ -208,15 +221,22 @@ fn play_failing(story: &mut Story, small: &Instance, told: Told, shelf: &mut She
     let failed = failing_reads(story, small, told, shelf);
     story.count("readers that fail behind some bytes", failed);
     story.say("a writer that takes nothing");
-    tell_failing(story, small, told, shelf, Failing::Idle);
+    tell_failing(story, small, told, shelf, Failing::Idle, 0);
     story.say("a writer whose flush fails");
-    tell_failing(story, small, told, shelf, Failing::Flush);
+    tell_failing(
+        story,
+        small,
+        told,
+        shelf,
+        Failing::Flush,
+        told.answers.len(),
+    );
     story.say("a writer that fails behind three bytes");
     let bad = Told {
         script: b"0 commit",
         answers: b"no draft\n",
     };
-    tell_failing(story, small, bad, shelf, Failing::Behind(3));
+    tell_failing(story, small, bad, shelf, Failing::Behind(3), 3);
 }
 
 /// Reads a text from a device.
@@ -244,19 +264,30 @@ fn failing_reads_of(story: &mut Story, text: &[u8]) -> u64 {
     failed
 }
 
+/// Whether a text has a failed write on a writer that fails, which has then taken so many of its bytes.
+fn fails_to_take(shelf: &mut Shelf, text: &[u8], failing: Failing, taken: usize) -> bool {
+    shelf.renew(failing);
+    put_whole(shelf, text) == Err(Failed) && holds(shelf, text, taken)
+}
+
 /// Behind how many bytes a writer may fail so that a text has a failed write, and these bytes were written.
 fn failing_writes_of(text: &[u8], shelf: &mut Shelf) -> u64 {
     let mut failed = 0u64;
     for behind in 0..text.len() {
-        shelf.renew(Failing::Behind(behind));
-        if put_all(shelf, text).is_err()
-            && text.starts_with(shelf.held())
-            && shelf.held().len() == behind
-        {
-            failed = failed.saturating_add(1);
-        }
+        let is_failed = fails_to_take(shelf, text, Failing::Behind(behind), behind);
+        failed = failed.saturating_add(u64::from(is_failed));
     }
     failed
+}
+
+/// Tells on how many writers that fail a text has a failed write: behind some of its bytes, where nothing is taken, and where
+/// the flush alone fails.
+fn tell_failing_writes(story: &mut Story, text: &[u8], shelf: &mut Shelf) {
+    story.count("failed writes", failing_writes_of(text, shelf));
+    let is_failed = fails_to_take(shelf, text, Failing::Idle, 0);
+    story.count("where nothing is taken", u64::from(is_failed));
+    let is_failed = fails_to_take(shelf, text, Failing::Flush, text.len());
+    story.count("where the flush fails", u64::from(is_failed));
 }
 
 /// Tells how a text is read that may have four bytes.
@@ -300,8 +331,7 @@ pub(crate) fn play_texts(story: &mut Story, read: &[&[u8]], written: &[&[u8]]) {
         story.count("failed reads", failed);
     }
     for text in written {
-        let failed = failing_writes_of(text, &mut shelf);
-        story.count("failed writes", failed);
+        tell_failing_writes(story, text, &mut shelf);
     }
     tell_limited(story, b"four");
     tell_limited(story, b"fives");

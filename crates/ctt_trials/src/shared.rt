@@ -2,7 +2,7 @@
 
 ghost use Rattle.ctt_desk.specs.Names.{IsNamed};
 
-use crate::desks::tell_journal;
+use crate::journals::tell_journal;
 use crate::seats::Seat;
 use crate::sheets::lectures_fit;
 use crate::story::Story;
@@ -10,7 +10,6 @@ use crate::turns::{answer_lines, instance_of, leave, look_at_end, sit};
 use ctt_board::{GridSheet, ListSheet, Sheet, Timetable};
 use ctt_desk::{Closed, Named, Naming, Opened, Planner, SharedDesk, SharedFault};
 use ctt_text::{Instance, Placed, let_go};
-use std::alloc::AllocError;
 use std::marker::{Brand, PhantomData};
 use std::sync::Wait;
 
@@ -22,6 +21,28 @@ const PLANNERS: u16 = 4;
 pub(crate) struct Script<'a> {
     pub(crate) opening: &'a [Placed],
     pub(crate) lines: &'a str,
+    /// Whether the first planner is dropped when another one begins, with the draft that he has open, where the desk is shared.
+    pub(crate) drops: bool,
+}
+
+impl<'a> Script<'a> {
+    /// A script of planners who stay to its end.
+    pub(crate) fn new(opening: &'a [Placed], lines: &'a str) -> Self {
+        Script {
+            opening,
+            lines,
+            drops: false,
+        }
+    }
+
+    /// A script on an empty desk, whose first planner is dropped.
+    pub(crate) fn dropping(lines: &'a str) -> Self {
+        Script {
+            opening: &[],
+            lines,
+            drops: true,
+        }
+    }
 }
 
 /// What was told of a script that was played before: where its answers begin and end, and where what the desk left ends.
@@ -44,11 +65,6 @@ fn opened<'i, S: Sheet<'i>>(
     Opened::<S>::new(story.alloc(), small, opening)
 }
 
-/// Room for the planners of a desk.
-fn room_for<T: Drop>(story: &Story) -> Result<Vec<T>, AllocError> {
-    Vec::with_capacity(story.alloc(), usize::from(PLANNERS))
-}
-
 /// The planners play a script at their desk.
 fn play_at<'i, S: Sheet<'i>, J: Naming, R: Wait>(
     story: &mut Story,
@@ -62,7 +78,7 @@ fn play_at<'i, S: Sheet<'i>, J: Naming, R: Wait>(
         return story.no_memory();
     };
     let here = story.len();
-    answer_lines(story, rt, desk, small, seats, script.lines);
+    answer_lines(story, rt, desk, small, seats, script);
     story.compare(before.answers, before.end, here, "on a shared desk");
     look_at_end(story, rt, desk, small, seats);
 }
@@ -121,15 +137,11 @@ fn play_named<'i, S: Sheet<'i>, J: Naming, R: Wait>(
     script: Script,
     before: Before,
 ) {
-    let (Ok(mut seats), Ok(mut planners)) = (room_for(story), room_for(story)) else {
-        let_go(named);
-        return story.no_memory();
-    };
     match SharedDesk::<S, J>::new(rt, named) {
         Ok((desk, all)) => {
-            sit(&mut seats, all);
+            let mut seats = sit(story, all);
             play_at(story, rt, &desk, &mut seats, script, before);
-            leave(seats, &mut planners);
+            let mut planners = leave(story, seats);
             close(story, rt, desk, small, &mut planners, script, before);
             let_go(planners);
         }

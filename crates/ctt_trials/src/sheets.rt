@@ -1,4 +1,4 @@
-//! Cases on one sheet: what is placed, asked and refused, on both kinds of sheets.
+//! Cases on one sheet: what is placed, asked and refused.
 
 ghost use Rattle.std.specs.Prelude.{◌≡◌, ◌↔◌, IsTrue, IfOk};
 ghost use Rattle.std.specs.List.{AllByRecursion as Each};
@@ -7,7 +7,7 @@ ghost use Rattle.ctt_edits.specs.Edits.{EditFits};
 ghost use Rattle.ctt_edits.specs.Looks.{LookFits};
 
 use crate::story::Story;
-use ctt_board::{Cell, Change, GridSheet, ListSheet, Sheet};
+use ctt_board::{Cell, Change, Sheet};
 use ctt_core::{Event, PlannerNo, placed};
 use ctt_edits::{Call, Edit, Look, Row, check, look, reads};
 use ctt_script::{Lines, read_own_line};
@@ -23,8 +23,8 @@ fn geo() -> Placed {
 }
 
 /// The call that a line asks for.
-pub(crate) fn call_of(small: &Instance, line: &str) -> Option<Call> {
-    match read_own_line(small, PlannerNo::new(0), line.as_bytes()) {
+pub(crate) fn call_of(small: &Instance, line: &[u8]) -> Option<Call> {
+    match read_own_line(small, PlannerNo::new(0), line) {
         Some(Event::Ask(_, call)) => Some(call),
         _ => None,
     }
@@ -120,40 +120,37 @@ pub(crate) fn tell_sheet<'i, S: Sheet<'i>>(story: &mut Story, sheet: &S) {
     story.costs(sheet.instance(), sheet.cost());
 }
 
-/// Plays lines, each of which is a call, on a sheet that has these lectures at first.
-fn play_on<'i, S: Sheet<'i>>(
+/// Makes the calls that lines ask for.
+fn answer_lines<'i, S: Sheet<'i>>(
     story: &mut Story,
     small: &'i Instance,
-    opening: &[Placed],
-    lines: &[&str],
+    sheet: &mut S,
+    lines: &str,
 ) {
-    let Some(mut sheet) = sheet_of::<S>(story, small, opening) else {
-        return story.no_memory();
-    };
-    for line in lines {
+    for line in Lines::new(lines.as_bytes()) {
         match call_of(small, line) {
-            Some(Call::Edit(edit)) => make(story, &mut sheet, &edit),
-            Some(Call::Look(asked)) => show(story, &sheet, &asked),
+            Some(Call::Edit(edit)) => make(story, sheet, &edit),
+            Some(Call::Look(asked)) => show(story, sheet, &asked),
+            None if line.is_empty() => {}
             None => story.say("bad line"),
         }
     }
-    tell_sheet(story, &sheet);
 }
 
-/// Plays lines on both kinds of sheets.
-pub(crate) fn play_lines(
+/// Plays lines on a sheet that has these lectures at first.
+pub(crate) fn play_lines<'i, S: Sheet<'i>>(
     story: &mut Story,
-    small: &Instance,
-    name: &str,
+    small: &'i Instance,
     opening: &[Placed],
-    lines: &[&str],
+    lines: &str,
 ) {
-    story.say(name);
-    let from = story.len();
-    played!(story, play_on::<ListSheet>(story, small, opening, lines));
-    let to = story.len();
-    played!(story, play_on::<GridSheet>(story, small, opening, lines));
-    story.compare(from, to, to, "on the grid sheet");
+    match sheet_of::<S>(story, small, opening) {
+        Some(mut sheet) => {
+            answer_lines(story, small, &mut sheet, lines);
+            tell_sheet(story, &sheet);
+        }
+        None => story.no_memory(),
+    }
 }
 
 /// Tells what a sheet has of a lecture, in each way in which it can be read.
@@ -198,7 +195,7 @@ fn tell_copy<'i, S: Sheet<'i>>(story: &mut Story, sheet: &S, lecture: &Placed) {
 }
 
 /// One placement on an empty sheet.
-fn one_placement<'i, S: Sheet<'i>>(story: &mut Story, small: &'i Instance) {
+pub(crate) fn play_placement<'i, S: Sheet<'i>>(story: &mut Story, small: &'i Instance) {
     match empty_sheet::<S>(story, small) {
         Ok(mut sheet) => {
             tell_sheet(story, &sheet);
@@ -212,16 +209,6 @@ fn one_placement<'i, S: Sheet<'i>>(story: &mut Story, small: &'i Instance) {
     }
 }
 
-/// One placement on both kinds of sheets.
-pub(crate) fn play_placement(story: &mut Story, small: &Instance) {
-    story.say("one placement");
-    let from = story.len();
-    played!(story, one_placement::<ListSheet>(story, small));
-    let to = story.len();
-    played!(story, one_placement::<GridSheet>(story, small));
-    story.compare(from, to, to, "on the grid sheet");
-}
-
 /// Tells whether a sheet accepts the change of one cell.
 fn accepts<'i, S: Sheet<'i>>(story: &mut Story, sheet: &S, cell: Cell) {
     match Change::of(&[cell]) {
@@ -232,28 +219,27 @@ fn accepts<'i, S: Sheet<'i>>(story: &mut Story, sheet: &S, cell: Cell) {
 
 /// Which changes a sheet accepts: an addition of top where the room is taken, a removal of geo, and a cell of a course that
 /// is not there.
-fn accepts_some<'i, S: Sheet<'i>>(story: &mut Story, small: &'i Instance, lectures: &[Placed]) {
-    let Some(sheet) = sheet_of::<S>(story, small, lectures) else {
-        return story.no_memory();
-    };
+fn tell_accepted<'i, S: Sheet<'i>>(story: &mut Story, sheet: &S) {
     for (course, slot, room) in [(2, 1, Some(0)), (1, 5, None), (3, 1, Some(0))] {
         let cell = Cell {
             course: CourseNo::new(course),
             slot: SlotNo::new(slot),
             room: room.map(RoomNo::new),
         };
-        accepts(story, &sheet, cell);
+        accepts(story, sheet, cell);
     }
 }
 
-/// Which changes both kinds of sheets accept.
-pub(crate) fn play_accepted(story: &mut Story, small: &Instance, lectures: &[Placed]) {
-    story.say("accepted changes");
-    let from = story.len();
-    played!(story, accepts_some::<ListSheet>(story, small, lectures));
-    let to = story.len();
-    played!(story, accepts_some::<GridSheet>(story, small, lectures));
-    story.compare(from, to, to, "on the grid sheet");
+/// Which changes a sheet with these lectures accepts.
+pub(crate) fn play_accepted<'i, S: Sheet<'i>>(
+    story: &mut Story,
+    small: &'i Instance,
+    lectures: &[Placed],
+) {
+    match sheet_of::<S>(story, small, lectures) {
+        Some(sheet) => tell_accepted(story, &sheet),
+        None => story.no_memory(),
+    }
 }
 
 /// Tells the rows that a call reads.
@@ -276,7 +262,7 @@ fn tell_rows(story: &mut Story, small: &Instance, call: &Call) {
 pub(crate) fn play_rows(story: &mut Story, small: &Instance) {
     for line in ["price place alg B 0 0", "swap geo 0 1 top 0 2"] {
         story.say(line);
-        match call_of(small, line) {
+        match call_of(small, line.as_bytes()) {
             Some(call) => played!(story, tell_rows(story, small, &call)),
             None => story.say("bad line"),
         }

@@ -1,5 +1,8 @@
 //! The texts of the small instance, of its solutions and of a journal.
 
+use ctt_text::{Instance, Placed, SolutionFault, read_solution};
+use std::alloc::Global;
+
 /// The text of an instance of three courses, of which alg and geo are members of a curriculum, and alg and top have one
 /// teacher: with these numbers of constraints and of members, and these words at its end.
 macro_rules! small {
@@ -35,3 +38,13 @@ pub(crate) const CLASH: &str = "alg A 0 0\ntop B 0 0\n";
 /// The journal of a draft on the solution without top, in which top is refused.
 pub(crate) const JOURNAL: &str =
     "journal 1\nentry 0 1\nplace top A 0 1\nrefused roomtaken geo\nEND.\n";
+
+/// The lectures of the solution, and those without top.
+pub(crate) fn read_both(
+    alloc: Global,
+    small: &Instance,
+) -> Result<(Vec<Placed>, Vec<Placed>), SolutionFault> {
+    let solution = read_solution(alloc, small, SOLUTION.as_bytes())?;
+    let without_top = read_solution(alloc, small, WITHOUT_TOP.as_bytes())?;
+    Ok((solution, without_top))
+}

@@ -2,7 +2,9 @@
 
 ghost use Rattle.std.specs.Prelude.{◌≡◌, IfSome};
 
+use crate::lists::add;
 use crate::seats::{Seat, Told};
+use crate::shared::Script;
 use crate::story::Story;
 use ctt_board::{Sheet, Timetable};
 use ctt_core::{Answer, Event, PlannerNo};
@@ -13,10 +15,10 @@ use ctt_text::{Instance, let_go};
 use std::sync::Wait;
 
 /// The place of the planner who learns each receipt.
-const LEARNER: usize = 2;
+const LEARNER: u16 = 2;
 
 /// The place of the planner who learns nothing, and looks at the timetable as it stands.
-const VIEWER: usize = 3;
+const VIEWER: u16 = 3;
 
 /// The place of the planner who is asked by an event.
 fn place_of(event: &Event) -> usize {
@@ -26,36 +28,38 @@ fn place_of(event: &Event) -> usize {
         | Event::Commit(planner)
         | Event::Refresh(planner)
         | Event::Abandon(planner) => usize::from(planner.get()),
-        Event::Show(_) => VIEWER,
+        Event::Show(_) => usize::from(VIEWER),
     }
 }
 
 /// The planners take their seats.
 pub(crate) fn sit<'i, S: Timetable, J: Naming>(
-    seats: &mut Vec<Option<Seat<'i, S, J>>>,
+    story: &mut Story,
     planners: Vec<Planner<S, J>>,
-) {
+) -> Vec<Option<Seat<'i, S, J>>> {
+    let mut seats = Vec::new(story.alloc());
     for planner in planners {
-        match seats.push(Some(Seat::Free(planner))) {
-            Ok(()) => {}
-            Err(_refused) => {}
+        if add(&mut seats, Some(Seat::Free(planner))).is_err() {
+            story.no_memory();
         }
     }
+    seats
 }
 
 /// The planners leave their seats.
 pub(crate) fn leave<'i, S: Sheet<'i>, J: Naming>(
+    story: &mut Story,
     seats: Vec<Option<Seat<'i, S, J>>>,
-    planners: &mut Vec<Planner<S, J>>,
-) {
+) -> Vec<Planner<S, J>> {
+    let mut planners = Vec::new(story.alloc());
     for seat in seats {
         if let Some(seat) = seat {
-            match planners.push(seat.leave()) {
-                Ok(()) => {}
-                Err(_refused) => {}
+            if add(&mut planners, seat.leave()).is_err() {
+                story.no_memory();
             }
         }
     }
+    planners
 }
 
 /// The planner of a place leaves it.
@@ -79,9 +83,10 @@ fn put_back<'i, S: Timetable, J: Naming>(
 
 /// One of the planners learns a receipt.
 fn learn<'i, S: Sheet<'i>, J: Naming>(seats: &mut [Option<Seat<'i, S, J>>], receipt: &Receipt<J>) {
-    if let Some(mut seat) = seat_at(seats, LEARNER) {
+    let place = usize::from(LEARNER);
+    if let Some(mut seat) = seat_at(seats, place) {
         seat.learn(receipt);
-        put_back(seats, LEARNER, seat);
+        put_back(seats, place, seat);
     }
 }
 
@@ -144,6 +149,13 @@ fn answer<'i, S: Sheet<'i>, J: Naming, R: Wait>(
     }
 }
 
+/// The first planner is dropped, with the draft that he may have open.
+fn drop_first<'i, S: Timetable, J: Naming>(seats: &mut [Option<Seat<'i, S, J>>]) {
+    if let Some(seat) = seat_at(seats, 0) {
+        let_go(seat);
+    }
+}
+
 /// The lines of a script.
 pub(crate) fn answer_lines<'i, S: Sheet<'i>, J: Naming, R: Wait>(
     story: &mut Story,
@@ -151,20 +163,49 @@ pub(crate) fn answer_lines<'i, S: Sheet<'i>, J: Naming, R: Wait>(
     desk: &SharedDesk<S, J>,
     small: &Instance,
     seats: &mut [Option<Seat<'i, S, J>>],
-    lines: &str,
+    script: Script,
 )
     requires { small.now ≡ J.problem }
 {
-    for line in Lines::new(lines.as_bytes()) {
+    for line in Lines::new(script.lines.as_bytes()) {
         match read_line(small, line) {
-            Some(event) => answer(story, rt, desk, small, seats, place_of(&event), &event),
+            Some(event) => {
+                let place = place_of(&event);
+                if script.drops && place > 0 {
+                    drop_first(seats);
+                }
+                answer(story, rt, desk, small, seats, place, &event);
+            }
             None if line.is_empty() => {}
             None => story.say("bad line"),
         }
     }
 }
 
-/// The one who has learnt each receipt looks at the timetable, and in a draft that he then gives up.
+/// A planner looks at the timetable, and in a draft that he then gives up.
+fn look_at<'i, S: Sheet<'i>, J: Naming, R: Wait>(
+    story: &mut Story,
+    rt: &R,
+    desk: &SharedDesk<S, J>,
+    small: &Instance,
+    seats: &mut [Option<Seat<'i, S, J>>],
+    place: u16,
+)
+    requires { small.now ≡ J.problem }
+{
+    let planner = PlannerNo::new(place);
+    let events = [
+        Event::Show(Look::Cost),
+        Event::Open(planner),
+        Event::Ask(planner, Call::Look(Look::Cost)),
+        Event::Abandon(planner),
+    ];
+    for event in &events {
+        answer(story, rt, desk, small, seats, usize::from(place), event);
+    }
+}
+
+/// The one who has learnt each receipt, and one who has learnt nothing, look at the timetable.
 pub(crate) fn look_at_end<'i, S: Sheet<'i>, J: Naming, R: Wait>(
     story: &mut Story,
     rt: &R,
@@ -174,16 +215,8 @@ pub(crate) fn look_at_end<'i, S: Sheet<'i>, J: Naming, R: Wait>(
 )
     requires { small.now ≡ J.problem }
 {
-    let learner = PlannerNo::new(LEARNER as u16);
-    let events = [
-        Event::Show(Look::Cost),
-        Event::Open(learner),
-        Event::Ask(learner, Call::Look(Look::Cost)),
-        Event::Abandon(learner),
-    ];
-    for event in &events {
-        answer(story, rt, desk, small, seats, LEARNER, event);
-    }
+    look_at(story, rt, desk, small, seats, LEARNER);
+    look_at(story, rt, desk, small, seats, VIEWER);
 }
 
 /// The instance of a desk, which a planner tells.
@@ -192,7 +225,8 @@ pub(crate) fn instance_of<'i, S: Sheet<'i>, J: Naming>(
 ) -> Option<&'i Instance>
     ensures { IfSome result (λ small. small.now ≡ J.problem) }
 {
-    let (seat, small) = seat_at(seats, VIEWER)?.instance();
-    put_back(seats, VIEWER, seat);
+    let place = usize::from(VIEWER);
+    let (seat, small) = seat_at(seats, place)?.instance();
+    put_back(seats, place, seat);
     small
 }

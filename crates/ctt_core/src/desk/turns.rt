@@ -5,7 +5,7 @@ ghost use Rattle.ctt_edits.specs.Calls.{CallFits};
 ghost use Rattle.ctt_edits.specs.Looks.{LookFits};
 ghost use Rattle.ctt_core.specs.Runs.{EventFits};
 ghost use Rattle.ctt_core.specs.Stocks.{seen_at};
-ghost use Rattle.ctt_core.specs.Desks.{Answers, goes_on, draft_at, with_draft, IsFresh};
+ghost use Rattle.ctt_core.specs.Desks.{IsAnswerTo, goes_on, draft_at, with_draft, IsFresh};
 ghost use Rattle.ctt_core.specs.declared.answer.Answer.TheVariants.{Committed, NoMemory as OutOfMemory};
 ghost use Rattle.ctt_core.specs.declared.event.Event.TheVariants.{Open, Ask, Commit, Refresh, Abandon, Show};
 
@@ -36,7 +36,7 @@ impl<'i, S: Sheet<'i>, K: Keeping> Desk<'i, S, K> {
     /// Opens a draft.
     fn open(&mut self, planner: PlannerNo) -> Answer
         requires { planner < length self.old.drafts }
-        ensures answer { Answers self.old (Open planner) result }
+        ensures answer { IsAnswerTo self.old (Open planner) result }
         ensures goes_on { self.new ≡ goes_on self.old (Open planner) result }
     {
         let place = planner.get() as usize;
@@ -57,7 +57,7 @@ impl<'i, S: Sheet<'i>, K: Keeping> Desk<'i, S, K> {
     fn ask(&mut self, planner: PlannerNo, call: Call) -> Answer
         requires planner { planner < length self.old.drafts }
         requires fits { CallFits self.old.problem call }
-        ensures answer { Answers self.old (Ask planner call) result }
+        ensures answer { IsAnswerTo self.old (Ask planner call) result }
         ensures goes_on { self.new ≡ goes_on self.old (Ask planner call) result }
     {
         let place = planner.get() as usize;
@@ -85,7 +85,7 @@ impl<'i, S: Sheet<'i>, K: Keeping> Desk<'i, S, K> {
     /// Gives a draft up.
     fn abandon(&mut self, planner: PlannerNo) -> Answer
         requires { planner < length self.old.drafts }
-        ensures answer { Answers self.old (Abandon planner) result }
+        ensures answer { IsAnswerTo self.old (Abandon planner) result }
         ensures goes_on { self.new ≡ goes_on self.old (Abandon planner) result }
     {
         let place = planner.get() as usize;
@@ -99,7 +99,7 @@ impl<'i, S: Sheet<'i>, K: Keeping> Desk<'i, S, K> {
     /// Looks at the timetable as it stands.
     fn show(&mut self, look: &Look) -> Answer
         requires { LookFits self.old.problem look.now }
-        ensures answer { Answers self.old (Show look.now) result }
+        ensures answer { IsAnswerTo self.old (Show look.now) result }
         ensures goes_on { self.new ≡ goes_on self.old (Show look.now) result }
     {
         match look_in(&mut self.spare, self.stock.sheet(), look) {
@@ -130,7 +130,7 @@ impl<'i, S: Sheet<'i>, K: Keeping> Desk<'i, S, K> {
     /// Accepts a draft, or refuses it where it is stale.
     fn commit(&mut self, planner: PlannerNo) -> Answer
         requires { planner < length self.old.drafts }
-        ensures answer { Answers self.old (Commit planner) result }
+        ensures answer { IsAnswerTo self.old (Commit planner) result }
         ensures goes_on { self.new ≡ goes_on self.old (Commit planner) result }
     {
         let place = planner.get() as usize;
@@ -150,7 +150,7 @@ impl<'i, S: Sheet<'i>, K: Keeping> Desk<'i, S, K> {
     /// Brings a draft up to date, or ends it where it is stale.
     fn refresh(&mut self, planner: PlannerNo) -> Answer
         requires { planner < length self.old.drafts }
-        ensures answer { Answers self.old (Refresh planner) result }
+        ensures answer { IsAnswerTo self.old (Refresh planner) result }
         ensures goes_on { self.new ≡ goes_on self.old (Refresh planner) result }
     {
         let place = planner.get() as usize;
@@ -176,7 +176,7 @@ impl<'i, S: Sheet<'i>, K: Keeping> Desk<'i, S, K> {
     /// Answers an event by what the desk keeps.
     pub(crate) fn answer(&mut self, event: Event) -> Answer
         requires { EventFits self.old.problem (length self.old.drafts) event }
-        ensures answer { Answers self.old event result }
+        ensures answer { IsAnswerTo self.old event result }
         ensures goes_on { self.new ≡ goes_on self.old event result }
     {
         match event {

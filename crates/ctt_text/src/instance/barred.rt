@@ -1,15 +1,14 @@
 //! Reading which rooms are barred for which courses.
 
-ghost use Rattle.std.specs.Prelude.{◌≡◌, ◌<◌, ◌≤◌, ◌*◌, ◌⊎◌, ℕ, List, Bool, OnOk, IfOk, IfErr, IfSome, MatchResult, Err};
+ghost use Rattle.std.specs.Prelude.{◌≡◌, ◌<◌, ◌*◌, ◌⊎◌, ℕ, List, Bool, OnOk, IfOk, IfErr, IfSome, MatchResult, Err};
 ghost use Rattle.std.specs.Str.{IsUtf8};
 ghost use Rattle.std.specs.Str.Lossy.{utf8_valid_len};
 ghost use Rattle.ctt_text.specs.Words.{words};
 ghost use Rattle.ctt_text.specs.Forms.{times};
 ghost use Rattle.ctt_text.specs.Places.{known_name};
 ghost use Rattle.ctt_text.specs.Reading.{Gives};
-ghost use Rattle.ctt_text.specs.Problem.{Problem, course_count, room_count};
+ghost use Rattle.ctt_text.specs.Problem.{course_count, room_count};
 ghost use Rattle.ctt_text.specs.Instance.{marks_in, HasMarks};
-ghost use Rattle.ctt_text.specs.Tables.{IsTableOf};
 ghost use Rattle.ctt_text.specs.BarredPlaces.{GivesBarred, reads_barred, wants_memory, pair_count, barred_pair, none_barred, barred_rooms};
 ghost use Rattle.ctt_text.specs.BarredText.{BarSpells, BarBreaksAt};
 ghost use Rattle.ctt_text.specs.BarredLaws.{barred_answer, IsBarredCauseOf};
@@ -26,7 +25,8 @@ use std::alloc::Global;
 /// How many pairs there are: a number of at most `greatest`.
 #[tactic(auto, using(crate::proofs::Steps::read_number_if), unfolding(crate::specs::BarredPlaces::pair_count))]
 fn read_count(reader: &mut Reader, greatest: u32) -> Result<u32, BarredFault>
-    ensures { GivesBarred (λ number. (number, reader.new)) result (reads_barred (pair_count greatest) reader.old) }
+    ensures { GivesBarred (λ number. (number, reader.new)) result
+        (reads_barred (pair_count greatest) reader.old) }
 {
     let at = reader.next();
     let number = next_number::<BarredFault>(reader)?;
@@ -41,7 +41,8 @@ fn read_count(reader: &mut Reader, greatest: u32) -> Result<u32, BarredFault>
 #[tactic(auto, using(crate::proofs::Steps::read_known), unfolding(crate::specs::Places::known_name))]
 fn read_course(reader: &mut Reader, instance: &Instance, guess: usize) -> Result<usize, BarredFault>
     ensures within { IfOk result (λ course. course < course_count instance.now) }
-    ensures exact { GivesBarred (λ course. (course, reader.new)) result (reads_barred (known_name UnknownCourse instance.now.course_names) reader.old) }
+    ensures exact { GivesBarred (λ course. (course, reader.new)) result
+        (reads_barred (known_name UnknownCourse instance.now.course_names) reader.old) }
 {
     let at = reader.next();
     let name = next_word::<BarredFault>(reader)?;
@@ -54,7 +55,8 @@ fn read_course(reader: &mut Reader, instance: &Instance, guess: usize) -> Result
 #[tactic(auto, using(crate::proofs::Steps::read_known), unfolding(crate::specs::Places::known_name))]
 fn read_room(reader: &mut Reader, instance: &Instance, guess: usize) -> Result<usize, BarredFault>
     ensures within { IfOk result (λ room. room < room_count instance.now) }
-    ensures exact { GivesBarred (λ room. (room, reader.new)) result (reads_barred (known_name UnknownRoom instance.now.room_names) reader.old) }
+    ensures exact { GivesBarred (λ room. (room, reader.new)) result
+        (reads_barred (known_name UnknownRoom instance.now.room_names) reader.old) }
 {
     let at = reader.next();
     let name = next_word::<BarredFault>(reader)?;
@@ -76,7 +78,8 @@ fn read_pair(
     requires width { table.old.width ≡ room_count instance.now }
     ensures rows { table.new.rows ≡ table.old.rows }
     ensures width { table.new.width ≡ table.old.width }
-    ensures exact { GivesBarred (λ _. (table.new.marks, reader.new)) result (reads_barred (barred_pair instance.now table.old.marks) reader.old) }
+    ensures exact { GivesBarred (λ _. (table.new.marks, reader.new)) result
+        (reads_barred (barred_pair instance.now table.old.marks) reader.old) }
 {
     let course = read_course(reader, instance, before.0)?;
     let room = read_room(reader, instance, before.1.saturating_add(1))?;
@@ -95,7 +98,8 @@ fn read_pairs(
     requires width { table.old.width ≡ room_count instance.now }
     ensures rows { table.new.rows ≡ table.old.rows }
     ensures width { table.new.width ≡ table.old.width }
-    ensures exact { GivesBarred (λ _. (table.new.marks, reader.new)) result (reads_barred (times (barred_pair instance.now) count table.old.marks) reader.old) }
+    ensures exact { GivesBarred (λ _. (table.new.marks, reader.new)) result
+        (reads_barred (times (barred_pair instance.now) count table.old.marks) reader.old) }
 {
     let mut pair = (0, 0);
     for _ in 0..count {
@@ -111,8 +115,14 @@ fn read_table(
     instance: &Instance,
     count: u32,
 ) -> Result<Option<PairMarks>, BarredFault>
-    ensures marks { IfOk result (λ table. IfSome table (HasMarks (course_count instance.now) (room_count instance.now))) }
-    ensures exact { GivesBarred (λ table. (marks_in (course_count instance.now * room_count instance.now) table, reader.new)) result (reads_barred (times (barred_pair instance.now) count (none_barred instance.now)) reader.old) }
+    ensures marks { IfOk result (λ table.
+        IfSome table (HasMarks (course_count instance.now) (room_count instance.now))) }
+    ensures exact { GivesBarred
+        (λ table.
+        (marks_in (course_count instance.now * room_count instance.now) table, reader.new))
+        result
+        (reads_barred (times (barred_pair instance.now) count (none_barred instance.now))
+        reader.old) }
 {
     instance.limits_hold();
     if count == 0 {
@@ -132,8 +142,12 @@ fn read_rooms(
     reader: &mut Reader,
     instance: &Instance,
 ) -> Result<Option<PairMarks>, BarredFault>
-    ensures marks { IfOk result (λ table. IfSome table (HasMarks (course_count instance.now) (room_count instance.now))) }
-    ensures exact { GivesBarred (λ table. (marks_in (course_count instance.now * room_count instance.now) table, reader.new)) result (reads_barred (barred_rooms instance.now) reader.old) }
+    ensures marks { IfOk result (λ table.
+        IfSome table (HasMarks (course_count instance.now) (room_count instance.now))) }
+    ensures exact { GivesBarred
+        (λ table.
+        (marks_in (course_count instance.now * room_count instance.now) table, reader.new))
+        result (reads_barred (barred_rooms instance.now) reader.old) }
 {
     next_fixed::<BarredFault>(reader, "Barred:")?;
     let count = read_count(reader, 2_000_000)?;
@@ -148,8 +162,11 @@ fn read_text(
     instance: &Instance,
     text: &str,
 ) -> Result<Option<PairMarks>, BarredFault>
-    ensures marks { IfOk result (λ table. IfSome table (HasMarks (course_count instance.now) (room_count instance.now))) }
-    ensures exact { Gives wants_memory (marks_in (course_count instance.now * room_count instance.now)) result (barred_answer instance.now (words text.now)) }
+    ensures marks { IfOk result (λ table.
+        IfSome table (HasMarks (course_count instance.now) (room_count instance.now))) }
+    ensures exact { Gives wants_memory
+        (marks_in (course_count instance.now * room_count instance.now)) result
+        (barred_answer instance.now (words text.now)) }
 {
     let mut reader = Reader::new(text);
     read_rooms(alloc, &mut reader, instance)
@@ -165,10 +182,17 @@ pub fn read_barred(alloc: Global, instance: &mut Instance, text: &[u8]) -> Resul
     ensures spelled { OnOk result (BarSpells instance.old (words text.now) instance.new.barred) }
     ensures others { instance.new ≡ record instance.old { barred = instance.new.barred } }
     ensures kept { IfErr result (λ _. instance.new ≡ instance.old) }
-    ensures accepted { (table : List Bool) → IsUtf8 text.now → BarSpells instance.old (words text.now) table → MatchResult result (λ _. instance.new ≡ record instance.old { barred = table }) (λ fault. fault ≡ NoMemory) }
+    ensures accepted { (table : List Bool)
+        → IsUtf8 text.now
+        → BarSpells instance.old (words text.now) table
+        → MatchResult result (λ _. instance.new ≡ record instance.old { barred = table })
+        (λ fault. fault ≡ NoMemory) }
     ensures fault { IfErr result (IsBarredCauseOf instance.old text.now) }
     ensures not_text { ¬ IsUtf8 text.now → result ≡ Err (NotText (utf8_valid_len text.now)) }
-    ensures broken { (k : ℕ) (fault : BarredFault) → IsUtf8 text.now → BarBreaksAt instance.old (words text.now) k fault → (result ≡ Err fault) ⊎ (result ≡ Err NoMemory) }
+    ensures broken { (k : ℕ) (fault : BarredFault)
+        → IsUtf8 text.now
+        → BarBreaksAt instance.old (words text.now) k fault
+        → (result ≡ Err fault) ⊎ (result ≡ Err NoMemory) }
 {
     instance.limits_hold();
     match str::from_utf8(text) {

@@ -17,7 +17,9 @@ fn add_to_members(
     curriculum: CurriculumNo,
 ) -> Result<(), AllocError>
     requires { AreMembers (length lists.old) members.now }
-    ensures { OnOk result (AddsNumber (map (λ v. v.items) lists.old) (map (λ v. v.items) lists.new) curriculum (λ c. has c members.now)) }
+    ensures { OnOk result
+        (AddsNumber (map (λ v. v.items) lists.old) (map (λ v. v.items) lists.new) curriculum
+        (λ c. has c members.now)) }
 {
     for member in members {
         add_to(lists, member.get() as usize, curriculum)?;
@@ -28,10 +30,17 @@ fn add_to_members(
 /// Adds each curriculum to the lists of its members.
 fn add_all(lists: &mut [Vec<CurriculumNo>], curricula: &[Vec<CourseNo>]) -> Result<(), AllocError>
     requires few { length curricula.now ≤ 20000 }
-    requires members { (k : ℕ) → k < length curricula.now → AreMembers (length lists.old) (get_or (map (λ v. v.items) curricula.now) k []) }
+    requires members { (k : ℕ)
+        → k < length curricula.now
+        → AreMembers (length lists.old) (get_or (map (λ v. v.items) curricula.now) k []) }
     requires empty { (c : ℕ) → get_or (map (λ v. v.items) lists.old) c [] ≡ [] }
     ensures size { OnOk result (length lists.new ≡ length lists.old) }
-    ensures lists { OnOk result ((c : ℕ) → c < length lists.old → get_or (map (λ v. v.items) lists.new) c [] ≡ below (λ q. has c (get_or (map (λ v. v.items) curricula.now) q [])) (length curricula.now)) }
+    ensures lists { OnOk result
+        ((c : ℕ)
+        → c < length lists.old
+        → get_or (map (λ v. v.items) lists.new) c []
+        ≡ below (λ q. has c (get_or (map (λ v. v.items) curricula.now) q []))
+        (length curricula.now)) }
 {
     for (number, members) in curricula.iter().enumerate() {
         add_to_members(lists, members, CurriculumNo::new(number as u16))?;
@@ -46,9 +55,16 @@ pub(crate) fn belonging(
     curricula: &[Vec<CourseNo>],
 ) -> Result<Vec<Vec<CurriculumNo>>, AllocError>
     requires few { length curricula.now ≤ 20000 }
-    requires members { (k : ℕ) → k < length curricula.now → AreMembers (length courses.now) (get_or (map (λ v. v.items) curricula.now) k []) }
+    requires members { (k : ℕ)
+        → k < length curricula.now
+        → AreMembers (length courses.now) (get_or (map (λ v. v.items) curricula.now) k []) }
     ensures size { IfOk result (λ v. length v.items ≡ length courses.now) }
-    ensures lists { IfOk result (λ v. (c : ℕ) → c < length courses.now → get_or (map (λ v. v.items) v.items) c [] ≡ below (λ q. has c (get_or (map (λ v. v.items) curricula.now) q [])) (length curricula.now)) }
+    ensures lists { IfOk result (λ v.
+        (c : ℕ)
+        → c < length courses.now
+        → get_or (map (λ v. v.items) v.items) c []
+        ≡ below (λ q. has c (get_or (map (λ v. v.items) curricula.now) q []))
+        (length curricula.now)) }
 {
     let mut lists = empty_lists(alloc, courses.len())?;
     add_all(&mut lists, curricula)?;

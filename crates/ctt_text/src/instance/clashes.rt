@@ -33,7 +33,8 @@ fn add_to_row(rows: &mut [Marks], row: usize, marks: &Marks)
 fn mark_taught(rows: &mut [Marks], courses: &[CourseFacts])
     requires few { length courses.now ≤ 2000 }
     requires teachers { Each (λ f. f.teacher < length rows.old) courses.now }
-    ensures { AddsMarks rows.old rows.new (λ t c. nat_lt c (length courses.now) && t == teacher_at courses.now c) }
+    ensures { AddsMarks rows.old rows.new (λ t c.
+        nat_lt c (length courses.now) && t == teacher_at courses.now c) }
 {
     for (number, course) in courses.iter().enumerate() {
         mark_in(rows, course.teacher.get() as usize, number);
@@ -46,7 +47,9 @@ fn spread(rows: &mut [Marks], courses: &[CourseFacts])
     requires size { length courses.now ≤ length rows.old }
     requires ranked { AreRanked courses.now }
     ensures size { length rows.new ≡ length rows.old }
-    ensures marks { (c d : ℕ) → c < length courses.now → mark_at rows.new c d ≡ mark_at rows.old (teacher_at courses.now c) d }
+    ensures marks { (c d : ℕ)
+        → c < length courses.now
+        → mark_at rows.new c d ≡ mark_at rows.old (teacher_at courses.now c) d }
 {
     let mut left = courses.len();
     while left > 0 {
@@ -84,7 +87,8 @@ fn add_members(rows: &mut [Marks], members: &[CourseNo])
 fn add_curricula(rows: &mut [Marks], curricula: &[Vec<CourseNo>])
     requires few { length rows.old ≤ 2000 }
     requires members { Each (λ q. Each (λ d. d < length rows.old) q.items) curricula.now }
-    ensures { AddsMarks rows.old rows.new (λ c d. list_any (λ q. has c q.items && has d q.items) curricula.now) }
+    ensures { AddsMarks rows.old rows.new (λ c d.
+        list_any (λ q. has c q.items && has d q.items) curricula.now) }
 {
     for members in curricula {
         add_members(rows, members);
@@ -95,7 +99,9 @@ fn add_curricula(rows: &mut [Marks], curricula: &[Vec<CourseNo>])
 fn unmark_own(rows: &mut [Marks])
     requires { length rows.old ≤ 2000 }
     ensures size { length rows.new ≡ length rows.old }
-    ensures marks { (r n : ℕ) → r < length rows.old → mark_at rows.new r n ≡ (not (r == n) && mark_at rows.old r n) }
+    ensures marks { (r n : ℕ)
+        → r < length rows.old
+        → mark_at rows.new r n ≡ (not (r == n) && mark_at rows.old r n) }
 {
     for row in 0..rows.len() {
         rows[row].unmark(row);
@@ -107,7 +113,12 @@ fn add_mates(rows: &mut [Marks], curricula: &[Vec<CourseNo>])
     requires few { length rows.old ≤ 2000 }
     requires members { Each (λ q. Each (λ d. d < length rows.old) q.items) curricula.now }
     ensures size { length rows.new ≡ length rows.old }
-    ensures marks { (c d : ℕ) → c < length rows.old → mark_at rows.new c d ≡ (not (c == d) && (mark_at rows.old c d || list_any (λ q. has c q.items && has d q.items) curricula.now)) }
+    ensures marks { (c d : ℕ)
+        → c < length rows.old
+        → mark_at rows.new c d
+        ≡ (not (c == d)
+        && (mark_at rows.old c d
+        || list_any (λ q. has c q.items && has d q.items) curricula.now)) }
 {
     add_curricula(rows, curricula);
     unmark_own(rows);
@@ -121,7 +132,13 @@ fn mark_clashes(rows: &mut [Marks], courses: &[CourseFacts], curricula: &[Vec<Co
     requires members { Each (λ q. Each (λ d. d < length courses.now) q.items) curricula.now }
     requires empty { (c d : ℕ) → c < length courses.now → mark_at rows.old c d ≡ false }
     ensures size { length rows.new ≡ length rows.old }
-    ensures marks { (c d : ℕ) → c < length courses.now → mark_at rows.new c d ≡ (nat_lt d (length courses.now) && (not (c == d) && (teacher_at courses.now c == teacher_at courses.now d || list_any (λ q. has c q.items && has d q.items) curricula.now))) }
+    ensures marks { (c d : ℕ)
+        → c < length courses.now
+        → mark_at rows.new c d
+        ≡ (nat_lt d (length courses.now)
+        && (not (c == d)
+        && (teacher_at courses.now c == teacher_at courses.now d
+        || list_any (λ q. has c q.items && has d q.items) curricula.now))) }
 {
     mark_taught(rows, courses);
     spread(rows, courses);
@@ -138,7 +155,14 @@ pub(crate) fn clash_rows(
     requires ranked { AreRanked courses.now }
     requires members { Each (λ q. Each (λ d. d < length courses.now) q.items) curricula.now }
     ensures size { IfOk result (λ v. length v.items ≡ length courses.now) }
-    ensures marks { IfOk result (λ v. (c d : ℕ) → c < length courses.now → mark_at v.items c d ≡ (nat_lt d (length courses.now) && (not (c == d) && (teacher_at courses.now c == teacher_at courses.now d || list_any (λ q. has c q.items && has d q.items) curricula.now)))) }
+    ensures marks { IfOk result (λ v.
+        (c d : ℕ)
+        → c < length courses.now
+        → mark_at v.items c d
+        ≡ (nat_lt d (length courses.now)
+        && (not (c == d)
+        && (teacher_at courses.now c == teacher_at courses.now d
+        || list_any (λ q. has c q.items && has d q.items) curricula.now)))) }
 {
     let mut rows = vec![in alloc; Marks::new(); courses.len()]?;
     mark_clashes(&mut rows, courses, curricula);

@@ -1,6 +1,6 @@
 //! The section of the courses.
 
-ghost use Rattle.std.specs.Prelude.{◌≡◌, [], ◌≤◌, ◌<◌, ◌+◌, length, IfOk, OnOk, codes};
+ghost use Rattle.std.specs.Prelude.{◌≡◌, ◌≤◌, ◌<◌, ◌+◌, length, IfOk, OnOk, codes};
 ghost use Rattle.ctt_text.specs.Places.{after};
 ghost use Rattle.ctt_text.specs.declared.fault.ReadFault.TheVariants.{Expected};
 ghost use Rattle.ctt_text.specs.Forms.{times};
@@ -42,7 +42,8 @@ fn read_one_course(
     requires { length section.old.teachers < 2000 }
     ensures teachers { OnOk result (length section.new.teachers ≤ length section.old.teachers + 1) }
     ensures names { OnOk result (length section.new.names ≡ length section.old.names + 1) }
-    ensures exact { GivesRead (λ _. (section.new, reader.new)) result (reads (course section.old) reader.old) }
+    ensures exact { GivesRead (λ _. (section.new, reader.new)) result
+        (reads (course section.old) reader.old) }
 {
     let name = read_new_name(reader, &section.names)?;
     let teacher = read_any(reader)?;
@@ -64,7 +65,8 @@ fn read_one_course(
 fn read_courses(alloc: Global, reader: &mut Reader, count: u32) -> Result<CourseSection, ReadFault>
     requires { count ≤ 2000 }
     ensures count { IfOk result (λ section. length section.names ≡ count) }
-    ensures exact { GivesRead (λ section. (section, reader.new)) result (reads (times course count no_courses) reader.old) }
+    ensures exact { GivesRead (λ section. (section, reader.new)) result
+        (reads (times course count no_courses) reader.old) }
 {
     let mut section = CourseSection {
         names: Names::new(alloc),
@@ -86,7 +88,9 @@ pub(crate) fn read_course_section(
 ) -> Result<CourseSection, ReadFault>
     requires { header.now.courses ≤ 2000 }
     ensures count { IfOk result (λ section. length section.names ≡ header.now.courses) }
-    ensures exact { GivesRead (λ section. (section, reader.new)) result (reads (after Expected (codes "COURSES:") (times course header.now.courses no_courses)) reader.old) }
+    ensures exact { GivesRead (λ section. (section, reader.new)) result
+        (reads (after Expected (codes "COURSES:") (times course header.now.courses no_courses))
+        reader.old) }
 {
     read_fixed(reader, "COURSES:")?;
     read_courses(alloc, reader, header.courses)

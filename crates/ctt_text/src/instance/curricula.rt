@@ -1,6 +1,6 @@
 //! The section of the curricula.
 
-ghost use Rattle.std.specs.Prelude.{[], ◌≤◌, length, codes};
+ghost use Rattle.std.specs.Prelude.{◌≤◌, length, codes};
 ghost use Rattle.ctt_text.specs.Places.{after};
 ghost use Rattle.ctt_text.specs.declared.fault.ReadFault.TheVariants.{Expected};
 ghost use Rattle.ctt_text.specs.Forms.{times};
@@ -42,7 +42,8 @@ fn read_one_curriculum(
     section: &mut CurriculumSection,
 ) -> Result<(), ReadFault>
     requires { length courses.now ≤ 2000 }
-    ensures { GivesRead (λ _. (section.new, reader.new)) result (reads (curriculum courses.now section.old) reader.old) }
+    ensures { GivesRead (λ _. (section.new, reader.new)) result
+        (reads (curriculum courses.now section.old) reader.old) }
 {
     let name = read_new_name(reader, &section.names)?;
     let count = read_number(reader)?;
@@ -60,7 +61,8 @@ fn read_curricula(
     count: u32,
 ) -> Result<CurriculumSection, ReadFault>
     requires { length courses.now ≤ 2000 }
-    ensures { GivesRead (λ section. (section, reader.new)) result (reads (times (curriculum courses.now) count no_curricula) reader.old) }
+    ensures { GivesRead (λ section. (section, reader.new)) result
+        (reads (times (curriculum courses.now) count no_curricula) reader.old) }
 {
     let mut section = CurriculumSection {
         names: Names::new(alloc),
@@ -81,7 +83,11 @@ pub(crate) fn read_curriculum_section(
     courses: &CourseSection,
 ) -> Result<CurriculumSection, ReadFault>
     requires { length courses.now.names ≤ 2000 }
-    ensures { GivesRead (λ section. (section, reader.new)) result (reads (after Expected (codes "CURRICULA:") (times (curriculum courses.now.names) header.now.curricula no_curricula)) reader.old) }
+    ensures { GivesRead (λ section. (section, reader.new)) result
+        (reads
+        (after Expected (codes "CURRICULA:")
+        (times (curriculum courses.now.names) header.now.curricula no_curricula))
+        reader.old) }
 {
     read_fixed(reader, "CURRICULA:")?;
     read_curricula(alloc, reader, &courses.names, header.curricula)

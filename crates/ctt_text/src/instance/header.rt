@@ -27,13 +27,22 @@ impl<'a> Model for Header<'a> {
 
     ghost Value = { Header };
 
-    ghost view = { λ h. record { name = h.name.now; courses = h.courses; rooms = h.rooms; days = h.days; periods = h.periods; curricula = h.curricula; constraints = h.constraints } };
+    ghost view = { λ h. record {
+      name = h.name.now;
+      courses = h.courses;
+      rooms = h.rooms;
+      days = h.days;
+      periods = h.periods;
+      curricula = h.curricula;
+      constraints = h.constraints;
+    } };
 }
 
 /// The name of the instance, behind its fixed word.
 #[tactic(auto, using(crate::proofs::Steps::read_bind))]
 fn read_name<'a>(reader: &mut Reader<'a>) -> Result<&'a str, ReadFault>
-    ensures { GivesRead (λ name. (name.now, reader.new)) result (reads (after Expected (codes "Name:") any) reader.old) }
+    ensures { GivesRead (λ name. (name.now, reader.new)) result
+        (reads (after Expected (codes "Name:") any) reader.old) }
 {
     read_fixed(reader, "Name:")?;
     read_any(reader)
@@ -47,7 +56,9 @@ fn read_two_counts(
     second: (&str, u32),
 ) -> Result<(u32, u32), ReadFault>
     ensures first { IfOk result (λ c. c.0 ≤ first.entry.1) }
-    ensures exact { GivesRead (λ c. (c, reader.new)) result (reads (two_counts first.entry.0.now first.entry.1 second.entry.0.now second.entry.1) reader.old) }
+    ensures exact { GivesRead (λ c. (c, reader.new)) result
+        (reads (two_counts first.entry.0.now first.entry.1 second.entry.0.now second.entry.1)
+        reader.old) }
 {
     let first = read_count(reader, first.0, first.1)?;
     let second = read_count(reader, second.0, second.1)?;

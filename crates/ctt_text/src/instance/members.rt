@@ -66,7 +66,8 @@ impl Members {
 #[tactic(auto, using(crate::proofs::Steps::read_bind, crate::proofs::Steps::read_done), unfolding(crate::specs::InstancePlaces::member))]
 fn read_member(reader: &mut Reader, courses: &Names, members: &mut Members) -> Result<(), ReadFault>
     requires { length courses.now ≤ 2000 }
-    ensures { GivesRead (λ _. (members.new, reader.new)) result (reads (member courses.now members.old) reader.old) }
+    ensures { GivesRead (λ _. (members.new, reader.new)) result
+        (reads (member courses.now members.old) reader.old) }
 {
     let course = read_course(reader, courses)?;
     members.add(CourseNo::new(course as u16))?;
@@ -81,7 +82,8 @@ pub(crate) fn read_members(
     count: u32,
 ) -> Result<Vec<CourseNo>, ReadFault>
     requires { length courses.now ≤ 2000 }
-    ensures { GivesRead (λ members. (members.items, reader.new)) result (reads (times (member courses.now) count []) reader.old) }
+    ensures { GivesRead (λ members. (members.items, reader.new)) result
+        (reads (times (member courses.now) count []) reader.old) }
 {
     let mut members = Members::new(alloc);
     for _ in 0..count {

@@ -12,7 +12,9 @@ pub(crate) fn add_to<N: Drop>(
     number: N,
 ) -> Result<(), AllocError>
     requires { place < length lists.old }
-    ensures { OnOk result (AddsNumber (map (λ v. v.items) lists.old) (map (λ v. v.items) lists.new) number (λ p. place == p)) }
+    ensures { OnOk result
+        (AddsNumber (map (λ v. v.items) lists.old) (map (λ v. v.items) lists.new) number
+        (λ p. place == p)) }
 {
     lists[place].push(number)?;
     Ok(())

@@ -21,7 +21,11 @@ impl Model for PairMarks {
 
     ghost Value = { MarkTable };
 
-    ghost view = { λ u. record { rows = u.rows; width = u.width; marks = marks_below (u.rows * u.width) u.words.items } };
+    ghost view = { λ u. record {
+      rows = u.rows;
+      width = u.width;
+      marks = marks_below (u.rows * u.width) u.words.items;
+    } };
 
     ghost invariant = { λ u. HasWords (u.rows * u.width) u.words.items };
 }
@@ -31,7 +35,8 @@ impl PairMarks {
     pub(crate) fn new(alloc: Global, rows: usize, width: usize) -> Result<Self, AllocError>
         requires rows { rows ≤ 2000 }
         requires width { width ≤ 2000 }
-        ensures { IfOk result (λ u. u ≡ record { rows = rows; width = width; marks = replicate (rows * width) false }) }
+        ensures { IfOk result (λ u.
+            u ≡ record { rows = rows; width = width; marks = replicate (rows * width) false }) }
     {
         let words = vec![in alloc; 0; rows * width / 64 + 1]?;
         Ok(PairMarks { rows, width, words })
@@ -41,7 +46,9 @@ impl PairMarks {
     pub(crate) fn mark(&mut self, row: usize, column: usize)
         requires row { row < self.old.rows }
         requires column { column < self.old.width }
-        ensures { self.new ≡ record self.old { marks = slice_set self.old.marks (row * self.old.width + column) true } }
+        ensures { self.new
+            ≡ record self.old
+            { marks = slice_set self.old.marks (row * self.old.width + column) true } }
     {
         let number = row * self.width + column;
         let word = self.words[number / 64];

@@ -22,14 +22,16 @@ pub(crate) fn read_any<'a>(reader: &mut Reader<'a>) -> Result<&'a str, ReadFault
 
 /// The fixed word of this place.
 pub(crate) fn read_fixed(reader: &mut Reader, text: &str) -> Result<(), ReadFault>
-    ensures { GivesRead (λ _. (tt, reader.new)) result (reads (fixed Expected text.now) reader.old) }
+    ensures { GivesRead (λ _. (tt, reader.new)) result
+        (reads (fixed Expected text.now) reader.old) }
 {
     next_fixed(reader, text)
 }
 
 /// A number.
 pub(crate) fn read_number(reader: &mut Reader) -> Result<u32, ReadFault>
-    ensures { GivesRead (λ number. (number, reader.new)) result (reads (number BadNumber) reader.old) }
+    ensures { GivesRead (λ number. (number, reader.new)) result
+        (reads (number BadNumber) reader.old) }
 {
     next_number(reader)
 }
@@ -41,7 +43,8 @@ pub(crate) fn read_new_name<'a>(
     names: &Names,
 ) -> Result<&'a str, ReadFault>
     ensures new { IfOk result (λ name. is_among names.now name.now ≡ false) }
-    ensures exact { GivesRead (λ name. (name.now, reader.new)) result (reads (new_name RepeatedName names.now) reader.old) }
+    ensures exact { GivesRead (λ name. (name.now, reader.new)) result
+        (reads (new_name RepeatedName names.now) reader.old) }
 {
     let at = reader.next();
     let name = next_word::<ReadFault>(reader)?;
@@ -55,7 +58,8 @@ pub(crate) fn read_new_name<'a>(
 #[tactic(auto, using(crate::proofs::Steps::read_known), unfolding(crate::specs::Places::known_name))]
 pub(crate) fn read_course(reader: &mut Reader, courses: &Names) -> Result<usize, ReadFault>
     ensures known { IfOk result (λ course. course < length courses.now) }
-    ensures exact { GivesRead (λ course. (course, reader.new)) result (reads (known_name UnknownCourse courses.now) reader.old) }
+    ensures exact { GivesRead (λ course. (course, reader.new)) result
+        (reads (known_name UnknownCourse courses.now) reader.old) }
 {
     let at = reader.next();
     let name = next_word::<ReadFault>(reader)?;
@@ -70,7 +74,8 @@ pub(crate) fn read_course_near(
     guess: usize,
 ) -> Result<usize, ReadFault>
     ensures known { IfOk result (λ course. course < length courses.now) }
-    ensures exact { GivesRead (λ course. (course, reader.new)) result (reads (known_name UnknownCourse courses.now) reader.old) }
+    ensures exact { GivesRead (λ course. (course, reader.new)) result
+        (reads (known_name UnknownCourse courses.now) reader.old) }
 {
     let at = reader.next();
     let name = next_word::<ReadFault>(reader)?;
@@ -83,7 +88,8 @@ pub(crate) fn read_course_near(
 #[tactic(auto, using(crate::proofs::Steps::read_number_if), unfolding(crate::specs::InstancePlaces::number_up_to))]
 pub(crate) fn read_number_up_to(reader: &mut Reader, greatest: u32) -> Result<u32, ReadFault>
     ensures limit { IfOk result (λ number. number ≤ greatest) }
-    ensures exact { GivesRead (λ number. (number, reader.new)) result (reads (number_up_to greatest) reader.old) }
+    ensures exact { GivesRead (λ number. (number, reader.new)) result
+        (reads (number_up_to greatest) reader.old) }
 {
     let at = reader.next();
     let number = read_number(reader)?;
@@ -100,7 +106,8 @@ pub(crate) fn read_period_count(reader: &mut Reader, days: u32) -> Result<u32, R
     requires { days ≤ 2000 }
     ensures limit { IfOk result (λ number. number ≤ 2000) }
     ensures slots { IfOk result (λ number. days * number ≤ 2000) }
-    ensures exact { GivesRead (λ number. (number, reader.new)) result (reads (period_count days) reader.old) }
+    ensures exact { GivesRead (λ number. (number, reader.new)) result
+        (reads (period_count days) reader.old) }
 {
     let at = reader.next();
     let number = read_number(reader)?;
@@ -115,7 +122,8 @@ pub(crate) fn read_period_count(reader: &mut Reader, days: u32) -> Result<u32, R
 #[tactic(auto, unfolding(crate::specs::InstancePlaces::day_below))]
 pub(crate) fn read_day(reader: &mut Reader, days: u32) -> Result<u32, ReadFault>
     ensures limit { IfOk result (λ number. number < days) }
-    ensures exact { GivesRead (λ number. (number, reader.new)) result (reads (day_below days) reader.old) }
+    ensures exact { GivesRead (λ number. (number, reader.new)) result
+        (reads (day_below days) reader.old) }
 {
     next_day_below(reader, days)
 }
@@ -124,7 +132,8 @@ pub(crate) fn read_day(reader: &mut Reader, days: u32) -> Result<u32, ReadFault>
 #[tactic(auto, unfolding(crate::specs::InstancePlaces::period_below))]
 pub(crate) fn read_period(reader: &mut Reader, periods: u32) -> Result<u32, ReadFault>
     ensures limit { IfOk result (λ number. number < periods) }
-    ensures exact { GivesRead (λ number. (number, reader.new)) result (reads (period_below periods) reader.old) }
+    ensures exact { GivesRead (λ number. (number, reader.new)) result
+        (reads (period_below periods) reader.old) }
 {
     next_period_below(reader, periods)
 }
@@ -133,7 +142,8 @@ pub(crate) fn read_period(reader: &mut Reader, periods: u32) -> Result<u32, Read
 #[tactic(auto, using(crate::proofs::Steps::read_bind))]
 pub(crate) fn read_count(reader: &mut Reader, label: &str, greatest: u32) -> Result<u32, ReadFault>
     ensures limit { IfOk result (λ number. number ≤ greatest) }
-    ensures exact { GivesRead (λ number. (number, reader.new)) result (reads (after Expected label.now (number_up_to greatest)) reader.old) }
+    ensures exact { GivesRead (λ number. (number, reader.new)) result
+        (reads (after Expected label.now (number_up_to greatest)) reader.old) }
 {
     read_fixed(reader, label)?;
     read_number_up_to(reader, greatest)

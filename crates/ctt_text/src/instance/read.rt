@@ -60,7 +60,8 @@ impl<'a> Model for Sections<'a> {
 
     ghost view = { λ s. problem_of s.header s.courses s.rooms s.curricula s.unavailable.marks };
 
-    ghost invariant = { λ s. IsTableOf (length s.courses.names) (s.header.days * s.header.periods) s.unavailable };
+    ghost invariant = { λ s.
+        IsTableOf (length s.courses.names) (s.header.days * s.header.periods) s.unavailable };
 }
 
 /// What an instance has beside the sections of its text.
@@ -94,8 +95,10 @@ fn read_last_sections<'a>(
     requires courses { length courses.now.names ≡ header.now.courses }
     requires few { header.now.courses ≤ 2000 }
     ensures rows { IfOk result (λ last. last.unavailable.rows ≡ header.now.courses) }
-    ensures width { IfOk result (λ last. last.unavailable.width ≡ header.now.days * header.now.periods) }
-    ensures exact { GivesRead (λ last. ((last.curricula, last.unavailable.marks), reader.new)) result (reads (last_sections header.now courses.now.names) reader.old) }
+    ensures width { IfOk result (λ last.
+        last.unavailable.width ≡ header.now.days * header.now.periods) }
+    ensures exact { GivesRead (λ last. ((last.curricula, last.unavailable.marks), reader.new))
+        result (reads (last_sections header.now courses.now.names) reader.old) }
 {
     let curricula = read_curriculum_section(alloc, reader, header, courses)?;
     let unavailable = read_unavailability_section(alloc, reader, header, courses)?;
@@ -148,7 +151,8 @@ impl<'a> Sections<'a> {
         requires taught { AreTaught self (map (λ q. q.items) tables.taught.items) }
         requires course_labels { AreLabels self.course_names tables.course_labels.items }
         requires room_labels { AreLabels self.room_names tables.room_labels.items }
-        requires slot_labels { AreSlotLabels (slot_count self) self.periods tables.slot_labels.items }
+        requires slot_labels { AreSlotLabels (slot_count self) self.periods
+            tables.slot_labels.items }
         ensures { result ≡ self.entry }
     {
         let Sections {
@@ -212,7 +216,8 @@ impl<'a> Sections<'a> {
     /// The labels of the slots.
     fn slot_labels(&self, alloc: Global) -> Result<Vec<Option<Label>>, AllocError>
         requires problem { IsProblem self.now }
-        ensures { IfOk result (λ labels. AreSlotLabels (slot_count self.now) self.now.periods labels.items) }
+        ensures { IfOk result (λ labels.
+            AreSlotLabels (slot_count self.now) self.now.periods labels.items) }
     {
         let periods = self.header.periods as u16;
         let slots = self.header.days as u16 * periods;
@@ -227,11 +232,14 @@ impl<'a> Sections<'a> {
         requires ranked { AreRanked self.now.courses }
         ensures name { IfOk result (λ t. string_bytes t.name ≡ self.now.name) }
         ensures clashes { IfOk result (λ t. AreClashes self.now t.clashes.items) }
-        ensures belonging { IfOk result (λ t. AreCurricula self.now (map (λ q. q.items) t.belonging.items)) }
+        ensures belonging { IfOk result (λ t.
+            AreCurricula self.now (map (λ q. q.items) t.belonging.items)) }
         ensures taught { IfOk result (λ t. AreTaught self.now (map (λ q. q.items) t.taught.items)) }
-        ensures course_labels { IfOk result (λ t. AreLabels self.now.course_names t.course_labels.items) }
+        ensures course_labels { IfOk result (λ t.
+            AreLabels self.now.course_names t.course_labels.items) }
         ensures room_labels { IfOk result (λ t. AreLabels self.now.room_names t.room_labels.items) }
-        ensures slot_labels { IfOk result (λ t. AreSlotLabels (slot_count self.now) self.now.periods t.slot_labels.items) }
+        ensures slot_labels { IfOk result (λ t.
+            AreSlotLabels (slot_count self.now) self.now.periods t.slot_labels.items) }
     {
         let clashes = self.clashes(alloc)?;
         let belonging = self.belonging(alloc)?;
@@ -285,10 +293,16 @@ fn read_text(alloc: Global, text: &str) -> Result<Instance, ReadFault>
 pub fn read_instance(alloc: Global, text: &[u8]) -> Result<Instance, ReadFault>
     ensures text { OnOk result (IsUtf8 text.now) }
     ensures spelled { IfOk result (λ i. Spells (words text.now) i) }
-    ensures accepted { (i : Problem) → IsUtf8 text.now → Spells (words text.now) i → (result ≡ Ok i) ⊎ (result ≡ Err NoMemory) }
+    ensures accepted { (i : Problem)
+        → IsUtf8 text.now
+        → Spells (words text.now) i
+        → (result ≡ Ok i) ⊎ (result ≡ Err NoMemory) }
     ensures fault { IfErr result (IsCauseOf text.now) }
     ensures not_text { ¬ IsUtf8 text.now → result ≡ Err (NotText (utf8_valid_len text.now)) }
-    ensures broken { (k : ℕ) (fault : ReadFault) → IsUtf8 text.now → InstanceBreaksAt (words text.now) k fault → (result ≡ Err fault) ⊎ (result ≡ Err NoMemory) }
+    ensures broken { (k : ℕ) (fault : ReadFault)
+        → IsUtf8 text.now
+        → InstanceBreaksAt (words text.now) k fault
+        → (result ≡ Err fault) ⊎ (result ≡ Err NoMemory) }
 {
     match str::from_utf8(text) {
         Ok(text) => read_text(alloc, text),

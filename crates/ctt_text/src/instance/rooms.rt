@@ -1,6 +1,6 @@
 //! The section of the rooms.
 
-ghost use Rattle.std.specs.Prelude.{[], codes};
+ghost use Rattle.std.specs.Prelude.{codes};
 ghost use Rattle.ctt_text.specs.Places.{after};
 ghost use Rattle.ctt_text.specs.declared.fault.ReadFault.TheVariants.{Expected};
 ghost use Rattle.ctt_text.specs.Forms.{times};
@@ -36,7 +36,8 @@ fn read_one_room(
     reader: &mut Reader,
     section: &mut RoomSection,
 ) -> Result<(), ReadFault>
-    ensures { GivesRead (λ _. (section.new, reader.new)) result (reads (room section.old) reader.old) }
+    ensures { GivesRead (λ _. (section.new, reader.new)) result
+        (reads (room section.old) reader.old) }
 {
     let name = read_new_name(reader, &section.names)?;
     let capacity = read_number(reader)?;
@@ -47,7 +48,8 @@ fn read_one_room(
 
 /// Reads so many rooms.
 fn read_rooms(alloc: Global, reader: &mut Reader, count: u32) -> Result<RoomSection, ReadFault>
-    ensures { GivesRead (λ section. (section, reader.new)) result (reads (times room count no_rooms) reader.old) }
+    ensures { GivesRead (λ section. (section, reader.new)) result
+        (reads (times room count no_rooms) reader.old) }
 {
     let mut section = RoomSection {
         names: Names::new(alloc),
@@ -66,7 +68,9 @@ pub(crate) fn read_room_section(
     reader: &mut Reader,
     header: &Header,
 ) -> Result<RoomSection, ReadFault>
-    ensures { GivesRead (λ section. (section, reader.new)) result (reads (after Expected (codes "ROOMS:") (times room header.now.rooms no_rooms)) reader.old) }
+    ensures { GivesRead (λ section. (section, reader.new)) result
+        (reads (after Expected (codes "ROOMS:") (times room header.now.rooms no_rooms))
+        reader.old) }
 {
     read_fixed(reader, "ROOMS:")?;
     read_rooms(alloc, reader, header.rooms)

@@ -16,7 +16,11 @@ fn add_courses(lists: &mut [Vec<CourseNo>], courses: &[CourseFacts]) -> Result<(
     requires teachers { Each (λ f. f.teacher < length lists.old) courses.now }
     requires empty { (h : ℕ) → get_or (map (λ v. v.items) lists.old) h [] ≡ [] }
     ensures size { OnOk result (length lists.new ≡ length lists.old) }
-    ensures lists { OnOk result ((h : ℕ) → h < length lists.old → get_or (map (λ v. v.items) lists.new) h [] ≡ below (λ c. teacher_at courses.now c == h) (length courses.now)) }
+    ensures lists { OnOk result
+        ((h : ℕ)
+        → h < length lists.old
+        → get_or (map (λ v. v.items) lists.new) h []
+        ≡ below (λ c. teacher_at courses.now c == h) (length courses.now)) }
 {
     for (number, course) in courses.iter().enumerate() {
         let teacher = course.teacher.get() as usize;
@@ -34,7 +38,11 @@ pub(crate) fn taught(
     requires few { length courses.now ≤ 2000 }
     requires teachers { Each (λ f. f.teacher < teachers) courses.now }
     ensures size { IfOk result (λ v. length v.items ≡ teachers) }
-    ensures lists { IfOk result (λ v. (h : ℕ) → h < teachers → get_or (map (λ v. v.items) v.items) h [] ≡ below (λ c. teacher_at courses.now c == h) (length courses.now)) }
+    ensures lists { IfOk result (λ v.
+        (h : ℕ)
+        → h < teachers
+        → get_or (map (λ v. v.items) v.items) h []
+        ≡ below (λ c. teacher_at courses.now c == h) (length courses.now)) }
 {
     let mut lists = empty_lists(alloc, teachers)?;
     add_courses(&mut lists, courses)?;

@@ -1,9 +1,8 @@
 //! The section of the unavailable periods.
 
-ghost use Rattle.std.specs.Prelude.{◌≡◌, ◌<◌, ◌≤◌, ◌+◌, ◌*◌, List, Bool, true, length, codes, IfOk, IfSome, MatchOption, Ok};
-ghost use Rattle.std.specs.List.{slice_set};
-ghost use Rattle.ctt_text.specs.Places.{after, known_name};
-ghost use Rattle.ctt_text.specs.declared.fault.ReadFault.TheVariants.{Expected, UnknownCourse};
+ghost use Rattle.std.specs.Prelude.{◌≡◌, ◌<◌, ◌≤◌, ◌+◌, ◌*◌, length, codes, IfOk, Ok};
+ghost use Rattle.ctt_text.specs.Places.{after};
+ghost use Rattle.ctt_text.specs.declared.fault.ReadFault.TheVariants.{Expected};
 ghost use Rattle.ctt_text.specs.Forms.{times};
 ghost use Rattle.ctt_text.specs.InstancePlaces.{GivesRead, reads, unavailability, all_available};
 
@@ -31,7 +30,8 @@ fn read_one_period(
     requires width { table.old.width ≡ days * periods }
     ensures rows { table.new.rows ≡ table.old.rows }
     ensures width { table.new.width ≡ table.old.width }
-    ensures exact { GivesRead (λ _. (table.new.marks, reader.new)) result (reads (unavailability courses.now days periods table.old.marks) reader.old) }
+    ensures exact { GivesRead (λ _. (table.new.marks, reader.new)) result
+        (reads (unavailability courses.now days periods table.old.marks) reader.old) }
 {
     let course = read_course_near(reader, courses, guess)?;
     let day = read_day(reader, days)?;
@@ -54,7 +54,8 @@ fn read_periods(
     requires width { table.old.width ≡ days * periods }
     ensures rows { table.new.rows ≡ table.old.rows }
     ensures width { table.new.width ≡ table.old.width }
-    ensures exact { GivesRead (λ _. (table.new.marks, reader.new)) result (reads (times (unavailability courses.now days periods) count table.old.marks) reader.old) }
+    ensures exact { GivesRead (λ _. (table.new.marks, reader.new)) result
+        (reads (times (unavailability courses.now days periods) count table.old.marks) reader.old) }
 {
     let mut course = 0;
     for _ in 0..count {
@@ -77,7 +78,11 @@ pub(crate) fn read_unavailability_section(
     requires few { header.now.courses ≤ 2000 }
     ensures rows { IfOk result (λ table. table.rows ≡ header.now.courses) }
     ensures width { IfOk result (λ table. table.width ≡ header.now.days * header.now.periods) }
-    ensures exact { GivesRead (λ table. (table.marks, reader.new)) result (reads (after Expected (codes "UNAVAILABILITY_CONSTRAINTS:") (times (unavailability courses.now.names header.now.days header.now.periods) header.now.constraints (all_available header.now))) reader.old) }
+    ensures exact { GivesRead (λ table. (table.marks, reader.new)) result
+        (reads
+        (after Expected (codes "UNAVAILABILITY_CONSTRAINTS:")
+        (times (unavailability courses.now.names header.now.days header.now.periods)
+        header.now.constraints (all_available header.now))) reader.old) }
 {
     read_fixed(reader, "UNAVAILABILITY_CONSTRAINTS:")?;
     let slots = (header.days * header.periods) as usize;

@@ -41,7 +41,8 @@ fn table_of<'i>(
     list: &[Placed],
 ) -> Result<RoomTable<'i>, AllocError>
     requires { IsTimetable instance.now list.now }
-    ensures { IfOk result (λ table. table ≡ record { problem = instance.now; lectures = list.now }) }
+    ensures { IfOk result (λ table.
+        table ≡ record { problem = instance.now; lectures = list.now }) }
 {
     let mut table = RoomTable::new(alloc, instance)?;
     for lecture in list {
@@ -66,9 +67,14 @@ impl<'i> Model for Lectures<'i> {
 
     ghost Value = { Held };
 
-    ghost view = { λ l. record { problem = l.instance.now; lectures = elim l.table [ None ↦ l.list.items | Some table ↦ table.lectures ] } };
+    ghost view = { λ l. record {
+      problem = l.instance.now;
+      lectures = elim l.table [ None ↦ l.list.items | Some table ↦ table.lectures ];
+    } };
 
-    ghost invariant = { λ l. IsTimetable l.instance.now l.list.items × IfSome l.table (λ table. table.problem ≡ l.instance.now) };
+    ghost invariant = { λ l.
+        IsTimetable l.instance.now l.list.items
+        × IfSome l.table (λ table. table.problem ≡ l.instance.now) };
 }
 
 impl<'i> Lectures<'i> {

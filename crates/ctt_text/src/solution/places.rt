@@ -23,7 +23,9 @@ pub(crate) fn read_slot(
     requires day { day < lectures.now.problem.days }
     ensures limit { IfOk result (λ slot. slot < slot_count lectures.now.problem) }
     ensures free { IfOk result (λ slot. has_lecture course slot lectures.now.lectures ≡ false) }
-    ensures exact { GivesLectures (λ slot. (slot, reader.new)) result (reads_lectures (free_slot lectures.now.problem lectures.now.lectures course day) reader.old) }
+    ensures exact { GivesLectures (λ slot. (slot, reader.new)) result
+        (reads_lectures (free_slot lectures.now.problem lectures.now.lectures course day)
+        reader.old) }
 {
     let at = reader.next();
     let period = next_number::<SolutionFault>(reader)?;

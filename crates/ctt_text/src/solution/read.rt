@@ -30,7 +30,8 @@ fn read_entry(
     lectures: &mut Lectures,
 ) -> Result<(), SolutionFault>
     ensures problem { lectures.new.problem ≡ lectures.old.problem }
-    ensures exact { GivesLectures (λ _. (lectures.new.lectures, reader.new)) result (reads_lectures (entry lectures.old.problem lectures.old.lectures) reader.old) }
+    ensures exact { GivesLectures (λ _. (lectures.new.lectures, reader.new)) result
+        (reads_lectures (entry lectures.old.problem lectures.old.lectures) reader.old) }
 {
     let instance = lectures.instance();
     let course = next_course::<SolutionFault>(reader, instance)?;
@@ -47,7 +48,8 @@ fn read_lectures(
     reader: &mut Reader,
     instance: &Instance,
 ) -> Result<Vec<Placed>, SolutionFault>
-    ensures { GivesLectures (λ list. (list.items, reader.new)) result (reads_lectures (solution instance.now reader.old.words) reader.old) }
+    ensures { GivesLectures (λ list. (list.items, reader.new)) result
+        (reads_lectures (solution instance.now reader.old.words) reader.old) }
 {
     let mut lectures = Lectures::new(alloc, instance);
     while !reader.is_at_end() {
@@ -58,7 +60,8 @@ fn read_lectures(
 
 /// Reads a solution from a text.
 fn read_text(alloc: Global, instance: &Instance, text: &str) -> Result<Vec<Placed>, SolutionFault>
-    ensures { Gives lacks_memory (λ list. list.items) result (solution_answer instance.now (words text.now)) }
+    ensures { Gives lacks_memory (λ list. list.items) result
+        (solution_answer instance.now (words text.now)) }
 {
     let mut reader = Reader::new(text);
     read_lectures(alloc, &mut reader, instance)
@@ -77,10 +80,16 @@ pub fn read_solution(
     ensures text { OnOk result (IsUtf8 text.now) }
     ensures spelled { IfOk result (λ list. SolSpells instance.now (words text.now) list.items) }
     ensures timetable { IfOk result (λ list. IsTimetable instance.now list.items) }
-    ensures accepted { (t : List Placed) → IsUtf8 text.now → SolSpells instance.now (words text.now) t → MatchResult result (λ list. list.items ≡ t) (λ fault. fault ≡ NoMemory) }
+    ensures accepted { (t : List Placed)
+        → IsUtf8 text.now
+        → SolSpells instance.now (words text.now) t
+        → MatchResult result (λ list. list.items ≡ t) (λ fault. fault ≡ NoMemory) }
     ensures fault { IfErr result (IsSolutionCauseOf instance.now text.now) }
     ensures not_text { ¬ IsUtf8 text.now → result ≡ Err (NotText (utf8_valid_len text.now)) }
-    ensures broken { (k : ℕ) (fault : SolutionFault) → IsUtf8 text.now → SolutionBreaksAt instance.now (words text.now) k fault → (result ≡ Err fault) ⊎ (result ≡ Err NoMemory) }
+    ensures broken { (k : ℕ) (fault : SolutionFault)
+        → IsUtf8 text.now
+        → SolutionBreaksAt instance.now (words text.now) k fault
+        → (result ≡ Err fault) ⊎ (result ≡ Err NoMemory) }
 {
     instance.limits_hold();
     match str::from_utf8(text) {

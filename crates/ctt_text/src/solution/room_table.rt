@@ -5,6 +5,7 @@ ghost use Rattle.ctt_text.specs.Problem.{course_count, room_count, slot_count};
 ghost use Rattle.ctt_text.specs.Timetable.{has_lecture, with};
 ghost use Rattle.ctt_text.specs.RoomTable.{lecture_in, lectures_from};
 
+use crate::compact::Compact;
 use crate::ids::{CourseNo, RoomNo, SlotNo};
 use crate::instance::Instance;
 use crate::placed::Placed;
@@ -36,62 +37,15 @@ fn lecture(instance: &Instance, cell: usize, room: RoomNo) -> Placed
     }
 }
 
-/// A room, or none, in two bytes.
-#[derive(Clone, Copy)]
-struct HeldRoom {
-    /// 0 for none, and else the number after the room's.
-    code: u16,
-}
-
-impl Model for HeldRoom {
-    ghost use Rattle.std.specs.Prelude.{ℕ, Option};
-    ghost use Rattle.ctt_text.specs.RoomTable.{room_by_code, code_of_room, code_again};
-    ghost use Rattle.std.proofs.Common.{ap};
-
-    ghost Value = { Option ℕ };
-
-    ghost view = { λ h. room_by_code h.code };
-
-    ghost inverse = { λ room. record { code = code_of_room room } };
-
-    ghost inverse_ok = { λ h _. ap (λ code. record { code = code }) (code_again h.code) };
-}
-
-impl HeldRoom {
-    /// No room.
-    fn none() -> Self
-        ensures { result ≡ None }
-    {
-        HeldRoom { code: 0 }
-    }
-
-    fn of(room: RoomNo) -> Self
-        requires { room < 1000 }
-        ensures { result ≡ Some room }
-    {
-        HeldRoom {
-            code: room.get() + 1,
-        }
-    }
-
-    fn room(self) -> Option<RoomNo>
-        ensures { result ≡ self }
-    {
-        if self.code == 0 {
-            None
-        } else {
-            Some(RoomNo::new(self.code - 1))
-        }
-    }
-}
-
 /// The first cell from one on that has a room; the end of the table, where none has.
 #[tactic(auto, using(crate::proofs::RoomTableLaws::gathered_none))]
-fn next_held(rooms: &[HeldRoom], from: usize) -> usize
+fn next_held(rooms: &[Compact], from: usize) -> usize
     requires { from ≤ length rooms.now }
     ensures after { from ≤ result }
     ensures within { result ≤ length rooms.now }
-    ensures free { (slots : ℕ) → lectures_from slots 0 (take result rooms.now) ≡ lectures_from slots 0 (take from rooms.now) }
+    ensures free { (slots : ℕ)
+        → lectures_from slots 0 (take result rooms.now)
+        ≡ lectures_from slots 0 (take from rooms.now) }
 {
     let mut cell = from;
     while cell < rooms.len() && rooms[cell].room().is_none() {
@@ -105,7 +59,7 @@ fn next_held(rooms: &[HeldRoom], from: usize) -> usize
 pub(crate) struct RoomTable<'i> {
     instance: &'i Instance,
     /// For each course in turn, for each slot in turn.
-    rooms: Vec<HeldRoom>,
+    rooms: Vec<Compact>,
 }
 
 impl<'i> Model for RoomTable<'i> {
@@ -115,9 +69,13 @@ impl<'i> Model for RoomTable<'i> {
 
     ghost Value = { Held };
 
-    ghost view = { λ l. record { problem = l.instance.now; lectures = lectures_from (slot_count l.instance.now) 0 l.rooms.items } };
+    ghost view = { λ l. record {
+      problem = l.instance.now;
+      lectures = lectures_from (slot_count l.instance.now) 0 l.rooms.items;
+    } };
 
-    ghost invariant = { λ l. length l.rooms.items ≡ course_count l.instance.now * slot_count l.instance.now };
+    ghost invariant = { λ l.
+        length l.rooms.items ≡ course_count l.instance.now * slot_count l.instance.now };
 }
 
 impl<'i> RoomTable<'i> {
@@ -130,7 +88,7 @@ impl<'i> RoomTable<'i> {
         let cells = instance.courses() as usize * instance.slots() as usize;
         Ok(RoomTable {
             instance,
-            rooms: vec![in alloc; HeldRoom::none(); cells]?,
+            rooms: vec![in alloc; Compact::none(); cells]?,
         })
     }
 
@@ -160,11 +118,12 @@ impl<'i> RoomTable<'i> {
         requires slot { lecture.slot < slot_count self.old.problem }
         requires room { lecture.room < room_count self.old.problem }
         requires free { has_lecture lecture.course lecture.slot self.old.lectures ≡ false }
-        ensures { self.new ≡ record { problem = self.old.problem; lectures = with lecture self.old.lectures } }
+        ensures { self.new
+            ≡ record { problem = self.old.problem; lectures = with lecture self.old.lectures } }
     {
         self.instance.limits_hold();
         let cell = cell(self.instance, lecture.course, lecture.slot);
-        self.rooms[cell] = HeldRoom::of(lecture.room);
+        self.rooms[cell] = Compact::of_room(lecture.room);
     }
 
     /// All lectures, by course and then by slot.

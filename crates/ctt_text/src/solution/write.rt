@@ -16,7 +16,9 @@ use std::fmt::Write;
 /// Adds the line of a lecture to the text.
 fn write_line(text: &mut String, instance: &Instance, lecture: &Placed) -> Result<(), AllocError>
     requires { Fits instance.now lecture.now }
-    ensures { OnOk result (string_bytes text.new ≡ string_bytes text.old ++ line_of (words_of instance.now lecture.now)) }
+    ensures { OnOk result
+        (string_bytes text.new
+        ≡ string_bytes text.old ++ line_of (words_of instance.now lecture.now)) }
 {
     let course = instance.course_name(lecture.course);
     let room = instance.room_name(lecture.room);

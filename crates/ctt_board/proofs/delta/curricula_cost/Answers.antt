@@ -2,7 +2,7 @@ use Rattle.std.proofs.Common.{◌≡◌, ◌+◌, ◌<◌, ◌∙◌, ℕ, List,
 use Rattle.std.proofs.lemmas.List.Sums.{sum_by_more}
 use Rattle.ctt_text.specs.Problem.{Problem, members, curriculum_count}
 use Rattle.ctt_text.specs.declared.placed.Placed.{Placed}
-use Rattle.ctt_rules.specs.Penalty.{alone_cost, part_of}
+use Rattle.ctt_rules.specs.Penalty.{alone_cost, lectures_of}
 use Rattle.ctt_board.specs.Costs.{touches_curriculum}
 use Rattle.ctt_board.proofs.delta.curricula_cost.Goals as goal
 use Rattle.ctt_board.proofs.delta.curricula_cost.Goals.{then-touches_curriculum, else-touches_curriculum}
@@ -13,7 +13,7 @@ loop-number-preserved g c =
     let t : List Placed = c.args.after.now.list in
     let n : ℕ = c.loop-number.number in
     let inv = c.loop-number.invariant in
-    let cost : List ℕ → ℕ = λ q. alone_cost i (part_of q t) in
+    let cost : List ℕ → ℕ = λ q. alone_cost i (lectures_of q t) in
     let test : List ℕ → Bool = touches_curriculum c.args.cells.now in
     let f : List ℕ → ℕ = λ q. cond (test q) (cost q) 0 in
     let q : List ℕ = members i n in

@@ -5,7 +5,7 @@ use Rattle.ctt_text.specs.Problem.{Problem, course_count}
 use Rattle.ctt_text.specs.Timetable.{course_row}
 use Rattle.ctt_text.specs.declared.placed.Placed.{Placed}
 use Rattle.ctt_rules.proofs.TimetableLemmas.{courses_fit}
-use Rattle.ctt_edits.proofs.PartLemmas.{part_more, part_done, part_none, part_within}
+use Rattle.ctt_edits.proofs.GatherLemmas.{part_more, part_done, part_none, part_within}
 use Rattle.ctt_edits.proofs.showing.gather.Goals as goal
 
 pub loop-number-init : goal.loop-number-init

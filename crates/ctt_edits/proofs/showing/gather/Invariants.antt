@@ -1,7 +1,7 @@
 use Rattle.std.proofs.Common.{◌≡◌, ◌≤◌, ◌-◌}
 use Rattle.ctt_text.specs.Marks.{is_marked}
 use Rattle.ctt_text.specs.Problem.{course_count}
-use Rattle.ctt_edits.proofs.PartLemmas.{part_below}
+use Rattle.ctt_edits.proofs.GatherLemmas.{part_below}
 use Rattle.ctt_edits.proofs.showing.gather.Given as goal
 
 abbrev pub invariant-loop-number : goal.invariant-loop-number

@@ -4,7 +4,7 @@ use Rattle.ctt_text.specs.Marks.{is_marked}
 use Rattle.ctt_text.specs.Problem.{Problem, course_count, members}
 use Rattle.ctt_text.specs.declared.placed.Placed.{Placed}
 use Rattle.ctt_rules.proofs.TimetableLemmas.{courses_fit}
-use Rattle.ctt_edits.proofs.PartLemmas.{part_marked}
+use Rattle.ctt_edits.proofs.GatherLemmas.{part_marked}
 use Rattle.ctt_edits.proofs.showing.list_curriculum.Goals as goal
 
 pub returns : goal.returns

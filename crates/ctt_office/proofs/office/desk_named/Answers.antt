@@ -1,5 +1,5 @@
 use Rattle.std.proofs.Common.{◌∙◌, ap, length}
-use Rattle.ctt_script.proofs.CrewLemmas.{planners_many}
+use Rattle.ctt_crew.proofs.CrewLemmas.{planners_many}
 use Rattle.ctt_office.proofs.office.desk_named.Goals as goal
 
 pub returns-clause-each : goal.returns-clause-each

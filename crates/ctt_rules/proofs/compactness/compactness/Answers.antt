@@ -1,5 +1,5 @@
 use Rattle.std.proofs.Common.{◌∙◌, arith}
-use Rattle.ctt_rules.specs.Penalty.{is_alone, part_of}
+use Rattle.ctt_rules.specs.Penalty.{is_alone, lectures_of}
 use Rattle.ctt_rules.proofs.WindowLemmas.{none_before, window_more, all_before, alone_few}
 use Rattle.ctt_rules.proofs.compactness.compactness.Goals as goal
 
@@ -24,4 +24,4 @@ pub returns-clause-bound : goal.returns-clause-bound
 returns-clause-bound c =
     let i = c.args.instance.now in
     let t = c.args.timetable.now in
-    omega (arith, c.loop-first.invariant.so_far, all_before i t c.requires c.loop-first.first (omega arith), alone_few i t c.requires (λ q. is_alone i (part_of q t)) c.limits_hold.ensures)
+    omega (arith, c.loop-first.invariant.so_far, all_before i t c.requires c.loop-first.first (omega arith), alone_few i t c.requires (λ q. is_alone i (lectures_of q t)) c.limits_hold.ensures)

@@ -7,11 +7,11 @@ use Rattle.ctt_text.specs.Marks.{is_marked}
 use Rattle.ctt_text.specs.Problem.{Problem, IsProblem}
 use Rattle.ctt_text.specs.Timetable.{Fits, course_row}
 use Rattle.ctt_text.specs.declared.placed.Placed.{Placed}
-use Rattle.ctt_rules.specs.Penalty.{part_of}
+use Rattle.ctt_rules.specs.Penalty.{lectures_of}
 use Rattle.ctt_rules.specs.Neighbours.{busy, is_beside}
 use Rattle.ctt_rules.proofs.ListLemmas.{Each-filter}
 use Rattle.ctt_rules.proofs.NeighbourLemmas.{alone_is}
-use Rattle.ctt_rules.proofs.PartLemmas.{busy_part, count_part, count_part_le}
+use Rattle.ctt_rules.proofs.CurriculumLemmas.{busy_lectures, count_lectures, count_lectures_le}
 use Rattle.ctt_rules.proofs.TimetableLemmas.{row_fits, few_lectures, slots_fit}
 use Rattle.ctt_board.proofs.after.After.curriculum_cost.Goals as goal
 
@@ -33,27 +33,27 @@ overflow_add-count g c =
     ∙ ap₂ (λ j ls. count_by (λ x. not (is_beside j (is_marked c.loop-member.slots) x.slot)) ls) c.instance-instance.ensures (c.as_slice-in-loop-member-2.ensures.value ∙ c.row-row-in-loop-member-2.ensures) ∙ ap f c.member-item-in-loop-member-2.is in
     let within = sum_by_more_le f q c.loop-member-2.member-index m c.loop-member-2-test.true in
     let is : IsProblem i = rw c.instance-instance.ensures at c.limits_hold.ensures in
-    omega (arith, c.loop-member-2.invariant, here, within, count_part p q t c.requires.1, count_part_le p q t, few_lectures i t c.lawful.ensures.timetable is)
+    omega (arith, c.loop-member-2.invariant, here, within, count_lectures p q t c.requires.1, count_lectures_le p q t, few_lectures i t c.lawful.ensures.timetable is)
 
 -- the members' lectures that stand alone, at the end of the loop
 module _ (g : _) (c : goal.After-loop-member-2 g) where
   abbrev alone_there : Placed → Bool
   alone_there x = not (is_beside c.args.self.now.problem (is_marked c.loop-member.slots) x.slot)
 
-  counted : c.loop-member-2.count ≡ count_by alone_there (part_of c.args.members.now c.args.self.now.list)
+  counted : c.loop-member-2.count ≡ count_by alone_there (lectures_of c.args.members.now c.args.self.now.list)
   counted =
       c.loop-member-2.invariant ∙ ap (sum_by (λ m. count_by alone_there (course_row m c.args.self.now.list))) (take_all c.loop-member-2.member-index c.args.members.now c.loop-member-2-test.false)
-      ∙ count_part alone_there c.args.members.now c.args.self.now.list c.requires.1
+      ∙ count_lectures alone_there c.args.members.now c.args.self.now.list c.requires.1
 
-  marked : (s : ℕ) → is_marked c.loop-member.slots s ≡ busy (part_of c.args.members.now c.args.self.now.list) s
+  marked : (s : ℕ) → is_marked c.loop-member.slots s ≡ busy (lectures_of c.args.members.now c.args.self.now.list) s
   marked s =
       c.loop-member.invariant s ∙ ap (list_any (λ m. busy (course_row m c.args.self.now.list) s)) (take_all c.loop-member.member-index c.args.members.now c.loop-member-test.false)
-      ∙ busy_part c.args.members.now c.args.self.now.list s
+      ∙ busy_lectures c.args.members.now c.args.self.now.list s
 
   short : c.loop-member-2.count ≤ 4000000
   short =
       let is : IsProblem c.args.self.now.problem = rw c.instance-instance.ensures at c.limits_hold.ensures in
-      omega (arith, counted, count_part_le alone_there c.args.members.now c.args.self.now.list, few_lectures c.args.self.now.problem c.args.self.now.list c.lawful.ensures.timetable is)
+      omega (arith, counted, count_lectures_le alone_there c.args.members.now c.args.self.now.list, few_lectures c.args.self.now.problem c.args.self.now.list c.lawful.ensures.timetable is)
 
 pub overflow_mul-result : goal.overflow_mul-result
 overflow_mul-result g c = omega (arith, short g c)
@@ -61,7 +61,7 @@ overflow_mul-result g c = omega (arith, short g c)
 pub returns-clause-value : goal.returns-clause-value
 returns-clause-value g c =
     let i : Problem = c.args.self.now.problem in
-    let part : List Placed = part_of c.args.members.now c.args.self.now.list in
+    let part : List Placed = lectures_of c.args.members.now c.args.self.now.list in
     let fits = slots_fit i part (Each-filter (Fits i) (λ l. has l.course c.args.members.now) c.args.self.now.list c.lawful.ensures.timetable.fits) in
     ap (λ n. 2 * n) (counted g c ∙ sym (alone_is i part (is_marked c.loop-member.slots) fits (marked g c)))
 

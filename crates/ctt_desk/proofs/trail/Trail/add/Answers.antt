@@ -1,8 +1,8 @@
 use Rattle.std.proofs.Common.{rules, ◌≡◌, ◌∙◌, List, IsTrue, sym, subst}
 use Rattle.ctt_board.specs.declared.cell.Cell.{Cell}
 use Rattle.ctt_core.specs.declared.journal.JournalEntry.{JournalEntry}
-use Rattle.ctt_desk.specs.Trails.{LeadsOn, AreMarks}
-use Rattle.ctt_desk.proofs.TrailLemmas.{marks_further}
+use Rattle.ctt_desk.specs.Trails.{LeadsOn, AreMilestones}
+use Rattle.ctt_desk.proofs.TrailLemmas.{milestones_further}
 use Rattle.ctt_desk.proofs.trail.Trail.add.Goals as goal
 
 pub invariant_of-self : goal.invariant_of-self
@@ -20,5 +20,5 @@ invariant_of-self g c =
     (subst (λ (x : List JournalEntry). LeadsOn i t0 x more 0 u.before) (sym ends)
     (subst (λ (xs : List (List Cell)). LeadsOn i t0 u.front xs 0 u.before) (sym c.changes-changes.ensures.changes) c.changes-changes.ensures.leads))
     in
-    subst (λ (xs : List (List Cell)). AreMarks i t0 c.again.result xs c.self.inside.marks.items) (sym c.add_all.ensures)
-    (marks_further i t0 h c.again.result c.self.inside.changes.items more leads c.self.inside.marks.items c.self.invariant)
+    subst (λ (xs : List (List Cell)). AreMilestones i t0 c.again.result xs c.self.inside.milestones.items) (sym c.add_all.ensures)
+    (milestones_further i t0 h c.again.result c.self.inside.changes.items more leads c.self.inside.milestones.items c.self.invariant)

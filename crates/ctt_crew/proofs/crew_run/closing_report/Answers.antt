@@ -1,0 +1,16 @@
+use Rattle.std.proofs.Common.{◌∙◌, ap, length, map, string_bytes}
+use Rattle.std.proofs.lemmas.List.{length-map}
+use Rattle.std.proofs.lemmas.Result.{IfOk-weaker}
+use Rattle.ctt_crew.specs.CrewText.{crew_text}
+use Rattle.ctt_crew.proofs.crew_run.closing_report.Goals as goal
+
+pub returns : goal.returns
+returns g c = IfOk-weaker c.crew_report.result _ _ (λ text is. record {
+  answers = map string_bytes c.args.answers.items;
+  each = length-map c.args.answers.items string_bytes;
+  history = c.args.closed.now;
+  legal = c.journal-entries.ensures.legal;
+  is = is
+      ∙ ap (λ n. crew_text (map string_bytes c.args.answers.items) n c.cost-cost.result) (ap length c.journal-entries.ensures.journal)
+      ∙ ap (crew_text (map string_bytes c.args.answers.items) (length c.args.closed.now)) c.cost-cost.ensures;
+}) c.crew_report.ensures

@@ -1,0 +1,79 @@
+-- What a crew is answered, and what is written of it.
+use Rattle.std.specs.Prelude.{ℕ, ◌≡◌, ◌+◌, ◌<◌, List, [], ◌∷◌, ◌++◌, codes, length, Option, Some, None}
+use Rattle.std.specs.Fmt.{decimal}
+use Rattle.ctt_text.specs.Problem.{Problem}
+use Rattle.ctt_text.specs.declared.placed.Placed.{Placed}
+use Rattle.ctt_rules.specs.Penalty.{penalty}
+use Rattle.ctt_rules.specs.declared.cost.Cost.{Cost}
+use Rattle.ctt_core.specs.Runs.{Legal, after}
+use Rattle.ctt_core.specs.declared.event.Event.{Event}
+use Rattle.ctt_core.specs.declared.event.Event.TheVariants.{Open, Ask, Commit, Refresh, Abandon, Show}
+use Rattle.ctt_core.specs.declared.journal.JournalEntry.{JournalEntry}
+use Rattle.ctt_core.specs.declared.answer.Answer.TheVariants.{NoMemory as OutOfMemory}
+use Rattle.ctt_edits.specs.declared.call.Call.{Call}
+use Rattle.ctt_desk.specs.declared.shared_fault.SharedFault.{SharedFault}
+use Rattle.ctt_desk.specs.declared.shared_fault.SharedFault.TheVariants.{Unlawful, NoPlace as Unplaced, NoMemory}
+use Rattle.ctt_script.specs.AnswerText.{answer_words}
+use Rattle.ctt_script.specs.Entries.{AnswerFits}
+use Rattle.ctt_script.specs.WrittenText.{line}
+use Rattle.ctt_script.specs.WrittenWords.{cost_words}
+use Rattle.ctt_crew.specs.declared.crew_fault.CrewFault.{CrewFault}
+use Rattle.ctt_crew.specs.declared.crew_fault.CrewFault.TheVariants as crew_fault
+use Rattle.ctt_crew.specs.declared.seat.Told.{Told}
+use Rattle.ctt_crew.specs.declared.seat.Told.TheVariants.{Answer as Answered, NotYours, NoPlace}
+
+-- an answer that can be written
+abbrev pub ToldFits : Problem → Told → Type 0
+ToldFits i (Answered answer) = AnswerFits i answer
+ToldFits i (NotYours n) = Unit {0}
+ToldFits i NoPlace = Unit {0}
+
+-- the call that a line asks for
+abbrev pub call_in : Option Event → Option Call
+call_in None = None
+call_in (Some (Open p)) = None
+call_in (Some (Ask p call)) = Some call
+call_in (Some (Commit p)) = None
+call_in (Some (Refresh p)) = None
+call_in (Some (Abandon p)) = None
+call_in (Some (Show look)) = None
+
+-- what a planner is told where he could not read: that he had no place, or that memory was wanted
+abbrev pub told_unread : SharedFault → Told
+told_unread (Unlawful at f) = Answered OutOfMemory
+told_unread Unplaced = NoPlace
+told_unread NoMemory = Answered OutOfMemory
+
+abbrev pub told_words : Problem → Told → List (List ℕ)
+told_words i (Answered answer) = answer_words i answer
+told_words i (NotYours n) = codes "not" ∷ codes "yours" ∷ decimal n ∷ []
+told_words i NoPlace = codes "no" ∷ codes "place" ∷ []
+
+-- the answers of planners, from the one with this number on
+abbrev pub planners_text : ℕ → List (List ℕ) → List ℕ
+planners_text p [] = []
+planners_text p (answers ∷ more) = line (codes "planner" ∷ decimal p ∷ []) ++ (answers ++ planners_text (p + 1) more)
+
+-- the answers of all planners, how many drafts were accepted, and what the timetable costs
+abbrev pub crew_text : List (List ℕ) → ℕ → Cost → List ℕ
+crew_text answers entries cost = planners_text 0 answers ++ (line (codes "journal" ∷ decimal entries ∷ []) ++ line (cost_words cost))
+
+-- such a text, of some answers of each of so many planners, of as many drafts as some legal history on the opening has, and of what the timetable costs after it
+pub record IsCrewText (problem : Problem) (opening : List Placed) (planners : ℕ) (text : List ℕ) : Type 0 where
+  pub answers : List (List ℕ)
+  pub each : length answers ≡ planners
+  pub history : List JournalEntry
+  pub legal : Legal problem opening history
+  pub is : text ≡ crew_text answers (length history) (penalty problem (after problem opening history))
+
+-- the fault of a desk that opens empty, as a crew's
+abbrev pub of_shared : SharedFault → CrewFault
+of_shared (Unlawful at f) = crew_fault.NoMemory
+of_shared Unplaced = crew_fault.NoPlace
+of_shared NoMemory = crew_fault.NoMemory
+
+-- a fault of a crew of so many planners: of one of them the thread could not be started
+abbrev pub IsCrewFault : ℕ → CrewFault → Type 0
+IsCrewFault planners (crew_fault.NoThread p) = p < planners
+IsCrewFault planners crew_fault.NoPlace = Unit {0}
+IsCrewFault planners crew_fault.NoMemory = Unit {0}

@@ -1,0 +1,2 @@
+pub mod CrewText
+pub mod Seats

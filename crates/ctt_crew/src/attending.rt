@@ -1,0 +1,175 @@
+//! What a planner of a crew does, on a thread of his own.
+
+ghost use Rattle.std.specs.Prelude.{◌≡◌, ◌<◌, ℕ, IfOk, IfSome, IsOk, OnOk, ◌++◌, string_bytes};
+ghost use Rattle.ctt_edits.specs.Calls.{CallFits};
+ghost use Rattle.ctt_core.specs.Runs.{EventFits};
+ghost use Rattle.ctt_crew.specs.CrewText.{call_in, ToldFits, told_words};
+ghost use Rattle.ctt_crew.specs.Seats.{AnswersCall, AnswersLine};
+ghost use Rattle.ctt_script.specs.WrittenText.{line};
+
+use crate::gate::Gate;
+use crate::seat::{Seat, Told};
+use ctt_board::{GridSheet, Sheet};
+use ctt_core::{Event, PlannerNo};
+use ctt_desk::{Naming, Planner, SharedDesk};
+use ctt_edits::Call;
+use ctt_script::{Lines, has_words, read_own_line, write_answer, write_bad_line};
+use ctt_text::{Instance, NoMemory, let_go};
+use std::alloc::{AllocError, Global};
+use std::fmt::Write;
+use std::marker::PhantomData;
+use std::sync::Wait;
+
+/// Adds the line of what a planner of a crew is answered.
+pub fn write_told(text: &mut String, instance: &Instance, told: &Told) -> Result<(), AllocError>
+    requires { ToldFits instance.now told.now }
+    ensures { OnOk result (string_bytes text.new
+        ≡ string_bytes text.old ++ line (told_words instance.now told.now)) }
+{
+    match told {
+        Told::Answer(answer) => write_answer(text, instance, answer),
+        Told::NotYours(count) => writeln!(text, "not yours {count}"),
+        Told::NoPlace => writeln!(text, "no place"),
+    }
+}
+
+/// Makes the call that a line asks for, and adds the line of the answer.
+fn answer_call<'i, S: Sheet<'i>, J: Naming>(
+    seat: &mut Seat<'i, S, J>,
+    instance: &Instance,
+    call: Call,
+    text: &mut String,
+) -> Result<(), AllocError>
+    requires same { J.problem ≡ instance.now }
+    requires fits { CallFits instance.now call }
+    ensures { OnOk result
+        (AnswersCall instance.now call seat.old seat.new (string_bytes text.old)
+        (string_bytes text.new)) }
+{
+    let told = seat.ask(call);
+    write_told(text, instance, &told)
+}
+
+/// The value, if what was to be written was written.
+fn kept_if<T: Drop>(value: T, written: Result<(), AllocError>) -> Result<T, NoMemory>
+    ensures { IfOk result (λ kept. (kept ≡ value) × IsOk written) }
+{
+    written?;
+    Ok(value)
+}
+
+/// Answers a line of a planner's script, in which this event was read, or none, and adds the line of the answer.
+fn answer_own_line<'i, S: Sheet<'i>, J: Naming, R: Wait>(
+    rt: &R,
+    desk: &SharedDesk<S, J>,
+    instance: &Instance,
+    seat: Seat<'i, S, J>,
+    planner: PlannerNo,
+    read: Option<Event>,
+    text: &mut String,
+) -> Result<Seat<'i, S, J>, NoMemory>
+    requires same { J.problem ≡ instance.now }
+    requires fits { (planners : ℕ) → planner < planners
+        → IfSome read (EventFits instance.now planners) }
+    ensures { IfOk result (λ next.
+        AnswersLine instance.now J.opening read seat.entry next (string_bytes text.old)
+        (string_bytes text.new)) }
+{
+    match read {
+        Some(event) => {
+            let (seat, told) = seat.take(rt, desk, event);
+            let written = write_told(text, instance, &told);
+            let_go(told);
+            kept_if(seat, written)
+        }
+        None => kept_if(seat, write_bad_line(text)),
+    }
+}
+
+/// The call that a line asks for, if it asks for one.
+fn call_in(read: &Option<Event>) -> Option<Call>
+    ensures { result ≡ call_in read.now }
+{
+    match *read {
+        Some(Event::Ask(_, call)) => Some(call),
+        _ => None,
+    }
+}
+
+/// The script that a planner is to follow, of a desk of the instance.
+#[derive(Drop)]
+pub(crate) struct Attendance<'i, 'x, J: Naming, G: Gate> {
+    pub(crate) alloc: Global,
+    pub(crate) instance: &'i Instance,
+    pub(crate) script: &'x [u8],
+    pub(crate) gate: &'x G,
+    pub(crate) desk: PhantomData<J>,
+    ghost same: { J.problem ≡ instance.now },
+}
+
+/// Answers the lines of a planner's script, and gives the lines of the answers.
+fn attend<'i, 'x, S: Sheet<'i>, J: Naming, R: Wait, G: Gate>(
+    attendance: Attendance<'i, 'x, J, G>,
+    rt: &R,
+    desk: &SharedDesk<S, J>,
+    planner: Planner<S, J>,
+) -> Result<String, NoMemory> {
+    let Attendance {
+        alloc,
+        instance,
+        script,
+        gate,
+        desk: _,
+    } = attendance;
+    let number = planner.number();
+    let mut seat = Seat::Free(planner);
+    let mut text = String::new(alloc);
+    let mut at = 0u64;
+    for line in Lines::new(script) {
+        let read = read_own_line(instance, number, line);
+        if read.is_some() || has_words(line) {
+            at = at.saturating_add(1);
+            gate.before(number, at);
+            if let Some(call) = call_in(&read) {
+                if answer_call(&mut seat, instance, call, &mut text).is_err() {
+                    let_go(seat);
+                    let_go(text);
+                    return Err(NoMemory);
+                }
+            } else {
+                seat = match answer_own_line(rt, desk, instance, seat, number, read, &mut text) {
+                    Ok(seat) => seat,
+                    Err(error) => {
+                        let_go(text);
+                        return Err(error);
+                    }
+                };
+            }
+            gate.after(number, at);
+        }
+    }
+    let_go(seat);
+    Ok(text)
+}
+
+/// A planner at the desk that he shares, over a grid sheet. It names the instance's lifetime once, as what goes to a
+/// thread has to.
+#[derive(Drop)]
+pub(crate) struct GridAttendance<'i, 'x, J: Naming, G: Gate> {
+    pub(crate) desk: &'x SharedDesk<GridSheet<'i>, J>,
+    pub(crate) planner: Planner<GridSheet<'i>, J>,
+    pub(crate) attendance: Attendance<'i, 'x, J, G>,
+}
+
+/// Answers the lines of the script of a planner over a grid sheet.
+pub(crate) fn attend_on_grid<'i, 'x, J: Naming, R: Wait, G: Gate>(
+    work: GridAttendance<'i, 'x, J, G>,
+    rt: &R,
+) -> Result<String, NoMemory> {
+    let GridAttendance {
+        desk,
+        planner,
+        attendance,
+    } = work;
+    attend::<GridSheet<'i>, J, R, G>(attendance, rt, desk, planner)
+}

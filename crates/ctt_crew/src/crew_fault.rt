@@ -1,0 +1,57 @@
+//! Why a crew could not work.
+
+ghost use Rattle.std.specs.Prelude.{◌≡◌};
+ghost use Rattle.ctt_crew.specs.CrewText.{of_shared};
+ghost use Rattle.ctt_crew.specs.declared.crew_fault.CrewFault.TheVariants as crew_fault;
+
+use ctt_core::PlannerNo;
+use ctt_desk::SharedFault;
+use ctt_text::NoMemory;
+use std::alloc::{AllocError, AllocFailed};
+
+/// Why a crew could not work to its end.
+#[derive(Clone, Copy, PartialEq, Eq)]
+pub enum CrewFault {
+    /// `left_right` refused a planner's place.
+    NoPlace,
+    /// The thread of this planner could not be started.
+    NoThread(PlannerNo),
+    /// There is not enough memory.
+    NoMemory,
+}
+
+impl From<SharedFault> for CrewFault {
+    ghost from_gives = { λ fault given. given ≡ of_shared fault };
+
+    /// A crew's desk opens empty, so it wants memory or a place and nothing else.
+    fn from(fault: SharedFault) -> CrewFault {
+        match fault {
+            SharedFault::NoPlace => CrewFault::NoPlace,
+            _ => CrewFault::NoMemory,
+        }
+    }
+}
+
+impl From<NoMemory> for CrewFault {
+    ghost from_gives = { λ _ given. given ≡ crew_fault.NoMemory };
+
+    fn from(_error: NoMemory) -> CrewFault {
+        CrewFault::NoMemory
+    }
+}
+
+impl From<AllocError> for CrewFault {
+    ghost from_gives = { λ _ given. given ≡ crew_fault.NoMemory };
+
+    fn from(_error: AllocError) -> CrewFault {
+        CrewFault::NoMemory
+    }
+}
+
+impl<T: Drop> From<AllocFailed<T>> for CrewFault {
+    ghost from_gives = { λ _ given. given ≡ crew_fault.NoMemory };
+
+    fn from(_error: AllocFailed<T>) -> CrewFault {
+        CrewFault::NoMemory
+    }
+}

@@ -1,0 +1,16 @@
+use Rattle.std.proofs.Common.{◌≤◌, ◌-◌}
+use Rattle.ctt_text.specs.Lists.{has}
+use Rattle.ctt_text.specs.Problem.{course_count, members}
+use Rattle.ctt_findings.specs.Findings.{alone_of, for_each, where_passes}
+use Rattle.ctt_findings.specs.Hearing.{Hears}
+use Rattle.ctt_findings.proofs.compactness.tell_compactness_of.Given as goal
+
+abbrev pub invariant-loop-number : goal.invariant-loop-number
+invariant-loop-number g l = record {
+  within : l.from ≤ course_count l.instance;
+  heard : Hears (g.L.Listener.hears l.instance) l.initial.listener
+      (for_each (where_passes (λ c. has c (members l.instance l.curriculum)) (alone_of l.instance l.timetable l.curriculum)) l.from) l.listener;
+}
+
+abbrev pub decreases-loop-number : goal.decreases-loop-number
+decreases-loop-number g l = course_count l.instance - l.from

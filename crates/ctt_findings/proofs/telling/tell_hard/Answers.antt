@@ -1,0 +1,72 @@
+use Rattle.std.proofs.Common.{[]}
+use Rattle.std.specs.List.{filter_map}
+use Rattle.ctt_findings.specs.Findings.{by_course, lectures_finding, conflict_findings, availability_finding, occupancy_from, barred_finding}
+use Rattle.ctt_findings.proofs.HearLemmas.{heard_in}
+use Rattle.ctt_findings.proofs.telling.tell_hard.Goals as goal
+use Rattle.ctt_findings.specs.Hearing.{HearsFront}
+use Rattle.ctt_findings.proofs.FrontLemmas.{err_first, err_second}
+use Rattle.std.proofs.Common.{◌++◌, IfErr, rules}
+
+pub returns-clause-heard : goal.returns-clause-heard
+returns-clause-heard g c =
+    let i = c.args.instance.now in
+    let t = c.args.timetable.now in
+    let R = g.L.Listener.hears i in
+    heard_in R c.args.listener.now (by_course i t (lectures_finding i)) c.tell_lectures.new.listener _ c.tell_barred.new.listener c.tell_barred.result c.in_ok-tell_lectures.ensures.heard
+    (heard_in R c.tell_lectures.new.listener (conflict_findings i t) c.tell_conflicts.new.listener _ c.tell_barred.new.listener c.tell_barred.result c.in_ok-tell_conflicts.ensures.heard
+    (heard_in R c.tell_conflicts.new.listener (filter_map (availability_finding i) t) c.tell_availability.new.listener _ c.tell_barred.new.listener c.tell_barred.result c.in_ok-tell_availability.ensures.heard
+    (heard_in R c.tell_availability.new.listener (occupancy_from [] t) c.tell_occupancy.new.listener (filter_map (barred_finding i) t) c.tell_barred.new.listener c.tell_barred.result c.in_ok-tell_occupancy.ensures.heard c.tell_barred.ensures.heard)))
+
+pub returns-in_err-tell_lectures-clause-front : goal.returns-in_err-tell_lectures-clause-front
+returns-in_err-tell_lectures-clause-front g c =
+    let i = c.args.instance.now in
+    let t = c.args.timetable.now in
+    let R = g.L.Listener.hears i in
+    let F = g.L.Listener.fails in
+    let failed : IfErr c.from_residual.result (HearsFront R F c.args.listener.now (by_course i t (lectures_finding i)) c.tell_lectures.new.listener) = search rules in
+    err_first R F c.from_residual.result c.args.listener.now (by_course i t (lectures_finding i)) ((conflict_findings i t) ++ ((filter_map (availability_finding i) t) ++ ((occupancy_from [] t) ++ (filter_map (barred_finding i) t)))) c.tell_lectures.new.listener failed
+
+pub returns-in_err-tell_conflicts-clause-front : goal.returns-in_err-tell_conflicts-clause-front
+returns-in_err-tell_conflicts-clause-front g c =
+    let i = c.args.instance.now in
+    let t = c.args.timetable.now in
+    let R = g.L.Listener.hears i in
+    let F = g.L.Listener.fails in
+    let failed : IfErr c.from_residual-in_err-tell_conflicts.result (HearsFront R F c.tell_lectures.new.listener (conflict_findings i t) c.tell_conflicts.new.listener) = search rules in
+    err_second R F c.from_residual-in_err-tell_conflicts.result c.args.listener.now (by_course i t (lectures_finding i)) c.tell_lectures.new.listener ((conflict_findings i t) ++ ((filter_map (availability_finding i) t) ++ ((occupancy_from [] t) ++ (filter_map (barred_finding i) t)))) c.tell_conflicts.new.listener c.in_ok-tell_lectures.ensures.heard
+    (err_first R F c.from_residual-in_err-tell_conflicts.result c.tell_lectures.new.listener (conflict_findings i t) ((filter_map (availability_finding i) t) ++ ((occupancy_from [] t) ++ (filter_map (barred_finding i) t))) c.tell_conflicts.new.listener failed)
+
+pub returns-in_err-tell_availability-clause-front : goal.returns-in_err-tell_availability-clause-front
+returns-in_err-tell_availability-clause-front g c =
+    let i = c.args.instance.now in
+    let t = c.args.timetable.now in
+    let R = g.L.Listener.hears i in
+    let F = g.L.Listener.fails in
+    let failed : IfErr c.from_residual-in_err-tell_availability.result (HearsFront R F c.tell_conflicts.new.listener (filter_map (availability_finding i) t) c.tell_availability.new.listener) = search rules in
+    err_second R F c.from_residual-in_err-tell_availability.result c.args.listener.now (by_course i t (lectures_finding i)) c.tell_lectures.new.listener ((conflict_findings i t) ++ ((filter_map (availability_finding i) t) ++ ((occupancy_from [] t) ++ (filter_map (barred_finding i) t)))) c.tell_availability.new.listener c.in_ok-tell_lectures.ensures.heard
+    (err_second R F c.from_residual-in_err-tell_availability.result c.tell_lectures.new.listener (conflict_findings i t) c.tell_conflicts.new.listener ((filter_map (availability_finding i) t) ++ ((occupancy_from [] t) ++ (filter_map (barred_finding i) t))) c.tell_availability.new.listener c.in_ok-tell_conflicts.ensures.heard
+    (err_first R F c.from_residual-in_err-tell_availability.result c.tell_conflicts.new.listener (filter_map (availability_finding i) t) ((occupancy_from [] t) ++ (filter_map (barred_finding i) t)) c.tell_availability.new.listener failed))
+
+pub returns-in_err-tell_occupancy-clause-front : goal.returns-in_err-tell_occupancy-clause-front
+returns-in_err-tell_occupancy-clause-front g c =
+    let i = c.args.instance.now in
+    let t = c.args.timetable.now in
+    let R = g.L.Listener.hears i in
+    let F = g.L.Listener.fails in
+    let failed : IfErr c.from_residual-in_err-tell_occupancy.result (HearsFront R F c.tell_availability.new.listener (occupancy_from [] t) c.tell_occupancy.new.listener) = search rules in
+    err_second R F c.from_residual-in_err-tell_occupancy.result c.args.listener.now (by_course i t (lectures_finding i)) c.tell_lectures.new.listener ((conflict_findings i t) ++ ((filter_map (availability_finding i) t) ++ ((occupancy_from [] t) ++ (filter_map (barred_finding i) t)))) c.tell_occupancy.new.listener c.in_ok-tell_lectures.ensures.heard
+    (err_second R F c.from_residual-in_err-tell_occupancy.result c.tell_lectures.new.listener (conflict_findings i t) c.tell_conflicts.new.listener ((filter_map (availability_finding i) t) ++ ((occupancy_from [] t) ++ (filter_map (barred_finding i) t))) c.tell_occupancy.new.listener c.in_ok-tell_conflicts.ensures.heard
+    (err_second R F c.from_residual-in_err-tell_occupancy.result c.tell_conflicts.new.listener (filter_map (availability_finding i) t) c.tell_availability.new.listener ((occupancy_from [] t) ++ (filter_map (barred_finding i) t)) c.tell_occupancy.new.listener c.in_ok-tell_availability.ensures.heard
+    (err_first R F c.from_residual-in_err-tell_occupancy.result c.tell_availability.new.listener (occupancy_from [] t) (filter_map (barred_finding i) t) c.tell_occupancy.new.listener failed)))
+
+pub returns-clause-front : goal.returns-clause-front
+returns-clause-front g c =
+    let i = c.args.instance.now in
+    let t = c.args.timetable.now in
+    let R = g.L.Listener.hears i in
+    let F = g.L.Listener.fails in
+    err_second R F c.tell_barred.result c.args.listener.now (by_course i t (lectures_finding i)) c.tell_lectures.new.listener ((conflict_findings i t) ++ ((filter_map (availability_finding i) t) ++ ((occupancy_from [] t) ++ (filter_map (barred_finding i) t)))) c.tell_barred.new.listener c.in_ok-tell_lectures.ensures.heard
+    (err_second R F c.tell_barred.result c.tell_lectures.new.listener (conflict_findings i t) c.tell_conflicts.new.listener ((filter_map (availability_finding i) t) ++ ((occupancy_from [] t) ++ (filter_map (barred_finding i) t))) c.tell_barred.new.listener c.in_ok-tell_conflicts.ensures.heard
+    (err_second R F c.tell_barred.result c.tell_conflicts.new.listener (filter_map (availability_finding i) t) c.tell_availability.new.listener ((occupancy_from [] t) ++ (filter_map (barred_finding i) t)) c.tell_barred.new.listener c.in_ok-tell_availability.ensures.heard
+    (err_second R F c.tell_barred.result c.tell_availability.new.listener (occupancy_from [] t) c.tell_occupancy.new.listener (filter_map (barred_finding i) t) c.tell_barred.new.listener c.in_ok-tell_occupancy.ensures.heard
+    c.tell_barred.ensures.front)))

@@ -1,0 +1,23 @@
+-- A listener before and after findings.
+use Rattle.std.specs.Prelude.{◌≡◌, ◌⊎◌, ◌++◌, List, [], ◌∷◌}
+use Rattle.ctt_findings.specs.declared.finding.Finding.{Finding}
+use Rattle.ctt_findings.specs.declared.untold.Untold.{Untold}
+use Rattle.ctt_findings.specs.declared.untold.Untold.TheVariants.{NoMemory}
+
+-- a becomes b by hearing these findings, one after another, where `hears` says what one of them does
+abbrev pub Hears : {L : Type 0} → (L → Finding → L → Type 0) → L → List Finding → L → Type 0
+Hears hears a [] b = b ≡ a
+Hears {L} hears a (f ∷ fs) b = (m : L) × hears a f m × Hears hears m fs b
+
+-- a becomes b by a fault: by one of its own, or where there is no memory by nothing
+abbrev pub Fails : {L : Type 0} → (Untold → L → L → Type 0) → L → L → Untold → Type 0
+Fails fails a b fault = fails fault a b ⊎ ((fault ≡ NoMemory) × (b ≡ a))
+
+-- a becomes b by hearing a front of these findings, and then by a fault
+pub record HearsFront {L : Type 0} (hears : L → Finding → L → Type 0) (fails : Untold → L → L → Type 0) (a : L) (fs : List Finding) (b : L) (fault : Untold) : Type 0 where
+  pub front : List Finding
+  pub rest : List Finding
+  pub middle : L
+  pub parts : fs ≡ front ++ rest
+  pub heard : Hears hears a front middle
+  pub failed : Fails fails middle b fault

@@ -1,0 +1,6 @@
+pub mod Findings
+pub mod Fitting
+pub mod Hearing
+pub mod Lines
+pub mod Laws
+pub mod Writing

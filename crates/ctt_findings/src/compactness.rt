@@ -1,0 +1,140 @@
+//! The lectures that stand alone in a curriculum.
+
+ghost use Rattle.std.specs.Prelude.{◌≡◌, ◌<◌, ℕ, not, filter_map, IfSome, IfErr, OnOk};
+ghost use Rattle.std.specs.List.{AllByRecursion as Each};
+ghost use Rattle.ctt_text.specs.Lists.{has};
+ghost use Rattle.ctt_text.specs.Marks.{is_marked};
+ghost use Rattle.ctt_text.specs.Problem.{curriculum_count, members};
+ghost use Rattle.ctt_text.specs.Timetable.{IsTimetable, Fits};
+ghost use Rattle.ctt_rules.specs.Neighbours.{busy, is_beside};
+ghost use Rattle.ctt_rules.specs.Penalty.{lectures_of};
+ghost use Rattle.ctt_findings.specs.Findings.{compactness_finding, compactness_findings, compactness_of};
+ghost use Rattle.ctt_findings.specs.Fitting.{FindingFits};
+ghost use Rattle.ctt_findings.specs.Hearing.{Hears, HearsFront};
+
+use crate::finding::Finding;
+use crate::listener::{Listener, tell};
+use crate::untold::Untold;
+use ctt_rules::{count_alone, course_row, mark_slots};
+use ctt_text::{CourseNo, CurriculumNo, Instance, Marks, Placed};
+use std::slice::from_ref;
+
+/// The members of a curriculum.
+fn members_of(instance: &Instance, curriculum: CurriculumNo) -> Marks
+    requires { curriculum < curriculum_count instance.now }
+    ensures { (c : ℕ) → is_marked result c ≡ has c (members instance.now curriculum) }
+{
+    instance.limits_hold();
+    let mut courses = Marks::new();
+    for course in instance.members(curriculum) {
+        courses.mark(course.get() as usize);
+    }
+    courses
+}
+
+/// The slots in which members of a curriculum stand.
+fn slots_of(instance: &Instance, timetable: &[Placed], curriculum: CurriculumNo) -> Marks
+    requires timetable { IsTimetable instance.now timetable.now }
+    requires curriculum { curriculum < curriculum_count instance.now }
+    ensures { (s : ℕ) → is_marked result s
+        ≡ busy (lectures_of (members instance.now curriculum) timetable.now) s }
+{
+    let mut slots = Marks::new();
+    for course in instance.members(curriculum) {
+        mark_slots(
+            instance,
+            &mut slots,
+            course_row(instance, timetable, *course),
+        );
+    }
+    slots
+}
+
+/// A lecture of a curriculum beside whose slot none of these slots is: two points.
+fn alone(
+    instance: &Instance,
+    curriculum: CurriculumNo,
+    slots: &Marks,
+    lecture: &Placed,
+) -> Option<Finding>
+    requires curriculum { curriculum < curriculum_count instance.now }
+    requires lecture { Fits instance.now lecture.now }
+    ensures finding { result ≡ compactness_finding curriculum
+        (not (is_beside instance.now (is_marked slots.now) lecture.now.slot)) lecture.now }
+    ensures fits { IfSome result (FindingFits instance.now) }
+{
+    if count_alone(instance, slots, from_ref(lecture)) == 0 {
+        return None;
+    }
+    Some(Finding::Compactness(curriculum, *lecture, 2))
+}
+
+/// Tells of the lectures of one course of a curriculum that stand beside none of these slots.
+fn tell_alone<L: Listener>(
+    listener: &mut L,
+    instance: &Instance,
+    curriculum: CurriculumNo,
+    slots: &Marks,
+    row: &[Placed],
+) -> Result<(), Untold>
+    requires curriculum { curriculum < curriculum_count instance.now }
+    requires fits { Each (Fits instance.now) row.now }
+    ensures heard { OnOk result (Hears (L.hears instance.now) listener.old
+        (filter_map (λ l. compactness_finding curriculum
+        (not (is_beside instance.now (is_marked slots.now) l.slot)) l) row.now) listener.new) }
+    ensures front { IfErr result (HearsFront (L.hears instance.now) L.fails listener.old
+        (filter_map (λ l. compactness_finding curriculum
+        (not (is_beside instance.now (is_marked slots.now) l.slot)) l) row.now) listener.new) }
+{
+    for lecture in row {
+        tell(
+            listener,
+            instance,
+            alone(instance, curriculum, slots, lecture),
+        )?;
+    }
+    Ok(())
+}
+
+/// Tells of the lectures that stand alone in one curriculum, course by course.
+fn tell_compactness_of<L: Listener>(
+    listener: &mut L,
+    instance: &Instance,
+    timetable: &[Placed],
+    curriculum: CurriculumNo,
+) -> Result<(), Untold>
+    requires timetable { IsTimetable instance.now timetable.now }
+    requires curriculum { curriculum < curriculum_count instance.now }
+    ensures heard { OnOk result (Hears (L.hears instance.now) listener.old
+        (compactness_of instance.now timetable.now curriculum) listener.new) }
+    ensures front { IfErr result (HearsFront (L.hears instance.now) L.fails listener.old
+        (compactness_of instance.now timetable.now curriculum) listener.new) }
+{
+    let courses = members_of(instance, curriculum);
+    let slots = slots_of(instance, timetable, curriculum);
+    let mut from = 0;
+    while let Some(number) = courses.next_between(from, instance.courses() as usize) {
+        let row = course_row(instance, timetable, CourseNo::new(number as u16));
+        tell_alone(listener, instance, curriculum, &slots, row)?;
+        from = number + 1;
+    }
+    Ok(())
+}
+
+/// Tells of the lectures that stand alone in a curriculum.
+pub(crate) fn tell_compactness<L: Listener>(
+    listener: &mut L,
+    instance: &Instance,
+    timetable: &[Placed],
+) -> Result<(), Untold>
+    requires { IsTimetable instance.now timetable.now }
+    ensures heard { OnOk result (Hears (L.hears instance.now) listener.old
+        (compactness_findings instance.now timetable.now) listener.new) }
+    ensures front { IfErr result (HearsFront (L.hears instance.now) L.fails listener.old
+        (compactness_findings instance.now timetable.now) listener.new) }
+{
+    for number in 0..instance.curricula() {
+        tell_compactness_of(listener, instance, timetable, CurriculumNo::new(number))?;
+    }
+    Ok(())
+}

@@ -1,0 +1,8 @@
+//! Laws of findings, for the layers above. None of these functions computes anything.
+
+ghost use Rattle.ctt_findings.specs.Laws.{FindingsAreCounted};
+
+/// Of each kind, the number of the findings, or the sum of their points, is the report's count.
+pub fn findings_are_counted()
+    ensures { FindingsAreCounted }
+{}

@@ -1,0 +1,83 @@
+//! The lectures in rooms that are taken.
+
+ghost use Rattle.std.specs.Prelude.{◌≡◌, ◌<◌, ◌==◌, ◌&&◌, ◌||◌, [], ℕ, false, length, IfOk, IfErr, OnOk};
+ghost use Rattle.ctt_text.specs.Timetable.{IsTimetable};
+ghost use Rattle.ctt_rules.specs.Earlier.{in_row};
+ghost use Rattle.ctt_findings.specs.Findings.{occupancy_finding, occupancy_from};
+ghost use Rattle.ctt_findings.specs.Hearing.{Hears, HearsFront};
+
+use crate::finding::Finding;
+use crate::listener::{Listener, tell};
+use crate::untold::Untold;
+use ctt_text::{Instance, Marks, NoMemory, Placed};
+use std::alloc::Global;
+use std::marker::Model;
+
+/// The rooms that are taken in each slot.
+#[derive(Drop)]
+struct TakenRooms {
+    slots: Vec<Marks>,
+}
+
+impl Model for TakenRooms {
+    ghost use Rattle.std.specs.Prelude.{List, ℕ};
+
+    ghost Value = { List (List ℕ) };
+
+    ghost view = { λ t. t.slots.items };
+}
+
+impl TakenRooms {
+    /// No room is taken in any of so many slots.
+    fn new(alloc: Global, slots: u16) -> Result<Self, NoMemory>
+        ensures size { IfOk result (λ taken. length taken ≡ slots) }
+        ensures none { IfOk result (λ taken. (s r : ℕ) → in_row taken s r ≡ false) }
+    {
+        let slots = vec![in alloc; Marks::new(); slots as usize]?;
+        Ok(TakenRooms { slots })
+    }
+
+    /// Takes the room of a lecture in its slot, and answers whether it was taken before.
+    fn take(&mut self, lecture: &Placed) -> bool
+        requires slot { lecture.now.slot < length self.old }
+        requires room { lecture.now.room < 2000 }
+        ensures size { length self.new ≡ length self.old }
+        ensures was { result ≡ in_row self.old lecture.now.slot lecture.now.room }
+        ensures taken { (s r : ℕ) → in_row self.new s r
+            ≡ ((lecture.now.slot == s && lecture.now.room == r) || in_row self.old s r) }
+    {
+        !self.slots[lecture.slot.get() as usize].mark(lecture.room.get() as usize)
+    }
+}
+
+/// A lecture in a room that is taken, or is not.
+fn occupancy(taken: bool, lecture: &Placed) -> Option<Finding>
+    ensures { result ≡ occupancy_finding taken lecture.now }
+{
+    if !taken {
+        return None;
+    }
+    Some(Finding::Occupancy(*lecture))
+}
+
+/// Tells of the lectures in rooms that an earlier one has in the slot.
+pub(crate) fn tell_occupancy<L: Listener>(
+    alloc: Global,
+    listener: &mut L,
+    instance: &Instance,
+    timetable: &[Placed],
+) -> Result<(), Untold>
+    requires { IsTimetable instance.now timetable.now }
+    ensures heard { OnOk result (Hears (L.hears instance.now) listener.old
+        (occupancy_from [] timetable.now) listener.new) }
+    ensures front { IfErr result (HearsFront (L.hears instance.now) L.fails listener.old
+        (occupancy_from [] timetable.now) listener.new) }
+{
+    instance.limits_hold();
+    let mut taken = TakenRooms::new(alloc, instance.slots())?;
+    for lecture in timetable {
+        let finding = occupancy(taken.take(lecture), lecture);
+        tell(listener, instance, finding)?;
+    }
+    Ok(())
+}

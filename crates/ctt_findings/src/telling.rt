@@ -1,0 +1,75 @@
+//! All findings of a timetable.
+
+ghost use Rattle.std.specs.Prelude.{OnOk, IfErr};
+ghost use Rattle.ctt_text.specs.Timetable.{IsTimetable};
+ghost use Rattle.ctt_findings.specs.Findings.{findings, hard_findings, soft_findings};
+ghost use Rattle.ctt_findings.specs.Hearing.{Hears, HearsFront};
+
+use crate::compactness::tell_compactness;
+use crate::conflicts::tell_conflicts;
+use crate::courses::{tell_days, tell_lectures, tell_stability};
+use crate::lectures::{tell_availability, tell_barred, tell_capacity};
+use crate::listener::Listener;
+use crate::occupancy::tell_occupancy;
+use crate::untold::Untold;
+use ctt_text::{Instance, Placed};
+use std::alloc::Global;
+
+/// Tells of what breaks the hard rules.
+fn tell_hard<L: Listener>(
+    alloc: Global,
+    listener: &mut L,
+    instance: &Instance,
+    timetable: &[Placed],
+) -> Result<(), Untold>
+    requires { IsTimetable instance.now timetable.now }
+    ensures heard { OnOk result (Hears (L.hears instance.now) listener.old
+        (hard_findings instance.now timetable.now) listener.new) }
+    ensures front { IfErr result (HearsFront (L.hears instance.now) L.fails listener.old
+        (hard_findings instance.now timetable.now) listener.new) }
+{
+    tell_lectures(listener, instance, timetable)?;
+    tell_conflicts(listener, instance, timetable)?;
+    tell_availability(listener, instance, timetable)?;
+    tell_occupancy(alloc, listener, instance, timetable)?;
+    tell_barred(listener, instance, timetable)
+}
+
+/// Tells of what costs points.
+fn tell_soft<L: Listener>(
+    listener: &mut L,
+    instance: &Instance,
+    timetable: &[Placed],
+) -> Result<(), Untold>
+    requires { IsTimetable instance.now timetable.now }
+    ensures heard { OnOk result (Hears (L.hears instance.now) listener.old
+        (soft_findings instance.now timetable.now) listener.new) }
+    ensures front { IfErr result (HearsFront (L.hears instance.now) L.fails listener.old
+        (soft_findings instance.now timetable.now) listener.new) }
+{
+    tell_capacity(listener, instance, timetable)?;
+    tell_days(listener, instance, timetable)?;
+    tell_compactness(listener, instance, timetable)?;
+    tell_stability(listener, instance, timetable)
+}
+
+/// Tells a listener of all that is wrong with a timetable and of all that costs points, each thing once, as
+/// it is found: the kinds in the order of the report, and within each kind by course, slot and room, but
+/// the lectures that stand alone curriculum by curriculum.
+///
+/// The memory that it takes does not depend on how much is found.
+pub fn tell_findings<L: Listener>(
+    alloc: Global,
+    listener: &mut L,
+    instance: &Instance,
+    timetable: &[Placed],
+) -> Result<(), Untold>
+    requires { IsTimetable instance.now timetable.now }
+    ensures heard { OnOk result (Hears (L.hears instance.now) listener.old
+        (findings instance.now timetable.now) listener.new) }
+    ensures front { IfErr result (HearsFront (L.hears instance.now) L.fails listener.old
+        (findings instance.now timetable.now) listener.new) }
+{
+    tell_hard(alloc, listener, instance, timetable)?;
+    tell_soft(listener, instance, timetable)
+}

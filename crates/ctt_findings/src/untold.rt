@@ -1,0 +1,35 @@
+//! Why findings were not all told.
+
+use ctt_text::NoMemory;
+use std::alloc::AllocError;
+
+/// Why a finding was not told.
+#[derive(Clone, Copy, PartialEq, Eq)]
+pub enum Untold {
+    /// There is not enough memory.
+    NoMemory,
+    /// The listener has failed.
+    Failed,
+}
+
+impl From<NoMemory> for Untold {
+    ghost use Rattle.std.specs.Prelude.{◌≡◌};
+    ghost use Rattle.ctt_findings.specs.declared.untold.Untold.TheVariants.{NoMemory as OutOfMemory};
+
+    ghost from_gives = { λ _ fault. fault ≡ OutOfMemory };
+
+    fn from(_e: NoMemory) -> Untold {
+        Untold::NoMemory
+    }
+}
+
+impl From<AllocError> for Untold {
+    ghost use Rattle.std.specs.Prelude.{◌≡◌};
+    ghost use Rattle.ctt_findings.specs.declared.untold.Untold.TheVariants.{NoMemory as OutOfMemory};
+
+    ghost from_gives = { λ _ fault. fault ≡ OutOfMemory };
+
+    fn from(_e: AllocError) -> Untold {
+        Untold::NoMemory
+    }
+}
