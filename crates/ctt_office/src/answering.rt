@@ -63,7 +63,8 @@ fn enter<J: Naming, W: Durable, R: Wait>(
 ) -> Result<(), AllocError>
     requires { EndsWith J.problem receipt.now entry.now }
     ensures { OnOk result
-        (Adds (IsOutcomeAnswer (IsInMinutes W.Sink.taken W.kept J.problem) instance.now (Ok receipt.now))
+        (Adds
+        (IsOutcomeAnswer (IsInMinutes W.Sink.taken W.kept J.problem) instance.now (Ok receipt.now))
         (string_bytes text.old) (string_bytes text.new)) }
 {
     match book.enter(rt, receipt, entry.as_bytes()) {
@@ -145,8 +146,8 @@ fn step<'i, S: Sheet<'i>, J: Naming, W: Durable, R: Wait>(
     requires same { J.problem ≡ instance.now }
     requires fits { (n : ℕ) × EventFits J.problem n event }
     ensures { OnOk result.1
-        (Adds (IsStepAnswer (IfBook book.entry (IsInMinutes W.Sink.taken W.kept J.problem)) instance.now
-        J.opening event seat.entry result.0) (string_bytes text.old) (string_bytes text.new)) }
+        (Adds (IsStepAnswer (IfBook book.entry (IsInMinutes W.Sink.taken W.kept J.problem))
+        instance.now J.opening event seat.entry result.0) (string_bytes text.old) (string_bytes text.new)) }
 {
     match event {
         Event::Commit(_) => match book {

@@ -50,7 +50,8 @@ impl<W: Durable, J: Naming> Model for Pages<W, J> {
     } };
 
     ghost invariant = { λ p. p.failed ≡ false
-        → AreMinutesOf J.problem (seen p.last) (W.Sink.taken p.start.value) (W.Sink.taken p.writer) };
+        → AreMinutesOf J.problem (seen p.last) (W.Sink.taken p.start.value)
+        (W.Sink.taken p.writer) };
 }
 
 /// Writes an entry, so that it stays.

@@ -99,8 +99,8 @@ fn serve<'i, S: Sheet<'i>, J: Naming, W: Durable, O: Sink, R: Wait>(
     requires same { J.problem ≡ instance.now }
     requires fits { (p : ℕ) × LineFits instance.now p line.now }
     ensures told { OnOk result.1
-        (Tells (IsAnswer (IfBook book.entry (IsInMinutes W.Sink.taken W.kept J.problem)) instance.now
-        J.opening line.now seat.entry result.0) (O.taken out.old) (O.taken out.new)) }
+        (Tells (IsAnswer (IfBook book.entry (IsInMinutes W.Sink.taken W.kept J.problem))
+        instance.now J.opening line.now seat.entry result.0) (O.taken out.old) (O.taken out.new)) }
     ensures broken { IfErr result.1 IsBroken }
 {
     let mut text = String::new(alloc);
@@ -141,7 +141,8 @@ fn sit<'i, S: Sheet<'i>, J: Naming, W: Durable, I: Source + Drop, O: Sink, R: Wa
 ) -> Ending
     requires { J.problem ≡ instance.now }
     ensures { IsSat (asked_by instance.now number)
-        (IsAnswer (IfBook book.entry (IsInMinutes W.Sink.taken W.kept J.problem)) instance.now J.opening)
+        (IsAnswer (IfBook book.entry (IsInMinutes W.Sink.taken W.kept J.problem)) instance.now
+        J.opening)
         seat.entry (I.left input) (O.taken out.old) (O.taken out.new) result }
 {
     let mut lines = LineReader::new(alloc, input);
