@@ -2,8 +2,8 @@
 
 use crate::both::{Case, on_both};
 use crate::cases::play_desk;
-use crate::desks::audit_text;
 use crate::faults::of_barred;
+use crate::journals::audit_text;
 use crate::reports::play_reports;
 use crate::shared::Script;
 use crate::story::Story;
@@ -75,7 +75,10 @@ fn play_on<R: Wait>(story: &mut Story, rt: &R, small: &Instance) {
         audit_text::<GridSheet>(story, small, &[], OLD_JOURNAL)
     );
     match read_both(story.alloc(), small) {
-        Ok((solution, without_top)) => play_lectures(story, rt, small, &solution, &without_top),
+        Ok(both) => {
+            play_lectures(story, rt, small, &both.0, &both.1);
+            let_go(both);
+        }
         Err(_fault) => story.no_memory(),
     }
 }
@@ -83,7 +86,10 @@ fn play_on<R: Wait>(story: &mut Story, rt: &R, small: &Instance) {
 /// The small instance, in which alg may not have room A.
 fn play_report(story: &mut Story, small: &Instance) {
     match read_solution(story.alloc(), small, SOLUTION.as_bytes()) {
-        Ok(solution) => play_reports(story, small, &solution),
+        Ok(solution) => {
+            play_reports(story, small, &solution);
+            let_go(solution);
+        }
         Err(_fault) => story.no_memory(),
     }
 }

@@ -88,9 +88,28 @@ fn play_bad_lines(story: &mut Story, small: &Instance) {
     story.compare(from, to, to, "as a script");
 }
 
-/// The desks that open empty. On the last one, where desks are shared, the draft that is left open is dropped.
-fn play_empty<R: Wait>(story: &mut Story, rt: &R, small: &Instance) {
-    for (name, lines) in [
+/// Scripts on desks that open with these lectures.
+fn play_scripts<R: Wait>(
+    story: &mut Story,
+    rt: &R,
+    small: &Instance,
+    opening: &[Placed],
+    cases: &[(&str, &str)],
+) {
+    for case in cases {
+        let (name, lines) = *case;
+        play_desk(story, rt, small, name, Script::new(opening, lines));
+    }
+}
+
+/// All desks. On the last one that opens empty, where it is shared, the draft that is left open is dropped.
+pub(crate) fn play_desks<R: Wait>(
+    story: &mut Story,
+    rt: &R,
+    small: &Instance,
+    without_top: &[Placed],
+) {
+    let on_empty = [
         ("phantom", worked::PHANTOM),
         ("changed and changed back", worked::CHANGED_BACK),
         ("out of turn", worked::OUT_OF_TURN),
@@ -99,29 +118,17 @@ fn play_empty<R: Wait>(story: &mut Story, rt: &R, small: &Instance) {
         ("refreshed", worked::REFRESHED),
         ("not refreshed", worked::NOT_REFRESHED),
         ("stale at a refresh", worked::STALE_REFRESH),
-    ] {
-        play_desk(story, rt, small, name, Script::new(&[], lines));
-    }
+    ];
+    play_scripts(story, rt, small, &[], &on_empty);
     let dropped = Script::dropping(worked::LEFT_OPEN);
     play_desk(story, rt, small, "left open, or dropped", dropped);
     play_bad_lines(story, small);
-}
-
-/// All desks.
-pub(crate) fn play_desks<R: Wait>(
-    story: &mut Story,
-    rt: &R,
-    small: &Instance,
-    without_top: &[Placed],
-) {
-    play_empty(story, rt, small);
-    for (name, lines) in [
+    let on_lectures = [
         ("a drop and a placement in one slot", worked::DROP_AND_PLACE),
         ("the drop first", worked::DROP_FIRST),
         ("a refused edit", worked::REFUSED),
-    ] {
-        play_desk(story, rt, small, name, Script::new(without_top, lines));
-    }
+    ];
+    play_scripts(story, rt, small, without_top, &on_lectures);
 }
 
 /// Lines on sheets with these lectures.

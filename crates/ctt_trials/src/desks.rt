@@ -1,112 +1,22 @@
-//! A script as events on a desk that keeps its journal: one by one, and at once. What the desk leaves is told, and its
-//! journal is written, read and audited.
+//! A script as events on a desk that keeps its journal: one by one, and at once. What the desk leaves is told.
 
 ghost use Rattle.std.specs.Prelude.{◌≡◌, ◌↔◌, IsTrue, length};
 ghost use Rattle.std.specs.List.{AllByRecursion as Each};
-ghost use Rattle.ctt_edits.specs.Fitting.{AreFew, IsShortReply};
-ghost use Rattle.ctt_core.specs.Entries.{EntryFits};
 ghost use Rattle.ctt_core.specs.Runs.{EventFits};
-ghost use Rattle.ctt_script.specs.Entries.{IsShort};
 
-use crate::faults::of_journal;
+use crate::journals::tell_journal;
 use crate::lists::add;
 use crate::sheets::lectures_fit;
 use crate::story::Story;
 use ctt_board::Sheet;
-use ctt_core::{Answer, Desk, DeskFault, Event, JournalEntry, Verdict, audit};
+use ctt_core::{Answer, Desk, DeskFault, Event};
 use ctt_draft::KeepAll;
-use ctt_edits::Reply;
-use ctt_script::{Lines, PLANNERS, read_journal, read_line, write_journal};
+use ctt_script::{Lines, PLANNERS, read_line};
 use ctt_text::{Instance, NoMemory, Placed, let_go};
 use std::alloc::{AllocError, Global};
 
 /// How many events a script has at most.
 const EVENTS: usize = 64;
-
-/// Whether a reply can be written.
-fn is_short_reply(reply: &Reply) -> bool
-    ensures { IsTrue result ↔ IsShortReply reply.now }
-{
-    match reply {
-        Reply::Lectures(list) => list.as_slice().len() <= 999_999_999,
-        Reply::Done | Reply::Refused(_) | Reply::Costs(_) | Reply::Price(_) => true,
-    }
-}
-
-/// Whether an entry can be written.
-fn is_short(entry: &JournalEntry) -> bool
-    ensures { IsTrue result ↔ IsShort entry.now }
-{
-    let asked = entry.asked.as_slice();
-    asked.len() <= 999_999_999 && asked.iter().all(|one| is_short_reply(&one.reply))
-}
-
-/// Whether entries can be written.
-fn are_short(entries: &[JournalEntry]) -> bool
-    ensures { IsTrue result ↔ Each IsShort entries.now }
-{
-    entries.iter().all(|entry| is_short(entry))
-}
-
-/// Whether the numbers of entries are those of an instance.
-fn entries_fit(small: &Instance, entries: &[JournalEntry]) -> bool
-    ensures { IsTrue result ↔ Each (EntryFits small.now) entries.now }
-{
-    entries.iter().all(|entry| entry.fits(small))
-}
-
-/// Tells what is found of entries.
-fn tell_verdict<'i, S: Sheet<'i>>(
-    story: &mut Story,
-    small: &'i Instance,
-    opening: &[Placed],
-    entries: &[JournalEntry],
-) {
-    if !lectures_fit(small, opening) || !entries_fit(small, entries) {
-        return story.say("unfit");
-    }
-    match audit::<S>(story.alloc(), small, opening, entries) {
-        Ok(Verdict::Agrees) => story.say("agrees"),
-        Ok(Verdict::Differs(entry, call)) => {
-            story.pair("differs", entry);
-            story.count("", call);
-        }
-        Ok(Verdict::BadOpening(at, fault)) => story.unlawful(small, at, fault),
-        Err(NoMemory) => story.no_memory(),
-    }
-}
-
-/// Reads and audits the text of a journal.
-pub(crate) fn audit_text<'i, S: Sheet<'i>>(
-    story: &mut Story,
-    small: &'i Instance,
-    opening: &[Placed],
-    text: &[u8],
-) {
-    match read_journal(story.alloc(), small, text) {
-        Ok(entries) => tell_verdict::<S>(story, small, opening, &entries),
-        Err(fault) => story.fault(of_journal(fault)),
-    }
-}
-
-/// Tells the journal of entries, and what is found of it.
-pub(crate) fn tell_journal<'i, S: Sheet<'i>>(
-    story: &mut Story,
-    small: &'i Instance,
-    opening: &[Placed],
-    entries: &[JournalEntry],
-) {
-    if !entries_fit(small, entries) || !are_short(entries) || entries.len() > 999_999_999 {
-        return story.say("unfit");
-    }
-    match write_journal(story.alloc(), small, entries) {
-        Ok(text) => {
-            story.bytes(&text);
-            audit_text::<S>(story, small, opening, &text);
-        }
-        Err(NoMemory) => story.no_memory(),
-    }
-}
 
 /// Tells the lectures, the cost and the journal of a desk.
 pub(crate) fn tell_desk<'i, S: Sheet<'i>>(
@@ -199,6 +109,20 @@ fn answer_lines<'i, S: Sheet<'i>>(
     }
 }
 
+/// Plays a script event by event on a desk, and answers where its answers end in what was told.
+fn step_on<'i, S: Sheet<'i>>(
+    story: &mut Story,
+    small: &'i Instance,
+    opening: &[Placed],
+    desk: &mut Desk<'i, S, KeepAll>,
+    script: &str,
+) -> usize {
+    answer_lines(story, small, desk, script);
+    let end = story.len();
+    tell_desk(story, small, opening, desk);
+    end
+}
+
 /// Plays a script event by event, and answers where its answers end in what was told.
 pub(crate) fn step<'i, S: Sheet<'i>>(
     story: &mut Story,
@@ -206,14 +130,14 @@ pub(crate) fn step<'i, S: Sheet<'i>>(
     opening: &[Placed],
     script: &str,
 ) -> usize {
-    let Some(mut desk) = desk_with::<S>(story, small, opening) else {
-        return story.len();
-    };
-    answer_lines(story, small, &mut desk, script);
-    let end = story.len();
-    tell_desk(story, small, opening, &desk);
-    let_go(desk);
-    end
+    match desk_with::<S>(story, small, opening) {
+        Some(mut desk) => {
+            let end = step_on(story, small, opening, &mut desk, script);
+            let_go(desk);
+            end
+        }
+        None => story.len(),
+    }
 }
 
 /// What a line of a script asks for.

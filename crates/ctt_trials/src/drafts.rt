@@ -9,7 +9,7 @@ use ctt_board::{Cell, Change, Sheet, Timetable};
 use ctt_core::Answer;
 use ctt_draft::{Draft, KeepAll, replay};
 use ctt_edits::{Call, Reply};
-use ctt_text::{CourseNo, Instance, NoMemory, RoomNo, SlotNo};
+use ctt_text::{CourseNo, Instance, NoMemory, RoomNo, SlotNo, let_go};
 
 /// top in the third period of the first day, in room B.
 fn top() -> Cell {
@@ -47,6 +47,18 @@ fn ask_once<'i, S: Sheet<'i>>(
     draft.call(*call)
 }
 
+/// What a draft answers to a call that wanted memory before.
+fn ask_again<'i, S: Sheet<'i>>(
+    story: &mut Story,
+    draft: &mut Draft<'i, S, KeepAll>,
+    call: &Call,
+) -> Option<Reply>
+    ensures { draft.new.problem ≡ draft.old.problem }
+{
+    story.call_again();
+    ask_once(draft, call).ok()
+}
+
 /// What a draft answers to a call. Where that is want of memory, it is asked again.
 fn ask<'i, S: Sheet<'i>>(
     story: &mut Story,
@@ -57,10 +69,7 @@ fn ask<'i, S: Sheet<'i>>(
 {
     match ask_once(draft, call) {
         Ok(reply) => Some(reply),
-        Err(NoMemory) => {
-            story.call_again();
-            ask_once(draft, call).ok()
-        }
+        Err(NoMemory) => ask_again(story, draft, call),
     }
 }
 
@@ -117,9 +126,13 @@ fn settle<'i, S: Sheet<'i>>(story: &mut Story, draft: Draft<'i, S, KeepAll>, she
             story.count("calls", work.asked.len());
             story.count("changes", work.changes.len() as u64);
             work.settle(sheet);
+            let_go(work);
             tell_sheet(story, sheet);
         }
-        Ok(Some(_)) | Err(NoMemory) => story.say("not settled"),
+        Ok(Some(_)) | Err(NoMemory) => {
+            let_go(draft);
+            story.say("not settled");
+        }
     }
 }
 

@@ -23,6 +23,7 @@ mod desks;
 mod devices;
 mod drafts;
 mod faults;
+mod journals;
 mod lists;
 mod reports;
 mod scripts;
@@ -83,7 +84,7 @@ fn play_refused(story: &mut Story, small: &Instance, lectures: &[Placed]) {
     played!(story, shared::tell_unlawful(story, small, lectures));
     played!(
         story,
-        desks::audit_text::<GridSheet>(story, small, lectures, JOURNAL.as_bytes())
+        journals::audit_text::<GridSheet>(story, small, lectures, JOURNAL.as_bytes())
     );
     played!(
         story,
@@ -95,7 +96,10 @@ fn play_refused(story: &mut Story, small: &Instance, lectures: &[Placed]) {
 fn play_unlawful(story: &mut Story, small: &Instance) {
     story.say("an unlawful opening");
     match read_solution(story.alloc(), small, CLASH.as_bytes()) {
-        Ok(lectures) => play_refused(story, small, &lectures),
+        Ok(lectures) => {
+            play_refused(story, small, &lectures);
+            let_go(lectures);
+        }
         Err(_fault) => story.no_memory(),
     }
 }
@@ -106,7 +110,7 @@ fn play_other_journal(story: &mut Story, small: &Instance, without_top: &[Placed
     let other = b"journal 1 entry 0 1 place top A 0 1 done END.";
     played!(
         story,
-        desks::audit_text::<GridSheet>(story, small, without_top, other)
+        journals::audit_text::<GridSheet>(story, small, without_top, other)
     );
 }
 
@@ -165,8 +169,9 @@ fn play_lectures<R: Threads + Wait + Sync>(
 /// All that is played on the small instance.
 fn play_small<R: Threads + Wait + Sync>(story: &mut Story, rt: &R, small: &Instance) {
     match read_both(story.alloc(), small) {
-        Ok((solution, without_top)) => {
-            play_lectures(story, rt, small, &solution, &without_top);
+        Ok(both) => {
+            play_lectures(story, rt, small, &both.0, &both.1);
+            let_go(both);
         }
         Err(_fault) => story.no_memory(),
     }

@@ -48,6 +48,24 @@ fn tell_run<'i, S: Sheet<'i>>(
     tell_desk(story, small, opening, desk);
 }
 
+/// Tells what a script wrote that was run, and what its desk has, or answers why it could not be run.
+fn tell_ran<'i, S: Sheet<'i>>(
+    story: &mut Story,
+    small: &'i Instance,
+    opening: &[Placed],
+    shelf: &Shelf,
+    ran: Result<Desk<'i, S, KeepAll>, ScriptFault>,
+) -> Result<(), ScriptFault> {
+    match ran {
+        Ok(desk) => {
+            tell_run(story, small, opening, shelf, &desk);
+            let_go(desk);
+            Ok(())
+        }
+        Err(fault) => Err(fault),
+    }
+}
+
 /// Runs a script, and tells what it wrote and what its desk has, or answers why it could not be run.
 fn run_once<'i, S: Sheet<'i>>(
     story: &mut Story,
@@ -60,23 +78,9 @@ fn run_once<'i, S: Sheet<'i>>(
         return Err(ScriptFault::NoMemory);
     }
     let mut reader = Memory::new(reading.text, reading.fails_at);
-    let ran: Result<Desk<'i, S, KeepAll>, ScriptFault> = run_script(
-        story.alloc(),
-        small,
-        opening,
-        &mut reader,
-        shelf,
-        &mut None,
-    );
+    let ran = run_script(story.alloc(), small, opening, &mut reader, shelf, &mut None);
     reading.pulls = reader.pulls();
-    match ran {
-        Ok(desk) => {
-            tell_run(story, small, opening, shelf, &desk);
-            let_go(desk);
-            Ok(())
-        }
-        Err(fault) => Err(fault),
-    }
+    tell_ran::<S>(story, small, opening, shelf, ran)
 }
 
 /// Runs a script, and once more where memory is wanted, then on a writer as it was before.
@@ -133,20 +137,27 @@ pub(crate) struct Told<'a> {
     pub(crate) answers: &'a [u8],
 }
 
-/// Runs a script on a writer that fails, and answers whether that is a failed write.
+/// Whether a writer holds so many bytes, which are the front of a text.
+fn holds(shelf: &Shelf, text: &[u8], taken: usize) -> bool {
+    shelf.held().len() == taken && text.starts_with(shelf.held())
+}
+
+/// Runs a script on a writer that fails, and answers whether that is a failed write, behind so many bytes.
 fn fails_to_write<'i, S: Sheet<'i>>(
     story: &mut Story,
     small: &'i Instance,
     told: Told,
     shelf: &mut Shelf,
     failing: Failing,
+    taken: usize,
 ) -> bool {
     let mut reading = Reading::new(told.script, 0);
-    run::<S>(story, small, &[], &mut reading, shelf, failing) == Err(ScriptFault::Write)
+    let ran = run::<S>(story, small, &[], &mut reading, shelf, failing);
+    ran == Err(ScriptFault::Write) && holds(shelf, told.answers, taken)
 }
 
 /// Runs a script on a reader whose read with this number fails, and answers whether that is a failed read, behind which no
-/// other one was tried.
+/// other one was tried and nothing was written.
 fn fails_to_read<'i, S: Sheet<'i>>(
     story: &mut Story,
     small: &'i Instance,
@@ -156,20 +167,16 @@ fn fails_to_read<'i, S: Sheet<'i>>(
 ) -> bool {
     let mut reading = Reading::new(told.script, fails_at);
     let ran = run::<S>(story, small, &[], &mut reading, shelf, Failing::Never);
-    ran == Err(ScriptFault::Read) && reading.pulls == fails_at
+    ran == Err(ScriptFault::Read) && reading.pulls == fails_at && shelf.held().is_empty()
 }
 
 /// Behind how many bytes a writer may fail so that the script has a failed write, and these bytes were written.
 fn failing_writes(story: &mut Story, small: &Instance, told: Told, shelf: &mut Shelf) -> u64 {
     let mut failed = 0u64;
-    for behind in 0..told.answers.len() {
-        let failing = Failing::Behind(behind);
-        if fails_to_write::<GridSheet>(story, small, told, shelf, failing)
-            && told.answers.starts_with(shelf.held())
-            && shelf.held().len() == behind
-        {
-            failed = failed.saturating_add(1);
-        }
+    for taken in 0..told.answers.len() {
+        let failing = Failing::Behind(taken);
+        let is_failed = fails_to_write::<GridSheet>(story, small, told, shelf, failing, taken);
+        failed = failed.saturating_add(u64::from(is_failed));
     }
     failed
 }
@@ -178,29 +185,33 @@ fn failing_writes(story: &mut Story, small: &Instance, told: Told, shelf: &mut S
 fn failing_reads(story: &mut Story, small: &Instance, told: Told, shelf: &mut Shelf) -> u64 {
     let mut failed = 0u64;
     for behind in 0..=told.script.len() as u64 {
-        if fails_to_read::<GridSheet>(story, small, told, shelf, behind.saturating_add(1))
-            && shelf.held().is_empty()
-        {
-            failed = failed.saturating_add(1);
-        }
+        let fails_at = behind.saturating_add(1);
+        let is_failed = fails_to_read::<GridSheet>(story, small, told, shelf, fails_at);
+        failed = failed.saturating_add(u64::from(is_failed));
     }
     failed
 }
 
-/// Tells how a script ends on a writer that fails, and what was written.
+/// Tells what a writer took on which a script failed.
+fn tell_shelf(story: &mut Story, is_failed: bool, shelf: &Shelf) {
+    story.count("a failed write", u64::from(is_failed));
+    story.count("flushes", shelf.flushes());
+    story.count("bytes", shelf.held().len() as u64);
+    story.bytes(shelf.held());
+    story.say("");
+}
+
+/// Tells how a script ends on a writer that fails behind so many bytes.
 fn tell_failing(
     story: &mut Story,
     small: &Instance,
     told: Told,
     shelf: &mut Shelf,
     failing: Failing,
+    taken: usize,
 ) {
-    let is_failed = fails_to_write::<GridSheet>(story, small, told, shelf, failing);
-    story.count("a failed write", u64::from(is_failed));
-    story.count("flushes", shelf.flushes());
-    story.count("bytes", shelf.held().len() as u64);
-    story.bytes(shelf.held());
-    story.say("");
+    let is_failed = fails_to_write::<GridSheet>(story, small, told, shelf, failing, taken);
+    tell_shelf(story, is_failed, shelf);
 }
 
 /// A script on devices that fail.
@@ -210,15 +221,22 @@ fn play_failing(story: &mut Story, small: &Instance, told: Told, shelf: &mut She
     let failed = failing_reads(story, small, told, shelf);
     story.count("readers that fail behind some bytes", failed);
     story.say("a writer that takes nothing");
-    tell_failing(story, small, told, shelf, Failing::Idle);
+    tell_failing(story, small, told, shelf, Failing::Idle, 0);
     story.say("a writer whose flush fails");
-    tell_failing(story, small, told, shelf, Failing::Flush);
+    tell_failing(
+        story,
+        small,
+        told,
+        shelf,
+        Failing::Flush,
+        told.answers.len(),
+    );
     story.say("a writer that fails behind three bytes");
     let bad = Told {
         script: b"0 commit",
         answers: b"no draft\n",
     };
-    tell_failing(story, small, bad, shelf, Failing::Behind(3));
+    tell_failing(story, small, bad, shelf, Failing::Behind(3), 3);
 }
 
 /// Reads a text from a device.
@@ -249,18 +267,15 @@ fn failing_reads_of(story: &mut Story, text: &[u8]) -> u64 {
 /// Whether a text has a failed write on a writer that fails, which has then taken so many of its bytes.
 fn fails_to_take(shelf: &mut Shelf, text: &[u8], failing: Failing, taken: usize) -> bool {
     shelf.renew(failing);
-    put_whole(shelf, text) == Err(Failed)
-        && text.starts_with(shelf.held())
-        && shelf.held().len() == taken
+    put_whole(shelf, text) == Err(Failed) && holds(shelf, text, taken)
 }
 
 /// Behind how many bytes a writer may fail so that a text has a failed write, and these bytes were written.
 fn failing_writes_of(text: &[u8], shelf: &mut Shelf) -> u64 {
     let mut failed = 0u64;
     for behind in 0..text.len() {
-        if fails_to_take(shelf, text, Failing::Behind(behind), behind) {
-            failed = failed.saturating_add(1);
-        }
+        let is_failed = fails_to_take(shelf, text, Failing::Behind(behind), behind);
+        failed = failed.saturating_add(u64::from(is_failed));
     }
     failed
 }

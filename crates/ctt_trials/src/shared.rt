@@ -2,7 +2,7 @@
 
 ghost use Rattle.ctt_desk.specs.Names.{IsNamed};
 
-use crate::desks::tell_journal;
+use crate::journals::tell_journal;
 use crate::seats::Seat;
 use crate::sheets::lectures_fit;
 use crate::story::Story;

@@ -2,7 +2,7 @@ use Rattle.std.proofs.Common.{rules}
 use Rattle.std.specs.List.{AllByRecursion as Each}
 use Rattle.ctt_text.specs.Timetable.{Fits}
 use Rattle.ctt_core.specs.Entries.{EntryFits}
-use Rattle.ctt_trials.proofs.desks.tell_verdict.Goals as goal
+use Rattle.ctt_trials.proofs.journals.tell_verdict.Goals as goal
 
 pub audit-requires : goal.audit-requires
 audit-requires g c κs =
