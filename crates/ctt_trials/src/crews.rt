@@ -1,7 +1,7 @@
 //! A crew of one planner, on a thread.
 
 use crate::story::Story;
-use ctt_script::{CrewFault, NoGate, crew};
+use ctt_script::{CrewFault, Lines, NoGate, crew};
 use ctt_text::Instance;
 use std::marker::Sync;
 use std::sync::Wait;
@@ -9,7 +9,12 @@ use std::thread::Threads;
 
 /// Whether what a crew wrote has a line of these words.
 fn has_line(text: &[u8], words: &[u8]) -> bool {
-    text.split(|byte| *byte == b'\n').any(|line| line == words)
+    for line in Lines::new(text) {
+        if line == words {
+            return true;
+        }
+    }
+    false
 }
 
 /// What a crew wrote, unless memory or a place was wanted, by it or by its planner.

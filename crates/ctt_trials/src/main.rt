@@ -32,6 +32,7 @@ mod shared;
 mod sheets;
 mod story;
 mod texts;
+mod transfers;
 mod turns;
 mod worked;
 
@@ -132,7 +133,7 @@ fn play_devices(story: &mut Story, small: &Instance) {
         b"differs 1 1\n".as_slice(),
         CREW_ANSWERS.as_bytes(),
     ];
-    played!(story, scripts::play_texts(story, &read, &written));
+    played!(story, transfers::play_texts(story, &read, &written));
 }
 
 /// A crew of one planner, whose draft is committed, or left open.
