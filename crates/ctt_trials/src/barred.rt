@@ -76,7 +76,7 @@ fn play_on<R: Wait>(story: &mut Story, rt: &R, small: &Instance) {
     );
     match read_both(story.alloc(), small) {
         Ok(both) => {
-            play_lectures(story, rt, small, &both.0, &both.1);
+            play_lectures(story, rt, small, &both.solution, &both.without_top);
             let_go(both);
         }
         Err(_fault) => story.no_memory(),

@@ -171,7 +171,7 @@ fn play_lectures<R: Threads + Wait + Sync>(
 fn play_small<R: Threads + Wait + Sync>(story: &mut Story, rt: &R, small: &Instance) {
     match read_both(story.alloc(), small) {
         Ok(both) => {
-            play_lectures(story, rt, small, &both.0, &both.1);
+            play_lectures(story, rt, small, &both.solution, &both.without_top);
             let_go(both);
         }
         Err(_fault) => story.no_memory(),

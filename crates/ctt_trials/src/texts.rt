@@ -40,11 +40,18 @@ pub(crate) const JOURNAL: &str =
     "journal 1\nentry 0 1\nplace top A 0 1\nrefused roomtaken geo\nEND.\n";
 
 /// The lectures of the solution, and those without top.
-pub(crate) fn read_both(
-    alloc: Global,
-    small: &Instance,
-) -> Result<(Vec<Placed>, Vec<Placed>), SolutionFault> {
+#[derive(Drop)]
+pub(crate) struct Lectures {
+    pub(crate) solution: Vec<Placed>,
+    pub(crate) without_top: Vec<Placed>,
+}
+
+/// Reads both solutions.
+pub(crate) fn read_both(alloc: Global, small: &Instance) -> Result<Lectures, SolutionFault> {
     let solution = read_solution(alloc, small, SOLUTION.as_bytes())?;
     let without_top = read_solution(alloc, small, WITHOUT_TOP.as_bytes())?;
-    Ok((solution, without_top))
+    Ok(Lectures {
+        solution,
+        without_top,
+    })
 }
