@@ -1,0 +1,31 @@
+-- Cells and columns, by one lecture or one text more.
+use Rattle.std.proofs.Common.{◌≡◌, ℕ, ◌+◌, ◌<◌, ◌==◌, max, Bool, true, false, cond, List, [], ◌∷◌, ◌++◌, take, length, get_or, map, fold, refl, ◌∙◌, sym, ap, append-nil}
+use Rattle.std.specs.List.{filter}
+use Rattle.std.proofs.lemmas.Bool.{cases_Bool}
+use Rattle.std.proofs.lemmas.Grind.{fold-append}
+use Rattle.std.proofs.lemmas.List.{map_push}
+use Rattle.std.proofs.lemmas.List.Elements.{filter_more}
+use Rattle.ctt_text.specs.Problem.{Problem}
+use Rattle.ctt_text.specs.Timetable.{slot_row}
+use Rattle.ctt_text.specs.declared.placed.Placed.{Placed}
+use Rattle.ctt_week.specs.Week.{comma, entries, entry, widest, width}
+
+-- the lectures that pass, of one more
+pub more_pass : (p : Placed → Bool) (t : List Placed) (k : ℕ) (x : Placed) → k < length t → x ≡ get_or t k x → filter p (take (k + 1) t) ≡ filter p (take k t) ++ cond (p x) (x ∷ []) []
+more_pass p t k x within at = filter_more p t k x within ∙ ap (λ y. filter p (take k t) ++ cond (p y) (y ∷ []) []) (sym at)
+
+-- the text of a cell with one lecture more, where it stands there, and where it does not
+pub entry_more : (i : Problem) (s : ℕ) (t : List Placed) (k : ℕ) (x : Placed) → k < length t → x ≡ get_or t k x → (x.slot == s) ≡ true
+    → entries i (slot_row s (take (k + 1) t)) ≡ entries i (slot_row s (take k t)) ++ (comma (entries i (slot_row s (take k t))) ++ entry i x)
+entry_more i s t k x within at here =
+    ap (entries i) (more_pass (λ l. l.slot == s) t k x within at ∙ ap (λ b. slot_row s (take k t) ++ cond b (x ∷ []) []) here)
+    ∙ fold-append (λ cell l. cell ++ (comma cell ++ entry i l)) [] (slot_row s (take k t)) (x ∷ [])
+
+pub entry_elsewhere : (i : Problem) (s : ℕ) (t : List Placed) (k : ℕ) (x : Placed) → k < length t → x ≡ get_or t k x → (x.slot == s) ≡ false
+    → entries i (slot_row s (take (k + 1) t)) ≡ entries i (slot_row s (take k t))
+entry_elsewhere i s t k x within at away =
+    ap (entries i) (more_pass (λ l. l.slot == s) t k x within at ∙ ap (λ b. slot_row s (take k t) ++ cond b (x ∷ []) []) away ∙ append-nil (slot_row s (take k t)))
+
+-- the widest of texts, with one more
+pub widest_more : (texts : List (List ℕ)) (text : List ℕ) → widest (texts ++ text ∷ []) ≡ max (widest texts) (width text)
+widest_more texts text = fold-append (λ n more. max n (width more)) 0 texts (text ∷ [])
