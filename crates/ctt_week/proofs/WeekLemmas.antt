@@ -1,14 +1,16 @@
 -- Cells and columns, by one lecture or one text more.
-use Rattle.std.proofs.Common.{◌≡◌, ℕ, ◌+◌, ◌<◌, ◌==◌, max, Bool, true, false, cond, List, [], ◌∷◌, ◌++◌, take, length, get_or, map, fold, refl, ◌∙◌, sym, ap, append-nil}
+use Rattle.std.proofs.Common.{◌≡◌, ℕ, ◌+◌, ◌<◌, ◌==◌, max, Bool, true, false, cond, List, [], ◌∷◌, ◌++◌, take, length, get_or, map, fold, refl, ◌∙◌, sym, ap, append-nil, add-one}
 use Rattle.std.specs.List.{filter}
-use Rattle.std.proofs.lemmas.Bool.{cases_Bool}
 use Rattle.std.proofs.lemmas.Grind.{fold-append}
-use Rattle.std.proofs.lemmas.List.{map_push}
 use Rattle.std.proofs.lemmas.List.Elements.{filter_more}
 use Rattle.ctt_text.specs.Problem.{Problem}
 use Rattle.ctt_text.specs.Timetable.{slot_row}
 use Rattle.ctt_text.specs.declared.placed.Placed.{Placed}
-use Rattle.ctt_week.specs.Week.{comma, entries, entry, widest, width}
+use Rattle.ctt_week.specs.Week.{comma, entries, entry, for_each, widest, width}
+
+-- what is given for one number more
+pub each_more : {X : Type 0} (f : ℕ → List X) (n : ℕ) → for_each f (n + 1) ≡ for_each f n ++ f n
+each_more f n = rw add-one refl
 
 -- the lectures that pass, of one more
 pub more_pass : (p : Placed → Bool) (t : List Placed) (k : ℕ) (x : Placed) → k < length t → x ≡ get_or t k x → filter p (take (k + 1) t) ≡ filter p (take k t) ++ cond (p x) (x ∷ []) []

@@ -1,5 +1,5 @@
 -- The week of a timetable as text: tables that have a column a day and a line a period.
-use Rattle.std.specs.Prelude.{ℕ, zero, suc, ◌+◌, ◌-◌, ◌<◌, max, Bool, false, List, [], ◌∷◌, ◌++◌, length, get_or, fold, filter, flat_map, ◌==◌, Option, Some, None, codes, chars, slice_index_or, if◌then◌else◌}
+use Rattle.std.specs.Prelude.{ℕ, zero, suc, ◌+◌, ◌-◌, ◌<◌, max, Bool, false, List, [], ◌∷◌, ◌++◌, length, get_or, replicate, fold, filter, flat_map, ◌==◌, Option, Some, None, codes, chars, slice_index_or, if◌then◌else◌}
 use Rattle.std.specs.Fmt.{decimal}
 use Rattle.unicode_width.specs.Width.{str_width}
 use Rattle.ctt_text.specs.Lists.{has}
@@ -73,7 +73,7 @@ abbrev pub widest : List (List ℕ) → ℕ
 widest texts = fold (λ n text. max n (width text)) 0 texts
 
 abbrev pub blanks : ℕ → List ℕ
-blanks n = for_each (λ k. codes " ") n
+blanks n = replicate n 32
 
 -- the text of a column in a line, filled with blanks to the width of the column
 abbrev pub filled : ℕ → List (List ℕ) → List ℕ

@@ -12,6 +12,7 @@ use ctt_text::{Instance, Placed};
 use std::alloc::{AllocError, Global};
 
 /// The column of the periods.
+#[tactic(auto, using(crate::proofs::WeekLemmas::each_more))]
 fn period_column(alloc: Global, instance: &Instance) -> Result<Column, AllocError>
     ensures { IfOk result (λ column. column ≡ period_column instance.now) }
 {
@@ -24,6 +25,7 @@ fn period_column(alloc: Global, instance: &Instance) -> Result<Column, AllocErro
 }
 
 /// The column of a day, of the lectures in the selection.
+#[tactic(auto, using(crate::proofs::WeekLemmas::each_more))]
 fn day_column(
     alloc: Global,
     instance: &Instance,
@@ -47,6 +49,7 @@ fn day_column(
 }
 
 /// The columns of the lectures in the selection.
+#[tactic(auto, using(crate::proofs::WeekLemmas::each_more))]
 pub(crate) fn columns(
     alloc: Global,
     instance: &Instance,

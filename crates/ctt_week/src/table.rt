@@ -53,6 +53,7 @@ fn push_line(text: &mut String, columns: &[Column], place: usize) -> Result<(), 
 }
 
 /// Adds the first lines of a table.
+#[tactic(auto, using(crate::proofs::WeekLemmas::each_more))]
 fn push_lines(text: &mut String, columns: &[Column], count: usize) -> Result<(), AllocError>
     ensures { OnOk result (string_bytes text.new
         ≡ string_bytes text.old ++ for_each (line columns.now) count) }
@@ -93,6 +94,7 @@ fn push_gap(text: &mut String, number: u16) -> Result<(), AllocError>
 }
 
 /// Adds the table of each room, with a blank line between two.
+#[tactic(auto, using(crate::proofs::WeekLemmas::each_more))]
 fn push_tables(
     alloc: Global,
     text: &mut String,
