@@ -1,5 +1,5 @@
 -- Cells and columns, by one lecture or one text more.
-use Rattle.std.proofs.Common.{◌≡◌, ℕ, ◌+◌, ◌<◌, ◌==◌, max, Bool, true, false, cond, List, [], ◌∷◌, ◌++◌, take, length, get_or, map, fold, refl, ◌∙◌, sym, ap, append-nil, add-one}
+use Rattle.std.proofs.Common.{◌≡◌, ℕ, ◌+◌, ◌<◌, ◌==◌, max, Bool, true, false, cond, List, [], ◌∷◌, ◌++◌, take, length, get_or, map, fold, refl, ◌∙◌, sym, ap, append-nil, append_assoc, add-one}
 use Rattle.std.specs.List.{filter}
 use Rattle.std.proofs.lemmas.Grind.{fold-append}
 use Rattle.std.proofs.lemmas.List.Elements.{filter_more}
@@ -11,6 +11,15 @@ use Rattle.ctt_week.specs.Week.{comma, entries, entry, for_each, widest, width}
 -- what is given for one number more
 pub each_more : {X : Type 0} (f : ℕ → List X) (n : ℕ) → for_each f (n + 1) ≡ for_each f n ++ f n
 each_more f n = rw add-one refl
+
+-- two texts behind what is given so far are what is given for one number more
+pub two_more : (f g : ℕ → List ℕ) (n m : ℕ) (start a b c : List ℕ) → m ≡ n → a ≡ start ++ for_each (λ k. f k ++ g k) n → b ≡ a ++ f n → c ≡ b ++ g m
+    → c ≡ start ++ for_each (λ k. f k ++ g k) (n + 1)
+two_more f g n m start a b c same before first second =
+    second ∙ ap (λ k. b ++ g k) same ∙ ap (λ s. s ++ g n) (first ∙ ap (λ s. s ++ f n) before)
+    ∙ append_assoc (start ++ for_each (λ k. f k ++ g k) n) (f n) (g n)
+    ∙ append_assoc start (for_each (λ k. f k ++ g k) n) (f n ++ g n)
+    ∙ ap (λ s. start ++ s) (sym (each_more (λ k. f k ++ g k) n))
 
 -- the lectures that pass, of one more
 pub more_pass : (p : Placed → Bool) (t : List Placed) (k : ℕ) (x : Placed) → k < length t → x ≡ get_or t k x → filter p (take (k + 1) t) ≡ filter p (take k t) ++ cond (p x) (x ∷ []) []

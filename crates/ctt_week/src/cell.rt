@@ -70,15 +70,15 @@ fn push_mark(cell: &mut String, closed: bool) -> Result<(), AllocError>
 pub(crate) fn cell(
     alloc: Global,
     instance: &Instance,
-    selection: Selection,
+    selection: &Selection,
     lectures: &[Placed],
     slot: SlotNo,
 ) -> Result<String, AllocError>
-    requires selection { SelectionFits instance.now selection }
+    requires selection { SelectionFits instance.now selection.now }
     requires fits { Each (Fits instance.now) lectures.now }
     requires slot { slot < slot_count instance.now }
     ensures { IfOk result (λ text. string_bytes text
-        ≡ cell instance.now selection lectures.now slot) }
+        ≡ cell instance.now selection.now lectures.now slot) }
 {
     let mut text = entries(alloc, instance, lectures, slot)?;
     push_mark(&mut text, is_closed(instance, selection, slot))?;

@@ -12,7 +12,7 @@ use unicode_width::UnicodeWidthStr;
 #[derive(Drop)]
 pub(crate) struct Column {
     texts: Vec<String>,
-    widest: usize,
+    width: usize,
 }
 
 impl Model for Column {
@@ -23,7 +23,7 @@ impl Model for Column {
 
     ghost view = { λ c. map string_bytes c.texts.items };
 
-    ghost invariant = { λ c. c.widest ≡ widest (map string_bytes c.texts.items) };
+    ghost invariant = { λ c. c.width ≡ widest (map string_bytes c.texts.items) };
 }
 
 /// How wide a text stands in a terminal.
@@ -57,7 +57,7 @@ impl Column {
     {
         Column {
             texts: Vec::new(alloc),
-            widest: 0,
+            width: 0,
         }
     }
 
@@ -67,7 +67,7 @@ impl Column {
     {
         let width = width(text.as_str());
         self.texts.push(text)?;
-        self.widest = greater(self.widest, width);
+        self.width = greater(self.width, width);
         Ok(())
     }
 
@@ -75,7 +75,7 @@ impl Column {
     fn widest(&self) -> usize
         ensures { result ≡ widest self.now }
     {
-        self.widest
+        self.width
     }
 
     /// The text in a place; below the last there is none.

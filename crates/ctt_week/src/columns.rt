@@ -29,15 +29,15 @@ fn period_column(alloc: Global, instance: &Instance) -> Result<Column, AllocErro
 fn day_column(
     alloc: Global,
     instance: &Instance,
-    selection: Selection,
+    selection: &Selection,
     lectures: &[Placed],
     day: u16,
 ) -> Result<Column, AllocError>
-    requires selection { SelectionFits instance.now selection }
+    requires selection { SelectionFits instance.now selection.now }
     requires fits { Each (Fits instance.now) lectures.now }
     requires day { day < instance.now.days }
     ensures { IfOk result (λ column. column
-        ≡ day_column instance.now selection lectures.now day) }
+        ≡ day_column instance.now selection.now lectures.now day) }
 {
     let mut column = Column::new(alloc);
     column.push(format!(in alloc; "day {day}")?)?;
@@ -53,13 +53,13 @@ fn day_column(
 pub(crate) fn columns(
     alloc: Global,
     instance: &Instance,
-    selection: Selection,
+    selection: &Selection,
     lectures: &[Placed],
 ) -> Result<Vec<Column>, AllocError>
-    requires selection { SelectionFits instance.now selection }
+    requires selection { SelectionFits instance.now selection.now }
     requires fits { Each (Fits instance.now) lectures.now }
-    ensures { IfOk result (λ columns. columns.items
-        ≡ columns instance.now selection lectures.now) }
+    ensures { IfOk result (λ made. made.items
+        ≡ columns instance.now selection.now lectures.now) }
 {
     let mut columns = Vec::new(alloc);
     columns.push(period_column(alloc, instance)?)?;

@@ -23,29 +23,29 @@ pub enum Selection {
 }
 
 /// Whether a lecture is in a selection.
-fn is_selected(instance: &Instance, selection: Selection, lecture: &Placed) -> bool
-    requires selection { SelectionFits instance.now selection }
+fn is_selected(instance: &Instance, selection: &Selection, lecture: &Placed) -> bool
+    requires selection { SelectionFits instance.now selection.now }
     requires lecture { Fits instance.now lecture.now }
-    ensures { result ≡ is_selected instance.now selection lecture.now }
+    ensures { result ≡ is_selected instance.now selection.now lecture.now }
 {
     match selection {
         Selection::Curriculum(curriculum) => {
-            instance.members(curriculum).contains(&lecture.course)
+            instance.members(*curriculum).contains(&lecture.course)
         }
-        Selection::Teacher(teacher) => instance.teacher(lecture.course) == teacher,
-        Selection::Course(course) => lecture.course == course,
-        Selection::Room(room) => lecture.room == room,
+        Selection::Teacher(teacher) => instance.teacher(lecture.course) == *teacher,
+        Selection::Course(course) => lecture.course == *course,
+        Selection::Room(room) => lecture.room == *room,
     }
 }
 
 /// Whether a course is selected that is unavailable in the slot.
-pub(crate) fn is_closed(instance: &Instance, selection: Selection, slot: SlotNo) -> bool
-    requires selection { SelectionFits instance.now selection }
+pub(crate) fn is_closed(instance: &Instance, selection: &Selection, slot: SlotNo) -> bool
+    requires selection { SelectionFits instance.now selection.now }
     requires slot { slot < slot_count instance.now }
-    ensures { result ≡ is_closed instance.now selection slot }
+    ensures { result ≡ is_closed instance.now selection.now slot }
 {
     match selection {
-        Selection::Course(course) => instance.unavailable(course, slot),
+        Selection::Course(course) => instance.unavailable(*course, slot),
         Selection::Curriculum(_) | Selection::Teacher(_) | Selection::Room(_) => false,
     }
 }
@@ -54,13 +54,13 @@ pub(crate) fn is_closed(instance: &Instance, selection: Selection, slot: SlotNo)
 pub(crate) fn selected(
     alloc: Global,
     instance: &Instance,
-    selection: Selection,
+    selection: &Selection,
     timetable: &[Placed],
 ) -> Result<Vec<Placed>, AllocError>
-    requires selection { SelectionFits instance.now selection }
+    requires selection { SelectionFits instance.now selection.now }
     requires fits { Each (Fits instance.now) timetable.now }
     ensures selected { IfOk result (λ list.
-        list.items ≡ filter (is_selected instance.now selection) timetable.now) }
+        list.items ≡ filter (is_selected instance.now selection.now) timetable.now) }
     ensures fits { IfOk result (λ list. Each (Fits instance.now) list.items) }
 {
     let mut list = Vec::new(alloc);

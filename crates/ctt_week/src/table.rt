@@ -15,27 +15,27 @@ use std::fmt::Write;
 fn push_title(
     text: &mut String,
     instance: &Instance,
-    selection: Selection,
+    selection: &Selection,
 ) -> Result<(), AllocError>
-    requires { SelectionFits instance.now selection }
+    requires { SelectionFits instance.now selection.now }
     ensures { OnOk result (string_bytes text.new
-        ≡ string_bytes text.old ++ title instance.now selection) }
+        ≡ string_bytes text.old ++ title instance.now selection.now) }
 {
     match selection {
         Selection::Curriculum(curriculum) => {
-            let name = instance.curriculum_name(curriculum);
+            let name = instance.curriculum_name(*curriculum);
             writeln!(text, "curriculum {name}")
         }
         Selection::Teacher(teacher) => {
-            let name = instance.teacher_name(teacher);
+            let name = instance.teacher_name(*teacher);
             writeln!(text, "teacher {name}")
         }
         Selection::Course(course) => {
-            let name = instance.course_name(course);
+            let name = instance.course_name(*course);
             writeln!(text, "course {name}")
         }
         Selection::Room(room) => {
-            let name = instance.room_name(room);
+            let name = instance.room_name(*room);
             writeln!(text, "room {name}")
         }
     }
@@ -69,13 +69,13 @@ fn push_table(
     alloc: Global,
     text: &mut String,
     instance: &Instance,
-    selection: Selection,
+    selection: &Selection,
     timetable: &[Placed],
 ) -> Result<(), AllocError>
-    requires selection { SelectionFits instance.now selection }
+    requires selection { SelectionFits instance.now selection.now }
     requires timetable { IsTimetable instance.now timetable.now }
     ensures { OnOk result (string_bytes text.new
-        ≡ string_bytes text.old ++ table instance.now selection timetable.now) }
+        ≡ string_bytes text.old ++ table instance.now selection.now timetable.now) }
 {
     let lectures = selected(alloc, instance, selection, timetable)?;
     let columns = columns(alloc, instance, selection, &lectures)?;
@@ -108,7 +108,7 @@ fn push_tables(
     for number in 0..instance.rooms() {
         let room = Selection::Room(RoomNo::new(number));
         push_gap(text, number)?;
-        push_table(alloc, text, instance, room, timetable)?;
+        push_table(alloc, text, instance, &room, timetable)?;
     }
     Ok(())
 }
@@ -127,7 +127,7 @@ fn push_week(
         ≡ string_bytes text.old ++ week instance.now selection timetable.now) }
 {
     match selection {
-        Some(selection) => push_table(alloc, text, instance, selection, timetable),
+        Some(selection) => push_table(alloc, text, instance, &selection, timetable),
         None => push_tables(alloc, text, instance, timetable),
     }
 }
