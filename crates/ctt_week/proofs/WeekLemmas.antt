@@ -1,5 +1,5 @@
 -- Cells and columns, by one lecture or one text more.
-use Rattle.std.proofs.Common.{◌≡◌, ℕ, ◌+◌, ◌<◌, ◌==◌, max, Bool, true, false, cond, List, [], ◌∷◌, ◌++◌, take, length, get_or, map, fold, refl, ◌∙◌, sym, ap, append-nil, append_assoc, add-one}
+use Rattle.std.proofs.Common.{◌≡◌, ℕ, ◌+◌, ◌<◌, ◌==◌, max, Bool, true, false, cond, List, [], ◌∷◌, ◌++◌, take, length, get_or, refl, ◌∙◌, sym, ap, append-nil, append_assoc, add-one}
 use Rattle.std.specs.List.{filter}
 use Rattle.std.proofs.lemmas.Grind.{fold-append}
 use Rattle.std.proofs.lemmas.List.Elements.{filter_more}
