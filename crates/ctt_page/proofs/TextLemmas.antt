@@ -1,0 +1,41 @@
+-- Texts that grow piece by piece.
+use Rattle.std.proofs.Common.{◌≡◌, ℕ, ◌+◌, ◌<◌, Bool, true, false, cond, ◌||◌, List, [], ◌∷◌, ◌++◌, take, length, get_or, flat_map, Result, Ok, Err, OnOk, refl, ◌∙◌, sym, ap, ap₂, subst, add-one, append_assoc, append-nil}
+use Rattle.std.specs.List.{filter, list_any}
+use Rattle.std.proofs.lemmas.List.{flat_map-append, take_more}
+use Rattle.std.proofs.lemmas.List.Elements.{filter_more}
+use Rattle.std.proofs.lemmas.List.Folds.{list_any_at, list_any_more}
+use Rattle.ctt_page.specs.GridTexts.{each_below}
+
+pub each_more : (f : ℕ → List ℕ) (n : ℕ) → each_below f (n + 1) ≡ each_below f n ++ f n
+each_more f n = rw add-one refl
+
+-- the text of a number more
+pub goes_on : (f : ℕ → List ℕ) (n : ℕ) (old now new piece : List ℕ) → now ≡ old ++ each_below f n → new ≡ now ++ piece → piece ≡ f n → new ≡ old ++ each_below f (n + 1)
+goes_on f n old now new piece so_far more is =
+    more ∙ ap (λ xs. xs ++ piece) so_far ∙ append_assoc old (each_below f n) piece ∙ ap (λ xs. old ++ (each_below f n ++ xs)) is ∙ ap (λ xs. old ++ xs) (sym (each_more f n))
+
+module _ {X : Type 0} (p : X → Bool) (f : X → List ℕ) (xs : List X) (k : ℕ) (x : X) (lt : k < length xs) (at : x ≡ get_or xs k x) where
+  one : (b : Bool) → flat_map f (cond b (x ∷ []) []) ≡ cond b (f x) []
+  one true = append-nil (f x)
+  one false = refl
+
+  next : flat_map f (filter p (take (k + 1) xs)) ≡ flat_map f (filter p (take k xs)) ++ cond (p x) (f x) []
+  next =
+      ap (flat_map f) (filter_more p xs k x lt ∙ ap (λ y. filter p (take k xs) ++ cond (p y) (y ∷ []) []) (sym at))
+      ∙ flat_map-append f (filter p (take k xs)) (cond (p x) (x ∷ []) []) ∙ ap (λ ys. flat_map f (filter p (take k xs)) ++ ys) (one (p x))
+
+  -- the text of an element more, if it passes
+  pub passes_on : (old now new : List ℕ) → now ≡ old ++ flat_map f (filter p (take k xs)) → new ≡ now ++ cond (p x) (f x) [] → new ≡ old ++ flat_map f (filter p (take (k + 1) xs))
+  passes_on old now new so_far more =
+      more ∙ ap (λ ys. ys ++ cond (p x) (f x) []) so_far ∙ append_assoc old (flat_map f (filter p (take k xs))) (cond (p x) (f x) []) ∙ ap (λ ys. old ++ ys) (sym next)
+
+-- the same text, where a piece is another's
+pub piece_is : {T E : Type 0} (r : Result T E) (old new more other : List ℕ) → more ≡ other → OnOk r (new ≡ old ++ more) → OnOk r (new ≡ old ++ other)
+piece_is r old new more other e h = subst (λ piece. OnOk r (new ≡ old ++ piece)) e h
+
+-- an element that passes, one more that does not, and none at all
+pub any_here : {X : Type 0} (p : X → Bool) (xs : List X) (k : ℕ) (x : X) → k < length xs → x ≡ get_or xs k x → p x ≡ true → list_any p xs ≡ true
+any_here p xs k x lt at e = list_any_at p xs k x lt (ap p (sym at) ∙ e)
+
+pub none_more : {X : Type 0} (p : X → Bool) (xs : List X) (k : ℕ) (x : X) → k < length xs → x ≡ get_or xs k x → list_any p (take k xs) ≡ false → p x ≡ false → list_any p (take (k + 1) xs) ≡ false
+none_more p xs k x lt at none e = list_any_more p xs k x lt ∙ ap₂ (λ a b. a || b) none (ap p (sym at) ∙ e)
