@@ -39,3 +39,12 @@ any_here p xs k x lt at e = list_any_at p xs k x lt (ap p (sym at) ∙ e)
 
 pub none_more : {X : Type 0} (p : X → Bool) (xs : List X) (k : ℕ) (x : X) → k < length xs → x ≡ get_or xs k x → list_any p (take k xs) ≡ false → p x ≡ false → list_any p (take (k + 1) xs) ≡ false
 none_more p xs k x lt at none e = list_any_more p xs k x lt ∙ ap₂ (λ a b. a || b) none (ap p (sym at) ∙ e)
+
+-- a text of five pieces
+pub five_pieces : (p q r s t u : List ℕ) (a b c d e : List ℕ) → p ≡ [] → q ≡ p ++ a → r ≡ q ++ b → s ≡ r ++ c → t ≡ s ++ d → u ≡ t ++ e → u ≡ a ++ (b ++ (c ++ (d ++ e)))
+five_pieces p q r s t u a b c d e h0 h1 h2 h3 h4 h5 =
+    let first : q ≡ a = h1 ∙ ap (λ xs. xs ++ a) h0 in
+    let second : r ≡ a ++ b = h2 ∙ ap (λ xs. xs ++ b) first in
+    let third : s ≡ a ++ (b ++ c) = h3 ∙ ap (λ xs. xs ++ c) second ∙ append_assoc a b c in
+    let fourth : t ≡ a ++ (b ++ (c ++ d)) = h4 ∙ ap (λ xs. xs ++ d) third ∙ append_assoc a (b ++ c) d ∙ ap (λ xs. a ++ xs) (append_assoc b c d) in
+    h5 ∙ ap (λ xs. xs ++ e) fourth ∙ append_assoc a (b ++ (c ++ d)) e ∙ ap (λ xs. a ++ xs) (append_assoc b (c ++ d) e ∙ ap (λ xs. b ++ xs) (append_assoc c d e))

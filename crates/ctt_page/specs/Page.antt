@@ -11,16 +11,18 @@ use Rattle.ctt_page.specs.Report.{report}
 use Rattle.ctt_page.specs.Sections.{sections}
 use Rattle.ctt_page.specs.Weeks.{by_slot}
 
--- what stands before the report: what a browser has to know, and the name of the instance
-unfoldable pub page_head : List ℕ → List ℕ → List ℕ
-page_head style name = codes "<!DOCTYPE html>\n<html lang='en'><head><meta charset='utf-8'>\n"
+-- what a browser has to know
+unfoldable pub document_head : List ℕ → List ℕ → List ℕ
+document_head style name = codes "<!DOCTYPE html>\n<html lang='en'><head><meta charset='utf-8'>\n"
     ++ (codes "<meta name='viewport' content='width=device-width, initial-scale=1'>\n<title>"
     ++ (escaped name
     ++ (codes "</title><style>"
     ++ (style
-    ++ (codes "</style></head><body><h1>"
-    ++ (escaped name
-    ++ codes "</h1>\n"))))))
+    ++ codes "</style></head>"))))
+
+-- what stands before the report: what a browser has to know, and the name of the instance
+unfoldable pub page_head : List ℕ → List ℕ → List ℕ
+page_head style name = document_head style name ++ (codes "<body><h1>" ++ (escaped name ++ codes "</h1>\n"))
 
 -- the page, of a timetable that is lawful or not, and complete or not
 unfoldable pub page : List ℕ → Bool → Bool → Problem → List Placed → List ℕ

@@ -92,6 +92,6 @@ impl Week {
         ensures row { result.now ≡ lectures_in self.now slot }
         ensures fits { Each (Fits instance.now) result.now }
     {
-        self.slots[slot.get() as usize].as_slice()
+        &self.slots[slot.get() as usize]
     }
 }
