@@ -4,8 +4,8 @@ use Rattle.std.specs.List.{count_by, filter, AllByRecursion as Each}
 use Rattle.std.proofs.lemmas.Bool.{cases_Bool, eqb-true}
 use Rattle.std.proofs.lemmas.Bool.Decides.{nat_tests}
 use Rattle.std.proofs.lemmas.List.Sums.{sum_by-cons}
-use Rattle.ctt_text.specs.Lists.{Pairwise}
-use Rattle.ctt_text.specs.Problem.{Problem, slot_count}
+use Rattle.ctt_text.specs.Lists.{has}
+use Rattle.ctt_text.specs.Problem.{Problem, course_of, members, slot_count}
 use Rattle.ctt_text.specs.Timetable.{Ascending, IsTimetable, before, slot_row}
 use Rattle.ctt_text.specs.declared.placed.Placed.{Placed}
 use Rattle.ctt_page.specs.Cells.{cell_lectures}
@@ -42,11 +42,10 @@ module _ {X : Type 0} (p q : X → Bool) where
   kept : ((x : X) → q x ≡ true → p x ≡ true) → (xs : List X) → count_by q (filter p xs) ≡ count_by q xs
   kept h [] = refl
   kept h (x ∷ xs) = elim (cases_Bool (p x)) [
-    | inl y ↦ rw y (sum_by-cons one x (filter p xs) ∙ ap (λ n. one x + n) (kept h xs) ∙ sym (sum_by-cons one x xs))
+    | inl y ↦ rw y (omega (arith, sum_by-cons one x (filter p xs), kept h xs, sum_by-cons one x xs))
     | inr n ↦ (
         let out : q x ≡ false = not_counted x true (h x) (λ e. n) (λ e. let never : true ≡ false = e in absurd never) in
-        let count : count_by q (x ∷ xs) ≡ count_by q xs = sum_by-cons one x xs ∙ ap (λ b. cond {A = ℕ} b 1 0 + count_by q xs) out in
-        rw n (kept h xs ∙ sym count))
+        rw n (omega (arith, kept h xs, sum_by-cons one x xs, ap (λ b. cond {A = ℕ} b 1 0) out)))
   ]
 
   dropped : ((x : X) → q x ≡ true → p x ≡ false) → (xs : List X) → count_by q (filter p xs) ≡ 0
@@ -54,7 +53,7 @@ module _ {X : Type 0} (p q : X → Bool) where
   dropped h (x ∷ xs) = elim (cases_Bool (p x)) [
     | inl y ↦ (
         let out : q x ≡ false = not_counted x false (h x) (λ e. let never : false ≡ true = e in absurd never) (λ e. y) in
-        rw y (sum_by-cons one x (filter p xs) ∙ ap₂ (λ b n. cond {A = ℕ} b 1 0 + n) out (dropped h xs)))
+        rw y (omega (arith, sum_by-cons one x (filter p xs), ap (λ b. cond {A = ℕ} b 1 0) out, dropped h xs)))
     | inr n ↦ rw n (dropped h xs)
   ]
 
@@ -76,16 +75,16 @@ same_place i g s l m h =
     ap₂ (λ a b. a && b) (ap (λ k. k == s) p.1) (by g p.0 p.2)
   where
     by : (g : Grid) → m.course ≡ l.course → m.room ≡ l.room → is_of i g m ≡ is_of i g l
-    by (Curriculum q) c r = rw c refl
-    by (Teacher n) c r = rw c refl
-    by (Room k) c r = rw r refl
+    by (Curriculum q) c r = ap (λ k. has k (members i q)) c
+    by (Teacher n) c r = ap (λ k. (course_of i k).teacher == n) c
+    by (Room k) c r = ap (λ n. n == k) r
 
 -- in a timetable a lecture stands once
 none_behind : (l x : Placed) (xs : List Placed) → is_same l x ≡ true → Each (λ y. before x y ≡ true) xs → times l xs ≡ 0
 none_behind l x [] e h = refl
 none_behind l x (y ∷ ys) e h =
     let other : is_same l y ≡ false = differs x.course y.course x.slot y.slot x.room y.room l.course l.slot l.room h.0 e in
-    sum_by-cons (λ m. cond (is_same l m) 1 0) y ys ∙ ap₂ (λ b n. cond {A = ℕ} b 1 0 + n) other (none_behind l x ys e h.1)
+    omega (arith, sum_by-cons (λ m. cond (is_same l m) 1 0) y ys, ap (λ b. cond {A = ℕ} b 1 0) other, none_behind l x ys e h.1)
   where
     differs : (a b c d e f g h k : ℕ) → (nat_lt a b || (a == b && nat_lt c d)) ≡ true → (a == g && (c == h && e == k)) ≡ true → (b == g && (d == h && f == k)) ≡ false
     differs a b c d e f g h k p q = grind (arith, nat_tests)
