@@ -30,7 +30,7 @@ other_char c other = list_any_none is_tag (encode_utf8 c) (λ k d lt. elim (case
       let same : c ≡ get_or (encode_utf8 c) k 0 = inside_one c [] (encode_utf8 c) k (sym (append-nil (encode_utf8 c))) lt (omega (arith, at)) in
       let one : (c == 60) ≡ true = eq-eqb c 60 (same ∙ at) in
       let never : true ≡ false = sym one ∙ other in
-      absurd never)
+      cc)
   | inr n ↦ n
 ])
 

@@ -24,27 +24,26 @@ filter_both p q (x ∷ xs) = elim (cases_Bool (q x)) [
   | inr n ↦ rw n (filter_both p q xs)
 ]
 
+-- what is not kept is not counted, where all that is counted is kept; and the other way round
+not_kept : (a b : Bool) → (a ≡ true → b ≡ true) → b ≡ false → a ≡ false
+not_kept true b h n = let z : true ≡ false = sym (h refl) ∙ n in cc
+not_kept false b h n = refl
+
+not_dropped : (a b : Bool) → (a ≡ true → b ≡ false) → b ≡ true → a ≡ false
+not_dropped true b h y = let z : false ≡ true = sym (h refl) ∙ y in cc
+not_dropped false b h y = refl
+
 -- a filter keeps all that are counted, or none of them
 module _ {X : Type 0} (p q : X → Bool) where
   abbrev one : X → ℕ
   one x = cond (q x) 1 0
-
-  not_counted : (x : X) (b : Bool) → (q x ≡ true → p x ≡ b) → (b ≡ true → p x ≡ false) → (b ≡ false → p x ≡ true) → q x ≡ false
-  not_counted x b h yes no = elim (cases_Bool (q x)) [
-    | inl y ↦ absurd (differs b (p x) (h y) yes no)
-    | inr n ↦ n
-  ]
-    where
-      differs : (b a : Bool) → a ≡ b → (b ≡ true → a ≡ false) → (b ≡ false → a ≡ true) → ⊥
-      differs true a e yes no = let never : true ≡ false = sym e ∙ yes refl in absurd never
-      differs false a e yes no = let never : false ≡ true = sym e ∙ no refl in absurd never
 
   kept : ((x : X) → q x ≡ true → p x ≡ true) → (xs : List X) → count_by q (filter p xs) ≡ count_by q xs
   kept h [] = refl
   kept h (x ∷ xs) = elim (cases_Bool (p x)) [
     | inl y ↦ rw y (omega (arith, sum_by-cons one x (filter p xs), kept h xs, sum_by-cons one x xs))
     | inr n ↦ (
-        let out : q x ≡ false = not_counted x true (h x) (λ e. n) (λ e. let never : true ≡ false = e in absurd never) in
+        let out : q x ≡ false = not_kept (q x) (p x) (h x) n in
         rw n (omega (arith, kept h xs, sum_by-cons one x xs, ap (λ b. cond {A = ℕ} b 1 0) out)))
   ]
 
@@ -52,7 +51,7 @@ module _ {X : Type 0} (p q : X → Bool) where
   dropped h [] = refl
   dropped h (x ∷ xs) = elim (cases_Bool (p x)) [
     | inl y ↦ (
-        let out : q x ≡ false = not_counted x false (h x) (λ e. let never : false ≡ true = e in absurd never) (λ e. y) in
+        let out : q x ≡ false = not_dropped (q x) (p x) (h x) y in
         rw y (omega (arith, sum_by-cons one x (filter p xs), ap (λ b. cond {A = ℕ} b 1 0) out, dropped h xs)))
     | inr n ↦ rw n (dropped h xs)
   ]
