@@ -6,7 +6,6 @@ ghost use Rattle.ctt_page.specs.Escape.{escaped, escaped_char};
 use std::alloc::AllocError;
 
 /// Adds a character; one that has a meaning in HTML goes by its name.
-#[tactic(auto, unfolding(crate::specs::Escape::escaped_char))]
 fn push_char(page: &mut String, letter: char) -> Result<(), AllocError>
     ensures { OnOk result (string_bytes page.new ≡ string_bytes page.old ++ escaped_char letter) }
 {

@@ -2,11 +2,22 @@
 
 ghost use Rattle.std.specs.Prelude.{◌≡◌, ◌<◌, ◌^◌, ◌++◌, OnOk, string_bytes};
 ghost use Rattle.ctt_rules.specs.Penalty.{total};
-ghost use Rattle.ctt_page.specs.Report.{answer_row, barred_row, cost_rows, count_row, hard_rows, judgement_rows, report};
+ghost use Rattle.ctt_page.specs.Report.{answer_row, barred_row, cost_rows, count_row, hard_rows, judgement_rows, report, row};
 
 use ctt_rules::{Assessment, Cost, Hard};
 use std::alloc::AllocError;
 use std::fmt::Write;
+
+/// Adds a line of the table.
+fn push_row(page: &mut String, key: &str, text: &str) -> Result<(), AllocError>
+    ensures { OnOk result (string_bytes page.new
+        ≡ string_bytes page.old ++ row key.now text.now) }
+{
+    writeln!(
+        page,
+        "<tr><th scope='row'>{key}</th><td>{text}</td></tr>"
+    )
+}
 
 /// Adds the line of a count.
 fn push_count(page: &mut String, key: &str, count: u64) -> Result<(), AllocError>
@@ -36,11 +47,7 @@ fn push_answer(page: &mut String, key: &str, answer: bool) -> Result<(), AllocEr
     ensures { OnOk result (string_bytes page.new
         ≡ string_bytes page.old ++ answer_row key.now answer) }
 {
-    let text = if answer { "yes" } else { "no" };
-    writeln!(
-        page,
-        "<tr><th scope='row'>{key}</th><td>{text}</td></tr>"
-    )
+    push_row(page, key, if answer { "yes" } else { "no" })
 }
 
 /// Adds how often the hard rules are broken.
