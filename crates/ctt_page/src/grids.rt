@@ -15,13 +15,20 @@ use ctt_text::{CurriculumNo, Instance, RoomNo, TeacherNo};
 use std::alloc::AllocError;
 use std::fmt::Write;
 
+/// Adds the head of a column.
+fn push_day_head(page: &mut String, day: u16) -> Result<(), AllocError>
+    ensures { OnOk result (string_bytes page.new ≡ string_bytes page.old ++ day_head day) }
+{
+    write!(page, "<th scope='col'>day {day}</th>")
+}
+
 /// Adds the heads of the columns.
 fn push_day_heads(page: &mut String, days: u16) -> Result<(), AllocError>
     ensures { OnOk result (string_bytes page.new
         ≡ string_bytes page.old ++ each_below day_head days) }
 {
     for day in 0..days {
-        write!(page, "<th scope='col'>day {day}</th>")?;
+        push_day_head(page, day)?;
     }
     Ok(())
 }

@@ -5,4 +5,4 @@ use Rattle.ctt_page.proofs.grids.push_day_heads.Goals as goal
 
 pub loop-day-preserved : goal.loop-day-preserved
 loop-day-preserved c =
-    goes_on day_head c.loop-day.day (string_bytes c.args.page.now) (string_bytes c.loop-day.page) (string_bytes c.write.new.page) (day_head c.loop-day.day) c.loop-day.invariant c.in_ok-write.ensures.bytes refl
+    goes_on day_head c.loop-day.day (string_bytes c.args.page.now) (string_bytes c.loop-day.page) (string_bytes c.push_day_head.new.page) (day_head c.loop-day.day) c.loop-day.invariant c.in_ok-push_day_head.ensures refl
