@@ -12,6 +12,6 @@ module _ {L : Type 0} (R : L → Finding → L → Type 0) (items : L → List F
       let rest = heard_all h.0 fs b h.2 in
       (rest.0 ∙ ap (λ xs. xs ++ fs) one.0 ∙ append_assoc (items a) (f ∷ []) fs, (one.1, rest.1))
 
-pub gathered_all : {L : Type 0} {R : L → Finding → L → Type 0} {a b : L} (fs : List Finding) → Hears R a fs b → (items : L → List Finding) (P : Finding → Type 0) → ((a : L) (f : Finding) (b : L) → R a f b → (items b ≡ items a ++ f ∷ []) × P f)
+pub gathered_all : {L : Type 0} {R : L → Finding → L → Type 0} (a b : L) (fs : List Finding) → Hears R a fs b → (items : L → List Finding) (P : Finding → Type 0) → ((a : L) (f : Finding) (b : L) → R a f b → (items b ≡ items a ++ f ∷ []) × P f)
     → (items b ≡ items a ++ fs) × Each P fs
-gathered_all {R = R} {a = a} {b = b} fs h items P each = heard_all R items P each a fs b h
+gathered_all {R = R} a b fs h items P each = heard_all R items P each a fs b h

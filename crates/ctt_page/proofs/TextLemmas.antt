@@ -48,3 +48,17 @@ five_pieces p q r s t u a b c d e h0 h1 h2 h3 h4 h5 =
     let third : s ≡ a ++ (b ++ c) = h3 ∙ ap (λ xs. xs ++ c) second ∙ append_assoc a b c in
     let fourth : t ≡ a ++ (b ++ (c ++ d)) = h4 ∙ ap (λ xs. xs ++ d) third ∙ append_assoc a (b ++ c) d ∙ ap (λ xs. a ++ xs) (append_assoc b c d) in
     h5 ∙ ap (λ xs. xs ++ e) fourth ∙ append_assoc a (b ++ (c ++ d)) e ∙ ap (λ xs. a ++ xs) (append_assoc b (c ++ d) e ∙ ap (λ xs. b ++ xs) (append_assoc c d e))
+
+-- one more piece behind others, and the last one, if all goes well
+pub behind : (old mid new a b : List ℕ) → mid ≡ old ++ a → new ≡ mid ++ b → new ≡ old ++ (a ++ b)
+behind old mid new a b h k = k ∙ ap (λ xs. xs ++ b) h ∙ append_assoc old a b
+
+pub last_behind : {T E : Type 0} (r : Result T E) (old mid new a b c : List ℕ) → mid ≡ old ++ a → a ++ b ≡ c → OnOk r (new ≡ mid ++ b) → OnOk r (new ≡ old ++ c)
+last_behind (Ok x) old mid new a b c h e k = behind old mid new a b h k ∙ ap (λ xs. old ++ xs) e
+last_behind (Err x) old mid new a b c h e k = k
+
+pub four_is : (a b c d : List ℕ) → ((a ++ b) ++ c) ++ d ≡ a ++ (b ++ (c ++ d))
+four_is a b c d = append_assoc (a ++ b) c d ∙ append_assoc a b (c ++ d)
+
+pub five_is : (a b c d e : List ℕ) → (((a ++ b) ++ c) ++ d) ++ e ≡ a ++ (b ++ (c ++ (d ++ e)))
+five_is a b c d e = append_assoc ((a ++ b) ++ c) d e ∙ four_is a b c (d ++ e)

@@ -16,11 +16,11 @@ struct Gathered {
     list: Vec<Finding>,
 }
 
-/// Adds a finding behind the others.
-fn add(list: &mut Vec<Finding>, finding: &Finding) -> Result<(), NoMemory>
-    ensures { OnOk result (list.new.items ≡ list.old.items ++ finding.now ∷ []) }
+/// Adds an element behind the others.
+fn add<X: Drop>(list: &mut Vec<X>, element: X) -> Result<(), NoMemory>
+    ensures { OnOk result (list.new.items ≡ list.old.items ++ element ∷ []) }
 {
-    list.push(*finding)?;
+    list.push(element)?;
     Ok(())
 }
 
@@ -34,7 +34,7 @@ impl Listener for Gathered {
     ghost fails = { λ fault a b. Unit {0} };
 
     fn hear(&mut self, instance: &Instance, finding: &Finding) -> Result<(), Untold> {
-        add(&mut self.list, finding)?;
+        add(&mut self.list, *finding)?;
         Ok(())
     }
 }

@@ -47,7 +47,11 @@ fn push_answer(page: &mut String, key: &str, answer: bool) -> Result<(), AllocEr
     ensures { OnOk result (string_bytes page.new
         ≡ string_bytes page.old ++ answer_row key.now answer) }
 {
-    push_row(page, key, if answer { "yes" } else { "no" })
+    if answer {
+        push_row(page, key, "yes")
+    } else {
+        push_row(page, key, "no")
+    }
 }
 
 /// Adds how often the hard rules are broken.
