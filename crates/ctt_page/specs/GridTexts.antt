@@ -22,21 +22,21 @@ day_head d = codes "<th scope='col'>day " ++ (decimal d ++ codes "</th>")
 unfoldable pub line_of_days : ℕ → List ℕ
 line_of_days n = codes "<tr><th>period</th>" ++ (each_below day_head n ++ codes "</tr>\n")
 
+-- the beginning of the line of a period
+abbrev pub line_start : ℕ → List ℕ
+line_start p = codes "<tr><th scope='row'>" ++ (decimal p ++ codes "</th>")
+
 -- the line of a period: a cell for each day
 unfoldable pub line : Problem → List (List Placed) → Grid → ℕ → List ℕ
-line i w g p = codes "<tr><th scope='row'>"
-    ++ (decimal p
-    ++ (codes "</th>"
-    ++ (each_below (λ d. cell i w g (slot_of i d p)) i.days
-    ++ codes "</tr>\n")))
+line i w g p = line_start p ++ (each_below (λ d. cell i w g (slot_of i d p)) i.days ++ codes "</tr>\n")
+
+-- the beginning of the section of a grid
+unfoldable pub grid_start : Grid → List ℕ
+grid_start g = codes "<section><h3 id='" ++ (place_id g None ++ codes "'>")
 
 -- the name above a grid
 unfoldable pub grid_head : Problem → Grid → List ℕ
-grid_head i g = codes "<section><h3 id='"
-    ++ (place_id g None
-    ++ (codes "'>"
-    ++ (escaped (name_of i g)
-    ++ codes "</h3><div><table>\n")))
+grid_head i g = grid_start g ++ (escaped (name_of i g) ++ codes "</h3><div><table>\n")
 
 -- a grid: the days, and a line for each period
 unfoldable pub grid_text : Problem → List (List Placed) → Grid → List ℕ

@@ -11,14 +11,15 @@ use Rattle.ctt_page.specs.Report.{report}
 use Rattle.ctt_page.specs.Sections.{sections}
 use Rattle.ctt_page.specs.Weeks.{by_slot}
 
+-- what kind of text it is, and its title
+unfoldable pub document_start : List ℕ → List ℕ
+document_start name = codes "<!DOCTYPE html>\n<html lang='en'><head><meta charset='utf-8'>\n"
+    ++ (codes "<meta name='viewport' content='width=device-width, initial-scale=1'>\n<title>"
+    ++ escaped name)
+
 -- what a browser has to know
 unfoldable pub document_head : List ℕ → List ℕ → List ℕ
-document_head style name = codes "<!DOCTYPE html>\n<html lang='en'><head><meta charset='utf-8'>\n"
-    ++ (codes "<meta name='viewport' content='width=device-width, initial-scale=1'>\n<title>"
-    ++ (escaped name
-    ++ (codes "</title><style>"
-    ++ (style
-    ++ codes "</style></head>"))))
+document_head style name = document_start name ++ (codes "</title><style>" ++ (style ++ codes "</style></head>"))
 
 -- what stands before the report: what a browser has to know, and the name of the instance
 unfoldable pub page_head : List ℕ → List ℕ → List ℕ

@@ -20,21 +20,25 @@ abbrev pub barred_row : Bool → ℕ → List ℕ
 barred_row true count = count_row (codes "barred") count
 barred_row false count = []
 
+-- how often the rules about courses are broken
+unfoldable pub course_counts : Hard → List ℕ
+course_counts hard = count_row (codes "lectures") hard.lectures
+    ++ (count_row (codes "conflicts") hard.conflicts
+    ++ count_row (codes "availability") hard.availability)
+
 -- how often the hard rules are broken
 unfoldable pub hard_rows : Bool → Hard → List ℕ
-hard_rows barred hard = count_row (codes "lectures") hard.lectures
-    ++ (count_row (codes "conflicts") hard.conflicts
-    ++ (count_row (codes "availability") hard.availability
-    ++ (count_row (codes "occupancy") hard.occupancy
-    ++ barred_row barred hard.barred)))
+hard_rows barred hard = course_counts hard ++ (count_row (codes "occupancy") hard.occupancy ++ barred_row barred hard.barred)
+
+-- the first three costs
+unfoldable pub first_costs : Cost → List ℕ
+first_costs cost = count_row (codes "capacity") cost.capacity
+    ++ (count_row (codes "days") cost.days
+    ++ count_row (codes "compactness") cost.compactness)
 
 -- what the timetable costs
 unfoldable pub cost_rows : Cost → List ℕ
-cost_rows cost = count_row (codes "capacity") cost.capacity
-    ++ (count_row (codes "days") cost.days
-    ++ (count_row (codes "compactness") cost.compactness
-    ++ (count_row (codes "stability") cost.stability
-    ++ count_row (codes "total") (total cost))))
+cost_rows cost = first_costs cost ++ (count_row (codes "stability") cost.stability ++ count_row (codes "total") (total cost))
 
 -- whether it is lawful, and whether it is complete
 unfoldable pub judgement_rows : Bool → Bool → List ℕ

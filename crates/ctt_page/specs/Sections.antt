@@ -53,13 +53,13 @@ slot_at (Days c days minimum n) = None
 slot_at (Compactness q l n) = Some l.slot
 slot_at (Stability c rooms n) = None
 
--- a finding: its line, as a link to where it is seen
+-- the beginning of a link to where it is seen
+unfoldable pub link_start : Problem → Finding → List ℕ
+link_start i f = codes "<li><a href='#" ++ (place_id (grid_at i f) (slot_at f) ++ codes "'>")
+
+-- a finding: its line, as such a link
 unfoldable pub finding_item : Problem → Finding → List ℕ
-finding_item i f = codes "<li><a href='#"
-    ++ (place_id (grid_at i f) (slot_at f)
-    ++ (codes "'>"
-    ++ (escaped (line i f)
-    ++ codes "</a></li>\n")))
+finding_item i f = link_start i f ++ (escaped (line i f) ++ codes "</a></li>\n")
 
 -- a finding, if it is of this kind
 abbrev pub item_of : Problem → List ℕ → Finding → List ℕ

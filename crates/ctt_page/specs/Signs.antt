@@ -36,12 +36,17 @@ abbrev pub sign : Bool → List ℕ → List ℕ
 sign true text = codes " <b>" ++ (text ++ codes "</b>")
 sign false text = []
 
--- the signs of broken rules
+-- the signs of broken rules about courses, and about rooms
+unfoldable pub course_signs : Problem → List (List Placed) → Placed → List ℕ
+course_signs i w l = sign (clashes i (lectures_in w l.slot) l) (codes "&#9650; conflict")
+    ++ sign (is_unavailable i l.course l.slot) (codes "&#9660; unavailable")
+
+unfoldable pub room_signs : Problem → List (List Placed) → Placed → List ℕ
+room_signs i w l = sign (shares_room (lectures_in w l.slot) l) (codes "&#9670; room taken")
+    ++ sign (is_barred i l.course l.room) (codes "&#9632; barred")
+
 unfoldable pub hard_signs : Problem → List (List Placed) → Placed → List ℕ
-hard_signs i w l = sign (clashes i (lectures_in w l.slot) l) (codes "&#9650; conflict")
-    ++ (sign (is_unavailable i l.course l.slot) (codes "&#9660; unavailable")
-    ++ (sign (shares_room (lectures_in w l.slot) l) (codes "&#9670; room taken")
-    ++ sign (is_barred i l.course l.room) (codes "&#9632; barred")))
+hard_signs i w l = course_signs i w l ++ room_signs i w l
 
 -- those of what costs points
 unfoldable pub soft_signs : Problem → List (List Placed) → Grid → Placed → List ℕ

@@ -3,7 +3,7 @@
 ghost use Rattle.std.specs.Prelude.{◌≡◌, ◌<◌, ◌++◌, OnOk, string_bytes};
 ghost use Rattle.ctt_text.specs.Problem.{slot_of};
 ghost use Rattle.ctt_page.specs.Cells.{cell};
-ghost use Rattle.ctt_page.specs.GridTexts.{curriculum_grids, day_head, each_below, grid_head, grid_text, grids, line, line_of_days, room_grids, teacher_grids};
+ghost use Rattle.ctt_page.specs.GridTexts.{curriculum_grids, day_head, each_below, grid_head, grid_start, grid_text, grids, line, line_of_days, line_start, room_grids, teacher_grids};
 ghost use Rattle.ctt_page.specs.Grids.{GridFits};
 ghost use Rattle.ctt_page.specs.Weeks.{WeekFits};
 
@@ -66,6 +66,13 @@ fn push_cells(
     Ok(())
 }
 
+/// Begins the line of a period.
+fn push_line_start(page: &mut String, period: u16) -> Result<(), AllocError>
+    ensures { OnOk result (string_bytes page.new ≡ string_bytes page.old ++ line_start period) }
+{
+    write!(page, "<tr><th scope='row'>{period}</th>")
+}
+
 /// Adds the line of a period.
 #[tactic(auto, unfolding(crate::specs::GridTexts::line))]
 fn push_line(
@@ -81,7 +88,7 @@ fn push_line(
     ensures { OnOk result (string_bytes page.new
         ≡ string_bytes page.old ++ line instance.now week.now grid.now period) }
 {
-    write!(page, "<tr><th scope='row'>{period}</th>")?;
+    push_line_start(page, period)?;
     push_cells(page, instance, week, grid, period)?;
     page.push_str("</tr>\n")
 }
@@ -105,6 +112,16 @@ fn push_lines(
     Ok(())
 }
 
+/// Begins the section of a grid.
+#[tactic(auto, unfolding(crate::specs::GridTexts::grid_start))]
+fn push_grid_start(page: &mut String, grid: &Grid) -> Result<(), AllocError>
+    ensures { OnOk result (string_bytes page.new ≡ string_bytes page.old ++ grid_start grid.now) }
+{
+    page.push_str("<section><h3 id='")?;
+    push_id(page, grid, None)?;
+    page.push_str("'>")
+}
+
 /// Adds the name above a grid.
 #[tactic(auto, unfolding(crate::specs::GridTexts::grid_head))]
 fn push_grid_head(page: &mut String, instance: &Instance, grid: &Grid) -> Result<(), AllocError>
@@ -112,9 +129,7 @@ fn push_grid_head(page: &mut String, instance: &Instance, grid: &Grid) -> Result
     ensures { OnOk result (string_bytes page.new
         ≡ string_bytes page.old ++ grid_head instance.now grid.now) }
 {
-    page.push_str("<section><h3 id='")?;
-    push_id(page, grid, None)?;
-    page.push_str("'>")?;
+    push_grid_start(page, grid)?;
     push_escaped(page, name_of(instance, grid))?;
     page.push_str("</h3><div><table>\n")
 }

@@ -5,7 +5,7 @@ ghost use Rattle.ctt_text.specs.Problem.{slot_count};
 ghost use Rattle.ctt_text.specs.Timetable.{IsTimetable};
 ghost use Rattle.ctt_findings.specs.Findings.{findings};
 ghost use Rattle.ctt_page.specs.GridTexts.{grids};
-ghost use Rattle.ctt_page.specs.Page.{IsPage, document_head, page_head};
+ghost use Rattle.ctt_page.specs.Page.{IsPage, document_head, document_start, page_head};
 ghost use Rattle.ctt_page.specs.Sections.{sections};
 ghost use Rattle.ctt_page.specs.Weeks.{by_slot};
 
@@ -20,15 +20,24 @@ use ctt_rules::assess;
 use ctt_text::{Instance, NoMemory, Placed};
 use std::alloc::{AllocError, Global};
 
+/// Begins the document: what kind of text it is, and its title.
+#[tactic(auto, unfolding(crate::specs::Page::document_start))]
+fn push_document_start(page: &mut String, name: &str) -> Result<(), AllocError>
+    ensures { OnOk result (string_bytes page.new
+        ≡ string_bytes page.old ++ document_start name.now) }
+{
+    page.push_str("<!DOCTYPE html>\n<html lang='en'><head><meta charset='utf-8'>\n")?;
+    page.push_str("<meta name='viewport' content='width=device-width, initial-scale=1'>\n<title>")?;
+    push_escaped(page, name)
+}
+
 /// Adds what a browser has to know.
 #[tactic(auto, unfolding(crate::specs::Page::document_head))]
 fn push_document_head(page: &mut String, style: &str, name: &str) -> Result<(), AllocError>
     ensures { OnOk result (string_bytes page.new
         ≡ string_bytes page.old ++ document_head style.now name.now) }
 {
-    page.push_str("<!DOCTYPE html>\n<html lang='en'><head><meta charset='utf-8'>\n")?;
-    page.push_str("<meta name='viewport' content='width=device-width, initial-scale=1'>\n<title>")?;
-    push_escaped(page, name)?;
+    push_document_start(page, name)?;
     page.push_str("</title><style>")?;
     page.push_str(style)?;
     page.push_str("</style></head>")

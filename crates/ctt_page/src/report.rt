@@ -2,7 +2,7 @@
 
 ghost use Rattle.std.specs.Prelude.{◌≡◌, ◌<◌, ◌^◌, ◌++◌, OnOk, string_bytes};
 ghost use Rattle.ctt_rules.specs.Penalty.{total};
-ghost use Rattle.ctt_page.specs.Report.{answer_row, barred_row, cost_rows, count_row, hard_rows, judgement_rows, report, row};
+ghost use Rattle.ctt_page.specs.Report.{answer_row, barred_row, cost_rows, count_row, course_counts, first_costs, hard_rows, judgement_rows, report, row};
 
 use ctt_rules::{Assessment, Cost, Hard};
 use std::alloc::AllocError;
@@ -54,17 +54,37 @@ fn push_answer(page: &mut String, key: &str, answer: bool) -> Result<(), AllocEr
     }
 }
 
+/// Adds how often the rules about courses are broken.
+#[tactic(auto, unfolding(crate::specs::Report::course_counts))]
+fn push_course_counts(page: &mut String, hard: &Hard) -> Result<(), AllocError>
+    ensures { OnOk result (string_bytes page.new
+        ≡ string_bytes page.old ++ course_counts hard.now) }
+{
+    push_count(page, "lectures", hard.lectures)?;
+    push_count(page, "conflicts", hard.conflicts)?;
+    push_count(page, "availability", hard.availability)
+}
+
 /// Adds how often the hard rules are broken.
 #[tactic(auto, unfolding(crate::specs::Report::hard_rows))]
 fn push_hard(page: &mut String, barred: bool, hard: &Hard) -> Result<(), AllocError>
     ensures { OnOk result (string_bytes page.new
         ≡ string_bytes page.old ++ hard_rows barred hard.now) }
 {
-    push_count(page, "lectures", hard.lectures)?;
-    push_count(page, "conflicts", hard.conflicts)?;
-    push_count(page, "availability", hard.availability)?;
+    push_course_counts(page, hard)?;
     push_count(page, "occupancy", hard.occupancy)?;
     push_barred(page, barred, hard.barred)
+}
+
+/// Adds the first three costs.
+#[tactic(auto, unfolding(crate::specs::Report::first_costs))]
+fn push_first_costs(page: &mut String, cost: &Cost) -> Result<(), AllocError>
+    ensures { OnOk result (string_bytes page.new
+        ≡ string_bytes page.old ++ first_costs cost.now) }
+{
+    push_count(page, "capacity", cost.capacity)?;
+    push_count(page, "days", cost.days)?;
+    push_count(page, "compactness", cost.compactness)
 }
 
 /// Adds what the timetable costs.
@@ -75,9 +95,7 @@ fn push_costs(page: &mut String, cost: &Cost) -> Result<(), AllocError>
         ≡ string_bytes page.old ++ cost_rows cost.now) }
 {
     let total = cost.total();
-    push_count(page, "capacity", cost.capacity)?;
-    push_count(page, "days", cost.days)?;
-    push_count(page, "compactness", cost.compactness)?;
+    push_first_costs(page, cost)?;
     push_count(page, "stability", cost.stability)?;
     push_count(page, "total", total)
 }

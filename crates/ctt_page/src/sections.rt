@@ -4,7 +4,7 @@ ghost use Rattle.std.specs.Prelude.{◌≡◌, ◌++◌, OnOk, flat_map, string_
 ghost use Rattle.std.specs.List.{AllByRecursion as Each};
 ghost use Rattle.std.specs.Str.{bytes_eq};
 ghost use Rattle.ctt_findings.specs.Fitting.{FindingFits};
-ghost use Rattle.ctt_page.specs.Sections.{cause_grid, course_rules, finding_item, first_costs, grid_at, item_of, kind_word, last_costs, room_rules, section, sections, slot_at};
+ghost use Rattle.ctt_page.specs.Sections.{cause_grid, course_rules, finding_item, first_costs, grid_at, item_of, kind_word, last_costs, link_start, room_rules, section, sections, slot_at};
 
 use crate::escape::push_escaped;
 use crate::grid::{Grid, push_id};
@@ -82,6 +82,24 @@ fn slot_at(finding: &Finding) -> Option<SlotNo>
     }
 }
 
+/// Begins a link to where a finding is seen.
+#[tactic(auto, unfolding(crate::specs::Sections::link_start))]
+fn push_link_start(
+    page: &mut String,
+    instance: &Instance,
+    finding: &Finding,
+) -> Result<(), AllocError>
+    requires { FindingFits instance.now finding.now }
+    ensures { OnOk result (string_bytes page.new
+        ≡ string_bytes page.old ++ link_start instance.now finding.now) }
+{
+    let grid = grid_at(instance, finding);
+    let slot = slot_at(finding);
+    page.push_str("<li><a href='#")?;
+    push_id(page, &grid, slot)?;
+    page.push_str("'>")
+}
+
 /// Adds a finding: its line, as a link to where it is seen.
 #[tactic(auto, unfolding(crate::specs::Sections::finding_item))]
 fn push_finding(
@@ -96,10 +114,7 @@ fn push_finding(
 {
     let mut line = String::new(alloc);
     push_line(&mut line, instance, finding)?;
-    let grid = grid_at(instance, finding);
-    page.push_str("<li><a href='#")?;
-    push_id(page, &grid, slot_at(finding))?;
-    page.push_str("'>")?;
+    push_link_start(page, instance, finding)?;
     push_escaped(page, line.as_str())?;
     page.push_str("</a></li>\n")
 }

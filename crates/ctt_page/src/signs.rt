@@ -6,7 +6,7 @@ ghost use Rattle.ctt_text.specs.Problem.{slot_count};
 ghost use Rattle.ctt_text.specs.Timetable.{Fits};
 ghost use Rattle.ctt_rules.specs.Neighbours.{is_beside};
 ghost use Rattle.ctt_page.specs.Grids.{GridFits, is_of};
-ghost use Rattle.ctt_page.specs.Signs.{clashes, hard_signs, is_alone, is_in_its_room, shares_room, sign, soft_signs, stands_in};
+ghost use Rattle.ctt_page.specs.Signs.{clashes, course_signs, hard_signs, is_alone, is_in_its_room, room_signs, shares_room, sign, soft_signs, stands_in};
 ghost use Rattle.ctt_page.specs.Weeks.{WeekFits};
 
 use crate::grid::{Grid, is_of};
@@ -115,6 +115,46 @@ fn push_sign(page: &mut String, shown: bool, text: &str) -> Result<(), AllocErro
     }
 }
 
+/// Adds the signs of broken rules about courses.
+#[tactic(auto, unfolding(crate::specs::Signs::course_signs))]
+fn push_course_signs(
+    page: &mut String,
+    instance: &Instance,
+    week: &Week,
+    lecture: &Placed,
+) -> Result<(), AllocError>
+    requires week { WeekFits instance.now week.now }
+    requires lecture { Fits instance.now lecture.now }
+    ensures { OnOk result (string_bytes page.new
+        ≡ string_bytes page.old ++ course_signs instance.now week.now lecture.now) }
+{
+    let row = week.row(instance, lecture.slot);
+    let conflict = clashes(instance, row, lecture);
+    let unavailable = instance.unavailable(lecture.course, lecture.slot);
+    push_sign(page, conflict, "&#9650; conflict")?;
+    push_sign(page, unavailable, "&#9660; unavailable")
+}
+
+/// Adds the signs of broken rules about rooms.
+#[tactic(auto, unfolding(crate::specs::Signs::room_signs))]
+fn push_room_signs(
+    page: &mut String,
+    instance: &Instance,
+    week: &Week,
+    lecture: &Placed,
+) -> Result<(), AllocError>
+    requires week { WeekFits instance.now week.now }
+    requires lecture { Fits instance.now lecture.now }
+    ensures { OnOk result (string_bytes page.new
+        ≡ string_bytes page.old ++ room_signs instance.now week.now lecture.now) }
+{
+    let row = week.row(instance, lecture.slot);
+    let taken = shares_room(row, lecture);
+    let barred = instance.barred(lecture.course, lecture.room);
+    push_sign(page, taken, "&#9670; room taken")?;
+    push_sign(page, barred, "&#9632; barred")
+}
+
 /// Adds the signs of broken rules.
 #[tactic(auto, unfolding(crate::specs::Signs::hard_signs))]
 pub(crate) fn push_hard_signs(
@@ -128,15 +168,8 @@ pub(crate) fn push_hard_signs(
     ensures { OnOk result (string_bytes page.new
         ≡ string_bytes page.old ++ hard_signs instance.now week.now lecture.now) }
 {
-    let row = week.row(instance, lecture.slot);
-    let conflict = clashes(instance, row, lecture);
-    let unavailable = instance.unavailable(lecture.course, lecture.slot);
-    let taken = shares_room(row, lecture);
-    let barred = instance.barred(lecture.course, lecture.room);
-    push_sign(page, conflict, "&#9650; conflict")?;
-    push_sign(page, unavailable, "&#9660; unavailable")?;
-    push_sign(page, taken, "&#9670; room taken")?;
-    push_sign(page, barred, "&#9632; barred")
+    push_course_signs(page, instance, week, lecture)?;
+    push_room_signs(page, instance, week, lecture)
 }
 
 /// Adds the signs of what costs points.

@@ -69,6 +69,24 @@ fn add_lectures(slots: &mut [Vec<Placed>], timetable: &[Placed]) -> Result<(), A
     Ok(())
 }
 
+/// The lectures in each of so many slots.
+fn lectures_by_slot(
+    alloc: Global,
+    count: u16,
+    timetable: &[Placed],
+) -> Result<Vec<Vec<Placed>>, AllocError>
+    requires { Each (λ l. l.slot < count) timetable.now }
+    ensures size { IfOk result (λ v. length v.items ≡ count) }
+    ensures rows { IfOk result (λ v.
+        (s : ℕ)
+        → s < count
+        → get_or (map (λ v. v.items) v.items) s [] ≡ slot_row s timetable.now) }
+{
+    let mut slots = no_lectures(alloc, count)?;
+    add_lectures(&mut slots, timetable)?;
+    Ok(slots)
+}
+
 impl Week {
     /// The lectures of a timetable, slot by slot.
     pub(crate) fn new(
@@ -80,8 +98,8 @@ impl Week {
         ensures rows { IfOk result (λ week. week ≡ by_slot (slot_count instance.now) timetable.now) }
         ensures fits { IfOk result (λ week. WeekFits instance.now week) }
     {
-        let mut slots = no_lectures(alloc, instance.slots())?;
-        add_lectures(&mut slots, timetable)?;
+        let count = instance.slots();
+        let slots = lectures_by_slot(alloc, count, timetable)?;
         Ok(Week { slots })
     }
 
