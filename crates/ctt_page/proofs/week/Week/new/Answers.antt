@@ -6,7 +6,7 @@ use Rattle.ctt_page.specs.Weeks.{by_slot}
 use Rattle.ctt_page.proofs.WeekLemmas.{by_slot_is, week_fits}
 use Rattle.ctt_page.proofs.week.Week.new.Goals as goal
 
-pub lectures_by_slot-requires : goal.lectures_by_slot-slots-requires
+pub lectures_by_slot-requires : goal.lectures_by_slot-requires
 lectures_by_slot-requires c = rw c.slots-count.ensures.exact (slots_fit c.args.instance.now c.args.timetable.now c.requires.fits)
 
 pub returns-clause-rows : goal.returns-clause-rows
