@@ -50,46 +50,57 @@ class Instance:
             if c in members and d in members:
                 yield "curriculum", name
 
-    def find(self, t):
-        """The findings of each kind: the numbers by which they are ordered, and what they tell, by key."""
-        found = {kind: [] for kind in KINDS.values()}
-        course = [c[0] for c in self.courses]
-        room = [r[0] for r in self.rooms]
+    def find_by_course(self, t):
+        """What is found of each course by itself: its kind, the numbers that it is ordered by, and what it tells, by key."""
         for c, (name, _, stated, minimum, _) in enumerate(self.courses):
             own = [lecture for lecture in t if lecture[0] == c]
-            if len(own) != stated:
-                found["lectures"].append(((c,), {"course": name, "placed": len(own), "stated": stated}))
             days = len({day for _, day, _, _ in own})
-            if days < minimum:
-                found["days"].append(((c,), {"course": name, "days": days, "minimum": minimum, "points": 5 * (minimum - days)}))
             rooms = len({r for _, _, _, r in own})
+            if len(own) != stated:
+                yield "lectures", (c,), {"course": name, "placed": len(own), "stated": stated}
+            if days < minimum:
+                yield "days", (c,), {"course": name, "days": days, "minimum": minimum, "points": 5 * (minimum - days)}
             if rooms > 1:
-                found["stability"].append(((c,), {"course": name, "rooms": rooms, "points": rooms - 1}))
-        for (c, day, period, _), (d, day2, period2, _) in itertools.combinations(t, 2):
-            cause = next(self.causes(c, d), None)
-            if (day, period) == (day2, period2) and cause:
-                tells = {"course": course[c], "other": course[d], "day": day, "period": period, "cause": cause[0], "name": cause[1]}
-                found["conflict"].append(((c, d, day, period), tells))
+                yield "stability", (c,), {"course": name, "rooms": rooms, "points": rooms - 1}
+
+    def find_by_pair(self, t):
+        """The same of each two lectures, of which the first has the lower number of a course."""
+        for (c, *slot, _), (d, *slot2, _) in itertools.combinations(t, 2):
+            for cause, name in itertools.islice(self.causes(c, d), 1) if slot == slot2 else ():
+                tells = {"course": self.courses[c][0], "other": self.courses[d][0], "day": slot[0], "period": slot[1]}
+                yield "conflict", (c, d, *slot), {**tells, "cause": cause, "name": name}
+
+    def find_by_lecture(self, t):
+        """The same of each lecture, beside those before it."""
         for n, (c, day, period, r) in enumerate(t):
             at = (c, day, period)
+            (course, _, _, _, students), (room, seats) = self.courses[c], self.rooms[r]
             when = {"day": day, "period": period}
-            where = {"course": course[c], "room": room[r], **when}
+            where = {"course": course, "room": room, **when}
             if at in self.unavailable:
-                found["availability"].append((at, {"course": course[c], **when}))
+                yield "availability", at, {"course": course, **when}
             if any(lecture[1:] == (day, period, r) for lecture in t[:n]):
-                found["occupancy"].append((at, {"room": room[r], **when, "course": course[c]}))
+                yield "occupancy", at, {"room": room, **when, "course": course}
             if (c, r) in self.barred:
-                found["barred"].append((at, where))
-            if self.courses[c][4] > self.rooms[r][1]:
-                found["capacity"].append((at, {**where, "points": self.courses[c][4] - self.rooms[r][1]}))
+                yield "barred", at, where
+            if students > seats:
+                yield "capacity", at, {**where, "points": students - seats}
+
+    def find_alone(self, t):
+        """The same of each lecture in each curriculum."""
         for q, (name, members) in enumerate(self.curricula):
             own = [lecture for lecture in t if lecture[0] in members]
             busy = {(day, period) for _, day, period, _ in own}
             for c, day, period, _ in own:
                 if not busy & {(day, period - 1), (day, period + 1)}:
-                    tells = {"curriculum": name, "course": course[c], "day": day, "period": period, "points": 2}
-                    found["compactness"].append(((q, c, day, period), tells))
-        return [{"kind": kind, **tells} for kind in found for _, tells in sorted(found[kind], key=lambda finding: finding[0])]
+                    tells = {"curriculum": name, "course": self.courses[c][0], "day": day, "period": period, "points": 2}
+                    yield "compactness", (q, c, day, period), tells
+
+    def find(self, t):
+        """All that is found, in order."""
+        kinds = list(KINDS.values())
+        found = [*self.find_by_course(t), *self.find_by_pair(t), *self.find_by_lecture(t), *self.find_alone(t)]
+        return [{"kind": kind, **tells} for kind, _, tells in sorted(found, key=lambda each: (kinds.index(each[0]), each[1]))]
 
     def count(self, t):
         """The counts of the report, each by its formula."""
