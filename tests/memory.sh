@@ -123,7 +123,7 @@ for words in 'check small.ctt s.sol --json --barred barred' 'check small.ctt sma
     "$program" $words >out 2>err
     wanted=$?
     spare=2
-    [ "$words" = frobnicate ] && spare=24
+    [ "$words" = frobnicate ] && spare=37
     for later in '' REFUSE_LATER=1; do
         for ((number = 1; ; number++)); do
             rm -f journal

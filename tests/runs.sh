@@ -84,11 +84,14 @@ help="A shared desk for curriculum-based course timetabling
 Usage: timedesk <COMMAND>
 
 Commands:
-  check  Report what a solution breaks and what it costs
-  run    Run a script of planners' steps and print the answers
-  audit  Say whether a journal was told what its drafts are told, run one after another
-  crew   Run scripts at once, each by a planner on a thread, and print the answers
-  help   Print this message or the help of the given subcommand(s)
+  check    Report what a solution breaks and what it costs
+  run      Run a script of planners' steps and print the answers
+  audit    Say whether a journal was told what its drafts are told, run one after another
+  crew     Run scripts at once, each by a planner on a thread, and print the answers
+  desk     Keep a desk for planners at their terminals
+  journal  Print the journal of the minutes of a desk
+  list     Print the timetable after a journal as a solution
+  help     Print this message or the help of the given subcommand(s)
 
 Options:
   -h, --help     Print help
@@ -96,7 +99,7 @@ Options:
 
 Status: 0 where it is done, also where a report says that a solution is unlawful;
 1 where the content of a file is refused, or an audit does not agree; 2 where the words are refused;
-3 where a file cannot be read, is too long, or output or memory fails.
+3 where a file cannot be read, is too long, minutes exist, or output or memory fails.
 A refused file is one line, as in 'timedesk: instance I2 14': docs/FORMATS.md has
 each fault by its number, and how to see the word that it names.
 "
@@ -152,8 +155,47 @@ Options:
       --barred <FILE>  The file of the rooms that are barred for courses; without it none is
   -h, --help           Print help
 "
+desk_help='Keep a desk for planners at their terminals
+
+Usage: timedesk desk [OPTIONS] <INSTANCE> <SEAT>...
+
+Arguments:
+  <INSTANCE>  The file of the instance
+  <SEAT>...   The seats of the planners, at most 64: lines come from SEAT.in, and answers go to SEAT.out
+
+Options:
+      --barred <FILE>     The file of the rooms that are barred for courses; without it none is
+      --start <SOLUTION>  The file of the opening timetable; without it the desk opens empty
+      --minutes <FILE>    The file to write with each accepted draft before its planner is told
+  -h, --help              Print help
+'
+journal_help='Print the journal of the minutes of a desk
+
+Usage: timedesk journal [OPTIONS] <INSTANCE> <MINUTES>
+
+Arguments:
+  <INSTANCE>  The file of the instance
+  <MINUTES>   The file of the minutes
+
+Options:
+      --barred <FILE>  The file of the rooms that are barred for courses; without it none is
+  -h, --help           Print help
+'
+list_help='Print the timetable after a journal as a solution
+
+Usage: timedesk list [OPTIONS] <INSTANCE> <JOURNAL>
+
+Arguments:
+  <INSTANCE>  The file of the instance
+  <JOURNAL>   The file of the accepted drafts
+
+Options:
+      --barred <FILE>     The file of the rooms that are barred for courses; without it none is
+      --start <SOLUTION>  The file of the opening timetable; without it the desk opens empty
+  -h, --help              Print help
+'
 no_words="error: 'timedesk' requires a subcommand but one was not provided
-  [subcommands: check, run, audit, crew, help]
+  [subcommands: check, run, audit, crew, desk, journal, list, help]
 
 Usage: timedesk <COMMAND>
 
@@ -236,6 +278,9 @@ run 'help of a command' 0 "$check_help" '' check --help
 run 'help of run' 0 "$run_help" '' run --help
 run 'help of audit' 0 "$audit_help" '' audit --help
 run 'help of crew' 0 "$crew_help" '' crew --help
+run 'help of desk' 0 "$desk_help" '' desk --help
+run 'help of journal' 0 "$journal_help" '' journal --help
+run 'help of list' 0 "$list_help" '' list --help
 run 'the version' 0 'timedesk 0.1.0
 ' '' --version
 
@@ -418,7 +463,8 @@ run 'no script' 2 '' "$no_script" run small.ctt
 run 'no journal' 2 '' "$no_journal" audit small.ctt
 run 'no script of a crew' 2 '' "$no_scripts" crew small.ctt
 run 'an option without its value' 2 '' "$no_value" run small.ctt phantom.txt --journal
-for words in 'check small.ctt s.sol' 'run small.ctt phantom.txt' 'audit small.ctt journal' 'crew small.ctt phantom.txt'; do
+for words in 'check small.ctt s.sol' 'run small.ctt phantom.txt' 'audit small.ctt journal' 'crew small.ctt phantom.txt' \
+    'desk small.ctt -' 'journal small.ctt minutes' 'list small.ctt journal'; do
     # shellcheck disable=SC2086
     run "barred rooms without a file: $words" 2 '' "${no_value/--journal/--barred}" $words --barred
 done

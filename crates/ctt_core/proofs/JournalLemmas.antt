@@ -17,6 +17,7 @@ use Rattle.ctt_draft.specs.declared.asked.Asked.{Asked}
 use Rattle.ctt_draft.specs.Drafts.{calls_of, replies_in, replies, whole, after_call, stale, AskedFits}
 use Rattle.ctt_draft.proofs.CallRuns.{lawful_after_call, lawful_whole}
 use Rattle.ctt_core.specs.declared.event.Event.{Event}
+use Rattle.ctt_draft.specs.DraftValues.{IsTold}
 use Rattle.ctt_core.specs.declared.event.Event.TheVariants.{Open, Ask, Commit, Refresh, Abandon, Show}
 use Rattle.ctt_core.specs.declared.answer.Answer.{Answer}
 use Rattle.ctt_core.specs.declared.answer.Answer.TheVariants.{Opened, AlreadyOpen, NoDraft, Replied, Committed, Refreshed, Stale, Abandoned, NoMemory}
@@ -42,6 +43,10 @@ module _ (i : Problem) (is : IsProblem i) where
       let rest : replies_in more ≡ replies i (after_call i t a.call) (calls_of more) = cc in
       let written : IsReply i a.reply = subst (IsReply i) (sym first) (replies_fit i t a.call is lawful fit.0) in
       (((fit.0, written.0), written.1), asked_fit (after_call i t a.call) more (lawful_after_call i t a.call lawful fit.0) fit.1 rest)
+
+  -- so each of them fits
+  pub told_fit : (t : List Placed) (asked : List Asked) → Lawful i t → IsTold i t asked → Each (AskedFits i) asked
+  told_fit t asked lawful is = Each-map (FitsShort i) (AskedFits i) (λ a f. f.0) asked (asked_fit t asked lawful is.fit is.told)
 
   pub history_fits : (t : List Placed) (h : List JournalEntry) → Lawful i t → Each (CallsFit i) h → Legal i t h → Each (λ (e : JournalEntry). Each (FitsShort i) e.asked) h
   history_fits t [] lawful fit legal = tt

@@ -7,3 +7,4 @@ pub mod OpeningLemmas
 pub mod AuditLemmas
 pub mod JournalLemmas
 pub mod StockLemmas
+mod ListLemmas

@@ -1,5 +1,5 @@
 -- Whether a journal tells what its drafts are told when they are run whole, one after another; and the first reply that is another one.
-use Rattle.std.specs.Prelude.{ℕ, ◌+◌, ◌≡◌, List, [], ◌∷◌, ◌++◌, length, Option, Some, None, Ok, Err}
+use Rattle.std.specs.Prelude.{ℕ, ◌+◌, ◌≡◌, ◌≢◌, List, [], ◌∷◌, ◌++◌, length, Option, Some, None, Ok, Err}
 use Rattle.ctt_text.specs.Problem.{Problem}
 use Rattle.ctt_text.specs.declared.placed.Placed.{Placed}
 use Rattle.ctt_edits.specs.Calls.{reply}
@@ -9,7 +9,10 @@ use Rattle.ctt_draft.specs.declared.asked.Asked.{Asked}
 use Rattle.ctt_core.specs.Runs.{after, Legal}
 use Rattle.ctt_core.specs.declared.auditing.Verdict.{Verdict}
 use Rattle.ctt_core.specs.declared.auditing.Verdict.TheVariants.{Agrees, BadOpening, Differs}
+use Rattle.ctt_core.specs.declared.auditing.NoList.{NoList}
+use Rattle.ctt_core.specs.declared.auditing.NoList.TheVariants.{Found, NoMemory}
 use Rattle.ctt_core.specs.declared.journal.JournalEntry.{JournalEntry}
+use Rattle.ctt_text.specs.Timetable.{IsTimetable}
 
 -- of calls that are made on t, the one with this number, from 1, is the first that was told something else
 pub record DiffersIn (i : Problem) (t : List Placed) (asked : List Asked) (number : ℕ) : Type 0 where
@@ -57,6 +60,19 @@ abbrev pub IsVerdict : Problem → List Placed → List JournalEntry → Verdict
 IsVerdict i ls h Agrees = Opens i ls h Agrees
 IsVerdict i ls h (BadOpening at f) = opening i ls ≡ Err (at, f)
 IsVerdict i ls h (Differs entry call) = Opens i ls h (Differs entry call)
+
+-- the lectures make a timetable on which the entries are legal, and they leave this one there
+pub record LeavesList (i : Problem) (ls : List Placed) (h : List JournalEntry) (list : List Placed) : Type 0 where
+  pub t0 : List Placed
+  pub opens : opening i ls ≡ Ok t0
+  pub legal : Legal i t0 h
+  pub is_left : list ≡ after i t0 h
+  pub is_timetable : IsTimetable i list
+
+-- why the entries leave no timetable on the opening with these lectures: an audit finds this, or memory is wanted
+abbrev pub IsNoList : Problem → List Placed → List JournalEntry → NoList → Type 0
+IsNoList i ls h (Found verdict) = IsVerdict i ls h verdict × (verdict ≢ Agrees)
+IsNoList i ls h NoMemory = Unit {0}
 
 -- the verdict with the entry of this number more, in which this call differs, if one does
 abbrev pub found_more : Verdict → ℕ → Option ℕ → Verdict

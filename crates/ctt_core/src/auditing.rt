@@ -11,8 +11,9 @@ ghost use Rattle.ctt_edits.specs.declared.call.Call.TheVariants.{Edit as Edits};
 ghost use Rattle.ctt_edits.specs.declared.reply.Reply.{Reply as Told};
 ghost use Rattle.ctt_draft.specs.Drafts.{after_call};
 ghost use Rattle.ctt_core.specs.Auditors.{IsToldHere, with_heard};
-ghost use Rattle.ctt_core.specs.Audits.{IsVerdict, found_more};
+ghost use Rattle.ctt_core.specs.Audits.{IsNoList, IsVerdict, LeavesList, found_more};
 ghost use Rattle.ctt_core.specs.Openings.{IsOpeningFault};
+ghost use Rattle.ctt_core.specs.declared.auditing.NoList.TheVariants.{NoMemory as OutOfMemory};
 
 use crate::desk_fault::DeskFault;
 use crate::journal::JournalEntry;
@@ -35,6 +36,23 @@ pub enum Verdict {
     BadOpening(u64, EditFault),
     /// The first reply that is another one: its entry, and its call within the entry, counted from 1.
     Differs(u64, u64),
+}
+
+/// Why a journal leaves no timetable.
+#[derive(Clone, Copy, PartialEq, Eq)]
+pub enum NoList {
+    /// An audit finds this of it.
+    Found(Verdict),
+    /// There is not enough memory.
+    NoMemory,
+}
+
+impl From<NoMemory> for NoList {
+    ghost from_gives = { λ _ none. none ≡ OutOfMemory };
+
+    fn from(_error: NoMemory) -> NoList {
+        NoList::NoMemory
+    }
 }
 
 /// Makes an edit, if nothing stands against it, and answers as a planner is told.
@@ -294,6 +312,21 @@ impl<'a, 'i, S: Sheet<'i>> Auditor<'a, S> {
         self.entries.push::<Ended, WholeEntry>(&ended);
         self.asked = GhostList::new();
         Ok(())
+    }
+
+    /// The timetable that the entries leave that have ended, where each was told what it is told; else what is found.
+    pub fn list(&self) -> Result<Vec<Placed>, NoList>
+        requires asked { self.now.asked ≡ [] }
+        requires ready { self.now.made ≡ None }
+        ensures list { IfOk result (λ list.
+            LeavesList self.now.problem self.now.lectures self.now.entries list.items) }
+        ensures none { IfErr result (IsNoList self.now.problem self.now.lectures self.now.entries) }
+    {
+        self.sheet.lawful();
+        match self.found {
+            Verdict::Agrees => Ok(self.sheet.list()?),
+            found => Err(NoList::Found(found)),
+        }
     }
 
     /// What is found of the entries that have ended.

@@ -14,11 +14,11 @@ mod stock;
 mod whole_audit;
 
 pub use answer::Answer;
-pub use auditing::{Auditor, Verdict};
+pub use auditing::{Auditor, NoList, Verdict};
 pub use desk::Desk;
 pub use desk_fault::DeskFault;
 pub use event::Event;
 pub use journal::JournalEntry;
 pub use opening::placed;
 pub use planner::PlannerNo;
-pub use whole_audit::audit;
+pub use whole_audit::{audit, list_after};

@@ -1,16 +1,16 @@
 //! The audit of a list of entries.
 
-ghost use Rattle.std.specs.Prelude.{◌≡◌, IfOk, OnOk, Ok, None, List, [], ◌∷◌, ◌++◌};
+ghost use Rattle.std.specs.Prelude.{◌≡◌, IfErr, IfOk, OnOk, Ok, None, List, [], ◌∷◌, ◌++◌};
 ghost use Rattle.std.specs.List.{AllByRecursion as Each};
 ghost use Rattle.ctt_text.specs.Timetable.{Fits};
 ghost use Rattle.ctt_text.specs.declared.placed.Placed.{Placed};
 ghost use Rattle.ctt_edits.specs.Openings.{opening};
 ghost use Rattle.ctt_core.specs.Entries.{EntryFits};
 ghost use Rattle.ctt_core.specs.Runs.{Legal};
-ghost use Rattle.ctt_core.specs.Audits.{IsVerdict};
+ghost use Rattle.ctt_core.specs.Audits.{IsNoList, IsVerdict, LeavesList};
 ghost use Rattle.ctt_core.specs.declared.auditing.Verdict.TheVariants.{Agrees};
 
-use crate::auditing::{Auditor, Verdict};
+use crate::auditing::{Auditor, NoList, Verdict};
 use crate::desk_fault::DeskFault;
 use crate::journal::JournalEntry;
 use ctt_board::Sheet;
@@ -90,4 +90,30 @@ pub fn audit<'i, S: Sheet<'i>>(
         → Legal instance.now t entries.now → verdict ≡ Agrees) }
 {
     found_on::<S>(alloc, instance, lectures, entries)
+}
+
+/// The timetable that a journal leaves on the opening with these lectures, where it tells what its drafts are told; else
+/// what an audit finds.
+pub fn list_after<'i, S: Sheet<'i>>(
+    alloc: Global,
+    instance: &'i Instance,
+    lectures: &[Placed],
+    entries: &[JournalEntry],
+) -> Result<Vec<Placed>, NoList>
+    requires lectures { Each (Fits instance.now) lectures.now }
+    requires entries { Each (EntryFits instance.now) entries.now }
+    ensures list { IfOk result (λ list.
+        LeavesList instance.now lectures.now entries.now list.items) }
+    ensures none { IfErr result (IsNoList instance.now lectures.now entries.now) }
+{
+    match Auditor::<S>::open(alloc, instance, lectures) {
+        Ok(mut auditor) => {
+            run_entries(alloc, &mut auditor, entries)?;
+            auditor.list()
+        }
+        Err(DeskFault::Unlawful(at, fault)) => {
+            Err(NoList::Found(Verdict::BadOpening(at, fault)))
+        }
+        Err(DeskFault::NoMemory) => Err(NoList::NoMemory),
+    }
 }

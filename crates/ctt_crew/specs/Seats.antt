@@ -1,5 +1,5 @@
 -- A planner of a crew: what he is told, and how that leaves him.
-use Rattle.std.specs.Prelude.{◌≡◌, ◌⊎◌, ◌++◌, ℕ, List, length, Option, Some, None}
+use Rattle.std.specs.Prelude.{◌≡◌, ◌⊎◌, ◌++◌, ℕ, List, [], length, Option, Some, None, Result, Ok, Err}
 use Rattle.ctt_text.specs.Problem.{Problem}
 use Rattle.ctt_text.specs.declared.placed.Placed.{Placed}
 use Rattle.ctt_edits.specs.Calls.{reply}
@@ -10,6 +10,7 @@ use Rattle.ctt_core.specs.declared.answer.Answer.TheVariants as answer
 use Rattle.ctt_core.specs.declared.event.Event.{Event}
 use Rattle.ctt_core.specs.declared.event.Event.TheVariants.{Open, Ask, Commit, Refresh, Abandon, Show}
 use Rattle.ctt_core.specs.declared.journal.JournalEntry.{JournalEntry}
+use Rattle.ctt_desk.specs.Histories.{entry_of}
 use Rattle.ctt_desk.specs.Planners.{PlannerValue, DraftingValue, IsAccepted, IsOpen, IsRefreshed, IsViewed, asked_also, present_of}
 use Rattle.ctt_desk.specs.Refusals.{IsNotRefreshed, IsRefused, IsUnread}
 use Rattle.ctt_desk.specs.declared.refusal.Refusal.{Refusal}
@@ -19,7 +20,7 @@ use Rattle.ctt_desk.specs.declared.refusal.RefreshRefusal.TheVariants as unrefre
 use Rattle.ctt_desk.specs.declared.shared_fault.SharedFault.{SharedFault}
 use Rattle.ctt_script.specs.AnswerText.{bad_line}
 use Rattle.ctt_crew.specs.CrewText.{told_unread, told_words}
-use Rattle.ctt_script.specs.WrittenText.{line}
+use Rattle.ctt_script.specs.WrittenText.{entry_text, line}
 use Rattle.ctt_crew.specs.declared.seat.Seat.{Seat}
 use Rattle.ctt_crew.specs.declared.seat.Seat.TheVariants.{Free, Drafting}
 use Rattle.ctt_crew.specs.declared.seat.Told.{Told}
@@ -56,12 +57,17 @@ told_refused (refusal.NotYours q count) = NotYours count
 told_refused (refusal.Stale q row) = Answered (answer.Stale row)
 told_refused (refusal.NoMemory d) = Answered answer.NoMemory
 
--- a draft is committed, and he is told how many drafts were then accepted, or it is refused
-abbrev pub Commits : {X Y : Type 0} → Problem → List Placed → Seat X Y → Seat X Y → Told → Type 0
-Commits i t0 (Free p) after told = IsTold (Free p) after (Answered answer.NoDraft) told
-Commits {X} {Y} i t0 (Drafting d) after told =
-    ((q : PlannerValue) × (f : List JournalEntry) × IsAccepted i t0 d q f × (after ≡ Free q) × (told ≡ Answered (answer.Committed (length f))))
-    ⊎ ((why : Refusal X Y) × IsRefused i t0 d why × (after ≡ seat_refused why) × (told ≡ told_refused why))
+-- a draft is committed, and the history is that of the receipt; or it is refused, and he is told why
+abbrev pub Commits : {X Y : Type 0} → Problem → List Placed → Seat X Y → Seat X Y → Result (List JournalEntry) Told → Type 0
+Commits i t0 (Free p) after (Ok history) = ⊥
+Commits i t0 (Free p) after (Err told) = IsTold (Free p) after (Answered answer.NoDraft) told
+Commits i t0 (Drafting d) after (Ok history) = (q : PlannerValue) × IsAccepted i t0 d q history × (after ≡ Free q)
+Commits {X} {Y} i t0 (Drafting d) after (Err told) = (why : Refusal X Y) × IsRefused i t0 d why × (after ≡ seat_refused why) × (told ≡ told_refused why)
+
+-- what is told of it: how many drafts were then accepted, or why it is refused
+abbrev pub told_of : Result (List JournalEntry) Told → Told
+told_of (Ok history) = Answered (answer.Committed (length history))
+told_of (Err told) = told
 
 abbrev pub seat_unrefreshed : {X Y : Type 0} → RefreshRefusal X Y → Seat X Y
 seat_unrefreshed (unrefreshed.NoPlace d) = Drafting d
@@ -94,7 +100,7 @@ Shows i t0 look (Drafting d) after told = IsTold (Drafting d) after (Answered an
 abbrev pub Takes : {X Y : Type 0} → Problem → List Placed → Event → Seat X Y → Seat X Y → Told → Type 0
 Takes i t0 (Open p) before after told = Opens i t0 before after told
 Takes i t0 (Ask p call) before after told = Asks i call before after told
-Takes i t0 (Commit p) before after told = Commits i t0 before after told
+Takes i t0 (Commit p) before after told = (outcome : Result (List JournalEntry) Told) × Commits i t0 before after outcome × (told ≡ told_of outcome)
 Takes i t0 (Refresh p) before after told = Refreshes i t0 before after told
 Takes i t0 (Abandon p) before after told = Abandons before after told
 Takes i t0 (Show look) before after told = Shows i t0 look before after told
@@ -107,3 +113,12 @@ AnswersCall i call before after old new = (told : Told) × Asks i call before af
 abbrev pub AnswersLine : {X Y : Type 0} → Problem → List Placed → Option Event → Seat X Y → Seat X Y → List ℕ → List ℕ → Type 0
 AnswersLine i t0 None before after old new = (after ≡ before) × (new ≡ old ++ bad_line)
 AnswersLine i t0 (Some event) before after old new = (told : Told) × Takes i t0 event before after told × (new ≡ old ++ line (told_words i told))
+
+-- the entry of a draft, as a journal has it
+abbrev pub draft_text : Problem → DraftingValue → List ℕ
+draft_text i d = entry_text i (entry_of d.planner.number d.asked)
+
+-- the entry of the open draft; nothing where none is open
+abbrev pub open_entry : {X Y : Type 0} → Problem → Seat X Y → List ℕ
+open_entry i (Free p) = []
+open_entry i (Drafting d) = draft_text i d

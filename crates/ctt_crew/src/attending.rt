@@ -1,6 +1,6 @@
 //! What a planner of a crew does, on a thread of his own.
 
-ghost use Rattle.std.specs.Prelude.{◌≡◌, ◌<◌, ℕ, IfOk, IfSome, IsOk, None, OnOk, ◌++◌, string_bytes};
+ghost use Rattle.std.specs.Prelude.{◌≡◌, ◌<◌, ℕ, IfOk, IfSome, IsOk, OnOk, ◌++◌, string_bytes};
 ghost use Rattle.ctt_edits.specs.Calls.{CallFits};
 ghost use Rattle.ctt_core.specs.Runs.{EventFits};
 ghost use Rattle.ctt_crew.specs.CrewText.{call_in, ToldFits, told_words};
@@ -13,7 +13,7 @@ use ctt_board::{GridSheet, Sheet};
 use ctt_core::{Event, PlannerNo};
 use ctt_desk::{Naming, Planner, SharedDesk};
 use ctt_edits::Call;
-use ctt_script::{Lines, has_words, read_own_line, write_answer, write_bad_line};
+use ctt_script::{Lines, has_words, read_own_line_of, write_answer, write_bad_line};
 use ctt_text::{Instance, NoMemory, let_go};
 use std::alloc::{AllocError, Global};
 use std::fmt::Write;
@@ -21,7 +21,7 @@ use std::marker::PhantomData;
 use std::sync::Wait;
 
 /// Adds the line of what a planner of a crew is answered.
-fn write_told(text: &mut String, instance: &Instance, told: &Told) -> Result<(), AllocError>
+pub fn write_told(text: &mut String, instance: &Instance, told: &Told) -> Result<(), AllocError>
     requires { ToldFits instance.now told.now }
     ensures { OnOk result (string_bytes text.new
         ≡ string_bytes text.old ++ line (told_words instance.now told.now)) }
@@ -58,8 +58,7 @@ fn kept_if<T: Drop>(value: T, written: Result<(), AllocError>) -> Result<T, NoMe
     Ok(value)
 }
 
-/// Answers a line of a planner's script, in which this event was read, which is no call, or none, and adds the line of
-/// the answer.
+/// Answers a line of a planner's script, in which this event was read, or none, and adds the line of the answer.
 fn answer_own_line<'i, S: Sheet<'i>, J: Naming, R: Wait>(
     rt: &R,
     desk: &SharedDesk<S, J>,
@@ -70,7 +69,6 @@ fn answer_own_line<'i, S: Sheet<'i>, J: Naming, R: Wait>(
     text: &mut String,
 ) -> Result<Seat<'i, S, J>, NoMemory>
     requires same { J.problem ≡ instance.now }
-    requires no_call { call_in read ≡ None }
     requires fits { (planners : ℕ) → planner < planners
         → IfSome read (EventFits instance.now planners) }
     ensures { IfOk result (λ next.
@@ -123,12 +121,17 @@ fn attend<'i, 'x, S: Sheet<'i>, J: Naming, R: Wait, G: Gate>(
         gate,
         desk: _,
     } = attendance;
+    // The answers seldom have more than twice the bytes of the script. Room that they leave is never written, and so costs nothing.
+    let Ok(mut text) = String::with_capacity(alloc, script.len().saturating_mul(2)) else {
+        let_go(planner);
+        return Err(NoMemory);
+    };
     let number = planner.number();
     let mut seat = Seat::Free(planner);
-    let mut text = String::new(alloc);
+    let is_text = str::from_utf8(script).is_ok();
     let mut at = 0u64;
     for line in Lines::new(script) {
-        let read = read_own_line(instance, number, line);
+        let read = read_own_line_of(instance, number, line, is_text);
         if read.is_some() || has_words(line) {
             at = at.saturating_add(1);
             gate.before(number, at);

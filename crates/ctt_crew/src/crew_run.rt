@@ -122,6 +122,18 @@ fn attendances<'i, 'x, P: Drop, J: Naming, G: Gate>(
     Ok(works)
 }
 
+/// More bytes than the line that says a planner has, and than the two last lines of what a crew wrote have.
+const LINE: usize = 128;
+
+/// Room for the answers of all planners, each behind his line, and for the two last lines.
+fn room_for(answers: &[String]) -> usize {
+    let mut room = LINE;
+    for lines in answers {
+        room = room.saturating_add(LINE).saturating_add(lines.len());
+    }
+    room
+}
+
 /// What a crew wrote: the answers of each planner, the number of accepted drafts, and the costs.
 fn crew_report(
     alloc: Global,
@@ -133,7 +145,7 @@ fn crew_report(
         ≡ crew_text (map string_bytes answers.items) entries cost.now) }
 {
     // Each planner's answers are let go once they are copied, so that all of them never lie in memory twice.
-    let mut text = String::new(alloc);
+    let mut text = String::with_capacity(alloc, room_for(&answers))?;
     for (planner, lines) in answers.into_iter().enumerate() {
         writeln!(text, "planner {planner}")?;
         text.push_str(&lines)?;
@@ -144,7 +156,7 @@ fn crew_report(
 }
 
 /// What a crew wrote whose desk is closed.
-fn closing_report<S: Timetable, J: Naming>(
+pub fn closing_report<S: Timetable, J: Naming>(
     alloc: Global,
     closed: &Closed<S, J>,
     answers: Vec<String>,
@@ -169,7 +181,7 @@ fn desk_named<S: Timetable, J: Naming, R: Wait>(
 }
 
 /// Ends a desk whose planners are gone.
-fn end<S: Timetable, J: Naming, R: Wait>(
+pub fn end_desk<S: Timetable, J: Naming, R: Wait>(
     rt: &R,
     alloc: Global,
     desk: SharedDesk<S, J>,
@@ -209,7 +221,7 @@ fn last_report<S: Timetable, J: Naming, R: Wait>(
     ensures fault { IfErr result (λ fault. (fault ≡ crew_fault.NoMemory)
         ⊎ IsErrAnd answers (λ told. fault ≡ told)) }
 {
-    let closed = end(rt, alloc, desk);
+    let closed = end_desk(rt, alloc, desk);
     let report = report_if_answered(alloc, &closed, answers);
     let_go(closed);
     report

@@ -7,6 +7,8 @@ mod crew_run;
 mod gate;
 mod seat;
 
+pub use attending::write_told;
 pub use crew_fault::CrewFault;
-pub use crew_run::crew;
+pub use crew_run::{closing_report, crew, end_desk};
 pub use gate::{Gate, NoGate};
+pub use seat::{Seat, Told};

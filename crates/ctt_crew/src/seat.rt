@@ -1,21 +1,25 @@
 //! A planner of a crew, with or without an open draft, and what he is answered.
 
-ghost use Rattle.std.specs.Prelude.{ℕ, ◌≡◌, None, Some};
+ghost use Rattle.std.specs.Prelude.{ℕ, ◌≡◌, ◌++◌, IfErr, OnOk, string_bytes};
 ghost use Rattle.ctt_edits.specs.Calls.{CallFits};
 ghost use Rattle.ctt_edits.specs.Looks.{LookFits};
 ghost use Rattle.ctt_core.specs.Runs.{EventFits};
-ghost use Rattle.ctt_crew.specs.CrewText.{ToldFits, call_in, told_unread};
-ghost use Rattle.ctt_crew.specs.Seats.{Abandons, Asks, Commits, Opens, Refreshes, Shows, Takes};
+ghost use Rattle.ctt_crew.specs.CrewText.{ToldFits, told_unread};
+ghost use Rattle.ctt_crew.specs.Seats.{Abandons, Asks, Commits, Opens, Refreshes, Shows, Takes, draft_text, open_entry, told_of};
 
 use ctt_board::{Sheet, Timetable};
 use ctt_core::{Answer, Event};
-use ctt_desk::{Drafting, Naming, Planner, RefreshRefusal, Refusal, SharedDesk, SharedFault};
+use ctt_desk::{
+    Drafting, Naming, Planner, Receipt, RefreshRefusal, Refusal, SharedDesk, SharedFault,
+};
 use ctt_edits::{Call, Look};
+use ctt_script::write_entry;
+use ctt_text::{NoMemory, let_go};
 use std::sync::Wait;
 
 /// A planner at work.
 #[derive(Drop)]
-pub(crate) enum Seat<'i, S: Timetable, J: Naming> {
+pub enum Seat<'i, S: Timetable, J: Naming> {
     /// No draft is open.
     Free(Planner<S, J>),
     /// A draft is open.
@@ -24,7 +28,7 @@ pub(crate) enum Seat<'i, S: Timetable, J: Naming> {
 
 /// What a planner of a crew is answered.
 #[derive(Drop)]
-pub(crate) enum Told {
+pub enum Told {
     /// As by a desk for one thread.
     Answer(Answer),
     /// He has seen more drafts than the desk has, namely this many; or it has another number of his drafts
@@ -45,6 +49,32 @@ fn unread<J: Naming>(fault: SharedFault) -> Told
     }
 }
 
+/// What is told of a commit: how many drafts were then accepted, or why it is refused.
+fn told_of<J: Naming>(outcome: Result<Receipt<J>, Told>) -> Told
+    ensures fits { IfErr outcome (ToldFits J.problem) → ToldFits J.problem result }
+    ensures told { result ≡ told_of outcome }
+{
+    match outcome {
+        Ok(receipt) => Told::Answer(Answer::Committed(receipt.number())),
+        Err(told) => told,
+    }
+}
+
+/// Adds the entry of a draft, as a journal has it.
+fn write_draft<'i, S: Sheet<'i>, J: Naming>(
+    drafting: &Drafting<'i, S, J>,
+    text: &mut String,
+) -> Result<(), NoMemory>
+    ensures { OnOk result (string_bytes text.new
+        ≡ string_bytes text.old ++ draft_text J.problem drafting.now) }
+{
+    let instance = drafting.instance();
+    let entry = drafting.entry()?;
+    let written = write_entry(text, instance, entry.planner, entry.asked.as_slice());
+    let_go(entry);
+    Ok(written?)
+}
+
 impl<'i, S: Sheet<'i>, J: Naming> Seat<'i, S, J> {
     /// Opens a draft.
     fn open(self) -> (Self, Told)
@@ -63,7 +93,7 @@ impl<'i, S: Sheet<'i>, J: Naming> Seat<'i, S, J> {
     }
 
     /// Makes the call in the draft. Of all that a line may ask for, this is the most frequent; it moves no seat.
-    pub(crate) fn ask(&mut self, call: Call) -> Told
+    pub fn ask(&mut self, call: Call) -> Told
         requires { CallFits J.problem call }
         ensures fits { ToldFits J.problem result }
         ensures asks { Asks J.problem call self.old self.new result }
@@ -77,26 +107,41 @@ impl<'i, S: Sheet<'i>, J: Naming> Seat<'i, S, J> {
         }
     }
 
-    /// Commits the draft.
-    fn commit<R: Wait>(self, rt: &R, desk: &SharedDesk<S, J>) -> (Self, Told)
-        ensures fits { ToldFits J.problem result.1 }
+    /// Adds the entry of the open draft, as a journal has it, if a draft is open.
+    pub fn write_entry(&self, text: &mut String) -> Result<(), NoMemory>
+        ensures { OnOk result (string_bytes text.new
+            ≡ string_bytes text.old ++ open_entry J.problem self.now) }
+    {
+        match self {
+            Seat::Free(_) => Ok(()),
+            Seat::Drafting(drafting) => write_draft(drafting, text),
+        }
+    }
+
+    /// Commits the draft, and gives the receipt where it is accepted, or else what the planner is told.
+    pub fn commit<R: Wait>(
+        self,
+        rt: &R,
+        desk: &SharedDesk<S, J>,
+    ) -> (Self, Result<Receipt<J>, Told>)
+        ensures fits { IfErr result.1 (ToldFits J.problem) }
         ensures commits { Commits J.problem J.opening self.entry result.0 result.1 }
     {
         match self {
-            Seat::Free(planner) => (Seat::Free(planner), Told::Answer(Answer::NoDraft)),
+            Seat::Free(planner) => (Seat::Free(planner), Err(Told::Answer(Answer::NoDraft))),
             Seat::Drafting(drafting) => match drafting.commit(rt, desk) {
-                Ok((planner, receipt)) => {
-                    let number = receipt.number();
-                    (Seat::Free(planner), Told::Answer(Answer::Committed(number)))
-                }
+                Ok((planner, receipt)) => (Seat::Free(planner), Ok(receipt)),
                 Err(Refusal::Stale(planner, row)) => {
-                    (Seat::Free(planner), Told::Answer(Answer::Stale(row)))
+                    (Seat::Free(planner), Err(Told::Answer(Answer::Stale(row))))
                 }
                 Err(Refusal::NotYours(planner, count)) => {
-                    (Seat::Free(planner), Told::NotYours(count))
+                    (Seat::Free(planner), Err(Told::NotYours(count)))
                 }
                 Err(Refusal::NoMemory(drafting)) => {
-                    (Seat::Drafting(drafting), Told::Answer(Answer::NoMemory))
+                    (
+                        Seat::Drafting(drafting),
+                        Err(Told::Answer(Answer::NoMemory)),
+                    )
                 }
             },
         }
@@ -160,17 +205,23 @@ impl<'i, S: Sheet<'i>, J: Naming> Seat<'i, S, J> {
         }
     }
 
-    /// Does what a line asks for that is no call. The planner goes on from where that leaves him.
-    pub(crate) fn take<R: Wait>(self, rt: &R, desk: &SharedDesk<S, J>, event: Event) -> (Self, Told)
-        requires no_call { call_in (Some event) ≡ None }
+    /// Does what a line asks for. The planner goes on from where that leaves him.
+    pub fn take<R: Wait>(self, rt: &R, desk: &SharedDesk<S, J>, event: Event) -> (Self, Told)
         requires fits { (n : ℕ) × EventFits J.problem n event }
         ensures fits { ToldFits J.problem result.1 }
         ensures takes { Takes J.problem J.opening event self.entry result.0 result.1 }
     {
         match event {
             Event::Open(_) => self.open(),
-            Event::Ask(_, _) => unreachable!(),
-            Event::Commit(_) => self.commit(rt, desk),
+            Event::Ask(_, call) => {
+                let mut seat = self;
+                let told = seat.ask(call);
+                (seat, told)
+            }
+            Event::Commit(_) => {
+                let (seat, outcome) = self.commit(rt, desk);
+                (seat, told_of(outcome))
+            }
             Event::Refresh(_) => self.refresh(),
             Event::Abandon(_) => self.abandon(),
             Event::Show(look) => self.show(&look),

@@ -1,17 +1,22 @@
 //! Planners with an open draft.
 
 ghost use Rattle.std.specs.Prelude.{◌≡◌, IfOk, OnErr};
+ghost use Rattle.std.specs.List.{AllByRecursion as Each};
 ghost use Rattle.ctt_edits.specs.Calls.{CallFits, reply};
 ghost use Rattle.ctt_edits.specs.Fitting.{IsReply};
+ghost use Rattle.ctt_draft.specs.Drafts.{AskedFits};
+ghost use Rattle.ctt_desk.specs.Histories.{entry_of};
 ghost use Rattle.ctt_desk.specs.Planners.{present_of, asked_also};
 
 use crate::kept::Kept;
 use crate::naming::Naming;
 use crate::planner::Planner;
 use ctt_board::{Sheet, Timetable};
-use ctt_draft::{Draft, KeepAll};
+use ctt_core::JournalEntry;
+use ctt_draft::{AskedCalls, Draft, KeepAll};
 use ctt_edits::{Call, Reply, laws};
 use ctt_text::{Instance, NoMemory};
+use std::alloc::Global;
 use std::marker::Model;
 
 /// A planner with an open draft. Contracts see the planner, the timetable on which the draft
@@ -39,6 +44,19 @@ impl<'i, S: Timetable, J: Naming> Model for Drafting<'i, S, J> {
         × (d.draft.value.base ≡ after J.problem J.opening d.planner.front) };
 }
 
+/// A copy of the calls of a draft with their replies.
+fn asked_again<'i, S: Sheet<'i>>(
+    alloc: Global,
+    draft: &Draft<'i, S, KeepAll>,
+) -> Result<AskedCalls, NoMemory>
+    ensures asked { IfOk result (λ asked. asked ≡ draft.now.asked) }
+    ensures fit { IfOk result (Each (AskedFits draft.now.problem)) }
+{
+    draft.instance().limits_hold();
+    draft.lawful();
+    draft.asked_again(alloc)
+}
+
 impl<'i, S: Sheet<'i>, J: Naming> Drafting<'i, S, J> {
     /// The instance whose courses are timetabled.
     pub fn instance(&self) -> &'i Instance
@@ -61,6 +79,17 @@ impl<'i, S: Sheet<'i>, J: Naming> Drafting<'i, S, J> {
         self.draft.instance().limits_hold();
         self.draft.lawful();
         self.draft.call(call)
+    }
+
+    /// The entry that the draft is, if it is accepted.
+    pub fn entry(&self) -> Result<JournalEntry, NoMemory>
+        ensures entry { IfOk result (λ entry.
+            entry ≡ entry_of self.now.planner.number self.now.asked) }
+        ensures fit { IfOk result (λ entry. Each (AskedFits J.problem) entry.asked) }
+    {
+        let asked = asked_again(self.planner.alloc, &self.draft)?;
+        let planner = self.planner.number();
+        Ok(JournalEntry { planner, asked })
     }
 
     /// Gives the draft up. Its sheet is kept. It takes no memory.

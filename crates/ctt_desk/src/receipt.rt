@@ -1,6 +1,7 @@
 //! Receipts of commits.
 
-ghost use Rattle.std.specs.Prelude.{◌≡◌, length};
+ghost use Rattle.std.specs.Prelude.{◌≡◌, ◌≤◌, ◌↔◌, IsTrue, length};
+ghost use mathlib.Core.List.{IsPrefix};
 ghost use Rattle.ctt_core.specs.Runs.{Legal};
 
 use crate::front::Front;
@@ -32,5 +33,22 @@ impl<J: Naming> Receipt<J> {
         ensures legal { Legal J.problem J.opening self.now }
     {
         self.front.len()
+    }
+
+    /// A copy.
+    pub fn again(&self) -> Self
+        ensures { result ≡ self.now }
+    {
+        Receipt {
+            front: self.front.again(),
+        }
+    }
+
+    /// Whether the history of the other receipt begins with this one: it does where it is no shorter.
+    pub fn begins(&self, other: &Self) -> bool
+        ensures begins { IsTrue result → IsPrefix self.now other.now }
+        ensures shorter { IsTrue result ↔ (length self.now ≤ length other.now) }
+    {
+        self.front.begins(&other.front)
     }
 }

@@ -1,6 +1,6 @@
 //! Calls with what was told.
 
-ghost use Rattle.std.specs.Prelude.{◌≡◌, ◌↔◌, ◌++◌, ◌∷◌, [], true, IsTrue, OnOk, OnErr};
+ghost use Rattle.std.specs.Prelude.{◌≡◌, ◌↔◌, ◌++◌, ◌∷◌, [], true, IsTrue, IfOk, OnOk, OnErr};
 ghost use Rattle.std.specs.List.{AllByRecursion as Each};
 ghost use Rattle.ctt_draft.specs.Drafts.{AskedFits};
 
@@ -8,6 +8,7 @@ use crate::ghost_list::Tells;
 use crate::log::{Keeping, Log};
 use ctt_edits::{Call, Reply};
 use ctt_text::{Instance, NoMemory};
+use std::alloc::Global;
 use std::marker::Model;
 
 /// A call with its reply.
@@ -95,6 +96,21 @@ impl AskedCalls {
         let mut list = asked.into_vec();
         list.shrink_to_fit();
         AskedCalls { list }
+    }
+
+    /// A copy of a list.
+    pub fn copy_of(alloc: Global, asked: &[Asked]) -> Result<Self, NoMemory>
+        ensures { IfOk result (λ copy. copy ≡ asked.now) }
+    {
+        let mut list = Vec::with_capacity(alloc, asked.len())?;
+        for one in asked {
+            let reply = one.reply.copy()?;
+            list.push(Asked {
+                call: one.call,
+                reply,
+            })?;
+        }
+        Ok(AskedCalls { list })
     }
 
     /// The list.

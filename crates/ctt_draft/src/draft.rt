@@ -13,7 +13,7 @@ ghost use Rattle.ctt_draft.specs.Replays.{replayed};
 ghost use Rattle.ctt_draft.specs.DraftValues.{present, asked_more, IsTold};
 ghost use Rattle.ctt_draft.specs.Undo.{undo_of};
 
-use crate::asked::{Asked, push_told};
+use crate::asked::{Asked, AskedCalls, push_told};
 use crate::boxed::{add, apply, boxed_copy, no_rows, note_cells};
 use crate::idle::Idle;
 use crate::laws;
@@ -302,5 +302,12 @@ impl<'i, S: Sheet<'i>> Draft<'i, S, KeepAll> {
         ensures { result.now ≡ self.now.asked }
     {
         self.asked.as_slice()
+    }
+
+    /// A copy of the calls with their replies, in order.
+    pub fn asked_again(&self, alloc: Global) -> Result<AskedCalls, NoMemory>
+        ensures { IfOk result (λ copy. copy ≡ self.now.asked) }
+    {
+        AskedCalls::copy_of(alloc, self.asked.as_slice())
     }
 }

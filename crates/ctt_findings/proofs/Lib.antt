@@ -5,4 +5,4 @@ pub mod TakenLemmas
 pub mod ConflictLemmas
 pub mod AloneLemmas
 pub mod FrontLemmas
-pub mod WritingLemmas
+pub mod ObjectLemmas

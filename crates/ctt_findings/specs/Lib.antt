@@ -3,4 +3,4 @@ pub mod Fitting
 pub mod Hearing
 pub mod Lines
 pub mod Laws
-pub mod Writing
+pub mod Objects

@@ -9,14 +9,14 @@ pub mod laws;
 mod lectures;
 mod lines;
 mod listener;
+mod objects;
 mod occupancy;
 mod telling;
 mod untold;
-mod writing;
 
 pub use finding::{Cause, Finding};
 pub use lines::push_line;
 pub use listener::Listener;
+pub use objects::push_item;
 pub use telling::tell_findings;
 pub use untold::Untold;
-pub use writing::{Output, write_lines};

@@ -131,7 +131,7 @@ module _ (i : Problem) (is : IsProblem i) where
   all_short : (ss : List Asked) → Each (IsAsked i) ss → Each (λ s. IsShortReply s.reply) ss
   all_short ss each = Each-map (IsAsked i) (λ s. IsShortReply s.reply) (λ s f. f.1) ss each
 
-  yields_entry : Yields (IsEntry i) (entry_form i)
+  pub yields_entry : Yields (IsEntry i) (entry_form i)
   unfolding entry_form
   yields_entry =
       yields_bind _ (IsEntry i) _ _ (yields_label _) (λ start t. yields_bind _ (IsEntry i) _ _ (yields_below i is 1000) (λ p fp. yields_bind _ (IsEntry i) _ _ yields_count (λ n few.

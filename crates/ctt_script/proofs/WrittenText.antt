@@ -233,7 +233,7 @@ module _ (i : Problem) (is : IsProblem i) (named : IsNamed i) where
   asked_are [] f short = tt
   asked_are (s ∷ ss) f short = ((f.0, short.0), asked_are ss f.1 short.1)
 
-  entry_part : (e : JournalEntry) → IsEntry i e → (rest : List ℕ) → words (entry_text i e ++ rest) ≡ entry_words i e ++ words rest
+  pub entry_part : (e : JournalEntry) → IsEntry i e → (rest : List ℕ) → words (entry_text i e ++ rest) ≡ entry_words i e ++ words rest
   unfolding is_blank solid
   entry_part e f rest =
       let head : List (List ℕ) = codes "entry" ∷ decimal e.planner ∷ decimal (length e.asked) ∷ [] in

@@ -226,7 +226,7 @@ module _ (i : Problem) (is : IsProblem i) (named : IsNamed i) where
   asked_are [] f short = tt
   asked_are (s ∷ ss) f short = ((f.0, short.0), asked_are ss f.1 short.1)
 
-  entry_fills : (e : JournalEntry) → IsEntry i e → Fills (entry_form i) (entry_words i e) e
+  pub entry_fills : (e : JournalEntry) → IsEntry i e → Fills (entry_form i) (entry_words i e) e
   unfolding entry_form
   entry_fills e f =
       label_then (codes "entry") _ _ e refl

@@ -28,6 +28,13 @@ impl<T> Device<T> {
             pulls: 0,
         }
     }
+
+    /// The reader or the writer of std.
+    pub fn inner(&self) -> &T
+        ensures { result.now ≡ inner_of self.now }
+    {
+        &self.inner
+    }
 }
 
 impl<T: Read> Source for Device<T> {

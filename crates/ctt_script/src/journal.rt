@@ -75,8 +75,10 @@ fn read_so_many_asked(
 }
 
 /// An entry.
+///
+/// The fault names the first word that cannot stand in its place, given the words before it, or that is missing there.
 #[tactic(auto, using(crate::proofs::JournalSteps::read_bind, crate::proofs::JournalSteps::read_done), unfolding(crate::specs::JournalPlaces::entry_form))]
-fn read_entry(
+pub fn read_entry(
     alloc: Global,
     reader: &mut Reader,
     instance: &Instance,

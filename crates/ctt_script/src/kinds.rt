@@ -71,7 +71,7 @@ pub(crate) enum FaultKind {
 /// in place and nothing is called.
 #[inline(always)]
 #[tactic(auto, using(crate::proofs::KindLemmas::other_length, crate::proofs::KindLemmas::other_at, crate::proofs::KindLemmas::same_all, crate::proofs::KindLemmas::same_more))]
-pub(crate) fn is_word(word: &str, text: &str) -> bool
+pub fn is_word(word: &str, text: &str) -> bool
     ensures { result ≡ bytes_eq word.now text.now }
 {
     let (bytes, wanted) = (word.as_bytes(), text.as_bytes());

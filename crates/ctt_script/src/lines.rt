@@ -24,7 +24,7 @@ impl<'a> Model for Lines<'a> {
 }
 
 /// Where the first line ends.
-fn line_end(text: &[u8]) -> Option<usize>
+pub fn line_end(text: &[u8]) -> Option<usize>
     ensures { result ≡ position (λ b. b == 10) text.now }
 {
     memchr(b'\n', text)

@@ -233,6 +233,27 @@ pub fn read_line(instance: &Instance, line: &[u8]) -> Option<Event>
 }
 
 /// The event that a line asks for in a script of one planner, where no line names him; none for a
+/// line of any other form. That the line is text may be known before, of a whole script at once.
+pub fn read_own_line_of(
+    instance: &Instance,
+    planner: PlannerNo,
+    line: &[u8],
+    is_text: bool,
+) -> Option<Event>
+    requires { is_text ≡ true → IsUtf8 line.now }
+    ensures item { result ≡ own_item instance.now planner line.now }
+    ensures words { OnSome result (has_words line.now ≡ true) }
+    ensures fits { (planners : ℕ) → planner < planners
+        → IfSome result (EventFits instance.now planners) }
+{
+    instance.limits_hold();
+    let text = text_of(line, is_text)?;
+    let mut reader = Reader::new(text);
+    let read = read_own_event(&mut reader, instance, planner);
+    only_event(&reader, read)
+}
+
+/// The event that a line asks for in a script of one planner, where no line names him; none for a
 /// line of any other form.
 pub fn read_own_line(instance: &Instance, planner: PlannerNo, line: &[u8]) -> Option<Event>
     ensures item { result ≡ own_item instance.now planner line.now }
@@ -240,11 +261,7 @@ pub fn read_own_line(instance: &Instance, planner: PlannerNo, line: &[u8]) -> Op
     ensures fits { (planners : ℕ) → planner < planners
         → IfSome result (EventFits instance.now planners) }
 {
-    instance.limits_hold();
-    let text = text_of(line, false)?;
-    let mut reader = Reader::new(text);
-    let read = read_own_event(&mut reader, instance, planner);
-    only_event(&reader, read)
+    read_own_line_of(instance, planner, line, false)
 }
 
 /// Whether a line has words.

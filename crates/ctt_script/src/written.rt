@@ -279,18 +279,18 @@ pub(crate) fn write_entry_head(
     end_with_number(text, calls)
 }
 
-/// Adds the lines of an entry.
-fn write_entry(
+/// Adds the lines of the entry of a planner's draft with these calls.
+pub fn write_entry(
     text: &mut String,
     instance: &Instance,
-    entry: &JournalEntry,
+    planner: PlannerNo,
+    asked: &[Asked],
 ) -> Result<(), AllocError>
-    requires { EntryFits instance.now entry.now }
-    ensures { OnOk result (string_bytes text.new
-        ≡ string_bytes text.old ++ entry_text instance.now entry.now) }
+    requires { Each (AskedFits instance.now) asked.now }
+    ensures { OnOk result (string_bytes text.new ≡ string_bytes text.old
+        ++ entry_text instance.now (record { planner = planner; asked = asked.now })) }
 {
-    let asked = entry.asked.as_slice();
-    write_entry_head(text, entry.planner, asked.len() as u64)?;
+    write_entry_head(text, planner, asked.len() as u64)?;
     for one in asked {
         write_asked(text, instance, one)?;
     }
@@ -319,7 +319,7 @@ pub fn write_journal(
     text.push_str("journal")?;
     end_with_number(&mut text, entries.len() as u64)?;
     for entry in entries {
-        write_entry(&mut text, instance, entry)?;
+        write_entry(&mut text, instance, entry.planner, entry.asked.as_slice())?;
     }
     text.push_str("END.\n")?;
     Ok(text.into_bytes())

@@ -1,231 +1,223 @@
-//! A day of seven planners of one desk on the small instance: a draft that is dropped, commits, refreshes, and what the
-//! others then see. `close` sees every commit. The costs were computed by hand from the rules.
+//! Three planners of one desk of grid sheets. Two of them commit fifty-one drafts each, on threads of their own, and the
+//! third one then learns their last receipts. Each entry is where its receipt says, and all three see what was placed.
 
-ghost use Rattle.std.specs.Prelude.{◌≡◌, IfSome};
 ghost use Rattle.ctt_desk.specs.Names.{IsNamed};
 
-use crate::desks::{
-    accepted, ask, commits_first, drafted, empty, expect_seen, has_list, is_entry, shows,
-};
-use crate::edits::place;
-use crate::small::{cost, geo_second, small_instance, top_third};
+use crate::desks::{accepted, drafted, empty, expect_seen, has_list, is_entry, place};
+use crate::small::{geo_second, small_instance, top_third};
 use crate::stopped::Stopped;
-use ctt_board::{ListSheet, Sheet, Timetable};
-use ctt_core::PlannerNo;
-use ctt_desk::{
-    Closed, Drafting, Named, Naming, Opened, Planner, RefreshRefusal, Refusal, SharedDesk,
-};
-use ctt_edits::{Call, Look, Reply, Row};
-use ctt_text::{Instance, Placed, SlotNo, let_go};
+use ctt_board::{GridSheet, Sheet, Timetable};
+use ctt_core::{JournalEntry, PlannerNo};
+use ctt_desk::{Closed, Named, Naming, Opened, Planner, Receipt, SharedDesk};
+use ctt_edits::{Call, Edit};
+use ctt_text::{Instance, Placed, let_go};
 use std::alloc::Global;
 use std::marker::{Brand, PhantomData};
 use std::process::Abort;
-use std::sync::Wait;
+use std::sync::{Mutex, MutexGuard, Wait};
+use std::thread::{Threads, join};
 
-/// The planners of a day: those who have done nothing yet, of whom the last one comes next; the drafts that are open, of
-/// which the last one goes on next; and the planners who are done.
+/// How many drafts two planners commit.
+const DRAFTS: u64 = 102;
+
+/// A planner who has committed his drafts, with the last receipt.
 #[derive(Drop)]
-struct Day<'i, S: Timetable, J: Naming> {
-    waiting: Vec<Planner<S, J>>,
-    open: Vec<Drafting<'i, S, J>>,
-    done: Vec<Planner<S, J>>,
+struct Committed<S: Timetable, J: Naming> {
+    planner: Planner<S, J>,
+    receipt: Receipt<J>,
 }
 
-/// The next planner opens a draft of one call, which is left open.
-fn drafts_next<'i, S: Sheet<'i>, J: Naming>(day: &mut Day<'i, S, J>, call: Call) -> Option<()> {
-    let (drafting, _reply) = drafted(day.waiting.pop()?, call)?;
-    day.open.push(drafting).ok()
-}
-
-/// The next planner drops a draft in which a lecture was placed.
-fn drops_next<'i, S: Sheet<'i>, J: Naming, R: Abort>(
-    rt: &R,
-    day: &mut Day<'i, S, J>,
-    lecture: &Placed,
-) -> Option<()> {
-    let (dropped, reply) = drafted(day.waiting.pop()?, Call::Edit(place(lecture)))?;
-    assert!(rt; matches!(reply, Reply::Done));
-    drop(dropped);
-    Some(())
-}
-
-/// The next planner looks at a slot in a draft, which is left open.
-fn looks_next<'i, S: Sheet<'i>, J: Naming>(day: &mut Day<'i, S, J>, slot: SlotNo) -> Option<()> {
-    drafts_next(day, Call::Look(Look::Slot(slot)))
-}
-
-/// The next planner commits a draft that places a lecture.
-fn commits_next<'i, S: Sheet<'i>, J: Naming, R: Wait + Abort>(
+/// Commits a draft of one edit.
+fn commit_edit<'i, S: Sheet<'i>, J: Naming, R: Wait>(
     rt: &R,
     desk: &SharedDesk<S, J>,
-    day: &mut Day<'i, S, J>,
-    lecture: &Placed,
-) -> Option<()> {
-    let (planner, _receipt) = commits_first(rt, desk, day.waiting.pop()?, lecture)?;
-    day.done.push(planner).ok()
-}
-
-/// The next planner, who has learnt nothing, sees a lecture.
-fn sees_next<'i, S: Sheet<'i>, J: Naming, R: Abort>(
-    rt: &R,
-    small: &Instance,
-    day: &mut Day<'i, S, J>,
-    lecture: &Placed,
-) -> Option<()>
-    requires { small.now ≡ J.problem }
-{
-    let planner = expect_seen(rt, small, day.waiting.pop()?, lecture)?;
-    day.done.push(planner).ok()
-}
-
-/// The row for which a commit is refused.
-fn refused<'i, S: Sheet<'i>, J: Naming, R: Wait>(
-    rt: &R,
-    desk: &SharedDesk<S, J>,
-    late: Drafting<'i, S, J>,
-) -> Option<(Planner<S, J>, Row)> {
-    match late.commit(rt, desk) {
-        Ok((_planner, _receipt)) => None,
-        Err(Refusal::Stale(planner, row)) => Some((planner, row)),
-        Err(Refusal::NotYours(_planner, _count)) => None,
-        Err(Refusal::NoMemory(_late)) => None,
-    }
-}
-
-/// The row for which a refresh is refused.
-fn outdated<'i, S: Sheet<'i>, J: Naming>(late: Drafting<'i, S, J>) -> Option<(Planner<S, J>, Row)> {
-    match late.refresh() {
-        Ok(_late) => None,
-        Err(RefreshRefusal::Stale(planner, row)) => Some((planner, row)),
-        Err(RefreshRefusal::NoPlace(_late)) => None,
-        Err(RefreshRefusal::NoMemory(_late)) => None,
-    }
-}
-
-/// Stops where a draft was not stale at the slot of a lecture. Its planner has then seen one draft, and committed none.
-fn expect_late<S: Timetable, J: Naming, R: Abort>(
-    rt: &R,
-    late: (Planner<S, J>, Row),
-    lecture: &Placed,
-) -> Planner<S, J> {
-    let (planner, row) = late;
-    assert!(rt; row == Row::Slot(lecture.slot));
-    assert_eq!(rt; planner.committed(), 0);
-    assert_eq!(rt; planner.seen(), 1);
-    planner
-}
-
-/// The next draft is stale at a commit. The instance is told.
-fn late_next<'i, S: Sheet<'i>, J: Naming, R: Wait + Abort>(
-    rt: &R,
-    desk: &SharedDesk<S, J>,
-    day: &mut Day<'i, S, J>,
-    lecture: &Placed,
-) -> Option<&'i Instance>
-    ensures { IfSome result (λ small. small.now ≡ J.problem) }
-{
-    let late = day.open.pop()?;
-    let small = late.instance();
-    let planner = expect_late(rt, refused(rt, desk, late)?, lecture);
-    day.done.push(planner).ok()?;
-    Some(small)
-}
-
-/// The next draft is stale at a refresh.
-fn outdated_next<'i, S: Sheet<'i>, J: Naming, R: Abort>(
-    rt: &R,
-    day: &mut Day<'i, S, J>,
-    lecture: &Placed,
-) -> Option<()> {
-    let late = outdated(day.open.pop()?)?;
-    let planner = expect_late(rt, late, lecture);
-    day.done.push(planner).ok()
-}
-
-/// Brings a draft up to date, and sees a lecture in it.
-fn refreshed<'i, S: Sheet<'i>, J: Naming, R: Abort>(
-    rt: &R,
-    drafting: Drafting<'i, S, J>,
-    lecture: &Placed,
-) -> Option<Drafting<'i, S, J>> {
-    let mut drafting = drafting.refresh().ok()?;
-    let told = ask(&mut drafting, Call::Look(Look::Slot(lecture.slot)))?;
-    assert!(rt; shows(&told, lecture));
-    Some(drafting)
-}
-
-/// The next draft is brought up to date, sees a lecture, and is accepted as the second one.
-fn goes_on_next<'i, S: Sheet<'i>, J: Naming, R: Wait + Abort>(
-    rt: &R,
-    desk: &SharedDesk<S, J>,
-    day: &mut Day<'i, S, J>,
-    lecture: &Placed,
-) -> Option<()> {
-    let drafting = refreshed(rt, day.open.pop()?, lecture)?;
+    planner: Planner<S, J>,
+    edit: Edit,
+) -> Option<Committed<S, J>> {
+    let (drafting, _reply) = drafted(planner, Call::Edit(edit))?;
     let (planner, receipt) = accepted(rt, desk, drafting)?;
-    assert_eq!(rt; receipt.number(), 2);
-    assert_eq!(rt; planner.seen(), 2);
-    assert_eq!(rt; planner.committed(), 1);
-    day.done.push(planner).ok()
+    Some(Committed { planner, receipt })
 }
 
-/// A draft that is dropped changes nothing, and holds up nobody. A planner who has looked at a slot is stale when
-/// another one has placed a lecture there, at a commit and at a refresh. Two more, who learnt nothing, see it, and one
-/// who had placed geo before goes on with it.
-fn turns<'i, S: Sheet<'i>, J: Naming, R: Wait + Abort>(
+/// The placing of a lecture and its removal, by turns.
+fn edit_of(turn: usize, lecture: &Placed) -> Edit {
+    if turn % 2 == 0 {
+        place(lecture)
+    } else {
+        Edit::Drop(lecture.course, lecture.slot)
+    }
+}
+
+/// A planner commits 51 drafts of one edit, of which the last one places a lecture. The receipts' numbers are noted.
+fn commit_all<'i, S: Sheet<'i>, J: Naming, R: Wait>(
     rt: &R,
     desk: &SharedDesk<S, J>,
-    day: &mut Day<'i, S, J>,
-) -> Option<()> {
-    let top = top_third();
-    drops_next(rt, day, &top)?;
-    drafts_next(day, Call::Edit(place(&geo_second())))?;
-    looks_next(day, top.slot)?;
-    looks_next(day, top.slot)?;
-    commits_next(rt, desk, day, &top)?;
-    let Some(small) = late_next(rt, desk, day, &top) else {
-        return None;
-    };
-    outdated_next(rt, day, &top)?;
-    sees_next(rt, small, day, &top)?;
-    sees_next(rt, small, day, &top)?;
-    goes_on_next(rt, desk, day, &top)
-}
-
-/// Whether a closed desk has the entries of planner 2, and then of planner 5, and their timetable.
-fn is_of_two<S: Timetable, J: Naming>(closed: &Closed<S, J>) -> bool {
-    let top = top_third();
-    match closed.journal() {
-        [first, second] => {
-            is_entry(first, PlannerNo::new(2), place(&top))
-                && second.planner == PlannerNo::new(5)
-                && has_list(closed, &[geo_second(), top])
-                && closed.cost() == cost(10, 10, 2, 0)
-        }
-        _ => false,
+    planner: Planner<S, J>,
+    lecture: &Placed,
+    numbers: &mut Vec<u64>,
+) -> Option<Committed<S, J>> {
+    let mut planner = planner;
+    for turn in 0..50 {
+        let done = commit_edit(rt, desk, planner, edit_of(turn, lecture))?;
+        numbers.push(done.receipt.number()).ok()?;
+        planner = done.planner;
     }
+    let done = commit_edit(rt, desk, planner, place(lecture))?;
+    numbers.push(done.receipt.number()).ok()?;
+    Some(done)
 }
 
-/// Stops where a desk was not closed with all planners, or does not have the two entries.
-fn expect_two<S: Timetable, J: Naming>(
-    rt: &impl Abort,
-    closed: Result<Closed<S, J>, Closed<S, J>>,
-) -> Result<(), Stopped> {
-    match closed {
-        Ok(closed) => {
-            assert!(rt; is_of_two(&closed));
-            Ok(())
-        }
-        Err(_closed) => Err(Stopped::NotClosed),
-    }
+/// A planner at a desk, with the lecture that is placed and removed, and where planners go when they are done.
+#[derive(Drop)]
+struct Turn<'a, 'i, J: Naming> {
+    alloc: Global,
+    desk: &'a SharedDesk<GridSheet<'i>, J>,
+    done: &'a Mutex<Vec<Committed<GridSheet<'i>, J>>>,
+    planner: Planner<GridSheet<'i>, J>,
+    lecture: Placed,
 }
 
-/// Two drafts are accepted, and two are stale; `close` is handed all planners, and its journal begins with
-/// what each of them has seen.
-fn every_commit<'i, J: Naming, R: Wait + Abort>(
+/// What the planner of a turn does. Answers the receipts' numbers.
+fn take_turn<'a, 'i, J: Naming, R: Wait>(rt: &R, turn: Turn<'a, 'i, J>) -> Option<Vec<u64>> {
+    let Turn {
+        alloc,
+        desk,
+        done,
+        planner,
+        lecture,
+    } = turn;
+    let mut numbers = Vec::new(alloc);
+    let one = commit_all::<GridSheet<'i>, J, R>(rt, desk, planner, &lecture, &mut numbers)?;
+    let mut done = done.lock(rt);
+    let pushed = done.push(one);
+    MutexGuard::unlock(done);
+    pushed.ok()?;
+    Some(numbers)
+}
+
+/// Both planners at work, each on a thread of its own.
+fn both_work<'i, J: Naming + Send + Sync, R: Threads + Wait + Sync>(
     rt: &R,
     alloc: Global,
-    opened: Opened<ListSheet<'i>>,
+    desk: &SharedDesk<GridSheet<'i>, J>,
+    done: &Mutex<Vec<Committed<GridSheet<'i>, J>>>,
+    planners: &mut Vec<Planner<GridSheet<'i>, J>>,
+) -> Option<(Vec<u64>, Vec<u64>)> {
+    let top = Turn {
+        alloc,
+        desk,
+        done,
+        planner: planners.pop()?,
+        lecture: top_third(),
+    };
+    let geo = Turn {
+        alloc,
+        desk,
+        done,
+        planner: planners.pop()?,
+        lecture: geo_second(),
+    };
+    let (one, two) = join(rt, || take_turn(rt, geo), || take_turn(rt, top));
+    one.zip(two)
+}
+
+/// A planner sees both lectures.
+fn sees_both<'i, S: Sheet<'i>, J: Naming, R: Abort>(
+    rt: &R,
+    planner: Planner<S, J>,
+) -> Option<Planner<S, J>> {
+    let planner = expect_seen(rt, planner, &geo_second())?;
+    expect_seen(rt, planner, &top_third())
+}
+
+/// The planner who is left learns the last receipts of the others, who come back to him, and all see what was placed.
+fn all_see<'i, S: Sheet<'i>, J: Naming, R: Abort>(
+    rt: &R,
+    planners: &mut Vec<Planner<S, J>>,
+    done: Vec<Committed<S, J>>,
+) -> Option<()> {
+    let mut learner = planners.pop()?;
+    for one in done {
+        learner.learn(&one.receipt);
+        planners.push(sees_both(rt, one.planner)?).ok()?;
+    }
+    assert_eq!(rt; learner.seen(), DRAFTS);
+    planners.push(sees_both(rt, learner)?).ok()
+}
+
+/// The same, over grid sheets.
+fn all_see_on_grid<'i, J: Naming, R: Abort>(
+    rt: &R,
+    planners: &mut Vec<Planner<GridSheet<'i>, J>>,
+    done: Vec<Committed<GridSheet<'i>, J>>,
+) -> Option<()> {
+    all_see::<GridSheet<'i>, J, R>(rt, planners, done)
+}
+
+/// The entry with this number, from 1.
+fn entry_at(journal: &[JournalEntry], number: u64) -> Option<&JournalEntry> {
+    let before = number.checked_sub(1)?;
+    journal.get(usize::try_from(before).ok()?)
+}
+
+/// Whether the receipts' numbers ascend, and each entry is where its receipt says.
+fn stands_in(
+    journal: &[JournalEntry],
+    planner: PlannerNo,
+    numbers: &[u64],
+    lecture: &Placed,
+) -> bool {
+    let mut last = 0;
+    for (turn, number) in numbers.iter().enumerate() {
+        let Some(entry) = entry_at(journal, *number) else {
+            return false;
+        };
+        if *number <= last || !is_entry(entry, planner, edit_of(turn, lecture)) {
+            return false;
+        }
+        last = *number;
+    }
+    true
+}
+
+/// Whether a closed desk has the entries of both planners where the receipts say, and both lectures. A number that came
+/// twice, or none at all, would be another planner's entry.
+fn is_of_both<S: Timetable, J: Naming>(
+    closed: &Closed<S, J>,
+    numbers: &(Vec<u64>, Vec<u64>),
+) -> bool {
+    let journal = closed.journal();
+    let (one, two) = numbers;
+    journal.len() == 102
+        && one.len() == 51
+        && two.len() == 51
+        && stands_in(journal, PlannerNo::new(1), one, &geo_second())
+        && stands_in(journal, PlannerNo::new(2), two, &top_third())
+        && has_list(closed, &[geo_second(), top_third()])
+}
+
+/// Stops where a desk was not closed with all planners, or does not have the entries of both.
+fn expect_both<S: Timetable, J: Naming>(
+    rt: &impl Abort,
+    closed: Result<Closed<S, J>, Closed<S, J>>,
+    numbers: Option<(Vec<u64>, Vec<u64>)>,
+) -> Result<(), Stopped> {
+    match (closed, numbers) {
+        (Ok(closed), Some(numbers)) => {
+            assert!(rt; is_of_both(&closed, &numbers));
+            Ok(())
+        }
+        (Ok(_closed), None) => Err(Stopped::TurnRefused),
+        (Err(_closed), _numbers) => Err(Stopped::NotClosed),
+    }
+}
+
+/// Two planners work at once, and a third one learns what they did: every receipt's number comes once, its entry stands
+/// there, and the journal begins with what each planner has seen.
+fn played<'i, J: Naming + Send + Sync, R: Threads + Wait + Abort + Sync>(
+    rt: &R,
+    alloc: Global,
+    opened: Opened<GridSheet<'i>>,
     count: u16,
 ) -> Result<(), Stopped>
     requires { IsNamed J.problem J.opening J.planners J.book opened count }
@@ -235,34 +227,33 @@ fn every_commit<'i, J: Naming, R: Wait + Abort>(
         count,
         name: PhantomData,
     };
-    let Ok((desk, waiting)) = SharedDesk::<ListSheet, J>::new(rt, named) else {
+    let Ok((desk, mut planners)) = SharedDesk::<GridSheet, J>::new(rt, named) else {
         return Err(Stopped::NoDesk);
     };
-    let mut day = Day {
-        waiting,
-        open: Vec::new(alloc),
-        done: Vec::new(alloc),
-    };
-    let turned = turns::<ListSheet, J, R>(rt, &desk, &mut day);
-    let closed = desk.close(rt, day.done.as_mut_slice());
-    let_go(day);
-    let left = expect_two::<ListSheet, J>(rt, closed);
-    turned.ok_or(Stopped::TurnRefused).and(left)
+    let done = Mutex::new(Vec::new(alloc));
+    let numbers = both_work(rt, alloc, &desk, &done, &mut planners);
+    let seen = all_see_on_grid(rt, &mut planners, done.into_inner());
+    let handed = planners.len();
+    let closed = desk.close(rt, planners.as_mut_slice());
+    let_go(planners);
+    assert_eq!(rt; handed, 3);
+    let left = expect_both::<GridSheet, J>(rt, closed, numbers);
+    seen.ok_or(Stopped::TurnRefused).and(left)
 }
 
-fn every_commit_on_list<'i, R: Wait + Abort>(
+fn played_on_grid<'i, R: Threads + Wait + Abort + Sync>(
     rt: &R,
     alloc: Global,
     small: &'i Instance,
 ) -> Result<(), Stopped> {
-    let opened = empty::<ListSheet>(alloc, small).ok_or(Stopped::NoDesk)?;
-    every_commit::<Brand, R>(rt, alloc, opened, 7)
+    let opened = empty::<GridSheet>(alloc, small).ok_or(Stopped::NoDesk)?;
+    played::<Brand, R>(rt, alloc, opened, 3)
 }
 
 #[test]
-fn day_of_seven_planners(rt: HostRuntime) -> Result<(), Stopped> {
+fn commits_on_two_threads_are_learnt(rt: HostRuntime) -> Result<(), Stopped> {
     let small = small_instance(rt.alloc())?;
-    let played = every_commit_on_list(&rt, rt.alloc(), &small);
+    let played = played_on_grid(&rt, rt.alloc(), &small);
     let_go(small);
     played
 }

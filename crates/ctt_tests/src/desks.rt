@@ -4,7 +4,6 @@ ghost use Rattle.std.specs.Prelude.{◌≡◌, ◌↔◌, IsTrue};
 ghost use Rattle.ctt_edits.specs.Calls.{CallFits};
 ghost use Rattle.ctt_edits.specs.Looks.{LookFits};
 
-use crate::edits::place;
 use ctt_board::{Sheet, Timetable};
 use ctt_core::{JournalEntry, PlannerNo};
 use ctt_desk::{Closed, Drafting, Naming, Opened, Planner, Receipt, SharedDesk};
@@ -14,6 +13,11 @@ use std::alloc::Global;
 use std::process::Abort;
 use std::sync::Wait;
 
+/// The edit that places a lecture.
+pub(crate) fn place(lecture: &Placed) -> Edit {
+    Edit::Place(lecture.course, lecture.slot, lecture.room)
+}
+
 /// Whether a call has numbers of the instance.
 fn call_fits<'i, S: Sheet<'i>, J: Naming>(drafting: &Drafting<'i, S, J>, call: &Call) -> bool
     ensures { IsTrue result ↔ CallFits J.problem call.now }
@@ -22,7 +26,7 @@ fn call_fits<'i, S: Sheet<'i>, J: Naming>(drafting: &Drafting<'i, S, J>, call: &
 }
 
 /// Makes a call in a draft.
-pub(crate) fn ask<'i, S: Sheet<'i>, J: Naming>(
+fn ask<'i, S: Sheet<'i>, J: Naming>(
     drafting: &mut Drafting<'i, S, J>,
     call: Call,
 ) -> Option<Reply> {
@@ -42,8 +46,17 @@ pub(crate) fn drafted<'i, S: Sheet<'i>, J: Naming>(
     Some((drafting, reply))
 }
 
+/// Commits a draft.
+pub(crate) fn accepted<'i, S: Sheet<'i>, J: Naming, R: Wait>(
+    rt: &R,
+    desk: &SharedDesk<S, J>,
+    drafting: Drafting<'i, S, J>,
+) -> Option<(Planner<S, J>, Receipt<J>)> {
+    drafting.commit(rt, desk).ok()
+}
+
 /// Whether a reply shows this lecture alone.
-pub(crate) fn shows(reply: &Reply, lecture: &Placed) -> bool {
+fn shows(reply: &Reply, lecture: &Placed) -> bool {
     match reply {
         Reply::Lectures(list) => list.as_slice() == [*lecture].as_slice(),
         _ => false,
@@ -86,45 +99,33 @@ fn expect_look_fits<J: Naming>(rt: &impl Abort, small: &Instance, look: &Look)
     assert!(rt; look.fits(small));
 }
 
-/// Stops where a planner does not see this lecture alone in its slot: in a look at the timetable, and in
-/// one of a draft that he then abandons.
-pub(crate) fn expect_seen<'i, S: Sheet<'i>, J: Naming, R: Abort>(
+/// Stops where a planner does not see this lecture alone in its slot in a look at the timetable.
+fn expect_viewed<'i, S: Sheet<'i>, J: Naming, R: Abort>(
     rt: &R,
     small: &Instance,
-    planner: Planner<S, J>,
+    planner: &mut Planner<S, J>,
     lecture: &Placed,
-) -> Option<Planner<S, J>>
+) -> Option<()>
     requires { small.now ≡ J.problem }
 {
-    let mut planner = planner;
     let look = Look::Slot(lecture.slot);
     expect_look_fits::<J>(rt, small, &look);
     let viewed = planner.view(&look).ok()?;
     assert!(rt; shows(&viewed, lecture));
-    let (drafting, asked) = drafted(planner, Call::Look(look))?;
-    assert!(rt; shows(&asked, lecture));
-    Some(drafting.abandon())
+    Some(())
 }
 
-/// Commits a draft.
-pub(crate) fn accepted<'i, S: Sheet<'i>, J: Naming, R: Wait>(
+/// Stops where a planner does not see this lecture alone in its slot: in a draft that he then abandons, and in a look at
+/// the timetable.
+pub(crate) fn expect_seen<'i, S: Sheet<'i>, J: Naming, R: Abort>(
     rt: &R,
-    desk: &SharedDesk<S, J>,
-    drafting: Drafting<'i, S, J>,
-) -> Option<(Planner<S, J>, Receipt<J>)> {
-    drafting.commit(rt, desk).ok()
-}
-
-/// Commits a draft that places a lecture, the planner's first and the desk's.
-pub(crate) fn commits_first<'i, S: Sheet<'i>, J: Naming, R: Wait + Abort>(
-    rt: &R,
-    desk: &SharedDesk<S, J>,
     planner: Planner<S, J>,
     lecture: &Placed,
-) -> Option<(Planner<S, J>, Receipt<J>)> {
-    let (drafting, _reply) = drafted(planner, Call::Edit(place(lecture)))?;
-    let (planner, receipt) = accepted(rt, desk, drafting)?;
-    assert_eq!(rt; receipt.number(), 1);
-    assert_eq!(rt; planner.committed(), 1);
-    Some((planner, receipt))
+) -> Option<Planner<S, J>> {
+    let (drafting, asked) = drafted(planner, Call::Look(Look::Slot(lecture.slot)))?;
+    assert!(rt; shows(&asked, lecture));
+    let small = drafting.instance();
+    let mut planner = drafting.abandon();
+    expect_viewed(rt, small, &mut planner, lecture)?;
+    Some(planner)
 }

@@ -9,12 +9,6 @@ mod desk_tests;
 #[cfg(test)]
 mod desks;
 #[cfg(test)]
-mod edits;
-#[cfg(test)]
-mod hundred_tests;
-#[cfg(test)]
-mod receipt_tests;
-#[cfg(test)]
 mod small;
 #[cfg(test)]
 mod stopped;

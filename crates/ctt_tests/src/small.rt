@@ -1,7 +1,6 @@
-//! The small instance, and short names for what is in it.
+//! The small instance, and two lectures of it.
 
 use crate::stopped::Stopped;
-use ctt_rules::Cost;
 use ctt_text::{CourseNo, Instance, Placed, RoomNo, SlotNo, read_instance};
 use std::alloc::Global;
 
@@ -33,49 +32,20 @@ pub(crate) fn small_instance(alloc: Global) -> Result<Instance, Stopped> {
     read_instance(alloc, SMALL.as_bytes()).or(Err(Stopped::TextRefused))
 }
 
-pub(crate) fn geo() -> CourseNo {
-    CourseNo::new(1)
-}
-
-pub(crate) fn top() -> CourseNo {
-    CourseNo::new(2)
-}
-
-pub(crate) fn at(slot: u16) -> SlotNo {
-    SlotNo::new(slot)
-}
-
-pub(crate) fn room_a() -> RoomNo {
-    RoomNo::new(0)
-}
-
-pub(crate) fn room_b() -> RoomNo {
-    RoomNo::new(1)
-}
-
-pub(crate) fn placed(course: CourseNo, slot: u16, room: RoomNo) -> Placed {
-    Placed {
-        course,
-        slot: at(slot),
-        room,
-    }
-}
-
 /// geo in slot 1 in room A.
 pub(crate) fn geo_second() -> Placed {
-    placed(geo(), 1, room_a())
+    Placed {
+        course: CourseNo::new(1),
+        slot: SlotNo::new(1),
+        room: RoomNo::new(0),
+    }
 }
 
 /// top in slot 2 in room B.
 pub(crate) fn top_third() -> Placed {
-    placed(top(), 2, room_b())
-}
-
-pub(crate) fn cost(capacity: u64, days: u64, compactness: u64, stability: u64) -> Cost {
-    Cost {
-        capacity,
-        days,
-        compactness,
-        stability,
+    Placed {
+        course: CourseNo::new(2),
+        slot: SlotNo::new(2),
+        room: RoomNo::new(1),
     }
 }

@@ -1,13 +1,13 @@
 -- How the program ends, by its status.
-use Rattle.std.proofs.Common.{◌≡◌, ◌≢◌, ◌∙◌, ◌⊎◌, sym, inl, inr, ⊎_elim, subst, ℕ, Bool, List, [], Option, arith}
+use Rattle.std.proofs.Common.{◌≡◌, ◌≢◌, ◌∙◌, ◌⊎◌, sym, inl, inr, true, ⊎_elim, subst, ℕ, Bool, List, [], Option, arith}
 use Rattle.ctt_tool.specs.Faults.{KeptUnless, MayHaveWritten, SaysFault, status_of}
 use Rattle.ctt_tool.specs.Jobs.{faults_of}
 use Rattle.ctt_tool.specs.Outcomes.{outcome_status}
 use Rattle.ctt_tool.specs.Texts.{Held}
 use Rattle.ctt_tool.specs.Work.{DoesAsAsked, HasCause, IsOfWords}
 use Rattle.ctt_tool.specs.declared.fault.Fault.{Fault}
-use Rattle.ctt_tool.specs.declared.fault.Fault.TheVariants.{Barred, CannotRead, CannotWrite, Instance, Journal, NoMemory, NoPlace, NoThread, Opening, Solution, TooLong, TooManyScripts, Words, WordsNotText}
-use Rattle.ctt_tool.specs.declared.job.Job.TheVariants.{Audit, Check, Crew, Run}
+use Rattle.ctt_tool.specs.declared.fault.Fault.TheVariants.{BadSeats, Barred, CannotRead, CannotWrite, Instance, Journal, MinutesExist, NoMemory, NoPlace, NoThread, Opening, Solution, TooLong, TooManyScripts, Words, WordsNotText}
+use Rattle.ctt_tool.specs.declared.job.Job.TheVariants.{Audit, Check, Crew, Desk, Journal as Journals, Listing, Run}
 use Rattle.ctt_tool.specs.declared.outcome.Outcome.{Outcome}
 use Rattle.ctt_tool.specs.declared.outcome.Outcome.TheVariants.{Done, Differs}
 use Rattle.ctt_tool.proofs.Causes.{three_is_one}
@@ -52,6 +52,8 @@ ended_kept WordsNotText status S K is kept = inl kept
 ended_kept TooManyScripts status S K is kept = inl kept
 ended_kept NoThread status S K is kept = inl kept
 ended_kept NoPlace status S K is kept = inl kept
+ended_kept BadSeats status S K is kept = inl kept
+ended_kept (MinutesExist name) status S K is kept = inl kept
 
 -- an audit that does not agree has changed no file
 pub differs_kept : (words : List (List ℕ)) (before after : Held) (old new : Option (List ℕ)) → DoesAsAsked words Differs before after old new → after ≡ before
@@ -60,6 +62,9 @@ differs_kept words before after old new (inr (taken, (Check instance barred solu
 differs_kept words before after old new (inr (taken, (Run instance barred script start journal, is, does))) = cc
 differs_kept words before after old new (inr (taken, (Audit instance barred journal start, is, does))) = does.0
 differs_kept words before after old new (inr (taken, (Crew instance barred scripts, is, does))) = cc
+differs_kept words before after old new (inr (taken, (Desk instance barred seats start minutes, is, does))) = cc
+differs_kept words before after old new (inr (taken, (Journals instance barred minutes, is, does))) = cc
+differs_kept words before after old new (inr (taken, (Listing instance barred journal start, is, does))) = does.0
 
 -- where a text is refused, nothing was printed
 pub unprinted_one : (fault : Fault) (P : Type 0) → MayHaveWritten fault ⊎ P → status_of fault ≡ 1 → P
@@ -78,6 +83,8 @@ unprinted_one WordsNotText P (inl may) one = absurd may
 unprinted_one TooManyScripts P (inl may) one = absurd may
 unprinted_one NoThread P (inl may) one = absurd may
 unprinted_one NoPlace P (inl may) one = absurd may
+unprinted_one BadSeats P (inl may) one = absurd may
+unprinted_one (MinutesExist name) P (inl may) one = absurd may
 
 -- what is so of these words is so of some
 pub of_some_words : (words : List (List ℕ)) (held : Held) (failed : Bool) (D : List (List ℕ) → Type 0) (M : Type 0) (status : ℕ) (old new : Option (List ℕ)) → D words ⊎ (M ⊎ SaysFault (HasCause words held failed) status old new)
@@ -91,3 +98,15 @@ pub of_no_words : (held : Held) (failed : Bool) (M : Type 0) (fault : Fault) (st
 of_no_words held failed M fault status old new is said =
     let memory : IsOfWords held failed NoMemory = inr ([], tt) in
     says_caused M (IsOfWords held failed) fault status old new (⊎_elim (λ same. inl same) (λ same. subst (IsOfWords held failed) (sym same) memory) is) memory said
+
+-- an audit that does not agree says nothing on standard error
+pub unsaid_differs : (outcome : Outcome) (status : ℕ) (A S : Type 0) → status ≡ outcome_status outcome → (A × (outcome ≡ Done)) ⊎ S → status ≢ 0 → S
+unsaid_differs Done status A S is quiet some = absurd (some is)
+unsaid_differs Differs status A S is (inl says) some = cc
+unsaid_differs Differs status A S is (inr same) some = same
+
+-- what is said behind a job that said nothing, or could not, is said behind what was there before
+pub said_since : {V : Type 0} (taken : V → Option (List ℕ)) (failed : V → Bool) (C : Fault → Type 0) (status : ℕ) (old mid new : V) → (mid ≡ old) ⊎ (failed mid ≡ true) → (failed mid ≡ true → failed new ≡ true)
+    → (failed new ≡ true) ⊎ SaysFault C status (taken mid) (taken new) → (failed new ≡ true) ⊎ SaysFault C status (taken old) (taken new)
+said_since taken failed C status old mid new (inl same) marked said = subst (λ v. (failed new ≡ true) ⊎ SaysFault C status (taken v) (taken new)) same said
+said_since taken failed C status old mid new (inr marks) marked said = inl (marked marks)

@@ -1,17 +1,17 @@
 -- What holds where bytes are told.
-use Rattle.std.proofs.Common.{◌≡◌, ◌≤◌, ◌<◌, ◌⊎◌, ⊎_elim, length, arith, string_bytes, inl, inr, ℕ, Bool, true, List, refl, sym, subst, IfErr, IsErrAnd, OnOk, Option, Result, Ok, Err}
+use Rattle.std.proofs.Common.{◌≡◌, ◌≤◌, ◌<◌, ◌⊎◌, ⊎_elim, length, arith, string_bytes, inl, inr, ap, ℕ, Bool, true, List, refl, sym, subst, IfErr, IsErrAnd, OnOk, Option, Result, Ok, Err}
 use Rattle.std.specs.Io.KnownBytes.{Appends}
 use Rattle.std.proofs.lemmas.List.{length-map}
 use Rattle.ctt_tool.specs.Faults.{IfUnwritten, IsLineOf, KeptUnless, SaysFault, status_of}
-use Rattle.ctt_tool.specs.Jobs.{HasScripts, IsJobOf, IsRefusal, Storing, faults_of, scripts_of}
-use Rattle.ctt_tool.specs.Refusals.{IsOfAudited, IsOfScript, IsOfScripts, IsOfSolution}
+use Rattle.ctt_tool.specs.Jobs.{HasBadSeats, HasScripts, IsJobOf, IsRefusal, Storing, faults_of, scripts_of}
+use Rattle.ctt_tool.specs.Refusals.{IsOfAudited, IsOfMinutes, IsOfScript, IsOfScripts, IsOfSeats, IsOfSolution}
 use Rattle.ctt_tool.specs.Texts.{Held}
-use Rattle.ctt_tool.specs.Work.{AsksForRefusedText, AsksForTooMany, HasCause, IsOfJob}
+use Rattle.ctt_tool.specs.Work.{AsksForBadSeats, AsksForRefusedText, AsksForTooMany, HasCause, IsOfJob}
 use Rattle.ctt_tool.specs.declared.fault.Fault.{Fault}
-use Rattle.ctt_tool.specs.declared.fault.Fault.TheVariants.{Barred, CannotRead, CannotWrite, Instance, Journal, NoMemory, NoPlace, NoThread, Opening, Solution, TooLong, TooManyScripts, Words, WordsNotText}
+use Rattle.ctt_tool.specs.declared.fault.Fault.TheVariants.{BadSeats, Barred, CannotRead, CannotWrite, Instance, Journal, MinutesExist, NoMemory, NoPlace, NoThread, Opening, Solution, TooLong, TooManyScripts, Words, WordsNotText}
 use Rattle.ctt_tool.specs.declared.job.Job.{Job}
-use Rattle.ctt_tool.specs.declared.job.Job.TheVariants.{Audit, Check, Crew, Run}
-use Rattle.ctt_tool.proofs.Plain.{IsPlain, audited_plain, behind_plain, script_plain, scripts_plain, solution_file_plain, unwritten_more}
+use Rattle.ctt_tool.specs.declared.job.Job.TheVariants.{Audit, Check, Crew, Desk, Journal as Journals, Listing, Run}
+use Rattle.ctt_tool.proofs.Plain.{IsPlain, audited_plain, behind_plain, minutes_plain, script_plain, scripts_plain, seats_plain, solution_file_plain, unwritten_more}
 
 pub on_ok_weaker : {T E : Type 0} (r : Result T E) (P Q : Type 0) → (P → Q) → OnOk r P → OnOk r Q
 on_ok_weaker (Ok x) P Q more holds = more holds
@@ -40,20 +40,29 @@ IsWord (Words text) = Unit {0}
 IsWord WordsNotText = Unit {0}
 IsWord _ = ⊥
 
--- a fault of a job is a plain one, but for too many scripts, which only a crew has
-job_plain : (job : Job) (held : Held) (fault : Fault) → IsOfJob job held fault → IsPlain fault ⊎ ((fault ≡ TooManyScripts) × (64 < length (scripts_of job)))
+-- a fault of a job is a plain one, but for too many scripts, which only a crew has, and the seats of a desk
+abbrev IsSpecial : Job → Fault → Type 0
+IsSpecial job fault = ((fault ≡ TooManyScripts) × (64 < length (scripts_of job))) ⊎ ((fault ≡ BadSeats) × HasBadSeats job)
+
+job_plain : (job : Job) (held : Held) (fault : Fault) → IsOfJob job held fault → IsPlain fault ⊎ IsSpecial job fault
 job_plain (Check instance barred solution json) held fault is = inl (behind_plain (IsOfSolution solution) (solution_file_plain solution) held instance barred fault is)
 job_plain (Run instance barred script start journal) held fault is = inl (behind_plain (IsOfScript script start) (script_plain script start) held instance barred fault is)
 job_plain (Audit instance barred journal start) held fault is = inl (behind_plain (IsOfAudited journal start) (audited_plain journal start) held instance barred fault is)
-job_plain (Crew instance barred scripts) held fault (inl many) = inr many
+job_plain (Crew instance barred scripts) held fault (inl many) = inr (inl many)
 job_plain (Crew instance barred scripts) held fault (inr other) = inl (behind_plain (IsOfScripts scripts.items) (scripts_plain scripts.items) held instance barred fault other)
+job_plain (Desk instance barred seats start minutes) held fault (inl (inl bad)) = inr (inr bad)
+job_plain (Desk instance barred seats start minutes) held fault (inl (inr exist)) = inl (subst IsPlain (sym exist.2) tt)
+job_plain (Desk instance barred seats start minutes) held fault (inr other) = inl (behind_plain (IsOfSeats seats.items start) (seats_plain seats.items start) held instance barred fault other)
+job_plain (Journals instance barred minutes) held fault is = inl (behind_plain (IsOfMinutes minutes) (minutes_plain minutes) held instance barred fault is)
+job_plain (Listing instance barred journal start) held fault is = inl (behind_plain (IsOfAudited journal start) (audited_plain journal start) held instance barred fault is)
 
 -- no job refuses the words that ask for it
-job_words : {C : Type 0} (job : Job) (held : Held) (fault : Fault) → (IsPlain fault → C) → (fault ≡ TooManyScripts → C) → IsOfJob job held fault → C
-job_words job held fault plain many is = ⊎_elim plain (λ crew. many crew.0) (job_plain job held fault is)
+not_special : {C : Type 0} (job : Job) (fault : Fault) → IsWord fault → IsSpecial job fault → C
+not_special job fault word (inl many) = absurd (subst IsWord many.0 word)
+not_special job fault word (inr bad) = absurd (subst IsWord bad.0 word)
 
-not_many : {C : Type 0} (fault : Fault) → IsWord fault → fault ≡ TooManyScripts → C
-not_many fault word same = absurd (subst IsWord same word)
+job_words : {C : Type 0} (job : Job) (held : Held) (fault : Fault) → IsWord fault → (IsPlain fault → C) → IsOfJob job held fault → C
+job_words job held fault word plain is = ⊎_elim plain (λ special. not_special job fault word special) (job_plain job held fault is)
 
 -- the cause of a fault of a job
 pub job_caused : (words : List (List ℕ)) (held : Held) (failed : Bool) (job : Job) (U : Type 0) (fault : Fault) → IsJobOf words job → IfUnwritten fault ((failed ≡ true) ⊎ Storing job) (IsOfJob job held fault × U) → HasCause words held failed fault
@@ -66,14 +75,23 @@ job_caused words held failed job U (CannotRead name) is cause = (job, is, cause.
 job_caused words held failed job U (TooLong name) is cause = (job, is, cause.0)
 job_caused words held failed job U CannotWrite is cause = ⊎_elim inl (λ storing. inr (job, is, storing)) cause
 job_caused words held failed job U NoMemory is cause = tt
-job_caused words held failed job U (Words text) is cause = job_words job held (Words text) (λ plain. absurd plain) (λ same. not_many (Words text) tt same) cause.0
-job_caused words held failed job U WordsNotText is cause = job_words job held WordsNotText (λ plain. absurd plain) (λ same. not_many WordsNotText tt same) cause.0
+job_caused words held failed job U (Words text) is cause = job_words job held (Words text) tt (λ plain. absurd plain) cause.0
+job_caused words held failed job U WordsNotText is cause = job_words job held WordsNotText tt (λ plain. absurd plain) cause.0
 job_caused words held failed job U TooManyScripts is cause = (job, is, cause.0)
 job_caused words held failed job U NoThread is cause = (job, is, cause.0)
 job_caused words held failed job U NoPlace is cause = (job, is, cause.0)
+job_caused words held failed job U BadSeats is cause = (job, is, cause.0)
+job_caused words held failed job U (MinutesExist name) is cause = (job, is, cause.0)
 
--- words are refused for their faults, or for too many scripts
-pub refused_two : (words : List (List ℕ)) (held : Held) (failed : Bool) (fault : Fault) → HasCause words held failed fault → status_of fault ≡ 2 → IsRefusal (faults_of words) ⊎ AsksForTooMany words
+abbrev is_many : Fault → ℕ
+is_many TooManyScripts = 1
+is_many _ = 0
+
+one_is_none : {C : Type 0} → ◌≡◌ {A = ℕ} 1 0 → C
+one_is_none e = absurd (omega (arith, e))
+
+-- words are refused for their faults, for too many scripts, or for the seats of a desk
+pub refused_two : (words : List (List ℕ)) (held : Held) (failed : Bool) (fault : Fault) → HasCause words held failed fault → status_of fault ≡ 2 → IsRefusal (faults_of words) ⊎ (AsksForTooMany words ⊎ AsksForBadSeats words)
 refused_two words held failed (Instance number at) has two = absurd (omega (arith, two))
 refused_two words held failed (Solution number at) has two = absurd (omega (arith, two))
 refused_two words held failed (Barred number at) has two = absurd (omega (arith, two))
@@ -85,9 +103,21 @@ refused_two words held failed CannotWrite has two = absurd (omega (arith, two))
 refused_two words held failed NoMemory has two = absurd (omega (arith, two))
 refused_two words held failed (Words text) has two = inl has
 refused_two words held failed WordsNotText has two = absurd has
-refused_two words held failed TooManyScripts has two = inr (has.0, has.1, ⊎_elim (λ plain. absurd plain) (λ many. many.1) (job_plain has.0 held TooManyScripts has.2))
+refused_two words held failed TooManyScripts has two = inr (inl (has.0, has.1, many_of has.0 (job_plain has.0 held TooManyScripts has.2)))
+  where
+    many_of : (job : Job) → IsPlain TooManyScripts ⊎ IsSpecial job TooManyScripts → 64 < length (scripts_of job)
+    many_of job (inl plain) = absurd plain
+    many_of job (inr (inl many)) = many.1
+    many_of job (inr (inr bad)) = one_is_none (ap is_many bad.0)
 refused_two words held failed NoThread has two = absurd (omega (arith, two))
 refused_two words held failed NoPlace has two = absurd (omega (arith, two))
+refused_two words held failed (MinutesExist name) has two = absurd (omega (arith, two))
+refused_two words held failed BadSeats has two = inr (inr (has.0, has.1, seats_of has.0 (job_plain has.0 held BadSeats has.2)))
+  where
+    seats_of : (job : Job) → IsPlain BadSeats ⊎ IsSpecial job BadSeats → HasBadSeats job
+    seats_of job (inl plain) = absurd plain
+    seats_of job (inr (inl many)) = one_is_none (sym (ap is_many many.0))
+    seats_of job (inr (inr bad)) = bad.1
 
 -- and a text is refused by a job that they ask for
 pub asked_one : (words : List (List ℕ)) (held : Held) (failed : Bool) (fault : Fault) → HasCause words held failed fault → status_of fault ≡ 1 → AsksForRefusedText words held
@@ -105,6 +135,8 @@ asked_one words held failed WordsNotText has one = absurd (omega (arith, one))
 asked_one words held failed TooManyScripts has one = absurd (omega (arith, one))
 asked_one words held failed NoThread has one = absurd (omega (arith, one))
 asked_one words held failed NoPlace has one = absurd (omega (arith, one))
+asked_one words held failed BadSeats has one = absurd (omega (arith, one))
+asked_one words held failed (MinutesExist name) has one = absurd (omega (arith, one))
 
 -- a job that words ask for has what a crew needs
 pub job_has_scripts : (words : List (List ℕ)) (job : Job) → IsJobOf words job → HasScripts job
@@ -112,6 +144,9 @@ job_has_scripts words (Check instance barred solution json) is = tt
 job_has_scripts words (Run instance barred script start journal) is = tt
 job_has_scripts words (Audit instance barred journal start) is = tt
 job_has_scripts words (Crew instance barred scripts) is = subst (λ n. 1 ≤ n) (length-map scripts.items string_bytes) is.2.has_some
+job_has_scripts words (Desk instance barred seats start minutes) is = subst (λ n. 1 ≤ n) (length-map seats.items string_bytes) is.2.has_some
+job_has_scripts words (Journals instance barred minutes) is = tt
+job_has_scripts words (Listing instance barred journal start) is = tt
 
 -- what holds of a fault holds where it is passed on
 pub passed_on : {T : Type 0} (r : Result T Fault) (fault : Fault) (P : Fault → Type 0) → IsErrAnd r (λ told. told ≡ fault) → P fault → IfErr r P

@@ -11,3 +11,4 @@ pub mod Desks
 pub mod Scripts
 pub mod Ends
 pub mod Audited
+pub mod Offices

@@ -4,17 +4,17 @@ use Rattle.clap.specs.Words.{IsAmong, Kinds, is_simple, is_simple_and_free}
 use Rattle.clap.specs.declared.error.kind.ErrorKind.{ErrorKind}
 use Rattle.clap.specs.declared.error.kind.ErrorKind.TheVariants.{OutOfMemory}
 use Rattle.clap.proofs.OnLiterals.{clap_on_literals}
-use Rattle.ctt_tool.specs.CommandLine.{audit, check, crew, run, timedesk}
+use Rattle.ctt_tool.specs.CommandLine.{audit, check, crew, desk, journal, list, run, timedesk}
 use Rattle.ctt_tool.specs.Jobs.{IsHelp, IsOfKind, IsOfKinds, IsRequest}
 use Rattle.ctt_tool.specs.declared.job.WordsFault.{WordsFault}
 use Rattle.ctt_tool.specs.declared.job.WordsFault.TheVariants.{Help, NoMemory, Refused}
 
 pub timedesk_simple : is_simple timedesk ≡ true
-unfolding clap_on_literals timedesk check run audit crew
+unfolding clap_on_literals timedesk check run audit crew desk journal list
 timedesk_simple = refl
 
 pub timedesk_free : is_simple_and_free timedesk ≡ true
-unfolding clap_on_literals timedesk check run audit crew
+unfolding clap_on_literals timedesk check run audit crew desk journal list
 timedesk_free = refl
 
 no_help : (kind : ErrorKind) → IsHelp kind → kind ≡ OutOfMemory → ⊥

@@ -14,10 +14,10 @@ use Rattle.ctt_edits.specs.declared.fault.EditFault.{EditFault}
 use Rattle.ctt_script.specs.declared.journal_fault.JournalFault.{JournalFault}
 use Rattle.ctt_script.specs.declared.journal_fault.JournalFault.TheVariants as journal
 use Rattle.ctt_tool.specs.Faults.{IfUnwritten, IsOpeningFault, fault_of_barred, fault_of_instance, fault_of_journal, fault_of_solution}
-use Rattle.ctt_tool.specs.Refusals.{IsNoText, IsOfAudited, IsOfBarred, IsOfFile, IsOfFiles, IsOfInstance, IsOfInstanceIn, IsOfInstanceOr, IsOfJournal, IsOfOpening, IsOfScript, IsOfScripts, IsOfSolution, IsOfStart, IsOfText, IsOfWork}
+use Rattle.ctt_tool.specs.Refusals.{IsNoText, IsOfAudited, IsOfBarred, IsOfFile, IsOfFiles, IsOfInstance, IsOfInstanceIn, IsOfInstanceOr, IsOfJournal, IsOfMinutes, IsOfOpening, IsOfScript, IsOfScripts, IsOfSeats, IsOfSolution, IsOfStart, IsOfText, IsOfWork, IsUnread}
 use Rattle.ctt_tool.specs.Texts.{Held, Holds, IsInstanceIn}
 use Rattle.ctt_tool.specs.declared.fault.Fault.{Fault}
-use Rattle.ctt_tool.specs.declared.fault.Fault.TheVariants.{Barred, CannotRead, CannotWrite, Instance, Journal, NoMemory, NoPlace, NoThread, Opening, Solution, TooLong, TooManyScripts, Words, WordsNotText}
+use Rattle.ctt_tool.specs.declared.fault.Fault.TheVariants.{BadSeats, Barred, CannotRead, CannotWrite, Instance, Journal, MinutesExist, NoMemory, NoPlace, NoThread, Opening, Solution, TooLong, TooManyScripts, Words, WordsNotText}
 
 -- the fault is of a text, a file, a place or a thread, or memory was wanted
 abbrev pub IsPlain : Fault → Type 0
@@ -25,6 +25,7 @@ IsPlain CannotWrite = ⊥
 IsPlain (Words text) = ⊥
 IsPlain WordsNotText = ⊥
 IsPlain TooManyScripts = ⊥
+IsPlain BadSeats = ⊥
 IsPlain _ = Unit {0}
 
 pub plain_written : (fault : Fault) (P Q : Type 0) → IsPlain fault → Q → IfUnwritten fault P Q
@@ -42,6 +43,8 @@ plain_written WordsNotText P Q plain q = q
 plain_written TooManyScripts P Q plain q = q
 plain_written NoThread P Q plain q = q
 plain_written NoPlace P Q plain q = q
+plain_written BadSeats P Q plain q = absurd plain
+plain_written (MinutesExist name) P Q plain q = q
 
 pub unwritten_more : (fault : Fault) (P Q R S : Type 0) → (P → R) → (Q → S) → IfUnwritten fault P Q → IfUnwritten fault R S
 unwritten_more (Instance number at) P Q R S p q is = q is
@@ -58,6 +61,8 @@ unwritten_more WordsNotText P Q R S p q is = q is
 unwritten_more TooManyScripts P Q R S p q is = q is
 unwritten_more NoThread P Q R S p q is = q is
 unwritten_more NoPlace P Q R S p q is = q is
+unwritten_more BadSeats P Q R S p q is = q is
+unwritten_more (MinutesExist name) P Q R S p q is = q is
 
 instance_plain : (met : ReadFault) → IsPlain (fault_of_instance met)
 instance_plain (instance.NotText byte) = tt
@@ -152,6 +157,18 @@ work_plain fault is = ⊎_elim (λ same. subst IsPlain (sym same) tt) (λ other.
 pub scripts_plain : (names : List (String Global)) (held : Held) (problem : Problem) (fault : Fault) → IsOfScripts names held problem fault → IsPlain fault
 scripts_plain names held problem fault is = ⊎_elim (λ files. files_plain names held fault files) (λ work. work_plain fault work) is
 
+pub minutes_plain : (minutes : String Global) (held : Held) (problem : Problem) (fault : Fault) → IsOfMinutes minutes held problem fault → IsPlain fault
+minutes_plain minutes held problem fault is = file_text_plain fault_of_journal _ _ journal_plain held minutes fault is
+
+unread_plain : (seats : List (String Global)) (fault : Fault) → IsUnread seats fault → IsPlain fault
+unread_plain [] fault is = absurd is
+unread_plain (seat ∷ seats) fault (inl named) = subst IsPlain (sym named.1) tt
+unread_plain (seat ∷ seats) fault (inr others) = unread_plain seats fault others
+
+pub seats_plain : (seats : List (String Global)) (start : Option (String Global)) (held : Held) (problem : Problem) (fault : Fault) → IsOfSeats seats start held problem fault → IsPlain fault
+seats_plain seats start held problem fault is =
+    ⊎_elim (λ opens. opening_plain start held problem fault opens) (λ other. ⊎_elim (λ work. work_plain fault work) (λ unread. unread_plain seats fault unread) other) is
+
 pub instance_in_plain : (held : Held) (instance : String Global) (barred : Option (String Global)) (fault : Fault) → IsOfInstanceIn held instance barred fault → IsPlain fault
 instance_in_plain held instance barred fault is = ⊎_elim (λ none. instance_file_plain held instance fault none) (λ bars. barred_file_plain held bars.0 barred fault bars.2) is
 
@@ -181,3 +198,8 @@ of_text (Err fault) told met IsNo held name bytes items gives none copied all = 
 pub passed_plain : {T : Type 0} (r : Result T Fault) (fault : Fault) (P U : Type 0) (Q : Fault → Type 0) → IsErrAnd r (λ told. told ≡ fault) → IsPlain fault → Q fault → U → IfErr r (λ told. IfUnwritten told P (Q told × U))
 passed_plain (Ok x) fault P U Q same plain q u = tt
 passed_plain (Err told) fault P U Q same plain q u = subst (λ other. IfUnwritten other P (Q other × U)) (sym same) (plain_written fault P (Q fault × U) plain (q, u))
+
+-- what may be told of a desk, whatever is known of the outputs
+pub passed_desk : {T : Type 0} (r : Result T Fault) (fault : Fault) (Q : Fault → Type 0) → IsErrAnd r (λ told. told ≡ fault) → IsPlain fault → Q fault → IfErr r (λ told. IfUnwritten told (Unit {0}) (Q told))
+passed_desk (Ok x) fault Q same plain q = tt
+passed_desk (Err told) fault Q same plain q = subst (λ other. IfUnwritten other (Unit {0}) (Q other)) (sym same) (plain_written fault (Unit {0}) (Q fault) plain q)

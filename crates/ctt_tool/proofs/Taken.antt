@@ -7,17 +7,17 @@ use Rattle.clap.specs.Simple.{Shape, built, built_leaf, label_of, rows_at}
 use Rattle.clap.specs.Walk.{Row, Text, answers_to, nothing_held, rows_after}
 use Rattle.clap.specs.Words.{fault_of, subcommand_of}
 use Rattle.clap.proofs.OnLiterals.{clap_on_literals}
-use Rattle.ctt_tool.specs.CommandLine.{IsOnOrOff, audit, check, crew, is_on, run, timedesk}
-use Rattle.ctt_tool.specs.Jobs.{IsWhole, IsWholeAs, NamesFiles, NamesJournal, NamesScript, NamesScripts}
+use Rattle.ctt_tool.specs.CommandLine.{IsOnOrOff, audit, check, crew, desk, is_on, journal, list, run, timedesk}
+use Rattle.ctt_tool.specs.Jobs.{IsWhole, IsWholeAs, NamesFiles, NamesJournal, NamesMinutes, NamesScript, NamesScripts, NamesSeats}
 use Rattle.ctt_tool.proofs.Rows.{is_giving}
 use Rattle.ctt_tool.proofs.Entered.{enters, has_flag, has_required, is_flag, is_required, not_help}
 
 command_required : (built timedesk).top.subcommand_required ≡ true
-unfolding clap_on_literals timedesk check run audit crew
+unfolding clap_on_literals timedesk check run audit crew desk journal list
 command_required = refl
 
 help_is_no_command : (built timedesk).top.disable_help_subcommand ≡ false
-unfolding clap_on_literals timedesk check run audit crew
+unfolding clap_on_literals timedesk check run audit crew desk journal list
 help_is_no_command = refl
 
 -- ---- `check`
@@ -138,11 +138,95 @@ crew_is_whole rest matched is none = (
   },
 )
 
+-- ---- `desk`
+
+unfoldable pub built_desk : Shape
+built_desk = built_leaf desk.top
+
+desk_gives : list_all is_giving built_desk.rules ≡ true
+unfolding clap_on_literals built_desk desk
+desk_gives = refl
+
+desk_instance : list_any (is_required (codes "instance")) built_desk.rules ≡ true
+unfolding clap_on_literals built_desk desk
+desk_instance = refl
+
+desk_seat : list_any (is_required (codes "seat")) built_desk.rules ≡ true
+unfolding clap_on_literals built_desk desk
+desk_seat = refl
+
+desk_is_whole : (rest : List Text) (matched : Option (Text × List Row)) → matched ≡ Some (codes "desk", rows_after built_desk.rules [] rest)
+    → level_fault built_desk [] nothing_held rest false [] ≡ [] → IsWholeAs (codes "desk") NamesSeats matched
+desk_is_whole rest matched is none = (
+  rows_after built_desk.rules [] rest,
+  is,
+  record {
+    instance = has_required built_desk rest (codes "instance") desk_gives none desk_instance;
+    seat = has_required built_desk rest (codes "seat") desk_gives none desk_seat;
+  },
+)
+
+-- ---- `journal`
+
+unfoldable pub built_journal : Shape
+built_journal = built_leaf journal.top
+
+journal_gives : list_all is_giving built_journal.rules ≡ true
+unfolding clap_on_literals built_journal journal
+journal_gives = refl
+
+journal_instance : list_any (is_required (codes "instance")) built_journal.rules ≡ true
+unfolding clap_on_literals built_journal journal
+journal_instance = refl
+
+journal_minutes : list_any (is_required (codes "minutes")) built_journal.rules ≡ true
+unfolding clap_on_literals built_journal journal
+journal_minutes = refl
+
+journal_is_whole : (rest : List Text) (matched : Option (Text × List Row)) → matched ≡ Some (codes "journal", rows_after built_journal.rules [] rest)
+    → level_fault built_journal [] nothing_held rest false [] ≡ [] → IsWholeAs (codes "journal") NamesMinutes matched
+journal_is_whole rest matched is none = (
+  rows_after built_journal.rules [] rest,
+  is,
+  record {
+    instance = has_required built_journal rest (codes "instance") journal_gives none journal_instance;
+    minutes = has_required built_journal rest (codes "minutes") journal_gives none journal_minutes;
+  },
+)
+
+-- ---- `list`
+
+unfoldable pub built_list : Shape
+built_list = built_leaf list.top
+
+list_gives : list_all is_giving built_list.rules ≡ true
+unfolding clap_on_literals built_list list
+list_gives = refl
+
+list_instance : list_any (is_required (codes "instance")) built_list.rules ≡ true
+unfolding clap_on_literals built_list list
+list_instance = refl
+
+list_journal : list_any (is_required (codes "journal")) built_list.rules ≡ true
+unfolding clap_on_literals built_list list
+list_journal = refl
+
+list_is_whole : (rest : List Text) (matched : Option (Text × List Row)) → matched ≡ Some (codes "list", rows_after built_list.rules [] rest)
+    → level_fault built_list [] nothing_held rest false [] ≡ [] → IsWholeAs (codes "list") NamesJournal matched
+list_is_whole rest matched is none = (
+  rows_after built_list.rules [] rest,
+  is,
+  record {
+    instance = has_required built_list rest (codes "instance") list_gives none list_instance;
+    journal = has_required built_list rest (codes "journal") list_gives none list_journal;
+  },
+)
+
 -- ---- the program
 
 -- words in which `clap` finds no fault name a command with all that it needs
 pub taken_is_whole : (words : List Text) → fault_of timedesk words ≡ [] → IsWhole (subcommand_of timedesk words)
-unfolding clap_on_literals timedesk check run audit crew built_check built_run built_audit built_crew
+unfolding clap_on_literals timedesk check run audit crew desk journal list built_check built_run built_audit built_crew built_desk built_journal built_list
 taken_is_whole words none =
     let found = enters timedesk words command_required none in
     let named : (shape : Shape) → found.shape ≡ shape → subcommand_of timedesk words ≡ Some (rows_at shape found.rest)
@@ -152,9 +236,12 @@ taken_is_whole words none =
     ⊎_elim (λ is. inl (check_is_whole found.rest _ (named built_check is) (level built_check is))) (λ second.
     ⊎_elim (λ is. inr (inl (run_is_whole found.rest _ (named built_run is) (level built_run is)))) (λ third.
     ⊎_elim (λ is. inr (inr (inl (audit_is_whole found.rest _ (named built_audit is) (level built_audit is))))) (λ fourth.
-    ⊎_elim (λ is. inr (inr (inr (crew_is_whole found.rest _ (named built_crew is) (level built_crew is))))) (λ later.
+    ⊎_elim (λ is. inr (inr (inr (inl (crew_is_whole found.rest _ (named built_crew is) (level built_crew is)))))) (λ fifth.
+    ⊎_elim (λ is. inr (inr (inr (inr (inl (desk_is_whole found.rest _ (named built_desk is) (level built_desk is))))))) (λ sixth.
+    ⊎_elim (λ is. inr (inr (inr (inr (inr (inl (journal_is_whole found.rest _ (named built_journal is) (level built_journal is)))))))) (λ seventh.
+    ⊎_elim (λ is. inr (inr (inr (inr (inr (inr (list_is_whole found.rest _ (named built_list is) (level built_list is)))))))) (λ later.
     ⊎_elim (λ is. absurd (not_help (built timedesk).top found.word help_is_no_command (ap (λ (s : Shape). answers_to found.word (label_of s)) (sym is) ∙ found.answers) found.is_no_request))
-    (λ none. absurd none) later) fourth) third) second) found.is_one
+    (λ none. absurd none) later) seventh) sixth) fifth) fourth) third) second) found.is_one
 
 -- a flag that is read as `clap` reads it is on where the option is given
 pub flag_is_on : (o : Option Text) (flag : Bool) → IsOnOrOff o → (o ≡ None → flag ≡ false) → (o ≡ Some (codes "true") → flag ≡ true) → (o ≡ Some (codes "false") → flag ≡ false)

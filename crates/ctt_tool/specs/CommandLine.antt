@@ -44,13 +44,29 @@ unfoldable pub crew : App
 crew = with_rule (with_rule (with_rule (new_app (codes "crew"))
     (required_word (codes "instance"))) (required_words (codes "script"))) (valued (codes "barred"))
 
+-- `desk INSTANCE SEAT.. [--barred FILE] [--start SOLUTION] [--minutes FILE]`
+unfoldable pub desk : App
+desk = with_rule (with_rule (with_rule (with_rule (with_rule (new_app (codes "desk"))
+    (required_word (codes "instance"))) (required_words (codes "seat"))) (valued (codes "barred"))) (valued (codes "start"))) (valued (codes "minutes"))
+
+-- `journal INSTANCE MINUTES [--barred FILE]`
+unfoldable pub journal : App
+journal = with_rule (with_rule (with_rule (new_app (codes "journal"))
+    (required_word (codes "instance"))) (required_word (codes "minutes"))) (valued (codes "barred"))
+
+-- `list INSTANCE JOURNAL [--barred FILE] [--start SOLUTION]`
+unfoldable pub list : App
+list = with_rule (with_rule (with_rule (with_rule (new_app (codes "list"))
+    (required_word (codes "instance"))) (required_word (codes "journal"))) (valued (codes "barred"))) (valued (codes "start"))
+
 -- the program alone: it has a version, and a command has to be given
 abbrev pub bare : App
 bare = on_top (λ s. record s { has_version = true; subcommand_required = true }) (new_app (codes "timedesk"))
 
 -- the program with its commands
 unfoldable pub timedesk : App
-timedesk = with_subcommand (with_subcommand (with_subcommand (with_subcommand bare check.top) run.top) audit.top) crew.top
+timedesk = with_subcommand (with_subcommand (with_subcommand (with_subcommand (with_subcommand (with_subcommand (with_subcommand bare
+    check.top) run.top) audit.top) crew.top) desk.top) journal.top) list.top
 
 -- `clap` reads words by this command as by `app`, and no argument of it holds for other commands
 pub record IsCommand (app : App) (command : Command) : Type 0 where

@@ -7,8 +7,9 @@ use Rattle.clap.specs.Words.{IsAmong, Kinds, Row, Text, all_of, fault_of, first_
 use Rattle.clap.specs.declared.error.kind.ErrorKind.{ErrorKind}
 use Rattle.clap.specs.declared.error.kind.ErrorKind.TheVariants.{DisplayHelp, DisplayVersion, OutOfMemory}
 use Rattle.ctt_tool.specs.CommandLine.{IsOnOrOff, is_on, timedesk}
+use Rattle.ctt_tool.specs.Seats.{AreBadSeats}
 use Rattle.ctt_tool.specs.declared.job.Job.{Job}
-use Rattle.ctt_tool.specs.declared.job.Job.TheVariants.{Audit, Check, Crew, Run}
+use Rattle.ctt_tool.specs.declared.job.Job.TheVariants.{Audit, Check, Crew, Desk, Journal, Listing, Run}
 use Rattle.ctt_tool.specs.declared.job.WordsFault.{WordsFault}
 use Rattle.ctt_tool.specs.declared.job.WordsFault.TheVariants.{Help, NoMemory, Refused}
 
@@ -32,6 +33,16 @@ pub record NamesJournal (rows : List Row) : Type 0 where
 pub record NamesScripts (rows : List Row) : Type 0 where
   pub instance : IsSome (first_of (codes "instance") rows)
   pub script : IsSome (first_of (codes "script") rows)
+
+-- the matches of `desk` have what it needs
+pub record NamesSeats (rows : List Row) : Type 0 where
+  pub instance : IsSome (first_of (codes "instance") rows)
+  pub seat : IsSome (first_of (codes "seat") rows)
+
+-- the matches of `journal` have what it needs
+pub record NamesMinutes (rows : List Row) : Type 0 where
+  pub instance : IsSome (first_of (codes "instance") rows)
+  pub minutes : IsSome (first_of (codes "minutes") rows)
 
 -- the matches of `check` have these files and this option
 pub record HasCheck (rows : List Row) (instance : Text) (barred : Option Text) (solution : Text) (json : Bool) : Type 0 where
@@ -62,6 +73,21 @@ pub record HasCrew (rows : List Row) (instance : Text) (barred : Option Text) (s
   pub has_scripts : all_of (codes "script") rows ≡ Some scripts
   pub has_some : 1 ≤ length scripts
 
+-- the matches of `desk` have these files, and at least one seat
+pub record HasDesk (rows : List Row) (instance : Text) (barred : Option Text) (seats : List Text) (start minutes : Option Text) : Type 0 where
+  pub has_instance : first_of (codes "instance") rows ≡ Some instance
+  pub has_barred : first_of (codes "barred") rows ≡ barred
+  pub has_seats : all_of (codes "seat") rows ≡ Some seats
+  pub has_some : 1 ≤ length seats
+  pub has_start : first_of (codes "start") rows ≡ start
+  pub has_minutes : first_of (codes "minutes") rows ≡ minutes
+
+-- the matches of `journal` have these files
+pub record HasJournal (rows : List Row) (instance : Text) (barred : Option Text) (minutes : Text) : Type 0 where
+  pub has_instance : first_of (codes "instance") rows ≡ Some instance
+  pub has_barred : first_of (codes "barred") rows ≡ barred
+  pub has_minutes : first_of (codes "minutes") rows ≡ Some minutes
+
 -- the matches of the command with this name have what it needs
 abbrev pub IsWholeAs : Text → (List Row → Type 0) → Option (Text × List Row) → Type 0
 IsWholeAs name Needs matched = (rows : List Row) × (matched ≡ Some (name, rows)) × Needs rows
@@ -71,7 +97,10 @@ abbrev pub IsWhole : Option (Text × List Row) → Type 0
 IsWhole matched = IsWholeAs (codes "check") NamesFiles matched
     ⊎ (IsWholeAs (codes "run") NamesScript matched
     ⊎ (IsWholeAs (codes "audit") NamesJournal matched
-    ⊎ IsWholeAs (codes "crew") NamesScripts matched))
+    ⊎ (IsWholeAs (codes "crew") NamesScripts matched
+    ⊎ (IsWholeAs (codes "desk") NamesSeats matched
+    ⊎ (IsWholeAs (codes "journal") NamesMinutes matched
+    ⊎ IsWholeAs (codes "list") NamesJournal matched)))))
 
 -- the job is that of this command, with what its matches have
 abbrev pub IsJobBy : Option (Text × List Row) → Job → Type 0
@@ -87,6 +116,15 @@ IsJobBy matched (Audit instance barred journal start) = (rows : List Row)
 IsJobBy matched (Crew instance barred scripts) = (rows : List Row)
     × (matched ≡ Some (codes "crew", rows))
     × HasCrew rows (string_bytes instance) (option_map string_bytes barred) (map string_bytes scripts.items)
+IsJobBy matched (Desk instance barred seats start minutes) = (rows : List Row)
+    × (matched ≡ Some (codes "desk", rows))
+    × HasDesk rows (string_bytes instance) (option_map string_bytes barred) (map string_bytes seats.items) (option_map string_bytes start) (option_map string_bytes minutes)
+IsJobBy matched (Journal instance barred minutes) = (rows : List Row)
+    × (matched ≡ Some (codes "journal", rows))
+    × HasJournal rows (string_bytes instance) (option_map string_bytes barred) (string_bytes minutes)
+IsJobBy matched (Listing instance barred journal start) = (rows : List Row)
+    × (matched ≡ Some (codes "list", rows))
+    × HasAudit rows (string_bytes instance) (option_map string_bytes barred) (string_bytes journal) (option_map string_bytes start)
 
 -- a file is given
 abbrev pub IsGiven : Option (String Global) → Type 0
@@ -99,20 +137,44 @@ scripts_of (Check instance barred solution json) = []
 scripts_of (Run instance barred script start journal) = []
 scripts_of (Audit instance barred journal start) = []
 scripts_of (Crew instance barred scripts) = scripts.items
+scripts_of (Desk instance barred seats start minutes) = []
+scripts_of (Journal instance barred minutes) = []
+scripts_of (Listing instance barred journal start) = []
 
--- a crew is given at least one
+-- the seats are refused that a desk is given
+abbrev pub HasBadSeats : Job → Type 0
+HasBadSeats (Desk instance barred seats start minutes) = AreBadSeats seats.items
+HasBadSeats job = ⊥
+
+-- a crew is given at least one, and a desk at least one seat
 abbrev pub HasScripts : Job → Type 0
 HasScripts (Check instance barred solution json) = Unit {0}
 HasScripts (Run instance barred script start journal) = Unit {0}
 HasScripts (Audit instance barred journal start) = Unit {0}
 HasScripts (Crew instance barred scripts) = 1 ≤ length scripts.items
+HasScripts (Desk instance barred seats start minutes) = 1 ≤ length seats.items
+HasScripts (Journal instance barred minutes) = Unit {0}
+HasScripts (Listing instance barred journal start) = Unit {0}
 
--- the job stores a file
+-- the job stores a file, or writes to files
 abbrev pub Storing : Job → Type 0
 Storing (Check instance barred solution json) = ⊥
 Storing (Run instance barred script start journal) = IsGiven journal
 Storing (Audit instance barred journal start) = ⊥
 Storing (Crew instance barred scripts) = ⊥
+Storing (Desk instance barred seats start minutes) = Unit {0}
+Storing (Journal instance barred minutes) = ⊥
+Storing (Listing instance barred journal start) = ⊥
+
+-- the job may say something on standard error where it is done: a desk whose standard output is a seat, and a torn entry of minutes
+abbrev pub Saying : Job → Type 0
+Saying (Check instance barred solution json) = ⊥
+Saying (Run instance barred script start journal) = ⊥
+Saying (Audit instance barred journal start) = ⊥
+Saying (Crew instance barred scripts) = ⊥
+Saying (Desk instance barred seats start minutes) = Unit {0}
+Saying (Journal instance barred minutes) = Unit {0}
+Saying (Listing instance barred journal start) = ⊥
 
 -- the job is that of the command that `clap` finds in the words, with what its matches have
 abbrev pub IsJobOf : List Text → Job → Type 0

@@ -6,7 +6,10 @@ pub mod Texts
 pub mod Refusals
 pub mod Checks
 pub mod Runs
+pub mod Seats
 pub mod Audits
 pub mod Crews
 pub mod Work
 pub mod Files
+pub mod Desks
+pub mod Lists

@@ -1,6 +1,7 @@
 -- Why a job is not done: the file in which the fault lies, and what stands in its text.
-use Rattle.std.specs.Prelude.{◌≡◌, ◌⊎◌, ◌<◌, ℕ, List, [], ◌∷◌, Option, Some, None, IfSome, length, Ok, Err}
+use Rattle.std.specs.Prelude.{◌≡◌, ◌⊎◌, ◌<◌, ◌++◌, ℕ, List, [], ◌∷◌, Option, Some, None, IfSome, codes, length, Ok, Err}
 use Rattle.std.specs.Global.{Global}
+use Rattle.std.specs.String.{string_bytes}
 use Rattle.std.specs.declared.string.String.{String}
 use Rattle.ctt_text.specs.BarredLaws.{IsBarredCauseOf}
 use Rattle.ctt_text.specs.InstanceLaws.{IsCauseOf}
@@ -11,10 +12,12 @@ use Rattle.ctt_edits.specs.Openings.{opening}
 use Rattle.ctt_edits.specs.declared.fault.EditFault.{EditFault}
 use Rattle.ctt_core.specs.declared.journal.JournalEntry.{JournalEntry}
 use Rattle.ctt_script.specs.JournalText.{IsJournalCauseOf}
+use Rattle.ctt_office.specs.Recovery.{IsMinutesFault}
 use Rattle.ctt_tool.specs.Faults.{IsOpeningFault, fault_of_barred, fault_of_instance, fault_of_journal, fault_of_solution, status_of}
+use Rattle.ctt_tool.specs.Seats.{AreBadSeats}
 use Rattle.ctt_tool.specs.Texts.{Held, Holds, IsInstanceIn, IsInstanceText, IsJournalText, IsNoBarred, IsNoInstance, IsNoJournal, IsNoSolution, IsStart, IsUnlawfulStart}
 use Rattle.ctt_tool.specs.declared.fault.Fault.{Fault}
-use Rattle.ctt_tool.specs.declared.fault.Fault.TheVariants.{CannotRead, NoMemory, NoPlace, NoThread, TooLong, TooManyScripts}
+use Rattle.ctt_tool.specs.declared.fault.Fault.TheVariants.{BadSeats, CannotRead, MinutesExist, NoMemory, NoPlace, NoThread, TooLong, TooManyScripts}
 
 -- this file has more bytes than are taken
 abbrev pub IsTooLong : Held → String Global → Fault → Type 0
@@ -118,3 +121,40 @@ IsOfAudit held instance barred journal start = IsOfInstanceOr (IsOfAudited journ
 
 abbrev pub IsOfCrew : Held → String Global → Option (String Global) → List (String Global) → Fault → Type 0
 IsOfCrew held instance barred scripts fault = ((fault ≡ TooManyScripts) × (64 < length scripts)) ⊎ IsOfInstanceOr (IsOfScripts scripts) held instance barred fault
+
+-- reading minutes meets the fault, and in the file of minutes
+abbrev pub IsNoMinutes : Problem → List ℕ → Fault → Type 0
+IsNoMinutes problem text fault = IsNoText fault_of_journal (IsMinutesFault problem) (λ _. Unit {0}) text fault
+
+abbrev pub IsOfMinutes : String Global → Held → Problem → Fault → Type 0
+IsOfMinutes minutes held problem fault = IsOfText (IsNoMinutes problem) held minutes fault
+
+abbrev pub IsOfRecovery : Held → String Global → Option (String Global) → String Global → Fault → Type 0
+IsOfRecovery held instance barred minutes = IsOfInstanceOr (IsOfMinutes minutes) held instance barred
+
+-- the file of the lines of this seat cannot be read, and that of one of these seats
+abbrev pub IsUnreadAt : List ℕ → Fault → Type 0
+IsUnreadAt seat fault = (name : String Global) × (fault ≡ CannotRead name) × (string_bytes name ≡ seat ++ codes ".in")
+
+abbrev pub IsUnread : List (String Global) → Fault → Type 0
+IsUnread [] fault = ⊥
+IsUnread (seat ∷ seats) fault = IsUnreadAt (string_bytes seat) fault ⊎ IsUnread seats fault
+
+-- the fault lies in the start, or in the work of the planners, or in the lines of a seat
+abbrev pub IsOfSeats : List (String Global) → Option (String Global) → Held → Problem → Fault → Type 0
+IsOfSeats seats start held problem fault = IsOfOpening start held problem fault ⊎ (IsOfWork fault ⊎ IsUnread seats fault)
+
+-- the file that is to be minutes has bytes already
+abbrev pub IsOfOldMinutes : Option (String Global) → Fault → Type 0
+IsOfOldMinutes minutes fault = (name : String Global) × (minutes ≡ Some name) × (fault ≡ MinutesExist name)
+
+-- the seats of a desk are refused, or its minutes exist
+abbrev pub IsOfPlan : List (String Global) → Option (String Global) → Fault → Type 0
+IsOfPlan seats minutes fault = ((fault ≡ BadSeats) × AreBadSeats seats) ⊎ IsOfOldMinutes minutes fault
+
+abbrev pub IsOfDesk : Held → String Global → Option (String Global) → List (String Global) → Option (String Global) → Option (String Global) → Fault → Type 0
+IsOfDesk held instance barred seats start minutes fault = IsOfPlan seats minutes fault ⊎ IsOfInstanceOr (IsOfSeats seats start) held instance barred fault
+
+-- why a timetable that entries leave on the opening with these lectures is not printed: the opening is refused, or memory is wanted
+abbrev pub IsLeftFault : Problem → List Placed → Fault → Type 0
+IsLeftFault problem lectures fault = ((at : ℕ) × (found : EditFault) × (opening problem lectures ≡ Err (at, found)) × IsOpeningFault problem at found fault) ⊎ (fault ≡ NoMemory)

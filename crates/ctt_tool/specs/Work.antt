@@ -4,15 +4,17 @@ use Rattle.clap.specs.Words.{Text}
 use Rattle.ctt_tool.specs.Audits.{AuditsJournal}
 use Rattle.ctt_tool.specs.Checks.{PrintsReport}
 use Rattle.ctt_tool.specs.Crews.{PrintsCrew}
+use Rattle.ctt_tool.specs.Desks.{PrintsLast}
 use Rattle.ctt_tool.specs.Faults.{status_of}
-use Rattle.ctt_tool.specs.Jobs.{IsJobOf, IsRefusal, IsRequest, Storing, faults_of, scripts_of}
-use Rattle.ctt_tool.specs.Refusals.{IsOfAudit, IsOfCheck, IsOfCrew, IsOfRun}
+use Rattle.ctt_tool.specs.Jobs.{HasBadSeats, IsJobOf, IsRefusal, IsRequest, Saying, Storing, faults_of, scripts_of}
+use Rattle.ctt_tool.specs.Lists.{ListsJournal, PrintsJournal}
+use Rattle.ctt_tool.specs.Refusals.{IsOfAudit, IsOfCheck, IsOfCrew, IsOfDesk, IsOfRecovery, IsOfRun}
 use Rattle.ctt_tool.specs.Runs.{RunsScript}
 use Rattle.ctt_tool.specs.Texts.{Held}
 use Rattle.ctt_tool.specs.declared.fault.Fault.{Fault}
 use Rattle.ctt_tool.specs.declared.fault.Fault.TheVariants.{CannotWrite, NoMemory, Words, WordsNotText}
 use Rattle.ctt_tool.specs.declared.job.Job.{Job}
-use Rattle.ctt_tool.specs.declared.job.Job.TheVariants.{Audit, Check, Crew, Run}
+use Rattle.ctt_tool.specs.declared.job.Job.TheVariants.{Audit, Check, Crew, Desk, Journal, Listing, Run}
 use Rattle.ctt_tool.specs.declared.outcome.Outcome.{Outcome}
 use Rattle.ctt_tool.specs.declared.outcome.Outcome.TheVariants.{Done}
 
@@ -26,6 +28,12 @@ DoesJob (Audit instance barred journal start) outcome before after old new = (af
     × AuditsJournal instance barred journal start outcome before old new
 DoesJob (Crew instance barred scripts) outcome before after old new = (outcome ≡ Done)
     × (after ≡ before) × PrintsCrew instance barred (length scripts.items) before old new
+DoesJob (Desk instance barred seats start minutes) outcome before after old new = (outcome ≡ Done)
+    × (after ≡ before) × PrintsLast instance barred seats.items start before old new
+DoesJob (Journal instance barred minutes) outcome before after old new = (outcome ≡ Done)
+    × (after ≡ before) × PrintsJournal instance barred minutes before old new
+DoesJob (Listing instance barred journal start) outcome before after old new = (after ≡ before)
+    × ListsJournal instance barred journal start outcome before old new
 
 -- the words ask for help or the version, or `clap` finds no fault in them and they ask for a job that is done
 abbrev pub DoesAsAsked : List Text → Outcome → Held → Held → Option Text → Option Text → Type 0
@@ -38,6 +46,9 @@ IsOfJob (Check instance barred solution json) held fault = IsOfCheck held instan
 IsOfJob (Run instance barred script start journal) held fault = IsOfRun held instance barred script start fault
 IsOfJob (Audit instance barred journal start) held fault = IsOfAudit held instance barred journal start fault
 IsOfJob (Crew instance barred scripts) held fault = IsOfCrew held instance barred scripts.items fault
+IsOfJob (Desk instance barred seats start minutes) held fault = IsOfDesk held instance barred seats.items start minutes fault
+IsOfJob (Journal instance barred minutes) held fault = IsOfRecovery held instance barred minutes fault
+IsOfJob (Listing instance barred journal start) held fault = IsOfAudit held instance barred journal start fault
 
 -- the words ask for a job that meets this fault
 abbrev pub AsksFor : List Text → Held → Fault → Type 0
@@ -54,6 +65,14 @@ AsksToStore words = (job : Job) × IsJobOf words job × Storing job
 -- the words ask for a crew of more than 64 scripts
 abbrev pub AsksForTooMany : List Text → Type 0
 AsksForTooMany words = (job : Job) × IsJobOf words job × (64 < length (scripts_of job))
+
+-- the words ask for a desk whose seats are refused
+abbrev pub AsksForBadSeats : List Text → Type 0
+AsksForBadSeats words = (job : Job) × IsJobOf words job × HasBadSeats job
+
+-- the words ask for a job that may say something where it is done
+abbrev pub AsksToSay : List Text → Type 0
+AsksToSay words = (job : Job) × IsJobOf words job × Saying job
 
 -- the cause of a fault, by the words, the files, and whether standard output failed; wanted memory has none, and words that are given are text
 abbrev pub HasCause : List Text → Held → Bool → Fault → Type 0

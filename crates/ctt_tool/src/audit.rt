@@ -25,7 +25,7 @@ use ctt_text::{Instance, Placed, let_go};
 use std::alloc::Global;
 
 /// Prints a verdict, unless it is that the opening is refused.
-fn print_verdict<W: Sink>(
+pub fn print_verdict<W: Sink>(
     alloc: Global,
     out: &mut W,
     instance: &Instance,

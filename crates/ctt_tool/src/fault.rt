@@ -57,6 +57,12 @@ pub enum Fault {
     /// The thread of a planner could not be started.
     #[error("timedesk: no thread")]
     NoThread,
+    /// A desk has more seats than are taken, or one of them twice.
+    #[error("timedesk: at most 64 seats, each once")]
+    BadSeats,
+    /// The file of this name, which is to be minutes, has bytes already.
+    #[error("timedesk: minutes exist {0}")]
+    MinutesExist(String),
 }
 
 /// The line of wanted memory, which has to be told without memory.
@@ -81,13 +87,14 @@ impl Fault {
             | Fault::Barred { .. }
             | Fault::Journal { .. }
             | Fault::Opening(_) => 1,
-            Fault::Words(_) | Fault::WordsNotText | Fault::TooManyScripts => 2,
+            Fault::Words(_) | Fault::WordsNotText | Fault::TooManyScripts | Fault::BadSeats => 2,
             Fault::CannotRead(_)
             | Fault::TooLong(_)
             | Fault::CannotWrite
             | Fault::NoMemory
             | Fault::NoPlace
-            | Fault::NoThread => 3,
+            | Fault::NoThread
+            | Fault::MinutesExist(_) => 3,
         }
     }
 

@@ -4,9 +4,13 @@
 mod audit;
 mod check;
 mod crew;
+mod desk;
 mod fault;
 mod files;
 mod job;
+mod journal;
+mod list;
+mod office;
 mod opening;
 mod outcome;
 mod output;
@@ -16,13 +20,14 @@ mod texts;
 
 ghost use Rattle.std.specs.Prelude.{◌≡◌, ◌≢◌, ◌≤◌, ◌⊎◌, ℕ, List, true, false, IfErr};
 ghost use Rattle.ctt_tool.specs.Faults.{SaysFault};
-ghost use Rattle.ctt_tool.specs.Work.{AsksForRefusedText, DoesAsAsked, IsOfWords};
+ghost use Rattle.ctt_tool.specs.Work.{AsksForRefusedText, AsksToSay, DoesAsAsked, IsOfWords};
 ghost use Rattle.ctt_tool.specs.declared.fault.Fault.TheVariants.{NoMemory, WordsNotText};
 ghost use Rattle.ctt_tool.specs.declared.outcome.Outcome.TheVariants.{Differs, Done};
 
 use ctt_script::{Device, Sink};
 use fault::Fault;
 use files::{Files, SystemFiles};
+use office::{Office, SystemOffice};
 use program::{fail_with, program};
 use std::alloc::AllocError;
 use std::marker::Sync;
@@ -44,9 +49,10 @@ fn owned_words<R: Env + AllocGlobal>(rt: &R) -> Result<Vec<String>, Fault>
 }
 
 /// Does what the words of the command line ask for, as `program` does.
-fn serve<R: Env + AllocGlobal + Threads + Wait + Sync, F: Files, W: Sink, V: Sink>(
+fn serve<R: Env + AllocGlobal + Threads + Wait + Sync, F: Files, O: Office, W: Sink, V: Sink>(
     rt: &R,
     files: &mut F,
+    office: &O,
     out: &mut W,
     err: &mut V,
 ) -> u8
@@ -57,7 +63,8 @@ fn serve<R: Env + AllocGlobal + Threads + Wait + Sync, F: Files, W: Sink, V: Sin
     ensures done { result ≡ 0 → (words : List (List ℕ)) × DoesAsAsked words Done
         (F.held files.old) (F.held files.new) (W.taken out.old) (W.taken out.new) }
     ensures unmarked { result ≡ 0 → W.has_failed out.new ≡ false }
-    ensures unsaid { result ≡ 0 → err.new ≡ err.old }
+    ensures unsaid { result ≡ 0
+        → ((words : List (List ℕ)) × AsksToSay words) ⊎ (err.new ≡ err.old) }
     ensures one { result ≡ 1 → (words : List (List ℕ))
         × ((AsksForRefusedText words (F.held files.old)
         × (out.new ≡ out.old))
@@ -82,12 +89,13 @@ fn serve<R: Env + AllocGlobal + Threads + Wait + Sync, F: Files, W: Sink, V: Sin
     let Ok(words) = words else {
         return fail_with(rt.alloc(), &Fault::NoMemory, err);
     };
-    program(rt, &words, files, out, err)
+    program(rt, &words, files, office, out, err)
 }
 
 fn main(rt: HostRuntime) -> ExitCode {
     let mut files = SystemFiles::new(&rt);
     let mut out = Device::new(rt.stdout());
     let mut err = Device::new(rt.stderr());
-    ExitCode::from(serve(&rt, &mut files, &mut out, &mut err))
+    let office = SystemOffice::new(&rt, rt.alloc(), rt.stdin(), rt.stdout());
+    ExitCode::from(serve(&rt, &mut files, &office, &mut out, &mut err))
 }

@@ -1,18 +1,22 @@
 //! What the program does.
 
-ghost use Rattle.std.specs.Prelude.{◌≡◌, ◌≢◌, ◌≤◌, ◌⊎◌, [], true, false, map, OnOk, IfOk, IfErr};
+ghost use Rattle.std.specs.Prelude.{◌≡◌, ◌≢◌, ◌≤◌, ◌⊎◌, [], true, false, map, OnOk, OnErr, IfOk, IfErr};
 ghost use Rattle.ctt_tool.specs.Faults.{IfUnwritten, KeptUnless, MayHaveWritten, SaysFault, status_of};
-ghost use Rattle.ctt_tool.specs.Jobs.{HasScripts, IsRefusal, Storing, faults_of};
-ghost use Rattle.ctt_tool.specs.Work.{AsksForRefusedText, AsksForTooMany, AsksToStore, DoesAsAsked, DoesJob, HasCause, IsOfJob};
+ghost use Rattle.ctt_tool.specs.Jobs.{HasScripts, IsRefusal, Saying, Storing, faults_of};
+ghost use Rattle.ctt_tool.specs.Work.{AsksForBadSeats, AsksForRefusedText, AsksForTooMany, AsksToSay, AsksToStore, DoesAsAsked, DoesJob, HasCause, IsOfJob};
 ghost use Rattle.ctt_tool.specs.declared.fault.Fault.TheVariants.{NoMemory};
 ghost use Rattle.ctt_tool.specs.declared.outcome.Outcome.TheVariants.{Differs, Done};
 
 use crate::audit::audit;
 use crate::check::check;
 use crate::crew::crew;
+use crate::desk::desk;
 use crate::fault::{Fault, NO_MEMORY};
 use crate::files::Files;
 use crate::job::{Job, WordsFault, read_words};
+use crate::journal::journal;
+use crate::list::list;
+use crate::office::Office;
 use crate::outcome::Outcome;
 use crate::output::{complain, print};
 use crate::run::run;
@@ -23,12 +27,14 @@ use std::sync::Wait;
 use std::thread::Threads;
 
 /// Does a job.
-fn do_job<R: Threads + Wait + Sync, F: Files, W: Sink>(
+fn do_job<R: Threads + Wait + Sync, F: Files, O: Office, W: Sink, V: Sink>(
     rt: &R,
     alloc: Global,
     job: Job,
     files: &mut F,
+    office: &O,
     out: &mut W,
+    err: &mut V,
 ) -> Result<Outcome, Fault>
     requires { HasScripts job }
     ensures done { IfOk result (λ outcome. DoesJob job outcome (F.held files.old) (F.held files.new)
@@ -41,6 +47,9 @@ fn do_job<R: Threads + Wait + Sync, F: Files, W: Sink>(
     ensures unstored { IfErr result (λ fault. KeptUnless fault
         ((W.has_failed out.new ≡ W.has_failed out.old) × Storing job)
         (F.held files.new ≡ F.held files.old)) }
+    ensures quiet { IfOk result (λ outcome.
+        (Saying job × (outcome ≡ Done)) ⊎ (err.new ≡ err.old)) }
+    ensures unsaid { OnErr result ((err.new ≡ err.old) ⊎ (V.has_failed err.new ≡ true)) }
 {
     match job {
         Job::Check {
@@ -76,16 +85,44 @@ fn do_job<R: Threads + Wait + Sync, F: Files, W: Sink>(
             crew(rt, alloc, files, out, instance, barred, scripts)?;
             Ok(Outcome::Done)
         }
+        Job::Desk {
+            instance,
+            barred,
+            seats,
+            start,
+            minutes,
+        } => {
+            desk(
+                rt, alloc, files, office, out, err, instance, barred, seats, start, minutes,
+            )?;
+            Ok(Outcome::Done)
+        }
+        Job::Journal {
+            instance,
+            barred,
+            minutes,
+        } => {
+            journal(alloc, files, out, err, instance, barred, minutes)?;
+            Ok(Outcome::Done)
+        }
+        Job::Listing {
+            instance,
+            barred,
+            journal,
+            start,
+        } => list(alloc, files, out, instance, barred, journal, start),
     }
 }
 
 /// Does the job that the words ask for, or gives help.
-fn do_as_asked<R: Threads + Wait + Sync, F: Files, W: Sink>(
+fn do_as_asked<R: Threads + Wait + Sync, F: Files, O: Office, W: Sink, V: Sink>(
     rt: &R,
     alloc: Global,
     words: &[&str],
     files: &mut F,
+    office: &O,
     out: &mut W,
+    err: &mut V,
 ) -> Result<Outcome, Fault>
     ensures done { IfOk result (λ outcome. DoesAsAsked (map (λ word. word.now) words.now) outcome
         (F.held files.old) (F.held files.new) (W.taken out.old) (W.taken out.new)) }
@@ -99,11 +136,15 @@ fn do_as_asked<R: Threads + Wait + Sync, F: Files, W: Sink>(
         (F.held files.new ≡ F.held files.old)) }
     ensures taken { IfErr result (λ fault. status_of fault ≡ 1
         → faults_of (map (λ word. word.now) words.now) ≡ []) }
+    ensures quiet { IfOk result (λ outcome.
+        (AsksToSay (map (λ word. word.now) words.now) × (outcome ≡ Done))
+        ⊎ (err.new ≡ err.old)) }
+    ensures unsaid { OnErr result ((err.new ≡ err.old) ⊎ (V.has_failed err.new ≡ true)) }
     ensures cause { IfErr result (HasCause (map (λ word. word.now) words.now) (F.held files.old)
         (W.has_failed out.new)) }
 {
     match read_words(alloc, words) {
-        Ok(job) => do_job(rt, alloc, job, files, out),
+        Ok(job) => do_job(rt, alloc, job, files, office, out, err),
         Err(WordsFault::Help(text)) => {
             print(out, text.as_bytes())?;
             Ok(Outcome::Done)
@@ -118,6 +159,7 @@ fn do_as_asked<R: Threads + Wait + Sync, F: Files, W: Sink>(
 /// Where no memory is left for the line, that is said instead.
 pub fn fail_with<V: Sink>(alloc: Global, fault: &Fault, err: &mut V) -> u8
     ensures status { (result ≡ status_of fault.now) ⊎ (result ≡ 3) }
+    ensures marked { V.has_failed err.old ≡ true → V.has_failed err.new ≡ true }
     ensures said { (V.has_failed err.new ≡ true)
         ⊎ SaysFault (λ told. (told ≡ fault.now) ⊎ (told ≡ NoMemory)) result
         (V.taken err.old) (V.taken err.new) }
@@ -136,12 +178,13 @@ pub fn fail_with<V: Sink>(alloc: Global, fault: &Fault, err: &mut V) -> u8
 
 /// Does the job that the words ask for, of which the first is the program's name, and answers the
 /// status with which to end: 0 where it was done, 1 where a text is refused or an audit does not agree,
-/// 2 where the words are refused, or ask for too many scripts, and 3 where the machine failed. Answers go to `out`, and why a job was
-/// not done to `err`.
-pub fn program<R: AllocGlobal + Threads + Wait + Sync, F: Files, W: Sink, V: Sink>(
+/// 2 where the words are refused, or ask for too many scripts or seats, and 3 where the machine failed.
+/// Answers go to `out`, and why a job was not done to `err`.
+pub fn program<R: AllocGlobal + Threads + Wait + Sync, F: Files, O: Office, W: Sink, V: Sink>(
     rt: &R,
     words: &[&str],
     files: &mut F,
+    office: &O,
     out: &mut W,
     err: &mut V,
 ) -> u8
@@ -152,7 +195,8 @@ pub fn program<R: AllocGlobal + Threads + Wait + Sync, F: Files, W: Sink, V: Sin
     ensures done { result ≡ 0 → DoesAsAsked (map (λ word. word.now) words.now) Done
         (F.held files.old) (F.held files.new) (W.taken out.old) (W.taken out.new) }
     ensures unmarked { result ≡ 0 → W.has_failed out.new ≡ false }
-    ensures unsaid { result ≡ 0 → err.new ≡ err.old }
+    ensures unsaid { result ≡ 0
+        → AsksToSay (map (λ word. word.now) words.now) ⊎ (err.new ≡ err.old) }
 
     ensures one { result ≡ 1
         → (AsksForRefusedText (map (λ word. word.now) words.now) (F.held files.old)
@@ -162,7 +206,8 @@ pub fn program<R: AllocGlobal + Threads + Wait + Sync, F: Files, W: Sink, V: Sin
         × (err.new ≡ err.old)) }
     ensures taken { result ≡ 1 → faults_of (map (λ word. word.now) words.now) ≡ [] }
     ensures refused { result ≡ 2 → IsRefusal (faults_of (map (λ word. word.now) words.now))
-        ⊎ AsksForTooMany (map (λ word. word.now) words.now) }
+        ⊎ (AsksForTooMany (map (λ word. word.now) words.now)
+        ⊎ AsksForBadSeats (map (λ word. word.now) words.now)) }
     ensures said { result ≢ 0 → DoesAsAsked (map (λ word. word.now) words.now) Differs
         (F.held files.old) (F.held files.new) (W.taken out.old) (W.taken out.new)
         ⊎ ((V.has_failed err.new ≡ true)
@@ -176,7 +221,7 @@ pub fn program<R: AllocGlobal + Threads + Wait + Sync, F: Files, W: Sink, V: Sin
         × AsksToStore (map (λ word. word.now) words.now))) }
 {
     let alloc = rt.alloc();
-    match do_as_asked(rt, alloc, words, files, out) {
+    match do_as_asked(rt, alloc, words, files, office, out, err) {
         Ok(outcome) => outcome.status(),
         Err(fault) => fail_with(alloc, &fault, err),
     }

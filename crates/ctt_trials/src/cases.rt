@@ -1,56 +1,64 @@
 //! The worked cases: scripts of desks, each played in all ways, and lines on one sheet.
 
-use crate::both::{Case, on_both};
-use crate::desks::{run, step};
-use crate::scripts::play_script;
+use crate::both::{Case, Kind, play_on, play_on_both};
 use crate::shared::{self, Before, Script};
 use crate::sheets::play_rows;
 use crate::story::Story;
 use crate::worked;
-use ctt_board::{GridSheet, ListSheet};
 use ctt_text::{Instance, Placed};
 use std::sync::Wait;
-
-/// A way to play a script that needs no shared desk.
-#[derive(Clone, Copy)]
-enum Way {
-    /// Event by event, on the grid sheet.
-    Step,
-    /// At once, on the list sheet.
-    RunOnList,
-    /// At once, on the grid sheet.
-    RunOnGrid,
-    /// As a script, on the list sheet.
-    ScriptOnList,
-    /// As a script, on the grid sheet.
-    ScriptOnGrid,
-}
-
-/// Plays a script by step on the grid sheet.
-pub(crate) fn by_step(story: &mut Story, small: &Instance, opening: &[Placed], lines: &str) {
-    let _end = step::<GridSheet>(story, small, opening, lines);
-}
-
-/// Plays a script in one way.
-fn play_in(story: &mut Story, small: &Instance, script: Script, way: Way) {
-    match way {
-        Way::Step => by_step(story, small, script.opening, script.lines),
-        Way::RunOnList => run::<ListSheet>(story, small, script.opening, script.lines),
-        Way::RunOnGrid => run::<GridSheet>(story, small, script.opening, script.lines),
-        Way::ScriptOnList => play_script::<ListSheet>(story, small, script.opening, script.lines),
-        Way::ScriptOnGrid => play_script::<GridSheet>(story, small, script.opening, script.lines),
-    }
-}
 
 /// Plays a script by step on the list sheet, and answers what was told of it.
 fn play_first(story: &mut Story, small: &Instance, script: Script) -> Before {
     let answers = story.len();
-    let mut end = step::<ListSheet>(story, small, script.opening, script.lines);
-    if story.takes_back(answers) {
-        end = step::<ListSheet>(story, small, script.opening, script.lines);
+    play_on(story, small, Kind::List, &Case::Step(script));
+    Before {
+        answers,
+        end: story.marked(),
+        all: story.len(),
     }
-    let all = story.len();
-    Before { answers, end, all }
+}
+
+/// Plays a script in one more way.
+fn play_way(
+    story: &mut Story,
+    small: &Instance,
+    before: Before,
+    way: &str,
+    kind: Kind,
+    case: Case,
+) {
+    let here = story.len();
+    play_on(story, small, kind, &case);
+    story.compare(before.answers, before.all, here, way);
+}
+
+/// Plays a script in all ways that need no shared desk, and answers what was told of it.
+fn play_ways(story: &mut Story, small: &Instance, script: Script) -> Before {
+    let before = play_first(story, small, script);
+    let step = Case::Step(script);
+    play_way(story, small, before, "on the grid sheet", Kind::Grid, step);
+    let run = Case::Run(script);
+    play_way(story, small, before, "at once", Kind::List, run);
+    play_way(
+        story,
+        small,
+        before,
+        "at once on the grid sheet",
+        Kind::Grid,
+        run,
+    );
+    let text = Case::Text(script);
+    play_way(story, small, before, "as a script", Kind::List, text);
+    play_way(
+        story,
+        small,
+        before,
+        "as a script on the grid sheet",
+        Kind::Grid,
+        text,
+    );
+    before
 }
 
 /// Plays a script in all ways: by step, by run and as a script, on both kinds of sheets, and on shared desks of both.
@@ -62,18 +70,7 @@ pub(crate) fn play_desk<R: Wait>(
     script: Script,
 ) {
     story.say(name);
-    let before = play_first(story, small, script);
-    for (way, name) in [
-        (Way::Step, "on the grid sheet"),
-        (Way::RunOnList, "at once"),
-        (Way::RunOnGrid, "at once on the grid sheet"),
-        (Way::ScriptOnList, "as a script"),
-        (Way::ScriptOnGrid, "as a script on the grid sheet"),
-    ] {
-        let here = story.len();
-        played!(story, play_in(story, small, script, way));
-        story.compare(before.answers, before.all, here, name);
-    }
+    let before = play_ways(story, small, script);
     shared::play(story, rt, small, script, before);
 }
 
@@ -82,9 +79,9 @@ fn play_bad_lines(story: &mut Story, small: &Instance) {
     story.say("bad lines");
     let script = Script::new(&[], worked::BAD_LINES);
     let from = story.len();
-    played!(story, play_in(story, small, script, Way::Step));
+    play_on(story, small, Kind::Grid, &Case::Step(script));
     let to = story.len();
-    played!(story, play_in(story, small, script, Way::ScriptOnGrid));
+    play_on(story, small, Kind::Grid, &Case::Text(script));
     story.compare(from, to, to, "as a script");
 }
 
@@ -96,8 +93,7 @@ fn play_scripts<R: Wait>(
     opening: &[Placed],
     cases: &[(&str, &str)],
 ) {
-    for case in cases {
-        let (name, lines) = *case;
+    for (name, lines) in cases {
         play_desk(story, rt, small, name, Script::new(opening, lines));
     }
 }
@@ -109,33 +105,21 @@ pub(crate) fn play_desks<R: Wait>(
     small: &Instance,
     without_top: &[Placed],
 ) {
-    let on_empty = [
-        ("phantom", worked::PHANTOM),
-        ("changed and changed back", worked::CHANGED_BACK),
-        ("out of turn", worked::OUT_OF_TURN),
-        ("a price that changed", worked::STALE_PRICE),
-        ("abandoned", worked::ABANDONED),
-        ("refreshed", worked::REFRESHED),
-        ("not refreshed", worked::NOT_REFRESHED),
-        ("stale at a refresh", worked::STALE_REFRESH),
-    ];
-    play_scripts(story, rt, small, &[], &on_empty);
-    let dropped = Script::dropping(worked::LEFT_OPEN);
+    play_scripts(story, rt, small, &[], worked::ON_EMPTY);
+    let dropped = Script {
+        drops: true,
+        ..Script::new(&[], worked::LEFT_OPEN)
+    };
     play_desk(story, rt, small, "left open, or dropped", dropped);
     play_bad_lines(story, small);
-    let on_lectures = [
-        ("a drop and a placement in one slot", worked::DROP_AND_PLACE),
-        ("the drop first", worked::DROP_FIRST),
-        ("a refused edit", worked::REFUSED),
-    ];
-    play_scripts(story, rt, small, without_top, &on_lectures);
+    play_scripts(story, rt, small, without_top, worked::ON_LECTURES);
 }
 
 /// Lines on sheets with these lectures.
 fn play_lines(story: &mut Story, small: &Instance, opening: &[Placed], cases: &[(&str, &str)]) {
-    for case in cases {
-        let (name, lines) = *case;
-        on_both(story, small, name, Case::Lines(opening, lines));
+    for (name, lines) in cases {
+        let case = Case::Lines(Script::new(opening, lines));
+        play_on_both(story, small, name, &case);
     }
 }
 
@@ -146,31 +130,21 @@ pub(crate) fn play_sheets(
     solution: &[Placed],
     without_top: &[Placed],
 ) {
-    let on_empty = [
-        ("on the empty sheet", worked::EMPTY_SHEET),
-        ("a swap of rooms", worked::SWAP_OF_ROOMS),
-        ("the border of two days", worked::BORDER),
-    ];
-    play_lines(story, small, &[], &on_empty);
-    let on_solution = [
-        ("prices and looks on the solution", worked::PRICES),
-        (
-            "edits that are refused on the solution",
-            worked::REFUSED_EDITS,
-        ),
-        ("a swap", worked::SWAP),
-        ("a drop", worked::DROP),
-    ];
-    play_lines(story, small, solution, &on_solution);
-    let taken = [("a room that is taken", worked::ROOM_TAKEN)];
-    play_lines(story, small, without_top, &taken);
-    on_both(story, small, "one placement", Case::Placement);
-    on_both(story, small, "accepted changes", Case::Accepted(solution));
+    play_lines(story, small, &[], worked::LINES_ON_EMPTY);
+    play_lines(story, small, solution, worked::LINES_ON_SOLUTION);
+    play_lines(story, small, without_top, worked::LINES_WITHOUT_TOP);
+    play_on_both(story, small, "one placement", &Case::Placement);
+    play_on_both(story, small, "accepted changes", &Case::Accepted(solution));
     play_rows(story, small);
 }
 
 /// Drafts by themselves.
 pub(crate) fn play_drafts(story: &mut Story, small: &Instance) {
-    on_both(story, small, "drafts", Case::Draft);
-    on_both(story, small, "a draft of a thousand calls", Case::LongDraft);
+    play_on_both(story, small, "drafts", &Case::Draft);
+    play_on_both(
+        story,
+        small,
+        "a draft of a thousand calls",
+        &Case::LongDraft,
+    );
 }

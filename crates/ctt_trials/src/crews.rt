@@ -1,7 +1,8 @@
 //! A crew of one planner, on a thread.
 
 use crate::story::Story;
-use ctt_crew::{CrewFault, NoGate, crew};
+use ctt_crew::{NoGate, crew};
+use ctt_script::Lines;
 use ctt_text::Instance;
 use std::marker::Sync;
 use std::sync::Wait;
@@ -9,21 +10,21 @@ use std::thread::Threads;
 
 /// Whether what a crew wrote has a line of these words.
 fn has_line(text: &[u8], words: &[u8]) -> bool {
-    text.split(|byte| *byte == b'\n').any(|line| line == words)
+    for line in Lines::new(text) {
+        if line == words {
+            return true;
+        }
+    }
+    false
 }
 
-/// What a crew wrote, unless memory or a place was wanted, by it or by its planner.
-fn write_once<R: Threads + Wait + Sync>(
-    story: &Story,
-    rt: &R,
-    small: &Instance,
-    script: &str,
-) -> Result<Vec<u8>, CrewFault> {
-    let text = crew(rt, story.alloc(), small, &[script.as_bytes()], &NoGate)?;
-    if has_line(&text, b"no memory") || has_line(&text, b"no place") {
-        return Err(CrewFault::NoMemory);
+/// Tells what a crew wrote, unless its planner wanted memory or a place.
+fn tell_written(story: &mut Story, text: &[u8]) {
+    if has_line(text, b"no memory") || has_line(text, b"no place") {
+        story.no_memory();
+    } else {
+        story.bytes(text);
     }
-    Ok(text)
 }
 
 /// A crew that follows one script. A place or a thread that is refused is told as want of memory.
@@ -35,8 +36,8 @@ pub(crate) fn play<R: Threads + Wait + Sync>(
     script: &str,
 ) {
     story.say(name);
-    match write_once(story, rt, small, script) {
-        Ok(text) => story.bytes(&text),
+    match crew(rt, story.alloc(), small, &[script.as_bytes()], &NoGate) {
+        Ok(text) => tell_written(story, &text),
         Err(_fault) => story.no_memory(),
     }
 }

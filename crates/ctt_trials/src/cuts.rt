@@ -21,31 +21,31 @@ fn front(text: &[u8], words: usize) -> &[u8] {
     text
 }
 
-/// Tells that a text was read, or its fault.
-fn tell(story: &mut Story, fault: Option<Option<(&'static str, u64)>>) {
+/// Reads the text of an instance, and tells how that ends.
+fn tell_instance(story: &mut Story, text: &[u8]) {
     story.bytes(b" ");
-    match fault {
-        Some(fault) => story.fault(fault),
+    match read_instance(story.alloc(), text).err() {
+        Some(fault) => story.fault(of_instance(fault)),
         None => story.bytes(b"read"),
     }
 }
 
-/// Reads the text of an instance, and tells how that ends.
-fn tell_instance(story: &mut Story, text: &[u8]) {
-    let fault = read_instance(story.alloc(), text).err();
-    tell(story, fault.map(of_instance));
-}
-
 /// Reads the text of a solution, and tells how that ends.
 fn tell_solution(story: &mut Story, small: &Instance, text: &[u8]) {
-    let fault = read_solution(story.alloc(), small, text).err();
-    tell(story, fault.map(of_solution));
+    story.bytes(b" ");
+    match read_solution(story.alloc(), small, text).err() {
+        Some(fault) => story.fault(of_solution(fault)),
+        None => story.bytes(b"read"),
+    }
 }
 
 /// Reads the text of a journal, and tells how that ends.
 fn tell_journal(story: &mut Story, small: &Instance, text: &[u8]) {
-    let fault = read_journal(story.alloc(), small, text).err();
-    tell(story, fault.map(of_journal));
+    story.bytes(b" ");
+    match read_journal(story.alloc(), small, text).err() {
+        Some(fault) => story.fault(of_journal(fault)),
+        None => story.bytes(b"read"),
+    }
 }
 
 /// The small instance, its solution and a journal, cut behind each of their words.

@@ -6,13 +6,13 @@ ghost use Rattle.ctt_core.specs.Runs.{EventFits};
 
 use crate::journals::tell_journal;
 use crate::lists::add;
-use crate::sheets::lectures_fit;
+use crate::shared::Script;
 use crate::story::Story;
 use ctt_board::Sheet;
 use ctt_core::{Answer, Desk, DeskFault, Event};
 use ctt_draft::KeepAll;
 use ctt_script::{Lines, PLANNERS, read_line};
-use ctt_text::{Instance, NoMemory, Placed, let_go};
+use ctt_text::{Instance, NoMemory, Placed, is_timetable, let_go};
 use std::alloc::{AllocError, Global};
 
 /// How many events a script has at most.
@@ -36,7 +36,7 @@ fn desk_with<'i, S: Sheet<'i>>(
     small: &'i Instance,
     opening: &[Placed],
 ) -> Option<Desk<'i, S, KeepAll>> {
-    if !lectures_fit(small, opening) {
+    if !is_timetable(small, opening) {
         return None;
     }
     match Desk::new(story.alloc(), small, opening, PLANNERS) {
@@ -109,34 +109,13 @@ fn answer_lines<'i, S: Sheet<'i>>(
     }
 }
 
-/// Plays a script event by event on a desk, and answers where its answers end in what was told.
-fn step_on<'i, S: Sheet<'i>>(
-    story: &mut Story,
-    small: &'i Instance,
-    opening: &[Placed],
-    desk: &mut Desk<'i, S, KeepAll>,
-    script: &str,
-) -> usize {
-    answer_lines(story, small, desk, script);
-    let end = story.len();
-    tell_desk(story, small, opening, desk);
-    end
-}
-
-/// Plays a script event by event, and answers where its answers end in what was told.
-pub(crate) fn step<'i, S: Sheet<'i>>(
-    story: &mut Story,
-    small: &'i Instance,
-    opening: &[Placed],
-    script: &str,
-) -> usize {
-    match desk_with::<S>(story, small, opening) {
-        Some(mut desk) => {
-            let end = step_on(story, small, opening, &mut desk, script);
-            let_go(desk);
-            end
-        }
-        None => story.len(),
+/// Plays a script event by event. The place where its answers end in what is told is marked.
+pub(crate) fn step<'i, S: Sheet<'i>>(story: &mut Story, small: &'i Instance, script: &Script) {
+    if let Some(mut desk) = desk_with::<S>(story, small, script.opening) {
+        answer_lines(story, small, &mut desk, script.lines);
+        story.mark();
+        tell_desk(story, small, script.opening, &desk);
+        let_go(desk);
     }
 }
 
@@ -208,15 +187,8 @@ fn answers<'i, S: Sheet<'i>>(
     }
 }
 
-/// Whether an event wanted memory.
-fn is_wanting(answers: &[Answer]) -> bool {
-    answers
-        .iter()
-        .any(|answer| matches!(answer, Answer::NoMemory))
-}
-
-/// Tells what a desk answered to events at once, and what it is left with, unless an event wanted memory: then those behind
-/// it met another desk than they should.
+/// Tells what a desk answered to events at once, and what it is left with. Where an event wanted memory those behind it met
+/// another desk than they should: then the case is played again.
 fn tell_run<'i, S: Sheet<'i>>(
     story: &mut Story,
     small: &'i Instance,
@@ -224,9 +196,6 @@ fn tell_run<'i, S: Sheet<'i>>(
     desk: &Desk<'i, S, KeepAll>,
     answers: &[Answer],
 ) {
-    if is_wanting(answers) {
-        return story.no_memory();
-    }
     for answer in answers {
         story.answer(small, answer);
     }
@@ -251,14 +220,9 @@ fn run_events<'i, S: Sheet<'i>>(
 }
 
 /// Plays a script at once.
-pub(crate) fn run<'i, S: Sheet<'i>>(
-    story: &mut Story,
-    small: &'i Instance,
-    opening: &[Placed],
-    script: &str,
-) {
-    match asked_in::<Event>(story.alloc(), small, script) {
-        Ok(events) => run_events::<S>(story, small, opening, &events),
+pub(crate) fn run<'i, S: Sheet<'i>>(story: &mut Story, small: &'i Instance, script: &Script) {
+    match asked_in::<Event>(story.alloc(), small, script.lines) {
+        Ok(events) => run_events::<S>(story, small, script.opening, &events),
         Err(AllocError) => story.no_memory(),
     }
 }

@@ -57,7 +57,7 @@ impl<'a> Source for Memory<'a> {
 }
 
 /// How a writer fails.
-#[derive(Clone, Copy, PartialEq, Eq)]
+#[derive(Clone, Copy)]
 pub(crate) enum Failing {
     /// Not at all.
     Never,
@@ -129,7 +129,7 @@ impl Sink for Shelf {
         let n = bytes.len().min(self.room());
         if n == 0 && !bytes.is_empty() {
             self.failed = true;
-            return if self.failing == Failing::Idle {
+            return if matches!(self.failing, Failing::Idle) {
                 Ok(0)
             } else {
                 Err(Failed)
@@ -144,7 +144,7 @@ impl Sink for Shelf {
 
     fn flush(&mut self) -> Result<(), Failed> {
         self.flushes = self.flushes.saturating_add(1);
-        if self.failing == Failing::Flush {
+        if matches!(self.failing, Failing::Flush) {
             self.failed = true;
             Err(Failed)
         } else {

@@ -11,15 +11,6 @@ use ctt_draft::{Draft, KeepAll, replay};
 use ctt_edits::{Call, Reply};
 use ctt_text::{CourseNo, Instance, NoMemory, RoomNo, SlotNo, let_go};
 
-/// top in the third period of the first day, in room B.
-fn top() -> Cell {
-    Cell {
-        course: CourseNo::new(2),
-        slot: SlotNo::new(2),
-        room: Some(RoomNo::new(1)),
-    }
-}
-
 /// Opens a draft on a sheet.
 fn open<'i, S: Sheet<'i>>(story: &Story, sheet: &S) -> Result<Draft<'i, S, KeepAll>, NoMemory>
     ensures { IfOk result (λ draft. draft.problem ≡ S.problem sheet.now) }
@@ -176,11 +167,16 @@ fn long_draft<'i, S: Sheet<'i>>(story: &mut Story, sheet: &mut S) {
     settle(story, draft, sheet);
 }
 
-/// Places a lecture of `top`, by a change.
+/// Places top in the third period of the first day, in room B, by a change.
 fn place_top<S: Timetable>(sheet: &mut S)
     ensures { S.problem sheet.new ≡ S.problem sheet.old }
 {
-    if let Some(change) = Change::of(&[top()]) {
+    let top = Cell {
+        course: CourseNo::new(2),
+        slot: SlotNo::new(2),
+        room: Some(RoomNo::new(1)),
+    };
+    if let Some(change) = Change::of(&[top]) {
         let _is_made = replay(&[change], sheet);
     }
 }

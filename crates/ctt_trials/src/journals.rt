@@ -7,13 +7,12 @@ ghost use Rattle.ctt_core.specs.Entries.{EntryFits};
 ghost use Rattle.ctt_script.specs.Entries.{IsShort};
 
 use crate::faults::of_journal;
-use crate::sheets::lectures_fit;
 use crate::story::Story;
 use ctt_board::Sheet;
 use ctt_core::{JournalEntry, Verdict, audit};
 use ctt_edits::Reply;
 use ctt_script::{read_journal, write_journal};
-use ctt_text::{Instance, NoMemory, Placed};
+use ctt_text::{Instance, NoMemory, Placed, is_timetable};
 
 /// Whether a reply can be written.
 fn is_short_reply(reply: &Reply) -> bool
@@ -66,7 +65,7 @@ fn tell_verdict<'i, S: Sheet<'i>>(
     opening: &[Placed],
     entries: &[JournalEntry],
 ) {
-    if !lectures_fit(small, opening) || !entries_fit(small, entries) {
+    if !is_timetable(small, opening) || !entries_fit(small, entries) {
         return story.say("unfit");
     }
     match audit::<S>(story.alloc(), small, opening, entries) {

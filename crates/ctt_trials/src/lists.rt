@@ -1,4 +1,4 @@
-//! Lists that grow.
+//! Lists that grow, and places that are taken and left.
 
 use std::alloc::AllocError;
 
@@ -8,4 +8,21 @@ pub(crate) fn add<T: Drop>(list: &mut Vec<T>, one: T) -> Result<(), AllocError> 
         Ok(()) => Ok(()),
         Err(_refused) => Err(AllocError),
     }
+}
+
+/// Takes what stands in a place, if anything does.
+pub(crate) fn take_at<T: Drop>(places: &mut [Option<T>], place: usize) -> Option<T> {
+    places.get_mut(place)?.take()
+}
+
+/// Puts one into a place.
+pub(crate) fn put_at<T: Drop>(places: &mut [Option<T>], place: usize, one: T) {
+    if let Some(empty) = places.get_mut(place) {
+        *empty = Some(one);
+    }
+}
+
+/// Drops what stands in a place.
+pub(crate) fn drop_at<T: Drop>(places: &mut [Option<T>], place: usize) {
+    drop(take_at(places, place));
 }

@@ -27,25 +27,26 @@ mod journals;
 mod lists;
 mod reports;
 mod scripts;
-mod seats;
 mod shared;
 mod sheets;
 mod story;
 mod texts;
+mod transfers;
 mod turns;
 mod worked;
 
-use ctt_board::GridSheet;
+use both::{Case, Kind, play_on};
 use ctt_script::Device;
-use ctt_text::{Instance, Placed, let_go, read_instance, read_solution};
+use ctt_text::{Instance, Placed, let_go, read_instance};
 use scripts::Told;
+use shared::Script;
 use std::alloc::Global;
 use std::marker::Sync;
 use std::process::ExitCode;
 use std::sync::Wait;
 use std::thread::Threads;
 use story::Story;
-use texts::{CLASH, JOURNAL, SMALL, SOLUTION, read_both};
+use texts::{JOURNAL, Lectures, SMALL, SOLUTION, read_lectures};
 use worked::{PHANTOM, PHANTOM_ANSWERS};
 
 /// The report on the solution.
@@ -69,6 +70,12 @@ place geo A 0 1
 commit
 ";
 
+/// The scripts of crews of one, by their names.
+const CREWS: &[(&str, &str)] = &[
+    ("a crew of one", CREW),
+    ("a crew whose draft is left open", "open\nplace geo A 0 1\n"),
+];
+
 /// What a crew of this planner writes.
 const CREW_ANSWERS: &str = "planner 0
 opened
@@ -78,40 +85,22 @@ journal 1
 costs 0 15 2 0
 ";
 
-/// Lectures of which the second one clashes, as the opening of a desk.
-fn play_refused(story: &mut Story, small: &Instance, lectures: &[Placed]) {
-    played!(story, cases::by_step(story, small, lectures, PHANTOM));
-    played!(story, shared::tell_unlawful(story, small, lectures));
-    played!(
-        story,
-        journals::audit_text::<GridSheet>(story, small, lectures, JOURNAL.as_bytes())
-    );
-    played!(
-        story,
-        scripts::play_script::<GridSheet>(story, small, lectures, PHANTOM)
-    );
-}
-
-/// An opening that is refused.
-fn play_unlawful(story: &mut Story, small: &Instance) {
+/// An opening that is refused, since the second lecture clashes.
+fn play_unlawful(story: &mut Story, small: &Instance, clash: &[Placed]) {
     story.say("an unlawful opening");
-    match read_solution(story.alloc(), small, CLASH.as_bytes()) {
-        Ok(lectures) => {
-            play_refused(story, small, &lectures);
-            let_go(lectures);
-        }
-        Err(_fault) => story.no_memory(),
-    }
+    let script = Script::new(clash, PHANTOM);
+    let audit = Case::Audit(clash, JOURNAL.as_bytes());
+    play_on(story, small, Kind::Grid, &Case::Step(script));
+    play_on(story, small, Kind::Grid, &Case::Opening(clash));
+    play_on(story, small, Kind::Grid, &audit);
+    play_on(story, small, Kind::Grid, &Case::Text(script));
 }
 
 /// A journal with a reply that was not the one that was told.
 fn play_other_journal(story: &mut Story, small: &Instance, without_top: &[Placed]) {
     story.say("another reply");
     let other = b"journal 1 entry 0 1 place top A 0 1 done END.";
-    played!(
-        story,
-        journals::audit_text::<GridSheet>(story, small, without_top, other)
-    );
+    play_on(story, small, Kind::Grid, &Case::Audit(without_top, other));
 }
 
 /// All devices that fail.
@@ -120,7 +109,7 @@ fn play_devices(story: &mut Story, small: &Instance) {
         script: PHANTOM.as_bytes(),
         answers: PHANTOM_ANSWERS.as_bytes(),
     };
-    played!(story, scripts::play_devices(story, small, phantom));
+    play_on(story, small, Kind::Grid, &Case::Devices(phantom));
     let read = [
         SMALL.as_bytes(),
         SOLUTION.as_bytes(),
@@ -132,35 +121,37 @@ fn play_devices(story: &mut Story, small: &Instance) {
         b"differs 1 1\n".as_slice(),
         CREW_ANSWERS.as_bytes(),
     ];
-    played!(story, scripts::play_texts(story, &read, &written));
+    played!(story, transfers::play_texts(story, &read, &written));
 }
 
 /// A crew of one planner, whose draft is committed, or left open.
 fn play_crews<R: Threads + Wait + Sync>(story: &mut Story, rt: &R, small: &Instance) {
-    for (name, script) in [
-        ("a crew of one", CREW),
-        ("a crew whose draft is left open", "open\nplace geo A 0 1\n"),
-    ] {
+    for (name, script) in CREWS {
         played!(story, crews::play(story, rt, small, name, script));
     }
 }
 
-/// All that is played with a solution, and with the same without top.
+/// All that is played with lectures on the small instance.
 fn play_lectures<R: Threads + Wait + Sync>(
     story: &mut Story,
     rt: &R,
     small: &Instance,
-    solution: &[Placed],
-    without_top: &[Placed],
+    lectures: &Lectures,
 ) {
     story.say("reports");
-    played!(story, reports::play_reports(story, small, solution));
-    played!(story, reports::play_written(story, small, solution));
-    cases::play_sheets(story, small, solution, without_top);
+    played!(
+        story,
+        reports::play_reports(story, small, &lectures.solution)
+    );
+    played!(
+        story,
+        reports::play_written(story, small, &lectures.solution)
+    );
+    cases::play_sheets(story, small, &lectures.solution, &lectures.without_top);
     cases::play_drafts(story, small);
-    cases::play_desks(story, rt, small, without_top);
-    play_other_journal(story, small, without_top);
-    played!(story, play_unlawful(story, small));
+    cases::play_desks(story, rt, small, &lectures.without_top);
+    play_other_journal(story, small, &lectures.without_top);
+    play_unlawful(story, small, &lectures.clash);
     play_crews(story, rt, small);
     cuts::play(story, small);
     play_devices(story, small);
@@ -168,10 +159,10 @@ fn play_lectures<R: Threads + Wait + Sync>(
 
 /// All that is played on the small instance.
 fn play_small<R: Threads + Wait + Sync>(story: &mut Story, rt: &R, small: &Instance) {
-    match read_both(story.alloc(), small) {
-        Ok(both) => {
-            play_lectures(story, rt, small, &both.0, &both.1);
-            let_go(both);
+    match read_lectures(story.alloc(), small) {
+        Ok(lectures) => {
+            play_lectures(story, rt, small, &lectures);
+            let_go(lectures);
         }
         Err(_fault) => story.no_memory(),
     }

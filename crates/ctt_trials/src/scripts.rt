@@ -1,51 +1,34 @@
 //! A script that is read from a device, and its answers that are written to one; also where the devices fail.
 
 use crate::desks::tell_desk;
-use crate::devices::{Broken, Failing, Memory, Shelf};
-use crate::sheets::lectures_fit;
+use crate::devices::{Failing, Memory, Shelf};
+use crate::shared::Script;
 use crate::story::Story;
-use ctt_board::{GridSheet, Sheet};
+use ctt_board::Sheet;
 use ctt_core::Desk;
 use ctt_draft::KeepAll;
-use ctt_script::{
-    Device, Failed, InputFault, ScriptFault, Sink, put_all, put_whole, read_all, run_script,
-};
-use ctt_text::{Instance, Placed, let_go};
+use ctt_script::{ScriptFault, run_script};
+use ctt_text::{Instance, Placed, is_timetable, let_go};
 use std::alloc::AllocError;
-
-/// How many bytes an input has at most.
-const LIMIT: usize = 4_096;
 
 /// How an input is read.
 #[derive(Drop)]
-struct Reading<'a> {
-    text: &'a [u8],
+pub(crate) struct Reading<'a> {
+    pub(crate) text: &'a [u8],
     /// The number of the read that fails, counted from 1; none where it is 0.
-    fails_at: u64,
+    pub(crate) fails_at: u64,
     /// How many reads were tried.
-    pulls: u64,
+    pub(crate) pulls: u64,
 }
 
 impl<'a> Reading<'a> {
-    fn new(text: &'a [u8], fails_at: u64) -> Self {
+    pub(crate) fn new(text: &'a [u8], fails_at: u64) -> Self {
         Reading {
             text,
             fails_at,
             pulls: 0,
         }
     }
-}
-
-/// Tells what a script wrote, and what its desk has.
-fn tell_run<'i, S: Sheet<'i>>(
-    story: &mut Story,
-    small: &'i Instance,
-    opening: &[Placed],
-    shelf: &Shelf,
-    desk: &Desk<'i, S, KeepAll>,
-) {
-    story.bytes(shelf.held());
-    tell_desk(story, small, opening, desk);
 }
 
 /// Tells what a script wrote that was run, and what its desk has, or answers why it could not be run.
@@ -58,7 +41,8 @@ fn tell_ran<'i, S: Sheet<'i>>(
 ) -> Result<(), ScriptFault> {
     match ran {
         Ok(desk) => {
-            tell_run(story, small, opening, shelf, &desk);
+            story.bytes(shelf.held());
+            tell_desk(story, small, opening, &desk);
             let_go(desk);
             Ok(())
         }
@@ -74,7 +58,7 @@ fn run_once<'i, S: Sheet<'i>>(
     reading: &mut Reading,
     shelf: &mut Shelf,
 ) -> Result<(), ScriptFault> {
-    if !lectures_fit(small, opening) {
+    if !is_timetable(small, opening) {
         return Err(ScriptFault::NoMemory);
     }
     let mut reader = Memory::new(reading.text, reading.fails_at);
@@ -117,15 +101,21 @@ fn tell_fault(story: &mut Story, small: &Instance, fault: ScriptFault) {
 pub(crate) fn play_script<'i, S: Sheet<'i>>(
     story: &mut Story,
     small: &'i Instance,
-    opening: &[Placed],
-    script: &str,
+    script: &Script,
 ) {
     let Ok(mut shelf) = Shelf::new(story.alloc(), Failing::Never) else {
         return story.no_memory();
     };
-    let mut reading = Reading::new(script.as_bytes(), 0);
+    let mut reading = Reading::new(script.lines.as_bytes(), 0);
     let failing = Failing::Never;
-    if let Err(fault) = run::<S>(story, small, opening, &mut reading, &mut shelf, failing) {
+    if let Err(fault) = run::<S>(
+        story,
+        small,
+        script.opening,
+        &mut reading,
+        &mut shelf,
+        failing,
+    ) {
         tell_fault(story, small, fault);
     }
 }
@@ -138,7 +128,7 @@ pub(crate) struct Told<'a> {
 }
 
 /// Whether a writer holds so many bytes, which are the front of a text.
-fn holds(shelf: &Shelf, text: &[u8], taken: usize) -> bool {
+pub(crate) fn holds(shelf: &Shelf, text: &[u8], taken: usize) -> bool {
     shelf.held().len() == taken && text.starts_with(shelf.held())
 }
 
@@ -171,22 +161,32 @@ fn fails_to_read<'i, S: Sheet<'i>>(
 }
 
 /// Behind how many bytes a writer may fail so that the script has a failed write, and these bytes were written.
-fn failing_writes(story: &mut Story, small: &Instance, told: Told, shelf: &mut Shelf) -> u64 {
+fn failing_writes<'i, S: Sheet<'i>>(
+    story: &mut Story,
+    small: &'i Instance,
+    told: Told,
+    shelf: &mut Shelf,
+) -> u64 {
     let mut failed = 0u64;
     for taken in 0..told.answers.len() {
         let failing = Failing::Behind(taken);
-        let is_failed = fails_to_write::<GridSheet>(story, small, told, shelf, failing, taken);
+        let is_failed = fails_to_write::<S>(story, small, told, shelf, failing, taken);
         failed = failed.saturating_add(u64::from(is_failed));
     }
     failed
 }
 
 /// Behind how many bytes a reader may fail so that the script has a failed read, and nothing was written.
-fn failing_reads(story: &mut Story, small: &Instance, told: Told, shelf: &mut Shelf) -> u64 {
+fn failing_reads<'i, S: Sheet<'i>>(
+    story: &mut Story,
+    small: &'i Instance,
+    told: Told,
+    shelf: &mut Shelf,
+) -> u64 {
     let mut failed = 0u64;
     for behind in 0..=told.script.len() as u64 {
         let fails_at = behind.saturating_add(1);
-        let is_failed = fails_to_read::<GridSheet>(story, small, told, shelf, fails_at);
+        let is_failed = fails_to_read::<S>(story, small, told, shelf, fails_at);
         failed = failed.saturating_add(u64::from(is_failed));
     }
     failed
@@ -202,147 +202,47 @@ fn tell_shelf(story: &mut Story, is_failed: bool, shelf: &Shelf) {
 }
 
 /// Tells how a script ends on a writer that fails behind so many bytes.
-fn tell_failing(
+fn tell_failing<'i, S: Sheet<'i>>(
     story: &mut Story,
-    small: &Instance,
+    small: &'i Instance,
     told: Told,
     shelf: &mut Shelf,
     failing: Failing,
     taken: usize,
 ) {
-    let is_failed = fails_to_write::<GridSheet>(story, small, told, shelf, failing, taken);
+    let is_failed = fails_to_write::<S>(story, small, told, shelf, failing, taken);
     tell_shelf(story, is_failed, shelf);
 }
 
 /// A script on devices that fail.
-fn play_failing(story: &mut Story, small: &Instance, told: Told, shelf: &mut Shelf) {
-    let failed = failing_writes(story, small, told, shelf);
+fn play_failing<'i, S: Sheet<'i>>(
+    story: &mut Story,
+    small: &'i Instance,
+    told: Told,
+    shelf: &mut Shelf,
+) {
+    let failed = failing_writes::<S>(story, small, told, shelf);
     story.count("writers that fail behind some bytes", failed);
-    let failed = failing_reads(story, small, told, shelf);
+    let failed = failing_reads::<S>(story, small, told, shelf);
     story.count("readers that fail behind some bytes", failed);
     story.say("a writer that takes nothing");
-    tell_failing(story, small, told, shelf, Failing::Idle, 0);
+    tell_failing::<S>(story, small, told, shelf, Failing::Idle, 0);
     story.say("a writer whose flush fails");
-    tell_failing(
-        story,
-        small,
-        told,
-        shelf,
-        Failing::Flush,
-        told.answers.len(),
-    );
+    let whole = told.answers.len();
+    tell_failing::<S>(story, small, told, shelf, Failing::Flush, whole);
     story.say("a writer that fails behind three bytes");
     let bad = Told {
         script: b"0 commit",
         answers: b"no draft\n",
     };
-    tell_failing(story, small, bad, shelf, Failing::Behind(3), 3);
-}
-
-/// Reads a text from a device.
-fn read(story: &mut Story, reading: &mut Reading, limit: usize) -> Result<Vec<u8>, InputFault> {
-    let mut reader = Memory::new(reading.text, reading.fails_at);
-    let told = read_all(story.alloc(), &mut reader, limit);
-    reading.pulls = reader.pulls();
-    if matches!(told, Err(InputFault::NoMemory)) {
-        story.no_memory();
-    }
-    told
-}
-
-/// Behind how many bytes a reader of a text may fail so that this is a failed read, and no other one was tried.
-fn failing_reads_of(story: &mut Story, text: &[u8]) -> u64 {
-    let mut failed = 0u64;
-    for behind in 0..=text.len() as u64 {
-        let fails_at = behind.saturating_add(1);
-        let mut reading = Reading::new(text, fails_at);
-        let told = read(story, &mut reading, LIMIT);
-        if matches!(told, Err(InputFault::Read)) && reading.pulls == fails_at {
-            failed = failed.saturating_add(1);
-        }
-    }
-    failed
-}
-
-/// Whether a text has a failed write on a writer that fails, which has then taken so many of its bytes.
-fn fails_to_take(shelf: &mut Shelf, text: &[u8], failing: Failing, taken: usize) -> bool {
-    shelf.renew(failing);
-    put_whole(shelf, text) == Err(Failed) && holds(shelf, text, taken)
-}
-
-/// Behind how many bytes a writer may fail so that a text has a failed write, and these bytes were written.
-fn failing_writes_of(text: &[u8], shelf: &mut Shelf) -> u64 {
-    let mut failed = 0u64;
-    for behind in 0..text.len() {
-        let is_failed = fails_to_take(shelf, text, Failing::Behind(behind), behind);
-        failed = failed.saturating_add(u64::from(is_failed));
-    }
-    failed
-}
-
-/// Tells on how many writers that fail a text has a failed write: behind some of its bytes, where nothing is taken, and where
-/// the flush alone fails.
-fn tell_failing_writes(story: &mut Story, text: &[u8], shelf: &mut Shelf) {
-    story.count("failed writes", failing_writes_of(text, shelf));
-    let is_failed = fails_to_take(shelf, text, Failing::Idle, 0);
-    story.count("where nothing is taken", u64::from(is_failed));
-    let is_failed = fails_to_take(shelf, text, Failing::Flush, text.len());
-    story.count("where the flush fails", u64::from(is_failed));
-}
-
-/// Tells how a text is read that may have four bytes.
-fn tell_limited(story: &mut Story, text: &[u8]) {
-    let mut reading = Reading::new(text, 0);
-    match read(story, &mut reading, 4) {
-        Ok(bytes) => {
-            story.bytes(&bytes);
-            story.say("");
-        }
-        Err(InputFault::TooLong) => story.say("too long"),
-        Err(_) => story.say("not read"),
-    }
-}
-
-/// Readers and writers of std whose calls all fail.
-fn broken(story: &mut Story) {
-    let mut broken = Device::new(Broken);
-    let fault = read_all(story.alloc(), &mut broken, 4).err();
-    story.count("a failed read", u64::from(fault == Some(InputFault::Read)));
-    let mut broken = Device::new(Broken);
-    story.count(
-        "a failed write",
-        u64::from(put_all(&mut broken, b"no") == Err(Failed)),
-    );
-    let mut broken = Device::new(Broken);
-    story.count(
-        "a failed flush",
-        u64::from(Sink::flush(&mut broken) == Err(Failed)),
-    );
-}
-
-/// Texts that are read from devices that fail, and written to such.
-pub(crate) fn play_texts(story: &mut Story, read: &[&[u8]], written: &[&[u8]]) {
-    story.say("texts on devices that fail");
-    let Ok(mut shelf) = Shelf::new(story.alloc(), Failing::Never) else {
-        return story.no_memory();
-    };
-    for text in read {
-        let failed = failing_reads_of(story, text);
-        story.count("failed reads", failed);
-    }
-    for text in written {
-        tell_failing_writes(story, text, &mut shelf);
-    }
-    tell_limited(story, b"four");
-    tell_limited(story, b"fives");
-    broken(story);
+    tell_failing::<S>(story, small, bad, shelf, Failing::Behind(3), 3);
 }
 
 /// A script with its answers on devices that fail.
-pub(crate) fn play_devices(story: &mut Story, small: &Instance, told: Told) {
+pub(crate) fn play_devices<'i, S: Sheet<'i>>(story: &mut Story, small: &'i Instance, told: &Told) {
     story.say("a script on devices that fail");
     match Shelf::new(story.alloc(), Failing::Never) {
-        Ok(mut shelf) => play_failing(story, small, told, &mut shelf),
+        Ok(mut shelf) => play_failing::<S>(story, small, *told, &mut shelf),
         Err(AllocError) => story.no_memory(),
     }
 }

@@ -3,13 +3,13 @@
 ghost use Rattle.ctt_desk.specs.Names.{IsNamed};
 
 use crate::journals::tell_journal;
-use crate::seats::Seat;
-use crate::sheets::lectures_fit;
 use crate::story::Story;
-use crate::turns::{answer_lines, instance_of, leave, look_at_end, sit};
+use crate::turns::{
+    LEARNER, LEARNER_LOOKS, VIEWER, VIEWER_LOOKS, answer_lines, instance_of, leave, sit,
+};
 use ctt_board::{GridSheet, ListSheet, Sheet, Timetable};
 use ctt_desk::{Closed, Named, Naming, Opened, Planner, SharedDesk, SharedFault};
-use ctt_text::{Instance, Placed, let_go};
+use ctt_text::{Instance, Placed, is_timetable, let_go};
 use std::marker::{Brand, PhantomData};
 use std::sync::Wait;
 
@@ -34,15 +34,6 @@ impl<'a> Script<'a> {
             drops: false,
         }
     }
-
-    /// A script on an empty desk, whose first planner is dropped.
-    pub(crate) fn dropping(lines: &'a str) -> Self {
-        Script {
-            opening: &[],
-            lines,
-            drops: true,
-        }
-    }
 }
 
 /// What was told of a script that was played before: where its answers begin and end, and where what the desk left ends.
@@ -59,28 +50,35 @@ fn opened<'i, S: Sheet<'i>>(
     small: &'i Instance,
     opening: &[Placed],
 ) -> Result<Opened<S>, SharedFault> {
-    if !lectures_fit(small, opening) {
+    if !is_timetable(small, opening) {
         return Err(SharedFault::NoMemory);
     }
     Opened::<S>::new(story.alloc(), small, opening)
 }
 
-/// The planners play a script at their desk.
+/// The planners play a script at their desk. They come back from their seats.
 fn play_at<'i, S: Sheet<'i>, J: Naming, R: Wait>(
     story: &mut Story,
     rt: &R,
     desk: &SharedDesk<S, J>,
-    seats: &mut [Option<Seat<'i, S, J>>],
+    planners: Vec<Planner<S, J>>,
     script: Script,
     before: Before,
-) {
-    let Some(small) = instance_of(seats) else {
-        return story.no_memory();
+) -> Vec<Planner<S, J>> {
+    let mut planners = planners;
+    let Some(small) = instance_of(&mut planners) else {
+        story.no_memory();
+        return planners;
     };
+    let mut seats = sit(story, planners);
     let here = story.len();
-    answer_lines(story, rt, desk, small, seats, script);
+    answer_lines(story, rt, desk, small, &mut seats, script, VIEWER);
     story.compare(before.answers, before.end, here, "on a shared desk");
-    look_at_end(story, rt, desk, small, seats);
+    let looks = Script::new(&[], LEARNER_LOOKS);
+    answer_lines(story, rt, desk, small, &mut seats, looks, LEARNER);
+    let looks = Script::new(&[], VIEWER_LOOKS);
+    answer_lines(story, rt, desk, small, &mut seats, looks, VIEWER);
+    leave(story, seats)
 }
 
 /// Tells what a closed desk has.
@@ -139,9 +137,7 @@ fn play_named<'i, S: Sheet<'i>, J: Naming, R: Wait>(
 ) {
     match SharedDesk::<S, J>::new(rt, named) {
         Ok((desk, all)) => {
-            let mut seats = sit(story, all);
-            play_at(story, rt, &desk, &mut seats, script, before);
-            let mut planners = leave(story, seats);
+            let mut planners = play_at(story, rt, &desk, all, script, before);
             close(story, rt, desk, small, &mut planners, script, before);
             let_go(planners);
         }
@@ -220,9 +216,13 @@ pub(crate) fn play<R: Wait>(
     story.compare(from, to, to, "on a shared desk on the grid sheet");
 }
 
-/// Tells why a desk cannot open with some lectures.
-pub(crate) fn tell_unlawful(story: &mut Story, small: &Instance, lectures: &[Placed]) {
-    match opened::<GridSheet>(story, small, lectures) {
+/// Tells whether a desk opens with some lectures.
+pub(crate) fn tell_opening<'i, S: Sheet<'i>>(
+    story: &mut Story,
+    small: &'i Instance,
+    lectures: &[Placed],
+) {
+    match opened::<S>(story, small, lectures) {
         Ok(opened) => {
             story.say("opened");
             let_go(opened);

@@ -1,26 +1,17 @@
 //! Cases on one sheet: what is placed, asked and refused.
 
 ghost use Rattle.std.specs.Prelude.{◌≡◌, ◌↔◌, IsTrue, IfOk};
-ghost use Rattle.std.specs.List.{AllByRecursion as Each};
 ghost use Rattle.ctt_text.specs.Timetable.{Fits};
 ghost use Rattle.ctt_edits.specs.Edits.{EditFits};
 ghost use Rattle.ctt_edits.specs.Looks.{LookFits};
 
+use crate::shared::Script;
 use crate::story::Story;
 use ctt_board::{Cell, Change, Sheet};
 use ctt_core::{Event, PlannerNo, placed};
 use ctt_edits::{Call, Edit, Look, Row, check, look, reads};
 use ctt_script::{Lines, read_own_line};
-use ctt_text::{CourseNo, Instance, NoMemory, Placed, RoomNo, SlotNo};
-
-/// geo in the second period of the first day, in room A.
-fn geo() -> Placed {
-    Placed {
-        course: CourseNo::new(1),
-        slot: SlotNo::new(1),
-        room: RoomNo::new(0),
-    }
-}
+use ctt_text::{CourseNo, Instance, NoMemory, Placed, RoomNo, SlotNo, is_timetable};
 
 /// The call that a line asks for.
 pub(crate) fn call_of(small: &Instance, line: &[u8]) -> Option<Call> {
@@ -28,13 +19,6 @@ pub(crate) fn call_of(small: &Instance, line: &[u8]) -> Option<Call> {
         Some(Event::Ask(_, call)) => Some(call),
         _ => None,
     }
-}
-
-/// Whether lectures have numbers of the instance.
-pub(crate) fn lectures_fit(small: &Instance, lectures: &[Placed]) -> bool
-    ensures { IsTrue result ↔ Each (Fits small.now) lectures.now }
-{
-    lectures.iter().all(|lecture| lecture.fits(small))
 }
 
 /// Whether a lecture has numbers of the instance of a sheet.
@@ -74,7 +58,7 @@ fn sheet_of<'i, S: Sheet<'i>>(
     small: &'i Instance,
     lectures: &[Placed],
 ) -> Option<S> {
-    if !lectures_fit(small, lectures) {
+    if !is_timetable(small, lectures) {
         return None;
     }
     placed(story.alloc(), small, lectures).ok()
@@ -141,12 +125,11 @@ fn answer_lines<'i, S: Sheet<'i>>(
 pub(crate) fn play_lines<'i, S: Sheet<'i>>(
     story: &mut Story,
     small: &'i Instance,
-    opening: &[Placed],
-    lines: &str,
+    script: &Script,
 ) {
-    match sheet_of::<S>(story, small, opening) {
+    match sheet_of::<S>(story, small, script.opening) {
         Some(mut sheet) => {
-            answer_lines(story, small, &mut sheet, lines);
+            answer_lines(story, small, &mut sheet, script.lines);
             tell_sheet(story, &sheet);
         }
         None => story.no_memory(),
@@ -194,12 +177,16 @@ fn tell_copy<'i, S: Sheet<'i>>(story: &mut Story, sheet: &S, lecture: &Placed) {
     }
 }
 
-/// One placement on an empty sheet.
+/// One placement on an empty sheet: geo in the second period of the first day, in room A.
 pub(crate) fn play_placement<'i, S: Sheet<'i>>(story: &mut Story, small: &'i Instance) {
     match empty_sheet::<S>(story, small) {
         Ok(mut sheet) => {
             tell_sheet(story, &sheet);
-            let geo = geo();
+            let geo = Placed {
+                course: CourseNo::new(1),
+                slot: SlotNo::new(1),
+                room: RoomNo::new(0),
+            };
             let edit = Edit::Place(geo.course, geo.slot, geo.room);
             place(story, &mut sheet, &edit);
             tell_lecture(story, &sheet, &geo);
@@ -210,7 +197,18 @@ pub(crate) fn play_placement<'i, S: Sheet<'i>>(story: &mut Story, small: &'i Ins
 }
 
 /// Tells whether a sheet accepts the change of one cell.
-fn accepts<'i, S: Sheet<'i>>(story: &mut Story, sheet: &S, cell: Cell) {
+fn accepts<'i, S: Sheet<'i>>(
+    story: &mut Story,
+    sheet: &S,
+    course: u16,
+    slot: u16,
+    room: Option<RoomNo>,
+) {
+    let cell = Cell {
+        course: CourseNo::new(course),
+        slot: SlotNo::new(slot),
+        room,
+    };
     match Change::of(&[cell]) {
         Some(change) => story.count("accepted", u64::from(sheet.accepts(&change))),
         None => story.say("no change"),
@@ -220,14 +218,9 @@ fn accepts<'i, S: Sheet<'i>>(story: &mut Story, sheet: &S, cell: Cell) {
 /// Which changes a sheet accepts: an addition of top where the room is taken, a removal of geo, and a cell of a course that
 /// is not there.
 fn tell_accepted<'i, S: Sheet<'i>>(story: &mut Story, sheet: &S) {
-    for (course, slot, room) in [(2, 1, Some(0)), (1, 5, None), (3, 1, Some(0))] {
-        let cell = Cell {
-            course: CourseNo::new(course),
-            slot: SlotNo::new(slot),
-            room: room.map(RoomNo::new),
-        };
-        accepts(story, sheet, cell);
-    }
+    accepts(story, sheet, 2, 1, Some(RoomNo::new(0)));
+    accepts(story, sheet, 1, 5, None);
+    accepts(story, sheet, 3, 1, Some(RoomNo::new(0)));
 }
 
 /// Which changes a sheet with these lectures accepts.

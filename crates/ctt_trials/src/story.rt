@@ -22,6 +22,7 @@ pub(crate) struct Story {
     alloc: Global,
     text: Vec<u8>,
     line: String,
+    marked: usize,
     again: u64,
     is_wanting: bool,
     is_lost: bool,
@@ -63,6 +64,7 @@ impl Story {
             alloc,
             text,
             line,
+            marked: 0,
             again: 0,
             is_wanting: false,
             is_lost: false,
@@ -76,6 +78,16 @@ impl Story {
     /// How many bytes are told.
     pub(crate) fn len(&self) -> usize {
         self.text.len()
+    }
+
+    /// Marks the place up to which is told.
+    pub(crate) fn mark(&mut self) {
+        self.marked = self.text.len();
+    }
+
+    /// The place that was marked last.
+    pub(crate) fn marked(&self) -> usize {
+        self.marked
     }
 
     /// Notes that a call is made again.
@@ -147,8 +159,11 @@ impl Story {
         self.refused(instance, fault);
     }
 
-    /// Tells an answer.
+    /// Tells an answer. Want of memory is none: then the case is to be played again.
     pub(crate) fn answer(&mut self, instance: &Instance, answer: &Answer) {
+        if matches!(answer, Answer::NoMemory) {
+            return self.no_memory();
+        }
         let is_written = answer_fits(instance, answer)
             && write_answer(&mut self.line, instance, answer).is_ok();
         self.end_line(is_written);

@@ -30,21 +30,31 @@ pub(crate) const MANY_MEMBERS: &str = small!("1", "999999999", "\n");
 pub(crate) const SOLUTION: &str = "alg A 0 0\nalg B 1 0\ngeo A 0 1\ngeo A 1 2\ntop B 0 2\n";
 
 /// The solution without top.
-pub(crate) const WITHOUT_TOP: &str = "alg A 0 0\nalg B 1 0\ngeo A 0 1\ngeo A 1 2\n";
+const WITHOUT_TOP: &str = "alg A 0 0\nalg B 1 0\ngeo A 0 1\ngeo A 1 2\n";
 
 /// Two courses that clash, in one slot.
-pub(crate) const CLASH: &str = "alg A 0 0\ntop B 0 0\n";
+const CLASH: &str = "alg A 0 0\ntop B 0 0\n";
 
 /// The journal of a draft on the solution without top, in which top is refused.
 pub(crate) const JOURNAL: &str =
     "journal 1\nentry 0 1\nplace top A 0 1\nrefused roomtaken geo\nEND.\n";
 
-/// The lectures of the solution, and those without top.
-pub(crate) fn read_both(
-    alloc: Global,
-    small: &Instance,
-) -> Result<(Vec<Placed>, Vec<Placed>), SolutionFault> {
+/// The lectures of the solution, those without top, and those of which two clash.
+#[derive(Drop)]
+pub(crate) struct Lectures {
+    pub(crate) solution: Vec<Placed>,
+    pub(crate) without_top: Vec<Placed>,
+    pub(crate) clash: Vec<Placed>,
+}
+
+/// Reads these lectures.
+pub(crate) fn read_lectures(alloc: Global, small: &Instance) -> Result<Lectures, SolutionFault> {
     let solution = read_solution(alloc, small, SOLUTION.as_bytes())?;
     let without_top = read_solution(alloc, small, WITHOUT_TOP.as_bytes())?;
-    Ok((solution, without_top))
+    let clash = read_solution(alloc, small, CLASH.as_bytes())?;
+    Ok(Lectures {
+        solution,
+        without_top,
+        clash,
+    })
 }

@@ -1,34 +1,40 @@
 //! The planners of a shared desk in their seats, and what they do there by turns.
 
-ghost use Rattle.std.specs.Prelude.{◌≡◌, IfSome};
+ghost use Rattle.std.specs.Prelude.{◌≡◌, ◌↔◌, IsTrue, IfSome};
+ghost use Rattle.ctt_core.specs.Runs.{EventFits};
 
-use crate::lists::add;
-use crate::seats::{Seat, Told};
+use crate::lists::{add, drop_at, put_at, take_at};
 use crate::shared::Script;
 use crate::story::Story;
 use ctt_board::{Sheet, Timetable};
-use ctt_core::{Answer, Event, PlannerNo};
+use ctt_core::{Answer, Event};
+use ctt_crew::{Seat, Told};
 use ctt_desk::{Naming, Planner, Receipt, SharedDesk};
-use ctt_edits::{Call, Look};
-use ctt_script::{Lines, read_line};
-use ctt_text::{Instance, let_go};
+use ctt_script::{Lines, PLANNERS, read_line};
+use ctt_text::Instance;
 use std::sync::Wait;
 
 /// The place of the planner who learns each receipt.
-const LEARNER: u16 = 2;
+pub(crate) const LEARNER: u16 = 2;
+
+/// How he looks at the timetable, and at that of a draft.
+pub(crate) const LEARNER_LOOKS: &str = "show cost\n2 open\n2 cost\n2 abandon\n";
 
 /// The place of the planner who learns nothing, and looks at the timetable as it stands.
-const VIEWER: u16 = 3;
+pub(crate) const VIEWER: u16 = 3;
 
-/// The place of the planner who is asked by an event.
-fn place_of(event: &Event) -> usize {
+/// How he looks at the timetable, and at that of a draft.
+pub(crate) const VIEWER_LOOKS: &str = "show cost\n3 open\n3 cost\n3 abandon\n";
+
+/// The place of the planner who is asked by an event. One of them is asked to show the timetable.
+fn place_of(event: &Event, viewer: u16) -> usize {
     match event {
         Event::Open(planner)
         | Event::Ask(planner, _)
         | Event::Commit(planner)
         | Event::Refresh(planner)
         | Event::Abandon(planner) => usize::from(planner.get()),
-        Event::Show(_) => usize::from(VIEWER),
+        Event::Show(_) => usize::from(viewer),
     }
 }
 
@@ -46,6 +52,14 @@ pub(crate) fn sit<'i, S: Timetable, J: Naming>(
     seats
 }
 
+/// The planner of a seat. A draft of his is given up.
+fn planner_of<'i, S: Sheet<'i>, J: Naming>(seat: Seat<'i, S, J>) -> Planner<S, J> {
+    match seat {
+        Seat::Free(planner) => planner,
+        Seat::Drafting(drafting) => drafting.abandon(),
+    }
+}
+
 /// The planners leave their seats.
 pub(crate) fn leave<'i, S: Sheet<'i>, J: Naming>(
     story: &mut Story,
@@ -54,7 +68,7 @@ pub(crate) fn leave<'i, S: Sheet<'i>, J: Naming>(
     let mut planners = Vec::new(story.alloc());
     for seat in seats {
         if let Some(seat) = seat {
-            if add(&mut planners, seat.leave()).is_err() {
+            if add(&mut planners, planner_of(seat)).is_err() {
                 story.no_memory();
             }
         }
@@ -62,72 +76,87 @@ pub(crate) fn leave<'i, S: Sheet<'i>, J: Naming>(
     planners
 }
 
-/// The planner of a place leaves it.
-fn seat_at<'i, S: Timetable, J: Naming>(
-    seats: &mut [Option<Seat<'i, S, J>>],
-    place: usize,
-) -> Option<Seat<'i, S, J>> {
-    seats.get_mut(place)?.take()
-}
-
-/// A planner comes back to his place.
-fn put_back<'i, S: Timetable, J: Naming>(
-    seats: &mut [Option<Seat<'i, S, J>>],
-    place: usize,
-    seat: Seat<'i, S, J>,
-) {
-    if let Some(empty) = seats.get_mut(place) {
-        *empty = Some(seat);
-    }
-}
-
-/// One of the planners learns a receipt.
+/// One of the planners learns a receipt, if he has no draft open.
 fn learn<'i, S: Sheet<'i>, J: Naming>(seats: &mut [Option<Seat<'i, S, J>>], receipt: &Receipt<J>) {
-    let place = usize::from(LEARNER);
-    if let Some(mut seat) = seat_at(seats, place) {
-        seat.learn(receipt);
-        put_back(seats, place, seat);
+    if let Some(Some(Seat::Free(planner))) = seats.get_mut(usize::from(LEARNER)) {
+        planner.learn(receipt);
     }
 }
 
-/// A planner does what an event says, and once more where memory is wanted.
-fn turn<'i, S: Sheet<'i>, J: Naming, R: Wait>(
-    story: &mut Story,
+/// Whether an event has numbers of the instance of a desk.
+fn event_fits<J: Naming>(small: &Instance, event: &Event) -> bool
+    requires { small.now ≡ J.problem }
+    ensures { IsTrue result ↔ EventFits J.problem 64 event.now }
+{
+    event.fits(small, PLANNERS)
+}
+
+/// A planner does what an event says, and has a receipt, or is told something else.
+fn take<'i, S: Sheet<'i>, J: Naming, R: Wait>(
     rt: &R,
     desk: &SharedDesk<S, J>,
     small: &Instance,
     seat: Seat<'i, S, J>,
     event: &Event,
-) -> (Seat<'i, S, J>, Told<J>)
+) -> (Seat<'i, S, J>, Result<Receipt<J>, Told>)
     requires { small.now ≡ J.problem }
 {
-    let (seat, told) = seat.take(rt, desk, small, *event);
-    if !told.is_want() {
-        return (seat, told);
+    if matches!(event, Event::Commit(_)) {
+        return seat.commit(rt, desk);
     }
-    story.call_again();
-    let_go(told);
-    seat.take(rt, desk, small, *event)
+    if !event_fits::<J>(small, event) {
+        return (seat, Err(Told::NotYours(0)));
+    }
+    let (seat, told) = seat.take(rt, desk, *event);
+    (seat, Err(told))
 }
 
-/// Tells what a planner is answered, whose receipt is learnt where he has one.
+/// Tells what a planner is answered, whose receipt is learnt where he has one, unless memory was wanted: this is answered.
+/// A place that was refused is told as want of memory, since it comes of nothing else here.
 fn tell<'i, S: Sheet<'i>, J: Naming>(
     story: &mut Story,
     small: &Instance,
     seats: &mut [Option<Seat<'i, S, J>>],
-    told: Told<J>,
-) {
+    told: Result<Receipt<J>, Told>,
+) -> bool {
     match told {
-        Told::Answer(answer) => story.answer(small, &answer),
-        Told::Accepted(receipt) => {
+        Ok(receipt) => {
             story.answer(small, &Answer::Committed(receipt.number()));
             learn(seats, &receipt);
         }
-        Told::NotYours => story.say("not yours"),
+        Err(Told::Answer(Answer::NoMemory) | Told::NoPlace) => return true,
+        Err(Told::Answer(answer)) => story.answer(small, &answer),
+        Err(Told::NotYours(_)) => story.say("not yours"),
+    }
+    false
+}
+
+/// The planner of a place does what an event says. Answers whether memory was wanted.
+fn turn<'i, S: Sheet<'i>, J: Naming, R: Wait>(
+    story: &mut Story,
+    rt: &R,
+    desk: &SharedDesk<S, J>,
+    small: &Instance,
+    seats: &mut [Option<Seat<'i, S, J>>],
+    place: usize,
+    event: &Event,
+) -> bool
+    requires { small.now ≡ J.problem }
+{
+    match take_at(seats, place) {
+        Some(seat) => {
+            let (seat, told) = take(rt, desk, small, seat, event);
+            put_at(seats, place, seat);
+            tell(story, small, seats, told)
+        }
+        None => {
+            story.say("no planner");
+            false
+        }
     }
 }
 
-/// The planner of a place does what an event says.
+/// The planner of a place does what an event says, and once more where memory is wanted.
 fn answer<'i, S: Sheet<'i>, J: Naming, R: Wait>(
     story: &mut Story,
     rt: &R,
@@ -139,24 +168,16 @@ fn answer<'i, S: Sheet<'i>, J: Naming, R: Wait>(
 )
     requires { small.now ≡ J.problem }
 {
-    match seat_at(seats, place) {
-        Some(seat) => {
-            let (seat, told) = turn(story, rt, desk, small, seat, event);
-            put_back(seats, place, seat);
-            tell(story, small, seats, told);
+    if turn(story, rt, desk, small, seats, place, event) {
+        story.call_again();
+        if turn(story, rt, desk, small, seats, place, event) {
+            story.no_memory();
         }
-        None => story.say("no planner"),
     }
 }
 
-/// The first planner is dropped, with the draft that he may have open.
-fn drop_first<'i, S: Timetable, J: Naming>(seats: &mut [Option<Seat<'i, S, J>>]) {
-    if let Some(seat) = seat_at(seats, 0) {
-        let_go(seat);
-    }
-}
-
-/// The lines of a script.
+/// The lines of a script. The viewer is asked to show the timetable. Where the script says so the first planner is dropped,
+/// with the draft that he may have open, when another one begins.
 pub(crate) fn answer_lines<'i, S: Sheet<'i>, J: Naming, R: Wait>(
     story: &mut Story,
     rt: &R,
@@ -164,15 +185,16 @@ pub(crate) fn answer_lines<'i, S: Sheet<'i>, J: Naming, R: Wait>(
     small: &Instance,
     seats: &mut [Option<Seat<'i, S, J>>],
     script: Script,
+    viewer: u16,
 )
     requires { small.now ≡ J.problem }
 {
     for line in Lines::new(script.lines.as_bytes()) {
         match read_line(small, line) {
             Some(event) => {
-                let place = place_of(&event);
+                let place = place_of(&event, viewer);
                 if script.drops && place > 0 {
-                    drop_first(seats);
+                    drop_at(seats, 0);
                 }
                 answer(story, rt, desk, small, seats, place, &event);
             }
@@ -182,51 +204,14 @@ pub(crate) fn answer_lines<'i, S: Sheet<'i>, J: Naming, R: Wait>(
     }
 }
 
-/// A planner looks at the timetable, and in a draft that he then gives up.
-fn look_at<'i, S: Sheet<'i>, J: Naming, R: Wait>(
-    story: &mut Story,
-    rt: &R,
-    desk: &SharedDesk<S, J>,
-    small: &Instance,
-    seats: &mut [Option<Seat<'i, S, J>>],
-    place: u16,
-)
-    requires { small.now ≡ J.problem }
-{
-    let planner = PlannerNo::new(place);
-    let events = [
-        Event::Show(Look::Cost),
-        Event::Open(planner),
-        Event::Ask(planner, Call::Look(Look::Cost)),
-        Event::Abandon(planner),
-    ];
-    for event in &events {
-        answer(story, rt, desk, small, seats, usize::from(place), event);
-    }
-}
-
-/// The one who has learnt each receipt, and one who has learnt nothing, look at the timetable.
-pub(crate) fn look_at_end<'i, S: Sheet<'i>, J: Naming, R: Wait>(
-    story: &mut Story,
-    rt: &R,
-    desk: &SharedDesk<S, J>,
-    small: &Instance,
-    seats: &mut [Option<Seat<'i, S, J>>],
-)
-    requires { small.now ≡ J.problem }
-{
-    look_at(story, rt, desk, small, seats, LEARNER);
-    look_at(story, rt, desk, small, seats, VIEWER);
-}
-
-/// The instance of a desk, which a planner tells.
+/// The instance of a desk. The last planner opens a draft, which tells it, and gives it up.
 pub(crate) fn instance_of<'i, S: Sheet<'i>, J: Naming>(
-    seats: &mut [Option<Seat<'i, S, J>>],
+    planners: &mut Vec<Planner<S, J>>,
 ) -> Option<&'i Instance>
     ensures { IfSome result (λ small. small.now ≡ J.problem) }
 {
-    let place = usize::from(VIEWER);
-    let (seat, small) = seat_at(seats, place)?.instance();
-    put_back(seats, place, seat);
-    small
+    let drafting = planners.pop()?.open().ok()?;
+    let small = drafting.instance();
+    add(planners, drafting.abandon()).ok()?;
+    Some(small)
 }

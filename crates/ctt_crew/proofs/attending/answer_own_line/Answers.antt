@@ -1,7 +1,6 @@
-use Rattle.std.proofs.Common.{rules, ◌≡◌, ℕ, ◌+◌, ◌<◌, Some, None, arith, sym, subst}
+use Rattle.std.proofs.Common.{rules, ℕ, ◌+◌, ◌<◌, arith, sym, subst}
 use Rattle.std.specs.Prelude.{IfSome}
 use Rattle.ctt_core.specs.Runs.{EventFits}
-use Rattle.ctt_crew.specs.CrewText.{call_in}
 use Rattle.ctt_crew.proofs.attending.answer_own_line.Goals as goal
 
 pub take-seat-requires : goal.take-seat-requires
@@ -10,5 +9,4 @@ take-seat-requires g c κs =
     let lt : c.args.planner < c.args.planner + 1 = omega arith in
     let here : EventFits c.args.instance.now n c.in-Some.event = subst (λ o. IfSome o (EventFits c.args.instance.now n)) c.in-Some.is (c.requires.fits n lt) in
     let fits : (n : ℕ) × EventFits g.J.Naming.problem n c.in-Some.event = (n, subst (λ i. EventFits i n c.in-Some.event) (sym c.requires.same) here) in
-    let no_call : call_in (Some c.in-Some.event) ≡ None = subst (λ o. call_in o ≡ None) c.in-Some.is c.requires.no_call in
     search rules

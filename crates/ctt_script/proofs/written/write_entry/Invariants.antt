@@ -5,4 +5,4 @@ use Rattle.ctt_script.proofs.written.write_entry.Given as goal
 
 -- the calls so far
 abbrev pub invariant-loop-one : goal.invariant-loop-one
-invariant-loop-one l = string_bytes l.text ≡ string_bytes l.fn.text ++ (line (codes "entry" ∷ decimal l.entry.planner ∷ decimal (length l.entry.asked) ∷ []) ++ flat_map (asked_text l.instance) (take l.one-index l.entry.asked))
+invariant-loop-one l = string_bytes l.text ≡ string_bytes l.fn.text ++ (line (codes "entry" ∷ decimal l.fn.planner ∷ decimal (length l.asked) ∷ []) ++ flat_map (asked_text l.instance) (take l.one-index l.asked))

@@ -1,4 +1,4 @@
-use Rattle.std.proofs.Common.{inr, rules}
+use Rattle.std.proofs.Common.{inl, inr, rules, ⊎_elim}
 use Rattle.std.proofs.lemmas.Result.{IfErr-weaker, IfOk-weaker}
 use Rattle.ctt_tool.specs.Jobs.{HasScripts}
 use Rattle.ctt_tool.proofs.Known.{job_caused, job_has_scripts, kept_weaker}
@@ -6,6 +6,9 @@ use Rattle.ctt_tool.proofs.program.do_as_asked.Goals as goal
 
 pub returns-in-Ok-clause-done : goal.returns-in-Ok-clause-done
 returns-in-Ok-clause-done g c = IfOk-weaker c.do_job.result _ _ (λ outcome does. inr (c.in-Ok.ensures.taken, (c.in-Ok.job, c.in-Ok.ensures.job, does))) c.do_job.ensures.done
+
+pub returns-in-Ok-clause-quiet : goal.returns-in-Ok-clause-quiet
+returns-in-Ok-clause-quiet g c = IfOk-weaker c.do_job.result _ _ (λ outcome quiet. ⊎_elim (λ says. inl ((c.in-Ok.job, c.in-Ok.ensures.job, says.0), says.1)) inr quiet) c.do_job.ensures.quiet
 
 pub do_job-requires : goal.do_job-requires
 do_job-requires g c =

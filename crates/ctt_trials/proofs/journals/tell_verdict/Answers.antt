@@ -1,11 +1,12 @@
 use Rattle.std.proofs.Common.{rules}
 use Rattle.std.specs.List.{AllByRecursion as Each}
-use Rattle.ctt_text.specs.Timetable.{Fits}
+use Rattle.ctt_text.specs.Timetable.{Fits, IsTimetable}
 use Rattle.ctt_core.specs.Entries.{EntryFits}
 use Rattle.ctt_trials.proofs.journals.tell_verdict.Goals as goal
 
 pub audit-requires : goal.audit-requires
 audit-requires g c κs =
-    let lectures : Each (Fits c.args.small.now) c.args.opening.now = search rules in
+    let timetable : IsTimetable c.args.small.now c.args.opening.now = search rules in
+    let lectures : Each (Fits c.args.small.now) c.args.opening.now = timetable.fits in
     let entries : Each (EntryFits c.args.small.now) c.args.entries.now = search rules in
     search rules

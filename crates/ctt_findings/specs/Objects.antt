@@ -1,0 +1,44 @@
+-- Findings as JSON objects.
+use Rattle.std.specs.Prelude.{ℕ, Bool, true, List, [], ◌∷◌, ◌++◌}
+use Rattle.serde_json.specs.Data.{Data, Items, Members, array, item, no_items, no_members, number as amount, object, put, string, unsigned}
+use Rattle.serde_json.specs.Written.{comma_if, compact_text}
+use Rattle.ctt_text.specs.Problem.{Problem}
+use Rattle.ctt_text.specs.declared.placed.Placed.{Placed}
+use Rattle.ctt_findings.specs.Findings.{findings}
+use Rattle.ctt_findings.specs.Lines.{Fact, Told, course, day, facts, kind, number, period, room, word}
+use Rattle.ctt_findings.specs.declared.finding.Finding.{Finding}
+
+-- what is told, as a value
+abbrev pub value_of : Told → Data
+value_of (word w) = string w
+value_of (number n) = amount (unsigned n)
+
+-- members, with facts added, each by its key; the keys ascend
+abbrev pub with_facts : List Fact → Members → Members
+with_facts [] ms = ms
+with_facts (f ∷ fs) ms = with_facts fs (put f.key (value_of f.value) ms)
+
+-- a kind, and the course, room, day and period of a lecture: the first facts of several kinds
+abbrev pub placed_facts : Problem → List ℕ → Placed → List Fact
+placed_facts i name l = kind name ∷ course i l.course ∷ room i l.room ∷ day i l.slot ∷ period i l.slot ∷ []
+
+-- the object of a finding
+abbrev pub object_of : Problem → Finding → Data
+object_of i f = object (with_facts (facts i f) no_members)
+
+-- the objects of findings, and of all findings of a timetable
+abbrev pub objects_of : Problem → List Finding → Items
+objects_of i [] = no_items
+objects_of i (f ∷ fs) = item (object_of i f) (objects_of i fs)
+
+abbrev pub all_objects : Problem → List Placed → Data
+all_objects i t = array (objects_of i (findings i t))
+
+-- the text of an object among others, with a comma before it, unless it is the first
+abbrev pub item_text : Problem → Bool → Finding → List ℕ
+item_text i later f = comma_if later ++ compact_text (object_of i f)
+
+-- the texts of objects, one behind another; `later` says whether one stands before them
+abbrev pub item_texts : Problem → Bool → List Finding → List ℕ
+item_texts i later [] = []
+item_texts i later (f ∷ fs) = item_text i later f ++ item_texts i true fs

@@ -1,0 +1,11 @@
+mod AnswerLemmas
+mod CutLemmas
+mod LeaveLemmas
+mod LineLemmas
+mod NextLemmas
+mod PagesLemmas
+mod PartLemmas
+mod PassLemmas
+mod RecoveryLemmas
+mod SharingLemmas
+mod SittingLemmas

@@ -1,0 +1,33 @@
+-- Minutes that grow by an entry.
+use Rattle.std.proofs.Common.{◌≡◌, ◌∙◌, ◌+◌, ◌++◌, ◌∷◌, [], ℕ, List, Option, length, drop, flat_map, refl, sym, ap, subst, arith, append-nil}
+use Rattle.std.proofs.KnownBytes.{Appends-trans}
+use Rattle.std.proofs.lemmas.List.{length-append}
+use Rattle.std.proofs.lemmas.List.Concat.{flat_map-append}
+use Rattle.std.specs.Io.KnownBytes.{Appends}
+use mathlib.Core.List.{IsPrefix}
+use Rattle.ctt_text.specs.Problem.{Problem}
+use Rattle.ctt_core.specs.declared.journal.JournalEntry.{JournalEntry}
+use Rattle.ctt_script.specs.WrittenText.{entry_text}
+use Rattle.ctt_office.specs.Pages.{AreMinutesOf, EndsWith}
+
+behind : {X : Type 0} (xs ys : List X) → drop (length xs) (xs ++ ys) ≡ ys
+behind [] ys = refl
+behind (x ∷ xs) ys = behind xs ys
+
+-- a history that is one entry longer than one with which it begins is that one with its last entry
+one_more : (before more front : List JournalEntry) (last : JournalEntry) → before ++ more ≡ front ++ last ∷ [] → length before ≡ length front → before ++ last ∷ [] ≡ before ++ more
+one_more before more front last same long =
+    ap (λ xs. before ++ xs) (sym (behind front (last ∷ [])) ∙ ap (λ n. drop n (front ++ last ∷ [])) (sym long) ∙ ap (drop (length before)) (sym same) ∙ behind before more)
+
+pub minutes_grow : (i : Problem) (start old new : Option (List ℕ)) (before history : List JournalEntry) (entry : List ℕ)
+    → AreMinutesOf i before start old → Appends old new entry → IsPrefix before history → length history ≡ length before + 1 → EndsWith i history entry → AreMinutesOf i history start new
+minutes_grow i start old new before history entry minutes adds prefix long ends =
+    let front = ends.0 in
+    let last = ends.1 in
+    let same : before ++ prefix.0 ≡ front ++ last ∷ [] = prefix.1 ∙ ends.2 in
+    let many = length-append front (last ∷ []) in
+    let size : length before ≡ length front = (let whole : length history ≡ length (front ++ last ∷ []) = ap length ends.2 in omega (arith, whole, many, long)) in
+    let is : before ++ last ∷ [] ≡ history = one_more before prefix.0 front last same size ∙ prefix.1 in
+    let text : flat_map (entry_text i) before ++ entry ≡ flat_map (entry_text i) (before ++ last ∷ []) =
+    ap (λ e. flat_map (entry_text i) before ++ e) (ends.3 ∙ sym (append-nil (entry_text i last))) ∙ sym (flat_map-append (entry_text i) before (last ∷ [])) in
+    subst (λ h. Appends start new (flat_map (entry_text i) h)) is (subst (Appends start new) text (Appends-trans start old new (flat_map (entry_text i) before) entry minutes adds))

@@ -1,0 +1,125 @@
+-- A planner at a seat, line by line.
+use Rattle.std.proofs.Common.{◌≡◌, ◌≢◌, ◌∙◌, ◌⊎◌, inl, inr, Bool, true, ℕ, List, [], ◌∷◌, ◌++◌, Option, Some, None, refl, sym, ap, subst, append_assoc, append-nil}
+use Rattle.std.proofs.KnownBytes.{Appends-nil, Appends-trans}
+use Rattle.std.specs.Io.KnownBytes.{IsAtEnd}
+use Rattle.ctt_office.specs.Lines.{Gives, IsFirstLine}
+use Rattle.ctt_office.specs.SeatAnswers.{Tells}
+use Rattle.ctt_office.specs.Sittings.{AreAnswered, EndsAt, GoOn, IsBroken, IsSat, IsSitting}
+use Rattle.ctt_office.specs.declared.seat_line.SeatLine.{SeatLine}
+use Rattle.ctt_office.specs.declared.seat_line.SeatLine.TheVariants.{Leave}
+use Rattle.ctt_office.specs.declared.sitting.Ending.{Ending}
+use Rattle.ctt_office.specs.declared.sitting.Ending.TheVariants.{Broken, Ended, Left, NoMemory}
+
+module _ {T : Type 0} (asked : List ℕ → SeatLine) (Is : SeatLine → T → T → List ℕ → Type 0) where
+  -- one line more is answered
+  more_answered : (bytes : List ℕ) (first seat : T) (lines : List (List ℕ)) (answers rest line after answer : List ℕ) (next : T) → AreAnswered asked Is bytes first lines answers rest seat → IsFirstLine line after rest
+      → Is (asked line) seat next answer → AreAnswered asked Is bytes first (lines ++ line ∷ []) (answers ++ answer) after next
+  more_answered bytes first seat [] answers rest line after answer next are cut is = (
+    after,
+    next,
+    answer,
+    [],
+    subst (λ b. IsFirstLine line after b) are.1 cut,
+    subst (λ s. Is (asked line) s next answer) are.2 is,
+    ap (λ a. a ++ answer) are.0 ∙ sym (append-nil answer),
+    (refl, refl, refl),
+  )
+  more_answered bytes first seat (l ∷ lines) answers rest line after answer next are cut is = (
+    are.0,
+    are.1,
+    are.2,
+    are.3 ++ answer,
+    are.4,
+    are.5,
+    ap (λ a. a ++ answer) are.6 ∙ append_assoc are.2 are.3 answer,
+    more_answered are.0 are.1 seat lines are.3 rest line after answer next are.7 cut is,
+  )
+
+  one_more_goes_on : (lines : List (List ℕ)) (line : List ℕ) → GoOn asked lines → asked line ≢ Leave → GoOn asked (lines ++ line ∷ [])
+  one_more_goes_on [] line are goes = (goes, tt)
+  one_more_goes_on (l ∷ lines) line are goes = (are.0, one_more_goes_on lines line are.1 goes)
+
+  -- at first no line is answered
+  pub sits_down : (before : T) (left out still : Option (List ℕ)) → still ≡ left → IsSitting asked Is before left out out still before
+  sits_down before None out still same = record { answers = []; told = Appends-nil out; served = tt }
+  sits_down before (Some bytes) out still same = record { answers = []; told = Appends-nil out; served = ([], bytes, same, (refl, refl, refl), tt) }
+
+  -- a line that was known to come
+  given : (line : SeatLine) (rest : List ℕ) (old new : Option (List ℕ)) → old ≡ Some rest → Gives (λ bytes. line ≡ asked bytes) old new
+      → (bytes : List ℕ) × (after : List ℕ) × (new ≡ Some after) × (line ≡ asked bytes) × IsFirstLine bytes after rest
+  given line rest None new same gives = cc
+  given line rest (Some all) None same gives = absurd gives
+  given line rest (Some all) (Some after) same gives =
+      let here : all ≡ rest = cc in
+      (gives.0, after, refl, gives.1, subst (IsFirstLine gives.0 after) here gives.2)
+
+  -- a line by which he does not leave is answered, and he goes on
+  pub sits_on : (before seat next : T) (left old mid new still later : Option (List ℕ)) (line : SeatLine) → IsSitting asked Is before left old mid still seat → Gives (λ bytes. line ≡ asked bytes) still later
+      → Tells (Is line seat next) mid new → line ≢ Leave → IsSitting asked Is before left old new later next
+  sits_on before seat next None old mid new still later line sits gives tells goes =
+      record { answers = sits.answers ++ tells.0; told = Appends-trans old mid new sits.answers tells.0 sits.told tells.2; served = tt }
+  sits_on before seat next (Some bytes) old mid new still later line sits gives tells goes =
+      let so_far = sits.served in
+      let got = given line so_far.1 still later so_far.2 gives in
+      record {
+        answers = sits.answers ++ tells.0;
+        told = Appends-trans old mid new sits.answers tells.0 sits.told tells.2;
+        served = (
+          so_far.0 ++ got.0 ∷ [],
+          got.1,
+          got.2,
+          more_answered bytes before seat so_far.0 sits.answers so_far.1 got.0 got.1 tells.0 next so_far.3 got.4 (subst (λ l. Is l seat next tells.0) got.3 tells.1),
+          one_more_goes_on so_far.0 got.0 so_far.4 (λ leaves. goes (got.3 ∙ leaves)),
+        );
+      }
+
+  -- a line by which he leaves is answered, and he has left
+  pub leaves_by : (before seat next : T) (left old mid new still later : Option (List ℕ)) (line : SeatLine) → IsSitting asked Is before left old mid still seat → Gives (λ bytes. line ≡ asked bytes) still later
+      → Tells (Is line seat next) mid new → line ≡ Leave → IsSat asked Is before left old new Left
+  leaves_by before seat next None old mid new still later line sits gives tells leaves =
+      record { answers = sits.answers ++ tells.0; told = Appends-trans old mid new sits.answers tells.0 sits.told tells.2; served = tt }
+  leaves_by before seat next (Some bytes) old mid new still later line sits gives tells leaves =
+      let so_far = sits.served in
+      let got = given line so_far.1 still later so_far.2 gives in
+      record {
+        answers = sits.answers ++ tells.0;
+        told = Appends-trans old mid new sits.answers tells.0 sits.told tells.2;
+        served = (
+          so_far.0 ++ got.0 ∷ [],
+          got.1,
+          next,
+          more_answered bytes before seat so_far.0 sits.answers so_far.1 got.0 got.1 tells.0 next so_far.3 got.4 (subst (λ l. Is l seat next tells.0) got.3 tells.1),
+          (so_far.0, got.0, refl, so_far.4, sym got.3 ∙ leaves),
+        );
+      }
+
+  at_end : (rest : List ℕ) (still : Option (List ℕ)) → still ≡ Some rest → IsAtEnd still → rest ≡ []
+  at_end rest None same end = cc
+  at_end rest (Some all) same end = (let here : all ≡ rest = cc in sym here ∙ end)
+
+  ended : (before seat : T) (left old now still : Option (List ℕ)) → IsSitting asked Is before left old now still seat → IsAtEnd still → IsSat asked Is before left old now Ended
+  ended before seat None old now still sits end = record { answers = sits.answers; told = sits.told; served = tt }
+  ended before seat (Some bytes) old now still sits end =
+      let so_far = sits.served in
+      record { answers = sits.answers; told = sits.told; served = (so_far.0, so_far.1, seat, so_far.3, (so_far.4, at_end so_far.1 still so_far.2 end)) }
+
+  -- no line comes any more
+  pub ends_by : (before seat : T) (left old now still : Option (List ℕ)) (failed : Bool) (why : Ending) → IsSitting asked Is before left old now still seat → EndsAt still failed why → IsSat asked Is before left old now why
+  ends_by before seat left old now still failed Left sits end = absurd end
+  ends_by before seat left old now still failed Ended sits end = ended before seat left old now still sits end
+  ends_by before seat left old now still failed Broken sits end = tt
+  ends_by before seat left old now still failed NoMemory sits end = tt
+
+  -- an answer could not be written
+  pub breaks_off : (before : T) (left old now : Option (List ℕ)) (failed : Bool) (why : Ending) → IsBroken failed why → IsSat asked Is before left old now why
+  breaks_off before left old now failed Left is = absurd is
+  breaks_off before left old now failed Ended is = absurd is
+  breaks_off before left old now failed Broken is = tt
+  breaks_off before left old now failed NoMemory is = tt
+
+-- where a device is the cause it has failed
+pub read_failed : (known : Option (List ℕ)) (failed : Bool) (why : Ending) (Q : Type 0) → EndsAt known failed why → why ≡ Broken → (failed ≡ true) ⊎ Q
+read_failed known failed why Q end same = inl (subst (EndsAt known failed) same end)
+
+pub write_failed : (failed : Bool) (why : Ending) (P : Type 0) → IsBroken failed why → why ≡ Broken → P ⊎ (failed ≡ true)
+write_failed failed why P is same = inr (subst (IsBroken failed) same is)

@@ -1,0 +1,23 @@
+use Rattle.std.proofs.Common.{rules}
+use Rattle.std.proofs.Crossing.{crosses}
+use denote.Param.Send.{sendable}
+use Rattle.ctt_office.proofs.SharingLemmas.{instance_shared}
+use Rattle.ctt_office.proofs.sitting.sit_on_grid.Goals as goal
+
+pub open_and_sit-requires : goal.open_and_sit-requires
+open_and_sit-requires g c κs = (
+  search (instance_shared, sendable, crosses) depth 60 fits 20000,
+  (
+    search (sendable, crosses) depth 60 fits 20000,
+    (
+      search (sendable, crosses) depth 60 fits 20000,
+      (
+        search (instance_shared, sendable, crosses) depth 60 fits 20000,
+        (
+          search (sendable, crosses) depth 60 fits 20000,
+          (search (sendable, crosses) depth 60 fits 20000, search rules),
+        ),
+      ),
+    ),
+  ),
+)

@@ -1,0 +1,53 @@
+-- The lines of bytes that come little by little.
+use Rattle.std.specs.Prelude.{ℕ, ◌≡◌, ◌⊎◌, ◌<◌, ◌≤◌, ◌==◌, Bool, false, List, [], ◌∷◌, ◌++◌, length, Option, Some, None, ⊤}
+use Rattle.std.specs.List.{AllByRecursion as Each}
+use Rattle.std.specs.Io.KnownBytes.{IsAtEnd, prepend_known}
+use Rattle.ctt_office.specs.declared.line_reader.Next.{Next}
+use Rattle.ctt_office.specs.declared.line_reader.Next.TheVariants.{End, Line, TooLong}
+
+-- none of the bytes ends a line
+abbrev pub IsOpen : List ℕ → Type 0
+IsOpen bytes = Each (λ b. (b == 10) ≡ false) bytes
+
+-- the bytes begin with this line, and this is the rest behind it: byte 10 ends the line, or it has some bytes, and with them all end
+abbrev pub IsFirstLine : List ℕ → List ℕ → List ℕ → Type 0
+IsFirstLine line rest bytes = IsOpen line × ((bytes ≡ line ++ 10 ∷ rest) ⊎ ((bytes ≡ line) × (rest ≡ []) × (0 < length line)))
+
+-- the bytes are this line, byte 10 and this rest
+abbrev pub IsCut : List ℕ → List ℕ → List ℕ → Type 0
+IsCut line rest bytes = IsOpen line × (bytes ≡ line ++ 10 ∷ rest)
+
+-- a reader of lines by its value: the present line, the bytes behind it that were read, those that are left to be read, how often it was read from, and whether a read has failed
+pub record ReaderValue : Type 0 where
+  pub line : List ℕ
+  pub held : List ℕ
+  pub left : Option (List ℕ)
+  pub pulls : ℕ
+  pub has_failed : Bool
+
+-- the bytes that lines are still to be made of, where they are known
+abbrev pub coming : ReaderValue → Option (List ℕ)
+coming r = prepend_known r.held r.left
+
+-- known bytes begin with such a line, and lose it
+abbrev pub Gives : (List ℕ → Type 0) → Option (List ℕ) → Option (List ℕ) → Type 0
+Gives P None new = ⊤
+Gives P (Some bytes) None = ⊥
+Gives P (Some bytes) (Some rest) = (line : List ℕ) × P line × IsFirstLine line rest bytes
+
+-- the longest line that is kept has so many bytes
+abbrev pub IsShort : List ℕ → Type 0
+IsShort line = length line ≤ 65536
+
+abbrev pub IsLong : List ℕ → Type 0
+IsLong line = 65536 < length line
+
+-- what is given next: the present line, which is short; or nothing of one that is long; or nothing, where no byte is left
+abbrev pub GivesNext : Next → ReaderValue → ReaderValue → Type 0
+GivesNext Line old new = Gives (λ line. (new.line ≡ line) × IsShort line) (coming old) (coming new)
+GivesNext TooLong old new = (new.line ≡ []) × Gives IsLong (coming old) (coming new)
+GivesNext End old new = IsAtEnd (coming old)
+
+-- a line is at hand
+abbrev pub HasLine : List ℕ → Type 0
+HasLine held = ¬ IsOpen held

@@ -1,0 +1,29 @@
+-- Why a desk is not kept to its end.
+use Rattle.std.specs.Prelude.{ℕ, ◌<◌}
+use Rattle.ctt_desk.specs.declared.shared_fault.SharedFault.{SharedFault}
+use Rattle.ctt_desk.specs.declared.shared_fault.SharedFault.TheVariants as shared
+use Rattle.ctt_office.specs.declared.office_fault.OfficeFault.{OfficeFault}
+use Rattle.ctt_office.specs.declared.office_fault.OfficeFault.TheVariants.{CannotRead, CannotWrite, NoMemory, NoPlace, NoThread, NotWritten}
+use Rattle.ctt_office.specs.declared.office_fault.SeatFault.{SeatFault}
+use Rattle.ctt_office.specs.declared.office_fault.SeatFault.TheVariants as seat
+
+-- a fault of a desk with so many seats: of one of them the lines cannot be read
+abbrev pub IsOfficeFault : ℕ → OfficeFault → Type 0
+IsOfficeFault seats (CannotRead place) = place < seats
+IsOfficeFault seats NoPlace = Unit {0}
+IsOfficeFault seats NoThread = Unit {0}
+IsOfficeFault seats CannotWrite = Unit {0}
+IsOfficeFault seats NotWritten = Unit {0}
+IsOfficeFault seats NoMemory = Unit {0}
+
+-- the fault of an opening that stands, which wants memory or a place
+abbrev pub of_shared : SharedFault → OfficeFault
+of_shared (shared.Unlawful at fault) = NoMemory
+of_shared shared.NoPlace = NoPlace
+of_shared shared.NoMemory = NoMemory
+
+-- the fault of the seat at this place
+abbrev pub at_seat : ℕ → SeatFault → OfficeFault
+at_seat place seat.CannotRead = CannotRead place
+at_seat place seat.CannotWrite = CannotWrite
+at_seat place seat.NoMemory = NoMemory

@@ -1,0 +1,77 @@
+-- The whole entries at the beginning of minutes.
+use Rattle.std.specs.Prelude.{ℕ, ◌≡◌, ◌⊎◌, ◌||◌, Bool, true, false, List, [], ◌∷◌, ◌++◌, Result, Ok, Err}
+use Rattle.std.specs.Str.{IsUtf8}
+use Rattle.std.specs.Str.Lossy.{utf8_valid_len}
+use Rattle.ctt_text.specs.Left.{Left}
+use Rattle.ctt_text.specs.Problem.{Problem}
+use Rattle.ctt_text.specs.Reading.{reading}
+use Rattle.ctt_text.specs.Words.{words}
+use Rattle.ctt_core.specs.declared.journal.JournalEntry.{JournalEntry}
+use Rattle.ctt_script.specs.JournalPlaces.{entry_form}
+use Rattle.ctt_script.specs.JournalWords.{missing}
+use Rattle.ctt_script.specs.declared.journal_fault.JournalFault.{JournalFault}
+use Rattle.ctt_script.specs.declared.journal_fault.JournalFault.TheVariants.{BadWord, Missing, NoMemory, NotText}
+use Rattle.ctt_office.specs.Blocks.{AreBlocks}
+use Rattle.ctt_office.specs.Lines.{IsOpen}
+
+-- the bytes are whole lines
+abbrev pub EndsLine : List ℕ → Type 0
+EndsLine bytes = (bytes ≡ []) ⊎ ((front : List ℕ) × (bytes ≡ front ++ 10 ∷ []))
+
+-- these entries are read one behind another, and then this is left
+abbrev pub AreEntries : Problem → Left → List JournalEntry → Left → Type 0
+AreEntries i left entries rest = AreBlocks missing (entry_form i) left entries rest
+
+-- no word is left
+abbrev pub IsEnd : Left → Type 0
+IsEnd rest = rest.words ≡ []
+
+-- an entry begins that lacks a word
+abbrev pub LacksWord : Problem → Left → Type 0
+LacksWord i rest = (k : ℕ) × (reading missing (entry_form i) rest ≡ Err (Missing k))
+
+-- what comes behind the entries: nothing, or an entry that lacks a word, and whether it is that
+abbrev pub Stops : Problem → Left → Bool → Type 0
+Stops i rest false = IsEnd rest
+Stops i rest true = LacksWord i rest
+
+-- the fault of the entry that begins there: a word that cannot stand in its place; wanted memory has no cause
+abbrev pub IsEntryFault : Problem → Left → JournalFault → Type 0
+IsEntryFault i rest (BadWord k) = reading missing (entry_form i) rest ≡ Err (BadWord k)
+IsEntryFault i rest NoMemory = Unit {0}
+IsEntryFault i rest (Missing k) = ⊥
+IsEntryFault i rest (NotText byte) = ⊥
+
+-- the entries were read as far as they are whole, or up to a fault
+abbrev pub IsReadWhole : Problem → Left → Result Bool JournalFault → List JournalEntry → Type 0
+IsReadWhole i left (Ok lacks) entries = (rest : Left) × AreEntries i left entries rest × Stops i rest lacks
+IsReadWhole i left (Err fault) entries = (rest : Left) × AreEntries i left entries rest × IsEntryFault i rest fault
+
+abbrev pub has_byte : List ℕ → Bool
+has_byte [] = false
+has_byte (b ∷ bs) = true
+
+-- of whole lines these entries are read, and behind them nothing stands, or an entry that lacks a word
+pub record IsReadOf (i : Problem) (lines : List ℕ) (entries : List JournalEntry) (lacks : Bool) : Type 0 where
+  pub rest : Left
+  pub reads_them : AreEntries i (record { words = words lines; next = 1 }) entries rest
+  pub stops : Stops i rest lacks
+
+-- the text has whole lines, which begin with these entries; behind them stands nothing, or an entry that lacks a word, and behind the lines one without an end
+pub record IsRecovered (i : Problem) (text : List ℕ) (entries : List JournalEntry) (torn : Bool) : Type 0 where
+  pub lines : List ℕ
+  pub tail : List ℕ
+  pub all : text ≡ lines ++ tail
+  pub ends : EndsLine lines
+  pub unended : IsOpen tail
+  pub lacks : Bool
+  pub reads_them : IsReadOf i lines entries lacks
+  pub torn_is : torn ≡ lacks || has_byte tail
+
+-- the cause of a fault in whole lines that are text: the entry behind those that are whole has it
+abbrev pub IsLinesFault : Problem → List ℕ → JournalFault → Type 0
+IsLinesFault i lines fault = (entries : List JournalEntry) × (rest : Left) × AreEntries i (record { words = words lines; next = 1 }) entries rest × IsEntryFault i rest fault
+
+-- the cause of a fault in minutes: the whole lines at their beginning are no text, or have it
+abbrev pub IsMinutesFault : Problem → List ℕ → JournalFault → Type 0
+IsMinutesFault i text fault = (lines tail : List ℕ) × (text ≡ lines ++ tail) × EndsLine lines × IsOpen tail × ((¬ IsUtf8 lines × (fault ≡ NotText (utf8_valid_len lines))) ⊎ IsLinesFault i lines fault)

@@ -1,0 +1,78 @@
+-- What a planner at a seat is answered, and how that leaves him.
+use Rattle.std.specs.Prelude.{ℕ, ◌≡◌, ◌⊎◌, List, [], ◌∷◌, ◌++◌, codes, Option, Some, None, Result, Ok, Err}
+use Rattle.std.specs.Io.KnownBytes.{Appends}
+use Rattle.ctt_text.specs.Problem.{Problem}
+use Rattle.ctt_text.specs.declared.placed.Placed.{Placed}
+use Rattle.ctt_core.specs.declared.answer.Answer.TheVariants.{NoMemory}
+use Rattle.ctt_core.specs.declared.event.Event.{Event}
+use Rattle.ctt_core.specs.declared.event.Event.TheVariants.{Abandon, Ask, Commit, Open, Refresh, Show}
+use Rattle.ctt_core.specs.declared.journal.JournalEntry.{JournalEntry}
+use Rattle.ctt_script.specs.AnswerText.{bad_line}
+use Rattle.ctt_crew.specs.CrewText.{told_words}
+use Rattle.ctt_crew.specs.Seats.{Commits, Takes, told_of}
+use Rattle.ctt_script.specs.WrittenText.{line}
+use Rattle.ctt_crew.specs.declared.seat.Seat.{Seat}
+use Rattle.ctt_crew.specs.declared.seat.Told.{Told}
+use Rattle.ctt_crew.specs.declared.seat.Told.TheVariants.{Answer as Answered}
+use Rattle.ctt_office.specs.declared.seat_line.SeatLine.{SeatLine}
+use Rattle.ctt_office.specs.declared.seat_line.SeatLine.TheVariants.{Bad, Blank, Leave, Step}
+
+-- the line of what a planner is told
+abbrev pub told_line : Problem → Told → List ℕ
+told_line i told = line (told_words i told)
+
+-- a draft that is not in the minutes
+abbrev pub not_written : List ℕ
+not_written = line (codes "not" ∷ codes "written" ∷ [])
+
+-- the line by which a planner is let go
+abbrev pub left_line : List ℕ
+left_line = line (codes "left" ∷ [])
+
+-- where a book is kept this holds of the history
+abbrev pub IfBook : {B H : Type 0} → Option B → (H → Type 0) → H → Type 0
+IfBook None IsKept history = Unit {0}
+IfBook (Some book) IsKept history = IsKept history
+
+-- a commit that came to this is answered: an accepted draft by its number only where it is kept, or else as not written; a refused one by why
+abbrev pub IsOutcomeAnswer : (List JournalEntry → Type 0) → Problem → Result (List JournalEntry) Told → List ℕ → Type 0
+IsOutcomeAnswer IsKept i (Ok history) answer = (IsKept history × (answer ≡ told_line i (told_of (Ok history)))) ⊎ (answer ≡ not_written)
+IsOutcomeAnswer IsKept i (Err told) answer = answer ≡ told_line i told
+
+-- no commit was tried: nothing is written any more, or memory is wanted
+abbrev pub IsUntriedAnswer : Problem → List ℕ → Type 0
+IsUntriedAnswer i answer = (answer ≡ not_written) ⊎ (answer ≡ told_line i (Answered NoMemory))
+
+-- a commit is tried and answered, or not tried
+abbrev pub IsCommitAnswer : {X Y : Type 0} → (List JournalEntry → Type 0) → Problem → List Placed → Seat X Y → Seat X Y → List ℕ → Type 0
+IsCommitAnswer IsKept i t0 before after answer =
+    ((outcome : Result (List JournalEntry) Told) × Commits i t0 before after outcome × IsOutcomeAnswer IsKept i outcome answer)
+    ⊎ ((after ≡ before) × IsUntriedAnswer i answer)
+
+-- a step is done, and answered as in a crew
+abbrev pub IsCrewAnswer : {X Y : Type 0} → Problem → List Placed → Event → Seat X Y → Seat X Y → List ℕ → Type 0
+IsCrewAnswer i t0 event before after answer = (told : Told) × Takes i t0 event before after told × (answer ≡ told_line i told)
+
+-- a step is answered: all but commits as in a crew
+abbrev pub IsStepAnswer : {X Y : Type 0} → (List JournalEntry → Type 0) → Problem → List Placed → Event → Seat X Y → Seat X Y → List ℕ → Type 0
+IsStepAnswer IsKept i t0 (Open p) before after answer = IsCrewAnswer i t0 (Open p) before after answer
+IsStepAnswer IsKept i t0 (Ask p call) before after answer = IsCrewAnswer i t0 (Ask p call) before after answer
+IsStepAnswer IsKept i t0 (Commit p) before after answer = IsCommitAnswer IsKept i t0 before after answer
+IsStepAnswer IsKept i t0 (Refresh p) before after answer = IsCrewAnswer i t0 (Refresh p) before after answer
+IsStepAnswer IsKept i t0 (Abandon p) before after answer = IsCrewAnswer i t0 (Abandon p) before after answer
+IsStepAnswer IsKept i t0 (Show look) before after answer = IsCrewAnswer i t0 (Show look) before after answer
+
+-- a line is answered: by one line where it has words
+abbrev pub IsAnswer : {X Y : Type 0} → (List JournalEntry → Type 0) → Problem → List Placed → SeatLine → Seat X Y → Seat X Y → List ℕ → Type 0
+IsAnswer IsKept i t0 Blank before after answer = (after ≡ before) × (answer ≡ [])
+IsAnswer IsKept i t0 Leave before after answer = (after ≡ before) × (answer ≡ left_line)
+IsAnswer IsKept i t0 Bad before after answer = (after ≡ before) × (answer ≡ bad_line)
+IsAnswer IsKept i t0 (Step event) before after answer = IsStepAnswer IsKept i t0 event before after answer
+
+-- a text grows by such an answer
+abbrev pub Adds : (List ℕ → Type 0) → List ℕ → List ℕ → Type 0
+Adds P old new = (answer : List ℕ) × P answer × (new ≡ old ++ answer)
+
+-- known bytes grow by such an answer
+abbrev pub Tells : (List ℕ → Type 0) → Option (List ℕ) → Option (List ℕ) → Type 0
+Tells P old new = (answer : List ℕ) × P answer × Appends old new answer

@@ -1,0 +1,59 @@
+-- A planner at a seat: which lines are answered, and how he ends.
+use Rattle.std.specs.Prelude.{ℕ, ◌≡◌, ◌≢◌, Bool, true, List, [], ◌∷◌, ◌++◌, Option, Some, IfSome}
+use Rattle.std.specs.List.{AllByRecursion as Each}
+use Rattle.std.specs.Io.KnownBytes.{Appends, IsAtEnd}
+use Rattle.ctt_office.specs.Lines.{IsFirstLine}
+use Rattle.ctt_office.specs.declared.seat_line.SeatLine.{SeatLine}
+use Rattle.ctt_office.specs.declared.seat_line.SeatLine.TheVariants.{Leave}
+use Rattle.ctt_office.specs.declared.sitting.Ending.{Ending}
+use Rattle.ctt_office.specs.declared.sitting.Ending.TheVariants.{Broken, Ended, Left, NoMemory}
+
+-- the bytes begin with these lines, which are answered as `Is` says, one behind another, each at the seat as the one before it left it, and this is left
+abbrev pub AreAnswered : {T : Type 0} → (List ℕ → SeatLine) → (SeatLine → T → T → List ℕ → Type 0) → List ℕ → T → List (List ℕ) → List ℕ → List ℕ → T → Type 0
+AreAnswered asked Is bytes before [] answers rest after = (answers ≡ []) × (rest ≡ bytes) × (after ≡ before)
+AreAnswered {T} asked Is bytes before (line ∷ lines) answers rest after = (mid : List ℕ) × (next : T) × (answer : List ℕ) × (later : List ℕ) × IsFirstLine line mid bytes
+    × Is (asked line) before next answer × (answers ≡ answer ++ later) × AreAnswered asked Is mid next lines later rest after
+
+-- by none of the lines the planner leaves
+abbrev pub GoOn : (List ℕ → SeatLine) → List (List ℕ) → Type 0
+GoOn asked lines = Each (λ line. asked line ≢ Leave) lines
+
+-- so he ends, with these lines answered and this left: by the last of them he leaves, or nothing is left
+abbrev pub EndsBy : (List ℕ → SeatLine) → Ending → List (List ℕ) → List ℕ → Type 0
+EndsBy asked Left lines rest = (front : List (List ℕ)) × (last : List ℕ) × (lines ≡ front ++ last ∷ []) × GoOn asked front × (asked last ≡ Leave)
+EndsBy asked Ended lines rest = GoOn asked lines × (rest ≡ [])
+EndsBy asked Broken lines rest = Unit {0}
+EndsBy asked NoMemory lines rest = Unit {0}
+
+-- the lines that were left to be read are answered, up to the one by which the planner leaves, or to the last
+pub record IsAnswered {T : Type 0} (asked : List ℕ → SeatLine) (Is : SeatLine → T → T → List ℕ → Type 0) (before : T) (left old new : Option (List ℕ)) (ending : Ending) : Type 0 where
+  pub answers : List ℕ
+  pub told : Appends old new answers
+  pub served : IfSome left (λ bytes. (lines : List (List ℕ)) × (rest : List ℕ) × (after : T) × AreAnswered asked Is bytes before lines answers rest after × EndsBy asked ending lines rest)
+
+-- the same, unless a device fails or memory is wanted
+abbrev pub IsSat : {T : Type 0} → (List ℕ → SeatLine) → (SeatLine → T → T → List ℕ → Type 0) → T → Option (List ℕ) → Option (List ℕ) → Option (List ℕ) → Ending → Type 0
+IsSat asked Is before left old new Left = IsAnswered asked Is before left old new Left
+IsSat asked Is before left old new Ended = IsAnswered asked Is before left old new Ended
+IsSat asked Is before left old new Broken = Unit {0}
+IsSat asked Is before left old new NoMemory = Unit {0}
+
+-- no line comes any more: none is left, or the reader has failed, or memory is wanted
+abbrev pub EndsAt : Option (List ℕ) → Bool → Ending → Type 0
+EndsAt known failed Left = ⊥
+EndsAt known failed Ended = IsAtEnd known
+EndsAt known failed Broken = failed ≡ true
+EndsAt known failed NoMemory = Unit {0}
+
+-- the writer has failed, or memory is wanted
+abbrev pub IsBroken : Bool → Ending → Type 0
+IsBroken failed Left = ⊥
+IsBroken failed Ended = ⊥
+IsBroken failed Broken = failed ≡ true
+IsBroken failed NoMemory = Unit {0}
+
+-- so far: the lines that were read are answered, which leaves the seat so, by none of them he leaves, and these bytes are still to come
+pub record IsSitting {T : Type 0} (asked : List ℕ → SeatLine) (Is : SeatLine → T → T → List ℕ → Type 0) (before : T) (left old now still : Option (List ℕ)) (after : T) : Type 0 where
+  pub answers : List ℕ
+  pub told : Appends old now answers
+  pub served : IfSome left (λ bytes. (lines : List (List ℕ)) × (rest : List ℕ) × (still ≡ Some rest) × AreAnswered asked Is bytes before lines answers rest after × GoOn asked lines)

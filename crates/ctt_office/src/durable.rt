@@ -1,0 +1,37 @@
+//! A writer whose bytes outlive the machine.
+
+ghost use Rattle.std.specs.Prelude.{OnOk};
+ghost use Rattle.std.specs.Io.KnownBytes.{Keeps};
+ghost use Rattle.ctt_office.specs.Pages.{Stays};
+
+use ctt_script::{Device, Failed, Sink};
+use std::fs::OpenFile;
+use std::io::Write;
+
+/// A writer that can put what it took where it stays.
+pub trait Durable: Sink + Drop {
+    ghost use Rattle.std.specs.Prelude.{ℕ, List, Option};
+
+    /// The bytes that stay, whatever becomes of the machine, where the writer tells them.
+    ghost kept: { Self → Option (List ℕ) };
+
+    /// Returns when all that was taken stays.
+    ///
+    /// `Failed` where that is not known.
+    fn sync(&mut self) -> Result<(), Failed>
+        ensures taken { Keeps (Self.Sink.taken self.old) (Self.Sink.taken self.new) }
+        ensures kept { OnOk result (Stays (kept self.new) (Self.Sink.taken self.new)) };
+}
+
+impl<F: Write + OpenFile + Drop> Durable for Device<F> {
+    ghost use Rattle.std.specs.Prelude.{None};
+
+    ghost kept = { λ _. None };
+
+    fn sync(&mut self) -> Result<(), Failed> {
+        match self.inner().sync_data() {
+            Ok(()) => Ok(()),
+            Err(_) => Err(Failed),
+        }
+    }
+}

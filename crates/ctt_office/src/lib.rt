@@ -1,0 +1,22 @@
+//! The desk that planners use while they sit at it: lines that are answered one by one, the minutes on the disk, and
+//! the journal that is read from minutes.
+#![tactic(auto)]
+
+mod answering;
+mod blocks;
+mod book;
+mod doors;
+mod durable;
+mod line_reader;
+mod office;
+mod office_fault;
+mod seat_line;
+mod sitting;
+
+pub use blocks::{Blocks, read_blocks};
+pub use doors::Doors;
+pub use durable::Durable;
+pub use line_reader::{LineReader, Next};
+pub use office::keep_desk;
+pub use office_fault::OfficeFault;
+pub use seat_line::{SeatLine, read_seat_line};

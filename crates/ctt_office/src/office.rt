@@ -1,0 +1,273 @@
+//! A desk with its seats, from its opening until all have left.
+
+ghost use Rattle.std.specs.Prelude.{◌≡◌, ◌≤◌, ◌<◌, ◌+◌, ℕ, length, IfErr, IfOk, OnOk};
+ghost use Rattle.ctt_desk.specs.Names.{IsNamed};
+ghost use Rattle.ctt_crew.specs.CrewText.{IsCrewText};
+ghost use Rattle.ctt_office.specs.OfficeFaults.{IsOfficeFault};
+ghost use Rattle.ctt_office.specs.declared.office_fault.OfficeFault.TheVariants.{NoMemory as OutOfMemory};
+
+use crate::book::Book;
+use crate::doors::Doors;
+use crate::durable::Durable;
+use crate::office_fault::{OfficeFault, SeatFault};
+use crate::sitting::{GridStation, Station, sit_on_grid};
+use ctt_board::{GridSheet, Timetable};
+use ctt_crew::{closing_report, end_desk};
+use ctt_desk::{Closed, Named, Naming, Opened, Planner, SharedDesk};
+use ctt_text::{Instance, let_go};
+use std::alloc::Global;
+use std::marker::{Brand, PhantomData, Send, Sync};
+use std::sync::Wait;
+use std::thread;
+use std::thread::{JoinHandle, Threads};
+
+/// The fault of the first seats that have one, with the seat at this place more, which ended so.
+fn ended_also(
+    ended: Result<(), OfficeFault>,
+    place: usize,
+    seat: Result<(), SeatFault>,
+) -> Result<(), OfficeFault>
+    ensures { (seats : ℕ) → place < seats → IfErr ended (IsOfficeFault seats)
+        → IfErr result (IsOfficeFault seats) }
+{
+    ended?;
+    match seat {
+        Ok(()) => Ok(()),
+        Err(fault) => Err(OfficeFault::at_seat(place, fault)),
+    }
+}
+
+/// Waits until all seats have ended, and gives the fault of the first one that has one.
+fn joined<R: Threads>(
+    rt: &R,
+    threads: Vec<JoinHandle<Result<(), SeatFault>>>,
+) -> Result<(), OfficeFault>
+    ensures { IfErr result (IsOfficeFault (length threads.items)) }
+{
+    let mut ended = Ok(());
+    for (place, thread) in threads.into_iter().enumerate() {
+        ended = ended_also(ended, place, thread.join(rt));
+    }
+    ended
+}
+
+/// Adds a planner's thread, if it was started.
+fn added<T: Drop, E: Drop>(threads: &mut Vec<T>, started: Result<T, E>) -> Result<(), OfficeFault>
+    ensures added { OnOk result (length threads.new.items ≡ length threads.old.items + 1) }
+    ensures fault { (seats : ℕ) → IfErr result (IsOfficeFault seats) }
+{
+    match started {
+        Ok(thread) => Ok(threads.push(thread)?),
+        Err(_) => Err(OfficeFault::NoThread),
+    }
+}
+
+/// Keeps the seats of a desk until all have ended, each by a thread.
+fn sit_at_once<
+    'i,
+    'x,
+    J: Naming + Send + Sync,
+    D: Doors,
+    W: Durable + Send,
+    R: Threads + Wait + Sync,
+>(
+    rt: &R,
+    alloc: Global,
+    desk: &'x SharedDesk<GridSheet<'i>, J>,
+    seats: Vec<(Planner<GridSheet<'i>, J>, Station<'i, 'x, J, D, W>)>,
+) -> Result<(), OfficeFault>
+    ensures { IfErr result (IsOfficeFault (length seats.entry.items)) }
+{
+    thread::scope(
+        thread::scope_env(),
+        rt,
+        |scope| -> Result<(), OfficeFault>
+            ensures { IfErr result (IsOfficeFault (length seats.entry.items)) }
+        {
+            let mut threads = Vec::new(alloc);
+            for (planner, station) in seats {
+                let work = GridStation {
+                    desk,
+                    planner,
+                    station,
+                };
+                let sitting = move || sit_on_grid(work, rt);
+                if let Err(fault) = added(&mut threads, scope.spawn(sitting)) {
+                    let_go(threads);
+                    return Err(fault);
+                }
+            }
+            joined(rt, threads)
+        },
+    )
+}
+
+/// The planners, each with his seat.
+fn stations<'i, 'x, P: Drop, J: Naming, D: Doors, W: Durable>(
+    alloc: Global,
+    instance: &'i Instance,
+    planners: Vec<P>,
+    names: &'x [String],
+    doors: &'x D,
+    book: Option<&'x Book<W, J>>,
+) -> Result<Vec<(P, Station<'i, 'x, J, D, W>)>, OfficeFault>
+    requires problem { J.problem ≡ instance.now }
+    requires counted { length planners.items ≡ length names.now }
+    ensures each { IfOk result (λ seats. length seats.items ≡ length names.now) }
+    ensures fault { IfErr result (λ fault. fault ≡ OutOfMemory) }
+{
+    let mut seats = Vec::with_capacity(alloc, names.len())?;
+    for (planner, name) in planners.into_iter().zip(names) {
+        let station = Station {
+            alloc,
+            instance,
+            book,
+            doors,
+            name: name.as_str(),
+            desk: PhantomData,
+        };
+        if let Err(refused) = seats.push((planner, station)) {
+            let_go(refused);
+            let_go(seats);
+            return Err(OfficeFault::NoMemory);
+        }
+    }
+    Ok(seats)
+}
+
+/// Keeps the seats of these names until all have ended.
+fn seated<'i, J: Naming + Send + Sync, D: Doors, W: Durable + Send, R: Threads + Wait + Sync>(
+    rt: &R,
+    alloc: Global,
+    desk: &SharedDesk<GridSheet<'i>, J>,
+    instance: &'i Instance,
+    planners: Vec<Planner<GridSheet<'i>, J>>,
+    names: &[String],
+    doors: &D,
+    book: Option<&Book<W, J>>,
+) -> Result<(), OfficeFault>
+    requires problem { J.problem ≡ instance.now }
+    requires counted { length planners.items ≡ length names.now }
+    ensures { IfErr result (IsOfficeFault (length names.now)) }
+{
+    let seats = stations(alloc, instance, planners, names, doors, book)?;
+    sit_at_once(rt, alloc, desk, seats)
+}
+
+/// A desk of which is known which one it is, with its planners.
+fn desk_named<S: Timetable, J: Naming, R: Wait>(
+    rt: &R,
+    named: Named<S, J>,
+) -> Result<(SharedDesk<S, J>, Vec<Planner<S, J>>), OfficeFault>
+    ensures each { IfOk result (λ made. length made.1.items ≡ named.count) }
+    ensures fault { (seats : ℕ) → IfErr result (IsOfficeFault seats) }
+{
+    Ok(SharedDesk::new(rt, named)?)
+}
+
+/// The last lines of a desk that is closed, if all went well.
+fn last_lines<S: Timetable, J: Naming>(
+    alloc: Global,
+    closed: &Closed<S, J>,
+    ended: Result<(), OfficeFault>,
+) -> Result<Vec<u8>, OfficeFault>
+    ensures text { IfOk result (λ text. IsCrewText J.problem J.opening 0 text.items) }
+    ensures fault { (seats : ℕ) → IfErr ended (IsOfficeFault seats)
+        → IfErr result (IsOfficeFault seats) }
+{
+    ended?;
+    Ok(closing_report(alloc, closed, Vec::new(alloc))?)
+}
+
+/// Closes a desk whose planners are gone, and gives the last lines, if all went well.
+fn close<S: Timetable, J: Naming, R: Wait>(
+    rt: &R,
+    alloc: Global,
+    desk: SharedDesk<S, J>,
+    ended: Result<(), OfficeFault>,
+) -> Result<Vec<u8>, OfficeFault>
+    ensures text { IfOk result (λ text. IsCrewText J.problem J.opening 0 text.items) }
+    ensures fault { (seats : ℕ) → IfErr ended (IsOfficeFault seats)
+        → IfErr result (IsOfficeFault seats) }
+{
+    let closed = end_desk(rt, alloc, desk);
+    let text = last_lines(alloc, &closed, ended);
+    let_go(closed);
+    text
+}
+
+/// That the minutes are written to their end, if they are kept.
+fn checked<J: Naming, W: Durable, R: Wait>(
+    rt: &R,
+    book: Option<&Book<W, J>>,
+    ended: Result<(), OfficeFault>,
+) -> Result<(), OfficeFault>
+    ensures { (seats : ℕ) → IfErr ended (IsOfficeFault seats)
+        → IfErr result (IsOfficeFault seats) }
+{
+    ended?;
+    match book {
+        Some(book) if book.has_failed(rt) => Err(OfficeFault::NotWritten),
+        _ => Ok(()),
+    }
+}
+
+/// A book on the writer, where one is given.
+fn book_on<W: Durable, J: Naming>(minutes: Option<W>) -> Option<Book<W, J>> {
+    match minutes {
+        Some(writer) => Some(Book::new(writer)),
+        None => None,
+    }
+}
+
+/// Keeps the seats of a desk of which is known which one it is.
+fn keep_named<'i, J: Naming + Send + Sync, D: Doors, W: Durable + Send, R: Threads + Wait + Sync>(
+    rt: &R,
+    alloc: Global,
+    instance: &'i Instance,
+    opened: Opened<GridSheet<'i>>,
+    count: u16,
+    names: &[String],
+    doors: &D,
+    minutes: Option<W>,
+) -> Result<Vec<u8>, OfficeFault>
+    requires named { IsNamed J.problem J.opening J.planners J.book opened count }
+    requires problem { opened.problem ≡ instance.now }
+    requires counted { length names.now ≡ count }
+    ensures text { IfOk result (λ text. IsCrewText J.problem J.opening 0 text.items) }
+    ensures fault { IfErr result (IsOfficeFault (length names.now)) }
+{
+    let named = Named {
+        opened,
+        count,
+        name: PhantomData,
+    };
+    let (desk, planners) = desk_named::<GridSheet<'i>, J, R>(rt, named)?;
+    let kept = book_on(minutes);
+    let book = kept.as_ref();
+    let sat = seated(rt, alloc, &desk, instance, planners, names, doors, book);
+    let ended = checked(rt, book, sat);
+    close::<GridSheet<'i>, J, R>(rt, alloc, desk, ended)
+}
+
+/// Keeps a desk until all planners have left. Each has a seat of this name and a thread, which opens the devices of the
+/// seat; a line is answered before the next one is read. Accepted drafts are entered into the minutes, where a writer is
+/// given for them, each before its planner is told. Gives the number of accepted drafts and the costs as lines.
+pub fn keep_desk<'i, D: Doors, W: Durable + Send, R: Threads + Wait + Sync>(
+    rt: &R,
+    alloc: Global,
+    instance: &'i Instance,
+    opened: Opened<GridSheet<'i>>,
+    names: &[String],
+    doors: &D,
+    minutes: Option<W>,
+) -> Result<Vec<u8>, OfficeFault>
+    requires problem { opened.problem ≡ instance.now }
+    requires some { 1 ≤ length names.now }
+    requires few { length names.now ≤ 64 }
+    ensures text { IfOk result (λ text. IsCrewText instance.now opened.entry.list 0 text.items) }
+    ensures fault { IfErr result (IsOfficeFault (length names.now)) }
+{
+    let count = names.len() as u16;
+    keep_named::<Brand, D, W, R>(rt, alloc, instance, opened, count, names, doors, minutes)
+}

@@ -1,0 +1,234 @@
+//! A planner at a seat: his lines, each answered before the next one is read.
+
+ghost use Rattle.std.specs.Prelude.{◌≡◌, ◌≢◌, ◌⊎◌, ℕ, true, false, IfErr, IfOk, OnErr, OnOk};
+ghost use Rattle.std.specs.Io.KnownBytes.{Appends};
+ghost use Rattle.ctt_office.specs.Lines.{Gives, coming};
+ghost use Rattle.ctt_office.specs.Pages.{IsInMinutes};
+ghost use Rattle.ctt_office.specs.SeatAnswers.{IfBook, IsAnswer, Tells};
+ghost use Rattle.ctt_office.specs.SeatText.{LineFits, asked_by};
+ghost use Rattle.ctt_office.specs.Sittings.{EndsAt, IsBroken, IsSat};
+ghost use Rattle.ctt_office.specs.declared.seat_line.SeatLine.TheVariants.{Leave};
+ghost use Rattle.ctt_office.specs.declared.sitting.Ending.TheVariants.{Broken};
+
+use crate::answering::answer;
+use crate::book::Book;
+use crate::doors::Doors;
+use crate::durable::Durable;
+use crate::line_reader::{LineReader, Next};
+use crate::office_fault::SeatFault;
+use crate::seat_line::{SeatLine, read_seat_line};
+use ctt_board::{GridSheet, Sheet, Timetable};
+use ctt_core::PlannerNo;
+use ctt_crew::Seat;
+use ctt_desk::{Naming, Planner, SharedDesk};
+use ctt_script::{Failed, InputFault, Sink, Source, put_all};
+use ctt_text::{Instance, NoMemory, let_go};
+use std::alloc::Global;
+use std::marker::PhantomData;
+use std::sync::Wait;
+
+/// Why a seat has ended.
+#[derive(Clone, Copy, PartialEq, Eq)]
+pub(crate) enum Ending {
+    /// The planner left.
+    Left,
+    /// His lines ended.
+    Ended,
+    /// One of his devices failed.
+    Broken,
+    /// No memory was left for a line or its answer.
+    NoMemory,
+}
+
+/// Writes an answer, if there is one, and passes it on.
+fn say<O: Sink>(out: &mut O, answer: &[u8]) -> Result<(), Failed>
+    ensures all { OnOk result (Appends (O.taken out.old) (O.taken out.new) answer.now) }
+    ensures marked { OnErr result (O.has_failed out.new ≡ true) }
+{
+    if answer.is_empty() {
+        return Ok(());
+    }
+    put_all(out, answer)?;
+    out.flush()
+}
+
+/// A seat of a desk of the instance, of which nothing is open yet.
+#[derive(Drop)]
+pub(crate) struct Station<'i, 'x, J: Naming, D: Doors, W: Durable> {
+    pub(crate) alloc: Global,
+    pub(crate) instance: &'i Instance,
+    pub(crate) book: Option<&'x Book<W, J>>,
+    pub(crate) doors: &'x D,
+    pub(crate) name: &'x str,
+    pub(crate) desk: PhantomData<J>,
+    ghost same: { J.problem ≡ instance.now },
+}
+
+/// What the next line asks for; none where none comes any more.
+fn next_line<I: Source, R: Wait>(
+    rt: &R,
+    instance: &Instance,
+    planner: PlannerNo,
+    lines: &mut LineReader<I>,
+) -> Result<SeatLine, Ending>
+    ensures fits { IfOk result (LineFits instance.now planner) }
+    ensures asked { IfOk result (λ line.
+        Gives (λ bytes. line ≡ asked_by instance.now planner bytes)
+        (coming lines.old) (coming lines.new)) }
+    ensures end { IfErr result (EndsAt (coming lines.old) lines.new.has_failed) }
+{
+    match lines.next(rt) {
+        Ok(Next::Line) => Ok(read_seat_line(instance, planner, lines.line())),
+        Ok(Next::TooLong) => Ok(SeatLine::Bad),
+        Ok(Next::End) => Err(Ending::Ended),
+        Err(InputFault::Read) => Err(Ending::Broken),
+        Err(InputFault::TooLong | InputFault::NoMemory) => Err(Ending::NoMemory),
+    }
+}
+
+/// Serves one line of a seat: its answer is written and passed on when this returns. The seat goes on, unless the
+/// planner leaves.
+fn serve<'i, S: Sheet<'i>, J: Naming, W: Durable, O: Sink, R: Wait>(
+    rt: &R,
+    alloc: Global,
+    desk: &SharedDesk<S, J>,
+    instance: &Instance,
+    book: Option<&Book<W, J>>,
+    seat: Seat<'i, S, J>,
+    line: &SeatLine,
+    out: &mut O,
+) -> (Seat<'i, S, J>, Result<(), Ending>)
+    requires same { J.problem ≡ instance.now }
+    requires fits { (p : ℕ) × LineFits instance.now p line.now }
+    ensures told { OnOk result.1
+        (Tells (IsAnswer (IfBook book.entry (IsInMinutes W.Sink.taken W.kept J.problem))
+        instance.now J.opening line.now seat.entry result.0) (O.taken out.old) (O.taken out.new)) }
+    ensures broken { IfErr result.1 (IsBroken (O.has_failed out.new)) }
+{
+    let mut text = String::new(alloc);
+    let (seat, written) = answer(rt, alloc, desk, instance, book, seat, *line, &mut text);
+    if written.is_err() {
+        return (seat, Err(Ending::NoMemory));
+    }
+    match say(out, text.as_bytes()) {
+        Ok(()) => (seat, Ok(())),
+        Err(_) => (seat, Err(Ending::Broken)),
+    }
+}
+
+/// Whether this is the line by which the planner leaves.
+fn is_last(line: &SeatLine) -> bool
+    ensures yes { result ≡ true → line.now ≡ Leave }
+    ensures no { result ≡ false → line.now ≢ Leave }
+{
+    match *line {
+        SeatLine::Leave => true,
+        _ => false,
+    }
+}
+
+/// Answers the lines of a planner at his seat until he leaves, or they end, or one of his devices fails. An open draft is
+/// then given up.
+#[tactic(auto, using(crate::proofs::SittingLemmas::ends_by, crate::proofs::SittingLemmas::breaks_off, crate::proofs::SittingLemmas::read_failed, crate::proofs::SittingLemmas::write_failed))]
+fn sit<'i, S: Sheet<'i>, J: Naming, W: Durable, I: Source, O: Sink, R: Wait>(
+    rt: &R,
+    alloc: Global,
+    desk: &SharedDesk<S, J>,
+    instance: &Instance,
+    book: Option<&Book<W, J>>,
+    number: PlannerNo,
+    seat: Seat<'i, S, J>,
+    lines: &mut LineReader<I>,
+    out: &mut O,
+) -> Ending
+    requires { J.problem ≡ instance.now }
+    ensures sat { IsSat (asked_by instance.now number)
+        (IsAnswer (IfBook book.entry (IsInMinutes W.Sink.taken W.kept J.problem)) instance.now
+        J.opening)
+        seat.entry (coming lines.old) (O.taken out.old) (O.taken out.new) result }
+    ensures broken { result ≡ Broken
+        → (lines.new.has_failed ≡ true) ⊎ (O.has_failed out.new ≡ true) }
+{
+    let mut seat = seat;
+    for _ in rt.forever() {
+        let line = match next_line(rt, instance, number, lines) {
+            Ok(line) => line,
+            Err(why) => {
+                let_go(seat);
+                return why;
+            }
+        };
+        let is_last = is_last(&line);
+        let (next, served) = serve(rt, alloc, desk, instance, book, seat, &line, out);
+        seat = next;
+        match served {
+            Ok(()) => {
+                if is_last {
+                    let_go(seat);
+                    return Ending::Left;
+                }
+            }
+            Err(why) => {
+                let_go(seat);
+                return why;
+            }
+        }
+    }
+    unreachable!()
+}
+
+/// Opens the devices of a seat, and answers the planner's lines.
+fn open_and_sit<'i, 'x, S: Sheet<'i>, J: Naming, D: Doors, W: Durable, R: Wait>(
+    station: Station<'i, 'x, J, D, W>,
+    rt: &R,
+    desk: &SharedDesk<S, J>,
+    planner: Planner<S, J>,
+) -> Result<(), SeatFault> {
+    let Station {
+        alloc,
+        instance,
+        book,
+        doors,
+        name,
+        desk: _,
+    } = station;
+    let number = planner.number();
+    let Ok(input) = doors.open_input(name) else {
+        let_go(planner);
+        return Err(SeatFault::CannotRead);
+    };
+    let Ok(mut out) = doors.open_output(name) else {
+        let_go(planner);
+        return Err(SeatFault::CannotWrite);
+    };
+    let mut lines = LineReader::new(alloc, input);
+    let seat = Seat::Free(planner);
+    match sit(
+        rt, alloc, desk, instance, book, number, seat, &mut lines, &mut out,
+    ) {
+        Ending::Left | Ending::Ended | Ending::Broken => Ok(()),
+        Ending::NoMemory => Err(SeatFault::NoMemory),
+    }
+}
+
+/// A planner with his seat, at the desk that he shares, over a grid sheet. It names the instance's lifetime once, as what
+/// goes to a thread has to.
+#[derive(Drop)]
+pub(crate) struct GridStation<'i, 'x, J: Naming, D: Doors, W: Durable> {
+    pub(crate) desk: &'x SharedDesk<GridSheet<'i>, J>,
+    pub(crate) planner: Planner<GridSheet<'i>, J>,
+    pub(crate) station: Station<'i, 'x, J, D, W>,
+}
+
+/// Opens a seat, and answers the planner's lines, over a grid sheet.
+pub(crate) fn sit_on_grid<'i, 'x, J: Naming, D: Doors, W: Durable, R: Wait>(
+    work: GridStation<'i, 'x, J, D, W>,
+    rt: &R,
+) -> Result<(), SeatFault> {
+    let GridStation {
+        desk,
+        planner,
+        station,
+    } = work;
+    open_and_sit::<GridSheet<'i>, J, D, W, R>(station, rt, desk, planner)
+}

@@ -1,0 +1,5 @@
+pub mod EscapeLemmas
+pub mod WeekLemmas
+pub mod TextLemmas
+pub mod FoundLemmas
+pub mod StandingLemmas

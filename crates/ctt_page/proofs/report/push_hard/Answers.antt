@@ -1,0 +1,11 @@
+use Rattle.std.proofs.Common.{codes, string_bytes}
+use Rattle.ctt_page.specs.Report.{barred_row, count_row, hard_rows}
+use Rattle.ctt_page.proofs.TextLemmas.{five_in}
+use Rattle.ctt_page.proofs.report.push_hard.Goals as goal
+
+pub returns : goal.returns
+unfolding hard_rows
+returns c =
+    five_in c.push_barred.result (string_bytes c.args.page.now) (string_bytes c.push_count.new.page) (string_bytes c.push_count-2.new.page) (string_bytes c.push_count-3.new.page) (string_bytes c.push_count-4.new.page) (string_bytes c.push_barred.new.page)
+    (count_row (codes "lectures") c.args.hard.now.lectures) (count_row (codes "conflicts") c.args.hard.now.conflicts) (count_row (codes "availability") c.args.hard.now.availability) (count_row (codes "occupancy") c.args.hard.now.occupancy) (barred_row c.args.barred c.args.hard.now.barred)
+    c.in_ok-push_count.ensures c.in_ok-push_count-2.ensures c.in_ok-push_count-3.ensures c.in_ok-push_count-4.ensures c.push_barred.ensures

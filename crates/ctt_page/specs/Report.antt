@@ -1,0 +1,46 @@
+-- The report on a timetable as a table.
+use Rattle.std.specs.Prelude.{ℕ, Bool, true, false, ◌++◌, List, [], codes, if◌then◌else◌}
+use Rattle.std.specs.Fmt.{decimal}
+use Rattle.ctt_rules.specs.Penalty.{total}
+use Rattle.ctt_rules.specs.declared.cost.Cost.{Cost}
+use Rattle.ctt_rules.specs.declared.hard.Hard.{Hard}
+
+-- a line: what is said of, and what is said
+unfoldable pub row : List ℕ → List ℕ → List ℕ
+row key text = codes "<tr><th scope='row'>" ++ (key ++ (codes "</th><td>" ++ (text ++ codes "</td></tr>\n")))
+
+unfoldable pub count_row : List ℕ → ℕ → List ℕ
+count_row key count = row key (decimal count)
+
+unfoldable pub answer_row : List ℕ → Bool → List ℕ
+answer_row key answer = row key (if answer then codes "yes" else codes "no")
+
+-- the line of the lectures in barred rooms, where some room is barred
+unfoldable pub barred_row : Bool → ℕ → List ℕ
+barred_row true count = count_row (codes "barred") count
+barred_row false count = []
+
+-- how often the hard rules are broken
+unfoldable pub hard_rows : Bool → Hard → List ℕ
+hard_rows barred hard = count_row (codes "lectures") hard.lectures
+    ++ (count_row (codes "conflicts") hard.conflicts
+    ++ (count_row (codes "availability") hard.availability
+    ++ (count_row (codes "occupancy") hard.occupancy
+    ++ barred_row barred hard.barred)))
+
+-- what the timetable costs
+unfoldable pub cost_rows : Cost → List ℕ
+cost_rows cost = count_row (codes "capacity") cost.capacity
+    ++ (count_row (codes "days") cost.days
+    ++ (count_row (codes "compactness") cost.compactness
+    ++ (count_row (codes "stability") cost.stability
+    ++ count_row (codes "total") (total cost))))
+
+-- the report, where some room is barred or none is
+unfoldable pub report : Bool → Hard → Cost → Bool → Bool → List ℕ
+report barred hard cost lawful complete = codes "<h2 id='report'>Report</h2><table>\n"
+    ++ (hard_rows barred hard
+    ++ (cost_rows cost
+    ++ (answer_row (codes "lawful") lawful
+    ++ (answer_row (codes "complete") complete
+    ++ codes "</table>\n"))))

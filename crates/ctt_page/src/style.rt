@@ -1,0 +1,29 @@
+//! How the page looks.
+
+/// The style of the page: by the system's colours, light or dark; a grid that is wider than the window is
+/// moved sideways in its own box; on paper no grid is cut in two, if it fits on a sheet.
+pub(crate) const STYLE: &str = "
+:root { color-scheme: light dark; --broken: #b00020; --costs: #7a4f00; }
+@media (prefers-color-scheme: dark) { :root { --broken: #ff9a9a; --costs: #f0c060; } }
+body { background: Canvas; color: CanvasText; font: 100%/1.4 system-ui, sans-serif;
+  margin: 0 auto; max-width: 80rem; padding: 1rem; overflow-wrap: anywhere; }
+nav a { margin-right: 1rem; }
+section { break-inside: avoid; }
+section div { overflow-x: auto; }
+table { border-collapse: collapse; }
+th, td { border: 1px solid GrayText; padding: 0.2rem 0.5rem; text-align: left; vertical-align: top; }
+th { white-space: nowrap; }
+section td { min-width: 7rem; }
+td p { margin: 0 0 0.3rem; }
+b, i { color: var(--broken); display: block; font-size: 0.9em; font-style: normal; }
+i { color: var(--costs); }
+ul { columns: 24rem; padding-left: 1.2rem; }
+li { break-inside: avoid; }
+ul:not(:has(li))::after { content: 'none'; }
+:target { outline: 3px solid Highlight; }
+@media print {
+  body { max-width: none; padding: 0; }
+  nav { display: none; }
+  section div { overflow: visible; }
+}
+";

@@ -1,0 +1,45 @@
+-- What the commands of an office print, and why they do not.
+use Rattle.std.proofs.Common.{◌≡◌, ◌<◌, ◌⊎◌, ⊎_elim, inl, inr, arith, get_or, zero, suc, sym, subst, ℕ, List, [], ◌∷◌, Option, length}
+use Rattle.std.specs.Global.{Global}
+use Rattle.std.specs.String.{string_bytes}
+use Rattle.std.specs.declared.string.String.{String}
+use Rattle.ctt_text.specs.Problem.{Problem}
+use Rattle.ctt_text.specs.declared.placed.Placed.{Placed}
+use Rattle.ctt_core.specs.declared.journal.JournalEntry.{JournalEntry}
+use Rattle.ctt_tool.specs.Desks.{PrintsLast, TellsLast}
+use Rattle.ctt_tool.specs.Faults.{IfUnwritten}
+use Rattle.ctt_tool.specs.Refusals.{IsLeftFault, IsNoMinutes, IsOfAudited, IsOfMinutes, IsOfWork, IsUnread, IsUnreadAt}
+use Rattle.ctt_tool.specs.Texts.{Held, Holds, IsJournalText, IsStart}
+use Rattle.ctt_tool.specs.declared.fault.Fault.{Fault}
+use Rattle.ctt_tool.specs.declared.fault.Fault.TheVariants.{NoMemory}
+use Rattle.ctt_tool.proofs.Plain.{IsPlain, plain_written}
+
+-- where the last lines are told, they are printed, or nothing is
+pub last_printed : (instance : String Global) (barred : Option (String Global)) (seats : List (String Global)) (start : Option (String Global)) (held : Held) (old new said_old said_new : Option (List ℕ))
+    → TellsLast instance barred seats start held old new said_old said_new → PrintsLast instance barred seats start held old new
+last_printed instance barred seats start held old new said_old said_new told = ⊎_elim (λ printed. inl (printed.0, (told.0, told.1, printed.1))) (λ said. inr (said.0, said.1.1)) told.2
+
+-- why the timetable is not printed that entries leave, by the files
+pub left_in : (problem : Problem) (journal : String Global) (start : Option (String Global)) (held : Held) (entries : List JournalEntry) (lectures : List Placed) (fault : Fault) → Holds held journal (λ text. IsJournalText problem text entries)
+    → IsStart problem held start lectures → IsLeftFault problem lectures fault → IsOfAudited journal start held problem fault
+left_in problem journal start held entries lectures fault is_journal is_start (inl refused) =
+    inr (entries, is_journal, inr (refused.0, refused.1, record { lectures = lectures; is_start = is_start; refused = refused.2 }, refused.3))
+left_in problem journal start held entries lectures fault is_journal is_start (inr memory) = inl (inl (inr (inr memory)))
+
+-- why minutes are not printed, by their file
+pub minutes_in : (problem : Problem) (minutes : String Global) (held : Held) (text : List ℕ) (fault : Fault) → Holds held minutes (λ bytes. text ≡ bytes) → IsNoMinutes problem text fault ⊎ (fault ≡ NoMemory)
+    → IsOfMinutes minutes held problem fault
+minutes_in problem minutes held text fault told (inl met) = inr (text, told, met)
+minutes_in problem minutes held text fault told (inr memory) = inl (inr (inr memory))
+
+-- a seat that has a place is one of the seats
+pub unread_in : (seats : List (String Global)) (at : ℕ) (seat : String Global) (fault : Fault) → at < length seats → seat ≡ get_or seats at seat → IsUnreadAt (string_bytes seat) fault → IsUnread seats fault
+unread_in [] at seat fault lt there is = absurd (omega (arith, lt))
+unread_in (first ∷ seats) zero seat fault lt there is = inl (subst (λ (s : String Global). IsUnreadAt (string_bytes s) fault) there is)
+unread_in (first ∷ seats) (suc at) seat fault lt there is = inr (unread_in seats at seat fault (omega (arith, lt)) there is)
+
+-- that its lines cannot be read is a fault of the desk
+pub of_unread : (seats : List (String Global)) (fault : Fault) (seat : List ℕ) → (IsUnreadAt seat fault → IsUnread seats fault) → IsUnreadAt seat fault ⊎ (fault ≡ NoMemory)
+    → IfUnwritten fault (Unit {0}) (IsOfWork fault ⊎ IsUnread seats fault)
+of_unread seats fault seat within (inl named) = plain_written fault (Unit {0}) (IsOfWork fault ⊎ IsUnread seats fault) (subst IsPlain (sym named.1) tt) (inr (within named))
+of_unread seats fault seat within (inr memory) = plain_written fault (Unit {0}) (IsOfWork fault ⊎ IsUnread seats fault) (subst IsPlain (sym memory) tt) (inl (inr (inr memory)))

@@ -1,0 +1,22 @@
+use Rattle.std.proofs.Common.{rules, ⊎_elim, inl, inr}
+use Rattle.std.proofs.Crossing.{crosses}
+use Rattle.std.proofs.MapsCrossing.{String-sync}
+use denote.Param.Send.{IsSync, sendable}
+use Rattle.ctt_text.specs.contracts.instance.Instance.{the_row}
+use Rattle.ctt_tool.specs.Refusals.{IsOfSeats}
+use Rattle.ctt_tool.proofs.Plain.{passed_desk, seats_plain}
+use Rattle.ctt_tool.proofs.desk.keep.Goals as goal
+
+-- threads may share an instance: a step of its own, since it has many fields
+instance_shared : IsSync the_row
+instance_shared = search (String-sync, sendable, crosses) depth 60 fits 20000
+
+pub open_on-requires : goal.open_on-requires
+open_on-requires g c κs = (search (instance_shared, sendable, crosses) depth 60 fits 20000, (search (instance_shared, sendable, crosses) depth 60 fits 20000, search rules))
+
+pub returns-in_err-opened-clause-cause : goal.returns-in_err-opened-clause-cause
+returns-in_err-opened-clause-cause g c =
+    let held = g.F.Files.held c.args.files.now in
+    let fault = c.in_err-opened.field-0.0 in
+    let why : IsOfSeats c.args.seats.now c.args.start held c.args.instance.now fault = ⊎_elim inl (λ work. inr (inl work)) c.in_err-opened.ensures.cause in
+    passed_desk c.from_residual.result fault (IsOfSeats c.args.seats.now c.args.start held c.args.instance.now) c.from_residual.ensures.1 (seats_plain c.args.seats.now c.args.start held c.args.instance.now fault why) why

@@ -1,0 +1,16 @@
+use Rattle.std.proofs.Common.{◌∙◌, subst}
+use Rattle.std.proofs.lemmas.Option.{IfSome_then}
+use Rattle.std.specs.Io.KnownBytes.{Appends}
+use Rattle.std.specs.Prelude.{is_some}
+use Rattle.ctt_office.specs.Recovery.{IsRecovered}
+use Rattle.ctt_tool.proofs.journal.print_journal.Goals as goal
+
+pub returns-clause-prints : goal.returns-clause-prints
+returns-clause-prints g c =
+    let found = c.in_ok-journal.ensures.journal in
+    record {
+      entries = found.entries;
+      torn = is_some c.in_ok-journal.torn;
+      is_recovered = IfSome_then _ c.in_ok-text.ensures.all (λ text same. subst (λ bytes. IsRecovered c.args.instance.now bytes found.entries (is_some c.in_ok-journal.torn)) (c.deref.ensures.value ∙ same) found.is_recovered);
+      prints = subst (Appends (g.W.Sink.taken c.args.out.now) (g.W.Sink.taken c.print.new.out)) (c.deref-2.ensures.value ∙ found.is) c.in_ok-print.ensures.printed;
+    }

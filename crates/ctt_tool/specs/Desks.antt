@@ -1,0 +1,39 @@
+-- What the command `desk` prints, and which texts it refuses.
+use Rattle.std.specs.Prelude.{◌≡◌, ◌⊎◌, ℕ, false, true, List, Option, Ok}
+use Rattle.std.specs.Global.{Global}
+use Rattle.std.specs.Io.KnownBytes.{Appends}
+use Rattle.std.specs.declared.string.String.{String}
+use Rattle.ctt_text.specs.Problem.{Problem}
+use Rattle.ctt_text.specs.declared.placed.Placed.{Placed}
+use Rattle.ctt_edits.specs.Openings.{opening}
+use Rattle.ctt_crew.specs.CrewText.{IsCrewText}
+use Rattle.ctt_tool.specs.Seats.{has_standard}
+use Rattle.ctt_tool.specs.Texts.{Held, IsInstanceIn, IsStart}
+
+-- the start is placed, lecture by lecture, and makes this timetable
+pub record IsOpenOn (problem : Problem) (start : Option (String Global)) (held : Held) (t0 : List Placed) : Type 0 where
+  pub lectures : List Placed
+  pub is_start : IsStart problem held start lectures
+  pub opens : opening problem lectures ≡ Ok t0
+
+-- the last lines of a desk of the instance that opens with the start: how many drafts were accepted, and what the timetable costs that they leave, in one order of commits
+pub record IsOfDeskFrom (problem : Problem) (start : Option (String Global)) (held : Held) (bytes : List ℕ) : Type 0 where
+  pub t0 : List Placed
+  pub opens : IsOpenOn problem start held t0
+  pub is_last : IsCrewText problem t0 0 bytes
+
+-- the same, of the instance in a file
+pub record IsOfDeskOn (instance : String Global) (barred start : Option (String Global)) (held : Held) (bytes : List ℕ) : Type 0 where
+  pub problem : Problem
+  pub is_instance : IsInstanceIn held instance barred problem
+  pub is_last : IsOfDeskFrom problem start held bytes
+
+-- such lines are printed, unless standard output is a seat, and then nothing is
+abbrev pub PrintsLast : String Global → Option (String Global) → List (String Global) → Option (String Global) → Held → Option (List ℕ) → Option (List ℕ) → Type 0
+PrintsLast instance barred seats start held old new =
+    ((has_standard seats ≡ false) × ((bytes : List ℕ) × IsOfDeskOn instance barred start held bytes × Appends old new bytes)) ⊎ ((has_standard seats ≡ true) × (new ≡ old))
+
+-- such lines are printed; where standard output is a seat they are said on standard error, and nothing is printed
+abbrev pub TellsLast : String Global → Option (String Global) → List (String Global) → Option (String Global) → Held → Option (List ℕ) → Option (List ℕ) → Option (List ℕ) → Option (List ℕ) → Type 0
+TellsLast instance barred seats start held old new said_old said_new = (bytes : List ℕ) × IsOfDeskOn instance barred start held bytes
+    × (((has_standard seats ≡ false) × Appends old new bytes) ⊎ ((has_standard seats ≡ true) × (Appends said_old said_new bytes × (new ≡ old))))

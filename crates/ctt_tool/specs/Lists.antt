@@ -1,0 +1,57 @@
+-- What the commands `journal` and `list` print, and which texts they refuse.
+use Rattle.std.specs.Prelude.{◌≡◌, ◌≢◌, ◌⊎◌, ℕ, Bool, List, Option}
+use Rattle.std.specs.Global.{Global}
+use Rattle.std.specs.Io.KnownBytes.{Appends}
+use Rattle.std.specs.declared.string.String.{String}
+use Rattle.ctt_text.specs.Problem.{Problem}
+use Rattle.ctt_text.specs.Written.{soltext}
+use Rattle.ctt_text.specs.declared.placed.Placed.{Placed}
+use Rattle.ctt_core.specs.Audits.{IsVerdict, LeavesList}
+use Rattle.ctt_core.specs.declared.auditing.Verdict.{Verdict}
+use Rattle.ctt_core.specs.declared.auditing.Verdict.TheVariants.{Agrees}
+use Rattle.ctt_core.specs.declared.journal.JournalEntry.{JournalEntry}
+use Rattle.ctt_script.specs.WrittenText.{journal_text}
+use Rattle.ctt_office.specs.Recovery.{IsRecovered}
+use Rattle.ctt_tool.specs.Audits.{PrintsVerdict}
+use Rattle.ctt_tool.specs.Texts.{Held, Holds, IsInstanceIn, IsJournalText, IsStart}
+use Rattle.ctt_tool.specs.declared.outcome.Outcome.{Outcome}
+use Rattle.ctt_tool.specs.declared.outcome.Outcome.TheVariants.{Done}
+
+-- the bytes are the journal of the whole entries at the beginning of minutes
+pub record IsRecoveredJournal (problem : Problem) (text : List ℕ) (torn : Bool) (bytes : List ℕ) : Type 0 where
+  pub entries : List JournalEntry
+  pub is_recovered : IsRecovered problem text entries torn
+  pub is : bytes ≡ journal_text problem entries
+
+-- of an instance, the whole entries at the beginning of the minutes in a file are printed as a journal
+pub record PrintsEntries (problem : Problem) (minutes : String Global) (held : Held) (old new : Option (List ℕ)) : Type 0 where
+  pub entries : List JournalEntry
+  pub torn : Bool
+  pub is_recovered : Holds held minutes (λ text. IsRecovered problem text entries torn)
+  pub prints : Appends old new (journal_text problem entries)
+
+-- the same, of the instance in a file
+pub record PrintsJournal (instance : String Global) (barred : Option (String Global)) (minutes : String Global) (held : Held) (old new : Option (List ℕ)) : Type 0 where
+  pub problem : Problem
+  pub is_instance : IsInstanceIn held instance barred problem
+  pub prints : PrintsEntries problem minutes held old new
+
+-- the timetable that is left is printed as a solution; or what an audit finds, where it finds something else than that the journal agrees
+abbrev pub PrintsLeft : Problem → List Placed → List JournalEntry → Outcome → Option (List ℕ) → Option (List ℕ) → Type 0
+PrintsLeft problem lectures entries outcome old new =
+    ((outcome ≡ Done) × ((list : List Placed) × LeavesList problem lectures entries list × Appends old new (soltext problem list)))
+    ⊎ ((verdict : Verdict) × IsVerdict problem lectures entries verdict × (verdict ≢ Agrees) × PrintsVerdict verdict outcome old new)
+
+-- of an instance, so is done with the journal in the file, on the opening with the start
+pub record ListsOn (problem : Problem) (journal : String Global) (start : Option (String Global)) (outcome : Outcome) (held : Held) (old new : Option (List ℕ)) : Type 0 where
+  pub entries : List JournalEntry
+  pub is_journal : Holds held journal (λ text. IsJournalText problem text entries)
+  pub lectures : List Placed
+  pub is_start : IsStart problem held start lectures
+  pub prints : PrintsLeft problem lectures entries outcome old new
+
+-- the same, of the instance in a file
+pub record ListsJournal (instance : String Global) (barred : Option (String Global)) (journal : String Global) (start : Option (String Global)) (outcome : Outcome) (held : Held) (old new : Option (List ℕ)) : Type 0 where
+  pub problem : Problem
+  pub is_instance : IsInstanceIn held instance barred problem
+  pub lists : ListsOn problem journal start outcome held old new

@@ -1,0 +1,238 @@
+//! The command `desk`.
+
+ghost use Rattle.std.specs.Prelude.{◌≡◌, ◌⊎◌, ◌≤◌, ◌<◌, ◌++◌, Err, true, length, codes, OnOk, OnErr, IfOk, IfErr};
+ghost use Rattle.std.specs.String.{string_bytes};
+ghost use Rattle.ctt_office.specs.OfficeFaults.{IsOfficeFault};
+ghost use Rattle.ctt_tool.specs.Desks.{IsOfDeskFrom, IsOfDeskOn, IsOpenOn, TellsLast};
+ghost use Rattle.ctt_tool.specs.Faults.{IfUnwritten, MayHaveWritten};
+ghost use Rattle.ctt_tool.specs.Refusals.{IsOfDesk, IsOfInstanceOr, IsOfOldMinutes, IsOfOpening, IsOfSeats, IsOfWork, IsUnread, IsUnreadAt};
+ghost use Rattle.ctt_tool.specs.Seats.{has_seat, has_twice};
+ghost use Rattle.ctt_tool.specs.declared.fault.Fault.TheVariants.{BadSeats, CannotWrite, NoMemory};
+
+use crate::fault::Fault;
+use crate::files::Files;
+use crate::office::{Office, STANDARD};
+use crate::opening::refused_opening;
+use crate::output::print;
+use crate::texts::{fetch_instance, fetch_start};
+use ctt_board::{GridSheet, Sheet};
+use ctt_desk::{Opened, SharedFault};
+use ctt_office::{OfficeFault, keep_desk};
+use ctt_script::Sink;
+use ctt_text::{Instance, let_go};
+use std::alloc::{AllocError, Global};
+use std::marker::Sync;
+use std::sync::Wait;
+use std::thread::Threads;
+
+/// The most seats that a desk may have.
+const SEAT_LIMIT: usize = 64;
+
+/// Whether one of the seats has this name.
+fn has_seat(seats: &[String], name: &str) -> bool
+    ensures { result ≡ has_seat name.now seats.now }
+{
+    seats.iter().any(|seat| seat.as_str() == name)
+}
+
+/// Whether one of the seats is given again.
+fn has_twice(seats: &[String]) -> bool
+    ensures { result ≡ has_twice seats.now }
+{
+    for place in 0..seats.len() {
+        if has_seat(&seats[place + 1..], seats[place].as_str()) {
+            return true;
+        }
+    }
+    false
+}
+
+/// The name of the file from which the lines of a seat come.
+fn input_name(alloc: Global, seat: &str) -> Result<String, AllocError>
+    ensures { IfOk result (λ name. string_bytes name ≡ seat.now ++ codes ".in") }
+{
+    let mut name = String::new(alloc);
+    name.push_str(seat)?;
+    name.push_str(".in")?;
+    Ok(name)
+}
+
+/// That the lines of a seat cannot be read.
+fn unread(alloc: Global, seat: &str) -> Fault
+    ensures { IsUnreadAt seat.now result ⊎ (result ≡ NoMemory) }
+{
+    match input_name(alloc, seat) {
+        Ok(name) => Fault::CannotRead(name),
+        Err(_) => Fault::NoMemory,
+    }
+}
+
+/// The fault of a desk with these seats.
+fn fault_of_office(alloc: Global, seats: &[String], fault: OfficeFault) -> Fault
+    requires { IsOfficeFault (length seats.now) fault }
+    ensures { IfUnwritten result (Unit {0}) (IsOfWork result ⊎ IsUnread seats.now result) }
+{
+    match fault {
+        OfficeFault::NoPlace => Fault::NoPlace,
+        OfficeFault::NoThread => Fault::NoThread,
+        OfficeFault::CannotRead(place) => unread(alloc, seats[place].as_str()),
+        OfficeFault::CannotWrite | OfficeFault::NotWritten => Fault::CannotWrite,
+        OfficeFault::NoMemory => Fault::NoMemory,
+    }
+}
+
+/// The opening of a desk: the solution that a file holds, or nothing.
+fn open_on<'i, S: Sheet<'i>, F: Files>(
+    alloc: Global,
+    files: &mut F,
+    instance: &'i Instance,
+    start: Option<String>,
+) -> Result<Opened<S>, Fault>
+    ensures problem { IfOk result (λ opened. opened.problem ≡ instance.now) }
+    ensures opens { IfOk result (λ opened.
+        IsOpenOn instance.now start (F.held files.old) opened.list) }
+    ensures kept { F.held files.new ≡ F.held files.old }
+    ensures cause { IfErr result (λ fault.
+        IsOfOpening start (F.held files.old) instance.now fault ⊎ IsOfWork fault) }
+{
+    let lectures = fetch_start(alloc, files, instance, start)?;
+    match Opened::<S>::new(alloc, instance, &lectures) {
+        Ok(opened) => Ok(opened),
+        Err(SharedFault::Unlawful(at, fault)) => {
+            Err(refused_opening(alloc, instance, at, &fault))
+        }
+        Err(SharedFault::NoPlace) => Err(Fault::NoPlace),
+        Err(SharedFault::NoMemory) => Err(Fault::NoMemory),
+    }
+}
+
+/// The file for minutes, if one is given, unless it has bytes.
+fn unused<O: Office>(office: &O, minutes: Option<String>) -> Result<Option<String>, Fault>
+    ensures { IfErr result (IsOfOldMinutes minutes) }
+{
+    let Some(name) = minutes else {
+        return Ok(None);
+    };
+    if office.has_bytes(&name) {
+        return Err(Fault::MinutesExist(name));
+    }
+    Ok(Some(name))
+}
+
+/// Where minutes are written, where a file is given for them.
+fn minutes_in<O: Office>(office: &O, minutes: Option<String>) -> Result<Option<O::Minutes>, Fault>
+    ensures { IfErr result (λ fault. fault ≡ CannotWrite) }
+{
+    let Some(name) = minutes else {
+        return Ok(None);
+    };
+    match office.open_minutes(&name) {
+        Ok(writer) => Ok(Some(writer)),
+        Err(_) => Err(Fault::CannotWrite),
+    }
+}
+
+/// Keeps a desk of the instance until all have left, and gives the last lines.
+fn keep<R: Threads + Wait + Sync, F: Files, O: Office>(
+    rt: &R,
+    alloc: Global,
+    files: &mut F,
+    office: &O,
+    instance: &Instance,
+    seats: &[String],
+    start: Option<String>,
+    minutes: Option<String>,
+) -> Result<Vec<u8>, Fault>
+    requires some { 1 ≤ length seats.now }
+    requires few { length seats.now ≤ 64 }
+    ensures tells { IfOk result (λ bytes.
+        IsOfDeskFrom instance.now start (F.held files.old) bytes.items) }
+    ensures kept { F.held files.new ≡ F.held files.old }
+    ensures cause { IfErr result (λ fault. IfUnwritten fault
+        (Unit {0})
+        (IsOfSeats seats.now start (F.held files.old) instance.now fault)) }
+{
+    let opened = open_on::<GridSheet, F>(alloc, files, instance, start)?;
+    let writer = match minutes_in(office, minutes) {
+        Ok(writer) => writer,
+        Err(fault) => {
+            let_go(opened);
+            return Err(fault);
+        }
+    };
+    match keep_desk(rt, alloc, instance, opened, seats, office, writer) {
+        Ok(text) => Ok(text),
+        Err(fault) => Err(fault_of_office(alloc, seats, fault)),
+    }
+}
+
+/// The same of the instance in a file. It is read first, then the barred rooms, and then the start.
+fn report<R: Threads + Wait + Sync, F: Files, O: Office>(
+    rt: &R,
+    alloc: Global,
+    files: &mut F,
+    office: &O,
+    instance: String,
+    barred: Option<String>,
+    seats: &[String],
+    start: Option<String>,
+    minutes: Option<String>,
+) -> Result<Vec<u8>, Fault>
+    requires some { 1 ≤ length seats.now }
+    requires few { length seats.now ≤ 64 }
+    ensures tells { IfOk result (λ bytes.
+        IsOfDeskOn instance barred start (F.held files.old) bytes.items) }
+    ensures kept { F.held files.new ≡ F.held files.old }
+    ensures cause { IfErr result (λ fault. IfUnwritten fault
+        (Unit {0})
+        (IsOfInstanceOr (IsOfSeats seats.now start) (F.held files.old) instance barred fault)) }
+{
+    let instance = fetch_instance(alloc, files, instance, barred)?;
+    let kept = keep(rt, alloc, files, office, &instance, seats, start, minutes);
+    let_go(instance);
+    kept
+}
+
+/// Keeps a desk of an instance with these seats until all planners have left, and prints how many drafts were accepted
+/// and what all costs: on standard output, unless that is a seat, and then on standard error. Nothing is opened where the
+/// seats are refused or the file of the minutes has bytes.
+pub fn desk<R: Threads + Wait + Sync, F: Files, O: Office, W: Sink, V: Sink>(
+    rt: &R,
+    alloc: Global,
+    files: &mut F,
+    office: &O,
+    out: &mut W,
+    err: &mut V,
+    instance: String,
+    barred: Option<String>,
+    seats: Vec<String>,
+    start: Option<String>,
+    minutes: Option<String>,
+) -> Result<(), Fault>
+    requires { 1 ≤ length seats.items }
+    ensures tells { OnOk result (TellsLast instance barred seats.items start (F.held files.old)
+        (W.taken out.old) (W.taken out.new) (V.taken err.old) (V.taken err.new)) }
+    ensures many { 64 < length seats.items → result ≡ Err BadSeats }
+    ensures twice { has_twice seats.items ≡ true → result ≡ Err BadSeats }
+    ensures unmarked { OnOk result (W.has_failed out.new ≡ W.has_failed out.old) }
+    ensures kept { F.held files.new ≡ F.held files.old }
+    ensures cause { IfErr result (λ fault. IfUnwritten fault
+        (Unit {0})
+        (IsOfDesk (F.held files.old) instance barred seats.items start minutes fault
+        × (W.has_failed out.new ≡ W.has_failed out.old))) }
+    ensures unwritten { IfErr result (λ fault. MayHaveWritten fault ⊎ (out.new ≡ out.old)) }
+    ensures unsaid { OnErr result ((err.new ≡ err.old) ⊎ (V.has_failed err.new ≡ true)) }
+{
+    if seats.len() > SEAT_LIMIT || has_twice(&seats) {
+        return Err(Fault::BadSeats);
+    }
+    let minutes = unused(office, minutes)?;
+    let report = report(
+        rt, alloc, files, office, instance, barred, &seats, start, minutes,
+    )?;
+    if has_seat(&seats, STANDARD) {
+        print(err, &report)
+    } else {
+        print(out, &report)
+    }
+}

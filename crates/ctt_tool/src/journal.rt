@@ -1,0 +1,97 @@
+//! The command `journal`.
+
+ghost use Rattle.std.specs.Prelude.{◌≡◌, ◌⊎◌, true, is_some, OnOk, OnErr, IfOk, IfErr};
+ghost use Rattle.ctt_tool.specs.Faults.{IfUnwritten};
+ghost use Rattle.ctt_tool.specs.Lists.{IsRecoveredJournal, PrintsEntries, PrintsJournal};
+ghost use Rattle.ctt_tool.specs.Refusals.{IsNoMinutes, IsOfMinutes, IsOfRecovery};
+ghost use Rattle.ctt_tool.specs.declared.fault.Fault.TheVariants.{NoMemory};
+
+use crate::fault::Fault;
+use crate::files::{Files, read_file};
+use crate::output::{complain, print};
+use crate::texts::fetch_instance;
+use ctt_office::read_blocks;
+use ctt_script::{Sink, write_journal};
+use ctt_text::{Instance, let_go};
+use std::alloc::Global;
+
+/// The line of an entry that is not whole, by the byte at which it begins; nothing where there is none.
+fn torn_line(alloc: Global, torn: Option<usize>) -> Result<String, Fault>
+    ensures { IfErr result (λ fault. fault ≡ NoMemory) }
+{
+    match torn {
+        Some(at) => Ok(format!(in alloc; "timedesk: torn at byte {at}\n")?),
+        None => Ok(String::new(alloc)),
+    }
+}
+
+/// The journal of the whole entries at the beginning of minutes, and the byte at which an entry begins that is not whole.
+fn recovered(
+    alloc: Global,
+    instance: &Instance,
+    minutes: &[u8],
+) -> Result<(Vec<u8>, Option<usize>), Fault>
+    ensures journal { IfOk result (λ r.
+        IsRecoveredJournal instance.now minutes.now (is_some r.1) r.0.items) }
+    ensures cause { IfErr result (λ fault.
+        IsNoMinutes instance.now minutes.now fault ⊎ (fault ≡ NoMemory)) }
+{
+    let blocks = read_blocks(alloc, instance, minutes)?;
+    let torn = blocks.torn;
+    let journal = write_journal(alloc, instance, &blocks.entries);
+    let_go(blocks);
+    Ok((journal?, torn))
+}
+
+/// Prints the journal of the whole entries at the beginning of minutes. An entry that is not whole is said on standard
+/// error.
+fn print_journal<F: Files, W: Sink, V: Sink>(
+    alloc: Global,
+    files: &mut F,
+    out: &mut W,
+    err: &mut V,
+    instance: &Instance,
+    minutes: String,
+) -> Result<(), Fault>
+    ensures prints { OnOk result (PrintsEntries instance.now minutes (F.held files.old)
+        (W.taken out.old) (W.taken out.new)) }
+    ensures unmarked { OnOk result (W.has_failed out.new ≡ W.has_failed out.old) }
+    ensures kept { F.held files.new ≡ F.held files.old }
+    ensures cause { IfErr result (λ fault. IfUnwritten fault
+        (W.has_failed out.new ≡ true)
+        (IsOfMinutes minutes (F.held files.old) instance.now fault × (out.new ≡ out.old))) }
+    ensures unsaid { OnErr result (err.new ≡ err.old) }
+{
+    let text = read_file(alloc, files, minutes)?;
+    let (journal, torn) = recovered(alloc, instance, &text)?;
+    let line = torn_line(alloc, torn)?;
+    print(out, &journal)?;
+    complain(err, line.as_bytes());
+    Ok(())
+}
+
+/// Prints the journal of minutes of an instance, each given by the name of its file. A last entry that is torn is left
+/// out, and said on standard error.
+pub fn journal<F: Files, W: Sink, V: Sink>(
+    alloc: Global,
+    files: &mut F,
+    out: &mut W,
+    err: &mut V,
+    instance: String,
+    barred: Option<String>,
+    minutes: String,
+) -> Result<(), Fault>
+    ensures prints { OnOk result (PrintsJournal instance barred minutes (F.held files.old)
+        (W.taken out.old) (W.taken out.new)) }
+    ensures unmarked { OnOk result (W.has_failed out.new ≡ W.has_failed out.old) }
+    ensures kept { F.held files.new ≡ F.held files.old }
+    ensures cause { IfErr result (λ fault. IfUnwritten fault
+        (W.has_failed out.new ≡ true)
+        (IsOfRecovery (F.held files.old) instance barred minutes fault × (out.new ≡ out.old))) }
+    ensures unsaid { OnErr result (err.new ≡ err.old) }
+{
+    let instance = fetch_instance(alloc, files, instance, barred)?;
+    let printed = print_journal(alloc, files, out, err, &instance, minutes);
+    let_go(instance);
+    printed
+}

@@ -1,0 +1,128 @@
+//! The command `list`.
+
+ghost use Rattle.std.specs.Prelude.{◌≡◌, true, OnOk, IfOk, IfErr, IfSome};
+ghost use Rattle.std.specs.List.{AllByRecursion as Each};
+ghost use Rattle.std.specs.String.{string_bytes};
+ghost use Rattle.ctt_text.specs.Timetable.{Fits};
+ghost use Rattle.ctt_core.specs.Entries.{EntryFits};
+ghost use Rattle.ctt_tool.specs.Faults.{IfUnwritten};
+ghost use Rattle.ctt_tool.specs.Lists.{ListsJournal, ListsOn, PrintsLeft};
+ghost use Rattle.ctt_tool.specs.Refusals.{IsLeftFault, IsOfAudit, IsOfAudited, IsOfJournal};
+ghost use Rattle.ctt_tool.specs.Texts.{IsJournalText};
+
+use crate::audit::print_verdict;
+use crate::fault::Fault;
+use crate::files::{Files, read_file};
+use crate::outcome::Outcome;
+use crate::output::print;
+use crate::texts::{fetch_instance, fetch_start};
+use ctt_board::{GridSheet, Sheet};
+use ctt_core::{JournalEntry, NoList, list_after};
+use ctt_script::{Sink, read_journal};
+use ctt_text::{Instance, Placed, let_go, write_solution};
+use std::alloc::Global;
+
+/// The entries of the journal in a file.
+fn fetch_entries<F: Files>(
+    alloc: Global,
+    files: &mut F,
+    instance: &Instance,
+    journal: String,
+) -> Result<Vec<JournalEntry>, Fault>
+    ensures spelled { IfOk result (λ entries.
+        IfSome (F.held files.old (string_bytes journal)) (λ text.
+        IsJournalText instance.now text entries.items)) }
+    ensures fit { IfOk result (λ entries. Each (EntryFits instance.now) entries.items) }
+    ensures kept { F.held files.new ≡ F.held files.old }
+    ensures cause { IfErr result (IsOfJournal journal (F.held files.old) instance.now) }
+{
+    let text = read_file(alloc, files, journal)?;
+    Ok(read_journal(alloc, instance, &text)?)
+}
+
+/// Prints the timetable that entries leave on the opening with these lectures, or what an audit finds.
+fn print_left<'i, S: Sheet<'i>, W: Sink>(
+    alloc: Global,
+    out: &mut W,
+    instance: &'i Instance,
+    lectures: &[Placed],
+    entries: &[JournalEntry],
+) -> Result<Outcome, Fault>
+    requires lectures { Each (Fits instance.now) lectures.now }
+    requires entries { Each (EntryFits instance.now) entries.now }
+    ensures prints { IfOk result (λ outcome.
+        PrintsLeft instance.now lectures.now entries.now outcome
+        (W.taken out.old) (W.taken out.new)) }
+    ensures unmarked { OnOk result (W.has_failed out.new ≡ W.has_failed out.old) }
+    ensures cause { IfErr result (λ fault. IfUnwritten fault
+        (W.has_failed out.new ≡ true)
+        (IsLeftFault instance.now lectures.now fault × (out.new ≡ out.old))) }
+{
+    match list_after::<S>(alloc, instance, lectures, entries) {
+        Ok(list) => {
+            let solution = write_solution(alloc, instance, &list)?;
+            print(out, &solution)?;
+            Ok(Outcome::Done)
+        }
+        Err(NoList::Found(verdict)) => print_verdict(alloc, out, instance, verdict),
+        Err(NoList::NoMemory) => Err(Fault::NoMemory),
+    }
+}
+
+/// Prints the timetable after the journal in a file on this kind of sheet, or what an audit finds. The file of the start
+/// is read behind that of the journal.
+fn list_on<'i, S: Sheet<'i>, F: Files, W: Sink>(
+    alloc: Global,
+    files: &mut F,
+    out: &mut W,
+    instance: &'i Instance,
+    journal: String,
+    start: Option<String>,
+) -> Result<Outcome, Fault>
+    ensures lists { IfOk result (λ outcome.
+        ListsOn instance.now journal start outcome (F.held files.old)
+        (W.taken out.old) (W.taken out.new)) }
+    ensures unmarked { OnOk result (W.has_failed out.new ≡ W.has_failed out.old) }
+    ensures unstored { F.held files.new ≡ F.held files.old }
+    ensures cause { IfErr result (λ fault. IfUnwritten fault
+        (W.has_failed out.new ≡ true)
+        (IsOfAudited journal start (F.held files.old) instance.now fault × (out.new ≡ out.old))) }
+{
+    let entries = fetch_entries(alloc, files, instance, journal)?;
+    let lectures = match fetch_start(alloc, files, instance, start) {
+        Ok(lectures) => lectures,
+        Err(fault) => {
+            let_go(entries);
+            return Err(fault);
+        }
+    };
+    let printed = print_left::<S, W>(alloc, out, instance, &lectures, &entries);
+    let_go(entries);
+    printed
+}
+
+/// Prints the timetable after a journal of an instance as a solution, where the audit agrees. Each text is given by the
+/// name of its file.
+pub fn list<F: Files, W: Sink>(
+    alloc: Global,
+    files: &mut F,
+    out: &mut W,
+    instance: String,
+    barred: Option<String>,
+    journal: String,
+    start: Option<String>,
+) -> Result<Outcome, Fault>
+    ensures lists { IfOk result (λ outcome.
+        ListsJournal instance barred journal start outcome (F.held files.old)
+        (W.taken out.old) (W.taken out.new)) }
+    ensures unmarked { OnOk result (W.has_failed out.new ≡ W.has_failed out.old) }
+    ensures unstored { F.held files.new ≡ F.held files.old }
+    ensures cause { IfErr result (λ fault. IfUnwritten fault
+        (W.has_failed out.new ≡ true)
+        (IsOfAudit (F.held files.old) instance barred journal start fault × (out.new ≡ out.old))) }
+{
+    let instance = fetch_instance(alloc, files, instance, barred)?;
+    let listed = list_on::<GridSheet, F, W>(alloc, files, out, &instance, journal, start);
+    let_go(instance);
+    listed
+}

@@ -1,0 +1,152 @@
+//! Seats and minutes by the names of their files.
+
+use ctt_office::{Doors, Durable};
+use ctt_script::{Device, Failed};
+use std::alloc::Global;
+use std::fs::{File, OpenOptions};
+use std::io::{Read, Write};
+use std::marker::{Send, Sync};
+use std::rt::{Stdin, Stdout};
+use std::{fs, io, rt};
+
+/// What a desk of seats opens by names.
+pub trait Office: Doors {
+    /// Where minutes are written.
+    type Minutes: Durable + Drop + Send;
+
+    /// Whether there is a file of this name that has bytes.
+    fn has_bytes(&self, name: &str) -> bool;
+
+    /// The file of this name, to be written at its end.
+    fn open_minutes(&self, name: &str) -> Result<Self::Minutes, Failed>;
+}
+
+/// The seat of standard input and standard output.
+pub const STANDARD: &str = "-";
+
+/// Where the lines of a seat come from.
+#[derive(Drop)]
+pub enum SeatInput<F> {
+    Standard(Stdin),
+    File(F),
+}
+
+impl<F: Read> Read for SeatInput<F> {
+    fn read(&mut self, buffer: &mut [u8]) -> io::Result<usize> {
+        match self {
+            SeatInput::Standard(input) => input.read(buffer),
+            SeatInput::File(file) => file.read(buffer),
+        }
+    }
+}
+
+/// Where the answers of a seat go.
+#[derive(Drop)]
+pub enum SeatOutput<F> {
+    Standard(Stdout),
+    File(F),
+}
+
+impl<F: Write> Write for SeatOutput<F> {
+    fn write(&mut self, bytes: &[u8]) -> io::Result<usize> {
+        match self {
+            SeatOutput::Standard(out) => out.write(bytes),
+            SeatOutput::File(file) => file.write(bytes),
+        }
+    }
+
+    fn flush(&mut self) -> io::Result<()> {
+        match self {
+            SeatOutput::Standard(out) => out.flush(),
+            SeatOutput::File(file) => file.flush(),
+        }
+    }
+}
+
+/// Seats and minutes in the files of the system.
+#[derive(Drop)]
+pub struct SystemOffice<'r, R> {
+    rt: &'r R,
+    alloc: Global,
+    input: Stdin,
+    out: Stdout,
+}
+
+impl<'r, R: rt::Files> SystemOffice<'r, R> {
+    /// Those that the runtime reaches.
+    pub fn new(rt: &'r R, alloc: Global, input: Stdin, out: Stdout) -> Self {
+        SystemOffice {
+            rt,
+            alloc,
+            input,
+            out,
+        }
+    }
+
+    /// The name of a seat's file.
+    fn file_name(&self, seat: &str, end: &str) -> Result<String, Failed> {
+        let Ok(mut name) = String::from_str(self.alloc, seat) else {
+            return Err(Failed);
+        };
+        match name.push_str(end) {
+            Ok(()) => Ok(name),
+            Err(_) => Err(Failed),
+        }
+    }
+}
+
+impl<'r, R: rt::Files + Sync> Doors for SystemOffice<'r, R>
+where
+    R::File: Send,
+{
+    type Input = Device<SeatInput<R::File>>;
+
+    type Output = Device<SeatOutput<R::File>>;
+
+    fn open_input(&self, seat: &str) -> Result<Self::Input, Failed> {
+        if seat == STANDARD {
+            return Ok(Device::new(SeatInput::Standard(self.input)));
+        }
+        let name = self.file_name(seat, ".in")?;
+        match fs::open(self.rt, name.as_str()) {
+            Ok(file) => Ok(Device::new(SeatInput::File(file))),
+            Err(_) => Err(Failed),
+        }
+    }
+
+    fn open_output(&self, seat: &str) -> Result<Self::Output, Failed> {
+        if seat == STANDARD {
+            return Ok(Device::new(SeatOutput::Standard(self.out)));
+        }
+        let name = self.file_name(seat, ".out")?;
+        match fs::create(self.rt, name.as_str()) {
+            Ok(file) => Ok(Device::new(SeatOutput::File(file))),
+            Err(_) => Err(Failed),
+        }
+    }
+}
+
+impl<'r, R: rt::Files + Sync> Office for SystemOffice<'r, R>
+where
+    R::File: Send,
+{
+    type Minutes = Device<R::File>;
+
+    fn has_bytes(&self, name: &str) -> bool {
+        match fs::metadata(self.rt, name) {
+            Ok(found) => found.len() > 0,
+            Err(_) => false,
+        }
+    }
+
+    fn open_minutes(&self, name: &str) -> Result<Device<R::File>, Failed> {
+        match OpenOptions::new()
+            .append(true)
+            .create(true)
+            .open(self.rt, name)
+        {
+            Ok(file) => Ok(Device::new(file)),
+            Err(_) => Err(Failed),
+        }
+    }
+}
