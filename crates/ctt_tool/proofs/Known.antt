@@ -1,21 +1,20 @@
 -- What holds where bytes are told.
-use Rattle.std.proofs.Common.{◌≡◌, ◌≤◌, ◌<◌, ◌⊎◌, ⊎_elim, length, arith, string_bytes, inl, inr, ap, ℕ, Bool, true, List, refl, sym, subst, IfErr, IsErrAnd, OnOk, Option, Result, Ok, Err}
+use Rattle.std.proofs.Common.{◌≡◌, ◌≤◌, ◌<◌, ◌⊎◌, ⊎_elim, length, arith, string_bytes, inl, inr, ap, ℕ, Bool, true, List, refl, sym, subst, Option}
 use Rattle.std.specs.Io.KnownBytes.{Appends}
 use Rattle.std.proofs.lemmas.List.{length-map}
-use Rattle.ctt_tool.specs.Faults.{IfUnwritten, IsLineOf, KeptUnless, SaysFault, status_of}
+use Rattle.ctt_files.specs.Faults.{IfUnwritten, IsLineOf, status_of}
+use Rattle.ctt_tool.specs.Faults.{KeptUnless, SaysFault}
 use Rattle.ctt_tool.specs.Jobs.{HasBadSeats, HasScripts, IsJobOf, IsRefusal, Storing, faults_of, scripts_of}
-use Rattle.ctt_tool.specs.Refusals.{IsOfAudited, IsOfMinutes, IsOfScript, IsOfScripts, IsOfSeats, IsOfSolution}
-use Rattle.ctt_tool.specs.Texts.{Held}
+use Rattle.ctt_files.specs.Refusals.{IsOfSolution}
+use Rattle.ctt_tool.specs.Refusals.{IsOfAudited, IsOfMinutes, IsOfScript, IsOfScripts, IsOfSeats}
+use Rattle.ctt_files.specs.Texts.{Held}
 use Rattle.ctt_tool.specs.Work.{AsksForBadSeats, AsksForRefusedText, AsksForTooMany, HasCause, IsOfJob}
-use Rattle.ctt_tool.specs.declared.fault.Fault.{Fault}
-use Rattle.ctt_tool.specs.declared.fault.Fault.TheVariants.{BadSeats, Barred, CannotRead, CannotWrite, Instance, Journal, MinutesExist, NoMemory, NoPlace, NoThread, Opening, Solution, TooLong, TooManyScripts, Words, WordsNotText}
+use Rattle.ctt_files.specs.declared.fault.Fault.{Fault}
+use Rattle.ctt_files.specs.declared.fault.Fault.TheVariants.{BadSeats, Barred, CannotRead, CannotWrite, Instance, Journal, MinutesExist, NoMemory, NoPlace, NoThread, Opening, Solution, TooLong, TooManyScripts, Words, WordsNotText}
 use Rattle.ctt_tool.specs.declared.job.Job.{Job}
 use Rattle.ctt_tool.specs.declared.job.Job.TheVariants.{Audit, Check, Crew, Desk, Journal as Journals, Listing, Run}
-use Rattle.ctt_tool.proofs.Plain.{IsPlain, audited_plain, behind_plain, minutes_plain, script_plain, scripts_plain, seats_plain, solution_file_plain, unwritten_more}
-
-pub on_ok_weaker : {T E : Type 0} (r : Result T E) (P Q : Type 0) → (P → Q) → OnOk r P → OnOk r Q
-on_ok_weaker (Ok x) P Q more holds = more holds
-on_ok_weaker (Err e) P Q more holds = tt
+use Rattle.ctt_files.proofs.Plain.{IsPlain, behind_plain, solution_file_plain, unwritten_more}
+use Rattle.ctt_tool.proofs.Plain.{audited_plain, minutes_plain, script_plain, scripts_plain, seats_plain}
 
 -- what is said whole, where the mark is not set, is the line of a fault
 pub says_fault : (M U : Type 0) (C : Fault → Type 0) (fault : Fault) (old new : Option (List ℕ)) (bytes : List ℕ) → C fault → IsLineOf fault bytes → M ⊎ (U × Appends old new bytes)
@@ -147,11 +146,6 @@ job_has_scripts words (Crew instance barred scripts) is = subst (λ n. 1 ≤ n) 
 job_has_scripts words (Desk instance barred seats start minutes) is = subst (λ n. 1 ≤ n) (length-map seats.items string_bytes) is.2.has_some
 job_has_scripts words (Journals instance barred minutes) is = tt
 job_has_scripts words (Listing instance barred journal start) is = tt
-
--- what holds of a fault holds where it is passed on
-pub passed_on : {T : Type 0} (r : Result T Fault) (fault : Fault) (P : Fault → Type 0) → IsErrAnd r (λ told. told ≡ fault) → P fault → IfErr r P
-passed_on (Ok x) fault P same holds = tt
-passed_on (Err told) fault P same holds = subst P (sym same) holds
 
 -- what is so of files that are kept, and of the cause of the others, may be said otherwise
 pub kept_weaker : (fault : Fault) (S R K L : Type 0) → (S → R) → (K → L) → KeptUnless fault S K → KeptUnless fault R L

@@ -5,18 +5,18 @@ use Rattle.ctt_tool.specs.Audits.{AuditsJournal}
 use Rattle.ctt_tool.specs.Checks.{PrintsReport}
 use Rattle.ctt_tool.specs.Crews.{PrintsCrew}
 use Rattle.ctt_tool.specs.Desks.{PrintsLast}
-use Rattle.ctt_tool.specs.Faults.{status_of}
+use Rattle.ctt_files.specs.Faults.{status_of}
 use Rattle.ctt_tool.specs.Jobs.{HasBadSeats, IsJobOf, IsRefusal, IsRequest, Saying, Storing, faults_of, scripts_of}
 use Rattle.ctt_tool.specs.Lists.{ListsJournal, PrintsJournal}
 use Rattle.ctt_tool.specs.Refusals.{IsOfAudit, IsOfCheck, IsOfCrew, IsOfDesk, IsOfRecovery, IsOfRun}
 use Rattle.ctt_tool.specs.Runs.{RunsScript}
-use Rattle.ctt_tool.specs.Texts.{Held}
-use Rattle.ctt_tool.specs.declared.fault.Fault.{Fault}
-use Rattle.ctt_tool.specs.declared.fault.Fault.TheVariants.{CannotWrite, NoMemory, Words, WordsNotText}
+use Rattle.ctt_files.specs.Texts.{Held}
+use Rattle.ctt_files.specs.declared.fault.Fault.{Fault}
+use Rattle.ctt_files.specs.declared.fault.Fault.TheVariants.{CannotWrite, NoMemory, Words, WordsNotText}
 use Rattle.ctt_tool.specs.declared.job.Job.{Job}
 use Rattle.ctt_tool.specs.declared.job.Job.TheVariants.{Audit, Check, Crew, Desk, Journal, Listing, Run}
-use Rattle.ctt_tool.specs.declared.outcome.Outcome.{Outcome}
-use Rattle.ctt_tool.specs.declared.outcome.Outcome.TheVariants.{Done}
+use Rattle.ctt_files.specs.declared.outcome.Outcome.{Outcome}
+use Rattle.ctt_files.specs.declared.outcome.Outcome.TheVariants.{Done}
 
 -- the job is done over these files, where they tell their bytes; its answer is printed, and the program ends as it says
 abbrev pub DoesJob : Job → Outcome → Held → Held → Option Text → Option Text → Type 0

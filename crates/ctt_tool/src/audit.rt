@@ -8,7 +8,7 @@ ghost use Rattle.ctt_text.specs.Words.{words};
 ghost use Rattle.ctt_core.specs.declared.journal.JournalEntry.{JournalEntry};
 ghost use Rattle.ctt_script.specs.AuditedText.{AuditsText};
 ghost use Rattle.ctt_tool.specs.Audits.{AuditsJournal, AuditsOn, FindsIn, IsVerdictFault, PrintsVerdict, VerdictFits};
-ghost use Rattle.ctt_tool.specs.Faults.{IfUnwritten};
+ghost use Rattle.ctt_files.specs.Faults.{IfUnwritten};
 ghost use Rattle.ctt_tool.specs.Refusals.{IsNoJournalOf, IsOfAudit, IsOfAudited};
 ghost use Rattle.ctt_tool.specs.Texts.{IsJournalText};
 
@@ -20,7 +20,8 @@ use crate::output::print;
 use crate::texts::{fetch_instance, fetch_start};
 use ctt_board::{GridSheet, Sheet};
 use ctt_core::Verdict;
-use ctt_script::{Sink, audit_journal, read_journal};
+use ctt_devices::Sink;
+use ctt_script::{audit_journal, read_journal};
 use ctt_text::{Instance, Placed, let_go};
 use std::alloc::Global;
 

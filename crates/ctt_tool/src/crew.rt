@@ -3,16 +3,18 @@
 ghost use Rattle.std.specs.Prelude.{◌≡◌, ◌≤◌, ◌<◌, [], Err, length, true, OnOk, IfOk, IfErr};
 ghost use Rattle.ctt_crew.specs.CrewText.{IsCrewText};
 ghost use Rattle.ctt_tool.specs.Crews.{IsOfCrewOn, PrintsCrew};
-ghost use Rattle.ctt_tool.specs.Faults.{IfUnwritten};
-ghost use Rattle.ctt_tool.specs.Refusals.{IsOfCrew, IsOfInstanceOr, IsOfScripts, IsOfWork};
-ghost use Rattle.ctt_tool.specs.declared.fault.Fault.TheVariants.{TooManyScripts};
+ghost use Rattle.ctt_files.specs.Faults.{IfUnwritten};
+ghost use Rattle.ctt_files.specs.Refusals.{IsOfInstanceOr};
+ghost use Rattle.ctt_tool.specs.Refusals.{IsOfCrew, IsOfScripts, IsOfWork};
+ghost use Rattle.ctt_files.specs.declared.fault.Fault.TheVariants.{TooManyScripts};
 
 use crate::fault::Fault;
 use crate::files::{Files, read_files};
 use crate::output::print;
 use crate::texts::fetch_instance;
 use ctt_crew::NoGate;
-use ctt_script::{PLANNERS, Sink};
+use ctt_devices::Sink;
+use ctt_script::PLANNERS;
 use ctt_text::{Instance, let_go};
 use std::alloc::Global;
 use std::marker::Sync;

@@ -1,17 +1,18 @@
 //! The command `journal`.
 
 ghost use Rattle.std.specs.Prelude.{◌≡◌, ◌⊎◌, true, is_some, OnOk, OnErr, IfOk, IfErr};
-ghost use Rattle.ctt_tool.specs.Faults.{IfUnwritten};
+ghost use Rattle.ctt_files.specs.Faults.{IfUnwritten};
 ghost use Rattle.ctt_tool.specs.Lists.{IsRecoveredJournal, PrintsEntries, PrintsJournal};
 ghost use Rattle.ctt_tool.specs.Refusals.{IsNoMinutes, IsOfMinutes, IsOfRecovery};
-ghost use Rattle.ctt_tool.specs.declared.fault.Fault.TheVariants.{NoMemory};
+ghost use Rattle.ctt_files.specs.declared.fault.Fault.TheVariants.{NoMemory};
 
 use crate::fault::Fault;
 use crate::files::{Files, read_file};
 use crate::output::{complain, print};
 use crate::texts::fetch_instance;
+use ctt_devices::Sink;
 use ctt_office::read_blocks;
-use ctt_script::{Sink, write_journal};
+use ctt_script::write_journal;
 use ctt_text::{Instance, let_go};
 use std::alloc::Global;
 

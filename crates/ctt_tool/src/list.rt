@@ -5,7 +5,7 @@ ghost use Rattle.std.specs.List.{AllByRecursion as Each};
 ghost use Rattle.std.specs.String.{string_bytes};
 ghost use Rattle.ctt_text.specs.Timetable.{Fits};
 ghost use Rattle.ctt_core.specs.Entries.{EntryFits};
-ghost use Rattle.ctt_tool.specs.Faults.{IfUnwritten};
+ghost use Rattle.ctt_files.specs.Faults.{IfUnwritten};
 ghost use Rattle.ctt_tool.specs.Lists.{ListsJournal, ListsOn, PrintsLeft};
 ghost use Rattle.ctt_tool.specs.Refusals.{IsLeftFault, IsOfAudit, IsOfAudited, IsOfJournal};
 ghost use Rattle.ctt_tool.specs.Texts.{IsJournalText};
@@ -18,7 +18,8 @@ use crate::output::print;
 use crate::texts::{fetch_instance, fetch_start};
 use ctt_board::{GridSheet, Sheet};
 use ctt_core::{JournalEntry, NoList, list_after};
-use ctt_script::{Sink, read_journal};
+use ctt_devices::Sink;
+use ctt_script::read_journal;
 use ctt_text::{Instance, Placed, let_go, write_solution};
 use std::alloc::Global;
 

@@ -21,10 +21,10 @@ mod texts;
 ghost use Rattle.std.specs.Prelude.{◌≡◌, ◌≢◌, ◌≤◌, ◌⊎◌, ℕ, List, true, false, IfErr};
 ghost use Rattle.ctt_tool.specs.Faults.{SaysFault};
 ghost use Rattle.ctt_tool.specs.Work.{AsksForRefusedText, AsksToSay, DoesAsAsked, IsOfWords};
-ghost use Rattle.ctt_tool.specs.declared.fault.Fault.TheVariants.{NoMemory, WordsNotText};
-ghost use Rattle.ctt_tool.specs.declared.outcome.Outcome.TheVariants.{Differs, Done};
+ghost use Rattle.ctt_files.specs.declared.fault.Fault.TheVariants.{NoMemory, WordsNotText};
+ghost use Rattle.ctt_files.specs.declared.outcome.Outcome.TheVariants.{Differs, Done};
 
-use ctt_script::{Device, Sink};
+use ctt_devices::{Device, Sink};
 use fault::Fault;
 use files::{Files, SystemFiles};
 use office::{Office, SystemOffice};

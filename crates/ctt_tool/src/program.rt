@@ -1,11 +1,12 @@
 //! What the program does.
 
 ghost use Rattle.std.specs.Prelude.{◌≡◌, ◌≢◌, ◌≤◌, ◌⊎◌, [], true, false, map, OnOk, OnErr, IfOk, IfErr};
-ghost use Rattle.ctt_tool.specs.Faults.{IfUnwritten, KeptUnless, MayHaveWritten, SaysFault, status_of};
+ghost use Rattle.ctt_files.specs.Faults.{IfUnwritten, MayHaveWritten, status_of};
+ghost use Rattle.ctt_tool.specs.Faults.{KeptUnless, SaysFault};
 ghost use Rattle.ctt_tool.specs.Jobs.{HasScripts, IsRefusal, Saying, Storing, faults_of};
 ghost use Rattle.ctt_tool.specs.Work.{AsksForBadSeats, AsksForRefusedText, AsksForTooMany, AsksToSay, AsksToStore, DoesAsAsked, DoesJob, HasCause, IsOfJob};
-ghost use Rattle.ctt_tool.specs.declared.fault.Fault.TheVariants.{NoMemory};
-ghost use Rattle.ctt_tool.specs.declared.outcome.Outcome.TheVariants.{Differs, Done};
+ghost use Rattle.ctt_files.specs.declared.fault.Fault.TheVariants.{NoMemory};
+ghost use Rattle.ctt_files.specs.declared.outcome.Outcome.TheVariants.{Differs, Done};
 
 use crate::audit::audit;
 use crate::check::check;
@@ -20,7 +21,7 @@ use crate::office::Office;
 use crate::outcome::Outcome;
 use crate::output::{complain, print};
 use crate::run::run;
-use ctt_script::Sink;
+use ctt_devices::Sink;
 use std::alloc::Global;
 use std::marker::Sync;
 use std::sync::Wait;

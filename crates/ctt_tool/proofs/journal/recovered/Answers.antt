@@ -1,8 +1,8 @@
 use Rattle.std.proofs.Common.{◌≡◌, ◌⊎◌, inl, refl}
 use Rattle.ctt_tool.specs.Faults.{fault_of_journal}
 use Rattle.ctt_tool.specs.Refusals.{IsNoMinutes}
-use Rattle.ctt_tool.specs.declared.fault.Fault.TheVariants.{NoMemory}
-use Rattle.ctt_tool.proofs.Known.{passed_on}
+use Rattle.ctt_files.specs.declared.fault.Fault.TheVariants.{NoMemory}
+use Rattle.ctt_files.proofs.Plain.{passed_on}
 use Rattle.ctt_tool.proofs.journal.recovered.Goals as goal
 
 pub returns-in_err-blocks-clause-cause : goal.returns-in_err-blocks-clause-cause

@@ -4,8 +4,7 @@ use Rattle.ctt_tool.specs.Faults.{fault_of_journal}
 use Rattle.ctt_tool.specs.Refusals.{IsNoJournalOf, IsOfJournal}
 use Rattle.ctt_tool.specs.Texts.{IsJournalText}
 use Rattle.ctt_tool.proofs.Causes.{no_journal}
-use Rattle.ctt_tool.proofs.Known.{passed_on}
-use Rattle.ctt_tool.proofs.Plain.{of_text}
+use Rattle.ctt_files.proofs.Plain.{of_text, passed_on}
 use Rattle.ctt_tool.proofs.list.fetch_entries.Goals as goal
 
 pub returns-in_err-text-clause-cause : goal.returns-in_err-text-clause-cause
