@@ -1,13 +1,13 @@
 -- How the program ends, by its status.
 use Rattle.std.proofs.Common.{◌≡◌, ◌≢◌, ◌∙◌, ◌⊎◌, sym, inl, inr, true, ⊎_elim, subst, ℕ, Bool, List, [], Option, arith}
+use Rattle.ctt_words.specs.Jobs.{faults_of}
+use Rattle.ctt_words.specs.declared.job.Job.TheVariants.{Audit, Check, Crew, Desk, Journal as Journals, Listing, Run}
 use Rattle.ctt_tool.specs.Faults.{KeptUnless, MayHaveWritten, SaysFault, status_of}
-use Rattle.ctt_tool.specs.Jobs.{faults_of}
 use Rattle.ctt_tool.specs.Outcomes.{outcome_status}
 use Rattle.ctt_tool.specs.Texts.{Held}
 use Rattle.ctt_tool.specs.Work.{DoesAsAsked, HasCause, IsOfWords}
 use Rattle.ctt_tool.specs.declared.fault.Fault.{Fault}
 use Rattle.ctt_tool.specs.declared.fault.Fault.TheVariants.{BadSeats, Barred, CannotRead, CannotWrite, Instance, Journal, MinutesExist, NoMemory, NoPlace, NoThread, Opening, Solution, TooLong, TooManyScripts, Words, WordsNotText}
-use Rattle.ctt_tool.specs.declared.job.Job.TheVariants.{Audit, Check, Crew, Desk, Journal as Journals, Listing, Run}
 use Rattle.ctt_tool.specs.declared.outcome.Outcome.{Outcome}
 use Rattle.ctt_tool.specs.declared.outcome.Outcome.TheVariants.{Done, Differs}
 use Rattle.ctt_tool.proofs.Causes.{three_is_one}

@@ -1,16 +1,16 @@
 -- What holds where bytes are told.
-use Rattle.std.proofs.Common.{◌≡◌, ◌≤◌, ◌<◌, ◌⊎◌, ⊎_elim, length, arith, string_bytes, inl, inr, ap, ℕ, Bool, true, List, refl, sym, subst, IfErr, IsErrAnd, OnOk, Option, Result, Ok, Err}
+use Rattle.std.proofs.Common.{◌≡◌, ◌<◌, ◌⊎◌, ⊎_elim, length, arith, inl, inr, ap, ℕ, Bool, true, List, refl, sym, subst, IfErr, IsErrAnd, OnOk, Option, Result, Ok, Err}
 use Rattle.std.specs.Io.KnownBytes.{Appends}
-use Rattle.std.proofs.lemmas.List.{length-map}
+use Rattle.ctt_words.specs.Jobs.{IsJobOf, IsRefusal, faults_of}
+use Rattle.ctt_words.specs.declared.job.Job.{Job}
+use Rattle.ctt_words.specs.declared.job.Job.TheVariants.{Audit, Check, Crew, Desk, Journal as Journals, Listing, Run}
 use Rattle.ctt_tool.specs.Faults.{IfUnwritten, IsLineOf, KeptUnless, SaysFault, status_of}
-use Rattle.ctt_tool.specs.Jobs.{HasBadSeats, HasScripts, IsJobOf, IsRefusal, Storing, faults_of, scripts_of}
+use Rattle.ctt_tool.specs.Jobs.{HasBadSeats, Storing, scripts_of}
 use Rattle.ctt_tool.specs.Refusals.{IsOfAudited, IsOfMinutes, IsOfScript, IsOfScripts, IsOfSeats, IsOfSolution}
 use Rattle.ctt_tool.specs.Texts.{Held}
 use Rattle.ctt_tool.specs.Work.{AsksForBadSeats, AsksForRefusedText, AsksForTooMany, HasCause, IsOfJob}
 use Rattle.ctt_tool.specs.declared.fault.Fault.{Fault}
 use Rattle.ctt_tool.specs.declared.fault.Fault.TheVariants.{BadSeats, Barred, CannotRead, CannotWrite, Instance, Journal, MinutesExist, NoMemory, NoPlace, NoThread, Opening, Solution, TooLong, TooManyScripts, Words, WordsNotText}
-use Rattle.ctt_tool.specs.declared.job.Job.{Job}
-use Rattle.ctt_tool.specs.declared.job.Job.TheVariants.{Audit, Check, Crew, Desk, Journal as Journals, Listing, Run}
 use Rattle.ctt_tool.proofs.Plain.{IsPlain, audited_plain, behind_plain, minutes_plain, script_plain, scripts_plain, seats_plain, solution_file_plain, unwritten_more}
 
 pub on_ok_weaker : {T E : Type 0} (r : Result T E) (P Q : Type 0) → (P → Q) → OnOk r P → OnOk r Q
@@ -137,16 +137,6 @@ asked_one words held failed NoThread has one = absurd (omega (arith, one))
 asked_one words held failed NoPlace has one = absurd (omega (arith, one))
 asked_one words held failed BadSeats has one = absurd (omega (arith, one))
 asked_one words held failed (MinutesExist name) has one = absurd (omega (arith, one))
-
--- a job that words ask for has what a crew needs
-pub job_has_scripts : (words : List (List ℕ)) (job : Job) → IsJobOf words job → HasScripts job
-job_has_scripts words (Check instance barred solution json) is = tt
-job_has_scripts words (Run instance barred script start journal) is = tt
-job_has_scripts words (Audit instance barred journal start) is = tt
-job_has_scripts words (Crew instance barred scripts) is = subst (λ n. 1 ≤ n) (length-map scripts.items string_bytes) is.2.has_some
-job_has_scripts words (Desk instance barred seats start minutes) is = subst (λ n. 1 ≤ n) (length-map seats.items string_bytes) is.2.has_some
-job_has_scripts words (Journals instance barred minutes) is = tt
-job_has_scripts words (Listing instance barred journal start) is = tt
 
 -- what holds of a fault holds where it is passed on
 pub passed_on : {T : Type 0} (r : Result T Fault) (fault : Fault) (P : Fault → Type 0) → IsErrAnd r (λ told. told ≡ fault) → P fault → IfErr r P

@@ -1,9 +1,3 @@
-pub mod Commands
-pub mod Matches
-pub mod Rows
-pub mod Walks
-pub mod Entered
-pub mod Taken
 pub mod Plain
 pub mod Known
 pub mod Causes

@@ -1,41 +1,12 @@
--- The files of a crew's scripts: as the words give them, and as they are read.
-use Rattle.std.proofs.Common.{◌≡◌, ◌++◌, ◌+◌, ◌≤◌, ℕ, true, List, [], ◌∷◌, Option, Some, None, IsSome, inl, inr, refl, sym, ap, subst, map, length, arith, option_map, is_some}
-use Rattle.std.specs.Prelude.{option_and_then, slice_get, find}
+-- The files of a crew's scripts, as they are read.
+use Rattle.std.proofs.Common.{◌≡◌, ◌++◌, ◌+◌, ℕ, List, [], ◌∷◌, inl, inr, refl, sym, ap, subst, map, length, arith}
 use Rattle.std.specs.Global.{Global}
-use Rattle.std.specs.Str.{bytes_eq}
 use Rattle.std.specs.declared.string.String.{String}
 use Rattle.std.proofs.lemmas.List.{append-nil, length-append}
-use Rattle.clap.specs.Words.{Row, Text, all_of, first_of}
 use Rattle.ctt_tool.specs.Refusals.{IsOfFile, IsOfFiles}
 use Rattle.ctt_tool.specs.Texts.{Held, Holds, HoldInTurn}
 use Rattle.ctt_tool.specs.declared.fault.Fault.{Fault}
 use Rattle.ctt_tool.specs.declared.fault.Fault.TheVariants.{NoMemory}
-
--- ---- what the words give
-
-given_here : (o : Option Row) → is_some (option_and_then (λ (r : Row). slice_get r.values 0) o) ≡ true → is_some (option_map (λ (r : Row). r.values) o) ≡ true
-given_here None first = first
-given_here (Some r) first = refl
-
--- where there is a first file, all are there
-pub all_are_given : (id : Text) (rows : List Row) → IsSome (first_of id rows) → is_some (all_of id rows) ≡ true
-all_are_given id rows first = given_here (find (λ r. bytes_eq r.id id) rows) first
-
-some_first : (values : List Text) → is_some (slice_get values 0) ≡ true → 1 ≤ length values
-some_first [] first = cc
-some_first (v ∷ vs) first = omega arith
-
-some_here : (o : Option Row) (texts : List Text) → is_some (option_and_then (λ (r : Row). slice_get r.values 0) o) ≡ true → option_map (λ (r : Row). r.values) o ≡ Some texts → 1 ≤ length texts
-some_here None texts first all = cc
-some_here (Some r) texts first all =
-    let same : r.values ≡ texts = cc in
-    subst (λ (values : List Text). 1 ≤ length values) same (some_first r.values first)
-
--- and they are one or more
-pub some_are_given : (id : Text) (rows : List Row) (texts : List Text) → IsSome (first_of id rows) → all_of id rows ≡ Some texts → 1 ≤ length texts
-some_are_given id rows texts first all = some_here (find (λ r. bytes_eq r.id id) rows) texts first all
-
--- ---- what is read
 
 -- these texts are those of the files before the ones that are left
 pub record IsRead {X : Type 0} (bytes_of : X → List ℕ) (held : Held) (names left : List (String Global)) (texts : List X) : Type 0 where

@@ -7,7 +7,6 @@ mod crew;
 mod desk;
 mod fault;
 mod files;
-mod job;
 mod journal;
 mod list;
 mod office;
