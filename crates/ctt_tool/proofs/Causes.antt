@@ -1,5 +1,5 @@
 -- Why a journal is refused.
-use Rattle.std.proofs.Common.{◌≡◌, ◌∙◌, ◌⊎◌, inl, inr, ap, subst, sym, ℕ, List, arith, IfErr, IsErrAnd, Result, Ok, Err}
+use Rattle.std.proofs.Common.{◌≡◌, ◌∙◌, ap, subst, sym, ℕ, List}
 use Rattle.std.specs.Str.{IsUtf8}
 use Rattle.ctt_text.specs.Problem.{Problem}
 use Rattle.ctt_text.specs.Words.{words}
@@ -11,13 +11,9 @@ use Rattle.ctt_tool.specs.Refusals.{IsNoJournalOf}
 use Rattle.ctt_files.specs.Faults.{status_of}
 use Rattle.ctt_tool.specs.Faults.{fault_of_journal}
 use Rattle.ctt_files.specs.declared.fault.Fault.{Fault}
+use Rattle.ctt_files.proofs.Causes.{three_is_one}
 
--- the status that is told is that of the fault, unless it is 3
-pub one_is_of_fault : (fault : Fault) (status : ℕ) → (status ≡ status_of fault) ⊎ (status ≡ 3) → status ≡ 1 → status_of fault ≡ 1
-one_is_of_fault fault status (inl same) one = sym same ∙ one
-one_is_of_fault fault status (inr three) one = absurd (omega (arith, three, one))
-
--- or that of no journal
+-- where the fault is no want of memory, the text is that of no journal
 abbrev pub TakesJournals : Problem → List ℕ → JournalFault → Type 0
 TakesJournals problem bytes read = (entries : List JournalEntry) → IsUtf8 bytes → JournalSpells problem (words bytes) entries → read ≡ journal.NoMemory
 
@@ -28,8 +24,3 @@ no_journal read problem bytes meets takes fault is = record {
   meets = meets;
   is_none = λ one entries text. three_is_one (subst (λ other. status_of (fault_of_journal other) ≡ 1) (takes entries text.is_text text.spells) (sym (ap status_of is) ∙ one));
 }
-
--- a fault that is told so
-pub passed_text : {T : Type 0} (r : Result T Fault) (told : Fault) (P : Fault → Type 0) → IsErrAnd r (λ fault. fault ≡ told) → ((fault : Fault) → fault ≡ told → P fault) → IfErr r P
-passed_text (Ok x) told P gives none = tt
-passed_text (Err fault) told P gives none = none fault gives

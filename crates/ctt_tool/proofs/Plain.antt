@@ -12,6 +12,7 @@ use Rattle.ctt_tool.specs.Refusals.{IsOfAudited, IsOfJournal, IsOfMinutes, IsOfO
 use Rattle.ctt_files.specs.Texts.{Held}
 use Rattle.ctt_files.specs.declared.fault.Fault.{Fault}
 use Rattle.ctt_files.specs.declared.fault.Fault.TheVariants.{NoMemory}
+use Rattle.ctt_files.proofs.Plain.{IsPlain, file_text_plain, files_plain, plain_written, start_plain}
 
 journal_plain : (met : JournalFault) → IsPlain (fault_of_journal met)
 journal_plain (journal.NotText byte) = tt

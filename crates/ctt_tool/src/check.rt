@@ -8,11 +8,8 @@ ghost use Rattle.ctt_files.specs.Faults.{IfUnwritten};
 ghost use Rattle.ctt_files.specs.Refusals.{IsOfSolution};
 ghost use Rattle.ctt_tool.specs.Refusals.{IsOfCheck};
 
-use crate::fault::Fault;
-use crate::files::Files;
-use crate::output::print;
-use crate::texts::{fetch_instance, fetch_solution};
 use ctt_devices::Sink;
+use ctt_files::{Fault, Files, fetch_instance, fetch_solution, print};
 use ctt_script::{report_json, report_text};
 use ctt_text::{Instance, NoMemory, Placed, let_go};
 use std::alloc::Global;

@@ -6,11 +6,9 @@ ghost use Rattle.ctt_tool.specs.Lists.{IsRecoveredJournal, PrintsEntries, Prints
 ghost use Rattle.ctt_tool.specs.Refusals.{IsNoMinutes, IsOfMinutes, IsOfRecovery};
 ghost use Rattle.ctt_files.specs.declared.fault.Fault.TheVariants.{NoMemory};
 
-use crate::fault::Fault;
-use crate::files::{Files, read_file};
-use crate::output::{complain, print};
-use crate::texts::fetch_instance;
+use crate::refused::refused_journal;
 use ctt_devices::Sink;
+use ctt_files::{Fault, Files, complain, fetch_instance, print, read_file};
 use ctt_office::read_blocks;
 use ctt_script::write_journal;
 use ctt_text::{Instance, let_go};
@@ -37,7 +35,10 @@ fn recovered(
     ensures cause { IfErr result (λ fault.
         IsNoMinutes instance.now minutes.now fault ⊎ (fault ≡ NoMemory)) }
 {
-    let blocks = read_blocks(alloc, instance, minutes)?;
+    let blocks = match read_blocks(alloc, instance, minutes) {
+        Ok(blocks) => blocks,
+        Err(fault) => return Err(refused_journal(fault)),
+    };
     let torn = blocks.torn;
     let journal = write_journal(alloc, instance, &blocks.entries);
     let_go(blocks);

@@ -5,18 +5,12 @@ mod audit;
 mod check;
 mod crew;
 mod desk;
-mod fault;
-mod files;
-mod job;
 mod journal;
 mod list;
 mod office;
-mod opening;
-mod outcome;
-mod output;
+mod refused;
 mod program;
 mod run;
-mod texts;
 
 ghost use Rattle.std.specs.Prelude.{◌≡◌, ◌≢◌, ◌≤◌, ◌⊎◌, ℕ, List, true, false, IfErr};
 ghost use Rattle.ctt_tool.specs.Faults.{SaysFault};
@@ -25,8 +19,7 @@ ghost use Rattle.ctt_files.specs.declared.fault.Fault.TheVariants.{NoMemory, Wor
 ghost use Rattle.ctt_files.specs.declared.outcome.Outcome.TheVariants.{Differs, Done};
 
 use ctt_devices::{Device, Sink};
-use fault::Fault;
-use files::{Files, SystemFiles};
+use ctt_files::{Fault, Files, SystemFiles};
 use office::{Office, SystemOffice};
 use program::{fail_with, program};
 use std::alloc::AllocError;

@@ -15,14 +15,12 @@ ghost use Rattle.ctt_tool.specs.Refusals.{IsAnswerFault, IsOfRun, IsOfScript};
 ghost use Rattle.ctt_tool.specs.Runs.{RunsOn, RunsScript, Stores};
 ghost use Rattle.ctt_files.specs.declared.fault.Fault.TheVariants.{NoMemory as OutOfMemory};
 
-use crate::fault::Fault;
-use crate::files::Files;
-use crate::opening::refused_opening;
-use crate::texts::{fetch_instance, fetch_start};
+use crate::refused::refused_opening;
 use ctt_board::{GridSheet, Sheet};
 use ctt_core::Desk;
 use ctt_devices::{Sink, Source};
 use ctt_draft::KeepNone;
+use ctt_files::{Fault, Files, fetch_instance, fetch_start};
 use ctt_script::{Minutes, PLANNERS, ScriptFault, run_script};
 use ctt_text::{Instance, NoMemory, Placed, let_go};
 use std::alloc::Global;
