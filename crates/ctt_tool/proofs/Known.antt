@@ -1,7 +1,7 @@
 -- What holds where bytes are told.
 use Rattle.std.proofs.Common.{◌≡◌, ◌<◌, ◌⊎◌, ⊎_elim, length, arith, inl, inr, ap, ℕ, Bool, true, List, refl, sym, subst, Option}
 use Rattle.std.specs.Io.KnownBytes.{Appends}
-use Rattle.ctt_words.specs.Jobs.{IsJobOf, IsRefusal, faults_of}
+use Rattle.ctt_words.specs.Jobs.{AreRefused, IsJobOf}
 use Rattle.ctt_words.specs.declared.job.Job.{Job}
 use Rattle.ctt_words.specs.declared.job.Job.TheVariants.{Audit, Check, Crew, Desk, Journal as Journals, Listing, Run}
 use Rattle.ctt_files.specs.Faults.{IfUnwritten, IsLineOf, status_of}
@@ -94,7 +94,7 @@ one_is_none : {C : Type 0} → ◌≡◌ {A = ℕ} 1 0 → C
 one_is_none e = absurd (omega (arith, e))
 
 -- words are refused for their faults, for too many scripts, or for the seats of a desk
-pub refused_two : (words : List (List ℕ)) (held : Held) (failed : Bool) (fault : Fault) → HasCause words held failed fault → status_of fault ≡ 2 → IsRefusal (faults_of words) ⊎ (AsksForTooMany words ⊎ AsksForBadSeats words)
+pub refused_two : (words : List (List ℕ)) (held : Held) (failed : Bool) (fault : Fault) → HasCause words held failed fault → status_of fault ≡ 2 → AreRefused words ⊎ (AsksForTooMany words ⊎ AsksForBadSeats words)
 refused_two words held failed (Instance number at) has two = absurd (omega (arith, two))
 refused_two words held failed (Solution number at) has two = absurd (omega (arith, two))
 refused_two words held failed (Barred number at) has two = absurd (omega (arith, two))
@@ -104,7 +104,7 @@ refused_two words held failed (CannotRead name) has two = absurd (omega (arith, 
 refused_two words held failed (TooLong name) has two = absurd (omega (arith, two))
 refused_two words held failed CannotWrite has two = absurd (omega (arith, two))
 refused_two words held failed NoMemory has two = absurd (omega (arith, two))
-refused_two words held failed (Words text) has two = inl has
+refused_two words held failed (Words text) has two = inl (⊎_elim inl (λ several. inr several.0) has)
 refused_two words held failed WordsNotText has two = absurd has
 refused_two words held failed TooManyScripts has two = inr (inl (has.0, has.1, many_of has.0 (job_plain has.0 held TooManyScripts has.2)))
   where

@@ -1,6 +1,7 @@
 -- What the program has done where it ends well, and what was the cause where it did not.
 use Rattle.std.specs.Prelude.{◌≡◌, ◌⊎◌, ◌<◌, ℕ, Bool, true, List, [], Option, length}
-use Rattle.ctt_words.specs.Jobs.{IsJobOf, IsRefusal, IsRequest, faults_of}
+use Rattle.ctt_words.specs.Jobs.{IsFaultOf, IsJobOf, IsRequest, faults_of}
+use Rattle.ctt_words.specs.declared.job.WordsFault.TheVariants.{Refused}
 use Rattle.ctt_words.specs.declared.job.Job.{Job}
 use Rattle.ctt_words.specs.declared.job.Job.TheVariants.{Audit, Check, Crew, Desk, Journal, Listing, Run}
 use Rattle.ctt_tool.specs.Audits.{AuditsJournal}
@@ -12,6 +13,7 @@ use Rattle.ctt_tool.specs.Jobs.{HasBadSeats, Saying, Storing, scripts_of}
 use Rattle.ctt_tool.specs.Lists.{ListsJournal, PrintsJournal}
 use Rattle.ctt_tool.specs.Refusals.{IsOfAudit, IsOfCheck, IsOfCrew, IsOfDesk, IsOfRecovery, IsOfRun}
 use Rattle.ctt_tool.specs.Runs.{RunsScript}
+use Rattle.ctt_files.specs.Outcomes.{outcome_status}
 use Rattle.ctt_files.specs.Texts.{Held}
 use Rattle.ctt_files.specs.declared.fault.Fault.{Fault}
 use Rattle.ctt_files.specs.declared.fault.Fault.TheVariants.{CannotWrite, NoMemory, Words, WordsNotText}
@@ -39,6 +41,10 @@ DoesJob (Listing instance barred journal start) outcome before after old new = (
 abbrev pub DoesAsAsked : List (List ℕ) → Outcome → Held → Held → Option (List ℕ) → Option (List ℕ) → Type 0
 DoesAsAsked words outcome before after old new = (IsRequest (faults_of words) × (outcome ≡ Done) × (after ≡ before))
     ⊎ ((faults_of words ≡ []) × ((job : Job) × IsJobOf words job × DoesJob job outcome before after old new))
+
+-- the words end with this status as what was asked is done
+abbrev pub EndsAsDone : List (List ℕ) → ℕ → Held → Held → Option (List ℕ) → Option (List ℕ) → Type 0
+EndsAsDone words status before after old new = (outcome : Outcome) × (outcome_status outcome ≡ status) × DoesAsAsked words outcome before after old new
 
 -- a fault that the job may meet, over these files, where they tell their bytes; an output that cannot be written aside
 abbrev pub IsOfJob : Job → Held → Fault → Type 0
@@ -78,7 +84,7 @@ AsksToSay words = (job : Job) × IsJobOf words job × Saying job
 abbrev pub HasCause : List (List ℕ) → Held → Bool → Fault → Type 0
 HasCause words held failed CannotWrite = (failed ≡ true) ⊎ AsksToStore words
 HasCause words held failed NoMemory = Unit {0}
-HasCause words held failed (Words text) = IsRefusal (faults_of words)
+HasCause words held failed (Words text) = IsFaultOf words (Refused text)
 HasCause words held failed WordsNotText = ⊥
 HasCause words held failed fault = AsksFor words held fault
 
