@@ -1,7 +1,7 @@
 -- How the program ends, by its status.
 use Rattle.std.proofs.Common.{◌≡◌, ◌≢◌, ◌∙◌, ◌⊎◌, refl, ap, sym, inl, inr, true, ⊎_elim, subst, ℕ, suc, Bool, List, [], Option, arith}
 use Rattle.ctt_words.specs.Jobs.{faults_of}
-use Rattle.ctt_words.specs.declared.job.Job.TheVariants.{Audit, Check, Crew, Desk, Journal as Journals, Listing, Page, Run, Week}
+use Rattle.ctt_words.specs.declared.job.Job.TheVariants.{Audit, Crew, Desk, Journal as Journals, Listing, Run, Show}
 use Rattle.ctt_files.specs.Faults.{MayHaveWritten, status_of}
 use Rattle.ctt_tool.specs.Faults.{KeptUnless, SaysFault}
 use Rattle.ctt_files.specs.Outcomes.{outcome_status}
@@ -85,9 +85,7 @@ ended_kept (NoRoom name) status S K is kept = inl kept
 -- a job that ends otherwise than as done has changed no file
 pub other_kept : (words : List (List ℕ)) (outcome : Outcome) (before after : Held) (old new : Option (List ℕ)) → DoesAsAsked words outcome before after old new → outcome ≢ Done → after ≡ before
 other_kept words outcome before after old new (inl help) other = help.2
-other_kept words outcome before after old new (inr (taken, (Check instance barred solution json explain strict, is, does))) other = does.0
-other_kept words outcome before after old new (inr (taken, (Week instance barred solution whose, is, does))) other = absurd (other does.0)
-other_kept words outcome before after old new (inr (taken, (Page instance barred solution, is, does))) other = absurd (other does.0)
+other_kept words outcome before after old new (inr (taken, (Show instance barred solution showing, is, does))) other = does.0
 other_kept words outcome before after old new (inr (taken, (Run instance barred script start journal, is, does))) other = absurd (other does.0)
 other_kept words outcome before after old new (inr (taken, (Audit instance barred journal start, is, does))) other = does.0
 other_kept words outcome before after old new (inr (taken, (Crew instance barred scripts, is, does))) other = absurd (other does.0)

@@ -2,7 +2,6 @@
 #![tactic(auto)]
 
 mod audit;
-mod check;
 mod crew;
 mod desk;
 mod journal;

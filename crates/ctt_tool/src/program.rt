@@ -10,7 +10,6 @@ ghost use Rattle.ctt_files.specs.declared.fault.Fault.TheVariants.{NoMemory};
 ghost use Rattle.ctt_files.specs.declared.outcome.Outcome.TheVariants.{Differs, Done, Incomplete, Unlawful};
 
 use crate::audit::audit;
-use crate::check::check;
 use crate::crew::crew;
 use crate::desk::desk;
 use crate::journal::journal;
@@ -19,6 +18,7 @@ use crate::office::Office;
 use crate::run::run;
 use ctt_devices::Sink;
 use ctt_files::{Fault, Files, NO_MEMORY, Outcome, complain, print};
+use ctt_reports::show;
 use ctt_words::{Job, WordsFault, read_words};
 use std::alloc::Global;
 use std::marker::Sync;
@@ -51,15 +51,12 @@ fn do_job<R: Threads + Wait + Sync, F: Files, O: Office, W: Sink, V: Sink>(
     ensures unsaid { OnErr result ((err.new ≡ err.old) ⊎ (V.has_failed err.new ≡ true)) }
 {
     match job {
-        Job::Check {
+        Job::Show {
             instance,
             barred,
             solution,
-            json,
-        } => {
-            check(alloc, files, out, instance, barred, solution, json)?;
-            Ok(Outcome::Done)
-        }
+            showing,
+        } => show(alloc, files, out, instance, barred, solution, showing),
         Job::Run {
             instance,
             barred,
