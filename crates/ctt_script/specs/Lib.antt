@@ -10,7 +10,6 @@ pub mod JournalWords
 pub mod Kinds
 pub mod Output
 pub mod ReplyPlaces
-pub mod ReportText
 pub mod RunFaults
 pub mod ScriptPlaces
 pub mod ScriptText

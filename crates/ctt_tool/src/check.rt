@@ -11,7 +11,8 @@ use crate::fault::Fault;
 use crate::files::Files;
 use crate::output::print;
 use crate::texts::{fetch_instance, fetch_solution};
-use ctt_script::{Sink, report_json, report_text};
+use ctt_findings::{report_json, report_text};
+use ctt_script::Sink;
 use ctt_text::{Instance, NoMemory, Placed, let_go};
 use std::alloc::Global;
 

@@ -1,16 +1,10 @@
-use Rattle.std.proofs.Common.{rules, ◌≡◌, ◌∙◌, ◌++◌, ap, refl, Bool, true, false, List, ℕ, codes}
+use Rattle.std.proofs.Common.{rules, ◌≡◌, ◌∙◌, ◌++◌, ap, codes}
 use Rattle.std.specs.String.{string_bytes}
 use Rattle.serde_json.specs.View.{view}
 use Rattle.serde_json.specs.Written.{compact_text, has_float}
-use Rattle.ctt_rules.specs.declared.cost.Cost.{Cost}
-use Rattle.ctt_rules.specs.declared.hard.Hard.{Hard}
-use Rattle.ctt_script.specs.ReportText.{data_of, json_of}
-use Rattle.ctt_script.proofs.report.report_json.Goals as goal
-
-no_float : (name : List ℕ) (barred : Bool) (hard : Hard) (cost : Cost) (lawful complete : Bool) → has_float (data_of name barred hard cost lawful complete) ≡ false
-unfolding data_of
-no_float name true hard cost lawful complete = refl
-no_float name false hard cost lawful complete = refl
+use Rattle.ctt_findings.specs.ReportText.{json_of}
+use Rattle.ctt_findings.proofs.ReportLemmas.{no_float}
+use Rattle.ctt_findings.proofs.json_report.report_json.Goals as goal
 
 pub returns : goal.returns
 returns c =
