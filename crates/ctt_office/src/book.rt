@@ -8,7 +8,7 @@ ghost use Rattle.ctt_office.specs.declared.book.Attempt.TheVariants.{Entered, Fa
 
 use crate::durable::Durable;
 use ctt_desk::{Naming, Receipt};
-use ctt_script::{Failed, put_all};
+use ctt_devices::{Failed, put_all};
 use std::marker::Model;
 use std::sync::{Condvar, Mutex, MutexGuard, Wait};
 

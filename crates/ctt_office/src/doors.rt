@@ -1,6 +1,6 @@
 //! How seats are opened.
 
-use ctt_script::{Failed, Sink, Source};
+use ctt_devices::{Failed, Sink, Source};
 use std::marker::{Send, Sync};
 
 /// The devices of seats by their names. Opening one may take as long as nobody is at its other end.

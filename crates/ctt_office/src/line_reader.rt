@@ -2,11 +2,12 @@
 
 ghost use Rattle.std.specs.Prelude.{◌≡◌, ◌<◌, ◌≤◌, ◌+◌, ◌-◌, ◌==◌, ℕ, List, [], true, false, length, drop, take, Ok, Err, Some, OnOk, IfOk, IfSome, IfNone, vec_len};
 ghost use Rattle.std.specs.Io.KnownBytes.{Keeps, IsAtEnd};
-ghost use Rattle.ctt_script.specs.declared.input.InputFault.TheVariants.{Read};
+ghost use Rattle.ctt_devices.specs.declared.input.InputFault.TheVariants.{Read};
 ghost use Rattle.ctt_office.specs.Lines.{GivesNext, HasLine, IsCut, IsLong, IsOpen, IsShort, coming};
 ghost use Rattle.ctt_office.specs.declared.line_reader.Next.TheVariants.{End, Line, TooLong};
 
-use ctt_script::{InputFault, Source, line_end};
+use ctt_devices::{InputFault, Source};
+use ctt_script::line_end;
 use std::alloc::Global;
 use std::marker::Model;
 use std::sync::Wait;

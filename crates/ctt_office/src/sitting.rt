@@ -21,7 +21,7 @@ use ctt_board::{GridSheet, Sheet, Timetable};
 use ctt_core::PlannerNo;
 use ctt_crew::Seat;
 use ctt_desk::{Naming, Planner, SharedDesk};
-use ctt_script::{Failed, InputFault, Sink, Source, put_all};
+use ctt_devices::{Failed, InputFault, Sink, Source, put_all};
 use ctt_text::{Instance, NoMemory, let_go};
 use std::alloc::Global;
 use std::marker::PhantomData;

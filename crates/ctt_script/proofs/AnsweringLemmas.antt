@@ -16,7 +16,7 @@ use Rattle.ctt_core.specs.Laws.{Stands}
 use Rattle.ctt_script.specs.Entries.{AnswerFits}
 use Rattle.ctt_script.specs.AnswerText.{answer_words, bad_line, answered, answers_after, run_after}
 use Rattle.ctt_script.specs.Answering.{IsAtRun, Answered, Answering, WritesOut, Wrote, WroteFront}
-use Rattle.ctt_script.specs.Output.{AppendsFront}
+use Rattle.ctt_devices.specs.Output.{AppendsFront}
 use Rattle.ctt_script.specs.ScriptText.{items_of}
 use Rattle.ctt_script.specs.WrittenText.{line}
 use Rattle.ctt_script.proofs.AnswersFit.{answer_fits}

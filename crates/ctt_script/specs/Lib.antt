@@ -2,13 +2,11 @@ pub mod Amounts
 pub mod AnswerText
 pub mod Answering
 pub mod CallPlaces
-pub mod Device
 pub mod Entries
 pub mod JournalPlaces
 pub mod JournalText
 pub mod JournalWords
 pub mod Kinds
-pub mod Output
 pub mod ReplyPlaces
 pub mod RunFaults
 pub mod ScriptPlaces

@@ -16,22 +16,20 @@ ghost use Rattle.ctt_script.specs.AnswerText.{answer_text, answer_words, script_
 ghost use Rattle.ctt_script.specs.Answering.{Answered, IsAtRun, WritesOut, Wrote, WroteFront};
 ghost use Rattle.ctt_script.specs.Entries.{AnswerFits, IsWritable};
 ghost use Rattle.ctt_script.specs.Minutes.{IsMinuted, blank, noted};
-ghost use Rattle.ctt_script.specs.Output.{AppendsFront};
+ghost use Rattle.ctt_devices.specs.Output.{AppendsFront};
 ghost use Rattle.ctt_script.specs.RunFaults.{IsCauseOf, MayHaveWritten};
 ghost use Rattle.ctt_script.specs.ScriptText.{items_of, script};
 ghost use Rattle.ctt_script.specs.WrittenText.{line};
 ghost use Rattle.ctt_script.specs.declared.script_fault.ScriptFault.TheVariants as script_fault;
 
 use crate::answers::{write_answer, write_bad_line};
-use crate::input::{INPUT_LIMIT, read_all};
 use crate::lines::Lines;
 use crate::minutes::Minutes;
 use crate::script::{PLANNERS, has_words, read_line_of};
 use crate::script_fault::ScriptFault;
-use crate::sink::{Sink, put_all, put_whole};
-use crate::source::{Failed, Source};
 use ctt_board::Sheet;
 use ctt_core::{Answer, Desk, Event};
+use ctt_devices::{Failed, INPUT_LIMIT, Sink, Source, put_all, put_whole, read_all};
 use ctt_draft::Keeping;
 use ctt_text::{Instance, NoMemory, Placed, let_go};
 use std::alloc::{AllocError, Global};

@@ -1,85 +1,19 @@
--- Why a text is refused.
-use Rattle.std.proofs.Common.{◌≡◌, ◌∙◌, ◌⊎◌, inl, inr, ap, subst, sym, ℕ, List, Bool, arith, IfErr, IsErrAnd, Result, Ok, Err}
+-- Why a journal is refused.
+use Rattle.std.proofs.Common.{◌≡◌, ◌∙◌, ap, subst, sym, ℕ, List}
 use Rattle.std.specs.Str.{IsUtf8}
-use Rattle.ctt_text.specs.BarredLaws.{IsBarredCauseOf}
-use Rattle.ctt_text.specs.BarredText.{BarSpells}
-use Rattle.ctt_text.specs.InstanceLaws.{IsCauseOf}
-use Rattle.ctt_text.specs.InstanceText.{Spells}
 use Rattle.ctt_text.specs.Problem.{Problem}
-use Rattle.ctt_text.specs.SolutionLaws.{IsSolutionCauseOf}
-use Rattle.ctt_text.specs.SolutionText.{SolSpells}
 use Rattle.ctt_text.specs.Words.{words}
-use Rattle.ctt_text.specs.declared.fault.BarredFault.{BarredFault}
-use Rattle.ctt_text.specs.declared.fault.BarredFault.TheVariants as barred
-use Rattle.ctt_text.specs.declared.fault.ReadFault.{ReadFault}
-use Rattle.ctt_text.specs.declared.fault.ReadFault.TheVariants as instance
-use Rattle.ctt_text.specs.declared.fault.SolutionFault.{SolutionFault}
-use Rattle.ctt_text.specs.declared.fault.SolutionFault.TheVariants as solution
 use Rattle.ctt_core.specs.declared.journal.JournalEntry.{JournalEntry}
 use Rattle.ctt_script.specs.JournalText.{IsJournalCauseOf, JournalSpells}
 use Rattle.ctt_script.specs.declared.journal_fault.JournalFault.{JournalFault}
 use Rattle.ctt_script.specs.declared.journal_fault.JournalFault.TheVariants as journal
-use Rattle.ctt_text.specs.declared.placed.Placed.{Placed}
-use Rattle.ctt_text.proofs.FormLaws.{err_is_ok, err_same}
-use Rattle.ctt_tool.specs.Refusals.{IsNoJournalOf, IsNoText}
-use Rattle.ctt_tool.specs.Texts.{IsNoBarred, IsNoInstance, IsNoSolution}
-use Rattle.ctt_tool.specs.Faults.{fault_of_barred, fault_of_instance, fault_of_journal, fault_of_solution, status_of}
-use Rattle.ctt_tool.specs.declared.fault.Fault.{Fault}
+use Rattle.ctt_tool.specs.Refusals.{IsNoJournalOf}
+use Rattle.ctt_files.specs.Faults.{status_of}
+use Rattle.ctt_tool.specs.Faults.{fault_of_journal}
+use Rattle.ctt_files.specs.declared.fault.Fault.{Fault}
+use Rattle.ctt_files.proofs.Causes.{three_is_one}
 
--- the status that is told is that of the fault, unless it is 3
-pub one_is_of_fault : (fault : Fault) (status : ℕ) → (status ≡ status_of fault) ⊎ (status ≡ 3) → status ≡ 1 → status_of fault ≡ 1
-one_is_of_fault fault status (inl same) one = sym same ∙ one
-one_is_of_fault fault status (inr three) one = absurd (omega (arith, three, one))
-
--- the want of memory is no refusal
-pub three_is_one : {C : Type 0} → ◌≡◌ {A = ℕ} 3 1 → C
-three_is_one e = absurd (omega (arith, e))
-
--- a reading of bytes fails by this fault, and each instance that they spell would be read, but for want of memory
-abbrev pub TakesInstances : List ℕ → ReadFault → Type 0
-TakesInstances bytes read = (problem : Problem) → IsUtf8 bytes → Spells (words bytes) problem
-    → ◌⊎◌ (◌≡◌ {A = Result Problem ReadFault} (Err read) (Ok problem)) (◌≡◌ {A = Result Problem ReadFault} (Err read) (Err instance.NoMemory))
-
--- the same of solutions
-abbrev pub TakesSolutions : Problem → List ℕ → SolutionFault → Type 0
-TakesSolutions problem bytes read = (timetable : List Placed) → IsUtf8 bytes → SolSpells problem (words bytes) timetable → read ≡ solution.NoMemory
-
-of_no_instance : {C : Type 0} (problem : Problem) (read : ReadFault) → status_of (fault_of_instance read) ≡ 1
-    → ◌⊎◌ (◌≡◌ {A = Result Problem ReadFault} (Err read) (Ok problem)) (◌≡◌ {A = Result Problem ReadFault} (Err read) (Err instance.NoMemory)) → C
-of_no_instance problem read one (inl taken) = err_is_ok _ problem read taken
-of_no_instance problem read one (inr wanted) = three_is_one (subst (λ fault. status_of (fault_of_instance fault) ≡ 1) (err_same {A = Problem} read instance.NoMemory wanted) one)
-
--- so where the fault is no want of memory, the text is that of no instance
-pub no_instance : (read : ReadFault) (bytes : List ℕ) → IsCauseOf bytes read → TakesInstances bytes read → (fault : Fault) → fault ≡ fault_of_instance read → IsNoText fault_of_instance IsCauseOf IsNoInstance bytes fault
-no_instance read bytes meets takes fault is = record {
-  met = read;
-  is = is;
-  meets = meets;
-  is_none = λ one problem text. of_no_instance problem read (sym (ap status_of is) ∙ one) (takes problem text.is_text text.spells);
-}
-
--- that of no solution
-pub no_solution : (read : SolutionFault) (problem : Problem) (bytes : List ℕ) → IsSolutionCauseOf problem bytes read → TakesSolutions problem bytes read → (fault : Fault) → fault ≡ fault_of_solution read → IsNoText fault_of_solution (IsSolutionCauseOf problem) (IsNoSolution problem) bytes fault
-no_solution read problem bytes meets takes fault is = record {
-  met = read;
-  is = is;
-  meets = meets;
-  is_none = λ one timetable text. three_is_one (subst (λ other. status_of (fault_of_solution other) ≡ 1) (takes timetable text.is_text text.spells) (sym (ap status_of is) ∙ one));
-}
-
--- that bars no rooms
-abbrev pub TakesBarred : Problem → List ℕ → BarredFault → Type 0
-TakesBarred problem bytes read = (table : List Bool) → IsUtf8 bytes → BarSpells problem (words bytes) table → read ≡ barred.NoMemory
-
-pub no_barred : (read : BarredFault) (problem : Problem) (bytes : List ℕ) → IsBarredCauseOf problem bytes read → TakesBarred problem bytes read → (fault : Fault) → fault ≡ fault_of_barred read → IsNoText fault_of_barred (IsBarredCauseOf problem) (IsNoBarred problem) bytes fault
-no_barred read problem bytes meets takes fault is = record {
-  met = read;
-  is = is;
-  meets = meets;
-  is_none = λ one made text. three_is_one (subst (λ other. status_of (fault_of_barred other) ≡ 1) (takes text.table text.is_text text.spells) (sym (ap status_of is) ∙ one));
-}
-
--- or that of no journal
+-- where the fault is no want of memory, the text is that of no journal
 abbrev pub TakesJournals : Problem → List ℕ → JournalFault → Type 0
 TakesJournals problem bytes read = (entries : List JournalEntry) → IsUtf8 bytes → JournalSpells problem (words bytes) entries → read ≡ journal.NoMemory
 
@@ -90,8 +24,3 @@ no_journal read problem bytes meets takes fault is = record {
   meets = meets;
   is_none = λ one entries text. three_is_one (subst (λ other. status_of (fault_of_journal other) ≡ 1) (takes entries text.is_text text.spells) (sym (ap status_of is) ∙ one));
 }
-
--- a fault that is told so
-pub passed_text : {T : Type 0} (r : Result T Fault) (told : Fault) (P : Fault → Type 0) → IsErrAnd r (λ fault. fault ≡ told) → ((fault : Fault) → fault ≡ told → P fault) → IfErr r P
-passed_text (Ok x) told P gives none = tt
-passed_text (Err fault) told P gives none = none fault gives

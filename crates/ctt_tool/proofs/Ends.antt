@@ -1,16 +1,17 @@
 -- How the program ends, by its status.
 use Rattle.std.proofs.Common.{◌≡◌, ◌≢◌, ◌∙◌, ◌⊎◌, sym, inl, inr, true, ⊎_elim, subst, ℕ, Bool, List, [], Option, arith}
-use Rattle.ctt_tool.specs.Faults.{KeptUnless, MayHaveWritten, SaysFault, status_of}
-use Rattle.ctt_tool.specs.Jobs.{faults_of}
-use Rattle.ctt_tool.specs.Outcomes.{outcome_status}
-use Rattle.ctt_tool.specs.Texts.{Held}
+use Rattle.ctt_words.specs.Jobs.{faults_of}
+use Rattle.ctt_words.specs.declared.job.Job.TheVariants.{Audit, Check, Crew, Desk, Journal as Journals, Listing, Run}
+use Rattle.ctt_files.specs.Faults.{MayHaveWritten, status_of}
+use Rattle.ctt_tool.specs.Faults.{KeptUnless, SaysFault}
+use Rattle.ctt_files.specs.Outcomes.{outcome_status}
+use Rattle.ctt_files.specs.Texts.{Held}
 use Rattle.ctt_tool.specs.Work.{DoesAsAsked, HasCause, IsOfWords}
-use Rattle.ctt_tool.specs.declared.fault.Fault.{Fault}
-use Rattle.ctt_tool.specs.declared.fault.Fault.TheVariants.{BadSeats, Barred, CannotRead, CannotWrite, Instance, Journal, MinutesExist, NoMemory, NoPlace, NoThread, Opening, Solution, TooLong, TooManyScripts, Words, WordsNotText}
-use Rattle.ctt_tool.specs.declared.job.Job.TheVariants.{Audit, Check, Crew, Desk, Journal as Journals, Listing, Run}
-use Rattle.ctt_tool.specs.declared.outcome.Outcome.{Outcome}
-use Rattle.ctt_tool.specs.declared.outcome.Outcome.TheVariants.{Done, Differs}
-use Rattle.ctt_tool.proofs.Causes.{three_is_one}
+use Rattle.ctt_files.specs.declared.fault.Fault.{Fault}
+use Rattle.ctt_files.specs.declared.fault.Fault.TheVariants.{BadSeats, Barred, CannotRead, CannotWrite, Instance, Journal, MinutesExist, NoCourse, NoCurriculum, NoMemory, NoPlace, NoRoom, NoTeacher, NoThread, Opening, Solution, TooLong, TooManyScripts, Words, WordsNotText}
+use Rattle.ctt_files.specs.declared.outcome.Outcome.{Outcome}
+use Rattle.ctt_files.specs.declared.outcome.Outcome.TheVariants.{Done, Differs}
+use Rattle.ctt_files.proofs.Causes.{three_is_one}
 use Rattle.ctt_tool.proofs.Known.{says_caused, says_weaker}
 
 -- status 0 is that of a job that was done
@@ -25,6 +26,11 @@ ends_differs Differs status D is does some = does
 
 pub one_is_some : (status : ℕ) → status ≡ 1 → status ≢ 0
 one_is_some status one zero = omega (arith, one, zero)
+
+-- the status that is told is that of the fault, unless it is 3
+pub one_is_of_fault : (fault : Fault) (status : ℕ) → (status ≡ status_of fault) ⊎ (status ≡ 3) → status ≡ 1 → status_of fault ≡ 1
+one_is_of_fault fault status (inl same) one = sym same ∙ one
+one_is_of_fault fault status (inr three) one = absurd (omega (arith, three, one))
 
 -- and 2 is that of a fault
 pub two_is_of_fault : (fault : Fault) (status : ℕ) → (status ≡ status_of fault) ⊎ (status ≡ 3) → status ≡ 2 → status_of fault ≡ 2
@@ -54,6 +60,10 @@ ended_kept NoThread status S K is kept = inl kept
 ended_kept NoPlace status S K is kept = inl kept
 ended_kept BadSeats status S K is kept = inl kept
 ended_kept (MinutesExist name) status S K is kept = inl kept
+ended_kept (NoCurriculum name) status S K is kept = inl kept
+ended_kept (NoTeacher name) status S K is kept = inl kept
+ended_kept (NoCourse name) status S K is kept = inl kept
+ended_kept (NoRoom name) status S K is kept = inl kept
 
 -- an audit that does not agree has changed no file
 pub differs_kept : (words : List (List ℕ)) (before after : Held) (old new : Option (List ℕ)) → DoesAsAsked words Differs before after old new → after ≡ before
@@ -85,6 +95,10 @@ unprinted_one NoThread P (inl may) one = absurd may
 unprinted_one NoPlace P (inl may) one = absurd may
 unprinted_one BadSeats P (inl may) one = absurd may
 unprinted_one (MinutesExist name) P (inl may) one = absurd may
+unprinted_one (NoCurriculum name) P (inl may) one = absurd may
+unprinted_one (NoTeacher name) P (inl may) one = absurd may
+unprinted_one (NoCourse name) P (inl may) one = absurd may
+unprinted_one (NoRoom name) P (inl may) one = absurd may
 
 -- what is so of these words is so of some
 pub of_some_words : (words : List (List ℕ)) (held : Held) (failed : Bool) (D : List (List ℕ) → Type 0) (M : Type 0) (status : ℕ) (old new : Option (List ℕ)) → D words ⊎ (M ⊎ SaysFault (HasCause words held failed) status old new)

@@ -1,21 +1,20 @@
 -- What holds where bytes are told.
-use Rattle.std.proofs.Common.{◌≡◌, ◌≤◌, ◌<◌, ◌⊎◌, ⊎_elim, length, arith, string_bytes, inl, inr, ap, ℕ, Bool, true, List, refl, sym, subst, IfErr, IsErrAnd, OnOk, Option, Result, Ok, Err}
+use Rattle.std.proofs.Common.{◌≡◌, ◌<◌, ◌⊎◌, ⊎_elim, length, arith, inl, inr, ap, ℕ, Bool, true, List, refl, sym, subst, Option}
 use Rattle.std.specs.Io.KnownBytes.{Appends}
-use Rattle.std.proofs.lemmas.List.{length-map}
-use Rattle.ctt_tool.specs.Faults.{IfUnwritten, IsLineOf, KeptUnless, SaysFault, status_of}
-use Rattle.ctt_tool.specs.Jobs.{HasBadSeats, HasScripts, IsJobOf, IsRefusal, Storing, faults_of, scripts_of}
-use Rattle.ctt_tool.specs.Refusals.{IsOfAudited, IsOfMinutes, IsOfScript, IsOfScripts, IsOfSeats, IsOfSolution}
-use Rattle.ctt_tool.specs.Texts.{Held}
+use Rattle.ctt_words.specs.Jobs.{IsJobOf, IsRefusal, faults_of}
+use Rattle.ctt_words.specs.declared.job.Job.{Job}
+use Rattle.ctt_words.specs.declared.job.Job.TheVariants.{Audit, Check, Crew, Desk, Journal as Journals, Listing, Run}
+use Rattle.ctt_files.specs.Faults.{IfUnwritten, IsLineOf, status_of}
+use Rattle.ctt_tool.specs.Faults.{KeptUnless, SaysFault}
+use Rattle.ctt_tool.specs.Jobs.{HasBadSeats, Storing, scripts_of}
+use Rattle.ctt_files.specs.Refusals.{IsOfSolution}
+use Rattle.ctt_tool.specs.Refusals.{IsOfAudited, IsOfMinutes, IsOfScript, IsOfScripts, IsOfSeats}
+use Rattle.ctt_files.specs.Texts.{Held}
 use Rattle.ctt_tool.specs.Work.{AsksForBadSeats, AsksForRefusedText, AsksForTooMany, HasCause, IsOfJob}
-use Rattle.ctt_tool.specs.declared.fault.Fault.{Fault}
-use Rattle.ctt_tool.specs.declared.fault.Fault.TheVariants.{BadSeats, Barred, CannotRead, CannotWrite, Instance, Journal, MinutesExist, NoMemory, NoPlace, NoThread, Opening, Solution, TooLong, TooManyScripts, Words, WordsNotText}
-use Rattle.ctt_tool.specs.declared.job.Job.{Job}
-use Rattle.ctt_tool.specs.declared.job.Job.TheVariants.{Audit, Check, Crew, Desk, Journal as Journals, Listing, Run}
-use Rattle.ctt_tool.proofs.Plain.{IsPlain, audited_plain, behind_plain, minutes_plain, script_plain, scripts_plain, seats_plain, solution_file_plain, unwritten_more}
-
-pub on_ok_weaker : {T E : Type 0} (r : Result T E) (P Q : Type 0) → (P → Q) → OnOk r P → OnOk r Q
-on_ok_weaker (Ok x) P Q more holds = more holds
-on_ok_weaker (Err e) P Q more holds = tt
+use Rattle.ctt_files.specs.declared.fault.Fault.{Fault}
+use Rattle.ctt_files.specs.declared.fault.Fault.TheVariants.{BadSeats, Barred, CannotRead, CannotWrite, Instance, Journal, MinutesExist, NoCourse, NoCurriculum, NoMemory, NoPlace, NoRoom, NoTeacher, NoThread, Opening, Solution, TooLong, TooManyScripts, Words, WordsNotText}
+use Rattle.ctt_files.proofs.Plain.{IsPlain, behind_plain, solution_file_plain, unwritten_more}
+use Rattle.ctt_tool.proofs.Plain.{audited_plain, minutes_plain, script_plain, scripts_plain, seats_plain}
 
 -- what is said whole, where the mark is not set, is the line of a fault
 pub says_fault : (M U : Type 0) (C : Fault → Type 0) (fault : Fault) (old new : Option (List ℕ)) (bytes : List ℕ) → C fault → IsLineOf fault bytes → M ⊎ (U × Appends old new bytes)
@@ -82,6 +81,10 @@ job_caused words held failed job U NoThread is cause = (job, is, cause.0)
 job_caused words held failed job U NoPlace is cause = (job, is, cause.0)
 job_caused words held failed job U BadSeats is cause = (job, is, cause.0)
 job_caused words held failed job U (MinutesExist name) is cause = (job, is, cause.0)
+job_caused words held failed job U (NoCurriculum name) is cause = (job, is, cause.0)
+job_caused words held failed job U (NoTeacher name) is cause = (job, is, cause.0)
+job_caused words held failed job U (NoCourse name) is cause = (job, is, cause.0)
+job_caused words held failed job U (NoRoom name) is cause = (job, is, cause.0)
 
 abbrev is_many : Fault → ℕ
 is_many TooManyScripts = 1
@@ -112,6 +115,10 @@ refused_two words held failed TooManyScripts has two = inr (inl (has.0, has.1, m
 refused_two words held failed NoThread has two = absurd (omega (arith, two))
 refused_two words held failed NoPlace has two = absurd (omega (arith, two))
 refused_two words held failed (MinutesExist name) has two = absurd (omega (arith, two))
+refused_two words held failed (NoCurriculum name) has two = absurd (omega (arith, two))
+refused_two words held failed (NoTeacher name) has two = absurd (omega (arith, two))
+refused_two words held failed (NoCourse name) has two = absurd (omega (arith, two))
+refused_two words held failed (NoRoom name) has two = absurd (omega (arith, two))
 refused_two words held failed BadSeats has two = inr (inr (has.0, has.1, seats_of has.0 (job_plain has.0 held BadSeats has.2)))
   where
     seats_of : (job : Job) → IsPlain BadSeats ⊎ IsSpecial job BadSeats → HasBadSeats job
@@ -137,21 +144,10 @@ asked_one words held failed NoThread has one = absurd (omega (arith, one))
 asked_one words held failed NoPlace has one = absurd (omega (arith, one))
 asked_one words held failed BadSeats has one = absurd (omega (arith, one))
 asked_one words held failed (MinutesExist name) has one = absurd (omega (arith, one))
-
--- a job that words ask for has what a crew needs
-pub job_has_scripts : (words : List (List ℕ)) (job : Job) → IsJobOf words job → HasScripts job
-job_has_scripts words (Check instance barred solution json) is = tt
-job_has_scripts words (Run instance barred script start journal) is = tt
-job_has_scripts words (Audit instance barred journal start) is = tt
-job_has_scripts words (Crew instance barred scripts) is = subst (λ n. 1 ≤ n) (length-map scripts.items string_bytes) is.2.has_some
-job_has_scripts words (Desk instance barred seats start minutes) is = subst (λ n. 1 ≤ n) (length-map seats.items string_bytes) is.2.has_some
-job_has_scripts words (Journals instance barred minutes) is = tt
-job_has_scripts words (Listing instance barred journal start) is = tt
-
--- what holds of a fault holds where it is passed on
-pub passed_on : {T : Type 0} (r : Result T Fault) (fault : Fault) (P : Fault → Type 0) → IsErrAnd r (λ told. told ≡ fault) → P fault → IfErr r P
-passed_on (Ok x) fault P same holds = tt
-passed_on (Err told) fault P same holds = subst P (sym same) holds
+asked_one words held failed (NoCurriculum name) has one = ((NoCurriculum name), one, has)
+asked_one words held failed (NoTeacher name) has one = ((NoTeacher name), one, has)
+asked_one words held failed (NoCourse name) has one = ((NoCourse name), one, has)
+asked_one words held failed (NoRoom name) has one = ((NoRoom name), one, has)
 
 -- what is so of files that are kept, and of the cause of the others, may be said otherwise
 pub kept_weaker : (fault : Fault) (S R K L : Type 0) → (S → R) → (K → L) → KeptUnless fault S K → KeptUnless fault R L

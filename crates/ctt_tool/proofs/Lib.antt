@@ -1,14 +1,7 @@
-pub mod Commands
-pub mod Matches
-pub mod Rows
-pub mod Walks
-pub mod Entered
-pub mod Taken
 pub mod Plain
 pub mod Known
 pub mod Causes
 pub mod Desks
-pub mod Scripts
 pub mod Ends
 pub mod Audited
 pub mod Offices

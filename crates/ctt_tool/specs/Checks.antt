@@ -6,7 +6,7 @@ use Rattle.std.specs.declared.string.String.{String}
 use Rattle.ctt_text.specs.Problem.{Problem}
 use Rattle.ctt_text.specs.declared.placed.Placed.{Placed}
 use Rattle.ctt_findings.specs.ReportText.{IsJsonReport, IsTextReport}
-use Rattle.ctt_tool.specs.Texts.{Held, Holds, IsInstanceIn, IsSolutionText}
+use Rattle.ctt_files.specs.Texts.{Held, Holds, IsInstanceIn, IsSolutionText}
 
 -- the report as JSON where it is asked for, and else as text
 abbrev pub IsReport : Bool → Problem → List Placed → List ℕ → Type 0

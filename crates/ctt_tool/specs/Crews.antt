@@ -5,7 +5,7 @@ use Rattle.std.specs.Io.KnownBytes.{Appends}
 use Rattle.std.specs.declared.string.String.{String}
 use Rattle.ctt_text.specs.Problem.{Problem}
 use Rattle.ctt_crew.specs.CrewText.{IsCrewText}
-use Rattle.ctt_tool.specs.Texts.{Held, IsInstanceIn}
+use Rattle.ctt_files.specs.Texts.{Held, IsInstanceIn}
 
 -- of the instance in a file, that is what a crew writes whose desk opens empty, with a planner for each of so many scripts
 pub record IsOfCrewOn (instance : String Global) (barred : Option (String Global)) (scripts : ℕ) (held : Held) (bytes : List ℕ) : Type 0 where

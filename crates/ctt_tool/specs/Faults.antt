@@ -1,4 +1,4 @@
--- The faults of the program: their numbers and their statuses.
+-- The faults of journals, crews, openings and runs, and what is said of a fault.
 use Rattle.std.specs.Prelude.{◌≡◌, ◌⊎◌, ◌++◌, ℕ, List, Option, codes}
 use Rattle.std.specs.Fmt.{decimal}
 use Rattle.std.specs.Global.{Global}
@@ -6,12 +6,6 @@ use Rattle.std.specs.Io.KnownBytes.{Appends}
 use Rattle.std.specs.String.{string_bytes}
 use Rattle.std.specs.declared.string.String.{String}
 use Rattle.ctt_text.specs.Problem.{Problem}
-use Rattle.ctt_text.specs.declared.fault.ReadFault.{ReadFault}
-use Rattle.ctt_text.specs.declared.fault.ReadFault.TheVariants as instance
-use Rattle.ctt_text.specs.declared.fault.SolutionFault.{SolutionFault}
-use Rattle.ctt_text.specs.declared.fault.SolutionFault.TheVariants as solution
-use Rattle.ctt_text.specs.declared.fault.BarredFault.{BarredFault}
-use Rattle.ctt_text.specs.declared.fault.BarredFault.TheVariants as barred
 use Rattle.ctt_edits.specs.Fitting.{FaultFits}
 use Rattle.ctt_edits.specs.declared.fault.EditFault.{EditFault}
 use Rattle.ctt_script.specs.WrittenText.{line}
@@ -22,44 +16,8 @@ use Rattle.ctt_script.specs.declared.journal_fault.JournalFault.{JournalFault}
 use Rattle.ctt_script.specs.declared.journal_fault.JournalFault.TheVariants as journal
 use Rattle.ctt_script.specs.declared.script_fault.ScriptFault.{ScriptFault}
 use Rattle.ctt_script.specs.declared.script_fault.ScriptFault.TheVariants as script
-use Rattle.ctt_tool.specs.declared.fault.Fault.{Fault}
-use Rattle.ctt_tool.specs.declared.fault.Fault.TheVariants.{BadSeats, Barred, CannotRead, CannotWrite, Instance, Journal, MinutesExist, NoMemory, NoPlace, NoThread, Opening, Solution, TooLong, TooManyScripts, Words, WordsNotText}
-
--- the fault of an instance, by its number and the byte or the word that it names
-abbrev pub fault_of_instance : ReadFault → Fault
-fault_of_instance (instance.NotText byte) = Instance 1 byte
-fault_of_instance (instance.Missing word) = Instance 2 word
-fault_of_instance (instance.Expected word) = Instance 3 word
-fault_of_instance (instance.BadNumber word) = Instance 4 word
-fault_of_instance (instance.TooLarge word) = Instance 5 word
-fault_of_instance (instance.RepeatedName word) = Instance 6 word
-fault_of_instance (instance.UnknownCourse word) = Instance 7 word
-fault_of_instance (instance.DayOut word) = Instance 8 word
-fault_of_instance (instance.PeriodOut word) = Instance 9 word
-fault_of_instance instance.NoMemory = NoMemory
-
--- the fault of a solution
-abbrev pub fault_of_solution : SolutionFault → Fault
-fault_of_solution (solution.NotText byte) = Solution 1 byte
-fault_of_solution (solution.Cut word) = Solution 2 word
-fault_of_solution (solution.UnknownCourse word) = Solution 3 word
-fault_of_solution (solution.UnknownRoom word) = Solution 4 word
-fault_of_solution (solution.BadNumber word) = Solution 5 word
-fault_of_solution (solution.DayOut word) = Solution 6 word
-fault_of_solution (solution.PeriodOut word) = Solution 7 word
-fault_of_solution (solution.Repeated word) = Solution 8 word
-fault_of_solution solution.NoMemory = NoMemory
-
--- the fault of barred rooms
-abbrev pub fault_of_barred : BarredFault → Fault
-fault_of_barred (barred.NotText byte) = Barred 1 byte
-fault_of_barred (barred.Missing word) = Barred 2 word
-fault_of_barred (barred.Expected word) = Barred 3 word
-fault_of_barred (barred.BadNumber word) = Barred 4 word
-fault_of_barred (barred.TooLarge word) = Barred 5 word
-fault_of_barred (barred.UnknownCourse word) = Barred 6 word
-fault_of_barred (barred.UnknownRoom word) = Barred 7 word
-fault_of_barred barred.NoMemory = NoMemory
+use Rattle.ctt_files.specs.declared.fault.Fault.{Fault}
+use Rattle.ctt_files.specs.declared.fault.Fault.TheVariants.{CannotRead, CannotWrite, Journal, NoMemory, NoPlace, NoThread, Opening, TooLong}
 
 -- the fault of a journal
 abbrev pub fault_of_journal : JournalFault → Fault
@@ -95,50 +53,9 @@ IsRunFault problem name script.TooLong told = told ≡ TooLong name
 IsRunFault problem name script.Write told = told ≡ CannotWrite
 IsRunFault problem name script.NoMemory told = told ≡ NoMemory
 
--- 1 where a text is refused, 2 where the words are, and 3 where the machine failed
-abbrev pub status_of : Fault → ℕ
-status_of (Instance number at) = 1
-status_of (Solution number at) = 1
-status_of (Barred number at) = 1
-status_of (Journal number at) = 1
-status_of (Opening text) = 1
-status_of (Words text) = 2
-status_of WordsNotText = 2
-status_of TooManyScripts = 2
-status_of (CannotRead name) = 3
-status_of (TooLong name) = 3
-status_of CannotWrite = 3
-status_of NoMemory = 3
-status_of NoThread = 3
-status_of NoPlace = 3
-status_of BadSeats = 2
-status_of (MinutesExist name) = 3
-
--- P where standard output could not be written, and else Q
-abbrev pub IfUnwritten : Fault → Type 0 → Type 0 → Type 0
-IfUnwritten CannotWrite P Q = P
-IfUnwritten _ P Q = Q
-
 -- K, unless a file that had to be stored could not be written, and then S
 abbrev pub KeptUnless : Fault → Type 0 → Type 0 → Type 0
 KeptUnless fault S K = IfUnwritten fault (K ⊎ S) K
-
--- a part of the answers may have been printed before
-abbrev pub MayHaveWritten : Fault → Type 0
-MayHaveWritten CannotWrite = Unit {0}
-MayHaveWritten NoMemory = Unit {0}
-MayHaveWritten _ = ⊥
-
--- the bytes end with the end of a line
-abbrev pub EndsLine : List ℕ → Type 0
-EndsLine bytes = (front : List ℕ) × (bytes ≡ front ++ codes "\n")
-
--- what is said of the fault: the text of refused words and the line of an opening as they are, of wanted memory this line, and else a text with its line's end
-abbrev pub IsLineOf : Fault → List ℕ → Type 0
-IsLineOf (Words text) bytes = bytes ≡ string_bytes text
-IsLineOf (Opening text) bytes = bytes ≡ string_bytes text
-IsLineOf NoMemory bytes = bytes ≡ codes "timedesk: no memory\n"
-IsLineOf _ bytes = EndsLine bytes
 
 -- such a line is said
 abbrev pub SaysLineOf : Fault → Option (List ℕ) → Option (List ℕ) → Type 0

@@ -1,7 +1,5 @@
-pub mod CommandLine
 pub mod Jobs
 pub mod Faults
-pub mod Outcomes
 pub mod Texts
 pub mod Refusals
 pub mod Checks
@@ -10,6 +8,5 @@ pub mod Seats
 pub mod Audits
 pub mod Crews
 pub mod Work
-pub mod Files
 pub mod Desks
 pub mod Lists

@@ -1,66 +1,21 @@
 -- Why a job is not done: the file in which the fault lies, and what stands in its text.
-use Rattle.std.specs.Prelude.{◌≡◌, ◌⊎◌, ◌<◌, ◌++◌, ℕ, List, [], ◌∷◌, Option, Some, None, IfSome, codes, length, Ok, Err}
+use Rattle.std.specs.Prelude.{◌≡◌, ◌⊎◌, ◌<◌, ◌++◌, ℕ, List, [], ◌∷◌, Option, Some, IfSome, codes, length, Ok, Err}
 use Rattle.std.specs.Global.{Global}
 use Rattle.std.specs.String.{string_bytes}
 use Rattle.std.specs.declared.string.String.{String}
-use Rattle.ctt_text.specs.BarredLaws.{IsBarredCauseOf}
-use Rattle.ctt_text.specs.InstanceLaws.{IsCauseOf}
 use Rattle.ctt_text.specs.Problem.{Problem}
-use Rattle.ctt_text.specs.SolutionLaws.{IsSolutionCauseOf}
 use Rattle.ctt_text.specs.declared.placed.Placed.{Placed}
 use Rattle.ctt_edits.specs.Openings.{opening}
 use Rattle.ctt_edits.specs.declared.fault.EditFault.{EditFault}
 use Rattle.ctt_core.specs.declared.journal.JournalEntry.{JournalEntry}
 use Rattle.ctt_script.specs.JournalText.{IsJournalCauseOf}
 use Rattle.ctt_office.specs.Recovery.{IsMinutesFault}
-use Rattle.ctt_tool.specs.Faults.{IsOpeningFault, fault_of_barred, fault_of_instance, fault_of_journal, fault_of_solution, status_of}
+use Rattle.ctt_tool.specs.Faults.{IsOpeningFault, fault_of_journal}
 use Rattle.ctt_tool.specs.Seats.{AreBadSeats}
-use Rattle.ctt_tool.specs.Texts.{Held, Holds, IsInstanceIn, IsInstanceText, IsJournalText, IsNoBarred, IsNoInstance, IsNoJournal, IsNoSolution, IsStart, IsUnlawfulStart}
-use Rattle.ctt_tool.specs.declared.fault.Fault.{Fault}
-use Rattle.ctt_tool.specs.declared.fault.Fault.TheVariants.{BadSeats, CannotRead, MinutesExist, NoMemory, NoPlace, NoThread, TooLong, TooManyScripts}
-
--- this file has more bytes than are taken
-abbrev pub IsTooLong : Held → String Global → Fault → Type 0
-IsTooLong held name fault = (fault ≡ TooLong name) × Holds held name (λ text. 67108864 < length text)
-
--- this file cannot be read, or it is too long, or its bytes find no room
-abbrev pub IsOfFile : Held → String Global → Fault → Type 0
-IsOfFile held name fault = (fault ≡ CannotRead name) ⊎ (IsTooLong held name fault ⊎ (fault ≡ NoMemory))
-
--- reading the text meets the fault, and where that is no want of memory the text is none of its kind
-pub record IsNoText {E : Type 0} (told : E → Fault) (Meets : List ℕ → E → Type 0) (IsNone : List ℕ → Type 0) (text : List ℕ) (fault : Fault) : Type 0 where
-  pub met : E
-  pub is : fault ≡ told met
-  pub meets : Meets text met
-  pub is_none : status_of fault ≡ 1 → IsNone text
-
--- of this file, where its bytes are told; or it cannot be read
-abbrev pub IsOfText : (List ℕ → Fault → Type 0) → Held → String Global → Fault → Type 0
-IsOfText IsNo held name fault = IsOfFile held name fault
-    ⊎ ((text : List ℕ) × Holds held name (λ bytes. text ≡ bytes) × IsNo text fault)
-
--- the fault lies in the instance's file
-abbrev pub IsOfInstance : Held → String Global → Fault → Type 0
-IsOfInstance held name fault = IsOfText (IsNoText fault_of_instance IsCauseOf IsNoInstance) held name fault
-
--- in the file of the rooms that are barred in the instance that was read, if one is given
-abbrev pub IsOfBarred : Held → Problem → Option (String Global) → Fault → Type 0
-IsOfBarred held read None fault = ⊥
-IsOfBarred held read (Some name) fault = IsOfText (IsNoText fault_of_barred (IsBarredCauseOf read) (IsNoBarred read)) held name fault
-
--- in one of these two
-abbrev pub IsOfInstanceIn : Held → String Global → Option (String Global) → Fault → Type 0
-IsOfInstanceIn held instance barred fault = IsOfInstance held instance fault
-    ⊎ ((read : Problem) × Holds held instance (λ text. IsInstanceText text read) × IsOfBarred held read barred fault)
-
--- in one of these two, or, once the instance is read, somewhere else
-abbrev pub IsOfInstanceOr : (Held → Problem → Fault → Type 0) → Held → String Global → Option (String Global) → Fault → Type 0
-IsOfInstanceOr IsOther held instance barred fault = IsOfInstanceIn held instance barred fault
-    ⊎ ((problem : Problem) × IsInstanceIn held instance barred problem × IsOther held problem fault)
-
--- in a solution's file
-abbrev pub IsOfSolution : String Global → Held → Problem → Fault → Type 0
-IsOfSolution name held problem fault = IsOfText (IsNoText fault_of_solution (IsSolutionCauseOf problem) (IsNoSolution problem)) held name fault
+use Rattle.ctt_files.specs.Texts.{Held, Holds, IsStart}
+use Rattle.ctt_tool.specs.Texts.{IsJournalText, IsNoJournal, IsUnlawfulStart}
+use Rattle.ctt_files.specs.declared.fault.Fault.{Fault}
+use Rattle.ctt_files.specs.declared.fault.Fault.TheVariants.{BadSeats, CannotRead, MinutesExist, NoMemory, NoPlace, NoThread, TooLong, TooManyScripts}
 
 -- in a journal's text, and in a journal's file
 abbrev pub IsNoJournalOf : Problem → List ℕ → Fault → Type 0
@@ -68,11 +23,6 @@ IsNoJournalOf problem text fault = IsNoText fault_of_journal (IsJournalCauseOf p
 
 abbrev pub IsOfJournal : String Global → Held → Problem → Fault → Type 0
 IsOfJournal name held problem fault = IsOfText (IsNoJournalOf problem) held name fault
-
--- in the file of the start, if one is given
-abbrev pub IsOfStart : Option (String Global) → Held → Problem → Fault → Type 0
-IsOfStart None held problem fault = ⊥
-IsOfStart (Some name) held problem fault = IsOfSolution name held problem fault
 
 -- or the start cannot be placed
 abbrev pub IsOfOpening : Option (String Global) → Held → Problem → Fault → Type 0
@@ -95,11 +45,6 @@ IsOfScript script start held problem fault = ((fault ≡ CannotRead script) ⊎ 
 abbrev pub IsOfAudited : String Global → Option (String Global) → Held → Problem → Fault → Type 0
 IsOfAudited journal start held problem fault = IsOfJournal journal held problem fault
     ⊎ ((entries : List JournalEntry) × Holds held journal (λ text. IsJournalText problem text entries) × IsOfOpening start held problem fault)
-
--- in one of these files, or memory was wanted
-abbrev pub IsOfFiles : List (String Global) → Held → Fault → Type 0
-IsOfFiles [] held fault = fault ≡ NoMemory
-IsOfFiles (name ∷ names) held fault = IsOfFile held name fault ⊎ IsOfFiles names held fault
 
 -- a planner had no place, or no thread, or memory was wanted
 abbrev pub IsOfWork : Fault → Type 0

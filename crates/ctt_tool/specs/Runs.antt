@@ -9,7 +9,7 @@ use Rattle.ctt_edits.specs.Openings.{opening}
 use Rattle.ctt_core.specs.Runs.{accepted_of}
 use Rattle.ctt_script.specs.AnswerText.{answer_text, script_run}
 use Rattle.ctt_script.specs.WrittenText.{journal_text}
-use Rattle.ctt_tool.specs.Texts.{Held, Holds, IsInstanceIn, IsStart}
+use Rattle.ctt_files.specs.Texts.{Held, Holds, IsInstanceIn, IsStart}
 
 -- where a file is given, it holds what it should; where none is, no file has changed
 abbrev pub Stores : Option (String Global) → Held → Held → (List ℕ → Type 0) → Type 0

@@ -1,25 +1,25 @@
 -- What the program has done where it ends well, and what was the cause where it did not.
-use Rattle.std.specs.Prelude.{◌≡◌, ◌⊎◌, ◌<◌, Bool, true, List, [], Option, length}
-use Rattle.clap.specs.Words.{Text}
+use Rattle.std.specs.Prelude.{◌≡◌, ◌⊎◌, ◌<◌, ℕ, Bool, true, List, [], Option, length}
+use Rattle.ctt_words.specs.Jobs.{IsJobOf, IsRefusal, IsRequest, faults_of}
+use Rattle.ctt_words.specs.declared.job.Job.{Job}
+use Rattle.ctt_words.specs.declared.job.Job.TheVariants.{Audit, Check, Crew, Desk, Journal, Listing, Run}
 use Rattle.ctt_tool.specs.Audits.{AuditsJournal}
 use Rattle.ctt_tool.specs.Checks.{PrintsReport}
 use Rattle.ctt_tool.specs.Crews.{PrintsCrew}
 use Rattle.ctt_tool.specs.Desks.{PrintsLast}
-use Rattle.ctt_tool.specs.Faults.{status_of}
-use Rattle.ctt_tool.specs.Jobs.{HasBadSeats, IsJobOf, IsRefusal, IsRequest, Saying, Storing, faults_of, scripts_of}
+use Rattle.ctt_files.specs.Faults.{status_of}
+use Rattle.ctt_tool.specs.Jobs.{HasBadSeats, Saying, Storing, scripts_of}
 use Rattle.ctt_tool.specs.Lists.{ListsJournal, PrintsJournal}
 use Rattle.ctt_tool.specs.Refusals.{IsOfAudit, IsOfCheck, IsOfCrew, IsOfDesk, IsOfRecovery, IsOfRun}
 use Rattle.ctt_tool.specs.Runs.{RunsScript}
-use Rattle.ctt_tool.specs.Texts.{Held}
-use Rattle.ctt_tool.specs.declared.fault.Fault.{Fault}
-use Rattle.ctt_tool.specs.declared.fault.Fault.TheVariants.{CannotWrite, NoMemory, Words, WordsNotText}
-use Rattle.ctt_tool.specs.declared.job.Job.{Job}
-use Rattle.ctt_tool.specs.declared.job.Job.TheVariants.{Audit, Check, Crew, Desk, Journal, Listing, Run}
-use Rattle.ctt_tool.specs.declared.outcome.Outcome.{Outcome}
-use Rattle.ctt_tool.specs.declared.outcome.Outcome.TheVariants.{Done}
+use Rattle.ctt_files.specs.Texts.{Held}
+use Rattle.ctt_files.specs.declared.fault.Fault.{Fault}
+use Rattle.ctt_files.specs.declared.fault.Fault.TheVariants.{CannotWrite, NoMemory, Words, WordsNotText}
+use Rattle.ctt_files.specs.declared.outcome.Outcome.{Outcome}
+use Rattle.ctt_files.specs.declared.outcome.Outcome.TheVariants.{Done}
 
 -- the job is done over these files, where they tell their bytes; its answer is printed, and the program ends as it says
-abbrev pub DoesJob : Job → Outcome → Held → Held → Option Text → Option Text → Type 0
+abbrev pub DoesJob : Job → Outcome → Held → Held → Option (List ℕ) → Option (List ℕ) → Type 0
 DoesJob (Check instance barred solution json) outcome before after old new = (outcome ≡ Done)
     × (after ≡ before) × PrintsReport json instance barred solution before old new
 DoesJob (Run instance barred script start journal) outcome before after old new = (outcome ≡ Done)
@@ -36,7 +36,7 @@ DoesJob (Listing instance barred journal start) outcome before after old new = (
     × ListsJournal instance barred journal start outcome before old new
 
 -- the words ask for help or the version, or `clap` finds no fault in them and they ask for a job that is done
-abbrev pub DoesAsAsked : List Text → Outcome → Held → Held → Option Text → Option Text → Type 0
+abbrev pub DoesAsAsked : List (List ℕ) → Outcome → Held → Held → Option (List ℕ) → Option (List ℕ) → Type 0
 DoesAsAsked words outcome before after old new = (IsRequest (faults_of words) × (outcome ≡ Done) × (after ≡ before))
     ⊎ ((faults_of words ≡ []) × ((job : Job) × IsJobOf words job × DoesJob job outcome before after old new))
 
@@ -51,31 +51,31 @@ IsOfJob (Journal instance barred minutes) held fault = IsOfRecovery held instanc
 IsOfJob (Listing instance barred journal start) held fault = IsOfAudit held instance barred journal start fault
 
 -- the words ask for a job that meets this fault
-abbrev pub AsksFor : List Text → Held → Fault → Type 0
+abbrev pub AsksFor : List (List ℕ) → Held → Fault → Type 0
 AsksFor words held fault = (job : Job) × IsJobOf words job × IsOfJob job held fault
 
 -- the words ask for a job of which a text is refused
-abbrev pub AsksForRefusedText : List Text → Held → Type 0
+abbrev pub AsksForRefusedText : List (List ℕ) → Held → Type 0
 AsksForRefusedText words held = (fault : Fault) × (status_of fault ≡ 1) × AsksFor words held fault
 
 -- the words ask for a job that stores a file
-abbrev pub AsksToStore : List Text → Type 0
+abbrev pub AsksToStore : List (List ℕ) → Type 0
 AsksToStore words = (job : Job) × IsJobOf words job × Storing job
 
 -- the words ask for a crew of more than 64 scripts
-abbrev pub AsksForTooMany : List Text → Type 0
+abbrev pub AsksForTooMany : List (List ℕ) → Type 0
 AsksForTooMany words = (job : Job) × IsJobOf words job × (64 < length (scripts_of job))
 
 -- the words ask for a desk whose seats are refused
-abbrev pub AsksForBadSeats : List Text → Type 0
+abbrev pub AsksForBadSeats : List (List ℕ) → Type 0
 AsksForBadSeats words = (job : Job) × IsJobOf words job × HasBadSeats job
 
 -- the words ask for a job that may say something where it is done
-abbrev pub AsksToSay : List Text → Type 0
+abbrev pub AsksToSay : List (List ℕ) → Type 0
 AsksToSay words = (job : Job) × IsJobOf words job × Saying job
 
 -- the cause of a fault, by the words, the files, and whether standard output failed; wanted memory has none, and words that are given are text
-abbrev pub HasCause : List Text → Held → Bool → Fault → Type 0
+abbrev pub HasCause : List (List ℕ) → Held → Bool → Fault → Type 0
 HasCause words held failed CannotWrite = (failed ≡ true) ⊎ AsksToStore words
 HasCause words held failed NoMemory = Unit {0}
 HasCause words held failed (Words text) = IsRefusal (faults_of words)
@@ -84,4 +84,4 @@ HasCause words held failed fault = AsksFor words held fault
 
 -- the cause of a fault by some words, or a word is no text
 abbrev pub IsOfWords : Held → Bool → Fault → Type 0
-IsOfWords held failed fault = (fault ≡ WordsNotText) ⊎ ((words : List Text) × HasCause words held failed fault)
+IsOfWords held failed fault = (fault ≡ WordsNotText) ⊎ ((words : List (List ℕ)) × HasCause words held failed fault)

@@ -8,19 +8,16 @@ ghost use Rattle.ctt_text.specs.Words.{words};
 ghost use Rattle.ctt_core.specs.declared.journal.JournalEntry.{JournalEntry};
 ghost use Rattle.ctt_script.specs.AuditedText.{AuditsText};
 ghost use Rattle.ctt_tool.specs.Audits.{AuditsJournal, AuditsOn, FindsIn, IsVerdictFault, PrintsVerdict, VerdictFits};
-ghost use Rattle.ctt_tool.specs.Faults.{IfUnwritten};
+ghost use Rattle.ctt_files.specs.Faults.{IfUnwritten};
 ghost use Rattle.ctt_tool.specs.Refusals.{IsNoJournalOf, IsOfAudit, IsOfAudited};
 ghost use Rattle.ctt_tool.specs.Texts.{IsJournalText};
 
-use crate::fault::Fault;
-use crate::files::{Files, read_file};
-use crate::opening::refused_opening;
-use crate::outcome::Outcome;
-use crate::output::print;
-use crate::texts::{fetch_instance, fetch_start};
+use crate::refused::{refused_journal, refused_opening};
 use ctt_board::{GridSheet, Sheet};
 use ctt_core::Verdict;
-use ctt_script::{Sink, audit_journal, read_journal};
+use ctt_devices::Sink;
+use ctt_files::{Fault, Files, Outcome, fetch_instance, fetch_start, print, read_file};
+use ctt_script::{audit_journal, read_journal};
 use ctt_text::{Instance, Placed, let_go};
 use std::alloc::Global;
 
@@ -65,7 +62,10 @@ fn verdict_of<'i, S: Sheet<'i>>(
     ensures found { IfOk result (AuditsText instance.now lectures.now (words text.now)) }
     ensures cause { IfErr result (IsNoJournalOf instance.now text.now) }
 {
-    Ok(audit_journal::<S>(alloc, instance, lectures, text)?)
+    match audit_journal::<S>(alloc, instance, lectures, text) {
+        Ok(verdict) => Ok(verdict),
+        Err(fault) => Err(refused_journal(fault)),
+    }
 }
 
 /// Refuses a text that is no journal.
@@ -74,8 +74,10 @@ fn check_journal(alloc: Global, instance: &Instance, text: &[u8]) -> Result<(), 
         × IsJournalText instance.now text.now entries) }
     ensures cause { IfErr result (IsNoJournalOf instance.now text.now) }
 {
-    read_journal(alloc, instance, text)?;
-    Ok(())
+    match read_journal(alloc, instance, text) {
+        Ok(_) => Ok(()),
+        Err(fault) => Err(refused_journal(fault)),
+    }
 }
 
 /// What is found of the journal in a file, which is audited as it is read. The file of the start is read behind that of

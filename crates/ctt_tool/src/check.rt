@@ -4,15 +4,13 @@ ghost use Rattle.std.specs.Prelude.{◌≡◌, true, OnOk, IfOk, IfErr, IfSome};
 ghost use Rattle.std.specs.String.{string_bytes};
 ghost use Rattle.ctt_text.specs.Timetable.{IsTimetable};
 ghost use Rattle.ctt_tool.specs.Checks.{IsReport, IsReportFor, IsReportOn, PrintsReport};
-ghost use Rattle.ctt_tool.specs.Faults.{IfUnwritten};
-ghost use Rattle.ctt_tool.specs.Refusals.{IsOfCheck, IsOfSolution};
+ghost use Rattle.ctt_files.specs.Faults.{IfUnwritten};
+ghost use Rattle.ctt_files.specs.Refusals.{IsOfSolution};
+ghost use Rattle.ctt_tool.specs.Refusals.{IsOfCheck};
 
-use crate::fault::Fault;
-use crate::files::Files;
-use crate::output::print;
-use crate::texts::{fetch_instance, fetch_solution};
+use ctt_devices::Sink;
+use ctt_files::{Fault, Files, fetch_instance, fetch_solution, print};
 use ctt_findings::{report_json, report_text};
-use ctt_script::Sink;
 use ctt_text::{Instance, NoMemory, Placed, let_go};
 use std::alloc::Global;
 

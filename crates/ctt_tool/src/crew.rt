@@ -3,21 +3,32 @@
 ghost use Rattle.std.specs.Prelude.{◌≡◌, ◌≤◌, ◌<◌, [], Err, length, true, OnOk, IfOk, IfErr};
 ghost use Rattle.ctt_crew.specs.CrewText.{IsCrewText};
 ghost use Rattle.ctt_tool.specs.Crews.{IsOfCrewOn, PrintsCrew};
-ghost use Rattle.ctt_tool.specs.Faults.{IfUnwritten};
-ghost use Rattle.ctt_tool.specs.Refusals.{IsOfCrew, IsOfInstanceOr, IsOfScripts, IsOfWork};
-ghost use Rattle.ctt_tool.specs.declared.fault.Fault.TheVariants.{TooManyScripts};
+ghost use Rattle.ctt_tool.specs.Faults.{fault_of_crew};
+ghost use Rattle.ctt_files.specs.Faults.{IfUnwritten};
+ghost use Rattle.ctt_files.specs.Refusals.{IsOfInstanceOr};
+ghost use Rattle.ctt_tool.specs.Refusals.{IsOfCrew, IsOfScripts, IsOfWork};
+ghost use Rattle.ctt_files.specs.declared.fault.Fault.TheVariants.{TooManyScripts};
 
-use crate::fault::Fault;
-use crate::files::{Files, read_files};
-use crate::output::print;
-use crate::texts::fetch_instance;
-use ctt_crew::NoGate;
-use ctt_script::{PLANNERS, Sink};
+use ctt_crew::{CrewFault, NoGate};
+use ctt_devices::Sink;
+use ctt_files::{Fault, Files, fetch_instance, print, read_files};
+use ctt_script::PLANNERS;
 use ctt_text::{Instance, let_go};
 use std::alloc::Global;
 use std::marker::Sync;
 use std::sync::Wait;
 use std::thread::Threads;
+
+/// The fault of a crew that there is not.
+fn refused_crew(fault: CrewFault) -> Fault
+    ensures { result ≡ fault_of_crew fault }
+{
+    match fault {
+        CrewFault::NoPlace => Fault::NoPlace,
+        CrewFault::NoThread(_) => Fault::NoThread,
+        CrewFault::NoMemory => Fault::NoMemory,
+    }
+}
 
 /// What a crew writes that follows these scripts.
 fn answers<R: Threads + Wait + Sync>(
@@ -36,7 +47,10 @@ fn answers<R: Threads + Wait + Sync>(
     for text in texts {
         scripts.push(text.as_slice())?;
     }
-    Ok(ctt_crew::crew(rt, alloc, instance, &scripts, &NoGate)?)
+    match ctt_crew::crew(rt, alloc, instance, &scripts, &NoGate) {
+        Ok(answers) => Ok(answers),
+        Err(fault) => Err(refused_crew(fault)),
+    }
 }
 
 /// What a crew writes that follows the scripts in these files.

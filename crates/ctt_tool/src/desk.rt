@@ -4,21 +4,19 @@ ghost use Rattle.std.specs.Prelude.{◌≡◌, ◌⊎◌, ◌≤◌, ◌<◌, �
 ghost use Rattle.std.specs.String.{string_bytes};
 ghost use Rattle.ctt_office.specs.OfficeFaults.{IsOfficeFault};
 ghost use Rattle.ctt_tool.specs.Desks.{IsOfDeskFrom, IsOfDeskOn, IsOpenOn, TellsLast};
-ghost use Rattle.ctt_tool.specs.Faults.{IfUnwritten, MayHaveWritten};
-ghost use Rattle.ctt_tool.specs.Refusals.{IsOfDesk, IsOfInstanceOr, IsOfOldMinutes, IsOfOpening, IsOfSeats, IsOfWork, IsUnread, IsUnreadAt};
+ghost use Rattle.ctt_files.specs.Faults.{IfUnwritten, MayHaveWritten};
+ghost use Rattle.ctt_files.specs.Refusals.{IsOfInstanceOr};
+ghost use Rattle.ctt_tool.specs.Refusals.{IsOfDesk, IsOfOldMinutes, IsOfOpening, IsOfSeats, IsOfWork, IsUnread, IsUnreadAt};
 ghost use Rattle.ctt_tool.specs.Seats.{has_seat, has_twice};
-ghost use Rattle.ctt_tool.specs.declared.fault.Fault.TheVariants.{BadSeats, CannotWrite, NoMemory};
+ghost use Rattle.ctt_files.specs.declared.fault.Fault.TheVariants.{BadSeats, CannotWrite, NoMemory};
 
-use crate::fault::Fault;
-use crate::files::Files;
 use crate::office::{Office, STANDARD};
-use crate::opening::refused_opening;
-use crate::output::print;
-use crate::texts::{fetch_instance, fetch_start};
+use crate::refused::refused_opening;
 use ctt_board::{GridSheet, Sheet};
 use ctt_desk::{Opened, SharedFault};
+use ctt_devices::Sink;
+use ctt_files::{Fault, Files, fetch_instance, fetch_start, print};
 use ctt_office::{OfficeFault, keep_desk};
-use ctt_script::Sink;
 use ctt_text::{Instance, let_go};
 use std::alloc::{AllocError, Global};
 use std::marker::Sync;

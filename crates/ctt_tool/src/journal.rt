@@ -1,17 +1,16 @@
 //! The command `journal`.
 
 ghost use Rattle.std.specs.Prelude.{◌≡◌, ◌⊎◌, true, is_some, OnOk, OnErr, IfOk, IfErr};
-ghost use Rattle.ctt_tool.specs.Faults.{IfUnwritten};
+ghost use Rattle.ctt_files.specs.Faults.{IfUnwritten};
 ghost use Rattle.ctt_tool.specs.Lists.{IsRecoveredJournal, PrintsEntries, PrintsJournal};
 ghost use Rattle.ctt_tool.specs.Refusals.{IsNoMinutes, IsOfMinutes, IsOfRecovery};
-ghost use Rattle.ctt_tool.specs.declared.fault.Fault.TheVariants.{NoMemory};
+ghost use Rattle.ctt_files.specs.declared.fault.Fault.TheVariants.{NoMemory};
 
-use crate::fault::Fault;
-use crate::files::{Files, read_file};
-use crate::output::{complain, print};
-use crate::texts::fetch_instance;
+use crate::refused::refused_journal;
+use ctt_devices::Sink;
+use ctt_files::{Fault, Files, complain, fetch_instance, print, read_file};
 use ctt_office::read_blocks;
-use ctt_script::{Sink, write_journal};
+use ctt_script::write_journal;
 use ctt_text::{Instance, let_go};
 use std::alloc::Global;
 
@@ -36,7 +35,10 @@ fn recovered(
     ensures cause { IfErr result (λ fault.
         IsNoMinutes instance.now minutes.now fault ⊎ (fault ≡ NoMemory)) }
 {
-    let blocks = read_blocks(alloc, instance, minutes)?;
+    let blocks = match read_blocks(alloc, instance, minutes) {
+        Ok(blocks) => blocks,
+        Err(fault) => return Err(refused_journal(fault)),
+    };
     let torn = blocks.torn;
     let journal = write_journal(alloc, instance, &blocks.entries);
     let_go(blocks);

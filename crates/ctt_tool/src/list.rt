@@ -5,20 +5,18 @@ ghost use Rattle.std.specs.List.{AllByRecursion as Each};
 ghost use Rattle.std.specs.String.{string_bytes};
 ghost use Rattle.ctt_text.specs.Timetable.{Fits};
 ghost use Rattle.ctt_core.specs.Entries.{EntryFits};
-ghost use Rattle.ctt_tool.specs.Faults.{IfUnwritten};
+ghost use Rattle.ctt_files.specs.Faults.{IfUnwritten};
 ghost use Rattle.ctt_tool.specs.Lists.{ListsJournal, ListsOn, PrintsLeft};
 ghost use Rattle.ctt_tool.specs.Refusals.{IsLeftFault, IsOfAudit, IsOfAudited, IsOfJournal};
 ghost use Rattle.ctt_tool.specs.Texts.{IsJournalText};
 
 use crate::audit::print_verdict;
-use crate::fault::Fault;
-use crate::files::{Files, read_file};
-use crate::outcome::Outcome;
-use crate::output::print;
-use crate::texts::{fetch_instance, fetch_start};
+use crate::refused::refused_journal;
 use ctt_board::{GridSheet, Sheet};
 use ctt_core::{JournalEntry, NoList, list_after};
-use ctt_script::{Sink, read_journal};
+use ctt_devices::Sink;
+use ctt_files::{Fault, Files, Outcome, fetch_instance, fetch_start, print, read_file};
+use ctt_script::read_journal;
 use ctt_text::{Instance, Placed, let_go, write_solution};
 use std::alloc::Global;
 
@@ -37,7 +35,10 @@ fn fetch_entries<F: Files>(
     ensures cause { IfErr result (IsOfJournal journal (F.held files.old) instance.now) }
 {
     let text = read_file(alloc, files, journal)?;
-    Ok(read_journal(alloc, instance, &text)?)
+    match read_journal(alloc, instance, &text) {
+        Ok(entries) => Ok(entries),
+        Err(fault) => Err(refused_journal(fault)),
+    }
 }
 
 /// Prints the timetable that entries leave on the opening with these lectures, or what an audit finds.

@@ -1,7 +1,7 @@
 //! Seats and minutes by the names of their files.
 
+use ctt_devices::{Device, Failed};
 use ctt_office::{Doors, Durable};
-use ctt_script::{Device, Failed};
 use std::alloc::Global;
 use std::fs::{File, OpenOptions};
 use std::io::{Read, Write};

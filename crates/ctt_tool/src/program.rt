@@ -1,26 +1,25 @@
 //! What the program does.
 
 ghost use Rattle.std.specs.Prelude.{◌≡◌, ◌≢◌, ◌≤◌, ◌⊎◌, [], true, false, map, OnOk, OnErr, IfOk, IfErr};
-ghost use Rattle.ctt_tool.specs.Faults.{IfUnwritten, KeptUnless, MayHaveWritten, SaysFault, status_of};
-ghost use Rattle.ctt_tool.specs.Jobs.{HasScripts, IsRefusal, Saying, Storing, faults_of};
+ghost use Rattle.ctt_words.specs.Jobs.{HasScripts, IsRefusal, faults_of};
+ghost use Rattle.ctt_files.specs.Faults.{IfUnwritten, MayHaveWritten, status_of};
+ghost use Rattle.ctt_tool.specs.Faults.{KeptUnless, SaysFault};
+ghost use Rattle.ctt_tool.specs.Jobs.{Saying, Storing};
 ghost use Rattle.ctt_tool.specs.Work.{AsksForBadSeats, AsksForRefusedText, AsksForTooMany, AsksToSay, AsksToStore, DoesAsAsked, DoesJob, HasCause, IsOfJob};
-ghost use Rattle.ctt_tool.specs.declared.fault.Fault.TheVariants.{NoMemory};
-ghost use Rattle.ctt_tool.specs.declared.outcome.Outcome.TheVariants.{Differs, Done};
+ghost use Rattle.ctt_files.specs.declared.fault.Fault.TheVariants.{NoMemory};
+ghost use Rattle.ctt_files.specs.declared.outcome.Outcome.TheVariants.{Differs, Done};
 
 use crate::audit::audit;
 use crate::check::check;
 use crate::crew::crew;
 use crate::desk::desk;
-use crate::fault::{Fault, NO_MEMORY};
-use crate::files::Files;
-use crate::job::{Job, WordsFault, read_words};
 use crate::journal::journal;
 use crate::list::list;
 use crate::office::Office;
-use crate::outcome::Outcome;
-use crate::output::{complain, print};
 use crate::run::run;
-use ctt_script::Sink;
+use ctt_devices::Sink;
+use ctt_files::{Fault, Files, NO_MEMORY, Outcome, complain, print};
+use ctt_words::{Job, WordsFault, read_words};
 use std::alloc::Global;
 use std::marker::Sync;
 use std::sync::Wait;

@@ -8,20 +8,20 @@ ghost use Rattle.ctt_edits.specs.Openings.{opening};
 ghost use Rattle.ctt_core.specs.Runs.{accepted_of};
 ghost use Rattle.ctt_script.specs.AnswerText.{answer_text, script_run};
 ghost use Rattle.ctt_script.specs.Minutes.{IsMinuted, blank, minutes_text};
-ghost use Rattle.ctt_tool.specs.Faults.{IfUnwritten, IsRunFault, KeptUnless, MayHaveWritten, RunFaultFits};
+ghost use Rattle.ctt_files.specs.Faults.{IfUnwritten, MayHaveWritten};
+ghost use Rattle.ctt_tool.specs.Faults.{IsRunFault, KeptUnless, RunFaultFits};
 ghost use Rattle.ctt_tool.specs.Jobs.{IsGiven};
 ghost use Rattle.ctt_tool.specs.Refusals.{IsAnswerFault, IsOfRun, IsOfScript};
 ghost use Rattle.ctt_tool.specs.Runs.{RunsOn, RunsScript, Stores};
-ghost use Rattle.ctt_tool.specs.declared.fault.Fault.TheVariants.{NoMemory as OutOfMemory};
+ghost use Rattle.ctt_files.specs.declared.fault.Fault.TheVariants.{NoMemory as OutOfMemory};
 
-use crate::fault::Fault;
-use crate::files::Files;
-use crate::opening::refused_opening;
-use crate::texts::{fetch_instance, fetch_start};
+use crate::refused::refused_opening;
 use ctt_board::{GridSheet, Sheet};
 use ctt_core::Desk;
+use ctt_devices::{Sink, Source};
 use ctt_draft::KeepNone;
-use ctt_script::{Minutes, PLANNERS, ScriptFault, Sink, Source, run_script};
+use ctt_files::{Fault, Files, fetch_instance, fetch_start};
+use ctt_script::{Minutes, PLANNERS, ScriptFault, run_script};
 use ctt_text::{Instance, NoMemory, Placed, let_go};
 use std::alloc::Global;
 

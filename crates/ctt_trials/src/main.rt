@@ -36,7 +36,7 @@ mod turns;
 mod worked;
 
 use both::{Case, Kind, play_on};
-use ctt_script::Device;
+use ctt_devices::Device;
 use ctt_text::{Instance, Placed, let_go, read_instance};
 use scripts::Told;
 use shared::Script;

@@ -4,9 +4,10 @@ ghost use Rattle.std.specs.Prelude.{◌↔◌, IsTrue};
 ghost use Rattle.ctt_script.specs.Entries.{AnswerFits, RowFits};
 
 use ctt_core::Answer;
+use ctt_devices::{Sink, put_all};
 use ctt_edits::{EditFault, Lectures, Reply, Row};
 use ctt_rules::Cost;
-use ctt_script::{Sink, put_all, write_answer};
+use ctt_script::write_answer;
 use ctt_text::{Instance, NoMemory, Placed};
 use std::alloc::Global;
 

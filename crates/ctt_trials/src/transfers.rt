@@ -3,7 +3,7 @@
 use crate::devices::{Broken, Failing, Memory, Shelf};
 use crate::scripts::{Reading, holds};
 use crate::story::Story;
-use ctt_script::{Device, Failed, InputFault, Sink, put_all, put_whole, read_all};
+use ctt_devices::{Device, Failed, InputFault, Sink, put_all, put_whole, read_all};
 
 /// How many bytes an input has at most.
 const LIMIT: usize = 4_096;

@@ -1,6 +1,6 @@
 use Rattle.std.proofs.Common.{inr}
 use Rattle.ctt_tool.specs.Work.{DoesAsAsked}
-use Rattle.ctt_tool.specs.declared.outcome.Outcome.TheVariants.{Differs}
+use Rattle.ctt_files.specs.declared.outcome.Outcome.TheVariants.{Differs}
 use Rattle.ctt_tool.proofs.Ends.{of_no_words, of_some_words}
 use Rattle.ctt_tool.proofs.serve.Goals as goal
 

@@ -1,6 +1,7 @@
 use Rattle.std.proofs.Common.{refl}
-use Rattle.ctt_tool.specs.Refusals.{IsOfCheck, IsOfSolution}
-use Rattle.ctt_tool.proofs.Plain.{behind_plain, passed_plain, solution_file_plain}
+use Rattle.ctt_files.specs.Refusals.{IsOfSolution}
+use Rattle.ctt_tool.specs.Refusals.{IsOfCheck}
+use Rattle.ctt_files.proofs.Plain.{behind_plain, passed_plain, solution_file_plain}
 use Rattle.ctt_tool.proofs.check.check.Goals as goal
 
 pub returns-in_err-report-clause-cause : goal.returns-in_err-report-clause-cause

@@ -3,9 +3,9 @@ use Rattle.std.proofs.lemmas.Result.{IfErr-weaker, IfOk-weaker}
 use Rattle.std.specs.String.{string_bytes}
 use Rattle.ctt_text.specs.Problem.{Problem}
 use Rattle.ctt_tool.specs.Checks.{IsReportFor}
-use Rattle.ctt_tool.specs.Refusals.{IsOfCheck, IsOfSolution}
-use Rattle.ctt_tool.proofs.Known.{passed_on}
-use Rattle.ctt_tool.proofs.Plain.{behind_instance}
+use Rattle.ctt_files.specs.Refusals.{IsOfSolution}
+use Rattle.ctt_tool.specs.Refusals.{IsOfCheck}
+use Rattle.ctt_files.proofs.Plain.{behind_instance, passed_on}
 use Rattle.ctt_tool.proofs.check.report_on.Goals as goal
 
 pub returns-in_err-instance-clause-cause : goal.returns-in_err-instance-clause-cause

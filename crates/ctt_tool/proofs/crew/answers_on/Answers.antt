@@ -2,7 +2,7 @@ use Rattle.std.proofs.Common.{◌≤◌, ◌∙◌, [], ap, inl, inr, length, su
 use Rattle.std.proofs.lemmas.Result.{IfErr-weaker}
 use Rattle.ctt_crew.specs.CrewText.{IsCrewText}
 use Rattle.ctt_tool.specs.Refusals.{IsOfScripts}
-use Rattle.ctt_tool.proofs.Known.{passed_on}
+use Rattle.ctt_files.proofs.Plain.{passed_on}
 use Rattle.ctt_tool.proofs.crew.answers_on.Goals as goal
 
 pub answers-requires-clause-some : goal.answers-requires-clause-some

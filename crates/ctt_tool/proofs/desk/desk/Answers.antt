@@ -1,8 +1,9 @@
 use Rattle.std.proofs.Common.{◌≡◌, inl, inr, refl, subst, sym}
-use Rattle.ctt_tool.specs.Faults.{IfUnwritten}
-use Rattle.ctt_tool.specs.Refusals.{IsOfDesk, IsOfInstanceOr, IsOfSeats}
-use Rattle.ctt_tool.proofs.Known.{passed_on}
-use Rattle.ctt_tool.proofs.Plain.{IsPlain, passed_desk, unwritten_more}
+use Rattle.ctt_files.specs.Faults.{IfUnwritten}
+use Rattle.ctt_files.specs.Refusals.{IsOfInstanceOr}
+use Rattle.ctt_tool.specs.Refusals.{IsOfDesk, IsOfSeats}
+use Rattle.ctt_files.proofs.Plain.{IsPlain, passed_on, unwritten_more}
+use Rattle.ctt_tool.proofs.Plain.{passed_desk}
 use Rattle.ctt_tool.proofs.desk.desk.Goals as goal
 
 pub returns-in_err-minutes-clause-cause : goal.returns-in_err-minutes-clause-cause

@@ -1,7 +1,8 @@
 use Rattle.std.proofs.Common.{inl, inr, rules, ⊎_elim}
 use Rattle.std.proofs.lemmas.Result.{IfErr-weaker, IfOk-weaker}
-use Rattle.ctt_tool.specs.Jobs.{HasScripts}
-use Rattle.ctt_tool.proofs.Known.{job_caused, job_has_scripts, kept_weaker}
+use Rattle.ctt_words.specs.Jobs.{HasScripts}
+use Rattle.ctt_words.proofs.Given.{job_has_scripts}
+use Rattle.ctt_tool.proofs.Known.{job_caused, kept_weaker}
 use Rattle.ctt_tool.proofs.program.do_as_asked.Goals as goal
 
 pub returns-in-Ok-clause-done : goal.returns-in-Ok-clause-done

@@ -1,5 +1,5 @@
 use Rattle.std.proofs.Common.{inr, refl, rules}
-use Rattle.ctt_tool.specs.declared.fault.Fault.TheVariants.{NoMemory}
+use Rattle.ctt_files.specs.declared.fault.Fault.TheVariants.{NoMemory}
 use Rattle.ctt_tool.proofs.Known.{says_fault}
 use Rattle.ctt_tool.proofs.program.fail_with.Goals as goal
 

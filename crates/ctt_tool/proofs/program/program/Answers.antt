@@ -1,7 +1,6 @@
 use Rattle.std.proofs.Common.{inl, inr, map, ⊎_elim}
 use Rattle.ctt_tool.specs.Work.{DoesAsAsked}
-use Rattle.ctt_tool.proofs.Causes.{one_is_of_fault}
-use Rattle.ctt_tool.proofs.Ends.{differs_kept, differs_taken, ended_kept, ends_differs, ends_done, one_is_some, said_since, two_is_of_fault, unprinted_one, unsaid_differs}
+use Rattle.ctt_tool.proofs.Ends.{differs_kept, differs_taken, ended_kept, ends_differs, ends_done, one_is_of_fault, one_is_some, said_since, two_is_of_fault, unprinted_one, unsaid_differs}
 use Rattle.ctt_tool.proofs.Known.{asked_one, refused_two, says_caused}
 use Rattle.ctt_tool.proofs.program.program.Goals as goal
 

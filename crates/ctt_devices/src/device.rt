@@ -1,0 +1,92 @@
+//! Readers and writers of the system.
+
+use crate::sink::Sink;
+use crate::source::{Failed, Source};
+use std::io::{Read, Write};
+
+/// A reader or a writer of std, with the mark of its failure.
+#[derive(Drop)]
+pub struct Device<T> {
+    inner: T,
+    failed: bool,
+    pulls: u64,
+}
+
+impl<T> Device<T> {
+    ghost use Rattle.std.specs.Prelude.{◌≡◌, false};
+    ghost use Rattle.ctt_devices.specs.Device.{inner_of, is_marked, pulls_of};
+
+    /// A reader or a writer, unmarked, that was not read from.
+    pub fn new(inner: T) -> Self
+        ensures inner { inner_of result ≡ inner }
+        ensures unmarked { is_marked result ≡ false }
+        ensures unread { pulls_of result ≡ 0 }
+    {
+        Device {
+            inner,
+            failed: false,
+            pulls: 0,
+        }
+    }
+
+    /// The reader or the writer of std.
+    pub fn inner(&self) -> &T
+        ensures { result.now ≡ inner_of self.now }
+    {
+        &self.inner
+    }
+}
+
+impl<T: Read> Source for Device<T> {
+    ghost use Rattle.ctt_devices.specs.Device.{inner_of, is_marked, pulls_of};
+
+    ghost has_failed = { is_marked };
+
+    ghost pulls = { pulls_of };
+
+    ghost left = { λ device. T.remaining (inner_of device) };
+
+    fn pull(&mut self, buffer: &mut [u8]) -> Result<usize, Failed> {
+        self.pulls = self.pulls.saturating_add(1);
+        match self.inner.read(buffer) {
+            Ok(n) => Ok(n),
+            Err(_) => {
+                self.failed = true;
+                Err(Failed)
+            }
+        }
+    }
+}
+
+impl<T: Write> Sink for Device<T> {
+    ghost use Rattle.ctt_devices.specs.Device.{inner_of, is_marked};
+
+    ghost has_failed = { is_marked };
+
+    ghost taken = { λ device. T.contents (inner_of device) };
+
+    fn put(&mut self, bytes: &[u8]) -> Result<usize, Failed> {
+        match self.inner.write(bytes) {
+            Ok(n) => {
+                if n == 0 && !bytes.is_empty() {
+                    self.failed = true;
+                }
+                Ok(n)
+            }
+            Err(_) => {
+                self.failed = true;
+                Err(Failed)
+            }
+        }
+    }
+
+    fn flush(&mut self) -> Result<(), Failed> {
+        match self.inner.flush() {
+            Ok(()) => Ok(()),
+            Err(_) => {
+                self.failed = true;
+                Err(Failed)
+            }
+        }
+    }
+}

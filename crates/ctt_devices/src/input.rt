@@ -1,0 +1,78 @@
+//! All that a reader gives.
+
+ghost use Rattle.std.specs.Prelude.{◌≡◌, ◌↔◌, ◌+◌, ◌<◌, ◌≤◌, [], true, false, length, IfOk, OnOk, IfSome, vec_len};
+
+use crate::source::Source;
+use std::alloc::{AllocError, Global};
+
+/// The most bytes that an input of the program may have: 64 MiB.
+pub const INPUT_LIMIT: usize = 67_108_864;
+
+/// Why an input could not be read.
+#[derive(Clone, Copy, PartialEq, Eq)]
+pub enum InputFault {
+    /// A read failed.
+    Read,
+    /// There are more bytes than are taken.
+    TooLong,
+    /// No memory was left for the bytes.
+    NoMemory,
+}
+
+impl From<AllocError> for InputFault {
+    ghost use Rattle.std.specs.Prelude.{◌≡◌};
+    ghost use Rattle.ctt_devices.specs.declared.input.InputFault.TheVariants.{NoMemory};
+
+    ghost from_gives = { λ _ fault. fault ≡ NoMemory };
+
+    fn from(_error: AllocError) -> InputFault {
+        InputFault::NoMemory
+    }
+}
+
+/// How many bytes are asked for at once: a large file takes few reads, and a short one pays little
+/// for the room.
+const PIECE: usize = 16_384;
+
+/// Reads up to the end, and gives all the bytes, at most `limit` of them.
+///
+/// `Read` where a read fails, and no read is tried after it. `TooLong` where there are more than
+/// `limit` bytes. `NoMemory` where the bytes find no room. Where the reader stands after the last two
+/// is left open.
+pub fn read_all<R: Source>(
+    alloc: Global,
+    reader: &mut R,
+    limit: usize,
+) -> Result<Vec<u8>, InputFault>
+    requires { R.has_failed reader.old ≡ false }
+
+    ensures all { IfOk result (λ v. IfSome (R.left reader.old) (λ bytes. v.items ≡ bytes)) }
+    ensures end { OnOk result (IfSome (R.left reader.old) (λ _. R.left reader.new ≡ Some [])) }
+    ensures short { IfOk result (λ v. vec_len v ≤ limit) }
+
+    ensures failed { (result ≡ Err InputFault.Read) ↔ (R.has_failed reader.new ≡ true) }
+    ensures unmarked { OnOk result (R.has_failed reader.new ≡ false) }
+    ensures too_long { result ≡ Err InputFault.TooLong →
+        IfSome (R.left reader.old) (λ bytes. limit < length bytes) }
+    ensures no_memory { result ≡ Err InputFault.NoMemory →
+        IfSome (R.left reader.old) (λ bytes. 0 < length bytes) }
+
+    ensures few { R.pulls reader.new ≤ R.pulls reader.old + limit + 1 }
+    ensures fewer { IfSome (R.left reader.old) (λ old. IfSome (R.left reader.new) (λ new.
+        R.pulls reader.new + length new ≤ R.pulls reader.old + length old + 1)) }
+{
+    let mut bytes = Vec::new(alloc);
+    let mut buffer = [0u8; PIECE];
+    loop {
+        let Ok(n) = reader.pull(&mut buffer) else {
+            return Err(InputFault::Read);
+        };
+        if n == 0 {
+            return Ok(bytes);
+        }
+        if n > limit - bytes.len() {
+            return Err(InputFault::TooLong);
+        }
+        bytes.extend_from_slice(&buffer[..n])?;
+    }
+}

@@ -1,0 +1,12 @@
+//! Readers and writers with a mark, and whole texts through them.
+#![tactic(auto)]
+
+mod device;
+mod input;
+mod sink;
+mod source;
+
+pub use device::Device;
+pub use input::{INPUT_LIMIT, InputFault, read_all};
+pub use sink::{Sink, put_all, put_whole};
+pub use source::{Failed, Source};

@@ -1,0 +1,3 @@
+pub mod Causes
+pub mod Plain
+pub mod InTurn

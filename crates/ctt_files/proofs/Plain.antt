@@ -1,0 +1,172 @@
+-- The faults of texts and files: none is of the words, nor of what is written.
+use Rattle.std.proofs.Common.{◌≡◌, ⊎_elim, ◌∷◌, [], ◌∙◌, inl, inr, sym, subst, ℕ, List, IfErr, IfSome, IsErrAnd, OnOk, Option, Some, None, Result, Ok, Err}
+use Rattle.std.specs.Global.{Global}
+use Rattle.std.specs.String.{string_bytes}
+use Rattle.std.specs.declared.string.String.{String}
+use Rattle.ctt_text.specs.Problem.{Problem}
+use Rattle.ctt_text.specs.declared.fault.BarredFault.{BarredFault}
+use Rattle.ctt_text.specs.declared.fault.BarredFault.TheVariants as barred
+use Rattle.ctt_text.specs.declared.fault.ReadFault.{ReadFault}
+use Rattle.ctt_text.specs.declared.fault.ReadFault.TheVariants as instance
+use Rattle.ctt_text.specs.declared.fault.SolutionFault.{SolutionFault}
+use Rattle.ctt_text.specs.declared.fault.SolutionFault.TheVariants as solution
+use Rattle.ctt_files.specs.Faults.{IfUnwritten, fault_of_barred, fault_of_instance, fault_of_solution}
+use Rattle.ctt_files.specs.Refusals.{IsNoText, IsOfBarred, IsOfFile, IsOfFiles, IsOfInstance, IsOfInstanceIn, IsOfInstanceOr, IsOfSolution, IsOfStart, IsOfText}
+use Rattle.ctt_files.specs.Texts.{Held, Holds, IsInstanceIn}
+use Rattle.ctt_files.specs.declared.fault.Fault.{Fault}
+use Rattle.ctt_files.specs.declared.fault.Fault.TheVariants.{BadSeats, Barred, CannotRead, CannotWrite, Instance, Journal, MinutesExist, NoCourse, NoCurriculum, NoMemory, NoPlace, NoRoom, NoTeacher, NoThread, Opening, Solution, TooLong, TooManyScripts, Words, WordsNotText}
+
+-- the fault is of a text, a file, a place or a thread, or memory was wanted
+abbrev pub IsPlain : Fault → Type 0
+IsPlain CannotWrite = ⊥
+IsPlain (Words text) = ⊥
+IsPlain WordsNotText = ⊥
+IsPlain TooManyScripts = ⊥
+IsPlain BadSeats = ⊥
+IsPlain _ = Unit {0}
+
+pub plain_written : (fault : Fault) (P Q : Type 0) → IsPlain fault → Q → IfUnwritten fault P Q
+plain_written (Instance number at) P Q plain q = q
+plain_written (Solution number at) P Q plain q = q
+plain_written (Barred number at) P Q plain q = q
+plain_written (Journal number at) P Q plain q = q
+plain_written (Opening text) P Q plain q = q
+plain_written (CannotRead name) P Q plain q = q
+plain_written (TooLong name) P Q plain q = q
+plain_written CannotWrite P Q plain q = absurd plain
+plain_written NoMemory P Q plain q = q
+plain_written (Words text) P Q plain q = q
+plain_written WordsNotText P Q plain q = q
+plain_written TooManyScripts P Q plain q = q
+plain_written NoThread P Q plain q = q
+plain_written NoPlace P Q plain q = q
+plain_written BadSeats P Q plain q = absurd plain
+plain_written (MinutesExist name) P Q plain q = q
+plain_written (NoCurriculum name) P Q plain q = q
+plain_written (NoTeacher name) P Q plain q = q
+plain_written (NoCourse name) P Q plain q = q
+plain_written (NoRoom name) P Q plain q = q
+
+pub unwritten_more : (fault : Fault) (P Q R S : Type 0) → (P → R) → (Q → S) → IfUnwritten fault P Q → IfUnwritten fault R S
+unwritten_more (Instance number at) P Q R S p q is = q is
+unwritten_more (Solution number at) P Q R S p q is = q is
+unwritten_more (Barred number at) P Q R S p q is = q is
+unwritten_more (Journal number at) P Q R S p q is = q is
+unwritten_more (Opening text) P Q R S p q is = q is
+unwritten_more (CannotRead name) P Q R S p q is = q is
+unwritten_more (TooLong name) P Q R S p q is = q is
+unwritten_more CannotWrite P Q R S p q is = p is
+unwritten_more NoMemory P Q R S p q is = q is
+unwritten_more (Words text) P Q R S p q is = q is
+unwritten_more WordsNotText P Q R S p q is = q is
+unwritten_more TooManyScripts P Q R S p q is = q is
+unwritten_more NoThread P Q R S p q is = q is
+unwritten_more NoPlace P Q R S p q is = q is
+unwritten_more BadSeats P Q R S p q is = q is
+unwritten_more (MinutesExist name) P Q R S p q is = q is
+unwritten_more (NoCurriculum name) P Q R S p q is = q is
+unwritten_more (NoTeacher name) P Q R S p q is = q is
+unwritten_more (NoCourse name) P Q R S p q is = q is
+unwritten_more (NoRoom name) P Q R S p q is = q is
+
+instance_plain : (met : ReadFault) → IsPlain (fault_of_instance met)
+instance_plain (instance.NotText byte) = tt
+instance_plain (instance.Missing word) = tt
+instance_plain (instance.Expected word) = tt
+instance_plain (instance.BadNumber word) = tt
+instance_plain (instance.TooLarge word) = tt
+instance_plain (instance.RepeatedName word) = tt
+instance_plain (instance.UnknownCourse word) = tt
+instance_plain (instance.DayOut word) = tt
+instance_plain (instance.PeriodOut word) = tt
+instance_plain instance.NoMemory = tt
+
+solution_plain : (met : SolutionFault) → IsPlain (fault_of_solution met)
+solution_plain (solution.NotText byte) = tt
+solution_plain (solution.Cut word) = tt
+solution_plain (solution.UnknownCourse word) = tt
+solution_plain (solution.UnknownRoom word) = tt
+solution_plain (solution.BadNumber word) = tt
+solution_plain (solution.DayOut word) = tt
+solution_plain (solution.PeriodOut word) = tt
+solution_plain (solution.Repeated word) = tt
+solution_plain solution.NoMemory = tt
+
+barred_plain : (met : BarredFault) → IsPlain (fault_of_barred met)
+barred_plain (barred.NotText byte) = tt
+barred_plain (barred.Missing word) = tt
+barred_plain (barred.Expected word) = tt
+barred_plain (barred.BadNumber word) = tt
+barred_plain (barred.TooLarge word) = tt
+barred_plain (barred.UnknownCourse word) = tt
+barred_plain (barred.UnknownRoom word) = tt
+barred_plain barred.NoMemory = tt
+
+pub file_plain : (held : Held) (name : String Global) (fault : Fault) → IsOfFile held name fault → IsPlain fault
+file_plain held name fault is = ⊎_elim (λ same. subst IsPlain (sym same) tt) (λ other. ⊎_elim (λ long. subst IsPlain (sym long.0) tt) (λ same. subst IsPlain (sym same) tt) other) is
+
+module _ {E : Type 0} (told : E → Fault) (Meets : List ℕ → E → Type 0) (IsNone : List ℕ → Type 0) (is_plain : (met : E) → IsPlain (told met)) where
+  text_plain : (text : List ℕ) (fault : Fault) → IsNoText told Meets IsNone text fault → IsPlain fault
+  text_plain text fault none = subst IsPlain (sym none.is) (is_plain none.met)
+
+  pub file_text_plain : (held : Held) (name : String Global) (fault : Fault) → IsOfText (IsNoText told Meets IsNone) held name fault → IsPlain fault
+  file_text_plain held name fault (inl file) = file_plain held name fault file
+  file_text_plain held name fault (inr none) = text_plain none.0 fault none.2
+
+instance_file_plain : (held : Held) (name : String Global) (fault : Fault) → IsOfInstance held name fault → IsPlain fault
+instance_file_plain held name fault is = file_text_plain fault_of_instance _ _ instance_plain held name fault is
+
+pub barred_file_plain : (held : Held) (read : Problem) (name : Option (String Global)) (fault : Fault) → IsOfBarred held read name fault → IsPlain fault
+barred_file_plain held read None fault is = absurd is
+barred_file_plain held read (Some name) fault is = file_text_plain fault_of_barred _ _ barred_plain held name fault is
+
+pub solution_file_plain : (name : String Global) (held : Held) (problem : Problem) (fault : Fault) → IsOfSolution name held problem fault → IsPlain fault
+solution_file_plain name held problem fault is = file_text_plain fault_of_solution _ _ solution_plain held name fault is
+
+pub start_plain : (start : Option (String Global)) (held : Held) (problem : Problem) (fault : Fault) → IsOfStart start held problem fault → IsPlain fault
+start_plain None held problem fault is = absurd is
+start_plain (Some name) held problem fault is = solution_file_plain name held problem fault is
+
+pub files_plain : (names : List (String Global)) (held : Held) (fault : Fault) → IsOfFiles names held fault → IsPlain fault
+files_plain [] held fault is = subst IsPlain (sym is) tt
+files_plain (name ∷ names) held fault (inl file) = file_plain held name fault file
+files_plain (name ∷ names) held fault (inr others) = files_plain names held fault others
+
+pub instance_in_plain : (held : Held) (instance : String Global) (barred : Option (String Global)) (fault : Fault) → IsOfInstanceIn held instance barred fault → IsPlain fault
+instance_in_plain held instance barred fault is = ⊎_elim (λ none. instance_file_plain held instance fault none) (λ bars. barred_file_plain held bars.0 barred fault bars.2) is
+
+-- what is said of all that may lie behind an instance
+pub behind_plain : (IsOther : Held → Problem → Fault → Type 0) → ((held : Held) (problem : Problem) (fault : Fault) → IsOther held problem fault → IsPlain fault)
+    → (held : Held) (instance : String Global) (barred : Option (String Global)) (fault : Fault) → IsOfInstanceOr IsOther held instance barred fault → IsPlain fault
+behind_plain IsOther other held instance barred fault is = ⊎_elim (λ none. instance_in_plain held instance barred fault none) (λ behind. other held behind.0 fault behind.2) is
+
+-- ---- faults that are passed on
+
+pub on_ok_weaker : {T E : Type 0} (r : Result T E) (P Q : Type 0) → (P → Q) → OnOk r P → OnOk r Q
+on_ok_weaker (Ok x) P Q more holds = more holds
+on_ok_weaker (Err e) P Q more holds = tt
+
+-- what holds of a fault holds where it is passed on
+pub passed_on : {T : Type 0} (r : Result T Fault) (fault : Fault) (P : Fault → Type 0) → IsErrAnd r (λ told. told ≡ fault) → P fault → IfErr r P
+passed_on (Ok x) fault P same holds = tt
+passed_on (Err told) fault P same holds = subst P (sym same) holds
+
+-- what lies behind the instance
+pub behind_instance : (IsOther : Held → Problem → Fault → Type 0) (held later : Held) (instance : String Global) (barred : Option (String Global)) (problem : Problem) (fault : Fault)
+    → IsInstanceIn held instance barred problem → later ≡ held → IsOther later problem fault → IsOfInstanceOr IsOther held instance barred fault
+behind_instance IsOther held later instance barred problem fault is same other = inr (problem, is, subst (λ (known : Held). IsOther known problem fault) same other)
+
+-- the bytes that were read are what the file tells
+pub told_of : (held : Option (List ℕ)) (bytes items : List ℕ) → bytes ≡ items → IfSome held (λ text. items ≡ text) → IfSome held (λ text. bytes ≡ text)
+told_of None bytes items same all = tt
+told_of (Some text) bytes items same all = same ∙ all
+
+-- a text that reading refused is that of the file
+pub of_text : {T E : Type 0} (r : Result T Fault) (told : E → Fault) (met : E) (IsNo : List ℕ → Fault → Type 0) (held : Held) (name : String Global) (bytes items : List ℕ)
+    → IsErrAnd r (λ fault. fault ≡ told met) → ((fault : Fault) → fault ≡ told met → IsNo bytes fault) → bytes ≡ items → Holds held name (λ text. items ≡ text) → IfErr r (λ fault. IsOfText IsNo held name fault)
+of_text (Ok x) told met IsNo held name bytes items gives none copied all = tt
+of_text (Err fault) told met IsNo held name bytes items gives none copied all = inr (bytes, told_of (held (string_bytes name)) bytes items copied all, none fault gives)
+
+pub passed_plain : {T : Type 0} (r : Result T Fault) (fault : Fault) (P U : Type 0) (Q : Fault → Type 0) → IsErrAnd r (λ told. told ≡ fault) → IsPlain fault → Q fault → U → IfErr r (λ told. IfUnwritten told P (Q told × U))
+passed_plain (Ok x) fault P U Q same plain q u = tt
+passed_plain (Err told) fault P U Q same plain q u = subst (λ other. IfUnwritten other P (Q other × U)) (sym same) (plain_written fault P (Q fault × U) plain (q, u))

@@ -1,0 +1,5 @@
+pub mod Faults
+pub mod Files
+pub mod Outcomes
+pub mod Texts
+pub mod Refusals

@@ -1,0 +1,65 @@
+-- Why a text is not taken: the file in which the fault lies, and what stands in its text.
+use Rattle.std.specs.Prelude.{◌≡◌, ◌⊎◌, ◌<◌, ℕ, List, [], ◌∷◌, Option, Some, None, length}
+use Rattle.std.specs.Global.{Global}
+use Rattle.std.specs.declared.string.String.{String}
+use Rattle.ctt_text.specs.BarredLaws.{IsBarredCauseOf}
+use Rattle.ctt_text.specs.InstanceLaws.{IsCauseOf}
+use Rattle.ctt_text.specs.Problem.{Problem}
+use Rattle.ctt_text.specs.SolutionLaws.{IsSolutionCauseOf}
+use Rattle.ctt_files.specs.Faults.{fault_of_barred, fault_of_instance, fault_of_solution, status_of}
+use Rattle.ctt_files.specs.Texts.{Held, Holds, IsInstanceIn, IsInstanceText, IsNoBarred, IsNoInstance, IsNoSolution}
+use Rattle.ctt_files.specs.declared.fault.Fault.{Fault}
+use Rattle.ctt_files.specs.declared.fault.Fault.TheVariants.{CannotRead, NoMemory, TooLong}
+
+-- this file has more bytes than are taken
+abbrev pub IsTooLong : Held → String Global → Fault → Type 0
+IsTooLong held name fault = (fault ≡ TooLong name) × Holds held name (λ text. 67108864 < length text)
+
+-- this file cannot be read, or it is too long, or its bytes find no room
+abbrev pub IsOfFile : Held → String Global → Fault → Type 0
+IsOfFile held name fault = (fault ≡ CannotRead name) ⊎ (IsTooLong held name fault ⊎ (fault ≡ NoMemory))
+
+-- reading the text meets the fault, and where that is no want of memory the text is none of its kind
+pub record IsNoText {E : Type 0} (told : E → Fault) (Meets : List ℕ → E → Type 0) (IsNone : List ℕ → Type 0) (text : List ℕ) (fault : Fault) : Type 0 where
+  pub met : E
+  pub is : fault ≡ told met
+  pub meets : Meets text met
+  pub is_none : status_of fault ≡ 1 → IsNone text
+
+-- of this file, where its bytes are told; or it cannot be read
+abbrev pub IsOfText : (List ℕ → Fault → Type 0) → Held → String Global → Fault → Type 0
+IsOfText IsNo held name fault = IsOfFile held name fault
+    ⊎ ((text : List ℕ) × Holds held name (λ bytes. text ≡ bytes) × IsNo text fault)
+
+-- the fault lies in the instance's file
+abbrev pub IsOfInstance : Held → String Global → Fault → Type 0
+IsOfInstance held name fault = IsOfText (IsNoText fault_of_instance IsCauseOf IsNoInstance) held name fault
+
+-- in the file of the rooms that are barred in the instance that was read, if one is given
+abbrev pub IsOfBarred : Held → Problem → Option (String Global) → Fault → Type 0
+IsOfBarred held read None fault = ⊥
+IsOfBarred held read (Some name) fault = IsOfText (IsNoText fault_of_barred (IsBarredCauseOf read) (IsNoBarred read)) held name fault
+
+-- in one of these two
+abbrev pub IsOfInstanceIn : Held → String Global → Option (String Global) → Fault → Type 0
+IsOfInstanceIn held instance barred fault = IsOfInstance held instance fault
+    ⊎ ((read : Problem) × Holds held instance (λ text. IsInstanceText text read) × IsOfBarred held read barred fault)
+
+-- in one of these two, or, once the instance is read, somewhere else
+abbrev pub IsOfInstanceOr : (Held → Problem → Fault → Type 0) → Held → String Global → Option (String Global) → Fault → Type 0
+IsOfInstanceOr IsOther held instance barred fault = IsOfInstanceIn held instance barred fault
+    ⊎ ((problem : Problem) × IsInstanceIn held instance barred problem × IsOther held problem fault)
+
+-- in a solution's file
+abbrev pub IsOfSolution : String Global → Held → Problem → Fault → Type 0
+IsOfSolution name held problem fault = IsOfText (IsNoText fault_of_solution (IsSolutionCauseOf problem) (IsNoSolution problem)) held name fault
+
+-- in the file of the start, if one is given
+abbrev pub IsOfStart : Option (String Global) → Held → Problem → Fault → Type 0
+IsOfStart None held problem fault = ⊥
+IsOfStart (Some name) held problem fault = IsOfSolution name held problem fault
+
+-- in one of these files, or memory was wanted
+abbrev pub IsOfFiles : List (String Global) → Held → Fault → Type 0
+IsOfFiles [] held fault = fault ≡ NoMemory
+IsOfFiles (name ∷ names) held fault = IsOfFile held name fault ⊎ IsOfFiles names held fault

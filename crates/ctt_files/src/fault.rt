@@ -1,0 +1,206 @@
+//! Why the program did not do its job.
+
+ghost use Rattle.std.specs.Prelude.{◌≡◌, ◌++◌, IfOk, codes};
+ghost use Rattle.std.specs.String.{string_bytes};
+ghost use Rattle.ctt_files.specs.Faults.{IsLineOf, fault_of_barred, fault_of_instance, fault_of_solution, status_of};
+ghost use Rattle.ctt_files.specs.declared.fault.Fault.TheVariants.{NoMemory};
+
+use ctt_text::{BarredFault, ReadFault, SolutionFault};
+use std::alloc::{AllocError, AllocFailed, Global};
+use thiserror::Error;
+
+/// Why the program did not do its job. Its text is the line on standard error, without the end of the
+/// line; those of `Words` and `Opening` are whole.
+#[derive(Debug, Drop, Error)]
+pub enum Fault {
+    /// The words ask for no job. The text says why.
+    #[error("{0}")]
+    Words(String),
+    /// A word of the command line is no text.
+    #[error("timedesk: words that are not text")]
+    WordsNotText,
+    /// The instance is not as it has to be, at this byte or word.
+    #[error("timedesk: instance I{number} {at}")]
+    Instance { number: u8, at: u64 },
+    /// The solution is not as it has to be, at this byte or word.
+    #[error("timedesk: solution S{number} {at}")]
+    Solution { number: u8, at: u64 },
+    /// The barred rooms are not as they have to be, at this byte or word.
+    #[error("timedesk: barred B{number} {at}")]
+    Barred { number: u8, at: u64 },
+    /// The journal is not as it has to be, at this byte or word.
+    #[error("timedesk: journal J{number} {at}")]
+    Journal { number: u8, at: u64 },
+    /// A lecture of the opening cannot be placed. The text says which one, and what stands against it.
+    #[error("{0}")]
+    Opening(String),
+    /// The file of this name could not be opened or read.
+    #[error("timedesk: cannot read {0}")]
+    CannotRead(String),
+    /// The file of this name has more bytes than are taken.
+    #[error("timedesk: too long {0}")]
+    TooLong(String),
+    /// A write to standard output failed, or to a file that had to be stored.
+    #[error("timedesk: cannot write")]
+    CannotWrite,
+    /// No memory was left.
+    #[error("timedesk: no memory")]
+    NoMemory,
+    /// A crew has more scripts than are taken.
+    #[error("timedesk: too many scripts")]
+    TooManyScripts,
+    /// A planner was refused a place at the desk.
+    #[error("timedesk: no place")]
+    NoPlace,
+    /// The thread of a planner could not be started.
+    #[error("timedesk: no thread")]
+    NoThread,
+    /// A desk has more seats than are taken, or one of them twice.
+    #[error("timedesk: at most 64 seats, each once")]
+    BadSeats,
+    /// The file of this name, which is to be minutes, has bytes already.
+    #[error("timedesk: minutes exist {0}")]
+    MinutesExist(String),
+    /// The instance has no curriculum of this name.
+    #[error("timedesk: no curriculum {0}")]
+    NoCurriculum(String),
+    /// The instance has no teacher of this name.
+    #[error("timedesk: no teacher {0}")]
+    NoTeacher(String),
+    /// The instance has no course of this name.
+    #[error("timedesk: no course {0}")]
+    NoCourse(String),
+    /// The instance has no room of this name.
+    #[error("timedesk: no room {0}")]
+    NoRoom(String),
+}
+
+/// The line of wanted memory, which has to be told without memory.
+pub const NO_MEMORY: &str = "timedesk: no memory\n";
+
+/// A text with the end of its line.
+fn ended(mut text: String) -> Result<String, AllocError>
+    ensures { IfOk result (λ line. string_bytes line ≡ string_bytes text ++ codes "\n") }
+{
+    text.push_str("\n")?;
+    Ok(text)
+}
+
+impl Fault {
+    /// The status with which the program ends.
+    pub fn status(&self) -> u8
+        ensures { result ≡ status_of self.now }
+    {
+        match self {
+            Fault::Instance { .. }
+            | Fault::Solution { .. }
+            | Fault::Barred { .. }
+            | Fault::Journal { .. }
+            | Fault::Opening(_)
+            | Fault::NoCurriculum(_)
+            | Fault::NoTeacher(_)
+            | Fault::NoCourse(_)
+            | Fault::NoRoom(_) => 1,
+            Fault::Words(_) | Fault::WordsNotText | Fault::TooManyScripts | Fault::BadSeats => 2,
+            Fault::CannotRead(_)
+            | Fault::TooLong(_)
+            | Fault::CannotWrite
+            | Fault::NoMemory
+            | Fault::NoPlace
+            | Fault::NoThread
+            | Fault::MinutesExist(_) => 3,
+        }
+    }
+
+    /// The line on standard error.
+    pub fn line(&self, alloc: Global) -> Result<String, AllocError>
+        ensures { IfOk result (λ line. IsLineOf self.now (string_bytes line)) }
+    {
+        match self {
+            Fault::Words(text) | Fault::Opening(text) => text.clone(),
+            Fault::NoMemory => String::from_str(alloc, NO_MEMORY),
+            _ => ended(self.to_string(alloc)?),
+        }
+    }
+}
+
+impl From<ctt_text::NoMemory> for Fault {
+    ghost from_gives = { λ _ fault. fault ≡ NoMemory };
+
+    fn from(_fault: ctt_text::NoMemory) -> Fault {
+        Fault::NoMemory
+    }
+}
+
+impl From<AllocError> for Fault {
+    ghost from_gives = { λ _ fault. fault ≡ NoMemory };
+
+    fn from(_error: AllocError) -> Fault {
+        Fault::NoMemory
+    }
+}
+
+impl From<ReadFault> for Fault {
+    ghost from_gives = { λ read fault. fault ≡ fault_of_instance read };
+
+    fn from(fault: ReadFault) -> Fault {
+        let (number, at) = match fault {
+            ReadFault::NotText(byte) => (1, byte),
+            ReadFault::Missing(word) => (2, word),
+            ReadFault::Expected(word) => (3, word),
+            ReadFault::BadNumber(word) => (4, word),
+            ReadFault::TooLarge(word) => (5, word),
+            ReadFault::RepeatedName(word) => (6, word),
+            ReadFault::UnknownCourse(word) => (7, word),
+            ReadFault::DayOut(word) => (8, word),
+            ReadFault::PeriodOut(word) => (9, word),
+            ReadFault::NoMemory => return Fault::NoMemory,
+        };
+        Fault::Instance { number, at }
+    }
+}
+
+impl From<SolutionFault> for Fault {
+    ghost from_gives = { λ read fault. fault ≡ fault_of_solution read };
+
+    fn from(fault: SolutionFault) -> Fault {
+        let (number, at) = match fault {
+            SolutionFault::NotText(byte) => (1, byte),
+            SolutionFault::Cut(word) => (2, word),
+            SolutionFault::UnknownCourse(word) => (3, word),
+            SolutionFault::UnknownRoom(word) => (4, word),
+            SolutionFault::BadNumber(word) => (5, word),
+            SolutionFault::DayOut(word) => (6, word),
+            SolutionFault::PeriodOut(word) => (7, word),
+            SolutionFault::Repeated(word) => (8, word),
+            SolutionFault::NoMemory => return Fault::NoMemory,
+        };
+        Fault::Solution { number, at }
+    }
+}
+
+impl From<BarredFault> for Fault {
+    ghost from_gives = { λ read fault. fault ≡ fault_of_barred read };
+
+    fn from(fault: BarredFault) -> Fault {
+        let (number, at) = match fault {
+            BarredFault::NotText(byte) => (1, byte),
+            BarredFault::Missing(word) => (2, word),
+            BarredFault::Expected(word) => (3, word),
+            BarredFault::BadNumber(word) => (4, word),
+            BarredFault::TooLarge(word) => (5, word),
+            BarredFault::UnknownCourse(word) => (6, word),
+            BarredFault::UnknownRoom(word) => (7, word),
+            BarredFault::NoMemory => return Fault::NoMemory,
+        };
+        Fault::Barred { number, at }
+    }
+}
+
+impl<T: Drop> From<AllocFailed<T>> for Fault {
+    ghost from_gives = { λ _ fault. fault ≡ NoMemory };
+
+    fn from(_error: AllocFailed<T>) -> Fault {
+        Fault::NoMemory
+    }
+}

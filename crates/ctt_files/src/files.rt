@@ -1,0 +1,110 @@
+//! Files by name.
+
+ghost use Rattle.std.specs.Prelude.{◌≡◌, ◌≤◌, length, map, false, Some, None, OnOk, IfOk, IfErr, IfSome, vec_len};
+ghost use Rattle.std.specs.String.{string_bytes};
+ghost use Rattle.ctt_files.specs.Refusals.{IsOfFile, IsOfFiles};
+ghost use Rattle.ctt_files.specs.Texts.{HoldInTurn};
+
+use crate::fault::Fault;
+use ctt_devices::{Device, Failed, INPUT_LIMIT, InputFault, Source, put_whole, read_all};
+use std::alloc::Global;
+use std::{fs, rt};
+
+/// Files that are read and written by their names.
+pub trait Files {
+    ghost use Rattle.std.specs.Prelude.{ℕ, List, Option};
+
+    /// A file to be read.
+    type Input: Source + Drop;
+
+    /// The bytes of the file of a name, where the files tell them.
+    ghost held: { Self → List ℕ → Option (List ℕ) };
+
+    /// A file to be read from its beginning, of which nothing was read.
+    fn fetch(&mut self, name: &str) -> Result<Self::Input, Failed>
+        ensures unmarked { IfOk result (λ input. Self.Input.has_failed input ≡ false) }
+        ensures whole { IfOk result (λ input.
+            IfSome (held self.old name.now) (λ bytes. Self.Input.left input ≡ Some bytes)) }
+        ensures kept { held self.new ≡ held self.old };
+
+    /// Writes a whole file in place of what it held.
+    fn store(&mut self, name: &str, bytes: &[u8]) -> Result<(), Failed>
+        ensures stored { OnOk result
+            (IfSome (held self.new name.now) (λ stored. stored ≡ bytes.now)) };
+}
+
+/// The files of the system.
+#[derive(Drop)]
+pub struct SystemFiles<'r, R> {
+    rt: &'r R,
+}
+
+impl<'r, R: rt::Files> SystemFiles<'r, R> {
+    ghost use Rattle.ctt_files.specs.Files.{runtime_of};
+
+    /// The files that the runtime reaches.
+    pub fn new(rt: &'r R) -> Self
+        ensures { runtime_of result ≡ rt.now }
+    {
+        SystemFiles { rt }
+    }
+}
+
+impl<'r, R: rt::Files> Files for SystemFiles<'r, R> {
+    type Input = Device<R::File>;
+
+    ghost held = { λ _ _. None };
+
+    fn fetch(&mut self, name: &str) -> Result<Device<R::File>, Failed> {
+        match fs::open(self.rt, name) {
+            Ok(file) => Ok(Device::new(file)),
+            Err(_) => Err(Failed),
+        }
+    }
+
+    fn store(&mut self, name: &str, bytes: &[u8]) -> Result<(), Failed> {
+        let Ok(file) = fs::create(self.rt, name) else {
+            return Err(Failed);
+        };
+        put_whole(&mut Device::new(file), bytes)
+    }
+}
+
+/// All bytes of a file, of which no read is tried again.
+pub fn read_file<F: Files>(alloc: Global, files: &mut F, name: String) -> Result<Vec<u8>, Fault>
+    ensures all { IfOk result (λ bytes.
+        IfSome (F.held files.old (string_bytes name)) (λ held. bytes.items ≡ held)) }
+    ensures kept { F.held files.new ≡ F.held files.old }
+    ensures short { IfOk result (λ bytes. vec_len bytes ≤ 67108864) }
+    ensures cause { IfErr result (IsOfFile (F.held files.old) name) }
+{
+    let Ok(mut input) = files.fetch(&name) else {
+        return Err(Fault::CannotRead(name));
+    };
+    match read_all(alloc, &mut input, INPUT_LIMIT) {
+        Ok(bytes) => Ok(bytes),
+        Err(InputFault::Read) => Err(Fault::CannotRead(name)),
+        Err(InputFault::TooLong) => Err(Fault::TooLong(name)),
+        Err(InputFault::NoMemory) => Err(Fault::NoMemory),
+    }
+}
+
+/// All bytes of each of these files, which are read in their order up to the first that cannot be read.
+pub fn read_files<F: Files>(
+    alloc: Global,
+    files: &mut F,
+    names: Vec<String>,
+) -> Result<Vec<Vec<u8>>, Fault>
+    ensures all { IfOk result (λ texts.
+        HoldInTurn (F.held files.old) names.items (map (λ text. text.items) texts.items)) }
+    ensures each { IfOk result (λ texts. length texts.items ≡ length names.items) }
+    ensures kept { F.held files.new ≡ F.held files.old }
+    ensures cause { IfErr result (IsOfFiles names.items (F.held files.old)) }
+{
+    let mut texts = Vec::with_capacity(alloc, names.len())?;
+    for name in names {
+        let text = read_file(alloc, files, name)?;
+        texts.push(text)?;
+    }
+    Ok(texts)
+}

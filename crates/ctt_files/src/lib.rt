@@ -1,0 +1,14 @@
+//! Files by name, and why the program did not do its job.
+#![tactic(auto)]
+
+mod fault;
+mod files;
+mod outcome;
+mod output;
+mod texts;
+
+pub use fault::{Fault, NO_MEMORY};
+pub use files::{Files, SystemFiles, read_file, read_files};
+pub use outcome::Outcome;
+pub use output::{complain, print};
+pub use texts::{fetch_instance, fetch_solution, fetch_start};

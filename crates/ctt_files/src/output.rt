@@ -1,0 +1,33 @@
+//! What the program prints, and what it says on standard error.
+
+ghost use Rattle.std.specs.Prelude.{◌≡◌, ◌⊎◌, true, OnOk, OnErr, IfErr};
+ghost use Rattle.std.specs.Io.KnownBytes.{Appends};
+ghost use Rattle.ctt_files.specs.declared.fault.Fault.TheVariants.{CannotWrite};
+
+use crate::fault::Fault;
+use ctt_devices::{Sink, put_whole};
+
+/// Prints a whole text on standard output.
+pub fn print<W: Sink>(out: &mut W, text: &[u8]) -> Result<(), Fault>
+    ensures printed { OnOk result (Appends (W.taken out.old) (W.taken out.new) text.now) }
+    ensures unmarked { OnOk result (W.has_failed out.new ≡ W.has_failed out.old) }
+    ensures marked { OnErr result (W.has_failed out.new ≡ true) }
+    ensures fault { IfErr result (λ fault. fault ≡ CannotWrite) }
+{
+    match put_whole(out, text) {
+        Ok(()) => Ok(()),
+        Err(_) => Err(Fault::CannotWrite),
+    }
+}
+
+/// Writes a whole text on standard error, where that can be done.
+pub fn complain<V: Sink>(err: &mut V, text: &[u8])
+    ensures { (V.has_failed err.new ≡ true)
+        ⊎ ((V.has_failed err.new ≡ V.has_failed err.old)
+        × Appends (V.taken err.old) (V.taken err.new) text.now) }
+{
+    match put_whole(err, text) {
+        Ok(()) => {}
+        Err(_) => {}
+    }
+}

@@ -1,0 +1,53 @@
+//! Openings and journals that are refused.
+
+ghost use Rattle.std.specs.Prelude.{◌≡◌, IfOk};
+ghost use Rattle.std.specs.String.{string_bytes};
+ghost use Rattle.ctt_edits.specs.Fitting.{FaultFits};
+ghost use Rattle.ctt_tool.specs.Faults.{IsOpeningFault, fault_of_journal, opening_line};
+
+use ctt_edits::EditFault;
+use ctt_files::Fault;
+use ctt_script::{JournalFault, write_fault};
+use ctt_text::Instance;
+use std::alloc::{AllocError, Global};
+use std::fmt::Write;
+
+/// The line of an opening of which this lecture, counted from 1, cannot be placed.
+fn opening_line(
+    alloc: Global,
+    instance: &Instance,
+    at: u64,
+    fault: &EditFault,
+) -> Result<String, AllocError>
+    requires { FaultFits instance.now fault.now }
+    ensures { IfOk result (λ line. string_bytes line ≡ opening_line instance.now at fault.now) }
+{
+    let mut line = String::new(alloc);
+    write!(line, "timedesk: opening {at} ")?;
+    write_fault(&mut line, instance, fault)?;
+    Ok(line)
+}
+
+/// The fault of such an opening.
+pub fn refused_opening(alloc: Global, instance: &Instance, at: u64, fault: &EditFault) -> Fault
+    requires { FaultFits instance.now fault.now }
+    ensures { IsOpeningFault instance.now at fault.now result }
+{
+    match opening_line(alloc, instance, at, fault) {
+        Ok(line) => Fault::Opening(line),
+        Err(_) => Fault::NoMemory,
+    }
+}
+
+/// The fault of a journal that could not be read.
+pub fn refused_journal(fault: JournalFault) -> Fault
+    ensures { result ≡ fault_of_journal fault }
+{
+    let (number, at) = match fault {
+        JournalFault::NotText(byte) => (1, byte),
+        JournalFault::Missing(word) => (2, word),
+        JournalFault::BadWord(word) => (3, word),
+        JournalFault::NoMemory => return Fault::NoMemory,
+    };
+    Fault::Journal { number, at }
+}
