@@ -1,4 +1,4 @@
-use Rattle.std.proofs.Common.{rules, ◌≡◌, ◌∙◌, ◌∷◌, ◌++◌, [], ℕ, List, false, ap, codes, length, string_bytes, vec_len}
+use Rattle.std.proofs.Common.{rules, ◌≡◌, ◌∙◌, ◌∷◌, ◌++◌, [], ℕ, List, false, ap, codes, length, vec_len}
 use Rattle.serde_json.specs.Data.{no_members, object}
 use Rattle.serde_json.proofs.Views.{view-Object}
 use Rattle.ctt_findings.specs.ReportText.{members_before, open_text}
