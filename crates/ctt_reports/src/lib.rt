@@ -1,13 +1,11 @@
 //! The commands that only look: `check`, `week` and `page`.
 #![tactic(auto)]
 
-mod check;
+mod checking;
 mod judging;
-mod page;
+mod looking;
 mod subject;
 mod told;
-mod week;
 
-pub use check::check;
-pub use page::page;
-pub use week::week;
+pub use checking::check;
+pub use looking::{page, week};

@@ -48,8 +48,7 @@ fn write_long<W: Sink>(out: &mut W, text: &mut String) -> Result<(), Untold>
     ensures unmarked { OnOk result (W.has_failed out.new ≡ W.has_failed out.old) }
     ensures marked { OnErr result (W.has_failed out.new ≡ true) }
     ensures failed { IfErr result (λ fault. fault ≡ Failed) }
-    ensures part { OnErr result
-        (AppendsFront (W.taken out.old) (W.taken out.new) (string_bytes text.old)) }
+    ensures front { AppendsFront (W.taken out.old) (W.taken out.new) (string_bytes text.old) }
 {
     if text.len() < PIECE {
         return Ok(());

@@ -6,7 +6,7 @@ ghost use Rattle.ctt_text.specs.Timetable.{IsTimetable};
 ghost use Rattle.ctt_findings.specs.Findings.{findings};
 ghost use Rattle.ctt_devices.specs.Output.{AppendsFront};
 ghost use Rattle.ctt_files.specs.Faults.{IfUnwritten};
-ghost use Rattle.ctt_files.specs.declared.fault.Fault.TheVariants.{NoMemory};
+ghost use Rattle.ctt_files.specs.declared.fault.Fault.TheVariants.{NoMemory as OutOfMemory};
 ghost use Rattle.ctt_reports.specs.Checks.{IsChecked, IsExplained, IsJudged, IsReport, PrintsFront, PrintsReport, found_texts};
 ghost use Rattle.ctt_reports.specs.Refusals.{IsOfCheck, MayHaveTold};
 
@@ -71,7 +71,7 @@ fn print_report<W: Sink>(
     ensures unmarked { OnOk result (W.has_failed out.new ≡ W.has_failed out.old) }
     ensures cause { IfErr result (λ fault. IfUnwritten fault
         (W.has_failed out.new ≡ true)
-        ((fault ≡ NoMemory) × (W.has_failed out.new ≡ W.has_failed out.old))) }
+        ((fault ≡ OutOfMemory) × (W.has_failed out.new ≡ W.has_failed out.old))) }
     ensures part { IfErr result (λ fault. (out.new ≡ out.old) ⊎ (MayHaveTold false fault
         × ((bytes : List ℕ) × IsReport json instance.now timetable.now bytes
         × AppendsFront (W.taken out.old) (W.taken out.new) bytes))) }
@@ -95,7 +95,7 @@ fn print_explained<W: Sink>(
     ensures unmarked { OnOk result (W.has_failed out.new ≡ W.has_failed out.old) }
     ensures cause { IfErr result (λ fault. IfUnwritten fault
         (W.has_failed out.new ≡ true)
-        ((fault ≡ NoMemory) × (W.has_failed out.new ≡ W.has_failed out.old))) }
+        ((fault ≡ OutOfMemory) × (W.has_failed out.new ≡ W.has_failed out.old))) }
     ensures part { IfErr result (λ fault. (out.new ≡ out.old) ⊎ (MayHaveTold true fault
         × ((bytes : List ℕ) × IsExplained json instance.now timetable.now bytes
         × AppendsFront (W.taken out.old) (W.taken out.new) bytes))) }
@@ -122,7 +122,7 @@ fn print_checked<W: Sink>(
     ensures unmarked { OnOk result (W.has_failed out.new ≡ W.has_failed out.old) }
     ensures cause { IfErr result (λ fault. IfUnwritten fault
         (W.has_failed out.new ≡ true)
-        ((fault ≡ NoMemory) × (W.has_failed out.new ≡ W.has_failed out.old))) }
+        ((fault ≡ OutOfMemory) × (W.has_failed out.new ≡ W.has_failed out.old))) }
     ensures part { IfErr result (λ fault. (out.new ≡ out.old) ⊎ (MayHaveTold explain fault
         × ((bytes : List ℕ) × IsChecked json explain instance.now timetable.now bytes
         × AppendsFront (W.taken out.old) (W.taken out.new) bytes))) }
