@@ -1,8 +1,8 @@
 use Rattle.std.proofs.Common.{◌≡◌, ◌∙◌, ◌++◌, ap, List, ℕ, codes}
 use Rattle.std.specs.String.{string_bytes}
 use Rattle.ctt_rules.specs.Penalty.{total}
-use Rattle.ctt_script.specs.ReportText.{answer_line, barred_line, count_line, line, text_of}
-use Rattle.ctt_script.proofs.report.text.Goals as goal
+use Rattle.ctt_findings.specs.ReportText.{answer_line, barred_line, count_line, line, text_of}
+use Rattle.ctt_findings.proofs.report.text.Goals as goal
 
 -- a line more
 adds : {new old text : List ℕ} (more : List ℕ) → new ≡ old ++ more → old ≡ text → new ≡ text ++ more
