@@ -1,6 +1,6 @@
 #!/usr/bin/env bash
-# Types the commands of docs/GUIDE.md, and compares what they print with what stands there; 'TODO' is what nobody has filled in yet.
-# Compares the man page with the help of the program. PROGRAM names another one. The last line is 'N passed, M failed'.
+# Types the commands of docs/GUIDE.md, and compares what they print with what stands there. Compares the man page with the help of the
+# program. PROGRAM names another one. The last line is 'N passed, M failed'.
 set -u
 here=$(CDPATH='' cd -- "$(dirname -- "${BASH_SOURCE[0]}")/.." && pwd) || exit 1
 program=$(readlink -f -- "${PROGRAM:-$here/crates/ctt_tool/out/ctt_tool}")
@@ -53,11 +53,23 @@ while IFS= read -r line; do
     esac
 done <"$here/docs/GUIDE.md"
 
+# the pictures that the page names are there
+grep -o '](page-[^)]*' "$here/docs/GUIDE.md" | cut -c 3- | sort >"$room/wanted"
+(cd -- "$here/docs" && printf '%s\n' page-*) >"$room/found"
+equals 'the pictures' "$room/found" "$room/wanted"
+
 # the man page: nothing to warn of, and each command with the options that it has
 page=$here/docs/timedesk.1
 : >"$room/wanted"
-groff -man -ww -z "$page" >"$room/found" 2>&1
-equals 'the man page' "$room/found" "$room/wanted"
+if [ -n "$(type -P groff)" ]; then
+    groff -man -ww -z -- "$page" >"$room/found" 2>&1
+    equals 'the man page' "$room/found" "$room/wanted"
+elif [ -n "$(type -P mandoc)" ]; then
+    mandoc -T lint -W warning -- "$page" >"$room/found" 2>&1
+    equals 'the man page' "$room/found" "$room/wanted"
+else
+    echo "neither groff nor mandoc is installed, so nobody has read the man page"
+fi
 sed -n 's/^\.B timedesk //p' "$page" | sort >"$room/wanted"
 "$program" --help | sed -n '/^Commands:/,/^$/s/^  \([a-z]*\) .*/\1/p' | sort >"$room/found"
 equals 'the commands of the man page' "$room/found" "$room/wanted"

@@ -6,6 +6,11 @@ KINDS = {"lectures": "lectures", "conflicts": "conflict", "availability": "avail
          "barred": "barred", "capacity": "capacity", "days": "days", "compactness": "compactness", "stability": "stability"}
 
 
+def line(finding):
+    """The line of what is found: its words with a blank between."""
+    return " ".join(map(str, finding.values())) + "\n"
+
+
 class Instance:
     """An instance by the text of its file, and the text of its barred rooms, if there is one."""
 
@@ -22,6 +27,8 @@ class Instance:
         take()
         self.courses = [(take(), take(), int(take()), int(take()), int(take())) for _ in range(courses)]
         number = {course[0]: c for c, course in enumerate(self.courses)}
+        # in the order in which they are named first
+        self.teachers = list(dict.fromkeys(course[1] for course in self.courses))
         take()
         self.rooms = [(take(), int(take())) for _ in range(rooms)]
         room_number = {room[0]: r for r, room in enumerate(self.rooms)}
@@ -33,6 +40,18 @@ class Instance:
         if barred is not None:
             take = map(bytes.decode, barred.split()).__next__
             self.barred = {(number[take()], room_number[take()]) for _ in range(head())}
+
+    def names(self):
+        """The names of what has a week of its own, by kind."""
+        return {"curriculum": [name for name, _ in self.curricula], "teacher": self.teachers,
+                "course": [course[0] for course in self.courses], "room": [name for name, _ in self.rooms]}
+
+    def has(self, kind, name, lecture):
+        """Whether a lecture is in the week of this curriculum, teacher, course or room."""
+        c, _, _, r = lecture
+        if kind == "curriculum":
+            return c in dict(self.curricula)[name]
+        return name == {"teacher": self.courses[c][1], "course": self.courses[c][0], "room": self.rooms[r][0]}[kind]
 
     def read_solution(self, text):
         """Its lectures: course, day, period and room, as numbers, in order."""
