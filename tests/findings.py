@@ -11,7 +11,7 @@ import tempfile
 
 sys.dont_write_bytecode = True
 from drawn import draw_instance, draw_solution  # noqa: E402
-from program import EXAMPLES, NAMES, check, check_run, end, pair_of, read_files, words_of, write_files  # noqa: E402
+from program import EXAMPLES, NAMES, check, check_full, check_run, end, pair_of, read_files, words_of, write_files  # noqa: E402
 from rules import KINDS, Instance, line  # noqa: E402
 
 DRAWN = 400
@@ -44,8 +44,9 @@ def check_files(name, files):
     words = words_of(files)
     check_run(name, "check", *words, "--explain", wanted=text + "".join(map(line, findings)))
     check_sums(name, findings, members)
-    check_run(f"{name}: JSON", "check", *words, "--explain", "--json", wanted=json_text({**members, "findings": findings}))
     status = 0 if members["complete"] else 5 if members["lawful"] else 4
+    found = json_text({**members, "findings": findings})
+    check_run(f"{name}: JSON", "check", *words, "--explain", "--json", "--strict", wanted=found, status=status)
     check_run(f"{name}: strict", "check", *words, "--strict", wanted=text, status=status)
     return findings, members["lawful"], members["complete"]
 
@@ -73,7 +74,7 @@ compactness q1 alg 1 0 2
 compactness q1 geo 1 2 2
 stability alg 2 1
 """),
-    ("a room that is barred", "alg A 0 0 alg B 1 0 geo A 0 1 geo A 1 2 top B 0 2", "Barred: 1 alg A END.", "0 0 0 0 1 15 0 4 1 20 no no", """\
+    ("a barred room", "alg A 0 0 alg B 1 0 geo A 0 1 geo A 1 2 top B 0 2", "Barred: 1 alg A END.", "0 0 0 0 1 15 0 4 1 20 no no", """\
 barred alg A 0 0
 capacity alg A 0 0 5
 capacity top B 0 2 10
@@ -172,7 +173,8 @@ def check_worked(folder):
         check_files(f"{name}, counted", files)
     words = ["check", small, os.path.join(EXAMPLES, "s.sol"), "--explain", "--json"]
     check_run("the small solution as JSON", *words, wanted=SMALL_JSON)
-    check_run("the small solution as JSON, strict", *words, "--strict", wanted=SMALL_JSON)
+    for options in ["--explain"], ["--strict"], ["--explain", "--json", "--strict"]:
+        check_full(f"a report that cannot be written, {options}", *words[:3], *options)
     check_files("the shipped solution", pair_of(EXAMPLES, "comp07"))
     for name in "wide", "markup":
         check_files(f"the {name} names", pair_of(NAMES, name))

@@ -6,13 +6,12 @@ PROGRAM names another program. The last line is 'N passed, M failed'.
 import html.parser
 import random
 import re
-import subprocess
 import sys
 import tempfile
 
 sys.dont_write_bytecode = True
 from drawn import PIECES, draw_instance, draw_solution  # noqa: E402
-from program import EXAMPLES, NAMES, PROGRAM, check, end, pair_of, read_files, words_of, write_files  # noqa: E402
+from program import EXAMPLES, NAMES, call, check, check_full, end, pair_of, read_files, words_of, write_files  # noqa: E402
 from rules import KINDS, Instance, line  # noqa: E402
 
 DRAWN = 60
@@ -64,18 +63,18 @@ class Page:
             return grid
         return f"{grid}-{finding['day'] * self.instance.periods + finding['period']}"
 
-    def signs(self, kind, name, lecture):
-        """What is wrong with a lecture in a grid, and what it costs there."""
+    def signs(self, kind, own, lecture):
+        """What is wrong with a lecture in a grid of this kind that has these lectures, and what it costs there."""
         c, day, period, r = lecture
         others = [other for other in self.t if other[1:3] == (day, period) and other != lecture]
-        own = {other[1:3] for other in self.t if kind == "curriculum" and self.instance.has(kind, name, other)}
+        busy = {other[1:3] for other in own}
         holds = {
             "conflict": any(True for other in others for _ in self.instance.causes(c, other[0])),
             "availability": (c, day, period) in self.instance.unavailable,
             "occupancy": any(other[3] == r for other in others),
             "barred": (c, r) in self.instance.barred,
             "capacity": self.instance.courses[c][4] > self.instance.rooms[r][1],
-            "compactness": kind == "curriculum" and not own & {(day, period - 1), (day, period + 1)},
+            "compactness": kind == "curriculum" and not busy & {(day, period - 1), (day, period + 1)},
         }
         for sign, text in SIGNS.items():
             tag = "b" if sign in BREAKS else "i"
@@ -95,7 +94,7 @@ class Page:
                     if lecture[1:3] == (day, period):
                         course, room = self.instance.courses[lecture[0]][0], self.instance.rooms[lecture[3]][0]
                         text += f"<p>{self.escape(course)} <small>{self.escape(room)}</small>"
-                        text += "".join(self.signs(kind, name, lecture)) + "</p>"
+                        text += "".join(self.signs(kind, own, lecture)) + "</p>"
                 text += "</td>"
             text += "</tr>\n"
         return text + "</table></div></section>\n"
@@ -108,7 +107,7 @@ class Page:
         text += f"<title>{name}</title><style>{self.style}</style></head>\n<body><h1>{name}</h1>\n<nav>"
         links = [("report", "Report"), ("findings", "Findings"), *((part, title) for part, title, _, _ in PARTS)]
         text += " ".join(f"<a href='#{part}'>{title}</a>" for part, title in links) + "</nav>\n<h2 id='report'>Report</h2><table>\n"
-        for row in self.instance.report(self.t)[0].splitlines()[1:]:
+        for row in self.instance.report(self.t)[0].split("\n")[1:-1]:
             text += "<tr><th scope='row'>{}</th><td>{}</td></tr>\n".format(*row.split(" "))
         text += "</table>\n<h2 id='findings'>Findings</h2>\n"
         for kind in KINDS.values():
@@ -188,17 +187,17 @@ def check_read(name, text, page):
     check(f"{name}: links to ids of the page", [link for link in reader.links if link[:1] != "#" or link[1:] not in reader.ids], [])
     instance, t = page.instance, page.t
     titles = {page.ids[kind][of]: of for kind in page.ids for of in instance.names()[kind]}
-    check(f"{name}: the grids", reader.titles, {grid: as_read(of) for grid, of in titles.items()})
+    check(f"{name}: the grids", reader.titles, titles)
     wanted = {f"{grid}-{slot}": [] for grid in titles for slot in range(instance.days * instance.periods)}
     for kind in page.ids:
         for of in instance.names()[kind]:
             for lecture in t:
                 if instance.has(kind, of, lecture):
                     cell = f"{page.ids[kind][of]}-{lecture[1] * instance.periods + lecture[2]}"
-                    wanted[cell].append((as_read(instance.courses[lecture[0]][0]), as_read(instance.rooms[lecture[3]][0])))
+                    wanted[cell].append((instance.courses[lecture[0]][0], instance.rooms[lecture[3]][0]))
     cells = {cell: [(told["p"].strip(" "), told["small"]) for told in lectures] for cell, lectures in reader.cells.items()}
     check(f"{name}: the lectures", cells, wanted)
-    lines = [(f"#{page.place(finding)}", as_read(line(finding))) for finding in page.found]
+    lines = [(f"#{page.place(finding)}", line(finding)) for finding in page.found]
     check(f"{name}: the findings", reader.items, lines)
     # what breaks a rule is marked where its link leads
     for finding in page.found:
@@ -208,18 +207,12 @@ def check_read(name, text, page):
             check(f"{name}: {line(finding)} marked", SIGNS[finding["kind"]] in marks, True)
 
 
-def as_read(name):
-    """A name as it is read from a page."""
-    return name
-
-
 def check_page(name, files):
     """Compares a page with a plain writing of it, and reads it: files of an instance, a solution, and perhaps barred rooms."""
     texts = read_files(files)
     instance = Instance(texts[0], *texts[2:])
-    done = subprocess.run([PROGRAM, "page", *words_of(files)], capture_output=True, timeout=300)
-    check(f"{name}: status and standard error", (done.returncode, done.stderr), (0, b""))
-    text = done.stdout.decode()
+    status, text, said = call("page", *words_of(files))
+    check(f"{name}: status and standard error", (status, said), (0, ""))
     style = text[text.find("<style>") + len("<style>"):text.find("</style>")]
     page = Page(instance, instance.read_solution(texts[1]), style)
     check(name, text, page.text())
@@ -239,6 +232,7 @@ def main():
     for name, folder in ("wide", NAMES), ("markup", NAMES), ("comp07", EXAMPLES):
         style = check_page(f"the page of {name}", pair_of(folder, name))
     check_style(style)
+    check_full("a page that cannot be written", "page", *pair_of(NAMES, "wide"))
     draw = random.Random(38)
     with tempfile.TemporaryDirectory() as folder:
         for n in range(DRAWN):

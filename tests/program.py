@@ -58,11 +58,24 @@ def check(name, found, wanted):
     print(f"FAILED: {name}: found {found!r:.300}\n    and not {wanted!r:.300}")
 
 
+def call(*words):
+    """A run of the program: its status, what it prints, and what it says."""
+    done = subprocess.run([PROGRAM, *words], capture_output=True, timeout=300)
+    return done.returncode, done.stdout.decode(), done.stderr.decode()
+
+
 def check_run(name, *words, wanted="", said="", status=0):
     """A run prints a text, says another one, and ends with a status."""
-    done = subprocess.run([PROGRAM, *words], capture_output=True, timeout=300)
-    check(f"{name}: status and standard error", (done.returncode, done.stderr.decode()), (status, said))
-    check(name, done.stdout.decode(), wanted)
+    ended, printed, complaint = call(*words)
+    check(f"{name}: status and standard error", (ended, complaint), (status, said))
+    check(name, printed, wanted)
+
+
+def check_full(name, *words):
+    """A run whose output has no place is told so, with its status."""
+    with open("/dev/full", "wb") as full:
+        done = subprocess.run([PROGRAM, *words], stdout=full, stderr=subprocess.PIPE, timeout=300)
+    check(name, (done.returncode, done.stderr), (3, b"timedesk: cannot write\n"))
 
 
 def end():

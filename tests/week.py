@@ -11,7 +11,7 @@ import unicodedata
 
 sys.dont_write_bytecode = True
 from drawn import PIECES, draw_instance, draw_solution  # noqa: E402
-from program import EXAMPLES, NAMES, check_run, end, pair_of, read_files, words_of, write_files  # noqa: E402
+from program import EXAMPLES, NAMES, check_full, check_run, end, pair_of, read_files, words_of, write_files  # noqa: E402
 from rules import Instance  # noqa: E402
 
 DRAWN = 60
@@ -157,6 +157,7 @@ def check_refusals(folder):
         for other in KINDS[KINDS.index(one) + 1:]:
             words = ["week", nowhere, nowhere, f"--{other}", "x", f"--{one}", "y"]
             check_run(f"both {one} and {other}", *words, said=TOO_MANY, status=2)
+    check_full("a week that cannot be written", "week", small, solution)
 
 
 def main():
