@@ -28,7 +28,7 @@ class Browser:
     def __init__(self, folder):
         lines, self.lines = os.pipe()
         self.answers, answers = os.pipe()
-        words = ["--headless=new", "--no-sandbox", "--hide-scrollbars", "--remote-debugging-pipe", f"--user-data-dir={folder}", "about:blank"]
+        words = ["--headless=new", "--no-sandbox", "--hide-scrollbars", "--remote-debugging-pipe", f"--user-data-dir={folder}"]
 
         def give_pipes():
             # the browser reads at 3 and answers at 4
