@@ -152,6 +152,7 @@ def check_refusals(folder):
     nowhere = os.path.join(folder, "nowhere")
     read = f"timedesk: cannot read {nowhere}\n"
     check_run("a name, and no instance", "week", nowhere, solution, "--course", "x", said=read, status=3)
+    check_run("a name, and no solution", "week", small, nowhere, "--course", "x", said="timedesk: no course x\n", status=1)
     check_run("no solution", "week", small, nowhere, "--course", "alg", said=read, status=3)
     for one in KINDS:
         for other in KINDS[KINDS.index(one) + 1:]:
