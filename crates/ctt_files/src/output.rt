@@ -2,6 +2,7 @@
 
 ghost use Rattle.std.specs.Prelude.{◌≡◌, ◌⊎◌, true, OnOk, OnErr, IfErr};
 ghost use Rattle.std.specs.Io.KnownBytes.{Appends};
+ghost use Rattle.ctt_devices.specs.Output.{AppendsFront};
 ghost use Rattle.ctt_files.specs.declared.fault.Fault.TheVariants.{CannotWrite};
 
 use crate::fault::Fault;
@@ -10,6 +11,7 @@ use ctt_devices::{Sink, put_whole};
 /// Prints a whole text on standard output.
 pub fn print<W: Sink>(out: &mut W, text: &[u8]) -> Result<(), Fault>
     ensures printed { OnOk result (Appends (W.taken out.old) (W.taken out.new) text.now) }
+    ensures front { OnErr result (AppendsFront (W.taken out.old) (W.taken out.new) text.now) }
     ensures unmarked { OnOk result (W.has_failed out.new ≡ W.has_failed out.old) }
     ensures marked { OnErr result (W.has_failed out.new ≡ true) }
     ensures fault { IfErr result (λ fault. fault ≡ CannotWrite) }

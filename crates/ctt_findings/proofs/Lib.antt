@@ -6,3 +6,4 @@ pub mod ConflictLemmas
 pub mod AloneLemmas
 pub mod FrontLemmas
 pub mod ObjectLemmas
+pub mod ReportLemmas

@@ -8,7 +8,7 @@ use Rattle.ctt_findings.specs.Objects.{item_texts, object_of, objects_of}
 use Rattle.ctt_findings.specs.declared.finding.Finding.{Finding}
 
 -- the texts of objects, with the closing bracket
-items_are : (i : Problem) (later : Bool) (fs : List Finding) → item_texts i later fs ++ 93 ∷ [] ≡ items_text later (objects_of i fs)
+pub items_are : (i : Problem) (later : Bool) (fs : List Finding) → item_texts i later fs ++ 93 ∷ [] ≡ items_text later (objects_of i fs)
 items_are i later [] = refl
 items_are i later (f ∷ fs) =
     let object = compact_text (object_of i f) in

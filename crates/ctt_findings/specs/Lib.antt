@@ -4,3 +4,4 @@ pub mod Hearing
 pub mod Lines
 pub mod Laws
 pub mod Objects
+pub mod ReportText

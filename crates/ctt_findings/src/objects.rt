@@ -6,41 +6,15 @@ ghost use Rattle.serde_json.specs.Written.{comma_if};
 ghost use Rattle.ctt_text.specs.Problem.{course_count, curriculum_count, slot_count};
 ghost use Rattle.ctt_text.specs.Timetable.{Fits};
 ghost use Rattle.ctt_findings.specs.Fitting.{CauseFits, FindingFits};
-ghost use Rattle.ctt_findings.specs.Lines.{cause_facts, course, day, fact, facts, number, period, word};
+ghost use Rattle.ctt_findings.specs.Lines.{cause_facts, course, day, facts, period};
 ghost use Rattle.ctt_findings.specs.Objects.{item_text, object_of, placed_facts, with_facts};
 ghost use Rattle.ctt_findings.specs.declared.finding.Finding.TheVariants.{Lectures, Conflict, Availability, Occupancy, Barred, Capacity, Days, Compactness, Stability};
 
 use crate::finding::{Cause, Finding};
+use crate::members::{put_count, put_text};
 use ctt_text::{CourseNo, CurriculumNo, Instance, Placed, SlotNo};
 use serde_json::{Map, Value};
 use std::alloc::{AllocError, Global};
-
-/// Adds a member that is a word.
-fn put_word(
-    alloc: Global,
-    object: &mut Map<String, Value>,
-    key: &str,
-    text: &str,
-) -> Result<(), AllocError>
-    ensures { OnOk result (members_view object.new.entries
-        ≡ with_facts (fact key.now (word text.now) ∷ []) (members_view object.old.entries)) }
-{
-    let text = String::from_str(alloc, text)?;
-    serde_json::put(object, alloc, key, Value::String(text))
-}
-
-/// Adds a member that is a number.
-fn put_number(
-    alloc: Global,
-    object: &mut Map<String, Value>,
-    key: &str,
-    count: u64,
-) -> Result<(), AllocError>
-    ensures { OnOk result (members_view object.new.entries
-        ≡ with_facts (fact key.now (number count) ∷ []) (members_view object.old.entries)) }
-{
-    serde_json::put(object, alloc, key, Value::from(count))
-}
 
 /// Adds the name of a course.
 fn put_course(
@@ -53,7 +27,7 @@ fn put_course(
     ensures { OnOk result (members_view object.new.entries
         ≡ with_facts (course instance.now number ∷ []) (members_view object.old.entries)) }
 {
-    put_word(alloc, object, "course", instance.course_name(number))
+    put_text(alloc, object, "course", instance.course_name(number))
 }
 
 /// Adds the day and the period of a slot.
@@ -68,8 +42,8 @@ fn put_slot(
         ≡ with_facts (day instance.now slot ∷ period instance.now slot ∷ [])
         (members_view object.old.entries)) }
 {
-    put_number(alloc, object, "day", u64::from(instance.day_of(slot)))?;
-    put_number(alloc, object, "period", u64::from(instance.period_of(slot)))
+    put_count(alloc, object, "day", u64::from(instance.day_of(slot)))?;
+    put_count(alloc, object, "period", u64::from(instance.period_of(slot)))
 }
 
 /// Adds why two courses clash.
@@ -85,12 +59,12 @@ fn put_cause(
 {
     match cause {
         Cause::Teacher(teacher) => {
-            put_word(alloc, object, "cause", "teacher")?;
-            put_word(alloc, object, "name", instance.teacher_name(*teacher))
+            put_text(alloc, object, "cause", "teacher")?;
+            put_text(alloc, object, "name", instance.teacher_name(*teacher))
         }
         Cause::Curriculum(curriculum) => {
-            put_word(alloc, object, "cause", "curriculum")?;
-            put_word(alloc, object, "name", instance.curriculum_name(*curriculum))
+            put_text(alloc, object, "cause", "curriculum")?;
+            put_text(alloc, object, "name", instance.curriculum_name(*curriculum))
         }
     }
 }
@@ -109,10 +83,10 @@ fn put_lectures(
         ≡ with_facts (facts instance.now (Lectures course placed stated))
         (members_view object.old.entries)) }
 {
-    put_word(alloc, object, "kind", "lectures")?;
+    put_text(alloc, object, "kind", "lectures")?;
     put_course(alloc, object, instance, course)?;
-    put_number(alloc, object, "placed", placed)?;
-    put_number(alloc, object, "stated", u64::from(stated))
+    put_count(alloc, object, "placed", placed)?;
+    put_count(alloc, object, "stated", u64::from(stated))
 }
 
 /// Adds what is told of two lectures in one slot whose courses clash.
@@ -133,9 +107,9 @@ fn put_conflict(
         ≡ with_facts (facts instance.now (Conflict course other slot cause.now))
         (members_view object.old.entries)) }
 {
-    put_word(alloc, object, "kind", "conflict")?;
+    put_text(alloc, object, "kind", "conflict")?;
     put_course(alloc, object, instance, course)?;
-    put_word(alloc, object, "other", instance.course_name(other))?;
+    put_text(alloc, object, "other", instance.course_name(other))?;
     put_slot(alloc, object, instance, slot)?;
     put_cause(alloc, object, instance, cause)
 }
@@ -152,7 +126,7 @@ fn put_availability(
         ≡ with_facts (facts instance.now (Availability lecture.now))
         (members_view object.old.entries)) }
 {
-    put_word(alloc, object, "kind", "availability")?;
+    put_text(alloc, object, "kind", "availability")?;
     put_course(alloc, object, instance, lecture.course)?;
     put_slot(alloc, object, instance, lecture.slot)
 }
@@ -169,8 +143,8 @@ fn put_occupancy(
         ≡ with_facts (facts instance.now (Occupancy lecture.now))
         (members_view object.old.entries)) }
 {
-    put_word(alloc, object, "kind", "occupancy")?;
-    put_word(alloc, object, "room", instance.room_name(lecture.room))?;
+    put_text(alloc, object, "kind", "occupancy")?;
+    put_text(alloc, object, "room", instance.room_name(lecture.room))?;
     put_slot(alloc, object, instance, lecture.slot)?;
     put_course(alloc, object, instance, lecture.course)
 }
@@ -188,9 +162,9 @@ fn put_placed(
         ≡ with_facts (placed_facts instance.now kind.now lecture.now)
         (members_view object.old.entries)) }
 {
-    put_word(alloc, object, "kind", kind)?;
+    put_text(alloc, object, "kind", kind)?;
     put_course(alloc, object, instance, lecture.course)?;
-    put_word(alloc, object, "room", instance.room_name(lecture.room))?;
+    put_text(alloc, object, "room", instance.room_name(lecture.room))?;
     put_slot(alloc, object, instance, lecture.slot)
 }
 
@@ -208,7 +182,7 @@ fn put_capacity(
         (members_view object.old.entries)) }
 {
     put_placed(alloc, object, instance, "capacity", lecture)?;
-    put_number(alloc, object, "points", points)
+    put_count(alloc, object, "points", points)
 }
 
 /// Adds what is told of too few days of a course.
@@ -226,11 +200,11 @@ fn put_days(
         ≡ with_facts (facts instance.now (Days course days minimum points))
         (members_view object.old.entries)) }
 {
-    put_word(alloc, object, "kind", "days")?;
+    put_text(alloc, object, "kind", "days")?;
     put_course(alloc, object, instance, course)?;
-    put_number(alloc, object, "days", days)?;
-    put_number(alloc, object, "minimum", u64::from(minimum))?;
-    put_number(alloc, object, "points", points)
+    put_count(alloc, object, "days", days)?;
+    put_count(alloc, object, "minimum", u64::from(minimum))?;
+    put_count(alloc, object, "points", points)
 }
 
 /// Adds what is told of a lecture that stands alone.
@@ -248,8 +222,8 @@ fn put_compactness(
         ≡ with_facts (facts instance.now (Compactness curriculum lecture.now points))
         (members_view object.old.entries)) }
 {
-    put_word(alloc, object, "kind", "compactness")?;
-    put_word(
+    put_text(alloc, object, "kind", "compactness")?;
+    put_text(
         alloc,
         object,
         "curriculum",
@@ -257,7 +231,7 @@ fn put_compactness(
     )?;
     put_course(alloc, object, instance, lecture.course)?;
     put_slot(alloc, object, instance, lecture.slot)?;
-    put_number(alloc, object, "points", points)
+    put_count(alloc, object, "points", points)
 }
 
 /// Adds what is told of rooms of a course beyond the first.
@@ -274,10 +248,10 @@ fn put_stability(
         ≡ with_facts (facts instance.now (Stability course rooms points))
         (members_view object.old.entries)) }
 {
-    put_word(alloc, object, "kind", "stability")?;
+    put_text(alloc, object, "kind", "stability")?;
     put_course(alloc, object, instance, course)?;
-    put_number(alloc, object, "rooms", rooms)?;
-    put_number(alloc, object, "points", points)
+    put_count(alloc, object, "rooms", rooms)?;
+    put_count(alloc, object, "points", points)
 }
 
 /// Adds what a finding tells.

@@ -15,3 +15,4 @@ mod week;
 
 pub use grid::Grid;
 pub use page::page_text;
+pub use style::STYLE;

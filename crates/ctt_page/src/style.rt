@@ -2,7 +2,7 @@
 
 /// The style of the page: by the system's colours, light or dark; a grid that is wider than the window is
 /// moved sideways in its own box; on paper no grid is cut in two, if it fits on a sheet.
-pub(crate) const STYLE: &str = "
+pub const STYLE: &str = "
 :root { color-scheme: light dark; --broken: #b00020; --costs: #7a4f00; }
 @media (prefers-color-scheme: dark) { :root { --broken: #ff9a9a; --costs: #f0c060; } }
 body { background: Canvas; color: CanvasText; font: 100%/1.4 system-ui, sans-serif;

@@ -8,7 +8,6 @@ pub mod JournalText
 pub mod JournalWords
 pub mod Kinds
 pub mod ReplyPlaces
-pub mod ReportText
 pub mod RunFaults
 pub mod ScriptPlaces
 pub mod ScriptText

@@ -1,4 +1,4 @@
-//! Reading and writing whole texts: scripts and their answers, journals, and the reports on a timetable.
+//! Reading and writing whole texts: scripts and their answers, and journals.
 #![tactic(auto)]
 
 mod amounts;
@@ -16,7 +16,6 @@ mod minutes;
 mod pieces;
 mod places;
 mod replies;
-mod report;
 mod script;
 mod script_fault;
 mod written;
@@ -29,7 +28,6 @@ pub use journal_fault::JournalFault;
 pub use kinds::is_word;
 pub use lines::{Lines, line_end};
 pub use minutes::Minutes;
-pub use report::{report_json, report_text};
 pub use script::{PLANNERS, has_words, read_line, read_own_line, read_own_line_of};
 pub use script_fault::ScriptFault;
 pub use written::{write_costs, write_entry, write_fault, write_journal};

@@ -1,7 +1,7 @@
 //! Reports on a timetable, and the timetable written and read again.
 
 use crate::story::Story;
-use ctt_script::{report_json, report_text};
+use ctt_findings::{report_json, report_text};
 use ctt_text::{
     Instance, NoMemory, Placed, SolutionFault, is_timetable, read_solution, write_solution,
 };

@@ -1,0 +1,134 @@
+-- The texts of the report on a timetable.
+use Rattle.std.specs.Prelude.{◌≡◌, ◌↔◌, ◌++◌, ◌∷◌, ℕ, Bool, true, false, IsTrue, List, [], codes, if◌then◌else◌}
+use Rattle.std.specs.Fmt.{decimal}
+use Rattle.serde_json.specs.Data.{Data, Members, boolean, member, no_members, number, object, put, string, unsigned}
+use Rattle.serde_json.specs.Written.{comma_if, compact_text}
+use Rattle.ctt_text.specs.Problem.{Problem, has_barred}
+use Rattle.ctt_text.specs.declared.placed.Placed.{Placed}
+use Rattle.ctt_rules.specs.declared.cost.Cost.{Cost}
+use Rattle.ctt_rules.specs.declared.hard.Hard.{Hard}
+use Rattle.ctt_rules.specs.Hard.{Complete, Lawful, hard_counts}
+use Rattle.ctt_rules.specs.Penalty.{penalty, total}
+use Rattle.ctt_findings.specs.Lines.{explained}
+use Rattle.ctt_findings.specs.Objects.{all_objects}
+
+-- a line: what is said of, a blank, what is said, and the line's end
+abbrev pub line : List ℕ → List ℕ → List ℕ
+line key text = key ++ codes " " ++ text ++ codes "\n"
+
+abbrev pub count_line : List ℕ → ℕ → List ℕ
+count_line key count = line key (decimal count)
+
+abbrev pub answer_line : List ℕ → Bool → List ℕ
+answer_line key answer = line key (if answer then codes "yes" else codes "no")
+
+-- the line of the lectures in barred rooms, where some room is barred
+abbrev pub barred_line : Bool → ℕ → List ℕ
+barred_line true count = count_line (codes "barred") count
+barred_line false count = []
+
+-- the report on an instance of this name, in which some room is barred or none: how often hard
+-- constraints are broken, what the soft ones cost, whether the timetable is lawful and whether it is
+-- complete
+unfoldable pub text_of : List ℕ → Bool → Hard → Cost → Bool → Bool → List ℕ
+text_of name barred hard cost lawful complete = line (codes "instance") name
+    ++ count_line (codes "lectures") hard.lectures
+    ++ count_line (codes "conflicts") hard.conflicts
+    ++ count_line (codes "availability") hard.availability
+    ++ count_line (codes "occupancy") hard.occupancy
+    ++ barred_line barred hard.barred
+    ++ count_line (codes "capacity") cost.capacity
+    ++ count_line (codes "days") cost.days
+    ++ count_line (codes "compactness") cost.compactness
+    ++ count_line (codes "stability") cost.stability
+    ++ count_line (codes "total") (total cost)
+    ++ answer_line (codes "lawful") lawful
+    ++ answer_line (codes "complete") complete
+
+-- the member of the lectures in barred rooms, where some room is barred, before the others
+abbrev pub barred_member : Bool → ℕ → Members → Members
+barred_member true count others = member (codes "barred") (number (unsigned count)) others
+barred_member false count others = others
+
+-- the members of the same report as a JSON object, in the order of their keys: those before the key of the
+-- findings, in front of others, and those behind it
+unfoldable pub members_before : Bool → Hard → Cost → Bool → Members → Members
+members_before barred hard cost complete others =
+    member (codes "availability") (number (unsigned hard.availability))
+    (barred_member barred hard.barred
+    (member (codes "capacity") (number (unsigned cost.capacity))
+    (member (codes "compactness") (number (unsigned cost.compactness))
+    (member (codes "complete") (boolean complete)
+    (member (codes "conflicts") (number (unsigned hard.conflicts))
+    (member (codes "days") (number (unsigned cost.days)) others))))))
+
+unfoldable pub members_behind : List ℕ → Hard → Cost → Bool → Members
+members_behind name hard cost lawful =
+    member (codes "instance") (string name)
+    (member (codes "lawful") (boolean lawful)
+    (member (codes "lectures") (number (unsigned hard.lectures))
+    (member (codes "occupancy") (number (unsigned hard.occupancy))
+    (member (codes "stability") (number (unsigned cost.stability))
+    (member (codes "total") (number (unsigned (total cost))) no_members)))))
+
+-- and those behind it put to others
+abbrev pub with_behind : List ℕ → Hard → Cost → Bool → Members → Members
+with_behind name hard cost lawful others =
+    put (codes "total") (number (unsigned (total cost)))
+    (put (codes "stability") (number (unsigned cost.stability))
+    (put (codes "occupancy") (number (unsigned hard.occupancy))
+    (put (codes "lectures") (number (unsigned hard.lectures))
+    (put (codes "lawful") (boolean lawful)
+    (put (codes "instance") (string name) others)))))
+
+-- the text of members without the closing bracket
+abbrev pub open_text : Bool → Members → List ℕ
+open_text later no_members = []
+open_text later (member k d ms) = comma_if later ++ (compact_text (string k) ++ 58 ∷ (compact_text d ++ open_text true ms))
+
+-- the report as a JSON object
+unfoldable pub data_of : List ℕ → Bool → Hard → Cost → Bool → Bool → Data
+data_of name barred hard cost lawful complete =
+    object (members_before barred hard cost complete (members_behind name hard cost lawful))
+
+-- and with its findings
+unfoldable pub explained_data_of : Data → List ℕ → Bool → Hard → Cost → Bool → Bool → Data
+explained_data_of found name barred hard cost lawful complete = object
+    (members_before barred hard cost complete
+    (member (codes "findings") found (members_behind name hard cost lawful)))
+
+-- the bytes are what `show` makes of whether some room is barred, the timetable's counts, its costs and the two
+-- judgements on it
+pub record Shows (show : List ℕ → Bool → Hard → Cost → Bool → Bool → List ℕ) (i : Problem) (t : List Placed) (bytes : List ℕ) : Type 0 where
+  pub lawful : Bool
+  pub complete : Bool
+  pub is_lawful : IsTrue lawful ↔ Lawful i t
+  pub is_complete : IsTrue complete ↔ Complete i t
+  pub shown : bytes ≡ show i.name (has_barred i) (hard_counts i t) (penalty i t) lawful complete
+
+-- the report as text
+abbrev pub IsTextReport : Problem → List Placed → List ℕ → Type 0
+IsTextReport = Shows text_of
+
+-- the object in compact form, and the line's end
+abbrev pub json_of : List ℕ → Bool → Hard → Cost → Bool → Bool → List ℕ
+json_of name barred hard cost lawful complete =
+    compact_text (data_of name barred hard cost lawful complete) ++ codes "\n"
+
+-- the report as JSON
+abbrev pub IsJsonReport : Problem → List Placed → List ℕ → Type 0
+IsJsonReport = Shows json_of
+
+-- the report as text, and behind it the lines of all findings
+abbrev pub IsExplainedText : Problem → List Placed → List ℕ → Type 0
+IsExplainedText i t = Shows (λ name barred hard cost lawful complete.
+    text_of name barred hard cost lawful complete ++ explained i t) i t
+
+-- the object with the findings in compact form, and the line's end
+abbrev pub explained_json_of : Data → List ℕ → Bool → Hard → Cost → Bool → Bool → List ℕ
+explained_json_of found name barred hard cost lawful complete =
+    compact_text (explained_data_of found name barred hard cost lawful complete) ++ codes "\n"
+
+-- the report as JSON with all findings
+abbrev pub IsExplainedJson : Problem → List Placed → List ℕ → Type 0
+IsExplainedJson i t = Shows (explained_json_of (all_objects i t)) i t

@@ -1,0 +1,19 @@
+-- Why a look is refused, and what is printed of one.
+use Rattle.std.proofs.Common.{◌≡◌, inl, inr, Option, Some, None}
+use Rattle.std.specs.Global.{Global}
+use Rattle.std.specs.declared.string.String.{String}
+use Rattle.ctt_text.specs.Problem.{Problem}
+use Rattle.ctt_files.specs.Refusals.{IsOfSolution}
+use Rattle.ctt_files.specs.Texts.{Held}
+use Rattle.ctt_files.specs.declared.fault.Fault.{Fault}
+use Rattle.ctt_words.specs.declared.job.Whose.{Whose}
+use Rattle.ctt_reports.specs.Refusals.{IsNoName, IsOfSubject}
+
+-- a fault of the solution, and of what is named
+pub of_solution : (whose : Option Whose) (solution : String Global) (held : Held) (problem : Problem) (fault : Fault) → IsOfSolution solution held problem fault → IsOfSubject whose solution held problem fault
+of_solution None solution held problem fault is = is
+of_solution (Some whose) solution held problem fault is = inr is
+
+pub of_name : (whose : Option Whose) (solution : String Global) (held : Held) (problem : Problem) (fault : Fault) → IsNoName problem whose fault → IsOfSubject whose solution held problem fault
+of_name None solution held problem fault is = absurd is
+of_name (Some whose) solution held problem fault is = inl is

@@ -1,0 +1,5 @@
+pub mod Subjects
+pub mod Refusals
+pub mod Writing
+pub mod Checks
+pub mod Views

@@ -1,0 +1,45 @@
+-- Why the commands refuse to look.
+use Rattle.std.specs.Prelude.{◌≡◌, ◌⊎◌, Bool, true, false, Option, Some, None}
+use Rattle.std.specs.Global.{Global}
+use Rattle.std.specs.declared.string.String.{String}
+use Rattle.ctt_text.specs.Problem.{Problem}
+use Rattle.ctt_files.specs.Faults.{MayHaveWritten}
+use Rattle.ctt_files.specs.Refusals.{IsOfInstanceOr, IsOfSolution}
+use Rattle.ctt_files.specs.Texts.{Held}
+use Rattle.ctt_files.specs.declared.fault.Fault.{Fault}
+use Rattle.ctt_files.specs.declared.fault.Fault.TheVariants.{CannotWrite, NoCourse, NoCurriculum, NoRoom, NoTeacher}
+use Rattle.ctt_words.specs.declared.job.Whose.{Whose}
+use Rattle.ctt_words.specs.declared.job.Whose.TheVariants.{Course, Curriculum, Room, Teacher}
+use Rattle.ctt_reports.specs.Subjects.{numbered}
+
+-- that there is none of this name
+abbrev pub no_name : Whose → Fault
+no_name (Curriculum name) = NoCurriculum name
+no_name (Teacher name) = NoTeacher name
+no_name (Course name) = NoCourse name
+no_name (Room name) = NoRoom name
+
+-- the instance does not have what is named
+abbrev pub IsNoName : Problem → Option Whose → Fault → Type 0
+IsNoName i None fault = ⊥
+IsNoName i (Some whose) fault = (numbered i whose ≡ None) × (fault ≡ no_name whose)
+
+-- behind the instance the fault lies in what is named, if something is, or in the solution
+abbrev pub IsOfSubject : Option Whose → String Global → Held → Problem → Fault → Type 0
+IsOfSubject None solution held problem fault = IsOfSolution solution held problem fault
+IsOfSubject (Some whose) solution held problem fault = IsNoName problem (Some whose) fault ⊎ IsOfSolution solution held problem fault
+
+-- why each command is refused
+abbrev pub IsOfWeek : Held → String Global → Option (String Global) → Option Whose → String Global → Fault → Type 0
+IsOfWeek held instance barred whose solution = IsOfInstanceOr (IsOfSubject whose solution) held instance barred
+
+abbrev pub IsOfCheck : Held → String Global → Option (String Global) → String Global → Fault → Type 0
+IsOfCheck held instance barred solution = IsOfWeek held instance barred None solution
+
+abbrev pub IsOfPage : Held → String Global → Option (String Global) → String Global → Fault → Type 0
+IsOfPage held instance barred solution = IsOfWeek held instance barred None solution
+
+-- a part of the report may have been printed before: where findings are told, also where memory is wanted
+abbrev pub MayHaveTold : Bool → Fault → Type 0
+MayHaveTold true fault = MayHaveWritten fault
+MayHaveTold false fault = fault ≡ CannotWrite

@@ -1,0 +1,35 @@
+-- What the commands look at: an instance and a solution in files, and of the instance what is named.
+use Rattle.std.specs.Prelude.{◌≡◌, ℕ, List, Option, Some, None, option_map, string_bytes}
+use Rattle.std.specs.Global.{Global}
+use Rattle.std.specs.declared.string.String.{String}
+use Rattle.ctt_text.specs.Problem.{Problem, number_in}
+use Rattle.ctt_text.specs.declared.placed.Placed.{Placed}
+use Rattle.ctt_files.specs.Texts.{Held, Holds, IsInstanceIn, IsSolutionText}
+use Rattle.ctt_week.specs.declared.selection.Selection.{Selection}
+use Rattle.ctt_week.specs.declared.selection.Selection.TheVariants as number
+use Rattle.ctt_words.specs.declared.job.Whose.{Whose}
+use Rattle.ctt_words.specs.declared.job.Whose.TheVariants as name
+
+-- what is named, by its number in the instance, if it is there
+abbrev pub numbered : Problem → Whose → Option Selection
+numbered i (name.Curriculum text) = option_map number.Curriculum (number_in i.curriculum_names (string_bytes text))
+numbered i (name.Teacher text) = option_map number.Teacher (number_in i.teacher_names (string_bytes text))
+numbered i (name.Course text) = option_map number.Course (number_in i.course_names (string_bytes text))
+numbered i (name.Room text) = option_map number.Room (number_in i.room_names (string_bytes text))
+
+-- the selection is what is named, if something is
+abbrev pub IsSelection : Problem → Option Whose → Option Selection → Type 0
+IsSelection i None selection = selection ≡ None
+IsSelection i (Some whose) selection = (found : Selection) × (numbered i whose ≡ Some found) × (selection ≡ Some found)
+
+-- of an instance and a solution in files, and of what is named in the instance, such bytes are taken
+pub record Shows (IsText : Problem → Option Selection → List Placed → List ℕ → Type 0) (instance : String Global) (barred : Option (String Global)) (whose : Option Whose) (solution : String Global) (held : Held) (Taken : List ℕ → Type 0) : Type 0 where
+  pub problem : Problem
+  pub is_instance : IsInstanceIn held instance barred problem
+  pub selection : Option Selection
+  pub is_selection : IsSelection problem whose selection
+  pub timetable : List Placed
+  pub is_solution : Holds held solution (λ text. IsSolutionText problem text timetable)
+  pub bytes : List ℕ
+  pub is_text : IsText problem selection timetable bytes
+  pub taken : Taken bytes

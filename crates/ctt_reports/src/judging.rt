@@ -1,0 +1,22 @@
+//! How a check ends.
+
+ghost use Rattle.ctt_text.specs.Timetable.{IsTimetable};
+ghost use Rattle.ctt_reports.specs.Checks.{IsJudged};
+
+use ctt_files::Outcome;
+use ctt_rules::{is_complete, is_lawful};
+use ctt_text::{Instance, Placed};
+
+/// How a check of a timetable ends: by what it is, where `strict` asks for that.
+pub(crate) fn judge(instance: &Instance, timetable: &[Placed], strict: bool) -> Outcome
+    requires { IsTimetable instance.now timetable.now }
+    ensures { IsJudged strict instance.now timetable.now result }
+{
+    if !strict || is_complete(instance, timetable) {
+        Outcome::Done
+    } else if is_lawful(instance, timetable) {
+        Outcome::Incomplete
+    } else {
+        Outcome::Unlawful
+    }
+}

@@ -1,0 +1,146 @@
+//! Findings, written out as they are told.
+
+ghost use Rattle.std.specs.Prelude.{◌≡◌, ◌++◌, [], true, false, OnOk, OnErr, IfErr, string_bytes};
+ghost use Rattle.std.specs.Io.KnownBytes.{Appends};
+ghost use Rattle.ctt_text.specs.Timetable.{IsTimetable};
+ghost use Rattle.ctt_findings.specs.Findings.{findings};
+ghost use Rattle.ctt_findings.specs.Fitting.{FindingFits};
+ghost use Rattle.ctt_findings.specs.declared.untold.Untold.TheVariants.{Failed};
+ghost use Rattle.ctt_devices.specs.Output.{AppendsFront};
+ghost use Rattle.ctt_files.specs.Faults.{IfUnwritten};
+ghost use Rattle.ctt_files.specs.declared.fault.Fault.TheVariants.{NoMemory};
+ghost use Rattle.ctt_reports.specs.Checks.{found_text, found_texts};
+ghost use Rattle.ctt_reports.specs.Writing.{Grows};
+
+use ctt_devices::{Sink, put_all};
+use ctt_files::{Fault, print};
+use ctt_findings::{Finding, Listener, Untold, push_item, push_line, tell_findings};
+use ctt_text::{Instance, Placed};
+use std::alloc::{AllocError, Global};
+
+/// From how many bytes on texts are written out: few writes, and little room.
+const PIECE: usize = 32_768;
+
+/// Adds the text of a finding.
+fn push_found(
+    alloc: Global,
+    text: &mut String,
+    json: bool,
+    later: bool,
+    instance: &Instance,
+    finding: &Finding,
+) -> Result<(), AllocError>
+    requires { FindingFits instance.now finding.now }
+    ensures { OnOk result (string_bytes text.new
+        ≡ string_bytes text.old ++ found_text json instance.now later finding.now) }
+{
+    if json {
+        push_item(alloc, text, later, instance, finding)
+    } else {
+        push_line(text, instance, finding)
+    }
+}
+
+/// Writes a text out where it is long.
+fn write_long<W: Sink>(out: &mut W, text: &mut String) -> Result<(), Untold>
+    ensures grows { OnOk result (Grows (W.taken out.old) (string_bytes text.old)
+        (W.taken out.new) (string_bytes text.new) []) }
+    ensures unmarked { OnOk result (W.has_failed out.new ≡ W.has_failed out.old) }
+    ensures marked { OnErr result (W.has_failed out.new ≡ true) }
+    ensures failed { IfErr result (λ fault. fault ≡ Failed) }
+    ensures front { AppendsFront (W.taken out.old) (W.taken out.new) (string_bytes text.old) }
+{
+    if text.len() < PIECE {
+        return Ok(());
+    }
+    match put_all(out, text.as_bytes()) {
+        Ok(()) => {
+            text.clear();
+            Ok(())
+        }
+        Err(_) => Err(Untold::Failed),
+    }
+}
+
+/// Findings that are written out as they are told.
+#[derive(Drop)]
+struct Told<'w, W> {
+    alloc: Global,
+    out: &'w mut W,
+    json: bool,
+    /// Whether one was told before.
+    later: bool,
+    /// What is not written out yet.
+    text: String,
+}
+
+impl<'w, W: Sink> Listener for Told<'w, W> {
+    ghost use Rattle.std.specs.Prelude.{◌≡◌, true, string_bytes};
+    ghost use Rattle.ctt_devices.specs.Output.{AppendsFront};
+    ghost use Rattle.ctt_reports.specs.Checks.{found_text};
+    ghost use Rattle.ctt_reports.specs.Writing.{Grows, Marks};
+
+    ghost hears = { λ i a finding b. (b.out.ghost_name ≡ a.out.ghost_name)
+        × (b.json ≡ a.json) × (b.later ≡ true)
+        × (W.has_failed b.out.now ≡ W.has_failed a.out.now)
+        × Grows (W.taken a.out.now) (string_bytes a.text) (W.taken b.out.now) (string_bytes b.text)
+        (found_text a.json i a.later finding) };
+
+    ghost fails = { λ fault a b. (b.out.ghost_name ≡ a.out.ghost_name)
+        × Marks fault (W.has_failed a.out.now) (W.has_failed b.out.now)
+        × AppendsFront (W.taken a.out.now) (W.taken b.out.now) (string_bytes a.text) };
+
+    fn hear(&mut self, instance: &Instance, finding: &Finding) -> Result<(), Untold> {
+        write_long(self.out, &mut self.text)?;
+        push_found(
+            self.alloc,
+            &mut self.text,
+            self.json,
+            self.later,
+            instance,
+            finding,
+        )?;
+        self.later = true;
+        Ok(())
+    }
+}
+
+/// Prints the texts of all findings, as they are told: lines, or the items of a JSON array.
+pub(crate) fn tell<W: Sink>(
+    alloc: Global,
+    out: &mut W,
+    instance: &Instance,
+    timetable: &[Placed],
+    json: bool,
+) -> Result<(), Fault>
+    requires { IsTimetable instance.now timetable.now }
+    ensures told { OnOk result (Appends (W.taken out.old) (W.taken out.new)
+        (found_texts json instance.now false (findings instance.now timetable.now))) }
+    ensures unmarked { OnOk result (W.has_failed out.new ≡ W.has_failed out.old) }
+    ensures cause { IfErr result (λ fault. IfUnwritten fault
+        (W.has_failed out.new ≡ true)
+        ((fault ≡ NoMemory) × (W.has_failed out.new ≡ W.has_failed out.old))) }
+    ensures front { OnErr result (AppendsFront (W.taken out.old) (W.taken out.new)
+        (found_texts json instance.now false (findings instance.now timetable.now))) }
+{
+    let mut told = Told {
+        alloc,
+        out,
+        json,
+        later: false,
+        text: String::new(alloc),
+    };
+    let done = tell_findings(alloc, &mut told, instance, timetable);
+    let Told {
+        alloc: _alloc,
+        out,
+        json: _json,
+        later: _later,
+        text,
+    } = told;
+    match done {
+        Ok(()) => print(out, text.as_bytes()),
+        Err(Untold::Failed) => Err(Fault::CannotWrite),
+        Err(Untold::NoMemory) => Err(Fault::NoMemory),
+    }
+}
