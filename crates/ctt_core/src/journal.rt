@@ -29,9 +29,9 @@ impl JournalEntry {
 
 /// A planner, and the calls of his draft.
 #[derive(Drop)]
-struct Entering<'a, K: Keeping> {
-    planner: PlannerNo,
-    asked: &'a Log<Asked, K>,
+pub struct Entering<'a, K: Keeping> {
+    pub planner: PlannerNo,
+    pub asked: &'a Log<Asked, K>,
 }
 
 /// They are an entry.
@@ -42,7 +42,7 @@ impl<'a, K: Keeping> Tells<Entering<'a, K>, JournalEntry> for AsEntry {
 }
 
 /// Enters a draft, of which the calls are kept where the journal is.
-pub(crate) fn enter<K: Keeping>(
+pub fn enter<K: Keeping>(
     journal: &mut Log<JournalEntry, K>,
     planner: PlannerNo,
     asked: Log<Asked, K>,

@@ -18,7 +18,7 @@ pub use auditing::{Auditor, NoList, Verdict};
 pub use desk::Desk;
 pub use desk_fault::DeskFault;
 pub use event::Event;
-pub use journal::JournalEntry;
+pub use journal::{Entering, JournalEntry, enter};
 pub use opening::placed;
 pub use planner::PlannerNo;
 pub use whole_audit::{audit, list_after};

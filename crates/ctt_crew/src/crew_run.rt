@@ -12,6 +12,7 @@ use crate::gate::Gate;
 use ctt_board::{GridSheet, Sheet, Timetable};
 use ctt_core::PlannerNo;
 use ctt_desk::{Closed, Named, Naming, Opened, Planner, SharedDesk, SharedFault};
+use ctt_draft::{KeepNone, Keeping};
 use ctt_rules::Cost;
 use ctt_script::write_costs;
 use ctt_text::{Instance, NoMemory, let_go};
@@ -58,7 +59,7 @@ fn added<T: Drop, E: Drop>(
 fn work_at_once<'i, 'x, J: Naming + Send + Sync, R: Threads + Wait + Sync, G: Gate>(
     rt: &R,
     alloc: Global,
-    desk: &'x SharedDesk<GridSheet<'i>, J>,
+    desk: &'x SharedDesk<GridSheet<'i>, J, KeepNone>,
     works: Vec<(Planner<GridSheet<'i>, J>, Attendance<'i, 'x, J, G>)>,
 ) -> Result<Vec<String>, CrewFault>
     ensures each { IfOk result (λ answers. length answers.items ≡ length works.entry.items) }
@@ -138,7 +139,7 @@ fn room_for(answers: &[String]) -> usize {
 fn crew_report(
     alloc: Global,
     answers: Vec<String>,
-    entries: usize,
+    entries: u64,
     cost: &Cost,
 ) -> Result<Vec<u8>, NoMemory>
     ensures { IfOk result (λ text. text.items
@@ -156,15 +157,15 @@ fn crew_report(
 }
 
 /// What a crew wrote whose desk is closed.
-pub fn closing_report<S: Timetable, J: Naming>(
+pub fn closing_report<S: Timetable, J: Naming, K: Keeping>(
     alloc: Global,
-    closed: &Closed<S, J>,
+    closed: &Closed<S, J, K>,
     answers: Vec<String>,
 ) -> Result<Vec<u8>, NoMemory>
     ensures { IfOk result (λ text.
         IsCrewText J.problem J.opening (length answers.items) text.items) }
 {
-    let entries = closed.journal().len();
+    let entries = closed.accepted();
     let cost = closed.cost();
     crew_report(alloc, answers, entries, &cost)
 }
@@ -173,7 +174,7 @@ pub fn closing_report<S: Timetable, J: Naming>(
 fn desk_named<S: Timetable, J: Naming, R: Wait>(
     rt: &R,
     named: Named<S, J>,
-) -> Result<(SharedDesk<S, J>, Vec<Planner<S, J>>), CrewFault>
+) -> Result<(SharedDesk<S, J, KeepNone>, Vec<Planner<S, J>>), CrewFault>
     ensures each { IfOk result (λ made. length made.1.items ≡ named.count) }
     ensures fault { IfErr result (IsCrewFault J.planners) }
 {
@@ -181,11 +182,11 @@ fn desk_named<S: Timetable, J: Naming, R: Wait>(
 }
 
 /// Ends a desk whose planners are gone.
-pub fn end_desk<S: Timetable, J: Naming, R: Wait>(
+pub fn end_desk<S: Timetable, J: Naming, K: Keeping, R: Wait>(
     rt: &R,
     alloc: Global,
-    desk: SharedDesk<S, J>,
-) -> Closed<S, J> {
+    desk: SharedDesk<S, J, K>,
+) -> Closed<S, J, K> {
     let mut none = Vec::new(alloc);
     match desk.close(rt, none.as_mut_slice()) {
         Ok(closed) | Err(closed) => closed,
@@ -195,7 +196,7 @@ pub fn end_desk<S: Timetable, J: Naming, R: Wait>(
 /// What a crew wrote whose desk is closed, if each planner was answered.
 fn report_if_answered<S: Timetable, J: Naming>(
     alloc: Global,
-    closed: &Closed<S, J>,
+    closed: &Closed<S, J, KeepNone>,
     answers: Result<Vec<String>, CrewFault>,
 ) -> Result<Vec<u8>, CrewFault>
     ensures text { IfOk result (λ text.
@@ -212,7 +213,7 @@ fn report_if_answered<S: Timetable, J: Naming>(
 fn last_report<S: Timetable, J: Naming, R: Wait>(
     rt: &R,
     alloc: Global,
-    desk: SharedDesk<S, J>,
+    desk: SharedDesk<S, J, KeepNone>,
     answers: Result<Vec<String>, CrewFault>,
 ) -> Result<Vec<u8>, CrewFault>
     ensures text { IfOk result (λ text.
@@ -231,7 +232,7 @@ fn last_report<S: Timetable, J: Naming, R: Wait>(
 fn answers_at<'i, J: Naming + Send + Sync, R: Threads + Wait + Sync, G: Gate>(
     rt: &R,
     alloc: Global,
-    desk: &SharedDesk<GridSheet<'i>, J>,
+    desk: &SharedDesk<GridSheet<'i>, J, KeepNone>,
     instance: &'i Instance,
     planners: Vec<Planner<GridSheet<'i>, J>>,
     scripts: &[&[u8]],

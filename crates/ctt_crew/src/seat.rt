@@ -12,6 +12,7 @@ use ctt_core::{Answer, Event};
 use ctt_desk::{
     Drafting, Naming, Planner, Receipt, RefreshRefusal, Refusal, SharedDesk, SharedFault,
 };
+use ctt_draft::{KeepAll, Keeping};
 use ctt_edits::{Call, Look};
 use ctt_script::write_entry;
 use ctt_text::{NoMemory, let_go};
@@ -19,11 +20,11 @@ use std::sync::Wait;
 
 /// A planner at work.
 #[derive(Drop)]
-pub enum Seat<'i, S: Timetable, J: Naming> {
+pub enum Seat<'i, S: Timetable, J: Naming, K: Keeping = KeepAll> {
     /// No draft is open.
     Free(Planner<S, J>),
     /// A draft is open.
-    Drafting(Drafting<'i, S, J>),
+    Drafting(Drafting<'i, S, J, K>),
 }
 
 /// What a planner of a crew is answered.
@@ -75,7 +76,7 @@ fn write_draft<'i, S: Sheet<'i>, J: Naming>(
     Ok(written?)
 }
 
-impl<'i, S: Sheet<'i>, J: Naming> Seat<'i, S, J> {
+impl<'i, S: Sheet<'i>, J: Naming, K: Keeping> Seat<'i, S, J, K> {
     /// Opens a draft.
     fn open(self) -> (Self, Told)
         ensures fits { ToldFits J.problem result.1 }
@@ -107,22 +108,11 @@ impl<'i, S: Sheet<'i>, J: Naming> Seat<'i, S, J> {
         }
     }
 
-    /// Adds the entry of the open draft, as a journal has it, if a draft is open.
-    pub fn write_entry(&self, text: &mut String) -> Result<(), NoMemory>
-        ensures { OnOk result (string_bytes text.new
-            ≡ string_bytes text.old ++ open_entry J.problem self.now) }
-    {
-        match self {
-            Seat::Free(_) => Ok(()),
-            Seat::Drafting(drafting) => write_draft(drafting, text),
-        }
-    }
-
     /// Commits the draft, and gives the receipt where it is accepted, or else what the planner is told.
     pub fn commit<R: Wait>(
         self,
         rt: &R,
-        desk: &SharedDesk<S, J>,
+        desk: &SharedDesk<S, J, K>,
     ) -> (Self, Result<Receipt<J>, Told>)
         ensures fits { IfErr result.1 (ToldFits J.problem) }
         ensures commits { Commits J.problem J.opening self.entry result.0 result.1 }
@@ -206,7 +196,7 @@ impl<'i, S: Sheet<'i>, J: Naming> Seat<'i, S, J> {
     }
 
     /// Does what a line asks for. The planner goes on from where that leaves him.
-    pub fn take<R: Wait>(self, rt: &R, desk: &SharedDesk<S, J>, event: Event) -> (Self, Told)
+    pub fn take<R: Wait>(self, rt: &R, desk: &SharedDesk<S, J, K>, event: Event) -> (Self, Told)
         requires fits { (n : ℕ) × EventFits J.problem n event }
         ensures fits { ToldFits J.problem result.1 }
         ensures takes { Takes J.problem J.opening event self.entry result.0 result.1 }
@@ -225,6 +215,19 @@ impl<'i, S: Sheet<'i>, J: Naming> Seat<'i, S, J> {
             Event::Refresh(_) => self.refresh(),
             Event::Abandon(_) => self.abandon(),
             Event::Show(look) => self.show(&look),
+        }
+    }
+}
+
+impl<'i, S: Sheet<'i>, J: Naming> Seat<'i, S, J> {
+    /// Adds the entry of the open draft, as a journal has it, if a draft is open.
+    pub fn write_entry(&self, text: &mut String) -> Result<(), NoMemory>
+        ensures { OnOk result (string_bytes text.new
+            ≡ string_bytes text.old ++ open_entry J.problem self.now) }
+    {
+        match self {
+            Seat::Free(_) => Ok(()),
+            Seat::Drafting(drafting) => write_draft(drafting, text),
         }
     }
 }

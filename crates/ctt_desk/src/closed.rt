@@ -1,6 +1,6 @@
 //! Desks that were closed.
 
-ghost use Rattle.std.specs.Prelude.{◌≡◌, IfOk};
+ghost use Rattle.std.specs.Prelude.{◌≡◌, IfOk, length};
 ghost use Rattle.ctt_rules.specs.Hard.{Lawful};
 ghost use Rattle.ctt_rules.specs.Penalty.{penalty};
 ghost use Rattle.ctt_core.specs.Runs.{after, Legal};
@@ -9,34 +9,35 @@ use crate::front::Front;
 use crate::naming::Naming;
 use ctt_board::Timetable;
 use ctt_core::JournalEntry;
+use ctt_draft::{KeepAll, Keeping, Log};
 use ctt_rules::Cost;
 use ctt_text::{NoMemory, Placed};
 use std::marker::Model;
 
-/// What a desk left: its journal and its timetable. Contracts see the journal.
+/// What a desk left: its journal, which is kept or not, and its timetable. Contracts see the journal.
 #[derive(Drop)]
-pub struct Closed<S: Timetable, J: Naming> {
-    pub(crate) journal: Vec<JournalEntry>,
+pub struct Closed<S: Timetable, J: Naming, K: Keeping = KeepAll> {
+    pub(crate) journal: Log<JournalEntry, K>,
     pub(crate) sheet: S,
     /// The journal, as what was seen.
     pub(crate) front: Front<J>,
 }
 
-impl<S: Timetable, J: Naming> Model for Closed<S, J> {
+impl<S: Timetable, J: Naming, K: Keeping> Model for Closed<S, J, K> {
     ghost use Rattle.std.specs.Prelude.{◌≡◌, List};
     ghost use Rattle.ctt_core.specs.declared.journal.JournalEntry.{JournalEntry};
     ghost use Rattle.ctt_desk.specs.Histories.{Standing};
 
     ghost Value = { List JournalEntry };
 
-    ghost view = { λ c. c.journal.items };
+    ghost view = { λ c. c.journal.list };
 
     ghost invariant = { λ c.
-        Standing J.problem (S.problem c.sheet) J.opening (S.list c.sheet) c.journal.items
-        × (c.front ≡ c.journal.items) };
+        Standing J.problem (S.problem c.sheet) J.opening (S.list c.sheet) c.journal.list
+        × (c.front ≡ c.journal.list) };
 }
 
-impl<S: Timetable, J: Naming> Closed<S, J> {
+impl<S: Timetable, J: Naming, K: Keeping> Closed<S, J, K> {
     /// The lectures, by course and slot: the opening after the journal.
     pub fn list(&self) -> Result<Vec<Placed>, NoMemory>
         ensures list { IfOk result (λ list. list.items ≡ after J.problem J.opening self.now) }
@@ -52,12 +53,12 @@ impl<S: Timetable, J: Naming> Closed<S, J> {
         self.sheet.cost()
     }
 
-    /// The accepted drafts, in the order of their commits.
-    pub fn journal(&self) -> &[JournalEntry]
-        ensures journal { result.now ≡ self.now }
+    /// How many drafts were accepted.
+    pub fn accepted(&self) -> u64
+        ensures accepted { result ≡ length self.now }
         ensures legal { Legal J.problem J.opening self.now }
     {
-        self.journal.as_slice()
+        self.journal.len()
     }
 
     /// The journal, as what was seen.
@@ -65,5 +66,15 @@ impl<S: Timetable, J: Naming> Closed<S, J> {
         ensures { result.now ≡ self.now }
     {
         &self.front
+    }
+}
+
+impl<S: Timetable, J: Naming> Closed<S, J> {
+    /// The accepted drafts, in the order of their commits.
+    pub fn journal(&self) -> &[JournalEntry]
+        ensures journal { result.now ≡ self.now }
+        ensures legal { Legal J.problem J.opening self.now }
+    {
+        self.journal.as_slice()
     }
 }

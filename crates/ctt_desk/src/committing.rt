@@ -13,6 +13,7 @@ use crate::receipt::Receipt;
 use crate::refusal::Refusal;
 use crate::shared_desk::SharedDesk;
 use ctt_board::{Sheet, Timetable};
+use ctt_draft::Keeping;
 use ctt_text::let_go;
 use std::sync::{Mutex, MutexGuard, Wait};
 use std::thread::yield_now;
@@ -32,15 +33,15 @@ fn held<'l, T, R: Wait>(rt: &R, lock: &'l Mutex<T>) -> MutexGuard<'l, T> {
     lock.lock(rt)
 }
 
-impl<'i, S: Sheet<'i>, J: Naming> Drafting<'i, S, J> {
+impl<'i, S: Sheet<'i>, J: Naming, K: Keeping> Drafting<'i, S, J, K> {
     /// Commits the draft: it is accepted where no row that it read has changed since it was opened,
     /// or last refreshed. Its sheet is kept, and what else was drafted is dropped when the lock is
     /// free again.
     pub fn commit<R: Wait>(
         self,
         rt: &R,
-        desk: &SharedDesk<S, J>,
-    ) -> Result<(Planner<S, J>, Receipt<J>), Refusal<'i, S, J>>
+        desk: &SharedDesk<S, J, K>,
+    ) -> Result<(Planner<S, J>, Receipt<J>), Refusal<'i, S, J, K>>
         ensures ok { IfOk result (λ done. IsAccepted J.problem J.opening self.entry done.0 done.1) }
         ensures err { IfErr result (IsRefused J.problem J.opening self.entry) }
     {

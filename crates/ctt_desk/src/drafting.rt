@@ -13,7 +13,7 @@ use crate::naming::Naming;
 use crate::planner::Planner;
 use ctt_board::{Sheet, Timetable};
 use ctt_core::JournalEntry;
-use ctt_draft::{AskedCalls, Draft, KeepAll};
+use ctt_draft::{AskedCalls, Draft, KeepAll, Keeping};
 use ctt_edits::{Call, Reply, laws};
 use ctt_text::{Instance, NoMemory};
 use std::alloc::Global;
@@ -22,12 +22,12 @@ use std::marker::Model;
 /// A planner with an open draft. Contracts see the planner, the timetable on which the draft
 /// stands, and its calls with their replies. Whoever drops it abandons the draft.
 #[derive(Drop)]
-pub struct Drafting<'i, S: Timetable, J: Naming> {
+pub struct Drafting<'i, S: Timetable, J: Naming, K: Keeping = KeepAll> {
     pub(crate) planner: Planner<S, J>,
-    pub(crate) draft: Box<Draft<'i, S, KeepAll>>,
+    pub(crate) draft: Box<Draft<'i, S, K>>,
 }
 
-impl<'i, S: Timetable, J: Naming> Model for Drafting<'i, S, J> {
+impl<'i, S: Timetable, J: Naming, K: Keeping> Model for Drafting<'i, S, J, K> {
     ghost use Rattle.std.specs.Prelude.{◌≡◌};
     ghost use Rattle.ctt_core.specs.Runs.{after};
     ghost use Rattle.ctt_desk.specs.Planners.{DraftingValue};
@@ -57,7 +57,7 @@ fn asked_again<'i, S: Sheet<'i>>(
     draft.asked_again(alloc)
 }
 
-impl<'i, S: Sheet<'i>, J: Naming> Drafting<'i, S, J> {
+impl<'i, S: Sheet<'i>, J: Naming, K: Keeping> Drafting<'i, S, J, K> {
     /// The instance whose courses are timetabled.
     pub fn instance(&self) -> &'i Instance
         ensures { result.now ≡ J.problem }
@@ -81,6 +81,17 @@ impl<'i, S: Sheet<'i>, J: Naming> Drafting<'i, S, J> {
         self.draft.call(call)
     }
 
+    /// Gives the draft up. Its sheet is kept. It takes no memory.
+    pub fn abandon(self) -> Planner<S, J>
+        ensures { result ≡ self.entry.planner }
+    {
+        let Drafting { planner, draft } = self;
+        let kept = Kept::of_base(draft, planner.front.again());
+        planner.keeping(kept)
+    }
+}
+
+impl<'i, S: Sheet<'i>, J: Naming> Drafting<'i, S, J> {
     /// The entry that the draft is, if it is accepted.
     pub fn entry(&self) -> Result<JournalEntry, NoMemory>
         ensures entry { IfOk result (λ entry.
@@ -90,14 +101,5 @@ impl<'i, S: Sheet<'i>, J: Naming> Drafting<'i, S, J> {
         let asked = asked_again(self.planner.alloc, &self.draft)?;
         let planner = self.planner.number();
         Ok(JournalEntry { planner, asked })
-    }
-
-    /// Gives the draft up. Its sheet is kept. It takes no memory.
-    pub fn abandon(self) -> Planner<S, J>
-        ensures { result ≡ self.entry.planner }
-    {
-        let Drafting { planner, draft } = self;
-        let kept = Kept::of_base(draft, planner.front.again());
-        planner.keeping(kept)
     }
 }

@@ -5,10 +5,12 @@ ghost use mathlib.Core.List.{IsPrefix};
 ghost use Rattle.ctt_draft.specs.Drafts.{calls_of, replies_in, replies};
 ghost use Rattle.ctt_core.specs.Runs.{after, Legal};
 ghost use Rattle.ctt_desk.specs.Books.{head_of};
+ghost use Rattle.ctt_desk.specs.Histories.{entry_of};
 
 use crate::book::{Addition, BookRule, NoTrade};
 use crate::naming::Naming;
-use ctt_core::JournalEntry;
+use ctt_core::{Entering, JournalEntry, PlannerNo};
+use ctt_draft::{Asked, Keeping, Log};
 use logbook::{Offer, Seen, Word};
 use std::marker::{Model, PhantomData};
 use std::sync::Wait;
@@ -123,20 +125,27 @@ impl<J: Naming> Front<J> {
         }
     }
 
-    /// Adds an entry to all that was seen. Were the history longer, which the lock excludes, this
-    /// would wait for ever.
-    pub(crate) fn extend<R: Wait>(&mut self, rt: &R, head: &Head<J>, entry: &JournalEntry)
+    /// Adds the entry of a draft to all that was seen. Were the history longer, which the lock
+    /// excludes, this would wait for ever.
+    pub(crate) fn extend<R: Wait, K: Keeping>(
+        &mut self,
+        rt: &R,
+        head: &Head<J>,
+        planner: PlannerNo,
+        asked: &Log<Asked, K>,
+    )
         requires room { length self.old + 1 < 2 ^ 64 }
-        requires legal { replies_in entry.now.asked
-            ≡ replies J.problem (after J.problem J.opening self.old) (calls_of entry.now.asked) }
-        ensures { self.new ≡ self.old ++ entry.now ∷ [] }
+        requires legal { replies_in asked.now.list
+            ≡ replies J.problem (after J.problem J.opening self.old) (calls_of asked.now.list) }
+        ensures { self.new ≡ self.old ++ entry_of planner asked.now.list ∷ [] }
     {
+        let entering = Entering { planner, asked };
         let mut seen = self.seen.again();
         let mut offer: Offer<JournalEntry, u64, BookRule, NoTrade> = seen.plain::<
             NoTrade,
-            JournalEntry,
+            Entering<K>,
             Addition,
-        >(entry);
+        >(&entering);
         let mut pen = seen.no_pen();
         let drafts = self.drafts;
         let found = head

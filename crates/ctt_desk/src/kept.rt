@@ -10,7 +10,7 @@ use crate::naming::Naming;
 use crate::shown::Shown;
 use crate::trail::Trail;
 use ctt_board::{Sheet, Timetable};
-use ctt_draft::{Draft, Idle, KeepAll, Remains};
+use ctt_draft::{Draft, Idle, Keeping, Remains};
 use ctt_rules::Cost;
 use ctt_text::NoMemory;
 use std::alloc::Global;
@@ -76,7 +76,7 @@ impl<S: Timetable, J: Naming> Kept<S, J> {
 
 impl<'i, S: Sheet<'i>, J: Naming> Kept<S, J> {
     /// The base of a draft, which is the opening after a history.
-    pub(crate) fn of_base(draft: Box<Draft<'i, S, KeepAll>>, front: Front<J>) -> Self
+    pub(crate) fn of_base<K: Keeping>(draft: Box<Draft<'i, S, K>>, front: Front<J>) -> Self
         requires { IsAfter J.problem J.opening draft.value.problem draft.value.base front }
         ensures { result ≡ front }
     {
@@ -86,12 +86,12 @@ impl<'i, S: Sheet<'i>, J: Naming> Kept<S, J> {
 
 /// A draft on a published timetable, in which nothing was asked yet: on the sheet that is kept,
 /// where the changes that it lacks are known, and else on a copy.
-pub(crate) fn draft_on<'i, S: Sheet<'i>, J: Naming>(
+pub(crate) fn draft_on<'i, S: Sheet<'i>, J: Naming, K: Keeping>(
     alloc: Global,
     kept: Option<Kept<S, J>>,
     shown: &Shown<S, J>,
     seen: &Front<J>,
-) -> Result<Box<Draft<'i, S, KeepAll>>, NoMemory>
+) -> Result<Box<Draft<'i, S, K>>, NoMemory>
     requires { IsAfter J.problem J.opening shown.now.problem shown.now.list seen.now }
     ensures problem { IfOk result (λ draft. draft.value.problem ≡ J.problem) }
     ensures base { IfOk result (λ draft. draft.value.base ≡ after J.problem J.opening seen.now) }

@@ -15,8 +15,8 @@ use crate::naming::Naming;
 use crate::shown::{Common, Publisher, Shown, publish};
 use crate::update::Update;
 use ctt_board::{Change, Sheet, Timetable};
-use ctt_core::{JournalEntry, PlannerNo};
-use ctt_draft::{AskedCalls, Draft, KeepAll, Remains, Work};
+use ctt_core::{JournalEntry, PlannerNo, enter};
+use ctt_draft::{Asked, Draft, Keeping, Log, Remains, Work};
 use ctt_edits::Row;
 use ctt_text::Placed;
 use left_right::Absorb;
@@ -39,12 +39,12 @@ pub(crate) enum Cause {
 
 /// The desk's opening and its journal, and the end by which its timetable is published, which is
 /// kept nowhere else. Contracts see the journal.
-pub(crate) struct Locked<S: Timetable, J: Naming>
+pub(crate) struct Locked<S: Timetable, J: Naming, K: Keeping>
 where
     Shown<S, J>: Absorb<Update<J>, State = Common>,
 {
     opening: Vec<Placed>,
-    journal: Vec<JournalEntry>,
+    journal: Log<JournalEntry, K>,
     /// How many drafts each planner has in the journal.
     counts: Vec<u64>,
     /// The journal, as what was seen.
@@ -54,7 +54,7 @@ where
     writer: Option<Publisher<S, J>>,
 }
 
-impl<S: Timetable, J: Naming> Model for Locked<S, J>
+impl<S: Timetable, J: Naming, K: Keeping> Model for Locked<S, J, K>
 where
     Shown<S, J>: Absorb<Update<J>, State = Common>,
 {
@@ -64,14 +64,14 @@ where
 
     ghost Value = { List JournalEntry };
 
-    ghost view = { λ l. l.journal.items };
+    ghost view = { λ l. l.journal.list };
 
     ghost invariant = { λ l.
-        IsLocked J.problem J.opening l.opening.items J.planners l.counts.items l.journal.items
-        × (l.front ≡ l.journal.items)
+        IsLocked J.problem J.opening l.opening.items J.planners l.counts.items l.journal.list
+        × (l.front ≡ l.journal.list)
         × IsSomeAnd l.writer (λ w.
         IsPublished J.problem w.desk.shown.value.problem J.opening w.desk.shown.value.list
-        l.journal.items w.desk.shown.value.history
+        l.journal.list w.desk.shown.value.history
         × (drop w.behind w.log.items ≡ [])) };
 }
 
@@ -95,9 +95,11 @@ fn put_back<S: Timetable, J: Naming>(slot: &mut Option<Publisher<S, J>>, writer:
     let None = before else { unreachable!() };
 }
 
-/// Ends a draft whose calls are to stay as they are.
-fn end<'i, S: Sheet<'i>>(draft: Box<Draft<'i, S, KeepAll>>) -> (AskedCalls, Vec<Change>, Remains<S>)
-    ensures asked { result.0 ≡ draft.entry.value.asked }
+/// Ends a draft.
+fn end<'i, S: Sheet<'i>, K: Keeping>(
+    draft: Box<Draft<'i, S, K>>,
+) -> (Log<Asked, K>, Vec<Change>, Remains<S>)
+    ensures asked { result.0.list ≡ draft.entry.value.asked }
     ensures changes { result.1.items
         ≡ changes draft.entry.value.problem draft.entry.value.base
         (calls_of draft.entry.value.asked) }
@@ -106,10 +108,10 @@ fn end<'i, S: Sheet<'i>>(draft: Box<Draft<'i, S, KeepAll>>) -> (AskedCalls, Vec<
 {
     let (work, remains) = Box::into_inner(draft).end();
     let Work { asked, changes } = work;
-    (AskedCalls::of(asked), changes, remains)
+    (asked, changes, remains)
 }
 
-impl<S: Timetable, J: Naming> Locked<S, J> {
+impl<S: Timetable, J: Naming, K: Keeping> Locked<S, J, K> {
     /// A desk that opens so, with an empty journal, and whose opening is published.
     pub(crate) fn new(
         alloc: Global,
@@ -131,7 +133,7 @@ impl<S: Timetable, J: Naming> Locked<S, J> {
         writer.published().sheet.lawful();
         Locked {
             opening,
-            journal: Vec::new(alloc),
+            journal: Log::new(alloc),
             counts,
             front,
             head,
@@ -151,7 +153,7 @@ impl<S: Timetable, J: Naming> Locked<S, J> {
     }
 
     /// Gives up the writing end, and gives the journal with its timetable.
-    pub(crate) fn close<R: Wait>(self, rt: &R) -> Closed<S, J>
+    pub(crate) fn close<R: Wait>(self, rt: &R) -> Closed<S, J, K>
         ensures { result ≡ self }
     {
         let Locked {
@@ -175,7 +177,7 @@ impl<S: Timetable, J: Naming> Locked<S, J> {
     }
 }
 
-impl<'i, S: Sheet<'i>, J: Naming> Locked<S, J> {
+impl<'i, S: Sheet<'i>, J: Naming, K: Keeping> Locked<S, J, K> {
     /// Accepts a draft of which nothing that it read has changed; the planner's front is then the
     /// journal. What remains of the draft is for the caller to drop, and a refused draft goes back.
     pub(crate) fn commit<R: Wait>(
@@ -184,8 +186,8 @@ impl<'i, S: Sheet<'i>, J: Naming> Locked<S, J> {
         number: PlannerNo,
         committed: u64,
         front: &mut Front<J>,
-        draft: Box<Draft<'i, S, KeepAll>>,
-    ) -> Result<Remains<S>, (Box<Draft<'i, S, KeepAll>>, Cause)>
+        draft: Box<Draft<'i, S, K>>,
+    ) -> Result<Remains<S>, (Box<Draft<'i, S, K>>, Cause)>
         requires problem { draft.value.problem ≡ J.problem }
         requires base { draft.value.base ≡ after J.problem J.opening front.old }
         requires planner { number < J.planners }
@@ -228,7 +230,7 @@ impl<'i, S: Sheet<'i>, J: Naming> Locked<S, J> {
     /// The least row that a draft read and that has changed since the history on which it stands.
     /// Where that is the journal there is nothing to compare, and where the changes since are known
     /// only the rows that they touch.
-    fn stale(&self, draft: &Draft<'i, S, KeepAll>, front: &Front<J>) -> Option<Row>
+    fn stale(&self, draft: &Draft<'i, S, K>, front: &Front<J>) -> Option<Row>
         requires problem { draft.now.problem ≡ J.problem }
         requires base { draft.now.base ≡ after J.problem J.opening front.now }
         ensures row { result
@@ -253,9 +255,9 @@ impl<'i, S: Sheet<'i>, J: Naming> Locked<S, J> {
         &mut self,
         rt: &R,
         number: PlannerNo,
-        draft: Box<Draft<'i, S, KeepAll>>,
+        draft: Box<Draft<'i, S, K>>,
         is_latest: bool,
-    ) -> Result<Remains<S>, (Box<Draft<'i, S, KeepAll>>, Cause)>
+    ) -> Result<Remains<S>, (Box<Draft<'i, S, K>>, Cause)>
         requires problem { draft.value.problem ≡ J.problem }
         requires planner { number < J.planners }
         requires settles { Settles draft.value (after J.problem J.opening self.old) }
@@ -270,15 +272,11 @@ impl<'i, S: Sheet<'i>, J: Naming> Locked<S, J> {
             return Err((draft, Cause::NoMemory));
         }
         let (asked, changes, remains) = end(draft);
-        let entry = JournalEntry {
-            planner: number,
-            asked,
-        };
         let before = self.front.again();
-        self.front.extend(rt, &self.head, &entry);
-        self.journal.push(entry).unwrap();
+        self.front.extend(rt, &self.head, number, &asked);
+        enter(&mut self.journal, number, asked);
         let count = self.counts[number.get() as usize];
-        let place = self.journal.len() as u64;
+        let place = self.journal.len();
         prove!(count < place);
         self.counts[number.get() as usize] = count + 1;
         let cost = remains.cost_if(is_latest);

@@ -18,6 +18,7 @@ use crate::shared_fault::SharedFault;
 use crate::shown::{Place, enter};
 use ctt_board::{Sheet, Timetable};
 use ctt_core::PlannerNo;
+use ctt_draft::Keeping;
 use ctt_edits::{Look, Reply, laws};
 use ctt_text::NoMemory;
 use std::alloc::{AllocError, Global};
@@ -146,7 +147,7 @@ impl<S: Timetable, J: Naming> Planner<S, J> {
 
 impl<'i, S: Sheet<'i>, J: Naming> Planner<S, J> {
     /// Opens a draft on the timetable that was published last, which the planner has then seen.
-    pub fn open(self) -> Result<Drafting<'i, S, J>, (Self, SharedFault)>
+    pub fn open<K: Keeping>(self) -> Result<Drafting<'i, S, J, K>, (Self, SharedFault)>
         ensures ok { IfOk result (IsOpen J.problem J.opening self) }
         ensures err { IfErr result (λ refused.
             IsUnread J.problem J.opening self refused.0 refused.1) }

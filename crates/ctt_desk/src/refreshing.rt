@@ -15,14 +15,14 @@ use crate::planner::Planner;
 use crate::refusal::RefreshRefusal;
 use crate::shown::{Shown, enter};
 use ctt_board::{Sheet, Timetable};
-use ctt_draft::{Draft, KeepAll};
+use ctt_draft::{Draft, Keeping};
 use ctt_edits::Row;
 use ctt_text::NoMemory;
 
 /// Brings a draft up to date with a published timetable, as `Draft::refresh` does. Where that is
 /// the one on which the draft stands there is nothing to do.
-fn refresh_on<'i, S: Sheet<'i>, J: Naming>(
-    draft: &mut Draft<'i, S, KeepAll>,
+fn refresh_on<'i, S: Sheet<'i>, J: Naming, K: Keeping>(
+    draft: &mut Draft<'i, S, K>,
     front: &Front<J>,
     shown: &Shown<S, J>,
 ) -> Result<Option<Row>, NoMemory>
@@ -40,11 +40,11 @@ fn refresh_on<'i, S: Sheet<'i>, J: Naming>(
     draft.refresh(&shown.sheet)
 }
 
-impl<'i, S: Sheet<'i>, J: Naming> Drafting<'i, S, J> {
+impl<'i, S: Sheet<'i>, J: Naming, K: Keeping> Drafting<'i, S, J, K> {
     /// Brings the draft up to date: where no row that it read has changed since it was opened, or
     /// last refreshed, it goes on from the timetable that was published last, which the planner has
     /// then seen.
-    pub fn refresh(self) -> Result<Self, RefreshRefusal<'i, S, J>>
+    pub fn refresh(self) -> Result<Self, RefreshRefusal<'i, S, J, K>>
         ensures ok { IfOk result (IsRefreshed J.problem J.opening self.entry) }
         ensures err { IfErr result (IsNotRefreshed J.problem J.opening self.entry) }
     {

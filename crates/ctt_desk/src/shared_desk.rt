@@ -17,17 +17,18 @@ use crate::shared_fault::SharedFault;
 use crate::shown::{Common, Publisher, Shown, place, publisher};
 use crate::update::Update;
 use ctt_board::Timetable;
+use ctt_draft::{KeepAll, Keeping};
 use ctt_text::let_go;
 use left_right::Absorb;
 use std::alloc::Global;
 use std::sync::{Mutex, Wait};
 
-/// A timetable on which planners work in threads. It is ended by `close`.
-pub struct SharedDesk<S: Timetable, J: Naming>
+/// A timetable on which planners work in threads, with a journal that is kept or not. It is ended by `close`.
+pub struct SharedDesk<S: Timetable, J: Naming, K: Keeping = KeepAll>
 where
     Shown<S, J>: Absorb<Update<J>, State = Common>,
 {
-    pub(crate) locked: Mutex<Locked<S, J>>,
+    pub(crate) locked: Mutex<Locked<S, J, K>>,
 }
 
 /// The planners with the numbers below this one, in order, each with a place.
@@ -79,7 +80,7 @@ fn fronts_are_legal<S: Timetable, J: Naming>(planners: &[Planner<S, J>])
     }
 }
 
-impl<S: Timetable, J: Naming> SharedDesk<S, J> {
+impl<S: Timetable, J: Naming, K: Keeping> SharedDesk<S, J, K> {
     /// The desk that opens so, with so many planners, who are numbered from 0 and have committed
     /// and seen nothing.
     pub fn new<R: Wait>(
@@ -128,7 +129,7 @@ impl<S: Timetable, J: Naming> SharedDesk<S, J> {
         self,
         rt: &R,
         planners: &mut [Planner<S, J>],
-    ) -> Result<Closed<S, J>, Closed<S, J>>
+    ) -> Result<Closed<S, J, K>, Closed<S, J, K>>
         ensures same { planners.new ≡ planners.old }
         ensures legal { All (λ p. Legal J.problem J.opening p.front) planners.new }
         ensures ok { IfOk result (λ closed. All (λ p. IsPrefix p.front closed) planners.old) }

@@ -1,6 +1,6 @@
 //! A list that grows at its end, and that is kept, or not.
 
-ghost use Rattle.std.specs.Prelude.{◌≡◌, Bool, true, false, [], ◌∷◌, ◌++◌, length, OnOk};
+ghost use Rattle.std.specs.Prelude.{◌≡◌, ◌+◌, ◌<◌, ◌^◌, Bool, true, false, [], ◌∷◌, ◌++◌, length, OnOk};
 
 use crate::ghost_list::{GhostList, Itself, Tells};
 use std::alloc::{AllocError, Global};
@@ -91,6 +91,7 @@ impl<E: Drop, K: Keeping> Log<E, K> {
     pub fn reserve(&mut self, first: usize) -> Result<(), AllocError>
         ensures list { self.new.list ≡ self.old.list }
         ensures room { OnOk result (self.new.has_room ≡ true) }
+        ensures counted { OnOk result (length self.old.list + 1 < 2 ^ 64) }
     {
         if self.len == u64::MAX {
             return Err(AllocError);

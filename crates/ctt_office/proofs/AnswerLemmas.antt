@@ -34,14 +34,14 @@ kept_in i book b IsKept (Ok history) answer some (inl is) = inl (subst (λ o. If
 kept_in i book b IsKept (Ok history) answer some (inr is) = inr is
 kept_in i book b IsKept (Err told) answer some is = is
 
-module _ {X Y : Type 0} (i : Problem) (t0 : List Placed) where
+module _ {X Y Z : Type 0} (i : Problem) (t0 : List Placed) where
   -- the history of a commit's receipt ends with the draft that was open
-  pub ends_with : (before after : Seat X Y) (history : List JournalEntry) (entry : List ℕ) → Commits i t0 before after (Ok history) → entry ≡ open_entry i before → EndsWith i history entry
+  pub ends_with : (before after : Seat X Y Z) (history : List JournalEntry) (entry : List ℕ) → Commits i t0 before after (Ok history) → entry ≡ open_entry i before → EndsWith i history entry
   ends_with (Free p) after history entry done is = absurd done
   ends_with (Drafting d) after history entry done is = (d.planner.front ++ done.1.between, entry_of d.planner.number d.asked, done.1.ends, is)
 
   -- a step that is no commit
-  pub no_commit : (IsKept : List JournalEntry → Type 0) (event : Event) (before after : Seat X Y) (answer : List ℕ) → ((p : ℕ) → event ≡ Commit p → ⊥) → IsCrewAnswer i t0 event before after answer
+  pub no_commit : (IsKept : List JournalEntry → Type 0) (event : Event) (before after : Seat X Y Z) (answer : List ℕ) → ((p : ℕ) → event ≡ Commit p → ⊥) → IsCrewAnswer i t0 event before after answer
       → IsStepAnswer IsKept i t0 event before after answer
   no_commit IsKept (Open p) before after answer other is = is
   no_commit IsKept (Ask p call) before after answer other is = is
@@ -51,18 +51,18 @@ module _ {X Y : Type 0} (i : Problem) (t0 : List Placed) where
   no_commit IsKept (Show look) before after answer other is = is
 
   -- a commit
-  pub a_commit : (IsKept : List JournalEntry → Type 0) (event : Event) (p : ℕ) (before after : Seat X Y) (answer : List ℕ) → event ≡ Commit p → IsCommitAnswer IsKept i t0 before after answer → IsStepAnswer IsKept i t0 event before after answer
+  pub a_commit : (IsKept : List JournalEntry → Type 0) (event : Event) (p : ℕ) (before after : Seat X Y Z) (answer : List ℕ) → event ≡ Commit p → IsCommitAnswer IsKept i t0 before after answer → IsStepAnswer IsKept i t0 event before after answer
   a_commit IsKept event p before after answer same is = subst (λ e. IsStepAnswer IsKept i t0 e before after answer) (sym same) is
 
   -- a commit where no book is kept
-  pub no_book : {B : Type 0} (book : Option B) (IsKept : List JournalEntry → Type 0) (event : Event) (p : ℕ) (before after : Seat X Y) (answer : List ℕ) → book ≡ None → event ≡ Commit p → IsCrewAnswer i t0 event before after answer
+  pub no_book : {B : Type 0} (book : Option B) (IsKept : List JournalEntry → Type 0) (event : Event) (p : ℕ) (before after : Seat X Y Z) (answer : List ℕ) → book ≡ None → event ≡ Commit p → IsCrewAnswer i t0 event before after answer
       → IsStepAnswer (IfBook book IsKept) i t0 event before after answer
   no_book book IsKept event p before after answer none same is =
       let done = subst (λ e. IsCrewAnswer i t0 e before after answer) same is in
       a_commit (IfBook book IsKept) event p before after answer same (inl (done.1.0, done.1.1, unkept i book IsKept done.1.0 done.0 answer none done.1.2 done.2))
 
   -- a commit where one is
-  pub with_book : {B : Type 0} (book : Option B) (b : B) (IsKept : List JournalEntry → Type 0) (event : Event) (p : ℕ) (before after : Seat X Y) (answer : List ℕ) → book ≡ Some b → event ≡ Commit p
+  pub with_book : {B : Type 0} (book : Option B) (b : B) (IsKept : List JournalEntry → Type 0) (event : Event) (p : ℕ) (before after : Seat X Y Z) (answer : List ℕ) → book ≡ Some b → event ≡ Commit p
       → IsCommitAnswer IsKept i t0 before after answer → IsStepAnswer (IfBook book IsKept) i t0 event before after answer
   with_book book b IsKept event p before after answer some same (inl is) = a_commit (IfBook book IsKept) event p before after answer same (inl (is.0, is.1, kept_in i book b IsKept is.0 answer some is.2))
   with_book book b IsKept event p before after answer some same (inr is) = a_commit (IfBook book IsKept) event p before after answer same (inr is)

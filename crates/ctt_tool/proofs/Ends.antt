@@ -1,7 +1,7 @@
 -- How the program ends, by its status.
-use Rattle.std.proofs.Common.{◌≡◌, ◌≢◌, ◌∙◌, ◌⊎◌, sym, inl, inr, true, ⊎_elim, subst, ℕ, Bool, List, [], Option, arith}
+use Rattle.std.proofs.Common.{◌≡◌, ◌≢◌, ◌∙◌, ◌⊎◌, refl, ap, sym, inl, inr, true, ⊎_elim, subst, ℕ, suc, Bool, List, [], Option, arith}
 use Rattle.ctt_words.specs.Jobs.{faults_of}
-use Rattle.ctt_words.specs.declared.job.Job.TheVariants.{Audit, Check, Crew, Desk, Journal as Journals, Listing, Run}
+use Rattle.ctt_words.specs.declared.job.Job.TheVariants.{Audit, Crew, Desk, Journal as Journals, Listing, Run, Show}
 use Rattle.ctt_files.specs.Faults.{MayHaveWritten, status_of}
 use Rattle.ctt_tool.specs.Faults.{KeptUnless, SaysFault}
 use Rattle.ctt_files.specs.Outcomes.{outcome_status}
@@ -10,22 +10,39 @@ use Rattle.ctt_tool.specs.Work.{DoesAsAsked, HasCause, IsOfWords}
 use Rattle.ctt_files.specs.declared.fault.Fault.{Fault}
 use Rattle.ctt_files.specs.declared.fault.Fault.TheVariants.{BadSeats, Barred, CannotRead, CannotWrite, Instance, Journal, MinutesExist, NoCourse, NoCurriculum, NoMemory, NoPlace, NoRoom, NoTeacher, NoThread, Opening, Solution, TooLong, TooManyScripts, Words, WordsNotText}
 use Rattle.ctt_files.specs.declared.outcome.Outcome.{Outcome}
-use Rattle.ctt_files.specs.declared.outcome.Outcome.TheVariants.{Done, Differs}
+use Rattle.ctt_files.specs.declared.outcome.Outcome.TheVariants.{Differs, Done, Incomplete, Unlawful}
 use Rattle.ctt_files.proofs.Causes.{three_is_one}
 use Rattle.ctt_tool.proofs.Known.{says_caused, says_weaker}
 
--- status 0 is that of a job that was done
-pub ends_done : (outcome : Outcome) (status : ℕ) (D : Outcome → Type 0) → status ≡ outcome_status outcome → D outcome → status ≡ 0 → D Done
-ends_done Done status D is does zero = does
-ends_done Differs status D is does zero = absurd (omega (arith, is, zero))
+-- how a job ended is known by the status
+pub same_outcome : (a b : Outcome) → outcome_status a ≡ outcome_status b → a ≡ b
+same_outcome Done Done e = refl
+same_outcome Done Differs e = absurd (omega (arith, e))
+same_outcome Done Unlawful e = absurd (omega (arith, e))
+same_outcome Done Incomplete e = absurd (omega (arith, e))
+same_outcome Differs Done e = absurd (omega (arith, e))
+same_outcome Differs Differs e = refl
+same_outcome Differs Unlawful e = absurd (omega (arith, e))
+same_outcome Differs Incomplete e = absurd (omega (arith, e))
+same_outcome Unlawful Done e = absurd (omega (arith, e))
+same_outcome Unlawful Differs e = absurd (omega (arith, e))
+same_outcome Unlawful Unlawful e = refl
+same_outcome Unlawful Incomplete e = absurd (omega (arith, e))
+same_outcome Incomplete Done e = absurd (omega (arith, e))
+same_outcome Incomplete Differs e = absurd (omega (arith, e))
+same_outcome Incomplete Unlawful e = absurd (omega (arith, e))
+same_outcome Incomplete Incomplete e = refl
 
--- and any other that of an audit that does not agree
-pub ends_differs : (outcome : Outcome) (status : ℕ) (D : Outcome → Type 0) → status ≡ outcome_status outcome → D outcome → status ≢ 0 → D Differs
-ends_differs Done status D is does some = absurd (some is)
-ends_differs Differs status D is does some = does
+-- so a job that ended with a status was done as that says
+pub ends_as : (outcome told : Outcome) (status : ℕ) (D : Outcome → Type 0) → status ≡ outcome_status outcome → D outcome → status ≡ outcome_status told → D told
+ends_as outcome told status D is does ends = subst D (same_outcome outcome told (sym is ∙ ends)) does
 
-pub one_is_some : (status : ℕ) → status ≡ 1 → status ≢ 0
-one_is_some status one zero = omega (arith, one, zero)
+-- and 0 is that of a job that is done and no more
+pub is_other : (outcome : Outcome) (status : ℕ) → status ≡ outcome_status outcome → status ≢ 0 → outcome ≢ Done
+is_other outcome status is some done = some (is ∙ ap outcome_status done)
+
+pub is_some_status : (status n : ℕ) → status ≡ suc n → status ≢ 0
+is_some_status status n is zero = omega (arith, is, zero)
 
 -- the status that is told is that of the fault, unless it is 3
 pub one_is_of_fault : (fault : Fault) (status : ℕ) → (status ≡ status_of fault) ⊎ (status ≡ 3) → status ≡ 1 → status_of fault ≡ 1
@@ -65,16 +82,16 @@ ended_kept (NoTeacher name) status S K is kept = inl kept
 ended_kept (NoCourse name) status S K is kept = inl kept
 ended_kept (NoRoom name) status S K is kept = inl kept
 
--- an audit that does not agree has changed no file
-pub differs_kept : (words : List (List ℕ)) (before after : Held) (old new : Option (List ℕ)) → DoesAsAsked words Differs before after old new → after ≡ before
-differs_kept words before after old new (inl help) = help.2
-differs_kept words before after old new (inr (taken, (Check instance barred solution json, is, does))) = cc
-differs_kept words before after old new (inr (taken, (Run instance barred script start journal, is, does))) = cc
-differs_kept words before after old new (inr (taken, (Audit instance barred journal start, is, does))) = does.0
-differs_kept words before after old new (inr (taken, (Crew instance barred scripts, is, does))) = cc
-differs_kept words before after old new (inr (taken, (Desk instance barred seats start minutes, is, does))) = cc
-differs_kept words before after old new (inr (taken, (Journals instance barred minutes, is, does))) = cc
-differs_kept words before after old new (inr (taken, (Listing instance barred journal start, is, does))) = does.0
+-- a job that ends otherwise than as done has changed no file
+pub other_kept : (words : List (List ℕ)) (outcome : Outcome) (before after : Held) (old new : Option (List ℕ)) → DoesAsAsked words outcome before after old new → outcome ≢ Done → after ≡ before
+other_kept words outcome before after old new (inl help) other = help.2
+other_kept words outcome before after old new (inr (taken, (Show instance barred solution showing, is, does))) other = does.0
+other_kept words outcome before after old new (inr (taken, (Run instance barred script start journal, is, does))) other = absurd (other does.0)
+other_kept words outcome before after old new (inr (taken, (Audit instance barred journal start, is, does))) other = does.0
+other_kept words outcome before after old new (inr (taken, (Crew instance barred scripts, is, does))) other = absurd (other does.0)
+other_kept words outcome before after old new (inr (taken, (Desk instance barred seats start minutes, is, does))) other = absurd (other does.0)
+other_kept words outcome before after old new (inr (taken, (Journals instance barred minutes, is, does))) other = absurd (other does.0)
+other_kept words outcome before after old new (inr (taken, (Listing instance barred journal start, is, does))) other = does.0
 
 -- where a text is refused, nothing was printed
 pub unprinted_one : (fault : Fault) (P : Type 0) → MayHaveWritten fault ⊎ P → status_of fault ≡ 1 → P
@@ -113,11 +130,10 @@ of_no_words held failed M fault status old new is said =
     let memory : IsOfWords held failed NoMemory = inr ([], tt) in
     says_caused M (IsOfWords held failed) fault status old new (⊎_elim (λ same. inl same) (λ same. subst (IsOfWords held failed) (sym same) memory) is) memory said
 
--- an audit that does not agree says nothing on standard error
-pub unsaid_differs : (outcome : Outcome) (status : ℕ) (A S : Type 0) → status ≡ outcome_status outcome → (A × (outcome ≡ Done)) ⊎ S → status ≢ 0 → S
-unsaid_differs Done status A S is quiet some = absurd (some is)
-unsaid_differs Differs status A S is (inl says) some = cc
-unsaid_differs Differs status A S is (inr same) some = same
+-- a job that ends otherwise than as done says nothing on standard error
+pub unsaid_other : (outcome : Outcome) (A S : Type 0) → (A × (outcome ≡ Done)) ⊎ S → outcome ≢ Done → S
+unsaid_other outcome A S (inl says) other = absurd (other says.1)
+unsaid_other outcome A S (inr same) other = same
 
 -- what is said behind a job that said nothing, or could not, is said behind what was there before
 pub said_since : {V : Type 0} (taken : V → Option (List ℕ)) (failed : V → Bool) (C : Fault → Type 0) (status : ℕ) (old mid new : V) → (mid ≡ old) ⊎ (failed mid ≡ true) → (failed mid ≡ true → failed new ≡ true)

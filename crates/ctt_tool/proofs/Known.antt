@@ -1,19 +1,19 @@
 -- What holds where bytes are told.
 use Rattle.std.proofs.Common.{◌≡◌, ◌<◌, ◌⊎◌, ⊎_elim, length, arith, inl, inr, ap, ℕ, Bool, true, List, refl, sym, subst, Option}
 use Rattle.std.specs.Io.KnownBytes.{Appends}
-use Rattle.ctt_words.specs.Jobs.{IsJobOf, IsRefusal, faults_of}
+use Rattle.ctt_words.specs.Jobs.{AreRefused, IsJobOf}
 use Rattle.ctt_words.specs.declared.job.Job.{Job}
-use Rattle.ctt_words.specs.declared.job.Job.TheVariants.{Audit, Check, Crew, Desk, Journal as Journals, Listing, Run}
+use Rattle.ctt_words.specs.declared.job.Job.TheVariants.{Audit, Crew, Desk, Journal as Journals, Listing, Run, Show}
 use Rattle.ctt_files.specs.Faults.{IfUnwritten, IsLineOf, status_of}
 use Rattle.ctt_tool.specs.Faults.{KeptUnless, SaysFault}
 use Rattle.ctt_tool.specs.Jobs.{HasBadSeats, Storing, scripts_of}
-use Rattle.ctt_files.specs.Refusals.{IsOfSolution}
 use Rattle.ctt_tool.specs.Refusals.{IsOfAudited, IsOfMinutes, IsOfScript, IsOfScripts, IsOfSeats}
 use Rattle.ctt_files.specs.Texts.{Held}
 use Rattle.ctt_tool.specs.Work.{AsksForBadSeats, AsksForRefusedText, AsksForTooMany, HasCause, IsOfJob}
 use Rattle.ctt_files.specs.declared.fault.Fault.{Fault}
 use Rattle.ctt_files.specs.declared.fault.Fault.TheVariants.{BadSeats, Barred, CannotRead, CannotWrite, Instance, Journal, MinutesExist, NoCourse, NoCurriculum, NoMemory, NoPlace, NoRoom, NoTeacher, NoThread, Opening, Solution, TooLong, TooManyScripts, Words, WordsNotText}
-use Rattle.ctt_files.proofs.Plain.{IsPlain, behind_plain, solution_file_plain, unwritten_more}
+use Rattle.ctt_files.proofs.Plain.{IsPlain, behind_plain, unwritten_more}
+use Rattle.ctt_reports.proofs.Showings.{showing_plain}
 use Rattle.ctt_tool.proofs.Plain.{audited_plain, minutes_plain, script_plain, scripts_plain, seats_plain}
 
 -- what is said whole, where the mark is not set, is the line of a fault
@@ -44,7 +44,7 @@ abbrev IsSpecial : Job → Fault → Type 0
 IsSpecial job fault = ((fault ≡ TooManyScripts) × (64 < length (scripts_of job))) ⊎ ((fault ≡ BadSeats) × HasBadSeats job)
 
 job_plain : (job : Job) (held : Held) (fault : Fault) → IsOfJob job held fault → IsPlain fault ⊎ IsSpecial job fault
-job_plain (Check instance barred solution json) held fault is = inl (behind_plain (IsOfSolution solution) (solution_file_plain solution) held instance barred fault is)
+job_plain (Show instance barred solution showing) held fault is = inl (showing_plain showing held instance barred solution fault is)
 job_plain (Run instance barred script start journal) held fault is = inl (behind_plain (IsOfScript script start) (script_plain script start) held instance barred fault is)
 job_plain (Audit instance barred journal start) held fault is = inl (behind_plain (IsOfAudited journal start) (audited_plain journal start) held instance barred fault is)
 job_plain (Crew instance barred scripts) held fault (inl many) = inr (inl many)
@@ -94,7 +94,7 @@ one_is_none : {C : Type 0} → ◌≡◌ {A = ℕ} 1 0 → C
 one_is_none e = absurd (omega (arith, e))
 
 -- words are refused for their faults, for too many scripts, or for the seats of a desk
-pub refused_two : (words : List (List ℕ)) (held : Held) (failed : Bool) (fault : Fault) → HasCause words held failed fault → status_of fault ≡ 2 → IsRefusal (faults_of words) ⊎ (AsksForTooMany words ⊎ AsksForBadSeats words)
+pub refused_two : (words : List (List ℕ)) (held : Held) (failed : Bool) (fault : Fault) → HasCause words held failed fault → status_of fault ≡ 2 → AreRefused words ⊎ (AsksForTooMany words ⊎ AsksForBadSeats words)
 refused_two words held failed (Instance number at) has two = absurd (omega (arith, two))
 refused_two words held failed (Solution number at) has two = absurd (omega (arith, two))
 refused_two words held failed (Barred number at) has two = absurd (omega (arith, two))
@@ -104,7 +104,7 @@ refused_two words held failed (CannotRead name) has two = absurd (omega (arith, 
 refused_two words held failed (TooLong name) has two = absurd (omega (arith, two))
 refused_two words held failed CannotWrite has two = absurd (omega (arith, two))
 refused_two words held failed NoMemory has two = absurd (omega (arith, two))
-refused_two words held failed (Words text) has two = inl has
+refused_two words held failed (Words text) has two = inl (⊎_elim inl (λ several. inr several.0) has)
 refused_two words held failed WordsNotText has two = absurd has
 refused_two words held failed TooManyScripts has two = inr (inl (has.0, has.1, many_of has.0 (job_plain has.0 held TooManyScripts has.2)))
   where

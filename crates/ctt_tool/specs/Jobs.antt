@@ -4,7 +4,7 @@ use Rattle.std.specs.Global.{Global}
 use Rattle.std.specs.declared.string.String.{String}
 use Rattle.ctt_tool.specs.Seats.{AreBadSeats}
 use Rattle.ctt_words.specs.declared.job.Job.{Job}
-use Rattle.ctt_words.specs.declared.job.Job.TheVariants.{Audit, Check, Crew, Desk, Journal, Listing, Run}
+use Rattle.ctt_words.specs.declared.job.Job.TheVariants.{Crew, Desk, Journal, Run}
 
 -- a file is given
 abbrev pub IsGiven : Option (String Global) → Type 0
@@ -13,13 +13,8 @@ IsGiven (Some name) = Unit {0}
 
 -- the scripts that a crew is given
 abbrev pub scripts_of : Job → List (String Global)
-scripts_of (Check instance barred solution json) = []
-scripts_of (Run instance barred script start journal) = []
-scripts_of (Audit instance barred journal start) = []
 scripts_of (Crew instance barred scripts) = scripts.items
-scripts_of (Desk instance barred seats start minutes) = []
-scripts_of (Journal instance barred minutes) = []
-scripts_of (Listing instance barred journal start) = []
+scripts_of job = []
 
 -- the seats are refused that a desk is given
 abbrev pub HasBadSeats : Job → Type 0
@@ -28,20 +23,12 @@ HasBadSeats job = ⊥
 
 -- the job stores a file, or writes to files
 abbrev pub Storing : Job → Type 0
-Storing (Check instance barred solution json) = ⊥
 Storing (Run instance barred script start journal) = IsGiven journal
-Storing (Audit instance barred journal start) = ⊥
-Storing (Crew instance barred scripts) = ⊥
 Storing (Desk instance barred seats start minutes) = Unit {0}
-Storing (Journal instance barred minutes) = ⊥
-Storing (Listing instance barred journal start) = ⊥
+Storing job = ⊥
 
 -- the job may say something on standard error where it is done: a desk whose standard output is a seat, and a torn entry of minutes
 abbrev pub Saying : Job → Type 0
-Saying (Check instance barred solution json) = ⊥
-Saying (Run instance barred script start journal) = ⊥
-Saying (Audit instance barred journal start) = ⊥
-Saying (Crew instance barred scripts) = ⊥
 Saying (Desk instance barred seats start minutes) = Unit {0}
 Saying (Journal instance barred minutes) = Unit {0}
-Saying (Listing instance barred journal start) = ⊥
+Saying job = ⊥

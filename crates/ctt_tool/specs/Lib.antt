@@ -2,7 +2,6 @@ pub mod Jobs
 pub mod Faults
 pub mod Texts
 pub mod Refusals
-pub mod Checks
 pub mod Runs
 pub mod Seats
 pub mod Audits

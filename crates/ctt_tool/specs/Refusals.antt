@@ -55,9 +55,6 @@ abbrev pub IsOfScripts : List (String Global) → Held → Problem → Fault →
 IsOfScripts names held problem fault = IsOfFiles names held fault ⊎ IsOfWork fault
 
 -- why each command is refused; a crew also for more than 64 scripts
-abbrev pub IsOfCheck : Held → String Global → Option (String Global) → String Global → Fault → Type 0
-IsOfCheck held instance barred solution = IsOfInstanceOr (IsOfSolution solution) held instance barred
-
 abbrev pub IsOfRun : Held → String Global → Option (String Global) → String Global → Option (String Global) → Fault → Type 0
 IsOfRun held instance barred script start = IsOfInstanceOr (IsOfScript script start) held instance barred
 

@@ -1,17 +1,19 @@
 -- What the program has done where it ends well, and what was the cause where it did not.
 use Rattle.std.specs.Prelude.{◌≡◌, ◌⊎◌, ◌<◌, ℕ, Bool, true, List, [], Option, length}
-use Rattle.ctt_words.specs.Jobs.{IsJobOf, IsRefusal, IsRequest, faults_of}
+use Rattle.ctt_words.specs.Jobs.{IsFaultOf, IsJobOf, IsRequest, faults_of}
+use Rattle.ctt_words.specs.declared.job.WordsFault.TheVariants.{Refused}
 use Rattle.ctt_words.specs.declared.job.Job.{Job}
-use Rattle.ctt_words.specs.declared.job.Job.TheVariants.{Audit, Check, Crew, Desk, Journal, Listing, Run}
+use Rattle.ctt_words.specs.declared.job.Job.TheVariants.{Audit, Crew, Desk, Journal, Listing, Run, Show}
 use Rattle.ctt_tool.specs.Audits.{AuditsJournal}
-use Rattle.ctt_tool.specs.Checks.{PrintsReport}
+use Rattle.ctt_reports.specs.Showings.{IsOfShowing, ShowsSolution}
 use Rattle.ctt_tool.specs.Crews.{PrintsCrew}
 use Rattle.ctt_tool.specs.Desks.{PrintsLast}
 use Rattle.ctt_files.specs.Faults.{status_of}
 use Rattle.ctt_tool.specs.Jobs.{HasBadSeats, Saying, Storing, scripts_of}
 use Rattle.ctt_tool.specs.Lists.{ListsJournal, PrintsJournal}
-use Rattle.ctt_tool.specs.Refusals.{IsOfAudit, IsOfCheck, IsOfCrew, IsOfDesk, IsOfRecovery, IsOfRun}
+use Rattle.ctt_tool.specs.Refusals.{IsOfAudit, IsOfCrew, IsOfDesk, IsOfRecovery, IsOfRun}
 use Rattle.ctt_tool.specs.Runs.{RunsScript}
+use Rattle.ctt_files.specs.Outcomes.{outcome_status}
 use Rattle.ctt_files.specs.Texts.{Held}
 use Rattle.ctt_files.specs.declared.fault.Fault.{Fault}
 use Rattle.ctt_files.specs.declared.fault.Fault.TheVariants.{CannotWrite, NoMemory, Words, WordsNotText}
@@ -20,8 +22,8 @@ use Rattle.ctt_files.specs.declared.outcome.Outcome.TheVariants.{Done}
 
 -- the job is done over these files, where they tell their bytes; its answer is printed, and the program ends as it says
 abbrev pub DoesJob : Job → Outcome → Held → Held → Option (List ℕ) → Option (List ℕ) → Type 0
-DoesJob (Check instance barred solution json) outcome before after old new = (outcome ≡ Done)
-    × (after ≡ before) × PrintsReport json instance barred solution before old new
+DoesJob (Show instance barred solution showing) outcome before after old new = (after ≡ before)
+    × ShowsSolution showing instance barred solution outcome before old new
 DoesJob (Run instance barred script start journal) outcome before after old new = (outcome ≡ Done)
     × RunsScript instance barred script start journal before after old new
 DoesJob (Audit instance barred journal start) outcome before after old new = (after ≡ before)
@@ -40,9 +42,13 @@ abbrev pub DoesAsAsked : List (List ℕ) → Outcome → Held → Held → Optio
 DoesAsAsked words outcome before after old new = (IsRequest (faults_of words) × (outcome ≡ Done) × (after ≡ before))
     ⊎ ((faults_of words ≡ []) × ((job : Job) × IsJobOf words job × DoesJob job outcome before after old new))
 
+-- the words end with this status as what was asked is done
+abbrev pub EndsAsDone : List (List ℕ) → ℕ → Held → Held → Option (List ℕ) → Option (List ℕ) → Type 0
+EndsAsDone words status before after old new = (outcome : Outcome) × (outcome_status outcome ≡ status) × DoesAsAsked words outcome before after old new
+
 -- a fault that the job may meet, over these files, where they tell their bytes; an output that cannot be written aside
 abbrev pub IsOfJob : Job → Held → Fault → Type 0
-IsOfJob (Check instance barred solution json) held fault = IsOfCheck held instance barred solution fault
+IsOfJob (Show instance barred solution showing) held fault = IsOfShowing showing held instance barred solution fault
 IsOfJob (Run instance barred script start journal) held fault = IsOfRun held instance barred script start fault
 IsOfJob (Audit instance barred journal start) held fault = IsOfAudit held instance barred journal start fault
 IsOfJob (Crew instance barred scripts) held fault = IsOfCrew held instance barred scripts.items fault
@@ -78,7 +84,7 @@ AsksToSay words = (job : Job) × IsJobOf words job × Saying job
 abbrev pub HasCause : List (List ℕ) → Held → Bool → Fault → Type 0
 HasCause words held failed CannotWrite = (failed ≡ true) ⊎ AsksToStore words
 HasCause words held failed NoMemory = Unit {0}
-HasCause words held failed (Words text) = IsRefusal (faults_of words)
+HasCause words held failed (Words text) = IsFaultOf words (Refused text)
 HasCause words held failed WordsNotText = ⊥
 HasCause words held failed fault = AsksFor words held fault
 

@@ -2,7 +2,6 @@
 #![tactic(auto)]
 
 mod audit;
-mod check;
 mod crew;
 mod desk;
 mod journal;
@@ -14,9 +13,9 @@ mod run;
 
 ghost use Rattle.std.specs.Prelude.{◌≡◌, ◌≢◌, ◌≤◌, ◌⊎◌, ℕ, List, true, false, IfErr};
 ghost use Rattle.ctt_tool.specs.Faults.{SaysFault};
-ghost use Rattle.ctt_tool.specs.Work.{AsksForRefusedText, AsksToSay, DoesAsAsked, IsOfWords};
+ghost use Rattle.ctt_tool.specs.Work.{AsksForRefusedText, AsksToSay, DoesAsAsked, EndsAsDone, IsOfWords};
 ghost use Rattle.ctt_files.specs.declared.fault.Fault.TheVariants.{NoMemory, WordsNotText};
-ghost use Rattle.ctt_files.specs.declared.outcome.Outcome.TheVariants.{Differs, Done};
+ghost use Rattle.ctt_files.specs.declared.outcome.Outcome.TheVariants.{Differs, Done, Incomplete, Unlawful};
 
 use ctt_devices::{Device, Sink};
 use ctt_files::{Fault, Files, SystemFiles};
@@ -52,7 +51,7 @@ fn serve<R: Env + AllocGlobal + Threads + Wait + Sync, F: Files, O: Office, W: S
     requires out { W.has_failed out.old ≡ false }
     requires err { V.has_failed err.old ≡ false }
 
-    ensures known { result ≤ 3 }
+    ensures known { result ≤ 5 }
     ensures done { result ≡ 0 → (words : List (List ℕ)) × DoesAsAsked words Done
         (F.held files.old) (F.held files.new) (W.taken out.old) (W.taken out.new) }
     ensures unmarked { result ≡ 0 → W.has_failed out.new ≡ false }
@@ -63,9 +62,15 @@ fn serve<R: Env + AllocGlobal + Threads + Wait + Sync, F: Files, O: Office, W: S
         × (out.new ≡ out.old))
         ⊎ (DoesAsAsked words Differs (F.held files.old) (F.held files.new)
         (W.taken out.old) (W.taken out.new) × (err.new ≡ err.old))) }
+    ensures four { result ≡ 4 → (words : List (List ℕ)) × DoesAsAsked words Unlawful
+        (F.held files.old) (F.held files.new) (W.taken out.old) (W.taken out.new)
+        × (err.new ≡ err.old) }
+    ensures five { result ≡ 5 → (words : List (List ℕ)) × DoesAsAsked words Incomplete
+        (F.held files.old) (F.held files.new) (W.taken out.old) (W.taken out.new)
+        × (err.new ≡ err.old) }
     ensures unprinted { result ≡ 2 → out.new ≡ out.old }
     ensures unwritten { W.has_failed out.new ≡ true → result ≡ 3 }
-    ensures said { result ≢ 0 → ((words : List (List ℕ)) × DoesAsAsked words Differs
+    ensures said { result ≢ 0 → ((words : List (List ℕ)) × EndsAsDone words result
         (F.held files.old) (F.held files.new) (W.taken out.old) (W.taken out.new))
         ⊎ ((V.has_failed err.new ≡ true)
         ⊎ SaysFault (IsOfWords (F.held files.old) (W.has_failed out.new)) result

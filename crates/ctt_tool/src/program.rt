@@ -1,16 +1,15 @@
 //! What the program does.
 
 ghost use Rattle.std.specs.Prelude.{◌≡◌, ◌≢◌, ◌≤◌, ◌⊎◌, [], true, false, map, OnOk, OnErr, IfOk, IfErr};
-ghost use Rattle.ctt_words.specs.Jobs.{HasScripts, IsRefusal, faults_of};
+ghost use Rattle.ctt_words.specs.Jobs.{AreRefused, HasScripts, faults_of};
 ghost use Rattle.ctt_files.specs.Faults.{IfUnwritten, MayHaveWritten, status_of};
 ghost use Rattle.ctt_tool.specs.Faults.{KeptUnless, SaysFault};
 ghost use Rattle.ctt_tool.specs.Jobs.{Saying, Storing};
-ghost use Rattle.ctt_tool.specs.Work.{AsksForBadSeats, AsksForRefusedText, AsksForTooMany, AsksToSay, AsksToStore, DoesAsAsked, DoesJob, HasCause, IsOfJob};
+ghost use Rattle.ctt_tool.specs.Work.{AsksForBadSeats, AsksForRefusedText, AsksForTooMany, AsksToSay, AsksToStore, DoesAsAsked, DoesJob, EndsAsDone, HasCause, IsOfJob};
 ghost use Rattle.ctt_files.specs.declared.fault.Fault.TheVariants.{NoMemory};
-ghost use Rattle.ctt_files.specs.declared.outcome.Outcome.TheVariants.{Differs, Done};
+ghost use Rattle.ctt_files.specs.declared.outcome.Outcome.TheVariants.{Differs, Done, Incomplete, Unlawful};
 
 use crate::audit::audit;
-use crate::check::check;
 use crate::crew::crew;
 use crate::desk::desk;
 use crate::journal::journal;
@@ -19,6 +18,7 @@ use crate::office::Office;
 use crate::run::run;
 use ctt_devices::Sink;
 use ctt_files::{Fault, Files, NO_MEMORY, Outcome, complain, print};
+use ctt_reports::show;
 use ctt_words::{Job, WordsFault, read_words};
 use std::alloc::Global;
 use std::marker::Sync;
@@ -51,15 +51,12 @@ fn do_job<R: Threads + Wait + Sync, F: Files, O: Office, W: Sink, V: Sink>(
     ensures unsaid { OnErr result ((err.new ≡ err.old) ⊎ (V.has_failed err.new ≡ true)) }
 {
     match job {
-        Job::Check {
+        Job::Show {
             instance,
             barred,
             solution,
-            json,
-        } => {
-            check(alloc, files, out, instance, barred, solution, json)?;
-            Ok(Outcome::Done)
-        }
+            showing,
+        } => show(alloc, files, out, instance, barred, solution, showing),
         Job::Run {
             instance,
             barred,
@@ -178,7 +175,8 @@ pub fn fail_with<V: Sink>(alloc: Global, fault: &Fault, err: &mut V) -> u8
 /// Does the job that the words ask for, of which the first is the program's name, and answers the
 /// status with which to end: 0 where it was done, 1 where a text is refused or an audit does not agree,
 /// 2 where the words are refused, or ask for too many scripts or seats, and 3 where the machine failed.
-/// Answers go to `out`, and why a job was not done to `err`.
+/// Where a solution was asked to be more than it is, that is 4 where it is not lawful, and 5 where it is
+/// lawful and not complete. Answers go to `out`, and why a job was not done to `err`.
 pub fn program<R: AllocGlobal + Threads + Wait + Sync, F: Files, O: Office, W: Sink, V: Sink>(
     rt: &R,
     words: &[&str],
@@ -190,7 +188,7 @@ pub fn program<R: AllocGlobal + Threads + Wait + Sync, F: Files, O: Office, W: S
     requires out { W.has_failed out.old ≡ false }
     requires err { V.has_failed err.old ≡ false }
 
-    ensures known { result ≤ 3 }
+    ensures known { result ≤ 5 }
     ensures done { result ≡ 0 → DoesAsAsked (map (λ word. word.now) words.now) Done
         (F.held files.old) (F.held files.new) (W.taken out.old) (W.taken out.new) }
     ensures unmarked { result ≡ 0 → W.has_failed out.new ≡ false }
@@ -203,11 +201,17 @@ pub fn program<R: AllocGlobal + Threads + Wait + Sync, F: Files, O: Office, W: S
         ⊎ (DoesAsAsked (map (λ word. word.now) words.now) Differs
         (F.held files.old) (F.held files.new) (W.taken out.old) (W.taken out.new)
         × (err.new ≡ err.old)) }
+    ensures four { result ≡ 4 → DoesAsAsked (map (λ word. word.now) words.now) Unlawful
+        (F.held files.old) (F.held files.new) (W.taken out.old) (W.taken out.new)
+        × (err.new ≡ err.old) }
+    ensures five { result ≡ 5 → DoesAsAsked (map (λ word. word.now) words.now) Incomplete
+        (F.held files.old) (F.held files.new) (W.taken out.old) (W.taken out.new)
+        × (err.new ≡ err.old) }
     ensures taken { result ≡ 1 → faults_of (map (λ word. word.now) words.now) ≡ [] }
-    ensures refused { result ≡ 2 → IsRefusal (faults_of (map (λ word. word.now) words.now))
+    ensures refused { result ≡ 2 → AreRefused (map (λ word. word.now) words.now)
         ⊎ (AsksForTooMany (map (λ word. word.now) words.now)
         ⊎ AsksForBadSeats (map (λ word. word.now) words.now)) }
-    ensures said { result ≢ 0 → DoesAsAsked (map (λ word. word.now) words.now) Differs
+    ensures said { result ≢ 0 → EndsAsDone (map (λ word. word.now) words.now) result
         (F.held files.old) (F.held files.new) (W.taken out.old) (W.taken out.new)
         ⊎ ((V.has_failed err.new ≡ true)
         ⊎ SaysFault

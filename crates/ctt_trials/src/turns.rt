@@ -10,6 +10,7 @@ use ctt_board::{Sheet, Timetable};
 use ctt_core::{Answer, Event};
 use ctt_crew::{Seat, Told};
 use ctt_desk::{Naming, Planner, Receipt, SharedDesk};
+use ctt_draft::KeepAll;
 use ctt_script::{Lines, PLANNERS, read_line};
 use ctt_text::Instance;
 use std::sync::Wait;
@@ -210,7 +211,7 @@ pub(crate) fn instance_of<'i, S: Sheet<'i>, J: Naming>(
 ) -> Option<&'i Instance>
     ensures { IfSome result (λ small. small.now ≡ J.problem) }
 {
-    let drafting = planners.pop()?.open().ok()?;
+    let drafting = planners.pop()?.open::<KeepAll>().ok()?;
     let small = drafting.instance();
     add(planners, drafting.abandon()).ok()?;
     Some(small)

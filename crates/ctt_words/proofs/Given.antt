@@ -1,12 +1,15 @@
--- Files that words give: where one has to be there, all are found, and they are one or more.
-use Rattle.std.proofs.Common.{◌≡◌, ◌≤◌, true, List, [], ◌∷◌, Option, Some, None, IsSome, refl, subst, length, arith, option_map, is_some, string_bytes}
+-- What is found for arguments: where one has to be given, all its texts are found, and they are one or more; an option is given or not.
+use Rattle.std.proofs.Common.{◌≡◌, ◌≤◌, ◌∙◌, ◌+◌, ◌⊎◌, inl, inr, ⊎_elim, ℕ, Bool, Bor, true, false, List, [], ◌∷◌, Option, Some, None, IsSome, refl, sym, ap, subst, length, map, arith, option_map, is_some, string_bytes, codes}
 use Rattle.std.specs.Prelude.{option_and_then, slice_get, find}
+use Rattle.std.specs.Global.{Global}
 use Rattle.std.specs.Str.{bytes_eq}
+use Rattle.std.specs.declared.string.String.{String}
 use Rattle.std.proofs.lemmas.List.{length-map}
-use Rattle.clap.specs.Words.{Row, Text, all_of, first_of}
-use Rattle.ctt_words.specs.Jobs.{HasScripts, IsJobOf}
+use Rattle.clap.specs.Words.{Row, Text, all_of, first_of, subcommand_of}
+use Rattle.ctt_words.specs.CommandLine.{IsOnOrOff, is_on, timedesk}
+use Rattle.ctt_words.specs.Jobs.{HasAll, HasScripts, IsJobIn, IsJobOf, count_given}
 use Rattle.ctt_words.specs.declared.job.Job.{Job}
-use Rattle.ctt_words.specs.declared.job.Job.TheVariants.{Audit, Check, Crew, Desk, Journal, Listing, Run}
+use Rattle.ctt_words.specs.declared.job.Job.TheVariants.{Audit, Check, Crew, Desk, Journal, Listing, Page, Run, Week}
 
 given_here : (o : Option Row) → is_some (option_and_then (λ (r : Row). slice_get r.values 0) o) ≡ true → is_some (option_map (λ (r : Row). r.values) o) ≡ true
 given_here None first = first
@@ -27,15 +30,39 @@ some_here (Some r) texts first all =
     subst (λ (values : List Text). 1 ≤ length values) same (some_first r.values first)
 
 -- and they are one or more
-pub some_are_given : (id : Text) (rows : List Row) (texts : List Text) → IsSome (first_of id rows) → all_of id rows ≡ Some texts → 1 ≤ length texts
-some_are_given id rows texts first all = some_here (find (λ r. bytes_eq r.id id) rows) texts first all
+pub has_all : (id : Text) (rows : List Row) (texts : List (String Global)) → IsSome (first_of id rows) → all_of id rows ≡ Some (map string_bytes texts) → HasAll rows id texts
+has_all id rows texts first all =
+    (all, subst (λ n. 1 ≤ n) (length-map texts string_bytes) (some_here (find (λ r. bytes_eq r.id id) rows) (map string_bytes texts) first all))
+
+-- a flag that is read as `clap` reads it is on where the option is given
+pub flag_is_on : (o : Option Text) (flag : Bool) → IsOnOrOff o → (o ≡ None → flag ≡ false) → (o ≡ Some (codes "true") → flag ≡ true) → (o ≡ Some (codes "false") → flag ≡ false)
+    → flag ≡ is_on o
+flag_is_on None flag is none on off = none refl
+flag_is_on (Some text) flag is none on off =
+    ⊎_elim (λ yes. on (ap Some yes) ∙ sym (ap (λ (t : Text). bytes_eq t (codes "true")) yes)) (λ yes. off (ap Some yes) ∙ sym (ap (λ (t : Text). bytes_eq t (codes "true")) yes)) is
+
+-- one option more is given, or not
+pub count_more : (found : Option (Bor Text)) (o : Option Text) (others left : List (Option Text)) (before after all : ℕ) → option_map (λ s. s.now) found ≡ o → left ≡ o ∷ others
+    → ((is_some found ≡ true) × (after ≡ before + 1)) ⊎ ((is_some found ≡ false) × (after ≡ before)) → before + count_given left ≡ all → after + count_given others ≡ all
+count_more (Some text) (Some given) others left before after all same more (inl (some, counted)) was = omega (arith, counted, was, ap count_given more)
+count_more (Some text) (Some given) others left before after all same more (inr (none, counted)) was = cc
+count_more (Some text) None others left before after all same more counted was = cc
+count_more None (Some given) others left before after all same more counted was = cc
+count_more None None others left before after all same more (inl (some, counted)) was = cc
+count_more None None others left before after all same more (inr (none, counted)) was = omega (arith, counted, was, ap count_given more)
 
 -- a job that words ask for has what a crew needs
 pub job_has_scripts : (words : List Text) (job : Job) → IsJobOf words job → HasScripts job
-job_has_scripts words (Check instance barred solution json) is = tt
-job_has_scripts words (Run instance barred script start journal) is = tt
-job_has_scripts words (Audit instance barred journal start) is = tt
-job_has_scripts words (Crew instance barred scripts) is = subst (λ n. 1 ≤ n) (length-map scripts.items string_bytes) is.2.has_some
-job_has_scripts words (Desk instance barred seats start minutes) is = subst (λ n. 1 ≤ n) (length-map seats.items string_bytes) is.2.has_some
-job_has_scripts words (Journal instance barred minutes) is = tt
-job_has_scripts words (Listing instance barred journal start) is = tt
+job_has_scripts words job is = in_matched (subcommand_of timedesk words) job is
+  where
+    in_matched : (matched : Option (Text × List Row)) (job : Job) → IsJobIn matched job → HasScripts job
+    in_matched None job is = absurd is
+    in_matched (Some (name, rows)) (Check instance barred solution json explain strict) is = tt
+    in_matched (Some (name, rows)) (Week instance barred solution whose) is = tt
+    in_matched (Some (name, rows)) (Page instance barred solution) is = tt
+    in_matched (Some (name, rows)) (Run instance barred script start journal) is = tt
+    in_matched (Some (name, rows)) (Audit instance barred journal start) is = tt
+    in_matched (Some (name, rows)) (Crew instance barred scripts) is = is.3.1
+    in_matched (Some (name, rows)) (Desk instance barred seats start minutes) is = is.3.1
+    in_matched (Some (name, rows)) (Journal instance barred minutes) is = tt
+    in_matched (Some (name, rows)) (Listing instance barred journal start) is = tt

@@ -1,20 +1,32 @@
--- What `clap` says of the program's own words.
-use Rattle.std.proofs.Common.{◌≡◌, ◌⊎◌, inl, inr, refl, subst, true, Result, Ok, Err, OnOk, ⊎_elim}
-use Rattle.clap.specs.Words.{IsAmong, Kinds, is_simple, is_simple_and_free}
+-- What `clap` says of the program's own words, and what the program says of them.
+use Rattle.std.proofs.Common.{◌≡◌, ◌≤◌, ◌<◌, ◌⊎◌, ◌∙◌, inl, inr, refl, subst, sym, ap₂, cond, Bool, true, false, true≢false, option_map, List, [], ◌∷◌, Result, Ok, Err, OnOk, IfOk, IfErr, IsErrAnd, Option, Some, None, arith, ap, ⊎_elim}
+use Rattle.std.specs.Box.{box_value}
+use Rattle.std.specs.Prelude.{Box, find}
+use Rattle.std.specs.Str.{bytes_eq}
+use Rattle.std.proofs.lemmas.Slice.Eq.{bytes_eq-Decides}
+use Rattle.clap.specs.Simple.{subcommand_rows}
+use Rattle.clap.specs.Words.{IsAmong, Kinds, Row, Text, is_simple, is_simple_and_free, subcommand_name_of, subcommand_of, subcommand_rows_of}
 use Rattle.clap.specs.declared.error.kind.ErrorKind.{ErrorKind}
 use Rattle.clap.specs.declared.error.kind.ErrorKind.TheVariants.{OutOfMemory}
+use Rattle.clap.specs.declared.parser.matches.ArgMatches.{ArgMatches}
+use Rattle.clap.specs.declared.parser.matches.ArgMatches.TheViews.{out-ArgMatches, out-SubCommand}
+use Rattle.clap.specs.declared.parser.matches.SubCommand.{SubCommand}
 use Rattle.clap.proofs.OnLiterals.{clap_on_literals}
-use Rattle.ctt_words.specs.CommandLine.{audit, check, crew, desk, journal, list, run, timedesk}
-use Rattle.ctt_words.specs.Jobs.{IsHelp, IsOfKind, IsOfKinds, IsRequest}
+use Rattle.ctt_words.specs.CommandLine.{audit, check, crew, desk, journal, list, page, run, timedesk, week}
+use Rattle.ctt_words.specs.Jobs.{AsksForSeveral, IsFaultOf, IsHelp, IsJobIn, IsMatched, IsNoJobIn, IsOfKind, IsRequest, IsWhole, SaysSeveral, WantsSeveral, choices, choices_of, count_given, faults_of, wanted_by, wanted_of}
+use Rattle.ctt_words.specs.declared.job.Job.{Job}
+use Rattle.ctt_words.specs.declared.job.Job.TheVariants.{Audit, Check, Crew, Desk, Journal, Listing, Page, Run, Week}
+use Rattle.ctt_words.specs.declared.job.Whose.{Whose}
+use Rattle.ctt_words.specs.declared.job.Whose.TheVariants.{Course, Curriculum, Room, Teacher}
 use Rattle.ctt_words.specs.declared.job.WordsFault.{WordsFault}
 use Rattle.ctt_words.specs.declared.job.WordsFault.TheVariants.{Help, NoMemory, Refused}
 
 pub timedesk_simple : is_simple timedesk ≡ true
-unfolding clap_on_literals timedesk check run audit crew desk journal list
+unfolding clap_on_literals timedesk check week page run audit crew desk journal list
 timedesk_simple = refl
 
 pub timedesk_free : is_simple_and_free timedesk ≡ true
-unfolding clap_on_literals timedesk check run audit crew desk journal list
+unfolding clap_on_literals timedesk check week page run audit crew desk journal list
 timedesk_free = refl
 
 no_help : (kind : ErrorKind) → IsHelp kind → kind ≡ OutOfMemory → ⊥
@@ -25,12 +37,112 @@ asked : (kinds : Kinds) (kind : ErrorKind) → IsAmong kind kinds → IsHelp kin
 asked kinds kind among (inl help) = inl (subst (λ k. IsAmong k kinds) help among)
 asked kinds kind among (inr version) = inr (subst (λ k. IsAmong k kinds) version among)
 
--- a fault of a kind is a fault of the kinds that the error may have
-pub of_kinds : (kinds : Kinds) (kind : ErrorKind) (fault : WordsFault) → IsOfKind kind fault → (kind ≡ OutOfMemory) ⊎ IsAmong kind kinds → IsOfKinds kinds fault
-of_kinds kinds kind (Help text) is has = ⊎_elim (λ memory. absurd (no_help kind is memory)) (λ among. asked kinds kind among is) has
-of_kinds kinds kind (Refused text) is has = ⊎_elim (λ memory. absurd (is.2 memory)) (λ among. (kind, among, is.0, is.1)) has
-of_kinds kinds kind NoMemory is has = tt
+-- a fault of a kind is one of the words, of which the error may have the kinds
+pub of_kinds : (words : List Text) (kind : ErrorKind) (fault : WordsFault) → IsOfKind kind fault → (kind ≡ OutOfMemory) ⊎ IsAmong kind (faults_of words) → IsFaultOf words fault
+of_kinds words kind (Help text) is has = ⊎_elim (λ memory. absurd (no_help kind is memory)) (λ among. asked (faults_of words) kind among is) has
+of_kinds words kind (Refused text) is has = ⊎_elim (λ memory. absurd (is.2 memory)) (λ among. inl (kind, among, is.0, is.1)) has
+of_kinds words kind NoMemory is has = tt
+
+-- why matches give no job is a fault of words that `clap` takes
+pub of_matches : (words : List Text) (fault : WordsFault) → faults_of words ≡ [] → IsNoJobIn (subcommand_of timedesk words) fault → IsFaultOf words fault
+of_matches words (Help text) none is = absurd is
+of_matches words (Refused text) none is = inr ((none, is.0), is.1)
+of_matches words NoMemory none is = tt
 
 pub on_ok : {T E : Type 0} (r : Result T E) (P : Type 0) → P → OnOk r P
 on_ok (Ok x) P holds = holds
 on_ok (Err e) P holds = tt
+
+-- ---- the weeks of several
+
+one_chosen : (whose : Option Whose) → count_given (choices_of whose) ≤ 1
+one_chosen None = omega arith
+one_chosen (Some (Curriculum name)) = omega arith
+one_chosen (Some (Teacher name)) = omega arith
+one_chosen (Some (Course name)) = omega arith
+one_chosen (Some (Room name)) = omega arith
+
+no_several : (rows : List Row) (whose : Option Whose) → choices rows ≡ choices_of whose → 1 < count_given (choices rows) → ⊥
+no_several rows whose same several = omega (arith, one_chosen whose, ap count_given same, several)
+
+other_name : (name a b : Text) → bytes_eq a b ≡ false → name ≡ a → name ≡ b → ⊥
+other_name name a b other is_a is_b = true≢false (sym ((bytes_eq-Decides a b).1 (sym is_a ∙ is_b)) ∙ other)
+
+-- a job is that of no such words
+not_several : (matched : Option (Text × List Row)) (job : Job) → IsJobIn matched job → WantsSeveral matched → ⊥
+not_several None job is several = several
+not_several (Some (name, rows)) (Check instance barred solution json explain strict) is several = other_name name _ _ refl is.0 several.0
+not_several (Some (name, rows)) (Week instance barred solution whose) is several = no_several rows whose is.4 several.1
+not_several (Some (name, rows)) (Page instance barred solution) is several = other_name name _ _ refl is.0 several.0
+not_several (Some (name, rows)) (Run instance barred script start stored) is several = other_name name _ _ refl is.0 several.0
+not_several (Some (name, rows)) (Audit instance barred audited start) is several = other_name name _ _ refl is.0 several.0
+not_several (Some (name, rows)) (Crew instance barred scripts) is several = other_name name _ _ refl is.0 several.0
+not_several (Some (name, rows)) (Desk instance barred seats start minutes) is several = other_name name _ _ refl is.0 several.0
+not_several (Some (name, rows)) (Journal instance barred minutes) is several = other_name name _ _ refl is.0 several.0
+not_several (Some (name, rows)) (Listing instance barred audited start) is several = other_name name _ _ refl is.0 several.0
+
+-- so they are refused as such
+pub several_refused : (words : List Text) (r : Result Job WordsFault) → IfOk r (IsJobIn (subcommand_of timedesk words)) → IfErr r (IsNoJobIn (subcommand_of timedesk words))
+    → AsksForSeveral words → IsErrAnd r SaysSeveral
+several_refused words (Ok job) is fault asks = absurd (not_several (subcommand_of timedesk words) job is asks.1)
+several_refused words (Err (Help text)) is fault asks = absurd fault
+several_refused words (Err (Refused text)) is fault asks = fault.1
+several_refused words (Err NoMemory) is fault asks = tt
+
+nothing_among : (kind : ErrorKind) (kinds : Kinds) → kinds ≡ [] → IsAmong kind kinds → ⊥
+nothing_among kind [] none among = among
+nothing_among kind (k ∷ kinds) none among = cc
+
+-- and not by `clap`
+pub several_taken : (words : List Text) (kind : ErrorKind) (fault : WordsFault) → (kind ≡ OutOfMemory) ⊎ IsAmong kind (faults_of words) → IsOfKind kind fault
+    → AsksForSeveral words → SaysSeveral fault
+several_taken words kind NoMemory has is asks = tt
+several_taken words kind (Help text) (inl memory) is asks = no_help kind is memory
+several_taken words kind (Help text) (inr among) is asks = nothing_among kind (faults_of words) asks.0 among
+several_taken words kind (Refused text) (inl memory) is asks = absurd (is.2 memory)
+several_taken words kind (Refused text) (inr among) is asks = absurd (nothing_among kind (faults_of words) asks.0 among)
+
+-- ---- the command that is matched
+
+rows_named : {Z : Type 0} (o : Option (Box SubCommand Z)) → option_map (λ (p : Text × List Row). p.0) (subcommand_rows o) ≡ option_map (λ b. (out-SubCommand (box_value b)).name.now) o
+rows_named None = refl
+rows_named (Some b) = refl
+
+pub name_matched : (m : ArgMatches) (name : Text) → Some name ≡ subcommand_name_of m → Some name ≡ option_map (λ (p : Text × List Row). p.0) (subcommand_rows_of m)
+name_matched m name named = named ∙ sym (rows_named (out-ArgMatches m).subcommand)
+
+-- its name and its matches
+pub matched_by : (name : Text) (rows : List Row) (matched : Option (Text × List Row)) → Some name ≡ option_map (λ (p : Text × List Row). p.0) matched
+    → Some rows ≡ option_map (λ (p : Text × List Row). p.1) matched → matched ≡ Some (name, rows)
+matched_by name rows None named has = cc
+matched_by name rows (Some p) named has =
+    let same : name ≡ p.0 = cc in
+    let all : rows ≡ p.1 = cc in
+    ap₂ (λ (n : Text) (r : List Row). Some (n, r)) (sym same) (sym all)
+
+-- this is the name of none of these
+abbrev pub IsOther : Text → List (Text × Text) → Type 0
+IsOther name [] = Unit {0}
+IsOther name (one ∷ more) = (name ≡ one.0 → ⊥) × IsOther name more
+
+none_first : (t : Bool) (one : Text × Text) (later : Option (Text × Text)) → (t ≡ true → ⊥) → later ≡ None → cond t (Some one) later ≡ None
+none_first true one later other none = absurd (other refl)
+none_first false one later other none = none
+
+none_named : (name : Text) (table : List (Text × Text)) → IsOther name table → find (λ (one : Text × Text). bytes_eq one.0 name) table ≡ None
+none_named name [] other = refl
+none_named name (one ∷ more) other =
+    none_first (bytes_eq one.0 name) one _ (λ same. other.0 (sym ((bytes_eq-Decides one.0 name).0 same))) (none_named name more other.1)
+
+-- there is no other command
+pub no_other : (matched : Option (Text × List Row)) (name : Text) (rows : List Row) → IsMatched matched → Some name ≡ option_map (λ (p : Text × List Row). p.0) matched
+    → Some rows ≡ option_map (λ (p : Text × List Row). p.1) matched → IsOther name wanted_by → ⊥
+no_other matched name rows is named has other =
+    let whole : IsWhole name rows = subst IsMatched (matched_by name rows matched named has) is in
+    let none : wanted_of name ≡ None = ap (option_map (λ (one : Text × Text). one.1)) (none_named name wanted_by other) in
+    let some : wanted_of name ≡ Some whole.wanted = whole.is_known in
+    cc
+
+pub none_matched : (matched : Option (Text × List Row)) → IsMatched matched → None ≡ option_map (λ (p : Text × List Row). p.1) matched → ⊥
+none_matched None is none = is
+none_matched (Some p) is none = cc

@@ -1,5 +1,5 @@
 -- The command line of the program, as far as `clap` reads words by it, and what it finds.
-use Rattle.std.specs.Prelude.{◌≡◌, ◌⊎◌, ℕ, Bool, List, codes, true, false, Option, Some, None}
+use Rattle.std.specs.Prelude.{◌≡◌, ◌⊎◌, ℕ, Bool, List, [], ◌∷◌, codes, true, false, Option, Some, None}
 use Rattle.std.specs.Str.{bytes_eq}
 use Rattle.clap.specs.Lexer.{usize_max}
 use Rattle.clap.specs.Simple.{on_top}
@@ -24,54 +24,74 @@ flag id = record (new_rule id) { long = Some id; action = Some SetTrue }
 abbrev pub valued : List ℕ → Rule
 valued id = record (new_rule id) { long = Some id; value_names = 1 }
 
--- `check INSTANCE SOLUTION [--barred FILE] [--json]`
+-- a command with these arguments more
+abbrev pub with_rules : App → List Rule → App
+with_rules app [] = app
+with_rules app (rule ∷ rules) = with_rules (with_rule app rule) rules
+
+-- the command of this name with these arguments
+abbrev pub command_of : List ℕ → List Rule → App
+command_of name rules = with_rules (new_app name) rules
+
+-- `check INSTANCE SOLUTION [--barred FILE] [--json] [--explain] [--strict]`
 unfoldable pub check : App
-check = with_rule (with_rule (with_rule (with_rule (new_app (codes "check"))
-    (required_word (codes "instance"))) (required_word (codes "solution"))) (valued (codes "barred"))) (flag (codes "json"))
+check = command_of (codes "check") (required_word (codes "instance") ∷ required_word (codes "solution") ∷ valued (codes "barred")
+    ∷ flag (codes "json") ∷ flag (codes "explain") ∷ flag (codes "strict") ∷ [])
+
+-- `week INSTANCE SOLUTION [--barred FILE] [--curriculum NAME] [--teacher NAME] [--course NAME] [--room NAME]`
+unfoldable pub week : App
+week = command_of (codes "week") (required_word (codes "instance") ∷ required_word (codes "solution") ∷ valued (codes "barred")
+    ∷ valued (codes "curriculum") ∷ valued (codes "teacher") ∷ valued (codes "course") ∷ valued (codes "room") ∷ [])
+
+-- `page INSTANCE SOLUTION [--barred FILE]`
+unfoldable pub page : App
+page = command_of (codes "page") (required_word (codes "instance") ∷ required_word (codes "solution") ∷ valued (codes "barred") ∷ [])
 
 -- `run INSTANCE SCRIPT [--barred FILE] [--start SOLUTION] [--journal FILE]`
 unfoldable pub run : App
-run = with_rule (with_rule (with_rule (with_rule (with_rule (new_app (codes "run"))
-    (required_word (codes "instance"))) (required_word (codes "script"))) (valued (codes "barred"))) (valued (codes "start"))) (valued (codes "journal"))
+run = command_of (codes "run") (required_word (codes "instance") ∷ required_word (codes "script") ∷ valued (codes "barred")
+    ∷ valued (codes "start") ∷ valued (codes "journal") ∷ [])
 
 -- `audit INSTANCE JOURNAL [--barred FILE] [--start SOLUTION]`
 unfoldable pub audit : App
-audit = with_rule (with_rule (with_rule (with_rule (new_app (codes "audit"))
-    (required_word (codes "instance"))) (required_word (codes "journal"))) (valued (codes "barred"))) (valued (codes "start"))
+audit = command_of (codes "audit") (required_word (codes "instance") ∷ required_word (codes "journal") ∷ valued (codes "barred")
+    ∷ valued (codes "start") ∷ [])
 
 -- `crew INSTANCE SCRIPT.. [--barred FILE]`
 unfoldable pub crew : App
-crew = with_rule (with_rule (with_rule (new_app (codes "crew"))
-    (required_word (codes "instance"))) (required_words (codes "script"))) (valued (codes "barred"))
+crew = command_of (codes "crew") (required_word (codes "instance") ∷ required_words (codes "script") ∷ valued (codes "barred") ∷ [])
 
 -- `desk INSTANCE SEAT.. [--barred FILE] [--start SOLUTION] [--minutes FILE]`
 unfoldable pub desk : App
-desk = with_rule (with_rule (with_rule (with_rule (with_rule (new_app (codes "desk"))
-    (required_word (codes "instance"))) (required_words (codes "seat"))) (valued (codes "barred"))) (valued (codes "start"))) (valued (codes "minutes"))
+desk = command_of (codes "desk") (required_word (codes "instance") ∷ required_words (codes "seat") ∷ valued (codes "barred")
+    ∷ valued (codes "start") ∷ valued (codes "minutes") ∷ [])
 
 -- `journal INSTANCE MINUTES [--barred FILE]`
 unfoldable pub journal : App
-journal = with_rule (with_rule (with_rule (new_app (codes "journal"))
-    (required_word (codes "instance"))) (required_word (codes "minutes"))) (valued (codes "barred"))
+journal = command_of (codes "journal") (required_word (codes "instance") ∷ required_word (codes "minutes") ∷ valued (codes "barred") ∷ [])
 
 -- `list INSTANCE JOURNAL [--barred FILE] [--start SOLUTION]`
 unfoldable pub list : App
-list = with_rule (with_rule (with_rule (with_rule (new_app (codes "list"))
-    (required_word (codes "instance"))) (required_word (codes "journal"))) (valued (codes "barred"))) (valued (codes "start"))
+list = command_of (codes "list") (required_word (codes "instance") ∷ required_word (codes "journal") ∷ valued (codes "barred")
+    ∷ valued (codes "start") ∷ [])
 
 -- the program alone: it has a version, and a command has to be given
 abbrev pub bare : App
 bare = on_top (λ s. record s { has_version = true; subcommand_required = true }) (new_app (codes "timedesk"))
 
+-- a program with these commands more
+abbrev pub with_commands : App → List App → App
+with_commands app [] = app
+with_commands app (one ∷ more) = with_commands (with_subcommand app one.top) more
+
 -- the program with its commands
 unfoldable pub timedesk : App
-timedesk = with_subcommand (with_subcommand (with_subcommand (with_subcommand (with_subcommand (with_subcommand (with_subcommand bare
-    check.top) run.top) audit.top) crew.top) desk.top) journal.top) list.top
+timedesk = with_commands bare (check ∷ week ∷ page ∷ run ∷ audit ∷ crew ∷ desk ∷ journal ∷ list ∷ [])
 
 -- `clap` reads words by this command as by `app`, and no argument of it holds for other commands
-pub record IsCommand (app : App) (command : Command) : Type 0 where
-  pub reads_by : app_of command ≡ app
-  pub is_local : (out-Command command).has_globals ≡ false
+pub record IsCommand (app : App) (made : Command) : Type 0 where
+  pub reads_by : app_of made ≡ app
+  pub is_local : (out-Command made).has_globals ≡ false
 
 -- what is found for an option that is given or not
 abbrev pub IsOnOrOff : Option Text → Type 0

@@ -1,141 +1,135 @@
 -- Which job the words of a command line ask for, and what is said where they ask for none.
-use Rattle.std.specs.Prelude.{◌≡◌, ◌≢◌, ◌≤◌, ◌⊎◌, Bool, List, Option, Some, IsSome, codes, length, map, option_map}
+use Rattle.std.specs.Prelude.{◌≡◌, ◌≢◌, ◌≤◌, ◌<◌, ◌⊎◌, ℕ, suc, Bool, List, [], ◌∷◌, Option, Some, None, IsSome, codes, find, length, map, option_map}
+use Rattle.std.specs.Global.{Global}
+use Rattle.std.specs.Str.{bytes_eq}
 use Rattle.std.specs.String.{string_bytes}
+use Rattle.std.specs.declared.string.String.{String}
 use Rattle.clap.specs.Words.{IsAmong, Kinds, Row, Text, all_of, fault_of, first_of, one_of, subcommand_of}
 use Rattle.clap.specs.declared.error.kind.ErrorKind.{ErrorKind}
 use Rattle.clap.specs.declared.error.kind.ErrorKind.TheVariants.{DisplayHelp, DisplayVersion, OutOfMemory}
 use Rattle.ctt_words.specs.CommandLine.{IsOnOrOff, is_on, timedesk}
 use Rattle.ctt_words.specs.declared.job.Job.{Job}
-use Rattle.ctt_words.specs.declared.job.Job.TheVariants.{Audit, Check, Crew, Desk, Journal, Listing, Run}
+use Rattle.ctt_words.specs.declared.job.Job.TheVariants.{Audit, Check, Crew, Desk, Journal, Listing, Page, Run, Week}
+use Rattle.ctt_words.specs.declared.job.Whose.{Whose}
+use Rattle.ctt_words.specs.declared.job.Whose.TheVariants.{Course, Curriculum, Room, Teacher}
 use Rattle.ctt_words.specs.declared.job.WordsFault.{WordsFault}
 use Rattle.ctt_words.specs.declared.job.WordsFault.TheVariants.{Help, NoMemory, Refused}
 
--- the matches of `check` have what it needs
-pub record NamesFiles (rows : List Row) : Type 0 where
+-- ---- what the matches of a command have
+
+-- this text is given for the argument of this name
+abbrev pub Has : List Row → Text → String Global → Type 0
+Has rows id text = first_of id rows ≡ Some (string_bytes text)
+
+-- this text is given for the option, or none
+abbrev pub MayHave : List Row → Text → Option (String Global) → Type 0
+MayHave rows id text = first_of id rows ≡ option_map string_bytes text
+
+-- these texts are given, which are one or more
+abbrev pub HasAll : List Row → Text → List (String Global) → Type 0
+HasAll rows id texts = (all_of id rows ≡ Some (map string_bytes texts)) × (1 ≤ length texts)
+
+-- whether the option is given
+abbrev pub IsSet : List Row → Text → Bool → Type 0
+IsSet rows id set = set ≡ is_on (one_of id rows)
+
+-- what is given for each option that says whose week it is
+abbrev pub choices : List Row → List (Option Text)
+choices rows = first_of (codes "curriculum") rows ∷ first_of (codes "teacher") rows ∷ first_of (codes "course") rows ∷ first_of (codes "room") rows ∷ []
+
+-- one of them is given, or none
+abbrev pub choices_of : Option Whose → List (Option Text)
+choices_of None = None ∷ None ∷ None ∷ None ∷ []
+choices_of (Some (Curriculum name)) = Some (string_bytes name) ∷ None ∷ None ∷ None ∷ []
+choices_of (Some (Teacher name)) = None ∷ Some (string_bytes name) ∷ None ∷ None ∷ []
+choices_of (Some (Course name)) = None ∷ None ∷ Some (string_bytes name) ∷ None ∷ []
+choices_of (Some (Room name)) = None ∷ None ∷ None ∷ Some (string_bytes name) ∷ []
+
+-- how many are given
+abbrev pub count_given : List (Option Text) → ℕ
+count_given [] = 0
+count_given (None ∷ others) = count_given others
+count_given (Some text ∷ others) = suc (count_given others)
+
+-- ---- what a command needs
+
+-- the argument that a command of this name wants beside the instance
+abbrev pub wanted_by : List (Text × Text)
+wanted_by = (codes "check", codes "solution") ∷ (codes "week", codes "solution") ∷ (codes "page", codes "solution") ∷ (codes "run", codes "script")
+    ∷ (codes "audit", codes "journal") ∷ (codes "crew", codes "script") ∷ (codes "desk", codes "seat") ∷ (codes "journal", codes "minutes")
+    ∷ (codes "list", codes "journal") ∷ []
+
+abbrev pub wanted_of : Text → Option Text
+wanted_of name = option_map (λ (one : Text × Text). one.1) (find (λ (one : Text × Text). bytes_eq one.0 name) wanted_by)
+
+-- the matches have the instance, and this argument
+pub record HasFiles (id : Text) (rows : List Row) : Type 0 where
   pub instance : IsSome (first_of (codes "instance") rows)
-  pub solution : IsSome (first_of (codes "solution") rows)
+  pub other : IsSome (first_of id rows)
+
+-- the matches of `check` say of each of its options whether it is given
+pub record HasFlags (rows : List Row) : Type 0 where
   pub json : IsOnOrOff (one_of (codes "json") rows)
+  pub explain : IsOnOrOff (one_of (codes "explain") rows)
+  pub strict : IsOnOrOff (one_of (codes "strict") rows)
 
--- the matches of `run` have what it needs
-pub record NamesScript (rows : List Row) : Type 0 where
-  pub instance : IsSome (first_of (codes "instance") rows)
-  pub script : IsSome (first_of (codes "script") rows)
+-- the matches of the command of this name have what it needs
+pub record IsWhole (name : Text) (rows : List Row) : Type 0 where
+  pub wanted : Text
+  pub is_known : wanted_of name ≡ Some wanted
+  pub files : HasFiles wanted rows
+  pub flags : name ≡ codes "check" → HasFlags rows
 
--- the matches of `audit` have what it needs
-pub record NamesJournal (rows : List Row) : Type 0 where
-  pub instance : IsSome (first_of (codes "instance") rows)
-  pub journal : IsSome (first_of (codes "journal") rows)
+-- words are matched by the command of this name, with what it needs
+abbrev pub IsMatched : Option (Text × List Row) → Type 0
+IsMatched None = ⊥
+IsMatched (Some (name, rows)) = IsWhole name rows
 
--- the matches of `crew` have what it needs
-pub record NamesScripts (rows : List Row) : Type 0 where
-  pub instance : IsSome (first_of (codes "instance") rows)
-  pub script : IsSome (first_of (codes "script") rows)
+-- ---- the job
 
--- the matches of `desk` have what it needs
-pub record NamesSeats (rows : List Row) : Type 0 where
-  pub instance : IsSome (first_of (codes "instance") rows)
-  pub seat : IsSome (first_of (codes "seat") rows)
+-- the job is that of the command of this name, with what its matches have
+abbrev pub IsJobBy : Text → List Row → Job → Type 0
+IsJobBy name rows (Check instance barred solution json explain strict) = (name ≡ codes "check")
+    × Has rows (codes "instance") instance × MayHave rows (codes "barred") barred × Has rows (codes "solution") solution
+    × IsSet rows (codes "json") json × IsSet rows (codes "explain") explain × IsSet rows (codes "strict") strict
+IsJobBy name rows (Week instance barred solution whose) = (name ≡ codes "week")
+    × Has rows (codes "instance") instance × MayHave rows (codes "barred") barred × Has rows (codes "solution") solution
+    × (choices rows ≡ choices_of whose)
+IsJobBy name rows (Page instance barred solution) = (name ≡ codes "page")
+    × Has rows (codes "instance") instance × MayHave rows (codes "barred") barred × Has rows (codes "solution") solution
+IsJobBy name rows (Run instance barred script start journal) = (name ≡ codes "run")
+    × Has rows (codes "instance") instance × MayHave rows (codes "barred") barred × Has rows (codes "script") script
+    × MayHave rows (codes "start") start × MayHave rows (codes "journal") journal
+IsJobBy name rows (Audit instance barred journal start) = (name ≡ codes "audit")
+    × Has rows (codes "instance") instance × MayHave rows (codes "barred") barred × Has rows (codes "journal") journal
+    × MayHave rows (codes "start") start
+IsJobBy name rows (Crew instance barred scripts) = (name ≡ codes "crew")
+    × Has rows (codes "instance") instance × MayHave rows (codes "barred") barred × HasAll rows (codes "script") scripts.items
+IsJobBy name rows (Desk instance barred seats start minutes) = (name ≡ codes "desk")
+    × Has rows (codes "instance") instance × MayHave rows (codes "barred") barred × HasAll rows (codes "seat") seats.items
+    × MayHave rows (codes "start") start × MayHave rows (codes "minutes") minutes
+IsJobBy name rows (Journal instance barred minutes) = (name ≡ codes "journal")
+    × Has rows (codes "instance") instance × MayHave rows (codes "barred") barred × Has rows (codes "minutes") minutes
+IsJobBy name rows (Listing instance barred journal start) = (name ≡ codes "list")
+    × Has rows (codes "instance") instance × MayHave rows (codes "barred") barred × Has rows (codes "journal") journal
+    × MayHave rows (codes "start") start
 
--- the matches of `journal` have what it needs
-pub record NamesMinutes (rows : List Row) : Type 0 where
-  pub instance : IsSome (first_of (codes "instance") rows)
-  pub minutes : IsSome (first_of (codes "minutes") rows)
-
--- the matches of `check` have these files and this option
-pub record HasCheck (rows : List Row) (instance : Text) (barred : Option Text) (solution : Text) (json : Bool) : Type 0 where
-  pub has_instance : first_of (codes "instance") rows ≡ Some instance
-  pub has_barred : first_of (codes "barred") rows ≡ barred
-  pub has_solution : first_of (codes "solution") rows ≡ Some solution
-  pub has_json : json ≡ is_on (one_of (codes "json") rows)
-
--- the matches of `run` have these files
-pub record HasRun (rows : List Row) (instance : Text) (barred : Option Text) (script : Text) (start journal : Option Text) : Type 0 where
-  pub has_instance : first_of (codes "instance") rows ≡ Some instance
-  pub has_barred : first_of (codes "barred") rows ≡ barred
-  pub has_script : first_of (codes "script") rows ≡ Some script
-  pub has_start : first_of (codes "start") rows ≡ start
-  pub has_journal : first_of (codes "journal") rows ≡ journal
-
--- the matches of `audit` have these files
-pub record HasAudit (rows : List Row) (instance : Text) (barred : Option Text) (journal : Text) (start : Option Text) : Type 0 where
-  pub has_instance : first_of (codes "instance") rows ≡ Some instance
-  pub has_barred : first_of (codes "barred") rows ≡ barred
-  pub has_journal : first_of (codes "journal") rows ≡ Some journal
-  pub has_start : first_of (codes "start") rows ≡ start
-
--- the matches of `crew` have these files, and at least one script
-pub record HasCrew (rows : List Row) (instance : Text) (barred : Option Text) (scripts : List Text) : Type 0 where
-  pub has_instance : first_of (codes "instance") rows ≡ Some instance
-  pub has_barred : first_of (codes "barred") rows ≡ barred
-  pub has_scripts : all_of (codes "script") rows ≡ Some scripts
-  pub has_some : 1 ≤ length scripts
-
--- the matches of `desk` have these files, and at least one seat
-pub record HasDesk (rows : List Row) (instance : Text) (barred : Option Text) (seats : List Text) (start minutes : Option Text) : Type 0 where
-  pub has_instance : first_of (codes "instance") rows ≡ Some instance
-  pub has_barred : first_of (codes "barred") rows ≡ barred
-  pub has_seats : all_of (codes "seat") rows ≡ Some seats
-  pub has_some : 1 ≤ length seats
-  pub has_start : first_of (codes "start") rows ≡ start
-  pub has_minutes : first_of (codes "minutes") rows ≡ minutes
-
--- the matches of `journal` have these files
-pub record HasJournal (rows : List Row) (instance : Text) (barred : Option Text) (minutes : Text) : Type 0 where
-  pub has_instance : first_of (codes "instance") rows ≡ Some instance
-  pub has_barred : first_of (codes "barred") rows ≡ barred
-  pub has_minutes : first_of (codes "minutes") rows ≡ Some minutes
-
--- the matches of the command with this name have what it needs
-abbrev pub IsWholeAs : Text → (List Row → Type 0) → Option (Text × List Row) → Type 0
-IsWholeAs name Needs matched = (rows : List Row) × (matched ≡ Some (name, rows)) × Needs rows
-
--- the matches of this command have what it needs
-abbrev pub IsWhole : Option (Text × List Row) → Type 0
-IsWhole matched = IsWholeAs (codes "check") NamesFiles matched
-    ⊎ (IsWholeAs (codes "run") NamesScript matched
-    ⊎ (IsWholeAs (codes "audit") NamesJournal matched
-    ⊎ (IsWholeAs (codes "crew") NamesScripts matched
-    ⊎ (IsWholeAs (codes "desk") NamesSeats matched
-    ⊎ (IsWholeAs (codes "journal") NamesMinutes matched
-    ⊎ IsWholeAs (codes "list") NamesJournal matched)))))
-
--- the job is that of this command, with what its matches have
-abbrev pub IsJobBy : Option (Text × List Row) → Job → Type 0
-IsJobBy matched (Check instance barred solution json) = (rows : List Row)
-    × (matched ≡ Some (codes "check", rows))
-    × HasCheck rows (string_bytes instance) (option_map string_bytes barred) (string_bytes solution) json
-IsJobBy matched (Run instance barred script start journal) = (rows : List Row)
-    × (matched ≡ Some (codes "run", rows))
-    × HasRun rows (string_bytes instance) (option_map string_bytes barred) (string_bytes script) (option_map string_bytes start) (option_map string_bytes journal)
-IsJobBy matched (Audit instance barred journal start) = (rows : List Row)
-    × (matched ≡ Some (codes "audit", rows))
-    × HasAudit rows (string_bytes instance) (option_map string_bytes barred) (string_bytes journal) (option_map string_bytes start)
-IsJobBy matched (Crew instance barred scripts) = (rows : List Row)
-    × (matched ≡ Some (codes "crew", rows))
-    × HasCrew rows (string_bytes instance) (option_map string_bytes barred) (map string_bytes scripts.items)
-IsJobBy matched (Desk instance barred seats start minutes) = (rows : List Row)
-    × (matched ≡ Some (codes "desk", rows))
-    × HasDesk rows (string_bytes instance) (option_map string_bytes barred) (map string_bytes seats.items) (option_map string_bytes start) (option_map string_bytes minutes)
-IsJobBy matched (Journal instance barred minutes) = (rows : List Row)
-    × (matched ≡ Some (codes "journal", rows))
-    × HasJournal rows (string_bytes instance) (option_map string_bytes barred) (string_bytes minutes)
-IsJobBy matched (Listing instance barred journal start) = (rows : List Row)
-    × (matched ≡ Some (codes "list", rows))
-    × HasAudit rows (string_bytes instance) (option_map string_bytes barred) (string_bytes journal) (option_map string_bytes start)
+-- the job is that of the command that was matched
+abbrev pub IsJobIn : Option (Text × List Row) → Job → Type 0
+IsJobIn None job = ⊥
+IsJobIn (Some (name, rows)) job = IsJobBy name rows job
 
 -- the job is that of the command that `clap` finds in the words, with what its matches have
 abbrev pub IsJobOf : List Text → Job → Type 0
-IsJobOf words = IsJobBy (subcommand_of timedesk words)
+IsJobOf words job = IsJobIn (subcommand_of timedesk words) job
 
 -- a crew is given at least one, and a desk at least one seat
 abbrev pub HasScripts : Job → Type 0
-HasScripts (Check instance barred solution json) = Unit {0}
-HasScripts (Run instance barred script start journal) = Unit {0}
-HasScripts (Audit instance barred journal start) = Unit {0}
 HasScripts (Crew instance barred scripts) = 1 ≤ length scripts.items
 HasScripts (Desk instance barred seats start minutes) = 1 ≤ length seats.items
-HasScripts (Journal instance barred minutes) = Unit {0}
-HasScripts (Listing instance barred journal start) = Unit {0}
+HasScripts job = Unit {0}
+
+-- ---- words that ask for no job
 
 -- the kinds of fault that `clap` may find in the words; none where it takes them
 abbrev pub faults_of : List Text → Kinds
@@ -159,8 +153,37 @@ IsRequest kinds = IsAmong DisplayHelp kinds ⊎ IsAmong DisplayVersion kinds
 abbrev pub IsRefusal : Kinds → Type 0
 IsRefusal kinds = (kind : ErrorKind) × IsAmong kind kinds × (kind ≢ DisplayHelp) × (kind ≢ DisplayVersion)
 
--- a fault of one of these kinds: help where it is asked for, and else a refusal
-abbrev pub IsOfKinds : Kinds → WordsFault → Type 0
-IsOfKinds kinds (Help text) = IsRequest kinds
-IsOfKinds kinds (Refused text) = IsRefusal kinds
-IsOfKinds kinds NoMemory = Unit {0}
+-- the matches are those of a week of which more is given than whose it is
+abbrev pub WantsSeveral : Option (Text × List Row) → Type 0
+WantsSeveral None = ⊥
+WantsSeveral (Some (name, rows)) = (name ≡ codes "week") × (1 < count_given (choices rows))
+
+-- `clap` takes the words, and they ask for the weeks of several at once
+abbrev pub AsksForSeveral : List Text → Type 0
+AsksForSeveral words = (faults_of words ≡ []) × WantsSeveral (subcommand_of timedesk words)
+
+-- what is said of such words
+abbrev pub several_said : Text
+several_said = codes "timedesk: at most one of --curriculum, --teacher, --course, --room\n"
+
+-- this is said, or memory is wanted
+abbrev pub SaysSeveral : WordsFault → Type 0
+SaysSeveral (Help text) = ⊥
+SaysSeveral (Refused text) = string_bytes text ≡ several_said
+SaysSeveral NoMemory = Unit {0}
+
+-- words with these matches ask for no job, since they want several, or memory is wanted
+abbrev pub IsNoJobIn : Option (Text × List Row) → WordsFault → Type 0
+IsNoJobIn matched (Help text) = ⊥
+IsNoJobIn matched (Refused text) = WantsSeveral matched × (string_bytes text ≡ several_said)
+IsNoJobIn matched NoMemory = Unit {0}
+
+-- the words are refused: `clap` finds a fault that is no help, or they ask for the weeks of several at once
+abbrev pub AreRefused : List Text → Type 0
+AreRefused words = IsRefusal (faults_of words) ⊎ AsksForSeveral words
+
+-- a fault of these words: help where it is asked for, and else a refusal
+abbrev pub IsFaultOf : List Text → WordsFault → Type 0
+IsFaultOf words (Help text) = IsRequest (faults_of words)
+IsFaultOf words (Refused text) = IsRefusal (faults_of words) ⊎ (AsksForSeveral words × (string_bytes text ≡ several_said))
+IsFaultOf words NoMemory = Unit {0}

@@ -9,8 +9,8 @@ returns g c = IfOk-weaker c.crew_report.result _ _ (λ text is. record {
   answers = map string_bytes c.args.answers.items;
   each = length-map c.args.answers.items string_bytes;
   history = c.args.closed.now;
-  legal = c.journal-entries.ensures.legal;
+  legal = c.accepted-entries.ensures.legal;
   is = is
-      ∙ ap (λ n. crew_text (map string_bytes c.args.answers.items) n c.cost-cost.result) (ap length c.journal-entries.ensures.journal)
+      ∙ ap (λ n. crew_text (map string_bytes c.args.answers.items) n c.cost-cost.result) c.accepted-entries.ensures.accepted
       ∙ ap (crew_text (map string_bytes c.args.answers.items) (length c.args.closed.now)) c.cost-cost.ensures;
 }) c.crew_report.ensures

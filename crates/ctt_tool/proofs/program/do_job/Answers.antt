@@ -6,14 +6,10 @@ use Rattle.ctt_tool.specs.Work.{IsOfJob}
 use Rattle.ctt_files.proofs.Plain.{passed_on, unwritten_more}
 use Rattle.ctt_tool.proofs.program.do_job.Goals as goal
 
-pub returns-in_err-check-in-Check-clause-cause : goal.returns-in_err-check-in-Check-clause-cause
-returns-in_err-check-in-Check-clause-cause g c =
+pub returns-in-Show-clause-cause : goal.returns-in-Show-clause-cause
+returns-in-Show-clause-cause g c =
     let held = g.F.Files.held c.args.files.now in
-    let fault = c.in_err-check-in-Check.field-0.0 in
-    let before = g.W.Sink.has_failed c.args.out.now in
-    let after = g.W.Sink.has_failed c.check.new.out in
-    passed_on c.from_residual.result fault (λ told. IfUnwritten told ((after ≡ true) ⊎ Storing c.args.job) (IsOfJob c.args.job held told × (after ≡ before))) c.from_residual.ensures.1
-    (unwritten_more fault _ _ _ _ inl (λ why. (subst (λ job. IsOfJob job held fault) (sym c.in-Check.is) why.0, ap g.W.Sink.has_failed why.1)) c.in_err-check-in-Check.ensures.cause)
+    IfErr-weaker c.show.result _ _ (λ fault is. unwritten_more fault _ _ _ _ inl (λ why. (subst (λ job. IsOfJob job held fault) (sym c.in-Show.is) why.0, why.1)) is) c.show.ensures.cause
 
 pub returns-in_err-crew-in-Crew-clause-cause : goal.returns-in_err-crew-in-Crew-clause-cause
 returns-in_err-crew-in-Crew-clause-cause g c =

@@ -1,6 +1,7 @@
 use Rattle.std.proofs.Common.{◌≡◌, [], ◌∷◌, ◌++◌, sym, ◌∙◌, ap, length}
 use Rattle.ctt_draft.specs.Drafts.{calls_of, replies_in, replies}
 use Rattle.ctt_core.specs.Runs.{after}
+use Rattle.ctt_desk.specs.Histories.{entry_of}
 use Rattle.ctt_desk.proofs.AddingLemmas.{added, one_longer, adds_moves}
 use Rattle.ctt_desk.proofs.front.Front.extend.Goals as goal
 
@@ -15,7 +16,7 @@ compare_exchange-found-requires g c =
       same,
       pen.0 ∙ same,
       offer.0,
-      rw (ap (λ w. w.key) h, pen.1, offer.1, offer.3) (adds_moves c.again-seen.result.log c.args.entry.now c.self.inside.drafts (ap (λ s. length s.log) a ∙ sym c.self.invariant.0)),
+      rw (ap (λ w. w.key) h, pen.1, offer.1, offer.3) (adds_moves c.again-seen.result.log (entry_of c.args.planner c.args.asked.now.list) c.self.inside.drafts (ap (λ s. length s.log) a ∙ sym c.self.invariant.0)),
     )
 
 pub invariant_of-self : goal.invariant_of-self
@@ -24,7 +25,7 @@ invariant_of-self g c =
     let a = c.again-seen.ensures in
     let i = c.self.invariant in
     let log = c.self.inside.seen.log in
-    let e = c.args.entry.now in
+    let e = entry_of c.args.planner c.args.asked.now.list in
     let w = c.compare_exchange-found.new.seen.log in
     let more : w ≡ c.again-seen.result.log ++ c.plain-offer.result.ask ∷ [] = added _ _ _ _ _ c.if-found-drafts.false h.7 in
     let is : w ≡ log ++ e ∷ [] = more ∙ (λ k. (a k).log ++ c.plain-offer.ensures.1 k ∷ []) in

@@ -1,0 +1,70 @@
+//! What `clap` found for the arguments of a command.
+
+ghost use Rattle.std.specs.Prelude.{◌≡◌, map, IfOk, IsSome};
+ghost use Rattle.clap.specs.Words.{first_of, found_of, one_of, rows_of};
+ghost use Rattle.ctt_words.specs.CommandLine.{IsOnOrOff};
+ghost use Rattle.ctt_words.specs.Jobs.{Has, HasAll, IsSet, MayHave, count_given};
+
+use clap::ArgMatches;
+use std::alloc::{AllocError, Global};
+
+/// The text of an argument that is given.
+pub(crate) fn text(alloc: Global, given: &ArgMatches<'_>, id: &str) -> Result<String, AllocError>
+    requires { IsSome (first_of id.now (rows_of (found_of given.now))) }
+    ensures { IfOk result (λ text. Has (rows_of (found_of given.now)) id.now text) }
+{
+    String::from_str(alloc, given.get_str(id).unwrap())
+}
+
+/// The text of an option, if it is given.
+pub(crate) fn option(
+    alloc: Global,
+    given: &ArgMatches<'_>,
+    id: &str,
+) -> Result<Option<String>, AllocError>
+    ensures { IfOk result (λ text. MayHave (rows_of (found_of given.now)) id.now text) }
+{
+    match given.get_str(id) {
+        Some(text) => Ok(Some(String::from_str(alloc, text)?)),
+        None => Ok(None),
+    }
+}
+
+/// The texts of an argument that is given.
+pub(crate) fn texts(
+    alloc: Global,
+    given: &ArgMatches<'_>,
+    id: &str,
+) -> Result<Vec<String>, AllocError>
+    requires { IsSome (first_of id.now (rows_of (found_of given.now))) }
+    ensures { IfOk result (λ texts. HasAll (rows_of (found_of given.now)) id.now texts.items) }
+{
+    let found = given.get_strs(id).unwrap();
+    let mut owned = Vec::with_capacity(alloc, found.len())?;
+    for text in found {
+        owned.push(String::from_str(alloc, text)?)?;
+    }
+    Ok(owned)
+}
+
+/// Whether an option is given that has no value.
+pub(crate) fn is_set(given: &ArgMatches<'_>, id: &str) -> bool
+    requires { IsOnOrOff (one_of id.now (rows_of (found_of given.now))) }
+    ensures { IsSet (rows_of (found_of given.now)) id.now result }
+{
+    given.get_flag(id)
+}
+
+/// How many of these options are given.
+pub(crate) fn count(given: &ArgMatches<'_>, ids: &[&str]) -> usize
+    ensures { result
+        ≡ count_given (map (λ id. first_of id.now (rows_of (found_of given.now))) ids.now) }
+{
+    let mut count = 0;
+    for id in ids {
+        if given.get_str(id).is_some() {
+            count += 1;
+        }
+    }
+    count
+}

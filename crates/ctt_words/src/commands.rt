@@ -1,0 +1,176 @@
+//! The commands of the program.
+
+ghost use Rattle.std.specs.Prelude.{IfOk};
+ghost use Rattle.ctt_words.specs.CommandLine.{IsCommand, timedesk};
+
+use crate::outline::{Argument, Outline, with_commands};
+use clap::Command;
+use std::alloc::{AllocError, Global};
+
+const INSTANCE: Argument = Argument::Word("instance", "INSTANCE", "The file of the instance");
+
+const BARRED: Argument = Argument::Valued(
+    "barred",
+    "FILE",
+    "The file of the rooms that are barred for courses; without it none is",
+);
+
+const SOLUTION: Argument = Argument::Word("solution", "SOLUTION", "The file of the solution");
+
+const JOURNAL: Argument = Argument::Word("journal", "JOURNAL", "The file of the accepted drafts");
+
+const START: Argument = Argument::Valued(
+    "start",
+    "SOLUTION",
+    "The file of the opening timetable; without it the desk opens empty",
+);
+
+const COMMANDS: &[Outline] = &[
+    Outline {
+        name: "check",
+        about: "Report what a solution breaks and what it costs",
+        example: "Example: timedesk check comp07.ctt comp07.sol --explain",
+        arguments: &[
+            INSTANCE,
+            SOLUTION,
+            BARRED,
+            Argument::Flag("json", "Print the report as JSON"),
+            Argument::Flag(
+                "explain",
+                "Print behind the report each thing that breaks a rule or costs points",
+            ),
+            Argument::Flag(
+                "strict",
+                "End with status 4 where the solution is not lawful, 5 where it is lawful and not complete",
+            ),
+        ],
+    },
+    Outline {
+        name: "week",
+        about: "Print the week as a table, with a column for each day and a line for each period",
+        example: "Example: timedesk week comp07.ctt comp07.sol --teacher t067",
+        arguments: &[
+            INSTANCE,
+            SOLUTION,
+            BARRED,
+            Argument::Valued("curriculum", "NAME", "The week of this curriculum alone"),
+            Argument::Valued("teacher", "NAME", "The week of this teacher alone"),
+            Argument::Valued(
+                "course",
+                "NAME",
+                "The week of this course alone, with the slots in which it is unavailable",
+            ),
+            Argument::Valued("room", "NAME", "The week of this room alone"),
+        ],
+    },
+    Outline {
+        name: "page",
+        about: "Print a page for a browser with the report, all that is found, and the weeks",
+        example: "Example: timedesk page comp07.ctt comp07.sol >comp07.html",
+        arguments: &[INSTANCE, SOLUTION, BARRED],
+    },
+    Outline {
+        name: "run",
+        about: "Run a script of planners' steps and print the answers",
+        example: "Example: timedesk run comp07.ctt planners.txt --start comp07.sol --journal monday.journal",
+        arguments: &[
+            INSTANCE,
+            Argument::Word("script", "SCRIPT", "The file of the planners' steps"),
+            BARRED,
+            START,
+            Argument::Valued(
+                "journal",
+                "FILE",
+                "The file to write with the drafts that were accepted",
+            ),
+        ],
+    },
+    Outline {
+        name: "audit",
+        about: "Say whether a journal was told what its drafts are told, run one after another",
+        example: "Example: timedesk audit comp07.ctt monday.journal --start comp07.sol",
+        arguments: &[INSTANCE, JOURNAL, BARRED, START],
+    },
+    Outline {
+        name: "crew",
+        about: "Run scripts at once, each by a planner on a thread, and print the answers",
+        example: "Example: timedesk crew comp07.ctt anna.txt ben.txt",
+        arguments: &[
+            INSTANCE,
+            Argument::Words(
+                "script",
+                "SCRIPT",
+                "The files of the planners' steps, one for each planner, at most 64",
+            ),
+            BARRED,
+        ],
+    },
+    Outline {
+        name: "desk",
+        about: "Keep a desk for planners at their terminals",
+        example: "Example: timedesk desk comp07.ctt - --start comp07.sol",
+        arguments: &[
+            INSTANCE,
+            Argument::Words(
+                "seat",
+                "SEAT",
+                "The seats of the planners, at most 64: lines come from SEAT.in, and answers go to SEAT.out",
+            ),
+            BARRED,
+            START,
+            Argument::Valued(
+                "minutes",
+                "FILE",
+                "The file to write with each accepted draft before its planner is told",
+            ),
+        ],
+    },
+    Outline {
+        name: "journal",
+        about: "Print the journal of the minutes of a desk",
+        example: "Example: timedesk journal comp07.ctt monday.minutes >monday.journal",
+        arguments: &[
+            INSTANCE,
+            Argument::Word("minutes", "MINUTES", "The file of the minutes"),
+            BARRED,
+        ],
+    },
+    Outline {
+        name: "list",
+        about: "Print the timetable after a journal as a solution",
+        example: "Example: timedesk list comp07.ctt monday.journal --start comp07.sol >tuesday.sol",
+        arguments: &[INSTANCE, JOURNAL, BARRED, START],
+    },
+];
+
+/// What stands below the help.
+const EXAMPLES: &str = "\
+Examples:
+  timedesk check comp07.ctt comp07.sol --explain
+  timedesk week comp07.ctt comp07.sol --teacher t067
+  timedesk page comp07.ctt comp07.sol >comp07.html
+  timedesk run comp07.ctt planners.txt --start comp07.sol --journal monday.journal
+  timedesk audit comp07.ctt monday.journal --start comp07.sol
+  timedesk crew comp07.ctt anna.txt ben.txt
+  timedesk desk comp07.ctt - --start comp07.sol
+  timedesk journal comp07.ctt monday.minutes >monday.journal
+  timedesk list comp07.ctt monday.journal --start comp07.sol >tuesday.sol
+
+Status: 0 where it is done, also where a report says that a solution is unlawful;
+1 where the content of a file is refused, or an audit does not agree; 2 where the words are refused;
+3 where a file cannot be read, is too long, minutes exist, or output or memory fails; with --strict
+4 where the solution is not lawful, and 5 where it is lawful and not complete.
+A refused file is one line, as in 'timedesk: instance I2 14': docs/FORMATS.md has
+each fault by its number, and how to see the word that it names.";
+
+/// The command line of the program.
+pub(crate) fn command_line<'a>(alloc: Global) -> Result<Command<'a>, AllocError>
+    ensures { IfOk result (IsCommand timedesk) }
+{
+    let alone = Command::new(alloc, "timedesk")
+        .about("A shared desk for curriculum-based course timetabling")
+        .version("0.1.0")
+        .after_help(EXAMPLES)
+        .subcommand_required(true);
+    with_commands(alloc, alone, COMMANDS)
+}

@@ -1,0 +1,150 @@
+//! The job of each command, by the matches that `clap` found for it.
+
+ghost use Rattle.std.specs.Prelude.{◌≡◌, ◌≤◌, codes, IfOk};
+ghost use Rattle.clap.specs.Words.{found_of, rows_of};
+ghost use Rattle.ctt_words.specs.Jobs.{HasFiles, HasFlags, IsJobBy, choices, choices_of, count_given};
+
+use crate::arguments::{is_set, option, text, texts};
+use crate::job::{Job, Whose};
+use clap::ArgMatches;
+use std::alloc::{AllocError, Global};
+
+/// The job of the command `check`, by its matches.
+pub(crate) fn check_job(alloc: Global, given: &ArgMatches<'_>) -> Result<Job, AllocError>
+    requires files { HasFiles (codes "solution") (rows_of (found_of given.now)) }
+    requires flags { HasFlags (rows_of (found_of given.now)) }
+    ensures { IfOk result (IsJobBy (codes "check") (rows_of (found_of given.now))) }
+{
+    Ok(Job::Check {
+        instance: text(alloc, given, "instance")?,
+        barred: option(alloc, given, "barred")?,
+        solution: text(alloc, given, "solution")?,
+        json: is_set(given, "json"),
+        explain: is_set(given, "explain"),
+        strict: is_set(given, "strict"),
+    })
+}
+
+/// Whose week is asked for, by at most one of four options.
+fn whose(alloc: Global, given: &ArgMatches<'_>) -> Result<Option<Whose>, AllocError>
+    requires { count_given (choices (rows_of (found_of given.now))) ≤ 1 }
+    ensures { IfOk result (λ whose. choices (rows_of (found_of given.now)) ≡ choices_of whose) }
+{
+    if let Some(name) = option(alloc, given, "curriculum")? {
+        return Ok(Some(Whose::Curriculum(name)));
+    }
+    if let Some(name) = option(alloc, given, "teacher")? {
+        return Ok(Some(Whose::Teacher(name)));
+    }
+    if let Some(name) = option(alloc, given, "course")? {
+        return Ok(Some(Whose::Course(name)));
+    }
+    match option(alloc, given, "room")? {
+        Some(name) => Ok(Some(Whose::Room(name))),
+        None => Ok(None),
+    }
+}
+
+/// The job of the command `week`, by its matches.
+pub(crate) fn week_job(alloc: Global, given: &ArgMatches<'_>) -> Result<Job, AllocError>
+    requires files { HasFiles (codes "solution") (rows_of (found_of given.now)) }
+    requires one { count_given (choices (rows_of (found_of given.now))) ≤ 1 }
+    ensures { IfOk result (IsJobBy (codes "week") (rows_of (found_of given.now))) }
+{
+    Ok(Job::Week {
+        instance: text(alloc, given, "instance")?,
+        barred: option(alloc, given, "barred")?,
+        solution: text(alloc, given, "solution")?,
+        whose: whose(alloc, given)?,
+    })
+}
+
+/// The job of the command `page`, by its matches.
+pub(crate) fn page_job(alloc: Global, given: &ArgMatches<'_>) -> Result<Job, AllocError>
+    requires { HasFiles (codes "solution") (rows_of (found_of given.now)) }
+    ensures { IfOk result (IsJobBy (codes "page") (rows_of (found_of given.now))) }
+{
+    Ok(Job::Page {
+        instance: text(alloc, given, "instance")?,
+        barred: option(alloc, given, "barred")?,
+        solution: text(alloc, given, "solution")?,
+    })
+}
+
+/// The job of the command `run`, by its matches.
+pub(crate) fn run_job(alloc: Global, given: &ArgMatches<'_>) -> Result<Job, AllocError>
+    requires { HasFiles (codes "script") (rows_of (found_of given.now)) }
+    ensures { IfOk result (IsJobBy (codes "run") (rows_of (found_of given.now))) }
+{
+    Ok(Job::Run {
+        instance: text(alloc, given, "instance")?,
+        barred: option(alloc, given, "barred")?,
+        script: text(alloc, given, "script")?,
+        start: option(alloc, given, "start")?,
+        journal: option(alloc, given, "journal")?,
+    })
+}
+
+/// The job of the command `audit`, by its matches.
+pub(crate) fn audit_job(alloc: Global, given: &ArgMatches<'_>) -> Result<Job, AllocError>
+    requires { HasFiles (codes "journal") (rows_of (found_of given.now)) }
+    ensures { IfOk result (IsJobBy (codes "audit") (rows_of (found_of given.now))) }
+{
+    Ok(Job::Audit {
+        instance: text(alloc, given, "instance")?,
+        barred: option(alloc, given, "barred")?,
+        journal: text(alloc, given, "journal")?,
+        start: option(alloc, given, "start")?,
+    })
+}
+
+/// The job of the command `crew`, by its matches.
+pub(crate) fn crew_job(alloc: Global, given: &ArgMatches<'_>) -> Result<Job, AllocError>
+    requires { HasFiles (codes "script") (rows_of (found_of given.now)) }
+    ensures { IfOk result (IsJobBy (codes "crew") (rows_of (found_of given.now))) }
+{
+    Ok(Job::Crew {
+        instance: text(alloc, given, "instance")?,
+        barred: option(alloc, given, "barred")?,
+        scripts: texts(alloc, given, "script")?,
+    })
+}
+
+/// The job of the command `desk`, by its matches.
+pub(crate) fn desk_job(alloc: Global, given: &ArgMatches<'_>) -> Result<Job, AllocError>
+    requires { HasFiles (codes "seat") (rows_of (found_of given.now)) }
+    ensures { IfOk result (IsJobBy (codes "desk") (rows_of (found_of given.now))) }
+{
+    Ok(Job::Desk {
+        instance: text(alloc, given, "instance")?,
+        barred: option(alloc, given, "barred")?,
+        seats: texts(alloc, given, "seat")?,
+        start: option(alloc, given, "start")?,
+        minutes: option(alloc, given, "minutes")?,
+    })
+}
+
+/// The job of the command `journal`, by its matches.
+pub(crate) fn journal_job(alloc: Global, given: &ArgMatches<'_>) -> Result<Job, AllocError>
+    requires { HasFiles (codes "minutes") (rows_of (found_of given.now)) }
+    ensures { IfOk result (IsJobBy (codes "journal") (rows_of (found_of given.now))) }
+{
+    Ok(Job::Journal {
+        instance: text(alloc, given, "instance")?,
+        barred: option(alloc, given, "barred")?,
+        minutes: text(alloc, given, "minutes")?,
+    })
+}
+
+/// The job of the command `list`, by its matches.
+pub(crate) fn list_job(alloc: Global, given: &ArgMatches<'_>) -> Result<Job, AllocError>
+    requires { HasFiles (codes "journal") (rows_of (found_of given.now)) }
+    ensures { IfOk result (IsJobBy (codes "list") (rows_of (found_of given.now))) }
+{
+    Ok(Job::Listing {
+        instance: text(alloc, given, "instance")?,
+        barred: option(alloc, given, "barred")?,
+        journal: text(alloc, given, "journal")?,
+        start: option(alloc, given, "start")?,
+    })
+}

@@ -1,0 +1,107 @@
+//! Commands and their arguments as tables, and as `clap` is told of them.
+
+ghost use Rattle.std.specs.Prelude.{◌≡◌, false, map, IfOk, IsOkAnd};
+ghost use Rattle.clap.specs.Words.{AddsSubcommand, rule_of};
+ghost use Rattle.ctt_words.specs.Outlines.{app_by, rule_by};
+ghost use Rattle.ctt_words.specs.CommandLine.{IsCommand, bare, with_commands};
+
+use clap::{Arg, ArgAction, Command};
+use ctt_text::let_go;
+use std::alloc::{AllocError, Global};
+
+/// An argument of a command: its name for the program, what its value is called in the help, and its help.
+pub(crate) enum Argument {
+    /// One word, by its place; it has to be given.
+    Word(&'static str, &'static str, &'static str),
+    /// One word or more, by their places behind all others; one has to be given.
+    Words(&'static str, &'static str, &'static str),
+    /// By its own name, or not at all. It has no value.
+    Flag(&'static str, &'static str),
+    /// By its own name with a value behind it, or not at all.
+    Valued(&'static str, &'static str, &'static str),
+}
+
+/// A command.
+pub(crate) struct Outline {
+    pub(crate) name: &'static str,
+    pub(crate) about: &'static str,
+    pub(crate) example: &'static str,
+    pub(crate) arguments: &'static [Argument],
+}
+
+/// The argument, as `clap` is told of it.
+fn make_argument<'a>(alloc: Global, of: &Argument) -> Arg<'a>
+    ensures rule { rule_of result ≡ rule_by of.now }
+    ensures local { result.global ≡ false }
+{
+    match *of {
+        Argument::Word(id, name, help) => Arg::new(alloc, id)
+            .value_name(name)
+            .help(help)
+            .required(true),
+        Argument::Words(id, name, help) => Arg::new(alloc, id)
+            .value_name(name)
+            .help(help)
+            .required(true)
+            .num_args(1..),
+        Argument::Flag(id, help) => Arg::new(alloc, id)
+            .long(id)
+            .help(help)
+            .action(ArgAction::SetTrue),
+        Argument::Valued(id, name, help) => {
+            Arg::new(alloc, id).long(id).value_name(name).help(help)
+        }
+    }
+}
+
+/// The command, as `clap` is told of it.
+fn make_command<'a>(alloc: Global, of: &Outline) -> Result<Command<'a>, AllocError>
+    ensures { IfOk result (IsCommand (app_by of.now)) }
+{
+    let mut command = Command::new(alloc, of.name)
+        .about(of.about)
+        .after_help(of.example);
+    for argument in of.arguments {
+        command = command.arg(make_argument(alloc, argument))?;
+    }
+    Ok(command)
+}
+
+/// A program with one command more, if both could be made.
+fn with_command<'a>(
+    program: Result<Command<'a>, AllocError>,
+    made: Result<Command<'a>, AllocError>,
+) -> Result<Command<'a>, AllocError>
+    ensures { IfOk result (λ whole. IsOkAnd program.entry (λ program.
+        IsOkAnd made.entry (λ command. AddsSubcommand program command whole))) }
+{
+    match program {
+        Ok(program) => match made {
+            Ok(command) => program.subcommand(command),
+            Err(error) => {
+                let_go(program);
+                Err(error)
+            }
+        },
+        Err(error) => {
+            let_go(made);
+            Err(error)
+        }
+    }
+}
+
+/// The program with these commands.
+pub(crate) fn with_commands<'a>(
+    alloc: Global,
+    alone: Command<'a>,
+    outlines: &[Outline],
+) -> Result<Command<'a>, AllocError>
+    requires { IsCommand bare alone }
+    ensures { IfOk result (IsCommand (with_commands bare (map app_by outlines.now))) }
+{
+    let mut program = Ok(alone);
+    for outline in outlines {
+        program = with_command(program, make_command(alloc, outline));
+    }
+    program
+}

@@ -1,0 +1,93 @@
+//! The words of the command line.
+
+ghost use Rattle.std.specs.Prelude.{◌≡◌, ◌↔◌, [], map, IfOk, IfErr, IsErrAnd, IsTrue, OnOk};
+ghost use Rattle.clap.specs.Words.{kind_of, subcommand_rows_of};
+ghost use Rattle.ctt_words.specs.Jobs.{AsksForSeveral, IsFaultOf, IsJobIn, IsJobOf, IsMatched, IsNoJobIn, IsOfKind, SaysSeveral, WantsSeveral, faults_of};
+
+use crate::arguments::count;
+use crate::commands::command_line;
+use crate::found::{
+    audit_job, check_job, crew_job, desk_job, journal_job, list_job, page_job, run_job, week_job,
+};
+use crate::job::{Job, WordsFault};
+use clap::ArgMatches;
+use clap::error::ErrorKind;
+use std::alloc::{AllocError, Global};
+
+/// The options that say whose week it is, of which at most one may be given.
+const CHOICES: &[&str] = &["curriculum", "teacher", "course", "room"];
+
+/// What is said where more are given.
+const SEVERAL: &str = "timedesk: at most one of --curriculum, --teacher, --course, --room\n";
+
+/// Whether the weeks of several are asked for at once.
+fn wants_several(matches: &ArgMatches<'_>) -> bool
+    ensures { IsTrue result ↔ WantsSeveral (subcommand_rows_of matches.now) }
+{
+    match matches.subcommand() {
+        Some(("week", given)) => count(given, CHOICES) > 1,
+        _ => false,
+    }
+}
+
+/// The fault that `clap` found in the words.
+fn fault_of_words(alloc: Global, error: clap::Error) -> WordsFault
+    ensures { IsOfKind (kind_of error) result }
+{
+    let kind = error.kind();
+    let Ok(text) = error.to_string(alloc) else {
+        return WordsFault::NoMemory;
+    };
+    match kind {
+        ErrorKind::DisplayHelp | ErrorKind::DisplayVersion => WordsFault::Help(text),
+        ErrorKind::OutOfMemory => WordsFault::NoMemory,
+        _ => WordsFault::Refused(text),
+    }
+}
+
+/// The job of a command, by the matches of the words.
+fn job_by(alloc: Global, matches: &ArgMatches<'_>) -> Result<Job, AllocError>
+    requires whole { IsMatched (subcommand_rows_of matches.now) }
+    requires one { ¬ WantsSeveral (subcommand_rows_of matches.now) }
+    ensures { IfOk result (IsJobIn (subcommand_rows_of matches.now)) }
+{
+    match matches.subcommand() {
+        Some(("check", given)) => check_job(alloc, given),
+        Some(("week", given)) => week_job(alloc, given),
+        Some(("page", given)) => page_job(alloc, given),
+        Some(("run", given)) => run_job(alloc, given),
+        Some(("audit", given)) => audit_job(alloc, given),
+        Some(("crew", given)) => crew_job(alloc, given),
+        Some(("desk", given)) => desk_job(alloc, given),
+        Some(("journal", given)) => journal_job(alloc, given),
+        Some(("list", given)) => list_job(alloc, given),
+        _ => unreachable!(),
+    }
+}
+
+/// The job that is asked for, by the matches of the words.
+fn job_of(alloc: Global, matches: &ArgMatches<'_>) -> Result<Job, WordsFault>
+    requires { IsMatched (subcommand_rows_of matches.now) }
+    ensures job { IfOk result (IsJobIn (subcommand_rows_of matches.now)) }
+    ensures fault { IfErr result (IsNoJobIn (subcommand_rows_of matches.now)) }
+{
+    if wants_several(matches) {
+        return Err(WordsFault::Refused(String::from_str(alloc, SEVERAL)?));
+    }
+    Ok(job_by(alloc, matches)?)
+}
+
+/// Reads the words of a command line, of which the first is the program's name.
+pub fn read_words(alloc: Global, words: &[&str]) -> Result<Job, WordsFault>
+    ensures job { IfOk result (IsJobOf (map (λ word. word.now) words.now)) }
+    ensures taken { OnOk result (faults_of (map (λ word. word.now) words.now) ≡ []) }
+    ensures fault { IfErr result (IsFaultOf (map (λ word. word.now) words.now)) }
+    ensures several { AsksForSeveral (map (λ word. word.now) words.now)
+        → IsErrAnd result SaysSeveral }
+{
+    let command = command_line(alloc)?;
+    match command.try_get_matches_from(words) {
+        Ok(matches) => job_of(alloc, &matches),
+        Err(error) => Err(fault_of_words(alloc, error)),
+    }
+}
