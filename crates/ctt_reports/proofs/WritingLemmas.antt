@@ -1,5 +1,5 @@
 -- What was written of findings, by what was told of them.
-use Rattle.std.proofs.Common.{◌≡◌, ℕ, ◌+◌, ◌≤◌, min, Bool, true, false, List, [], ◌∷◌, ◌++◌, length, take, Option, Some, None, Result, Ok, Err, IfErr, OnErr, refl, string_bytes, ◌∙◌, sym, ap, subst, append-nil, append_assoc, inl, inr, arith}
+use Rattle.std.proofs.Common.{◌≡◌, ◌⊎◌, ℕ, ◌+◌, ◌≤◌, min, Bool, true, false, List, [], ◌∷◌, ◌++◌, length, take, Option, Some, None, Result, Ok, Err, IfErr, OnErr, refl, string_bytes, ◌∙◌, sym, ap, subst, append-nil, append_assoc, inl, inr, arith}
 use Rattle.std.specs.Io.KnownBytes.{Appends}
 use Rattle.std.proofs.KnownBytes.{Appends-nil, Appends-trans}
 use Rattle.std.proofs.Math.Seq.{take-append-add}
@@ -10,6 +10,9 @@ use Rattle.ctt_findings.specs.declared.finding.Finding.{Finding}
 use Rattle.ctt_findings.specs.declared.untold.Untold.{Untold}
 use Rattle.ctt_findings.specs.declared.untold.Untold.TheVariants.{Failed, NoMemory}
 use Rattle.ctt_devices.specs.Output.{AppendsFront}
+use Rattle.ctt_files.specs.Faults.{MayHaveWritten}
+use Rattle.ctt_files.specs.declared.fault.Fault.{Fault}
+use Rattle.ctt_files.specs.declared.fault.Fault.TheVariants.{CannotWrite}
 use Rattle.ctt_reports.specs.Checks.{found_text, found_texts}
 use Rattle.ctt_reports.specs.Writing.{Grows, Marks}
 use Rattle.ctt_reports.specs.declared.told.Told.{Told}
@@ -102,3 +105,8 @@ of_fault P r fault is h = subst (λ q. IfErr q P) is h
 pub on_err_weaker : {T E : Type 0} (r : Result T E) (P Q : Type 0) → (P → Q) → OnErr r P → OnErr r Q
 on_err_weaker (Ok x) P Q more holds = tt
 on_err_weaker (Err e) P Q more holds = more holds
+
+-- a text that was not printed whole, of which a front may have been
+pub cut : {T : Type 0} (r : Result T Fault) (U P : Type 0) → IfErr r (λ fault. fault ≡ CannotWrite) → OnErr r P → IfErr r (λ fault. U ⊎ (MayHaveWritten fault × P))
+cut (Ok x) U P is holds = tt
+cut (Err fault) U P is holds = inr (subst MayHaveWritten (sym is) tt, holds)
