@@ -22,9 +22,11 @@ grows_nil : (x : Option (List ℕ)) (kept : List ℕ) → Grows x kept x kept []
 grows_nil x kept = ([], Appends-nil x, sym (append-nil kept))
 
 grows_trans : (x y z : Option (List ℕ)) (kept left last more most : List ℕ) → Grows x kept y left more → Grows y left z last most → Grows x kept z last (more ++ most)
-grows_trans x y z kept left last more most one two =
-    (one.0 ++ two.0, Appends-trans x y z one.0 two.0 one.1 two.1,
-    append_assoc one.0 two.0 last ∙ ap (λ t. one.0 ++ t) two.2 ∙ sym (append_assoc one.0 left most) ∙ ap (λ t. t ++ most) one.2 ∙ append_assoc kept more most)
+grows_trans x y z kept left last more most one two = (
+  one.0 ++ two.0,
+  Appends-trans x y z one.0 two.0 one.1 two.1,
+  append_assoc one.0 two.0 last ∙ ap (λ t. one.0 ++ t) two.2 ∙ sym (append_assoc one.0 left most) ∙ ap (λ t. t ++ most) one.2 ∙ append_assoc kept more most,
+)
 
 -- a front of what is kept is a front of it all
 pub front_more : (x y : Option (List ℕ)) (front rest all : List ℕ) → all ≡ front ++ rest → AppendsFront x y front → AppendsFront x y all
@@ -73,9 +75,11 @@ module _ {W : Type 0} (failed : W → Bool) (taken : W → Option (List ℕ)) wh
       (ap (λ m. m.out.ghost_name) h, ap (λ m. failed m.out.now) h, subst (λ m. Grows (taken a.out.now) (string_bytes a.text) (taken m.out.now) (string_bytes m.text) []) (sym h) (grows_nil (taken a.out.now) (string_bytes a.text)))
   heard i a (f ∷ fs) b (m, one, others) =
       let rest = heard i m fs b others in
-      let same : found_texts m.json i m.later fs ≡ found_texts a.json i true fs = ap (λ j. found_texts j i m.later fs) one.1 ∙ ap (λ l. found_texts a.json i l fs) one.2 in
-      (rest.0 ∙ one.0, rest.1 ∙ one.3,
-      grows_trans _ _ _ _ _ _ _ _ one.4 (subst (Grows (taken m.out.now) (string_bytes m.text) (taken b.out.now) (string_bytes b.text)) same rest.2))
+      let same : found_texts m.json i m.later fs ≡ found_texts a.json i true fs = ap (λ j. found_texts j i m.later fs) one.1 ∙ ap (λ l. found_texts a.json i l fs) one.2 in (
+        rest.0 ∙ one.0,
+        rest.1 ∙ one.3,
+        grows_trans _ _ _ _ _ _ _ _ one.4 (subst (Grows (taken m.out.now) (string_bytes m.text) (taken b.out.now) (string_bytes b.text)) same rest.2),
+      )
 
   marks_same : (fault : Untold) (old older new : Bool) → old ≡ older → Marks fault old new → Marks fault older new
   marks_same Failed old older new same is = is
@@ -94,9 +98,11 @@ module _ {W : Type 0} (failed : W → Bool) (taken : W → Option (List ℕ)) wh
       let before = heard i a h.front m h.heard in
       let now = failing fault m b h.failed in
       let told : List ℕ = found_texts a.json i a.later h.front in
-      let rest = found_append a.json i a.later h.front h.rest in
-      (now.0 ∙ before.0, marks_same fault (failed m.out.now) (failed a.out.now) (failed b.out.now) before.1 now.1,
-      front_more _ _ told rest.0 _ (ap (found_texts a.json i a.later) h.parts ∙ rest.1) (front_written _ _ _ _ (string_bytes m.text) _ told none refl before.2 now.2))
+      let rest = found_append a.json i a.later h.front h.rest in (
+        now.0 ∙ before.0,
+        marks_same fault (failed m.out.now) (failed a.out.now) (failed b.out.now) before.1 now.1,
+        front_more _ _ told rest.0 _ (ap (found_texts a.json i a.later) h.parts ∙ rest.1) (front_written _ _ _ _ (string_bytes m.text) _ told none refl before.2 now.2),
+      )
 
 -- what holds of a fault that is known
 pub of_fault : {T E : Type 0} (P : E → Type 0) (r : Result T E) (fault : E) → r ≡ Err fault → IfErr r P → P fault

@@ -25,17 +25,20 @@ returns-in_err-printed-clause-part g c =
     let subject = c.in_ok-subject.subject in
     let fault = c.in_err-printed.field-0.0 in
     passed_on c.from_residual-in_err-printed.result fault _ c.from_residual-in_err-printed.ensures.1
-    (⊎_elim inl (λ part. inr (part.0, record {
-      problem = subject.instance;
-      is_instance = c.in_ok-subject.ensures.instance;
-      selection = subject.selection;
-      is_selection = c.in_ok-subject.ensures.found;
-      timetable = subject.timetable.items;
-      is_solution = c.in_ok-subject.ensures.spelled;
-      bytes = part.1.0;
-      is_text = subst (λ t. IsChecked c.args.json c.args.explain subject.instance t part.1.0) c.deref.ensures.value part.1.1;
-      taken = part.1.2;
-    })) c.in_err-printed.ensures.part)
+    (⊎_elim inl (λ part. inr (
+      part.0,
+      record {
+        problem = subject.instance;
+        is_instance = c.in_ok-subject.ensures.instance;
+        selection = subject.selection;
+        is_selection = c.in_ok-subject.ensures.found;
+        timetable = subject.timetable.items;
+        is_solution = c.in_ok-subject.ensures.spelled;
+        bytes = part.1.0;
+        is_text = subst (λ t. IsChecked c.args.json c.args.explain subject.instance t part.1.0) c.deref.ensures.value part.1.1;
+        taken = part.1.2;
+      },
+    )) c.in_err-printed.ensures.part)
 
 pub returns-clause-reports : goal.returns-clause-reports
 returns-clause-reports g c =
@@ -49,7 +52,9 @@ returns-clause-reports g c =
       timetable = subject.timetable.items;
       is_solution = c.in_ok-subject.ensures.spelled;
       bytes = printed.0;
-      is_text = (subst (λ t. IsChecked c.args.json c.args.explain subject.instance t printed.0) c.deref.ensures.value printed.1,
-          subst (λ t. IsJudged c.args.strict subject.instance t c.judge-outcome.result) c.deref-2.ensures.value c.judge-outcome.ensures);
+      is_text = (
+        subst (λ t. IsChecked c.args.json c.args.explain subject.instance t printed.0) c.deref.ensures.value printed.1,
+        subst (λ t. IsJudged c.args.strict subject.instance t c.judge-outcome.result) c.deref-2.ensures.value c.judge-outcome.ensures,
+      );
       taken = printed.2;
     }

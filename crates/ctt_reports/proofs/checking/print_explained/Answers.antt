@@ -29,5 +29,8 @@ returns-clause-part g c =
     let found : List ℕ = found_texts c.args.json i false (findings i c.args.timetable.now) in
     let before : Appends (taken c.args.out.now) (taken c.print.new.out) front = subst (Appends (taken c.args.out.now) (taken c.print.new.out)) c.deref.ensures.value c.in_ok-print.ensures.printed in
     let told : Appends (taken c.args.out.now) (taken c.tell.new.out) (front ++ found) = Appends-trans _ _ _ front found before c.in_ok-tell.ensures.told in
-    cut c.print-2.result _ _ c.print-2.ensures.fault (on_err_weaker c.print-2.result _ _ (λ last. (front ++ (found ++ rest), c.in_ok-front.ensures,
-    subst (AppendsFront (taken c.args.out.now) (taken c.print-2.new.out)) (append_assoc front found rest) (front_behind _ _ _ (front ++ found) rest told (subst (AppendsFront (taken c.tell.new.out) (taken c.print-2.new.out)) c.deref-2.ensures.value last)))) c.print-2.ensures.front)
+    cut c.print-2.result _ _ c.print-2.ensures.fault (on_err_weaker c.print-2.result _ _ (λ last. (
+      front ++ (found ++ rest),
+      c.in_ok-front.ensures,
+      subst (AppendsFront (taken c.args.out.now) (taken c.print-2.new.out)) (append_assoc front found rest) (front_behind _ _ _ (front ++ found) rest told (subst (AppendsFront (taken c.tell.new.out) (taken c.print-2.new.out)) c.deref-2.ensures.value last)),
+    )) c.print-2.ensures.front)
