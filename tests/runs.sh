@@ -85,6 +85,8 @@ Usage: timedesk <COMMAND>
 
 Commands:
   check    Report what a solution breaks and what it costs
+  week     Print the week as a table, with a column for each day and a line for each period
+  page     Print a page for a browser with the report, all that is found, and the weeks
   run      Run a script of planners' steps and print the answers
   audit    Say whether a journal was told what its drafts are told, run one after another
   crew     Run scripts at once, each by a planner on a thread, and print the answers
@@ -97,9 +99,21 @@ Options:
   -h, --help     Print help
   -V, --version  Print version
 
+Examples:
+  timedesk check comp07.ctt comp07.sol --explain
+  timedesk week comp07.ctt comp07.sol --teacher t067
+  timedesk page comp07.ctt comp07.sol >comp07.html
+  timedesk run comp07.ctt planners.txt --start comp07.sol --journal monday.journal
+  timedesk audit comp07.ctt monday.journal --start comp07.sol
+  timedesk crew comp07.ctt anna.txt ben.txt
+  timedesk desk comp07.ctt - --start comp07.sol
+  timedesk journal comp07.ctt monday.minutes >monday.journal
+  timedesk list comp07.ctt monday.journal --start comp07.sol >tuesday.sol
+
 Status: 0 where it is done, also where a report says that a solution is unlawful;
 1 where the content of a file is refused, or an audit does not agree; 2 where the words are refused;
-3 where a file cannot be read, is too long, minutes exist, or output or memory fails.
+3 where a file cannot be read, is too long, minutes exist, or output or memory fails; with --strict
+4 where the solution is not lawful, and 5 where it is lawful and not complete.
 A refused file is one line, as in 'timedesk: instance I2 14': docs/FORMATS.md has
 each fault by its number, and how to see the word that it names.
 "
@@ -114,7 +128,43 @@ Arguments:
 Options:
       --barred <FILE>  The file of the rooms that are barred for courses; without it none is
       --json           Print the report as JSON
+      --explain        Print behind the report each thing that breaks a rule or costs points
+      --strict         End with status 4 where the solution is not lawful, 5 where it is lawful and not complete
   -h, --help           Print help
+
+Example: timedesk check comp07.ctt comp07.sol --explain
+'
+week_help='Print the week as a table, with a column for each day and a line for each period
+
+Usage: timedesk week [OPTIONS] <INSTANCE> <SOLUTION>
+
+Arguments:
+  <INSTANCE>  The file of the instance
+  <SOLUTION>  The file of the solution
+
+Options:
+      --barred <FILE>      The file of the rooms that are barred for courses; without it none is
+      --curriculum <NAME>  The week of this curriculum alone
+      --teacher <NAME>     The week of this teacher alone
+      --course <NAME>      The week of this course alone, with the slots in which it is unavailable
+      --room <NAME>        The week of this room alone
+  -h, --help               Print help
+
+Example: timedesk week comp07.ctt comp07.sol --teacher t067
+'
+page_help='Print a page for a browser with the report, all that is found, and the weeks
+
+Usage: timedesk page [OPTIONS] <INSTANCE> <SOLUTION>
+
+Arguments:
+  <INSTANCE>  The file of the instance
+  <SOLUTION>  The file of the solution
+
+Options:
+      --barred <FILE>  The file of the rooms that are barred for courses; without it none is
+  -h, --help           Print help
+
+Example: timedesk page comp07.ctt comp07.sol >comp07.html
 '
 run_help="Run a script of planners' steps and print the answers
 
@@ -129,6 +179,8 @@ Options:
       --start <SOLUTION>  The file of the opening timetable; without it the desk opens empty
       --journal <FILE>    The file to write with the drafts that were accepted
   -h, --help              Print help
+
+Example: timedesk run comp07.ctt planners.txt --start comp07.sol --journal monday.journal
 "
 audit_help='Say whether a journal was told what its drafts are told, run one after another
 
@@ -142,6 +194,8 @@ Options:
       --barred <FILE>     The file of the rooms that are barred for courses; without it none is
       --start <SOLUTION>  The file of the opening timetable; without it the desk opens empty
   -h, --help              Print help
+
+Example: timedesk audit comp07.ctt monday.journal --start comp07.sol
 '
 crew_help="Run scripts at once, each by a planner on a thread, and print the answers
 
@@ -154,6 +208,8 @@ Arguments:
 Options:
       --barred <FILE>  The file of the rooms that are barred for courses; without it none is
   -h, --help           Print help
+
+Example: timedesk crew comp07.ctt anna.txt ben.txt
 "
 desk_help='Keep a desk for planners at their terminals
 
@@ -168,6 +224,8 @@ Options:
       --start <SOLUTION>  The file of the opening timetable; without it the desk opens empty
       --minutes <FILE>    The file to write with each accepted draft before its planner is told
   -h, --help              Print help
+
+Example: timedesk desk comp07.ctt - --start comp07.sol
 '
 journal_help='Print the journal of the minutes of a desk
 
@@ -180,6 +238,8 @@ Arguments:
 Options:
       --barred <FILE>  The file of the rooms that are barred for courses; without it none is
   -h, --help           Print help
+
+Example: timedesk journal comp07.ctt monday.minutes >monday.journal
 '
 list_help='Print the timetable after a journal as a solution
 
@@ -193,9 +253,11 @@ Options:
       --barred <FILE>     The file of the rooms that are barred for courses; without it none is
       --start <SOLUTION>  The file of the opening timetable; without it the desk opens empty
   -h, --help              Print help
+
+Example: timedesk list comp07.ctt monday.journal --start comp07.sol >tuesday.sol
 '
 no_words="error: 'timedesk' requires a subcommand but one was not provided
-  [subcommands: check, run, audit, crew, desk, journal, list, help]
+  [subcommands: check, week, page, run, audit, crew, desk, journal, list, help]
 
 Usage: timedesk <COMMAND>
 
@@ -275,6 +337,8 @@ reports 'each of two lectures of a curriculum in one slot' 'alg A 0 1 geo B 0 1'
 reports 'three lectures in a room' 'alg B 0 1 geo B 0 1 top B 0 1' 2 2 0 2 10 5 4 0 19 no no
 run 'help' 0 "$help" '' --help
 run 'help of a command' 0 "$check_help" '' check --help
+run 'help of week' 0 "$week_help" '' week --help
+run 'help of page' 0 "$page_help" '' page --help
 run 'help of run' 0 "$run_help" '' run --help
 run 'help of audit' 0 "$audit_help" '' audit --help
 run 'help of crew' 0 "$crew_help" '' crew --help

@@ -1,0 +1,101 @@
+# shellcheck shell=bash
+# Completions of timedesk for bash, in a shell that takes them in by `. docs/completion.bash`.
+
+# Adds those words that begin with what is typed, which stands before them.
+_timedesk_words() {
+    local word
+    for word in "${@:2}"; do
+        [[ $word != "$1"* ]] || COMPREPLY+=("$word")
+    done
+}
+
+# Adds folders, and files of this ending or, where none has it, all files.
+_timedesk_files() {
+    local file files found=
+    compopt -o filenames 2>/dev/null
+    mapfile -t files < <(compgen -f -- "$1")
+    for file in "${files[@]}"; do
+        [[ -d $file || $file != *"$2" ]] || found=1
+    done
+    for file in "${files[@]}"; do
+        [[ ! -d $file && $file != *"${found:+$2}" ]] || COMPREPLY+=("$file")
+    done
+}
+
+# Adds the names of this kind that an instance has, each once.
+_timedesk_names() {
+    local names
+    compopt -o filenames 2>/dev/null
+    mapfile -t names < <(tr -s '\011-\015 ' '\n' 2>/dev/null <"$3" | awk -v kind="$2" '
+        NF { word[++count] = $0 }
+        function tell(what, at) { if (what == kind && !told[word[at]]++) print word[at] }
+        END {
+            at = 16
+            for (n = 0; n < word[4] + 0 && at < count; n++) { tell("--course", at); tell("--teacher", at + 1); at += 5 }
+            for (n = at++; n >= 0 && r < word[6] + 0 && at < count; r++) { tell("--room", at); at += 2 }
+            for (n = at++; n >= 0 && q < word[12] + 0 && at < count; q++) { tell("--curriculum", at); at += 2 + word[at + 1] }
+        }')
+    _timedesk_words "$1" "${names[@]}"
+}
+
+# Adds the options of a command that are not given yet.
+_timedesk_options() {
+    local option options='' one='--(course|curriculum|room|teacher)'
+    case $2 in
+    check) options='--barred --explain --json --strict' ;;
+    week) options='--barred --course --curriculum --room --teacher' ;;
+    run) options='--barred --journal --start' ;;
+    audit | list) options='--barred --start' ;;
+    desk) options='--barred --minutes --start' ;;
+    page | crew | journal) options='--barred' ;;
+    '') options='--version' ;;
+    esac
+    for option in $options --help; do
+        # a week is that of one thing alone
+        if [[ $3 != *" $option "* ]] && ! [[ $option =~ ^$one$ && $3 =~ \ $one\  ]]; then
+            _timedesk_words "$1" "$option"
+        fi
+    done
+}
+
+# Completes the word at the cursor.
+_timedesk() {
+    local typed=${COMP_WORDS[COMP_CWORD]} word option='' given=' ' command='' instance='' place=1
+    COMPREPLY=()
+    for word in "${COMP_WORDS[@]:1:COMP_CWORD-1}"; do
+        if [[ $word == = ]]; then
+            continue
+        elif [[ -n $option ]]; then
+            option=
+        elif [[ $word == --* ]]; then
+            given+="$word "
+            [[ $word =~ ^--(json|explain|strict|help|version|unproved)$ ]] || option=$word
+        elif [[ -z $command ]]; then
+            command=$word
+        else
+            [[ $place != 1 ]] || instance=$word
+            place=$((place + 1))
+        fi
+    done
+    [[ $typed != = ]] || typed=
+    if [[ -z $option && $typed == -* ]]; then
+        _timedesk_options "$typed" "$command" "$given"
+        return
+    fi
+    case $command:${option:-$place} in
+    *:--course | *:--curriculum | *:--room | *:--teacher) _timedesk_names "$typed" "$option" "$instance" ;;
+    :1 | help:1) _timedesk_words "$typed" check week page run crew desk journal audit list help ;;
+    help:*) ;;
+    *:1) _timedesk_files "$typed" .ctt ;;
+    *:--start | check:2 | week:2 | page:2) _timedesk_files "$typed" .sol ;;
+    *:--*) _timedesk_files "$typed" '' ;;
+    desk:*)
+        _timedesk_files "$typed" .in
+        COMPREPLY=("${COMPREPLY[@]%.in}")
+        ;;
+    crew:* | *:2) _timedesk_files "$typed" '' ;;
+    *) _timedesk_options "$typed" "$command" "$given" ;;
+    esac
+}
+
+complete -F _timedesk timedesk

@@ -1,0 +1,126 @@
+#!/usr/bin/env bash
+# Asks docs/completion.bash for completions, and compares the options that it knows with the help of the program.
+# PROGRAM names another one. The last line is 'N passed, M failed'.
+set -u
+here=$(CDPATH='' cd -- "$(dirname -- "${BASH_SOURCE[0]}")/.." && pwd) || exit 1
+program=${PROGRAM:-$here/crates/ctt_tool/out/ctt_tool}
+room=$(mktemp -d) || exit 1
+trap 'rm -rf -- "$room"' EXIT
+cd -- "$room" || exit 1
+# shellcheck source=docs/completion.bash
+. "$here/docs/completion.bash"
+
+passed=0
+failed=0
+
+# Counts a comparison.
+equals() {
+    if [ "$2" = "$3" ]; then
+        passed=$((passed + 1))
+    else
+        failed=$((failed + 1))
+        echo "FAILED: $1: found"
+        echo "$2"
+        echo "and not"
+        echo "$3"
+    fi
+}
+
+# Completes the last word of a line, and compares what is offered with a list of lines.
+offers() {
+    local wanted=$1 COMPREPLY=()
+    shift
+    COMP_WORDS=("$@")
+    COMP_CWORD=$(($# - 1))
+    _timedesk
+    equals "$*" "$(printf '%s\n' "${COMPREPLY[@]}" | sort)" "$(sort <<<"$wanted")"
+}
+
+mkdir old new '0 folder'
+# shellcheck disable=SC2016
+touch monday.ctt 'two words.ctt' monday.sol tuesday.sol day.txt old/a.ctt old/0.in old/0.out old/1.in old/1.out new/notes.txt '0 folder/$(touch hit)'
+cat >small.ctt <<'INSTANCE'
+Name: Small Courses: 3 Rooms: 2 Days: 2 Periods_per_day: 3 Curricula: 2 Constraints: 0
+COURSES: alg t1 2 2 30  geo t2 2 1 20  top t1 1 1 50
+ROOMS: A 25  $(touch,hit) 40
+CURRICULA: q1 2 alg geo  q2 1 top
+UNAVAILABILITY_CONSTRAINTS: END.
+INSTANCE
+folders=$'0 folder\nnew\nold'
+
+# commands
+offers $'audit\ncheck\ncrew\ndesk\nhelp\njournal\nlist\npage\nrun\nweek' timedesk ''
+offers $'check\ncrew' timedesk c
+offers $'audit' ./timedesk au
+offers $'check\ncrew' timedesk --unproved c
+offers $'list' timedesk help l
+offers '' timedesk help list ''
+offers '' timedesk frobnicate
+offers $'--help\n--version' timedesk -
+
+# options
+offers $'--barred\n--explain\n--help\n--json\n--strict' timedesk check small.ctt monday.sol -
+offers $'--barred\n--help\n--strict' timedesk check small.ctt --json monday.sol --explain --
+offers $'--explain' timedesk check --e
+offers $'--barred\n--course\n--curriculum\n--help\n--room\n--teacher' timedesk week small.ctt monday.sol --
+offers $'--barred\n--help' timedesk week small.ctt monday.sol --room A --
+offers $'--barred\n--help' timedesk page small.ctt monday.sol --
+offers $'--barred\n--help\n--journal\n--start' timedesk run small.ctt day.txt --
+offers $'--help\n--journal' timedesk run --start monday.sol --barred barred small.ctt day.txt -
+offers $'--barred\n--help' timedesk crew --
+offers $'--barred\n--help\n--minutes\n--start' timedesk desk --
+offers $'--barred\n--help' timedesk journal --
+offers $'--barred\n--help\n--start' timedesk audit --
+offers $'--barred\n--help\n--start' timedesk list --
+# behind the last place of a command stand options
+offers $'--barred\n--help\n--strict' timedesk check small.ctt monday.sol --json --explain ''
+
+# files
+offers "$folders"$'\n''monday.ctt'$'\n''small.ctt'$'\n''two words.ctt' timedesk check ''
+offers $'monday.ctt' timedesk check mon
+offers $'monday.sol' timedesk check small.ctt mon
+offers "$folders"$'\n''monday.sol'$'\n''tuesday.sol' timedesk check --json small.ctt ''
+offers "$folders"$'\n''monday.sol'$'\n''tuesday.sol' timedesk run small.ctt day.txt --start ''
+offers $'old/a.ctt' timedesk page old/
+offers $'tuesday.sol' timedesk page small.ctt t
+offers $'tuesday.sol' timedesk week small.ctt t
+offers $'day.txt' timedesk run small.ctt d
+offers $'day.txt' timedesk crew small.ctt day.txt d
+offers $'monday.ctt\nmonday.sol' timedesk audit small.ctt m
+offers $'monday.ctt\nmonday.sol' timedesk check small.ctt monday.sol --barred m
+offers $'monday.sol' timedesk audit small.ctt journal --start = m
+offers "$folders"$'\n''monday.sol'$'\n''tuesday.sol' timedesk audit small.ctt journal --start =
+# where no file has the ending, all are offered
+offers $'new/notes.txt' timedesk check small.ctt new/
+offers $'day.txt' timedesk check day
+# shellcheck disable=SC2016
+offers '0 folder/$(touch hit)' timedesk check small.ctt '0 folder/'
+# seats
+offers $'old/0\nold/1' timedesk desk small.ctt old/
+offers $'old/1' timedesk desk small.ctt old/0 old/1
+
+# names
+offers $'alg\ngeo\ntop' timedesk week small.ctt monday.sol --course ''
+offers $'t1\nt2' timedesk week small.ctt monday.sol --teacher t
+# shellcheck disable=SC2016
+offers $'$(touch,hit)\nA' timedesk week small.ctt monday.sol --room ''
+offers $'q1\nq2' timedesk week small.ctt monday.sol --curriculum = q
+offers '' timedesk week nowhere monday.sol --course ''
+offers '' timedesk week day.txt monday.sol --course ''
+head -c 150 small.ctt >cut.ctt
+offers $'alg\ngeo\ntop' timedesk week cut.ctt monday.sol --course ''
+offers '' timedesk week cut.ctt monday.sol --curriculum ''
+
+equals 'nothing of a name is run' "$(find . -name hit)" ''
+equals 'what is completed' "$(complete -p timedesk)" 'complete -F _timedesk timedesk'
+
+# the commands and the options are those of the program
+commands=$("$program" --help | sed -n '/^Commands:/,/^$/s/^  \([a-z]*\) .*/\1/p')
+offers "$commands" timedesk ''
+for command in $commands; do
+    [ "$command" != help ] || continue
+    offers "$("$program" "$command" --help | sed -n '/^Options:/,$s/^ *\(-., \)\?\(--[a-z]*\).*/\2/p')" timedesk "$command" --
+done
+
+echo "$passed passed, $failed failed"
+[ "$failed" = 0 ]

@@ -1,0 +1,191 @@
+#!/usr/bin/env python3
+"""Compares what `check --explain` finds in drawn solutions with a plain reading of the rules.
+
+PROGRAM names another program. The last line is 'N passed, M failed'.
+"""
+import json
+import os
+import random
+import sys
+import tempfile
+
+sys.dont_write_bytecode = True
+from drawn import draw_instance, draw_solution  # noqa: E402
+from program import EXAMPLES, NAMES, check, check_full, check_run, end, pair_of, read_files, words_of, write_files  # noqa: E402
+from rules import KINDS, Instance, line  # noqa: E402
+
+DRAWN = 400
+
+
+def json_text(members):
+    return json.dumps(members, sort_keys=True, ensure_ascii=False, separators=(",", ":")) + "\n"
+
+
+def check_sums(name, findings, members):
+    """Of each kind the findings add up to the count of the report."""
+    sums = dict.fromkeys(KINDS, 0)
+    for count, kind in KINDS.items():
+        for finding in findings:
+            if finding["kind"] == kind == "lectures":
+                sums[count] += abs(finding["placed"] - finding["stated"])
+            elif finding["kind"] == kind:
+                sums[count] += finding.get("points", 1)
+    check(f"{name}: the sums", sums, {"barred": 0, **{count: members[count] for count in KINDS if count in members}})
+
+
+def check_files(name, files):
+    """Compares all forms of the report on a solution: files of an instance, a solution, and perhaps barred rooms. Gives what is
+    found, whether it is lawful, and whether it is complete."""
+    texts = read_files(files)
+    instance = Instance(texts[0], *texts[2:])
+    t = instance.read_solution(texts[1])
+    findings = instance.find(t)
+    text, members = instance.report(t)
+    words = words_of(files)
+    check_run(name, "check", *words, "--explain", wanted=text + "".join(map(line, findings)))
+    check_sums(name, findings, members)
+    status = 0 if members["complete"] else 5 if members["lawful"] else 4
+    found = json_text({**members, "findings": findings})
+    check_run(f"{name}: JSON", "check", *words, "--explain", "--json", "--strict", wanted=found, status=status)
+    check_run(f"{name}: strict", "check", *words, "--strict", wanted=text, status=status)
+    return findings, members["lawful"], members["complete"]
+
+
+def check_drawn(folder):
+    """Draws instances with solutions, and compares the reports on them."""
+    draw = random.Random(36)
+    seen = dict.fromkeys([*KINDS.values(), "unlawful", "incomplete", "complete"], 0)
+    for n in range(DRAWN):
+        text, barred = draw_instance(draw)
+        solution = draw_solution(draw, Instance(text, barred))
+        findings, lawful, complete = check_files(f"drawn solution {n}", write_files(folder, text, solution, barred))
+        for kind in {finding["kind"] for finding in findings}:
+            seen[kind] += 1
+        seen["complete" if complete else "incomplete" if lawful else "unlawful"] += 1
+    check("each kind in 30 drawn solutions or more", [kind for kind, times in seen.items() if times < 30], [])
+
+
+# solutions of the instance `small`, a barred file for it or none, the counts of the report, and what is found
+WORKED = [
+    ("the small solution", "alg A 0 0 alg B 1 0 geo A 0 1 geo A 1 2 top B 0 2", None, "0 0 0 0 15 0 4 1 20 yes yes", """\
+capacity alg A 0 0 5
+capacity top B 0 2 10
+compactness q1 alg 1 0 2
+compactness q1 geo 1 2 2
+stability alg 2 1
+"""),
+    ("a barred room", "alg A 0 0 alg B 1 0 geo A 0 1 geo A 1 2 top B 0 2", "Barred: 1 alg A END.", "0 0 0 0 1 15 0 4 1 20 no no", """\
+barred alg A 0 0
+capacity alg A 0 0 5
+capacity top B 0 2 10
+compactness q1 alg 1 0 2
+compactness q1 geo 1 2 2
+stability alg 2 1
+"""),
+    ("no lecture at all", "", None, "5 0 0 0 0 20 0 0 20 yes no", """\
+lectures alg 0 2
+lectures geo 0 2
+lectures top 0 1
+days alg 0 2 10
+days geo 0 1 5
+days top 0 1 5
+"""),
+    ("the last period is not beside the first of the next day", "alg A 0 2 geo A 1 0", None, "3 0 0 0 5 10 4 0 19 yes no", """\
+lectures alg 1 2
+lectures geo 1 2
+lectures top 0 1
+capacity alg A 0 2 5
+days alg 1 2 5
+days top 0 1 5
+compactness q1 alg 0 2 2
+compactness q1 geo 1 0 2
+"""),
+    ("a teacher twice in a slot", "alg A 0 0 top B 0 0", None, "3 1 0 0 15 10 2 0 27 no no", """\
+lectures alg 1 2
+lectures geo 0 2
+conflict alg top 0 0 teacher t1
+capacity alg A 0 0 5
+capacity top B 0 0 10
+days alg 1 2 5
+days geo 0 1 5
+compactness q1 alg 0 0 2
+"""),
+    ("a curriculum twice in a slot", "alg A 0 1 geo B 0 1", None, "3 1 0 0 5 10 4 0 19 no no", """\
+lectures alg 1 2
+lectures geo 1 2
+lectures top 0 1
+conflict alg geo 0 1 curriculum q1
+capacity alg A 0 1 5
+days alg 1 2 5
+days top 0 1 5
+compactness q1 alg 0 1 2
+compactness q1 geo 0 1 2
+"""),
+    ("an unavailable slot, and a room taken", "geo B 0 0 top B 0 0", None, "3 0 1 1 10 10 2 0 22 no no", """\
+lectures alg 0 2
+lectures geo 1 2
+availability geo 0 0
+occupancy B 0 0 top
+capacity top B 0 0 10
+days alg 0 2 10
+compactness q1 geo 0 0 2
+"""),
+    ("three lectures in a room", "alg B 0 1 geo B 0 1 top B 0 1", None, "2 2 0 2 10 5 4 0 19 no no", """\
+lectures alg 1 2
+lectures geo 1 2
+conflict alg geo 0 1 curriculum q1
+conflict alg top 0 1 teacher t1
+occupancy B 0 1 geo
+occupancy B 0 1 top
+capacity top B 0 1 10
+days alg 1 2 5
+compactness q1 alg 0 1 2
+compactness q1 geo 0 1 2
+"""),
+    ("a lecture too many", "top B 0 0 top B 0 1", None, "5 0 0 0 20 15 0 0 35 no no", """\
+lectures alg 0 2
+lectures geo 0 2
+lectures top 2 1
+capacity top B 0 0 10
+capacity top B 0 1 10
+days alg 0 2 10
+days geo 0 1 5
+"""),
+]
+SMALL_JSON = (
+    '{"availability":0,"capacity":15,"compactness":4,"complete":true,"conflicts":0,"days":0,"findings":['
+    '{"course":"alg","day":0,"kind":"capacity","period":0,"points":5,"room":"A"},'
+    '{"course":"top","day":0,"kind":"capacity","period":2,"points":10,"room":"B"},'
+    '{"course":"alg","curriculum":"q1","day":1,"kind":"compactness","period":0,"points":2},'
+    '{"course":"geo","curriculum":"q1","day":1,"kind":"compactness","period":2,"points":2},'
+    '{"course":"alg","kind":"stability","points":1,"rooms":2}'
+    '],"instance":"Small","lawful":true,"lectures":0,"occupancy":0,"stability":1,"total":20}\n')
+
+
+def check_worked(folder):
+    """Compares reports with texts that stand here."""
+    small = os.path.join(EXAMPLES, "small.ctt")
+    for name, text, pairs, counts, findings in WORKED:
+        files = [small, *write_files(folder, b"", text.encode(), (pairs or "Barred: 0 END.").encode())[1:]]
+        keys = [key for key in KINDS if key != "barred" or pairs] + ["total", "lawful", "complete"]
+        report = "instance Small\n" + "".join(f"{key} {count}\n" for key, count in zip(keys, counts.split()))
+        check_run(name, "check", *words_of(files), "--explain", wanted=report + findings)
+        check_files(f"{name}, counted", files)
+    words = ["check", small, os.path.join(EXAMPLES, "s.sol"), "--explain", "--json"]
+    check_run("the small solution as JSON", *words, wanted=SMALL_JSON)
+    for options in ["--explain"], ["--strict"], ["--explain", "--json", "--strict"]:
+        check_full(f"a report that cannot be written, {options}", *words[:3], *options)
+    check_files("the shipped solution", pair_of(EXAMPLES, "comp07"))
+    for name in "wide", "markup":
+        check_files(f"the {name} names", pair_of(NAMES, name))
+
+
+def main():
+    with tempfile.TemporaryDirectory() as folder:
+        check_worked(folder)
+        check_drawn(folder)
+    end()
+
+
+if __name__ == "__main__":
+    main()

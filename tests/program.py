@@ -1,0 +1,84 @@
+"""Runs the program, and counts comparisons. PROGRAM names another one."""
+import itertools
+import os
+import subprocess
+import sys
+
+HERE = os.path.dirname(os.path.dirname(os.path.abspath(__file__)))
+PROGRAM = os.environ.get("PROGRAM", os.path.join(HERE, "crates/ctt_tool/out/ctt_tool"))
+EXAMPLES = os.path.join(HERE, "examples")
+NAMES = os.path.join(HERE, "tests/names")
+
+passed = 0
+failed = 0
+
+
+def pair_of(folder, name):
+    """The files of an instance and of a solution."""
+    return [os.path.join(folder, f"{name}.{ending}") for ending in ("ctt", "sol")]
+
+
+def read_files(files):
+    """What files hold."""
+    texts = []
+    for file in files:
+        with open(file, "rb") as opened:
+            texts.append(opened.read())
+    return texts
+
+
+def write_files(folder, instance, solution, barred=None):
+    """Files of an instance, a solution and perhaps barred rooms, as the words of a command give them."""
+    files = []
+    for name, text in ("drawn.ctt", instance), ("drawn.sol", solution), ("drawn.barred", barred):
+        if text is not None:
+            files.append(os.path.join(folder, name))
+            with open(files[-1], "wb") as opened:
+                opened.write(text)
+    return files
+
+
+def words_of(files):
+    """The words of a command by which it is given these files."""
+    return [*files[:2], *(("--barred", files[2]) if len(files) > 2 else ())]
+
+
+def check(name, found, wanted):
+    """Counts a comparison of two texts, or of two values. Of texts the first line that differs is shown."""
+    global passed, failed
+    if found == wanted:
+        passed += 1
+        return
+    failed += 1
+    if failed > 20:
+        return
+    if isinstance(found, str):
+        lines = itertools.zip_longest(found.split("\n"), wanted.split("\n"), fillvalue="no line")
+        found, wanted = next(pair for pair in lines if pair[0] != pair[1])
+    print(f"FAILED: {name}: found {found!r:.300}\n    and not {wanted!r:.300}")
+
+
+def call(*words):
+    """A run of the program: its status, what it prints, and what it says."""
+    done = subprocess.run([PROGRAM, *words], capture_output=True, timeout=300)
+    return done.returncode, done.stdout.decode(), done.stderr.decode()
+
+
+def check_run(name, *words, wanted="", said="", status=0):
+    """A run prints a text, says another one, and ends with a status."""
+    ended, printed, complaint = call(*words)
+    check(f"{name}: status and standard error", (ended, complaint), (status, said))
+    check(name, printed, wanted)
+
+
+def check_full(name, *words):
+    """A run whose output has no place is told so, with its status."""
+    with open("/dev/full", "wb") as full:
+        done = subprocess.run([PROGRAM, *words], stdout=full, stderr=subprocess.PIPE, timeout=300)
+    check(name, (done.returncode, done.stderr), (3, b"timedesk: cannot write\n"))
+
+
+def end():
+    """Says what was counted, and ends with status 0 only where nothing failed."""
+    print(f"{passed} passed, {failed} failed")
+    sys.exit(failed != 0)
