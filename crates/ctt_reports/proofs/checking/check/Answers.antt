@@ -1,6 +1,4 @@
 use Rattle.std.proofs.Common.{None, inl, inr, ⊎_elim, refl, subst}
-use Rattle.std.specs.Io.KnownBytes.{Appends}
-use Rattle.ctt_devices.specs.Output.{AppendsFront}
 use Rattle.ctt_files.proofs.Plain.{passed_on, passed_plain, unwritten_more}
 use Rattle.ctt_reports.specs.Checks.{IsChecked, IsJudged}
 use Rattle.ctt_reports.specs.Refusals.{IsOfCheck}

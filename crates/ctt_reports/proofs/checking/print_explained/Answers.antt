@@ -1,10 +1,10 @@
-use Rattle.std.proofs.Common.{◌≡◌, ◌++◌, ℕ, List, false, IfErr, OnErr, append_assoc, inr, subst, sym}
+use Rattle.std.proofs.Common.{◌++◌, ℕ, List, false, append_assoc, inr, subst, sym}
 use Rattle.std.specs.Io.KnownBytes.{Appends}
 use Rattle.std.proofs.KnownBytes.{Appends-trans}
 use Rattle.ctt_devices.specs.Output.{AppendsFront}
 use Rattle.ctt_files.proofs.Plain.{passed_on}
 use Rattle.ctt_findings.specs.Findings.{findings}
-use Rattle.ctt_reports.specs.Checks.{IsExplained, found_texts}
+use Rattle.ctt_reports.specs.Checks.{found_texts}
 use Rattle.ctt_reports.proofs.WritingLemmas.{cut, front_behind, front_more, on_err_weaker}
 use Rattle.ctt_reports.proofs.checking.print_explained.Goals as goal
 

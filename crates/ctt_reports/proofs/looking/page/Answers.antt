@@ -1,4 +1,4 @@
-use Rattle.std.proofs.Common.{◌≡◌, None, refl, string_bytes, subst, sym}
+use Rattle.std.proofs.Common.{None, refl, string_bytes, subst, sym}
 use Rattle.ctt_files.proofs.Plain.{on_ok_weaker, passed_plain}
 use Rattle.ctt_page.specs.Page.{IsPage}
 use Rattle.ctt_page.specs.declared.style.TheConstants.{STYLE}
