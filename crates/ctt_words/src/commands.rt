@@ -143,8 +143,8 @@ const COMMANDS: &[Outline] = &[
     },
 ];
 
-/// What stands below the help.
-const EXAMPLES: &str = "\
+/// What stands below the help: the example of each command, and the statuses.
+const BELOW_HELP: &str = "\
 Examples:
   timedesk check comp07.ctt comp07.sol --explain
   timedesk week comp07.ctt comp07.sol --teacher t067
@@ -170,7 +170,7 @@ pub(crate) fn command_line<'a>(alloc: Global) -> Result<Command<'a>, AllocError>
     let alone = Command::new(alloc, "timedesk")
         .about("A shared desk for curriculum-based course timetabling")
         .version("0.1.0")
-        .after_help(EXAMPLES)
+        .after_help(BELOW_HELP)
         .subcommand_required(true);
     with_commands(alloc, alone, COMMANDS)
 }

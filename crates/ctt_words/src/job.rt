@@ -92,7 +92,7 @@ pub enum Job {
 /// Why the words ask for no job.
 #[derive(Drop)]
 pub enum WordsFault {
-    /// The words form no command of the program. The text says why.
+    /// The words form no command of the program, or ask for the weeks of several at once. The text says why.
     Refused(String),
     /// The words ask for this help, or for the version.
     Help(String),
