@@ -23,5 +23,8 @@ returns-clause-cause g c =
     let problem = c.args.instance.now in
     let held = g.F.Files.held c.args.files.now in
     let bytes = c.deref.result.now in
-    inr (bytes, told_of (held (string_bytes c.args.journal)) bytes c.in_ok-text.text.items c.deref.ensures.value c.in_ok-text.ensures.all,
-    no_journal c.in-Err.fault problem bytes c.in-Err.ensures.fault c.in-Err.ensures.accepted c.refused_journal.result c.refused_journal.ensures)
+    inr (
+      bytes,
+      told_of (held (string_bytes c.args.journal)) bytes c.in_ok-text.text.items c.deref.ensures.value c.in_ok-text.ensures.all,
+      no_journal c.in-Err.fault problem bytes c.in-Err.ensures.fault c.in-Err.ensures.accepted c.refused_journal.result c.refused_journal.ensures,
+    )
