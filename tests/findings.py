@@ -180,9 +180,20 @@ def check_worked(folder):
         check_files(f"the {name} names", pair_of(NAMES, name))
 
 
+def check_long(folder):
+    """Compares the reports on a solution of which more is found than is written at once."""
+    names = [f"{'long' * 20}{n}" for n in range(30)]
+    head = "Name: long Courses: 30 Rooms: 1 Days: 5 Periods_per_day: 5 Curricula: 0 Constraints: 0 COURSES:"
+    courses = " ".join(f"{name} t{n} 25 5 9" for n, name in enumerate(names))
+    text = f"{head} {courses} ROOMS: {'room' * 20} 1 CURRICULA: UNAVAILABILITY_CONSTRAINTS: END."
+    t = "".join(f"{name} {'room' * 20} {day} {period}\n" for name in names for day in range(5) for period in range(5))
+    check_files("many findings", write_files(folder, text.encode(), t.encode()))
+
+
 def main():
     with tempfile.TemporaryDirectory() as folder:
         check_worked(folder)
+        check_long(folder)
         check_drawn(folder)
     end()
 

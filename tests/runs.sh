@@ -132,6 +132,17 @@ Options:
       --strict         End with status 4 where the solution is not lawful, 5 where it is lawful and not complete
   -h, --help           Print help
 
+The lines of --explain, with days and periods counted from 0:
+  lectures COURSE PLACED STATED
+  conflict COURSE COURSE DAY PERIOD teacher TEACHER (or curriculum CURRICULUM)
+  availability COURSE DAY PERIOD
+  occupancy ROOM DAY PERIOD COURSE
+  barred COURSE ROOM DAY PERIOD
+  capacity COURSE ROOM DAY PERIOD POINTS
+  days COURSE DAYS MINIMUM POINTS
+  compactness CURRICULUM COURSE DAY PERIOD POINTS
+  stability COURSE ROOMS POINTS
+
 Example: timedesk check comp07.ctt comp07.sol --explain
 '
 week_help='Print the week as a table, with a column for each day and a line for each period
@@ -146,7 +157,7 @@ Options:
       --barred <FILE>      The file of the rooms that are barred for courses; without it none is
       --curriculum <NAME>  The week of this curriculum alone
       --teacher <NAME>     The week of this teacher alone
-      --course <NAME>      The week of this course alone, with the slots in which it is unavailable
+      --course <NAME>      The week of this course alone; - marks a slot in which it is unavailable, ! a lecture there
       --room <NAME>        The week of this room alone
   -h, --help               Print help
 

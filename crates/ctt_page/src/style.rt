@@ -1,7 +1,8 @@
 //! How the page looks.
 
 /// The style of the page: by the system's colours, light or dark; a grid that is wider than the window is
-/// moved sideways in its own box; on paper no grid is cut in two, if it fits on a sheet.
+/// moved sideways in its own box; a link to a cell shows its grid round it; on paper no grid is cut in two, if
+/// it fits on a sheet.
 pub const STYLE: &str = "
 :root { color-scheme: light dark; --broken: #b00020; --costs: #7a4f00; }
 @media (prefers-color-scheme: dark) { :root { --broken: #ff9a9a; --costs: #f0c060; } }
@@ -17,13 +18,14 @@ section td { min-width: 7rem; }
 td p { margin: 0 0 0.3rem; }
 b, i { color: var(--broken); display: block; font-size: 0.9em; font-style: normal; }
 i { color: var(--costs); }
-ul { columns: 24rem; padding-left: 1.2rem; }
+ul { columns: 24rem; column-gap: 2rem; padding-left: 1.2rem; }
 li { break-inside: avoid; }
 ul:not(:has(li))::after { content: 'none'; }
-:target { outline: 3px solid Highlight; }
+td:target, h3:target { outline: 3px solid LinkText; scroll-margin: 40vh 7rem; }
 @media print {
   body { max-width: none; padding: 0; }
   nav { display: none; }
+  ul { columns: 16rem; }
   section div { overflow: visible; }
 }
 ";

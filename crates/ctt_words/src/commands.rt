@@ -29,7 +29,19 @@ const COMMANDS: &[Outline] = &[
     Outline {
         name: "check",
         about: "Report what a solution breaks and what it costs",
-        example: "Example: timedesk check comp07.ctt comp07.sol --explain",
+        example: "\
+The lines of --explain, with days and periods counted from 0:
+  lectures COURSE PLACED STATED
+  conflict COURSE COURSE DAY PERIOD teacher TEACHER (or curriculum CURRICULUM)
+  availability COURSE DAY PERIOD
+  occupancy ROOM DAY PERIOD COURSE
+  barred COURSE ROOM DAY PERIOD
+  capacity COURSE ROOM DAY PERIOD POINTS
+  days COURSE DAYS MINIMUM POINTS
+  compactness CURRICULUM COURSE DAY PERIOD POINTS
+  stability COURSE ROOMS POINTS
+
+Example: timedesk check comp07.ctt comp07.sol --explain",
         arguments: &[
             INSTANCE,
             SOLUTION,
@@ -58,7 +70,7 @@ const COMMANDS: &[Outline] = &[
             Argument::Valued(
                 "course",
                 "NAME",
-                "The week of this course alone, with the slots in which it is unavailable",
+                "The week of this course alone; - marks a slot in which it is unavailable, ! a lecture there",
             ),
             Argument::Valued("room", "NAME", "The week of this room alone"),
         ],
