@@ -1,9 +1,10 @@
 //! The commands of the program.
 
-ghost use Rattle.std.specs.Prelude.{IfOk};
+ghost use Rattle.std.specs.Prelude.{◌≡◌, IfOk, IfSome};
 ghost use Rattle.ctt_words.specs.CommandLine.{IsCommand, timedesk};
+ghost use Rattle.ctt_words.specs.Outlines.{name_of, named};
 
-use crate::outline::{Argument, Outline, with_commands};
+use crate::outline::{Argument, Name, Outline, find, with_commands};
 use clap::Command;
 use std::alloc::{AllocError, Global};
 
@@ -27,6 +28,7 @@ const START: Argument = Argument::Valued(
 
 const COMMANDS: &[Outline] = &[
     Outline {
+        command: Name::Check,
         name: "check",
         about: "Report what a solution breaks and what it costs",
         example: "Example: timedesk check comp07.ctt comp07.sol --explain",
@@ -46,6 +48,7 @@ const COMMANDS: &[Outline] = &[
         ],
     },
     Outline {
+        command: Name::Week,
         name: "week",
         about: "Print the week as a table, with a column for each day and a line for each period",
         example: "Example: timedesk week comp07.ctt comp07.sol --teacher t067",
@@ -64,12 +67,14 @@ const COMMANDS: &[Outline] = &[
         ],
     },
     Outline {
+        command: Name::Page,
         name: "page",
         about: "Print a page for a browser with the report, all that is found, and the weeks",
         example: "Example: timedesk page comp07.ctt comp07.sol >comp07.html",
         arguments: &[INSTANCE, SOLUTION, BARRED],
     },
     Outline {
+        command: Name::Run,
         name: "run",
         about: "Run a script of planners' steps and print the answers",
         example: "Example: timedesk run comp07.ctt planners.txt --start comp07.sol --journal monday.journal",
@@ -86,12 +91,14 @@ const COMMANDS: &[Outline] = &[
         ],
     },
     Outline {
+        command: Name::Audit,
         name: "audit",
         about: "Say whether a journal was told what its drafts are told, run one after another",
         example: "Example: timedesk audit comp07.ctt monday.journal --start comp07.sol",
         arguments: &[INSTANCE, JOURNAL, BARRED, START],
     },
     Outline {
+        command: Name::Crew,
         name: "crew",
         about: "Run scripts at once, each by a planner on a thread, and print the answers",
         example: "Example: timedesk crew comp07.ctt anna.txt ben.txt",
@@ -106,6 +113,7 @@ const COMMANDS: &[Outline] = &[
         ],
     },
     Outline {
+        command: Name::Desk,
         name: "desk",
         about: "Keep a desk for planners at their terminals",
         example: "Example: timedesk desk comp07.ctt - --start comp07.sol",
@@ -126,6 +134,7 @@ const COMMANDS: &[Outline] = &[
         ],
     },
     Outline {
+        command: Name::Journal,
         name: "journal",
         about: "Print the journal of the minutes of a desk",
         example: "Example: timedesk journal comp07.ctt monday.minutes >monday.journal",
@@ -136,6 +145,7 @@ const COMMANDS: &[Outline] = &[
         ],
     },
     Outline {
+        command: Name::List,
         name: "list",
         about: "Print the timetable after a journal as a solution",
         example: "Example: timedesk list comp07.ctt monday.journal --start comp07.sol >tuesday.sol",
@@ -173,4 +183,12 @@ pub(crate) fn command_line<'a>(alloc: Global) -> Result<Command<'a>, AllocError>
         .after_help(BELOW_HELP)
         .subcommand_required(true);
     with_commands(alloc, alone, COMMANDS)
+}
+
+/// The command of this name.
+pub(crate) fn command_named(name: &str) -> Option<Name>
+    ensures known { result ≡ named name.now }
+    ensures name { IfSome result (λ command. name.now ≡ name_of command) }
+{
+    find(COMMANDS, name)
 }
