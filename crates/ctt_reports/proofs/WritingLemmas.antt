@@ -1,5 +1,5 @@
 -- What was written of findings, by what was told of them.
-use Rattle.std.proofs.Common.{◌≡◌, ℕ, ◌+◌, ◌≤◌, min, Bool, true, false, List, [], ◌∷◌, ◌++◌, length, take, Option, Some, None, Result, Ok, Err, IfErr, OnErr, refl, string_bytes, ◌∙◌, sym, ap, subst, append-nil, append_assoc, inl, inr, arith}
+use Rattle.std.proofs.Common.{◌≡◌, ◌⊎◌, ℕ, ◌+◌, ◌≤◌, min, Bool, true, List, [], ◌∷◌, ◌++◌, length, take, Option, Result, Ok, Err, IfErr, OnErr, refl, string_bytes, ◌∙◌, sym, ap, subst, append-nil, append_assoc, inl, inr, arith}
 use Rattle.std.specs.Io.KnownBytes.{Appends}
 use Rattle.std.proofs.KnownBytes.{Appends-nil, Appends-trans}
 use Rattle.std.proofs.Math.Seq.{take-append-add}
@@ -10,6 +10,9 @@ use Rattle.ctt_findings.specs.declared.finding.Finding.{Finding}
 use Rattle.ctt_findings.specs.declared.untold.Untold.{Untold}
 use Rattle.ctt_findings.specs.declared.untold.Untold.TheVariants.{Failed, NoMemory}
 use Rattle.ctt_devices.specs.Output.{AppendsFront}
+use Rattle.ctt_files.specs.Faults.{MayHaveWritten}
+use Rattle.ctt_files.specs.declared.fault.Fault.{Fault}
+use Rattle.ctt_files.specs.declared.fault.Fault.TheVariants.{CannotWrite}
 use Rattle.ctt_reports.specs.Checks.{found_text, found_texts}
 use Rattle.ctt_reports.specs.Writing.{Grows, Marks}
 use Rattle.ctt_reports.specs.declared.told.Told.{Told}
@@ -19,9 +22,11 @@ grows_nil : (x : Option (List ℕ)) (kept : List ℕ) → Grows x kept x kept []
 grows_nil x kept = ([], Appends-nil x, sym (append-nil kept))
 
 grows_trans : (x y z : Option (List ℕ)) (kept left last more most : List ℕ) → Grows x kept y left more → Grows y left z last most → Grows x kept z last (more ++ most)
-grows_trans x y z kept left last more most one two =
-    (one.0 ++ two.0, Appends-trans x y z one.0 two.0 one.1 two.1,
-    append_assoc one.0 two.0 last ∙ ap (λ t. one.0 ++ t) two.2 ∙ sym (append_assoc one.0 left most) ∙ ap (λ t. t ++ most) one.2 ∙ append_assoc kept more most)
+grows_trans x y z kept left last more most one two = (
+  one.0 ++ two.0,
+  Appends-trans x y z one.0 two.0 one.1 two.1,
+  append_assoc one.0 two.0 last ∙ ap (λ t. one.0 ++ t) two.2 ∙ sym (append_assoc one.0 left most) ∙ ap (λ t. t ++ most) one.2 ∙ append_assoc kept more most,
+)
 
 -- a front of what is kept is a front of it all
 pub front_more : (x y : Option (List ℕ)) (front rest all : List ℕ) → all ≡ front ++ rest → AppendsFront x y front → AppendsFront x y all
@@ -70,9 +75,11 @@ module _ {W : Type 0} (failed : W → Bool) (taken : W → Option (List ℕ)) wh
       (ap (λ m. m.out.ghost_name) h, ap (λ m. failed m.out.now) h, subst (λ m. Grows (taken a.out.now) (string_bytes a.text) (taken m.out.now) (string_bytes m.text) []) (sym h) (grows_nil (taken a.out.now) (string_bytes a.text)))
   heard i a (f ∷ fs) b (m, one, others) =
       let rest = heard i m fs b others in
-      let same : found_texts m.json i m.later fs ≡ found_texts a.json i true fs = ap (λ j. found_texts j i m.later fs) one.1 ∙ ap (λ l. found_texts a.json i l fs) one.2 in
-      (rest.0 ∙ one.0, rest.1 ∙ one.3,
-      grows_trans _ _ _ _ _ _ _ _ one.4 (subst (Grows (taken m.out.now) (string_bytes m.text) (taken b.out.now) (string_bytes b.text)) same rest.2))
+      let same : found_texts m.json i m.later fs ≡ found_texts a.json i true fs = ap (λ j. found_texts j i m.later fs) one.1 ∙ ap (λ l. found_texts a.json i l fs) one.2 in (
+        rest.0 ∙ one.0,
+        rest.1 ∙ one.3,
+        grows_trans _ _ _ _ _ _ _ _ one.4 (subst (Grows (taken m.out.now) (string_bytes m.text) (taken b.out.now) (string_bytes b.text)) same rest.2),
+      )
 
   marks_same : (fault : Untold) (old older new : Bool) → old ≡ older → Marks fault old new → Marks fault older new
   marks_same Failed old older new same is = is
@@ -91,9 +98,11 @@ module _ {W : Type 0} (failed : W → Bool) (taken : W → Option (List ℕ)) wh
       let before = heard i a h.front m h.heard in
       let now = failing fault m b h.failed in
       let told : List ℕ = found_texts a.json i a.later h.front in
-      let rest = found_append a.json i a.later h.front h.rest in
-      (now.0 ∙ before.0, marks_same fault (failed m.out.now) (failed a.out.now) (failed b.out.now) before.1 now.1,
-      front_more _ _ told rest.0 _ (ap (found_texts a.json i a.later) h.parts ∙ rest.1) (front_written _ _ _ _ (string_bytes m.text) _ told none refl before.2 now.2))
+      let rest = found_append a.json i a.later h.front h.rest in (
+        now.0 ∙ before.0,
+        marks_same fault (failed m.out.now) (failed a.out.now) (failed b.out.now) before.1 now.1,
+        front_more _ _ told rest.0 _ (ap (found_texts a.json i a.later) h.parts ∙ rest.1) (front_written _ _ _ _ (string_bytes m.text) _ told none refl before.2 now.2),
+      )
 
 -- what holds of a fault that is known
 pub of_fault : {T E : Type 0} (P : E → Type 0) (r : Result T E) (fault : E) → r ≡ Err fault → IfErr r P → P fault
@@ -102,3 +111,8 @@ of_fault P r fault is h = subst (λ q. IfErr q P) is h
 pub on_err_weaker : {T E : Type 0} (r : Result T E) (P Q : Type 0) → (P → Q) → OnErr r P → OnErr r Q
 on_err_weaker (Ok x) P Q more holds = tt
 on_err_weaker (Err e) P Q more holds = more holds
+
+-- a text that was not printed whole, of which a front may have been
+pub cut : {T : Type 0} (r : Result T Fault) (U P : Type 0) → IfErr r (λ fault. fault ≡ CannotWrite) → OnErr r P → IfErr r (λ fault. U ⊎ (MayHaveWritten fault × P))
+cut (Ok x) U P is holds = tt
+cut (Err fault) U P is holds = inr (subst MayHaveWritten (sym is) tt, holds)

@@ -3,3 +3,4 @@ pub mod Refusals
 pub mod Writing
 pub mod Checks
 pub mod Views
+pub mod Showings

@@ -136,7 +136,7 @@ fn print_checked<W: Sink>(
 
 /// Prints the report on a solution of an instance, each given by the name of its file: as text or as JSON, with
 /// all findings where `explain` asks for them. It ends by what the solution is, where `strict` asks for that.
-pub fn check<F: Files, W: Sink>(
+pub(crate) fn check<F: Files, W: Sink>(
     alloc: Global,
     files: &mut F,
     out: &mut W,

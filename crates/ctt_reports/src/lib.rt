@@ -4,8 +4,8 @@
 mod checking;
 mod judging;
 mod looking;
+mod showing;
 mod subject;
 mod told;
 
-pub use checking::check;
-pub use looking::{page, week};
+pub use showing::show;

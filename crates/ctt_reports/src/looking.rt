@@ -16,7 +16,7 @@ use std::alloc::Global;
 
 /// Prints the week of a solution of an instance, each given by the name of its file: that of what is named, or that of
 /// all rooms.
-pub fn week<F: Files, W: Sink>(
+pub(crate) fn week<F: Files, W: Sink>(
     alloc: Global,
     files: &mut F,
     out: &mut W,
@@ -46,7 +46,7 @@ pub fn week<F: Files, W: Sink>(
 }
 
 /// Prints a page for a browser on a solution of an instance, each given by the name of its file.
-pub fn page<F: Files, W: Sink>(
+pub(crate) fn page<F: Files, W: Sink>(
     alloc: Global,
     files: &mut F,
     out: &mut W,

@@ -7,7 +7,7 @@ ghost use Rattle.ctt_findings.specs.Findings.{findings};
 ghost use Rattle.ctt_findings.specs.Fitting.{FindingFits};
 ghost use Rattle.ctt_findings.specs.declared.untold.Untold.TheVariants.{Failed};
 ghost use Rattle.ctt_devices.specs.Output.{AppendsFront};
-ghost use Rattle.ctt_files.specs.Faults.{IfUnwritten};
+ghost use Rattle.ctt_files.specs.Faults.{IfUnwritten, MayHaveWritten};
 ghost use Rattle.ctt_files.specs.declared.fault.Fault.TheVariants.{NoMemory};
 ghost use Rattle.ctt_reports.specs.Checks.{found_text, found_texts};
 ghost use Rattle.ctt_reports.specs.Writing.{Grows};
@@ -120,6 +120,7 @@ pub(crate) fn tell<W: Sink>(
     ensures cause { IfErr result (λ fault. IfUnwritten fault
         (W.has_failed out.new ≡ true)
         ((fault ≡ NoMemory) × (W.has_failed out.new ≡ W.has_failed out.old))) }
+    ensures fault { IfErr result MayHaveWritten }
     ensures front { OnErr result (AppendsFront (W.taken out.old) (W.taken out.new)
         (found_texts json instance.now false (findings instance.now timetable.now))) }
 {

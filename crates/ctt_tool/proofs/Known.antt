@@ -13,7 +13,8 @@ use Rattle.ctt_tool.specs.Work.{AsksForBadSeats, AsksForRefusedText, AsksForTooM
 use Rattle.ctt_files.specs.declared.fault.Fault.{Fault}
 use Rattle.ctt_files.specs.declared.fault.Fault.TheVariants.{BadSeats, Barred, CannotRead, CannotWrite, Instance, Journal, MinutesExist, NoCourse, NoCurriculum, NoMemory, NoPlace, NoRoom, NoTeacher, NoThread, Opening, Solution, TooLong, TooManyScripts, Words, WordsNotText}
 use Rattle.ctt_files.proofs.Plain.{IsPlain, behind_plain, unwritten_more}
-use Rattle.ctt_reports.proofs.Showings.{showing_plain}
+use Rattle.ctt_reports.specs.Showings.{whose_of}
+use Rattle.ctt_reports.proofs.LookLemmas.{look_plain}
 use Rattle.ctt_tool.proofs.Plain.{audited_plain, minutes_plain, script_plain, scripts_plain, seats_plain}
 
 -- what is said whole, where the mark is not set, is the line of a fault
@@ -44,7 +45,7 @@ abbrev IsSpecial : Job → Fault → Type 0
 IsSpecial job fault = ((fault ≡ TooManyScripts) × (64 < length (scripts_of job))) ⊎ ((fault ≡ BadSeats) × HasBadSeats job)
 
 job_plain : (job : Job) (held : Held) (fault : Fault) → IsOfJob job held fault → IsPlain fault ⊎ IsSpecial job fault
-job_plain (Show instance barred solution showing) held fault is = inl (showing_plain showing held instance barred solution fault is)
+job_plain (Show instance barred solution showing) held fault is = inl (look_plain held instance barred (whose_of showing) solution fault is)
 job_plain (Run instance barred script start journal) held fault is = inl (behind_plain (IsOfScript script start) (script_plain script start) held instance barred fault is)
 job_plain (Audit instance barred journal start) held fault is = inl (behind_plain (IsOfAudited journal start) (audited_plain journal start) held instance barred fault is)
 job_plain (Crew instance barred scripts) held fault (inl many) = inr (inl many)

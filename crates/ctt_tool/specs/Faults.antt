@@ -18,6 +18,7 @@ use Rattle.ctt_script.specs.declared.script_fault.ScriptFault.{ScriptFault}
 use Rattle.ctt_script.specs.declared.script_fault.ScriptFault.TheVariants as script
 use Rattle.ctt_files.specs.declared.fault.Fault.{Fault}
 use Rattle.ctt_files.specs.declared.fault.Fault.TheVariants.{CannotRead, CannotWrite, Journal, NoMemory, NoPlace, NoThread, Opening, TooLong}
+use Rattle.ctt_files.specs.Faults.{IfUnwritten, IsLineOf, status_of}
 
 -- the fault of a journal
 abbrev pub fault_of_journal : JournalFault → Fault

@@ -10,6 +10,7 @@ use Rattle.ctt_edits.specs.declared.fault.EditFault.{EditFault}
 use Rattle.ctt_core.specs.declared.journal.JournalEntry.{JournalEntry}
 use Rattle.ctt_script.specs.JournalText.{IsJournalCauseOf}
 use Rattle.ctt_office.specs.Recovery.{IsMinutesFault}
+use Rattle.ctt_files.specs.Refusals.{IsNoText, IsOfFiles, IsOfInstanceOr, IsOfStart, IsOfText, IsTooLong}
 use Rattle.ctt_tool.specs.Faults.{IsOpeningFault, fault_of_journal}
 use Rattle.ctt_tool.specs.Seats.{AreBadSeats}
 use Rattle.ctt_files.specs.Texts.{Held, Holds, IsStart}

@@ -10,6 +10,7 @@ use Rattle.ctt_edits.specs.Openings.{opening}
 use Rattle.ctt_edits.specs.declared.fault.EditFault.{EditFault}
 use Rattle.ctt_core.specs.declared.journal.JournalEntry.{JournalEntry}
 use Rattle.ctt_script.specs.JournalText.{JournalSpells}
+use Rattle.ctt_files.specs.Texts.{Held, IsStart}
 
 -- the text is that of the journal with these entries, of drafts on timetables of the instance
 pub record IsJournalText (problem : Problem) (text : List ℕ) (entries : List JournalEntry) : Type 0 where

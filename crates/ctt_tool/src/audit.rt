@@ -75,7 +75,10 @@ fn check_journal(alloc: Global, instance: &Instance, text: &[u8]) -> Result<(), 
     ensures cause { IfErr result (IsNoJournalOf instance.now text.now) }
 {
     match read_journal(alloc, instance, text) {
-        Ok(_) => Ok(()),
+        Ok(entries) => {
+            let_go(entries);
+            Ok(())
+        }
         Err(fault) => Err(refused_journal(fault)),
     }
 }

@@ -7,8 +7,8 @@ mod desk;
 mod journal;
 mod list;
 mod office;
-mod refused;
 mod program;
+mod refused;
 mod run;
 
 ghost use Rattle.std.specs.Prelude.{◌≡◌, ◌≢◌, ◌≤◌, ◌⊎◌, ℕ, List, true, false, IfErr};

@@ -1,150 +1,180 @@
-//! The worked cases: scripts of desks, each played in all ways, and lines on one sheet.
+//! A case is a row of a table: a script with its opening, and in which ways it is played.
 
-use crate::both::{Case, Kind, play_on, play_on_both};
-use crate::shared::{self, Before, Script};
-use crate::sheets::play_rows;
+use crate::shared::Script;
 use crate::story::Story;
-use crate::worked;
-use ctt_text::{Instance, Placed};
+use crate::texts::{Lectures, Opening};
+use crate::{crews, cuts, desks, drafts, journals, reports, scripts, shared, sheets, transfers};
+use ctt_board::{GridSheet, ListSheet, Sheet};
+use ctt_text::Instance;
+use std::marker::Sync;
 use std::sync::Wait;
+use std::thread::Threads;
 
-/// Plays a script by step on the list sheet, and answers what was told of it.
-fn play_first(story: &mut Story, small: &Instance, script: Script) -> Before {
-    let answers = story.len();
-    play_on(story, small, Kind::List, &Case::Step(script));
-    Before {
-        answers,
-        end: story.marked(),
-        all: story.len(),
+/// On what a case is played.
+pub(crate) enum On {
+    /// `ListSheet`.
+    List,
+    /// `GridSheet`.
+    Grid,
+    /// A shared desk of list sheets.
+    SharedList,
+    /// A shared desk of grid sheets.
+    SharedGrid,
+}
+
+/// How a case is played.
+pub(crate) enum Way {
+    /// The reports on its opening.
+    Reports,
+    /// Its opening is written and read again.
+    Written,
+    /// Its lines, each of which is a call, on a sheet.
+    Lines,
+    /// One placement on a sheet.
+    Placement,
+    /// Which changes a sheet accepts.
+    Accepted,
+    /// Which rows its line reads.
+    Rows,
+    /// A draft that is stale on another sheet.
+    Draft,
+    /// A draft of a thousand calls.
+    LongDraft,
+    /// Its lines as events, one by one.
+    Step,
+    /// Its lines as events, all at once.
+    Run,
+    /// Its lines as a text, whose answers are a text.
+    Text,
+    /// Its lines are the text of a journal, which is audited.
+    Audit,
+    /// Whether a shared desk opens.
+    Opening,
+    /// Its lines are the script of a crew of one.
+    Crew,
+    /// Texts that are cut.
+    Cut,
+    /// Texts that count falsely.
+    Counts,
+    /// Its lines as a script on devices that fail.
+    Devices,
+    /// Texts on devices that fail.
+    Transfers,
+}
+
+/// One way in which a case is played.
+pub(crate) struct Play {
+    pub(crate) on: On,
+    pub(crate) way: Way,
+    /// How the way is called, where what is told has to be what was told in the last way that is not called.
+    pub(crate) called: &'static str,
+}
+
+/// A case.
+pub(crate) struct Case {
+    /// Its name, if it has one.
+    pub(crate) name: &'static str,
+    /// What stands at first.
+    pub(crate) opening: Opening,
+    pub(crate) lines: &'static str,
+    pub(crate) plays: &'static [Play],
+    /// Whether the first planner is dropped when another one begins, with the draft that he has open, where the desk is shared.
+    pub(crate) drops: bool,
+}
+
+/// Plays a case on sheets of one kind.
+fn play_on<'i, S: Sheet<'i>, R: Threads + Wait + Sync>(
+    story: &mut Story,
+    rt: &R,
+    small: &'i Instance,
+    way: &Way,
+    script: &Script,
+) {
+    match way {
+        Way::Reports => reports::play_reports(story, small, script.opening),
+        Way::Written => reports::play_written(story, small, script.opening),
+        Way::Lines | Way::Placement | Way::Accepted => sheets::play::<S>(story, small, way, script),
+        Way::Rows => sheets::play_rows(story, small, script),
+        Way::Draft | Way::LongDraft => drafts::play::<S>(story, small, way),
+        Way::Step | Way::Run => desks::play::<S>(story, small, way, script),
+        Way::Text => scripts::play_script::<S>(story, small, script),
+        Way::Devices => scripts::play_devices::<S>(story, small, script),
+        Way::Audit => {
+            journals::audit_text::<S>(story, small, script.opening, script.lines.as_bytes())
+        }
+        Way::Opening => shared::tell_opening::<S>(story, small, script.opening),
+        Way::Crew => crews::play(story, rt, small, script),
+        Way::Cut => cuts::cut(story, small),
+        Way::Counts => cuts::false_counts(story, small),
+        Way::Transfers => transfers::play_texts(story),
     }
 }
 
-/// Plays a script in one more way.
-fn play_way(
+/// Plays a case in one way.
+fn play_once<R: Threads + Wait + Sync>(
     story: &mut Story,
+    rt: &R,
     small: &Instance,
-    before: Before,
-    way: &str,
-    kind: Kind,
-    case: Case,
+    play: &Play,
+    script: &Script,
+) {
+    match play.on {
+        On::List => play_on::<ListSheet, R>(story, rt, small, &play.way, script),
+        On::Grid => play_on::<GridSheet, R>(story, rt, small, &play.way, script),
+        On::SharedList => shared::on_list(story, rt, small, script),
+        On::SharedGrid => shared::on_grid(story, rt, small, script),
+    }
+}
+
+/// Plays a case in one way, and once more where a call of it wanted memory.
+fn play_twice<R: Threads + Wait + Sync>(
+    story: &mut Story,
+    rt: &R,
+    small: &Instance,
+    play: &Play,
+    script: &Script,
 ) {
     let here = story.len();
-    play_on(story, small, kind, &case);
-    story.compare(before.answers, before.all, here, way);
-}
-
-/// Plays a script in all ways that need no shared desk, and answers what was told of it.
-fn play_ways(story: &mut Story, small: &Instance, script: Script) -> Before {
-    let before = play_first(story, small, script);
-    let step = Case::Step(script);
-    play_way(story, small, before, "on the grid sheet", Kind::Grid, step);
-    let run = Case::Run(script);
-    play_way(story, small, before, "at once", Kind::List, run);
-    play_way(
-        story,
-        small,
-        before,
-        "at once on the grid sheet",
-        Kind::Grid,
-        run,
-    );
-    let text = Case::Text(script);
-    play_way(story, small, before, "as a script", Kind::List, text);
-    play_way(
-        story,
-        small,
-        before,
-        "as a script on the grid sheet",
-        Kind::Grid,
-        text,
-    );
-    before
-}
-
-/// Plays a script in all ways: by step, by run and as a script, on both kinds of sheets, and on shared desks of both.
-pub(crate) fn play_desk<R: Wait>(
-    story: &mut Story,
-    rt: &R,
-    small: &Instance,
-    name: &str,
-    script: Script,
-) {
-    story.say(name);
-    let before = play_ways(story, small, script);
-    shared::play(story, rt, small, script, before);
-}
-
-/// Lines that are no events, beside one that is.
-fn play_bad_lines(story: &mut Story, small: &Instance) {
-    story.say("bad lines");
-    let script = Script::new(&[], worked::BAD_LINES);
-    let from = story.len();
-    play_on(story, small, Kind::Grid, &Case::Step(script));
-    let to = story.len();
-    play_on(story, small, Kind::Grid, &Case::Text(script));
-    story.compare(from, to, to, "as a script");
-}
-
-/// Scripts on desks that open with these lectures.
-fn play_scripts<R: Wait>(
-    story: &mut Story,
-    rt: &R,
-    small: &Instance,
-    opening: &[Placed],
-    cases: &[(&str, &str)],
-) {
-    for (name, lines) in cases {
-        play_desk(story, rt, small, name, Script::new(opening, lines));
+    play_once(story, rt, small, play, script);
+    if story.takes_back(here) {
+        play_once(story, rt, small, play, script);
     }
 }
 
-/// All desks. On the last one that opens empty, where it is shared, the draft that is left open is dropped.
-pub(crate) fn play_desks<R: Wait>(
+/// Plays a case in all its ways.
+fn play_case<R: Threads + Wait + Sync>(
     story: &mut Story,
     rt: &R,
     small: &Instance,
-    without_top: &[Placed],
+    lectures: &Lectures,
+    case: &Case,
 ) {
-    play_scripts(story, rt, small, &[], worked::ON_EMPTY);
-    let dropped = Script {
-        drops: true,
-        ..Script::new(&[], worked::LEFT_OPEN)
-    };
-    play_desk(story, rt, small, "left open, or dropped", dropped);
-    play_bad_lines(story, small);
-    play_scripts(story, rt, small, without_top, worked::ON_LECTURES);
-}
-
-/// Lines on sheets with these lectures.
-fn play_lines(story: &mut Story, small: &Instance, opening: &[Placed], cases: &[(&str, &str)]) {
-    for (name, lines) in cases {
-        let case = Case::Lines(Script::new(opening, lines));
-        play_on_both(story, small, name, &case);
+    if !case.name.is_empty() {
+        story.say(case.name);
+    }
+    let mut script = Script::new(lectures.of(&case.opening), case.lines, case.drops);
+    let (mut from, mut to) = (0, 0);
+    for one in case.plays {
+        let here = story.len();
+        play_twice(story, rt, small, one, &script);
+        if one.called.is_empty() {
+            (from, to) = (here, story.len());
+            script.note(here, story.marked(), to);
+        } else {
+            story.compare(from, to, here, one.called);
+        }
     }
 }
 
-/// Lines on one sheet.
-pub(crate) fn play_sheets(
+/// Plays cases.
+pub(crate) fn play_cases<R: Threads + Wait + Sync>(
     story: &mut Story,
+    rt: &R,
     small: &Instance,
-    solution: &[Placed],
-    without_top: &[Placed],
+    lectures: &Lectures,
+    cases: &[Case],
 ) {
-    play_lines(story, small, &[], worked::LINES_ON_EMPTY);
-    play_lines(story, small, solution, worked::LINES_ON_SOLUTION);
-    play_lines(story, small, without_top, worked::LINES_WITHOUT_TOP);
-    play_on_both(story, small, "one placement", &Case::Placement);
-    play_on_both(story, small, "accepted changes", &Case::Accepted(solution));
-    play_rows(story, small);
-}
-
-/// Drafts by themselves.
-pub(crate) fn play_drafts(story: &mut Story, small: &Instance) {
-    play_on_both(story, small, "drafts", &Case::Draft);
-    play_on_both(
-        story,
-        small,
-        "a draft of a thousand calls",
-        &Case::LongDraft,
-    );
+    for case in cases {
+        play_case(story, rt, small, lectures, case);
+    }
 }

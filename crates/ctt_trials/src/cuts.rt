@@ -1,15 +1,14 @@
 //! Texts that are cut short, and texts that count falsely.
 
-use crate::faults::{of_instance, of_journal, of_solution};
 use crate::story::Story;
 use crate::texts::{JOURNAL, MANY_CONSTRAINTS, MANY_MEMBERS, SMALL, SOLUTION};
-use ctt_script::read_journal;
-use ctt_text::{Instance, read_instance, read_solution};
+use ctt_script::{JournalFault, read_journal};
+use ctt_text::{Instance, ReadFault, SolutionFault, read_instance, read_solution};
 use std::alloc::{AllocError, Global};
 
 /// The front of a text that has so many words. Behind each of its words stands one blank.
-fn front(text: &[u8], words: usize) -> &[u8] {
-    let mut ended = 0usize;
+fn front(text: &[u8], words: u64) -> &[u8] {
+    let mut ended = 0u64;
     for end in 0..text.len() {
         if ended == words {
             return &text[..end];
@@ -21,49 +20,63 @@ fn front(text: &[u8], words: usize) -> &[u8] {
     text
 }
 
-/// Reads the text of an instance, and tells how that ends.
-fn tell_instance(story: &mut Story, text: &[u8]) {
+/// Reads the text of an instance, and tells how that ends: where it is refused, by a fault that is in these words.
+fn tell_instance(story: &mut Story, text: &[u8], fit: ReadFault, words: &str, at: u64) {
     story.bytes(b" ");
-    match read_instance(story.alloc(), text).err() {
-        Some(fault) => story.fault(of_instance(fault)),
-        None => story.bytes(b"read"),
-    }
-}
-
-/// Reads the text of a solution, and tells how that ends.
-fn tell_solution(story: &mut Story, small: &Instance, text: &[u8]) {
-    story.bytes(b" ");
-    match read_solution(story.alloc(), small, text).err() {
-        Some(fault) => story.fault(of_solution(fault)),
-        None => story.bytes(b"read"),
-    }
+    let fault = read_instance(story.alloc(), text).err();
+    story.read(fault, ReadFault::NoMemory, fit, words, at);
 }
 
 /// Reads the text of a journal, and tells how that ends.
-fn tell_journal(story: &mut Story, small: &Instance, text: &[u8]) {
+fn tell_journal(
+    story: &mut Story,
+    small: &Instance,
+    text: &[u8],
+    fit: JournalFault,
+    words: &str,
+    at: u64,
+) {
     story.bytes(b" ");
-    match read_journal(story.alloc(), small, text).err() {
-        Some(fault) => story.fault(of_journal(fault)),
-        None => story.bytes(b"read"),
+    let fault = read_journal(story.alloc(), small, text).err();
+    story.read(fault, JournalFault::NoMemory, fit, words, at);
+}
+
+/// The small instance, cut behind each of its words.
+fn cut_instance(story: &mut Story) {
+    story.bytes(b"instance");
+    for at in 1..=46 {
+        let text = front(SMALL.as_bytes(), at - 1);
+        tell_instance(story, text, ReadFault::Missing(at), "missing", at);
     }
 }
 
-/// The small instance, its solution and a journal, cut behind each of their words.
-fn cut(story: &mut Story, small: &Instance) {
-    story.say("cut");
-    story.bytes(b"instance");
-    for words in 0..=45 {
-        tell_instance(story, front(SMALL.as_bytes(), words));
-    }
+/// Its solution, cut behind each of its words: behind each fourth one it ends with a lecture.
+fn cut_solution(story: &mut Story, small: &Instance) {
     story.bytes(b"\nsolution");
-    for words in 0..=20 {
-        tell_solution(story, small, front(SOLUTION.as_bytes(), words));
+    for at in 1..=21 {
+        let text = front(SOLUTION.as_bytes(), at - 1);
+        story.bytes(b" ");
+        let fault = read_solution(story.alloc(), small, text).err();
+        let fit = SolutionFault::Cut(at);
+        story.read(fault, SolutionFault::NoMemory, fit, "cut", at);
     }
+}
+
+/// A journal, cut behind each of its words.
+fn cut_journal(story: &mut Story, small: &Instance) {
     story.bytes(b"\njournal");
-    for words in 0..=14 {
-        tell_journal(story, small, front(JOURNAL.as_bytes(), words));
+    for at in 1..=15 {
+        let text = front(JOURNAL.as_bytes(), at - 1);
+        tell_journal(story, small, text, JournalFault::Missing(at), "missing", at);
     }
     story.say("");
+}
+
+/// The small instance, its solution and a journal, cut behind each of their words.
+pub(crate) fn cut(story: &mut Story, small: &Instance) {
+    cut_instance(story);
+    cut_solution(story, small);
+    cut_journal(story, small);
 }
 
 /// The text of the small instance with a byte behind it that is no text.
@@ -74,23 +87,24 @@ fn spoilt(alloc: Global) -> Result<Vec<u8>, AllocError> {
     Ok(text)
 }
 
-/// Counts that promise what does not come, and a byte that is no text behind the end.
-fn false_counts(story: &mut Story, small: &Instance) {
-    story.say("counted falsely");
-    story.bytes(b"instance");
-    tell_instance(story, MANY_CONSTRAINTS.as_bytes());
-    tell_instance(story, MANY_MEMBERS.as_bytes());
+/// An instance that is no text behind its end.
+fn tell_spoilt(story: &mut Story) {
     match spoilt(story.alloc()) {
-        Ok(text) => tell_instance(story, &text),
+        Ok(text) => tell_instance(story, &text, ReadFault::NotText(220), "not text", 220),
         Err(AllocError) => story.no_memory(),
     }
-    story.bytes(b"\njournal");
-    tell_journal(story, small, b"journal 999999999 END.");
-    story.say("");
 }
 
-/// All that is cut, and all that is counted falsely.
-pub(crate) fn play(story: &mut Story, small: &Instance) {
-    played!(story, cut(story, small));
-    played!(story, false_counts(story, small));
+/// Counts that promise what does not come, and a byte that is no text behind the end.
+pub(crate) fn false_counts(story: &mut Story, small: &Instance) {
+    story.bytes(b"instance");
+    for (text, at) in [(MANY_CONSTRAINTS, 45), (MANY_MEMBERS, 41)] {
+        let fit = ReadFault::UnknownCourse(at);
+        tell_instance(story, text.as_bytes(), fit, "unknown course", at);
+    }
+    tell_spoilt(story);
+    story.bytes(b"\njournal");
+    let fit = JournalFault::BadWord(3);
+    tell_journal(story, small, b"journal 999999999 END.", fit, "bad word", 3);
+    story.say("");
 }

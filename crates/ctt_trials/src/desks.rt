@@ -4,6 +4,7 @@ ghost use Rattle.std.specs.Prelude.{◌↔◌, IsTrue, length};
 ghost use Rattle.std.specs.List.{AllByRecursion as Each};
 ghost use Rattle.ctt_core.specs.Runs.{EventFits};
 
+use crate::cases::Way;
 use crate::journals::tell_journal;
 use crate::lists::add;
 use crate::shared::Script;
@@ -25,8 +26,7 @@ pub(crate) fn tell_desk<'i, S: Sheet<'i>>(
     opening: &[Placed],
     desk: &Desk<'i, S, KeepAll>,
 ) {
-    story.lectures(small, desk.list());
-    story.costs(small, desk.cost());
+    story.timetable(small, desk.list(), desk.cost());
     tell_journal::<S>(story, small, opening, desk.journal());
 }
 
@@ -67,29 +67,18 @@ fn step_once<'i, S: Sheet<'i>>(desk: &mut Desk<'i, S, KeepAll>, event: &Event) -
     desk.step(*event)
 }
 
-/// What a desk answers to an event. Where that is want of memory, it is asked again.
-fn answer<'i, S: Sheet<'i>>(
-    story: &mut Story,
-    desk: &mut Desk<'i, S, KeepAll>,
-    event: &Event,
-) -> Answer {
-    match step_once(desk, event) {
-        Answer::NoMemory => {
-            story.call_again();
-            step_once(desk, event)
-        }
-        answer => answer,
-    }
-}
-
-/// Tells what a desk answers to an event.
+/// Tells what a desk answers to an event. Where that is want of memory, it is asked again.
 fn tell_answer<'i, S: Sheet<'i>>(
     story: &mut Story,
     small: &'i Instance,
     desk: &mut Desk<'i, S, KeepAll>,
     event: &Event,
 ) {
-    let answer = answer(story, desk, event);
+    let mut answer = step_once(desk, event);
+    if matches!(answer, Answer::NoMemory) {
+        story.call_again();
+        answer = step_once(desk, event);
+    }
     story.answer(small, &answer);
 }
 
@@ -106,16 +95,6 @@ fn answer_lines<'i, S: Sheet<'i>>(
             None if line.is_empty() => {}
             None => story.say("bad line"),
         }
-    }
-}
-
-/// Plays a script event by event. The place where its answers end in what is told is marked.
-pub(crate) fn step<'i, S: Sheet<'i>>(story: &mut Story, small: &'i Instance, script: &Script) {
-    if let Some(mut desk) = desk_with::<S>(story, small, script.opening) {
-        answer_lines(story, small, &mut desk, script.lines);
-        story.mark();
-        tell_desk(story, small, script.opening, &desk);
-        let_go(desk);
     }
 }
 
@@ -187,42 +166,50 @@ fn answers<'i, S: Sheet<'i>>(
     }
 }
 
-/// Tells what a desk answered to events at once, and what it is left with. Where an event wanted memory those behind it met
-/// another desk than they should: then the case is played again.
-fn tell_run<'i, S: Sheet<'i>>(
+/// Tells what a desk answers to events at once. Where an event wants memory those behind it meet another desk than they
+/// should: then the case is played again.
+fn tell_answers<'i, S: Sheet<'i>>(
     story: &mut Story,
     small: &'i Instance,
-    opening: &[Placed],
-    desk: &Desk<'i, S, KeepAll>,
-    answers: &[Answer],
-) {
-    for answer in answers {
-        story.answer(small, answer);
-    }
-    tell_desk(story, small, opening, desk);
-}
-
-/// Plays events at once.
-fn run_events<'i, S: Sheet<'i>>(
-    story: &mut Story,
-    small: &'i Instance,
-    opening: &[Placed],
+    desk: &mut Desk<'i, S, KeepAll>,
     events: &[Event],
 ) {
-    let Some(mut desk) = desk_with::<S>(story, small, opening) else {
-        return;
+    let Ok(answers) = answers(story, desk, events) else {
+        return story.no_memory();
     };
-    match answers(story, &mut desk, events) {
-        Ok(answers) => tell_run(story, small, opening, &desk, &answers),
-        Err(NoMemory) => story.no_memory(),
+    for answer in &answers {
+        story.answer(small, answer);
     }
-    let_go(desk);
 }
 
-/// Plays a script at once.
-pub(crate) fn run<'i, S: Sheet<'i>>(story: &mut Story, small: &'i Instance, script: &Script) {
-    match asked_in::<Event>(story.alloc(), small, script.lines) {
-        Ok(events) => run_events::<S>(story, small, script.opening, &events),
+/// Answers a script at once.
+fn answer_at_once<'i, S: Sheet<'i>>(
+    story: &mut Story,
+    small: &'i Instance,
+    desk: &mut Desk<'i, S, KeepAll>,
+    script: &str,
+) {
+    match asked_in::<Event>(story.alloc(), small, script) {
+        Ok(events) => tell_answers(story, small, desk, &events),
         Err(AllocError) => story.no_memory(),
+    }
+}
+
+/// Plays a script event by event, or at once. The place where its answers end in what is told is marked.
+pub(crate) fn play<'i, S: Sheet<'i>>(
+    story: &mut Story,
+    small: &'i Instance,
+    way: &Way,
+    script: &Script,
+) {
+    if let Some(mut desk) = desk_with::<S>(story, small, script.opening) {
+        if matches!(way, Way::Run) {
+            answer_at_once(story, small, &mut desk, script.lines);
+        } else {
+            answer_lines(story, small, &mut desk, script.lines);
+        }
+        story.mark();
+        tell_desk(story, small, script.opening, &desk);
+        let_go(desk);
     }
 }

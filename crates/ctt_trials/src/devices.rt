@@ -153,6 +153,31 @@ impl Sink for Shelf {
     }
 }
 
+/// How an input is read.
+#[derive(Drop)]
+pub(crate) struct Reading<'a> {
+    pub(crate) text: &'a [u8],
+    /// The number of the read that fails, counted from 1; none where it is 0.
+    pub(crate) fails_at: u64,
+    /// How many reads were tried.
+    pub(crate) pulls: u64,
+}
+
+impl<'a> Reading<'a> {
+    pub(crate) fn new(text: &'a [u8], fails_at: u64) -> Self {
+        Reading {
+            text,
+            fails_at,
+            pulls: 0,
+        }
+    }
+}
+
+/// Whether a writer holds so many bytes, which are the front of a text.
+pub(crate) fn holds(shelf: &Shelf, text: &[u8], taken: usize) -> bool {
+    shelf.held().len() == taken && text.starts_with(shelf.held())
+}
+
 /// A reader and a writer of std whose calls all fail.
 #[derive(Drop)]
 pub(crate) struct Broken;

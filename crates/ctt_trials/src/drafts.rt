@@ -3,13 +3,21 @@
 ghost use Rattle.std.specs.Prelude.{◌≡◌, ◌↔◌, IsTrue, IfOk};
 ghost use Rattle.ctt_edits.specs.Calls.{CallFits};
 
-use crate::sheets::{call_of, empty_sheet, tell_cells, tell_sheet};
+use crate::cases::Way;
+use crate::sheets::{call_of, tell_cells, tell_sheet};
 use crate::story::Story;
 use ctt_board::{Cell, Change, Sheet, Timetable};
 use ctt_core::Answer;
 use ctt_draft::{Draft, KeepAll, replay};
 use ctt_edits::{Call, Reply};
 use ctt_text::{CourseNo, Instance, NoMemory, RoomNo, SlotNo, let_go};
+
+/// An empty sheet.
+fn empty_sheet<'i, S: Sheet<'i>>(story: &Story, small: &'i Instance) -> Result<S, NoMemory>
+    ensures { IfOk result (λ sheet. S.problem sheet ≡ small.now) }
+{
+    S::empty(story.alloc(), small)
+}
 
 /// Opens a draft on a sheet.
 fn open<'i, S: Sheet<'i>>(story: &Story, sheet: &S) -> Result<Draft<'i, S, KeepAll>, NoMemory>
@@ -38,18 +46,6 @@ fn ask_once<'i, S: Sheet<'i>>(
     draft.call(*call)
 }
 
-/// What a draft answers to a call that wanted memory before.
-fn ask_again<'i, S: Sheet<'i>>(
-    story: &mut Story,
-    draft: &mut Draft<'i, S, KeepAll>,
-    call: &Call,
-) -> Option<Reply>
-    ensures { draft.new.problem ≡ draft.old.problem }
-{
-    story.call_again();
-    ask_once(draft, call).ok()
-}
-
 /// What a draft answers to a call. Where that is want of memory, it is asked again.
 fn ask<'i, S: Sheet<'i>>(
     story: &mut Story,
@@ -60,7 +56,10 @@ fn ask<'i, S: Sheet<'i>>(
 {
     match ask_once(draft, call) {
         Ok(reply) => Some(reply),
-        Err(NoMemory) => ask_again(story, draft, call),
+        Err(NoMemory) => {
+            story.call_again();
+            ask_once(draft, call).ok()
+        }
     }
 }
 
@@ -143,24 +142,25 @@ fn one_draft<'i, S: Sheet<'i>>(story: &mut Story, sheet: &mut S, other: &S)
     settle(story, draft, sheet);
 }
 
+/// Whether a draft answers that the edit of a line is done.
+fn does<'i, S: Sheet<'i>>(story: &mut Story, draft: &mut Draft<'i, S, KeepAll>, line: &str) -> bool
+    ensures { draft.new.problem ≡ draft.old.problem }
+{
+    match call_of(draft.instance(), line.as_bytes()) {
+        Some(call) => matches!(ask(story, draft, &call), Some(Reply::Done)),
+        None => false,
+    }
+}
+
 /// A draft of a thousand calls, which places geo and drops it again by turns.
 fn long_draft<'i, S: Sheet<'i>>(story: &mut Story, sheet: &mut S) {
     let Ok(mut draft) = open(story, sheet) else {
         return story.no_memory();
     };
     let mut done = 0u64;
-    for turn in 0..1000u64 {
-        let line = if turn % 2 == 0 {
-            "place geo A 0 1"
-        } else {
-            "drop geo 0 1"
-        };
-        let call = call_of(draft.instance(), line.as_bytes());
-        if let Some(call) = call {
-            if matches!(ask(story, &mut draft, &call), Some(Reply::Done)) {
-                done = done.saturating_add(1);
-            }
-        }
+    for turn in 0..500u64 {
+        done = done.saturating_add(u64::from(does(story, &mut draft, "place geo A 0 1")));
+        done = done.saturating_add(u64::from(does(story, &mut draft, "drop geo 0 1")));
     }
     story.count("done", done);
     tell_work(story, &draft);
@@ -181,22 +181,17 @@ fn place_top<S: Timetable>(sheet: &mut S)
     }
 }
 
-/// A draft on an empty sheet, beside another sheet.
-pub(crate) fn play<'i, S: Sheet<'i>>(story: &mut Story, small: &'i Instance) {
+/// A draft on an empty sheet, beside another sheet, or a long one.
+pub(crate) fn play<'i, S: Sheet<'i>>(story: &mut Story, small: &'i Instance, way: &Way) {
     let (Ok(mut sheet), Ok(mut other)) = (
         empty_sheet::<S>(story, small),
         empty_sheet::<S>(story, small),
     ) else {
         return story.no_memory();
     };
+    if matches!(way, Way::LongDraft) {
+        return long_draft(story, &mut sheet);
+    }
     place_top(&mut other);
     one_draft(story, &mut sheet, &other);
-}
-
-/// A long draft on an empty sheet.
-pub(crate) fn play_long<'i, S: Sheet<'i>>(story: &mut Story, small: &'i Instance) {
-    match empty_sheet::<S>(story, small) {
-        Ok(mut sheet) => long_draft(story, &mut sheet),
-        Err(NoMemory) => story.no_memory(),
-    }
 }

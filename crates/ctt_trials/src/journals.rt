@@ -6,12 +6,11 @@ ghost use Rattle.ctt_edits.specs.Fitting.{IsShortReply};
 ghost use Rattle.ctt_core.specs.Entries.{EntryFits};
 ghost use Rattle.ctt_script.specs.Entries.{IsShort};
 
-use crate::faults::of_journal;
 use crate::story::Story;
 use ctt_board::Sheet;
 use ctt_core::{JournalEntry, Verdict, audit};
 use ctt_edits::Reply;
-use ctt_script::{read_journal, write_journal};
+use ctt_script::{JournalFault, read_journal, write_journal};
 use ctt_text::{Instance, NoMemory, Placed, is_timetable};
 
 /// Whether a reply can be written.
@@ -64,8 +63,10 @@ fn tell_verdict<'i, S: Sheet<'i>>(
     small: &'i Instance,
     opening: &[Placed],
     entries: &[JournalEntry],
-) {
-    if !is_timetable(small, opening) || !entries_fit(small, entries) {
+)
+    requires { Each (EntryFits small.now) entries.now }
+{
+    if !is_timetable(small, opening) {
         return story.say("unfit");
     }
     match audit::<S>(story.alloc(), small, opening, entries) {
@@ -83,7 +84,8 @@ pub(crate) fn audit_text<'i, S: Sheet<'i>>(
 ) {
     match read_journal(story.alloc(), small, text) {
         Ok(entries) => tell_verdict::<S>(story, small, opening, &entries),
-        Err(fault) => story.fault(of_journal(fault)),
+        Err(JournalFault::NoMemory) => story.no_memory(),
+        Err(_fault) => story.say("no journal"),
     }
 }
 

@@ -2,9 +2,7 @@
 
 use crate::story::Story;
 use ctt_findings::{report_json, report_text};
-use ctt_text::{
-    Instance, NoMemory, Placed, SolutionFault, is_timetable, read_solution, write_solution,
-};
+use ctt_text::{Instance, NoMemory, Placed, is_timetable, read_solution, write_solution};
 
 /// Both reports on a timetable.
 pub(crate) fn play_reports(story: &mut Story, small: &Instance, lectures: &[Placed]) {
@@ -17,10 +15,13 @@ pub(crate) fn play_reports(story: &mut Story, small: &Instance, lectures: &[Plac
 
 /// Tells whether a text is read as these lectures.
 fn tell_read(story: &mut Story, small: &Instance, lectures: &[Placed], text: &[u8]) {
-    match read_solution(story.alloc(), small, text) {
-        Ok(read) if read.as_slice() == lectures => story.say("read again: the same"),
-        Err(SolutionFault::NoMemory) => story.no_memory(),
-        _ => story.say("read again: another one"),
+    let Ok(read) = read_solution(story.alloc(), small, text) else {
+        return story.no_memory();
+    };
+    if read.as_slice() == lectures {
+        story.say("read again: the same");
+    } else {
+        story.say("read again: another one");
     }
 }
 

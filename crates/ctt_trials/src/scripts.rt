@@ -1,35 +1,16 @@
 //! A script that is read from a device, and its answers that are written to one; also where the devices fail.
 
 use crate::desks::tell_desk;
-use crate::devices::{Failing, Memory, Shelf};
+use crate::devices::{Failing, Memory, Reading, Shelf, holds};
 use crate::shared::Script;
 use crate::story::Story;
+use crate::worked::PHANTOM_ANSWERS;
 use ctt_board::Sheet;
 use ctt_core::Desk;
 use ctt_draft::KeepAll;
 use ctt_script::{ScriptFault, run_script};
 use ctt_text::{Instance, Placed, is_timetable, let_go};
 use std::alloc::AllocError;
-
-/// How an input is read.
-#[derive(Drop)]
-pub(crate) struct Reading<'a> {
-    pub(crate) text: &'a [u8],
-    /// The number of the read that fails, counted from 1; none where it is 0.
-    pub(crate) fails_at: u64,
-    /// How many reads were tried.
-    pub(crate) pulls: u64,
-}
-
-impl<'a> Reading<'a> {
-    pub(crate) fn new(text: &'a [u8], fails_at: u64) -> Self {
-        Reading {
-            text,
-            fails_at,
-            pulls: 0,
-        }
-    }
-}
 
 /// Tells what a script wrote that was run, and what its desk has, or answers why it could not be run.
 fn tell_ran<'i, S: Sheet<'i>>(
@@ -90,10 +71,10 @@ fn run<'i, S: Sheet<'i>>(
 fn tell_fault(story: &mut Story, small: &Instance, fault: ScriptFault) {
     match fault {
         ScriptFault::Unlawful(at, fault) => story.unlawful(small, at, fault),
-        ScriptFault::Read => story.say("failed read"),
-        ScriptFault::TooLong => story.say("too long"),
-        ScriptFault::Write => story.say("failed write"),
         ScriptFault::NoMemory => story.no_memory(),
+        ScriptFault::Read | ScriptFault::TooLong | ScriptFault::Write => {
+            story.say("a failed device")
+        }
     }
 }
 
@@ -121,56 +102,44 @@ pub(crate) fn play_script<'i, S: Sheet<'i>>(
 }
 
 /// A script with its answers, for devices that fail.
-#[derive(Clone, Copy)]
-pub(crate) struct Told<'a> {
-    pub(crate) script: &'a [u8],
-    pub(crate) answers: &'a [u8],
+#[derive(Drop)]
+struct Told<'a> {
+    script: &'a [u8],
+    answers: &'a [u8],
 }
 
-/// Whether a writer holds so many bytes, which are the front of a text.
-pub(crate) fn holds(shelf: &Shelf, text: &[u8], taken: usize) -> bool {
-    shelf.held().len() == taken && text.starts_with(shelf.held())
-}
-
-/// Runs a script on a writer that fails, and answers whether that is a failed write, behind so many bytes.
-fn fails_to_write<'i, S: Sheet<'i>>(
+/// Runs a script on a reader whose read with this number fails, or where it is 0 on a writer that fails. Answers whether
+/// that is a failed read, behind which no other one was tried, or a failed write, behind so many bytes.
+fn fails<'i, S: Sheet<'i>>(
     story: &mut Story,
     small: &'i Instance,
-    told: Told,
+    told: &Told,
     shelf: &mut Shelf,
+    fails_at: u64,
     failing: Failing,
     taken: usize,
 ) -> bool {
-    let mut reading = Reading::new(told.script, 0);
-    let ran = run::<S>(story, small, &[], &mut reading, shelf, failing);
-    ran == Err(ScriptFault::Write) && holds(shelf, told.answers, taken)
-}
-
-/// Runs a script on a reader whose read with this number fails, and answers whether that is a failed read, behind which no
-/// other one was tried and nothing was written.
-fn fails_to_read<'i, S: Sheet<'i>>(
-    story: &mut Story,
-    small: &'i Instance,
-    told: Told,
-    shelf: &mut Shelf,
-    fails_at: u64,
-) -> bool {
     let mut reading = Reading::new(told.script, fails_at);
-    let ran = run::<S>(story, small, &[], &mut reading, shelf, Failing::Never);
-    ran == Err(ScriptFault::Read) && reading.pulls == fails_at && shelf.held().is_empty()
+    let ran = run::<S>(story, small, &[], &mut reading, shelf, failing);
+    let is_failed = if fails_at == 0 {
+        ran == Err(ScriptFault::Write)
+    } else {
+        ran == Err(ScriptFault::Read) && reading.pulls == fails_at
+    };
+    is_failed && holds(shelf, told.answers, taken)
 }
 
 /// Behind how many bytes a writer may fail so that the script has a failed write, and these bytes were written.
 fn failing_writes<'i, S: Sheet<'i>>(
     story: &mut Story,
     small: &'i Instance,
-    told: Told,
+    told: &Told,
     shelf: &mut Shelf,
 ) -> u64 {
     let mut failed = 0u64;
     for taken in 0..told.answers.len() {
         let failing = Failing::Behind(taken);
-        let is_failed = fails_to_write::<S>(story, small, told, shelf, failing, taken);
+        let is_failed = fails::<S>(story, small, told, shelf, 0, failing, taken);
         failed = failed.saturating_add(u64::from(is_failed));
     }
     failed
@@ -180,20 +149,28 @@ fn failing_writes<'i, S: Sheet<'i>>(
 fn failing_reads<'i, S: Sheet<'i>>(
     story: &mut Story,
     small: &'i Instance,
-    told: Told,
+    told: &Told,
     shelf: &mut Shelf,
 ) -> u64 {
     let mut failed = 0u64;
     for behind in 0..=told.script.len() as u64 {
         let fails_at = behind.saturating_add(1);
-        let is_failed = fails_to_read::<S>(story, small, told, shelf, fails_at);
+        let is_failed = fails::<S>(story, small, told, shelf, fails_at, Failing::Never, 0);
         failed = failed.saturating_add(u64::from(is_failed));
     }
     failed
 }
 
-/// Tells what a writer took on which a script failed.
-fn tell_shelf(story: &mut Story, is_failed: bool, shelf: &Shelf) {
+/// Tells how a script ends on a writer that fails behind so many bytes, and what the writer took.
+fn tell_failing<'i, S: Sheet<'i>>(
+    story: &mut Story,
+    small: &'i Instance,
+    told: &Told,
+    shelf: &mut Shelf,
+    failing: Failing,
+    taken: usize,
+) {
+    let is_failed = fails::<S>(story, small, told, shelf, 0, failing, taken);
     story.count("a failed write", u64::from(is_failed));
     story.count("flushes", shelf.flushes());
     story.count("bytes", shelf.held().len() as u64);
@@ -201,24 +178,11 @@ fn tell_shelf(story: &mut Story, is_failed: bool, shelf: &Shelf) {
     story.say("");
 }
 
-/// Tells how a script ends on a writer that fails behind so many bytes.
-fn tell_failing<'i, S: Sheet<'i>>(
-    story: &mut Story,
-    small: &'i Instance,
-    told: Told,
-    shelf: &mut Shelf,
-    failing: Failing,
-    taken: usize,
-) {
-    let is_failed = fails_to_write::<S>(story, small, told, shelf, failing, taken);
-    tell_shelf(story, is_failed, shelf);
-}
-
 /// A script on devices that fail.
 fn play_failing<'i, S: Sheet<'i>>(
     story: &mut Story,
     small: &'i Instance,
-    told: Told,
+    told: &Told,
     shelf: &mut Shelf,
 ) {
     let failed = failing_writes::<S>(story, small, told, shelf);
@@ -235,14 +199,21 @@ fn play_failing<'i, S: Sheet<'i>>(
         script: b"0 commit",
         answers: b"no draft\n",
     };
-    tell_failing::<S>(story, small, bad, shelf, Failing::Behind(3), 3);
+    tell_failing::<S>(story, small, &bad, shelf, Failing::Behind(3), 3);
 }
 
-/// A script with its answers on devices that fail.
-pub(crate) fn play_devices<'i, S: Sheet<'i>>(story: &mut Story, small: &'i Instance, told: &Told) {
-    story.say("a script on devices that fail");
+/// The script of the phantom with its answers on devices that fail.
+pub(crate) fn play_devices<'i, S: Sheet<'i>>(
+    story: &mut Story,
+    small: &'i Instance,
+    script: &Script,
+) {
+    let told = Told {
+        script: script.lines.as_bytes(),
+        answers: PHANTOM_ANSWERS.as_bytes(),
+    };
     match Shelf::new(story.alloc(), Failing::Never) {
-        Ok(mut shelf) => play_failing::<S>(story, small, *told, &mut shelf),
+        Ok(mut shelf) => play_failing::<S>(story, small, &told, &mut shelf),
         Err(AllocError) => story.no_memory(),
     }
 }

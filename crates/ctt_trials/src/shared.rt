@@ -4,9 +4,7 @@ ghost use Rattle.ctt_desk.specs.Names.{IsNamed};
 
 use crate::journals::tell_journal;
 use crate::story::Story;
-use crate::turns::{
-    LEARNER, LEARNER_LOOKS, VIEWER, VIEWER_LOOKS, answer_lines, instance_of, leave, sit,
-};
+use crate::turns::{LOOKS, Part, VIEWER, answer_lines, instance_of, leave, sit};
 use ctt_board::{GridSheet, ListSheet, Sheet, Timetable};
 use ctt_desk::{Closed, Named, Naming, Opened, Planner, SharedDesk, SharedFault};
 use ctt_text::{Instance, Placed, is_timetable, let_go};
@@ -17,31 +15,39 @@ use std::sync::Wait;
 const PLANNERS: u16 = 4;
 
 /// A script, and the lectures with which the desk opens on which it is played.
-#[derive(Clone, Copy)]
+#[derive(Drop)]
 pub(crate) struct Script<'a> {
     pub(crate) opening: &'a [Placed],
     pub(crate) lines: &'a str,
     /// Whether the first planner is dropped when another one begins, with the draft that he has open, where the desk is shared.
-    pub(crate) drops: bool,
+    drops: bool,
+    /// Where its answers begin and end in what was told first, and where what the desk left ends.
+    answers: usize,
+    end: usize,
+    all: usize,
 }
 
 impl<'a> Script<'a> {
-    /// A script of planners who stay to its end.
-    pub(crate) fn new(opening: &'a [Placed], lines: &'a str) -> Self {
+    /// A script that was not played yet.
+    pub(crate) fn new(opening: &'a [Placed], lines: &'a str, drops: bool) -> Self {
         Script {
             opening,
             lines,
-            drops: false,
+            drops,
+            answers: 0,
+            end: 0,
+            all: 0,
         }
     }
-}
 
-/// What was told of a script that was played before: where its answers begin and end, and where what the desk left ends.
-#[derive(Clone, Copy)]
-pub(crate) struct Before {
-    pub(crate) answers: usize,
-    pub(crate) end: usize,
-    pub(crate) all: usize,
+    /// Notes what was told of it from a place on, if its answers end in a place behind that.
+    pub(crate) fn note(&mut self, answers: usize, end: usize, all: usize) {
+        if answers < end {
+            self.answers = answers;
+            self.end = end;
+            self.all = all;
+        }
+    }
 }
 
 /// The opening of a desk.
@@ -62,8 +68,7 @@ fn play_at<'i, S: Sheet<'i>, J: Naming, R: Wait>(
     rt: &R,
     desk: &SharedDesk<S, J>,
     planners: Vec<Planner<S, J>>,
-    script: Script,
-    before: Before,
+    script: &Script,
 ) -> Vec<Planner<S, J>> {
     let mut planners = planners;
     let Some(small) = instance_of(&mut planners) else {
@@ -72,12 +77,16 @@ fn play_at<'i, S: Sheet<'i>, J: Naming, R: Wait>(
     };
     let mut seats = sit(story, planners);
     let here = story.len();
-    answer_lines(story, rt, desk, small, &mut seats, script, VIEWER);
-    story.compare(before.answers, before.end, here, "on a shared desk");
-    let looks = Script::new(&[], LEARNER_LOOKS);
-    answer_lines(story, rt, desk, small, &mut seats, looks, LEARNER);
-    let looks = Script::new(&[], VIEWER_LOOKS);
-    answer_lines(story, rt, desk, small, &mut seats, looks, VIEWER);
+    let part = Part {
+        lines: script.lines,
+        viewer: VIEWER,
+        drops: script.drops,
+    };
+    answer_lines(story, rt, desk, small, &mut seats, &part);
+    story.compare(script.answers, script.end, here, "on a shared desk");
+    for part in LOOKS {
+        answer_lines(story, rt, desk, small, &mut seats, part);
+    }
     leave(story, seats)
 }
 
@@ -88,8 +97,7 @@ fn tell_closed<'i, S: Sheet<'i>, J: Naming>(
     opening: &[Placed],
     closed: &Closed<S, J>,
 ) {
-    story.lectures(small, closed.list());
-    story.costs(small, closed.cost());
+    story.timetable(small, closed.list(), closed.cost());
     tell_journal::<S>(story, small, opening, closed.journal());
 }
 
@@ -101,28 +109,26 @@ fn tell_seen<S: Timetable, J: Naming>(story: &mut Story, planners: &[Planner<S, 
     }
 }
 
-/// Closes a desk with all its planners.
+/// Closes a desk with all its planners, and tells what it has.
 fn close<'i, S: Sheet<'i>, J: Naming, R: Wait>(
     story: &mut Story,
     rt: &R,
     desk: SharedDesk<S, J>,
     small: &'i Instance,
-    planners: &mut Vec<Planner<S, J>>,
-    script: Script,
-    before: Before,
+    planners: &mut [Planner<S, J>],
+    script: &Script,
 ) {
     let here = story.len();
-    match desk.close(rt, planners.as_mut_slice()) {
-        Ok(closed) => {
-            tell_closed(story, small, script.opening, &closed);
-            let_go(closed);
-        }
+    let closed = match desk.close(rt, planners) {
+        Ok(closed) => closed,
         Err(closed) => {
             story.say("not closed with all");
-            let_go(closed);
+            closed
         }
-    }
-    story.compare(before.end, before.all, here, "what it left");
+    };
+    tell_closed(story, small, script.opening, &closed);
+    let_go(closed);
+    story.compare(script.end, script.all, here, "what it left");
     tell_seen(story, planners);
 }
 
@@ -132,13 +138,12 @@ fn play_named<'i, S: Sheet<'i>, J: Naming, R: Wait>(
     rt: &R,
     named: Named<S, J>,
     small: &'i Instance,
-    script: Script,
-    before: Before,
+    script: &Script,
 ) {
     match SharedDesk::<S, J>::new(rt, named) {
         Ok((desk, all)) => {
-            let mut planners = play_at(story, rt, &desk, all, script, before);
-            close(story, rt, desk, small, &mut planners, script, before);
+            let mut planners = play_at(story, rt, &desk, all, script);
+            close(story, rt, desk, small, planners.as_mut_slice(), script);
             let_go(planners);
         }
         Err(_fault) => story.no_memory(),
@@ -152,8 +157,7 @@ fn named_on_list<'i, J: Naming, R: Wait>(
     opened: Opened<ListSheet<'i>>,
     count: u16,
     small: &'i Instance,
-    script: Script,
-    before: Before,
+    script: &Script,
 )
     requires { IsNamed J.problem J.opening J.planners J.book opened count }
 {
@@ -162,13 +166,13 @@ fn named_on_list<'i, J: Naming, R: Wait>(
         count,
         name: PhantomData,
     };
-    play_named::<ListSheet, J, R>(story, rt, named, small, script, before);
+    play_named::<ListSheet, J, R>(story, rt, named, small, script);
 }
 
 /// Plays a script on a desk of list sheets.
-fn on_list<R: Wait>(story: &mut Story, rt: &R, small: &Instance, script: Script, before: Before) {
+pub(crate) fn on_list<R: Wait>(story: &mut Story, rt: &R, small: &Instance, script: &Script) {
     match opened::<ListSheet>(story, small, script.opening) {
-        Ok(opened) => named_on_list::<Brand, R>(story, rt, opened, PLANNERS, small, script, before),
+        Ok(opened) => named_on_list::<Brand, R>(story, rt, opened, PLANNERS, small, script),
         Err(_fault) => story.no_memory(),
     }
 }
@@ -180,8 +184,7 @@ fn named_on_grid<'i, J: Naming, R: Wait>(
     opened: Opened<GridSheet<'i>>,
     count: u16,
     small: &'i Instance,
-    script: Script,
-    before: Before,
+    script: &Script,
 )
     requires { IsNamed J.problem J.opening J.planners J.book opened count }
 {
@@ -190,30 +193,15 @@ fn named_on_grid<'i, J: Naming, R: Wait>(
         count,
         name: PhantomData,
     };
-    play_named::<GridSheet, J, R>(story, rt, named, small, script, before);
+    play_named::<GridSheet, J, R>(story, rt, named, small, script);
 }
 
 /// Plays a script on a desk of grid sheets.
-fn on_grid<R: Wait>(story: &mut Story, rt: &R, small: &Instance, script: Script, before: Before) {
+pub(crate) fn on_grid<R: Wait>(story: &mut Story, rt: &R, small: &Instance, script: &Script) {
     match opened::<GridSheet>(story, small, script.opening) {
-        Ok(opened) => named_on_grid::<Brand, R>(story, rt, opened, PLANNERS, small, script, before),
+        Ok(opened) => named_on_grid::<Brand, R>(story, rt, opened, PLANNERS, small, script),
         Err(_fault) => story.no_memory(),
     }
-}
-
-/// Plays a script on shared desks of both kinds of sheets.
-pub(crate) fn play<R: Wait>(
-    story: &mut Story,
-    rt: &R,
-    small: &Instance,
-    script: Script,
-    before: Before,
-) {
-    let from = story.len();
-    played!(story, on_list(story, rt, small, script, before));
-    let to = story.len();
-    played!(story, on_grid(story, rt, small, script, before));
-    story.compare(from, to, to, "on a shared desk on the grid sheet");
 }
 
 /// Tells whether a desk opens with some lectures.

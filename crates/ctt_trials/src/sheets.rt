@@ -2,9 +2,11 @@
 
 ghost use Rattle.std.specs.Prelude.{◌≡◌, ◌↔◌, IsTrue, IfOk};
 ghost use Rattle.ctt_text.specs.Timetable.{Fits};
+ghost use Rattle.ctt_board.specs.Changes.{ChangeFits};
 ghost use Rattle.ctt_edits.specs.Edits.{EditFits};
 ghost use Rattle.ctt_edits.specs.Looks.{LookFits};
 
+use crate::cases::Way;
 use crate::shared::Script;
 use crate::story::Story;
 use ctt_board::{Cell, Change, Sheet};
@@ -42,16 +44,6 @@ fn look_fits<'i, S: Sheet<'i>>(sheet: &S, asked: &Look) -> bool
     asked.fits(sheet.instance())
 }
 
-/// An empty sheet.
-pub(crate) fn empty_sheet<'i, S: Sheet<'i>>(
-    story: &Story,
-    small: &'i Instance,
-) -> Result<S, NoMemory>
-    ensures { IfOk result (λ sheet. S.problem sheet ≡ small.now) }
-{
-    S::empty(story.alloc(), small)
-}
-
 /// A sheet with lectures, or none where they are no opening.
 fn sheet_of<'i, S: Sheet<'i>>(
     story: &Story,
@@ -76,15 +68,26 @@ pub(crate) fn tell_cells(story: &mut Story, cells: &[Cell]) {
     }
 }
 
+/// Tells that a change is made, or in full its cells, and what it costs less.
+fn tell_change<'i, S: Sheet<'i>>(story: &mut Story, sheet: &S, change: &Change, in_full: bool)
+    requires { ChangeFits (S.problem sheet.now) change.now (S.list sheet.now) }
+{
+    if !in_full {
+        return story.say("done");
+    }
+    tell_cells(story, change.cells());
+    story.count("less", sheet.delta(change).unsigned_abs());
+}
+
 /// Makes an edit on a sheet.
-fn make<'i, S: Sheet<'i>>(story: &mut Story, sheet: &mut S, edit: &Edit) {
+fn make<'i, S: Sheet<'i>>(story: &mut Story, sheet: &mut S, edit: &Edit, in_full: bool) {
     if !edit_fits(sheet, edit) {
         return story.say("unfit");
     }
     match check(sheet, edit) {
         Ok(change) => {
+            tell_change(story, sheet, &change, in_full);
             sheet.apply(&change);
-            story.say("done");
         }
         Err(fault) => story.refused(sheet.instance(), fault),
     }
@@ -100,11 +103,10 @@ fn show<'i, S: Sheet<'i>>(story: &mut Story, sheet: &S, asked: &Look) {
 
 /// Tells the lectures and the cost of a sheet.
 pub(crate) fn tell_sheet<'i, S: Sheet<'i>>(story: &mut Story, sheet: &S) {
-    story.lectures(sheet.instance(), sheet.list());
-    story.costs(sheet.instance(), sheet.cost());
+    story.timetable(sheet.instance(), sheet.list(), sheet.cost());
 }
 
-/// Makes the calls that lines ask for.
+/// Makes the calls that lines ask for, and tells what the sheet then has.
 fn answer_lines<'i, S: Sheet<'i>>(
     story: &mut Story,
     small: &'i Instance,
@@ -113,27 +115,13 @@ fn answer_lines<'i, S: Sheet<'i>>(
 ) {
     for line in Lines::new(lines.as_bytes()) {
         match call_of(small, line) {
-            Some(Call::Edit(edit)) => make(story, sheet, &edit),
+            Some(Call::Edit(edit)) => make(story, sheet, &edit, false),
             Some(Call::Look(asked)) => show(story, sheet, &asked),
             None if line.is_empty() => {}
             None => story.say("bad line"),
         }
     }
-}
-
-/// Plays lines on a sheet that has these lectures at first.
-pub(crate) fn play_lines<'i, S: Sheet<'i>>(
-    story: &mut Story,
-    small: &'i Instance,
-    script: &Script,
-) {
-    match sheet_of::<S>(story, small, script.opening) {
-        Some(mut sheet) => {
-            answer_lines(story, small, &mut sheet, script.lines);
-            tell_sheet(story, &sheet);
-        }
-        None => story.no_memory(),
-    }
+    tell_sheet(story, sheet);
 }
 
 /// Tells what a sheet has of a lecture, in each way in which it can be read.
@@ -154,23 +142,9 @@ fn tell_lecture<'i, S: Sheet<'i>>(story: &mut Story, sheet: &S, lecture: &Placed
     tell_sheet(story, sheet);
 }
 
-/// Places a lecture, and tells the change that this is, with what it costs.
-fn place<'i, S: Sheet<'i>>(story: &mut Story, sheet: &mut S, edit: &Edit) {
-    if !edit_fits(sheet, edit) {
-        return story.say("unfit");
-    }
-    match check(sheet, edit) {
-        Ok(change) => {
-            tell_cells(story, change.cells());
-            story.count("less", sheet.delta(&change).unsigned_abs());
-            sheet.apply(&change);
-        }
-        Err(fault) => story.refused(sheet.instance(), fault),
-    }
-}
-
-/// Tells what a copy of a sheet has of a lecture.
-fn tell_copy<'i, S: Sheet<'i>>(story: &mut Story, sheet: &S, lecture: &Placed) {
+/// Tells what a sheet and a copy of it have of a lecture.
+fn tell_both<'i, S: Sheet<'i>>(story: &mut Story, sheet: &S, lecture: &Placed) {
+    tell_lecture(story, sheet, lecture);
     match sheet.copy() {
         Ok(copy) => tell_lecture(story, &copy, lecture),
         Err(NoMemory) => story.no_memory(),
@@ -178,22 +152,16 @@ fn tell_copy<'i, S: Sheet<'i>>(story: &mut Story, sheet: &S, lecture: &Placed) {
 }
 
 /// One placement on an empty sheet: geo in the second period of the first day, in room A.
-pub(crate) fn play_placement<'i, S: Sheet<'i>>(story: &mut Story, small: &'i Instance) {
-    match empty_sheet::<S>(story, small) {
-        Ok(mut sheet) => {
-            tell_sheet(story, &sheet);
-            let geo = Placed {
-                course: CourseNo::new(1),
-                slot: SlotNo::new(1),
-                room: RoomNo::new(0),
-            };
-            let edit = Edit::Place(geo.course, geo.slot, geo.room);
-            place(story, &mut sheet, &edit);
-            tell_lecture(story, &sheet, &geo);
-            tell_copy(story, &sheet, &geo);
-        }
-        Err(NoMemory) => story.no_memory(),
-    }
+fn place_geo<'i, S: Sheet<'i>>(story: &mut Story, sheet: &mut S) {
+    tell_sheet(story, sheet);
+    let geo = Placed {
+        course: CourseNo::new(1),
+        slot: SlotNo::new(1),
+        room: RoomNo::new(0),
+    };
+    let edit = Edit::Place(geo.course, geo.slot, geo.room);
+    make(story, sheet, &edit, true);
+    tell_both(story, sheet, &geo);
 }
 
 /// Tells whether a sheet accepts the change of one cell.
@@ -223,14 +191,19 @@ fn tell_accepted<'i, S: Sheet<'i>>(story: &mut Story, sheet: &S) {
     accepts(story, sheet, 3, 1, Some(RoomNo::new(0)));
 }
 
-/// Which changes a sheet with these lectures accepts.
-pub(crate) fn play_accepted<'i, S: Sheet<'i>>(
+/// Plays lines, a placement or changes on a sheet that has the lectures of a script at first.
+pub(crate) fn play<'i, S: Sheet<'i>>(
     story: &mut Story,
     small: &'i Instance,
-    lectures: &[Placed],
+    way: &Way,
+    script: &Script,
 ) {
-    match sheet_of::<S>(story, small, lectures) {
-        Some(sheet) => tell_accepted(story, &sheet),
+    match sheet_of::<S>(story, small, script.opening) {
+        Some(mut sheet) => match way {
+            Way::Placement => place_geo(story, &mut sheet),
+            Way::Accepted => tell_accepted(story, &sheet),
+            _ => answer_lines(story, small, &mut sheet, script.lines),
+        },
         None => story.no_memory(),
     }
 }
@@ -251,13 +224,10 @@ fn tell_rows(story: &mut Story, small: &Instance, call: &Call) {
     }
 }
 
-/// The rows that some calls read.
-pub(crate) fn play_rows(story: &mut Story, small: &Instance) {
-    for line in ["price place alg B 0 0", "swap geo 0 1 top 0 2"] {
-        story.say(line);
-        match call_of(small, line.as_bytes()) {
-            Some(call) => played!(story, tell_rows(story, small, &call)),
-            None => story.say("bad line"),
-        }
+/// The rows that the line of a script reads.
+pub(crate) fn play_rows(story: &mut Story, small: &Instance, script: &Script) {
+    match call_of(small, script.lines.as_bytes()) {
+        Some(call) => tell_rows(story, small, &call),
+        None => story.say("bad line"),
     }
 }

@@ -145,14 +145,6 @@ impl Story {
         self.bytes(b"\n");
     }
 
-    /// Tells a fault by its words and its place; none is want of memory.
-    pub(crate) fn fault(&mut self, fault: Option<(&'static str, u64)>) {
-        match fault {
-            Some((words, at)) => self.pair(words, at),
-            None => self.no_memory(),
-        }
-    }
-
     /// Tells at which lecture an opening is refused.
     pub(crate) fn unlawful(&mut self, instance: &Instance, at: u64, fault: EditFault) {
         self.pair("opening", at);
@@ -175,11 +167,6 @@ impl Story {
         self.answer(instance, &Answer::Replied(Reply::Refused(fault)));
     }
 
-    /// Tells costs.
-    pub(crate) fn costs(&mut self, instance: &Instance, cost: Cost) {
-        self.answer(instance, &Answer::Replied(Reply::Costs(cost)));
-    }
-
     /// Tells what a call answers that gives a reply.
     pub(crate) fn reply(&mut self, instance: &Instance, told: Result<Reply, NoMemory>) {
         match told {
@@ -199,6 +186,17 @@ impl Story {
         }
     }
 
+    /// Tells the lectures of a timetable, and what it costs.
+    pub(crate) fn timetable(
+        &mut self,
+        instance: &Instance,
+        told: Result<Vec<Placed>, NoMemory>,
+        cost: Cost,
+    ) {
+        self.lectures(instance, told);
+        self.answer(instance, &Answer::Replied(Reply::Costs(cost)));
+    }
+
     /// Tells what a call answers that gives a text.
     pub(crate) fn text(&mut self, told: Result<Vec<u8>, NoMemory>) {
         match told {
@@ -207,12 +205,38 @@ impl Story {
         }
     }
 
+    /// Tells how a text was read: that it was, or by its words and its place the fault that it has to have.
+    pub(crate) fn read<F: PartialEq + Drop>(
+        &mut self,
+        fault: Option<F>,
+        no_memory: F,
+        fit: F,
+        words: &str,
+        at: u64,
+    ) {
+        match fault {
+            None => self.bytes(b"read"),
+            Some(fault) => {
+                if fault == no_memory {
+                    self.no_memory();
+                } else if fault == fit {
+                    self.pair(words, at);
+                } else {
+                    self.bytes(b"another fault");
+                }
+            }
+        }
+    }
+
     /// Compares what was told from the third place on with what was told from the first to the second: where it is the
     /// same, that is told in its place.
     pub(crate) fn compare(&mut self, from: usize, to: usize, here: usize, way: &str) {
-        let is_same = match (self.text.get(from..to), self.text.get(here..)) {
-            (Some(before), Some(now)) => before == now,
-            _ => false,
+        let is_same = match self.text.get(from..to) {
+            Some(before) => {
+                self.text.len().saturating_sub(here) == before.len()
+                    && self.text.as_slice().ends_with(before)
+            }
+            None => false,
         };
         if is_same {
             self.text.truncate(here);

@@ -39,12 +39,32 @@ const CLASH: &str = "alg A 0 0\ntop B 0 0\n";
 pub(crate) const JOURNAL: &str =
     "journal 1\nentry 0 1\nplace top A 0 1\nrefused roomtaken geo\nEND.\n";
 
+/// What stands at first.
+pub(crate) enum Opening {
+    Nothing,
+    Solution,
+    WithoutTop,
+    Clash,
+}
+
 /// The lectures of the solution, those without top, and those of which two clash.
 #[derive(Drop)]
 pub(crate) struct Lectures {
-    pub(crate) solution: Vec<Placed>,
-    pub(crate) without_top: Vec<Placed>,
-    pub(crate) clash: Vec<Placed>,
+    solution: Vec<Placed>,
+    without_top: Vec<Placed>,
+    clash: Vec<Placed>,
+}
+
+impl Lectures {
+    /// The lectures of an opening.
+    pub(crate) fn of(&self, opening: &Opening) -> &[Placed] {
+        match opening {
+            Opening::Nothing => &[],
+            Opening::Solution => self.solution.as_slice(),
+            Opening::WithoutTop => self.without_top.as_slice(),
+            Opening::Clash => self.clash.as_slice(),
+        }
+    }
 }
 
 /// Reads these lectures.

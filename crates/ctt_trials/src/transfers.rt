@@ -1,9 +1,40 @@
 //! Texts that are read from devices that fail, and written to such.
 
-use crate::devices::{Broken, Failing, Memory, Shelf};
-use crate::scripts::{Reading, holds};
+use crate::devices::{Broken, Failing, Memory, Reading, Shelf, holds};
 use crate::story::Story;
+use crate::texts::{JOURNAL, SMALL, SOLUTION};
+use crate::worked::CREW;
 use ctt_devices::{Device, Failed, InputFault, Sink, put_all, put_whole, read_all};
+
+/// The report on the solution.
+const REPORT: &str = "instance Small
+lectures 0
+conflicts 0
+availability 0
+occupancy 0
+capacity 15
+days 0
+compactness 4
+stability 1
+total 20
+lawful yes
+complete yes
+";
+
+/// What a crew of one planner writes.
+const CREW_ANSWERS: &str = "planner 0
+opened
+done
+committed 1
+journal 1
+costs 0 15 2 0
+";
+
+/// The texts that are read.
+const READ: &[&str] = &[SMALL, SOLUTION, JOURNAL, CREW];
+
+/// The texts that are written.
+const WRITTEN: &[&str] = &[REPORT, "differs 1 1\n", CREW_ANSWERS];
 
 /// How many bytes an input has at most.
 const LIMIT: usize = 4_096;
@@ -39,20 +70,15 @@ fn fails_to_take(shelf: &mut Shelf, text: &[u8], failing: Failing, taken: usize)
     put_whole(shelf, text) == Err(Failed) && holds(shelf, text, taken)
 }
 
-/// Behind how many bytes a writer may fail so that a text has a failed write, and these bytes were written.
-fn failing_writes_of(text: &[u8], shelf: &mut Shelf) -> u64 {
+/// Tells on how many writers that fail a text has a failed write: behind some of its bytes, where nothing is taken, and where
+/// the flush alone fails.
+fn tell_failing_writes(story: &mut Story, text: &[u8], shelf: &mut Shelf) {
     let mut failed = 0u64;
     for behind in 0..text.len() {
         let is_failed = fails_to_take(shelf, text, Failing::Behind(behind), behind);
         failed = failed.saturating_add(u64::from(is_failed));
     }
-    failed
-}
-
-/// Tells on how many writers that fail a text has a failed write: behind some of its bytes, where nothing is taken, and where
-/// the flush alone fails.
-fn tell_failing_writes(story: &mut Story, text: &[u8], shelf: &mut Shelf) {
-    story.count("failed writes", failing_writes_of(text, shelf));
+    story.count("failed writes", failed);
     let is_failed = fails_to_take(shelf, text, Failing::Idle, 0);
     story.count("where nothing is taken", u64::from(is_failed));
     let is_failed = fails_to_take(shelf, text, Failing::Flush, text.len());
@@ -90,17 +116,16 @@ fn broken(story: &mut Story) {
 }
 
 /// Texts that are read from devices that fail, and written to such.
-pub(crate) fn play_texts(story: &mut Story, read: &[&[u8]], written: &[&[u8]]) {
-    story.say("texts on devices that fail");
+pub(crate) fn play_texts(story: &mut Story) {
     let Ok(mut shelf) = Shelf::new(story.alloc(), Failing::Never) else {
         return story.no_memory();
     };
-    for text in read {
-        let failed = failing_reads_of(story, text);
+    for text in READ {
+        let failed = failing_reads_of(story, text.as_bytes());
         story.count("failed reads", failed);
     }
-    for text in written {
-        tell_failing_writes(story, text, &mut shelf);
+    for text in WRITTEN {
+        tell_failing_writes(story, text.as_bytes(), &mut shelf);
     }
     tell_limited(story, b"four");
     tell_limited(story, b"fives");

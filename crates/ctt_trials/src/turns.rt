@@ -4,7 +4,6 @@ ghost use Rattle.std.specs.Prelude.{◌≡◌, ◌↔◌, IsTrue, IfSome};
 ghost use Rattle.ctt_core.specs.Runs.{EventFits};
 
 use crate::lists::{add, drop_at, put_at, take_at};
-use crate::shared::Script;
 use crate::story::Story;
 use ctt_board::{Sheet, Timetable};
 use ctt_core::{Answer, Event};
@@ -16,16 +15,34 @@ use ctt_text::Instance;
 use std::sync::Wait;
 
 /// The place of the planner who learns each receipt.
-pub(crate) const LEARNER: u16 = 2;
-
-/// How he looks at the timetable, and at that of a draft.
-pub(crate) const LEARNER_LOOKS: &str = "show cost\n2 open\n2 cost\n2 abandon\n";
+const LEARNER: u16 = 2;
 
 /// The place of the planner who learns nothing, and looks at the timetable as it stands.
 pub(crate) const VIEWER: u16 = 3;
 
-/// How he looks at the timetable, and at that of a draft.
-pub(crate) const VIEWER_LOOKS: &str = "show cost\n3 open\n3 cost\n3 abandon\n";
+/// A part of what planners do.
+#[derive(Drop)]
+pub(crate) struct Part<'a> {
+    pub(crate) lines: &'a str,
+    /// The place of the planner who is asked to show the timetable.
+    pub(crate) viewer: u16,
+    /// Whether the first planner is dropped when another one begins, with the draft that he may have open.
+    pub(crate) drops: bool,
+}
+
+/// How two of them look at the timetable, and at that of a draft.
+pub(crate) const LOOKS: &[Part] = &[
+    Part {
+        lines: "show cost\n2 open\n2 cost\n2 abandon\n",
+        viewer: LEARNER,
+        drops: false,
+    },
+    Part {
+        lines: "show cost\n3 open\n3 cost\n3 abandon\n",
+        viewer: VIEWER,
+        drops: false,
+    },
+];
 
 /// The place of the planner who is asked by an event. One of them is asked to show the timetable.
 fn place_of(event: &Event, viewer: u16) -> usize {
@@ -132,31 +149,6 @@ fn tell<'i, S: Sheet<'i>, J: Naming>(
     false
 }
 
-/// The planner of a place does what an event says. Answers whether memory was wanted.
-fn turn<'i, S: Sheet<'i>, J: Naming, R: Wait>(
-    story: &mut Story,
-    rt: &R,
-    desk: &SharedDesk<S, J>,
-    small: &Instance,
-    seats: &mut [Option<Seat<'i, S, J>>],
-    place: usize,
-    event: &Event,
-) -> bool
-    requires { small.now ≡ J.problem }
-{
-    match take_at(seats, place) {
-        Some(seat) => {
-            let (seat, told) = take(rt, desk, small, seat, event);
-            put_at(seats, place, seat);
-            tell(story, small, seats, told)
-        }
-        None => {
-            story.say("no planner");
-            false
-        }
-    }
-}
-
 /// The planner of a place does what an event says, and once more where memory is wanted.
 fn answer<'i, S: Sheet<'i>, J: Naming, R: Wait>(
     story: &mut Story,
@@ -169,32 +161,36 @@ fn answer<'i, S: Sheet<'i>, J: Naming, R: Wait>(
 )
     requires { small.now ≡ J.problem }
 {
-    if turn(story, rt, desk, small, seats, place, event) {
-        story.call_again();
-        if turn(story, rt, desk, small, seats, place, event) {
-            story.no_memory();
+    for _ in 0..2 {
+        let Some(seat) = take_at(seats, place) else {
+            return story.say("no planner");
+        };
+        let (seat, told) = take(rt, desk, small, seat, event);
+        put_at(seats, place, seat);
+        if !tell(story, small, seats, told) {
+            return;
         }
+        story.call_again();
     }
+    story.no_memory();
 }
 
-/// The lines of a script. The viewer is asked to show the timetable. Where the script says so the first planner is dropped,
-/// with the draft that he may have open, when another one begins.
+/// The lines of a part.
 pub(crate) fn answer_lines<'i, S: Sheet<'i>, J: Naming, R: Wait>(
     story: &mut Story,
     rt: &R,
     desk: &SharedDesk<S, J>,
     small: &Instance,
     seats: &mut [Option<Seat<'i, S, J>>],
-    script: Script,
-    viewer: u16,
+    part: &Part,
 )
     requires { small.now ≡ J.problem }
 {
-    for line in Lines::new(script.lines.as_bytes()) {
+    for line in Lines::new(part.lines.as_bytes()) {
         match read_line(small, line) {
             Some(event) => {
-                let place = place_of(&event, viewer);
-                if script.drops && place > 0 {
+                let place = place_of(&event, part.viewer);
+                if part.drops && place > 0 {
                     drop_at(seats, 0);
                 }
                 answer(story, rt, desk, small, seats, place, &event);

@@ -23,7 +23,7 @@ costs 10 15 0 0
 ";
 
 /// The same, but what the other one placed is taken away again before the first one commits.
-const CHANGED_BACK: &str = "0 open
+pub(crate) const CHANGED_BACK: &str = "0 open
 0 slot 0 2
 0 place geo A 0 1
 1 open
@@ -36,7 +36,7 @@ const CHANGED_BACK: &str = "0 open
 show cost
 ";
 
-const DROP_AND_PLACE: &str = "0 open
+pub(crate) const DROP_AND_PLACE: &str = "0 open
 1 open
 0 drop geo 1 2
 1 place top B 1 2
@@ -45,7 +45,7 @@ const DROP_AND_PLACE: &str = "0 open
 show slot 1 2
 ";
 
-const DROP_FIRST: &str = "0 open
+pub(crate) const DROP_FIRST: &str = "0 open
 1 open
 0 drop geo 1 2
 1 place top B 1 2
@@ -53,14 +53,14 @@ const DROP_FIRST: &str = "0 open
 1 commit
 ";
 
-const OUT_OF_TURN: &str = "0 commit
+pub(crate) const OUT_OF_TURN: &str = "0 commit
 0 open
 0 open
 0 commit
 show cost
 ";
 
-const STALE_PRICE: &str = "0 open
+pub(crate) const STALE_PRICE: &str = "0 open
 0 price place alg B 0 0
 1 open
 1 place geo A 0 1
@@ -68,12 +68,12 @@ const STALE_PRICE: &str = "0 open
 0 commit
 ";
 
-const REFUSED: &str = "0 open
+pub(crate) const REFUSED: &str = "0 open
 0 place top A 0 1
 0 commit
 ";
 
-const ABANDONED: &str = "0 open
+pub(crate) const ABANDONED: &str = "0 open
 0 place geo A 0 1
 0 abandon
 0 abandon
@@ -81,7 +81,7 @@ show cost
 ";
 
 /// A planner brings his draft up to date, and sees what another one placed.
-const REFRESHED: &str = "0 open
+pub(crate) const REFRESHED: &str = "0 open
 0 place geo A 0 1
 1 open
 1 place top B 0 2
@@ -92,7 +92,7 @@ const REFRESHED: &str = "0 open
 show cost
 ";
 
-const NOT_REFRESHED: &str = "0 open
+pub(crate) const NOT_REFRESHED: &str = "0 open
 0 place geo A 0 1
 1 open
 1 place top B 0 2
@@ -101,7 +101,7 @@ const NOT_REFRESHED: &str = "0 open
 0 commit
 ";
 
-const STALE_REFRESH: &str = "0 open
+pub(crate) const STALE_REFRESH: &str = "0 open
 0 slot 0 2
 0 place geo A 0 1
 1 open
@@ -139,7 +139,7 @@ pub(crate) const BARRED_ROOM: &str = "0 open
 ";
 
 /// Lines on the empty sheet: what it costs, and one placement.
-const EMPTY_SHEET: &str = "cost
+pub(crate) const EMPTY_SHEET: &str = "cost
 coursecost alg
 place geo A 0 0
 price place geo A 0 1
@@ -149,7 +149,7 @@ slot 0 1
 ";
 
 /// Prices and looks, on the solution.
-const PRICES: &str = "price move geo 1 2 A 1 1
+pub(crate) const PRICES: &str = "price move geo 1 2 A 1 1
 price reroom alg B 0 0
 price reroom alg A 0 0
 price swap geo 0 1 top 0 2
@@ -161,7 +161,7 @@ cost
 ";
 
 /// Edits that are refused, on the solution.
-const REFUSED_EDITS: &str = "place alg A 1 1
+pub(crate) const REFUSED_EDITS: &str = "place alg A 1 1
 place alg B 0 0
 price place alg A 1 1
 move geo 0 1 B 0 1
@@ -173,58 +173,38 @@ swap geo 0 0 top 0 2
 pub(crate) const SWAP: &str = "swap geo 0 1 top 0 2";
 
 /// A drop, and what can no more be done behind it.
-const DROP: &str = "drop geo 1 2
+pub(crate) const DROP: &str = "drop geo 1 2
 place geo A 1 0
 drop geo 1 2
 reroom geo B 1 2
 ";
 
-const ROOM_TAKEN: &str = "place top A 0 1";
+pub(crate) const ROOM_TAKEN: &str = "place top A 0 1";
 
 /// Two lectures in one slot, on the empty sheet, which swap their rooms.
-const SWAP_OF_ROOMS: &str = "place geo A 0 1
+pub(crate) const SWAP_OF_ROOMS: &str = "place geo A 0 1
 place top B 0 1
 swap geo 0 1 top 0 1
 ";
 
 /// Lectures of a curriculum beside the border of two days, on the empty sheet.
-const BORDER: &str = "place alg A 0 2
+pub(crate) const BORDER: &str = "place alg A 0 2
 place geo A 1 0
 ";
 
-/// The scripts on an empty desk, by their names.
-pub(crate) const ON_EMPTY: &[(&str, &str)] = &[
-    ("phantom", PHANTOM),
-    ("changed and changed back", CHANGED_BACK),
-    ("out of turn", OUT_OF_TURN),
-    ("a price that changed", STALE_PRICE),
-    ("abandoned", ABANDONED),
-    ("refreshed", REFRESHED),
-    ("not refreshed", NOT_REFRESHED),
-    ("stale at a refresh", STALE_REFRESH),
-];
+/// What reads two courses and a slot.
+pub(crate) const PRICE: &str = "price place alg B 0 0";
 
-/// The scripts on a desk that has the solution without top.
-pub(crate) const ON_LECTURES: &[(&str, &str)] = &[
-    ("a drop and a placement in one slot", DROP_AND_PLACE),
-    ("the drop first", DROP_FIRST),
-    ("a refused edit", REFUSED),
-];
+/// A planner of a crew places geo.
+pub(crate) const CREW: &str = "open
+place geo A 0 1
+commit
+";
 
-/// The lines on an empty sheet.
-pub(crate) const LINES_ON_EMPTY: &[(&str, &str)] = &[
-    ("on the empty sheet", EMPTY_SHEET),
-    ("a swap of rooms", SWAP_OF_ROOMS),
-    ("the border of two days", BORDER),
-];
+/// He places it, and leaves his draft open.
+pub(crate) const CREW_LEFT: &str = "open
+place geo A 0 1
+";
 
-/// The lines on a sheet that has the solution.
-pub(crate) const LINES_ON_SOLUTION: &[(&str, &str)] = &[
-    ("prices and looks on the solution", PRICES),
-    ("edits that are refused on the solution", REFUSED_EDITS),
-    ("a swap", SWAP),
-    ("a drop", DROP),
-];
-
-/// The lines on a sheet that has the solution without top.
-pub(crate) const LINES_WITHOUT_TOP: &[(&str, &str)] = &[("a room that is taken", ROOM_TAKEN)];
+/// A journal of a draft in which top was placed in room A.
+pub(crate) const OTHER_JOURNAL: &str = "journal 1 entry 0 1 place top A 0 1 done END.";

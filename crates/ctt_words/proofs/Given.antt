@@ -9,7 +9,7 @@ use Rattle.clap.specs.Words.{Row, Text, all_of, first_of, subcommand_of}
 use Rattle.ctt_words.specs.CommandLine.{IsOnOrOff, is_on, timedesk}
 use Rattle.ctt_words.specs.Jobs.{HasAll, HasScripts, IsJobIn, IsJobOf, count_given}
 use Rattle.ctt_words.specs.declared.job.Job.{Job}
-use Rattle.ctt_words.specs.declared.job.Job.TheVariants.{Audit, Check, Crew, Desk, Journal, Listing, Page, Run, Week}
+use Rattle.ctt_words.specs.declared.job.Job.TheVariants.{Audit, Crew, Desk, Journal, Listing, Run, Show}
 
 given_here : (o : Option Row) → is_some (option_and_then (λ (r : Row). slice_get r.values 0) o) ≡ true → is_some (option_map (λ (r : Row). r.values) o) ≡ true
 given_here None first = first
@@ -57,9 +57,7 @@ job_has_scripts words job is = in_matched (subcommand_of timedesk words) job is
   where
     in_matched : (matched : Option (Text × List Row)) (job : Job) → IsJobIn matched job → HasScripts job
     in_matched None job is = absurd is
-    in_matched (Some (name, rows)) (Check instance barred solution json explain strict) is = tt
-    in_matched (Some (name, rows)) (Week instance barred solution whose) is = tt
-    in_matched (Some (name, rows)) (Page instance barred solution) is = tt
+    in_matched (Some (name, rows)) (Show instance barred solution showing) is = tt
     in_matched (Some (name, rows)) (Run instance barred script start journal) is = tt
     in_matched (Some (name, rows)) (Audit instance barred journal start) is = tt
     in_matched (Some (name, rows)) (Crew instance barred scripts) is = is.3.1

@@ -16,7 +16,8 @@ use Rattle.ctt_words.specs.CommandLine.{audit, check, crew, desk, journal, list,
 use Rattle.ctt_words.specs.Jobs.{AsksForSeveral, IsFaultOf, IsHelp, IsJobIn, IsMatched, IsNoJobIn, IsOfKind, IsRequest, SaysSeveral, WantsSeveralIn, choices, choices_of, count_given, faults_of}
 use Rattle.ctt_words.specs.Outlines.{commands, name_of, named, named_in, with_name}
 use Rattle.ctt_words.specs.declared.job.Job.{Job}
-use Rattle.ctt_words.specs.declared.job.Job.TheVariants.{Audit, Check, Crew, Desk, Journal, Listing, Page, Run, Week}
+use Rattle.ctt_words.specs.declared.job.Job.TheVariants.{Audit, Crew, Desk, Journal, Listing, Run, Show}
+use Rattle.ctt_words.specs.declared.job.Showing.TheVariants.{Page, Report, Week}
 use Rattle.ctt_words.specs.declared.job.Whose.{Whose}
 use Rattle.ctt_words.specs.declared.job.Whose.TheVariants.{Course, Curriculum, Room, Teacher}
 use Rattle.ctt_words.specs.declared.job.WordsFault.{WordsFault}
@@ -73,9 +74,9 @@ other_name name a b other is_a is_b = true≢false (sym ((bytes_eq-Decides a b).
 -- a job is that of no such words
 not_several : (matched : Option (Text × List Row)) (job : Job) → IsJobIn matched job → WantsSeveralIn matched → ⊥
 not_several None job is several = several
-not_several (Some (name, rows)) (Check instance barred solution json explain strict) is several = other_name name _ _ refl is.0 several.0
-not_several (Some (name, rows)) (Week instance barred solution whose) is several = no_several rows whose is.4 several.1
-not_several (Some (name, rows)) (Page instance barred solution) is several = other_name name _ _ refl is.0 several.0
+not_several (Some (name, rows)) (Show instance barred solution (Report json explain strict)) is several = other_name name _ _ refl is.0.0 several.0
+not_several (Some (name, rows)) (Show instance barred solution (Week whose)) is several = no_several rows whose is.0.1 several.1
+not_several (Some (name, rows)) (Show instance barred solution Page) is several = other_name name _ _ refl is.0 several.0
 not_several (Some (name, rows)) (Run instance barred script start stored) is several = other_name name _ _ refl is.0 several.0
 not_several (Some (name, rows)) (Audit instance barred audited start) is several = other_name name _ _ refl is.0 several.0
 not_several (Some (name, rows)) (Crew instance barred scripts) is several = other_name name _ _ refl is.0 several.0

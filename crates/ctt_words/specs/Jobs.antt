@@ -9,7 +9,9 @@ use Rattle.clap.specs.declared.error.kind.ErrorKind.TheVariants.{DisplayHelp, Di
 use Rattle.ctt_words.specs.CommandLine.{IsOnOrOff, is_on, timedesk}
 use Rattle.ctt_words.specs.Outlines.{named}
 use Rattle.ctt_words.specs.declared.job.Job.{Job}
-use Rattle.ctt_words.specs.declared.job.Job.TheVariants.{Audit, Check, Crew, Desk, Journal, Listing, Page, Run, Week}
+use Rattle.ctt_words.specs.declared.job.Job.TheVariants.{Audit, Crew, Desk, Journal, Listing, Run, Show}
+use Rattle.ctt_words.specs.declared.job.Showing.{Showing}
+use Rattle.ctt_words.specs.declared.job.Showing.TheVariants.{Page, Report, Week}
 use Rattle.ctt_words.specs.declared.job.Whose.{Whose}
 use Rattle.ctt_words.specs.declared.job.Whose.TheVariants.{Course, Curriculum, Room, Teacher}
 use Rattle.ctt_words.specs.declared.job.WordsFault.{WordsFault}
@@ -97,15 +99,16 @@ IsMatched (Some (name, rows)) = IsWhole name rows
 
 -- ---- the job
 
+-- the command of this name, with what its matches have, shows a solution so
+abbrev pub IsShowingBy : Text → List Row → Showing → Type 0
+IsShowingBy name rows (Report json explain strict) = (name ≡ codes "check")
+    × IsSet rows (codes "json") json × IsSet rows (codes "explain") explain × IsSet rows (codes "strict") strict
+IsShowingBy name rows (Week whose) = (name ≡ codes "week") × (choices rows ≡ choices_of whose)
+IsShowingBy name rows Page = name ≡ codes "page"
+
 -- the job is that of the command of this name, with what its matches have
 abbrev pub IsJobBy : Text → List Row → Job → Type 0
-IsJobBy name rows (Check instance barred solution json explain strict) = (name ≡ codes "check")
-    × Has rows (codes "instance") instance × MayHave rows (codes "barred") barred × Has rows (codes "solution") solution
-    × IsSet rows (codes "json") json × IsSet rows (codes "explain") explain × IsSet rows (codes "strict") strict
-IsJobBy name rows (Week instance barred solution whose) = (name ≡ codes "week")
-    × Has rows (codes "instance") instance × MayHave rows (codes "barred") barred × Has rows (codes "solution") solution
-    × (choices rows ≡ choices_of whose)
-IsJobBy name rows (Page instance barred solution) = (name ≡ codes "page")
+IsJobBy name rows (Show instance barred solution showing) = IsShowingBy name rows showing
     × Has rows (codes "instance") instance × MayHave rows (codes "barred") barred × Has rows (codes "solution") solution
 IsJobBy name rows (Run instance barred script start journal) = (name ≡ codes "run")
     × Has rows (codes "instance") instance × MayHave rows (codes "barred") barred × Has rows (codes "script") script

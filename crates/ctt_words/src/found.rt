@@ -5,7 +5,7 @@ ghost use Rattle.clap.specs.Words.{found_of, rows_of};
 ghost use Rattle.ctt_words.specs.Jobs.{HasFiles, HasFlags, IsJobBy, choices, choices_of, count_given};
 
 use crate::arguments::{is_set, option, text, texts};
-use crate::job::{Job, Whose};
+use crate::job::{Job, Showing, Whose};
 use clap::ArgMatches;
 use std::alloc::{AllocError, Global};
 
@@ -15,13 +15,15 @@ pub(crate) fn check_job(alloc: Global, given: &ArgMatches<'_>) -> Result<Job, Al
     requires flags { HasFlags (rows_of (found_of given.now)) }
     ensures { IfOk result (IsJobBy (codes "check") (rows_of (found_of given.now))) }
 {
-    Ok(Job::Check {
+    Ok(Job::Show {
         instance: text(alloc, given, "instance")?,
         barred: option(alloc, given, "barred")?,
         solution: text(alloc, given, "solution")?,
-        json: is_set(given, "json"),
-        explain: is_set(given, "explain"),
-        strict: is_set(given, "strict"),
+        showing: Showing::Report {
+            json: is_set(given, "json"),
+            explain: is_set(given, "explain"),
+            strict: is_set(given, "strict"),
+        },
     })
 }
 
@@ -51,11 +53,11 @@ pub(crate) fn week_job(alloc: Global, given: &ArgMatches<'_>) -> Result<Job, All
     requires one { count_given (choices (rows_of (found_of given.now))) ≤ 1 }
     ensures { IfOk result (IsJobBy (codes "week") (rows_of (found_of given.now))) }
 {
-    Ok(Job::Week {
+    Ok(Job::Show {
         instance: text(alloc, given, "instance")?,
         barred: option(alloc, given, "barred")?,
         solution: text(alloc, given, "solution")?,
-        whose: whose(alloc, given)?,
+        showing: Showing::Week(whose(alloc, given)?),
     })
 }
 
@@ -64,10 +66,11 @@ pub(crate) fn page_job(alloc: Global, given: &ArgMatches<'_>) -> Result<Job, All
     requires { HasFiles (codes "solution") (rows_of (found_of given.now)) }
     ensures { IfOk result (IsJobBy (codes "page") (rows_of (found_of given.now))) }
 {
-    Ok(Job::Page {
+    Ok(Job::Show {
         instance: text(alloc, given, "instance")?,
         barred: option(alloc, given, "barred")?,
         solution: text(alloc, given, "solution")?,
+        showing: Showing::Page,
     })
 }
 

@@ -15,32 +15,32 @@ pub enum Whose {
     Room(String),
 }
 
-/// What the program is asked to do. Files are given by their names; `barred` is that of the rooms that are
-/// barred in the instance.
+/// How a solution is shown.
 #[derive(Drop)]
-pub enum Job {
-    /// To report on a solution of an instance, as text or as JSON, to name what is found where `explain` is set,
-    /// and to end by what the solution is where `strict` is set.
-    Check {
-        instance: String,
-        barred: Option<String>,
-        solution: String,
+pub enum Showing {
+    /// By the report on it, as text or as JSON, with what is found where `explain` is set; it ends by what the
+    /// solution is where `strict` is set.
+    Report {
         json: bool,
         explain: bool,
         strict: bool,
     },
-    /// To show the week of a solution as tables, of all rooms or of what is named.
-    Week {
+    /// By its week as tables, of all rooms or of what is named.
+    Week(Option<Whose>),
+    /// By a page for a browser.
+    Page,
+}
+
+/// What the program is asked to do. Files are given by their names; `barred` is that of the rooms that are
+/// barred in the instance.
+#[derive(Drop)]
+pub enum Job {
+    /// To show a solution of an instance.
+    Show {
         instance: String,
         barred: Option<String>,
         solution: String,
-        whose: Option<Whose>,
-    },
-    /// To show a solution as a page for a browser.
-    Page {
-        instance: String,
-        barred: Option<String>,
-        solution: String,
+        showing: Showing,
     },
     /// To run a script on a desk of an instance, which opens with a solution or empty, and to store the
     /// journal where a file is given for it.

@@ -4,6 +4,3 @@ use Rattle.ctt_tool.proofs.audit.check_journal.Goals as goal
 pub returns-in-Err-clause-cause : goal.returns-in-Err-clause-cause
 returns-in-Err-clause-cause c =
     no_journal c.in-Err.fault c.args.instance.now c.args.text.now c.in-Err.ensures.fault c.in-Err.ensures.accepted c.refused_journal.result c.refused_journal.ensures
-
-pub returns-in-Ok-clause-journal : goal.returns-in-Ok-clause-journal
-returns-in-Ok-clause-journal c = (c.in-Ok.field-0.items, record { is_text = c.in-Ok.ensures.text; spells = c.in-Ok.ensures.spelled })

@@ -26,7 +26,7 @@ returns-in_err-run-in-Run-clause-cause g c =
     let fault = c.in_err-run-in-Run.field-0.0 in
     let before = g.W.Sink.has_failed c.args.out.now in
     let after = g.W.Sink.has_failed c.run.new.out in
-    passed_on c.from_residual-in_err-run-in-Run.result fault (λ told. IfUnwritten told ((after ≡ true) ⊎ Storing c.args.job) (IsOfJob c.args.job held told × (after ≡ before))) c.from_residual-in_err-run-in-Run.ensures.1
+    passed_on c.from_residual.result fault (λ told. IfUnwritten told ((after ≡ true) ⊎ Storing c.args.job) (IsOfJob c.args.job held told × (after ≡ before))) c.from_residual.ensures.1
     (subst (λ job. IfUnwritten fault ((after ≡ true) ⊎ Storing job) (IsOfJob job held fault × (after ≡ before))) (sym c.in-Run.is) c.in_err-run-in-Run.ensures.cause)
 
 pub returns-in-Audit-clause-cause : goal.returns-in-Audit-clause-cause

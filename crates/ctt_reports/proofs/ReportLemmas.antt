@@ -1,0 +1,38 @@
+-- The report with its findings.
+use Rattle.std.proofs.Common.{◌≡◌, ℕ, Bool, true, false, List, [], ◌∷◌, ◌++◌, refl, ◌∙◌, sym, ap, subst, append-nil}
+use Rattle.std.specs.List.{flat_map}
+use Rattle.ctt_text.specs.Problem.{Problem, has_barred}
+use Rattle.ctt_text.specs.declared.placed.Placed.{Placed}
+use Rattle.ctt_rules.specs.Hard.{hard_counts}
+use Rattle.ctt_rules.specs.Penalty.{penalty}
+use Rattle.ctt_findings.specs.Findings.{findings}
+use Rattle.ctt_findings.specs.Lines.{explained, line}
+use Rattle.ctt_findings.specs.Objects.{item_text, item_texts}
+use Rattle.ctt_findings.specs.ReportText.{IsExplainedJson, IsExplainedText, IsTextReport, text_of}
+use Rattle.ctt_findings.specs.declared.finding.Finding.{Finding}
+use Rattle.ctt_reports.specs.Checks.{found_texts}
+
+-- the texts of findings are items, or lines
+items_found : (i : Problem) (later : Bool) (fs : List Finding) → item_texts i later fs ≡ found_texts true i later fs
+items_found i later [] = refl
+items_found i later (f ∷ fs) = ap (λ t. item_text i later f ++ t) (items_found i true fs)
+
+lines_found : (i : Problem) (later : Bool) (fs : List Finding) → flat_map (line i) fs ≡ found_texts false i later fs
+lines_found i later [] = refl
+lines_found i later (f ∷ fs) = ap (λ t. line i f ++ t) (lines_found i true fs)
+
+-- the report with its findings, by its parts
+pub json_explained : (i : Problem) (t : List Placed) (front rest : List ℕ) → IsExplainedJson i t (front ++ (item_texts i false (findings i t) ++ rest)) → IsExplainedJson i t (front ++ (found_texts true i false (findings i t) ++ rest))
+json_explained i t front rest is = subst (λ items. IsExplainedJson i t (front ++ (items ++ rest))) (items_found i false (findings i t)) is
+
+pub text_explained : (i : Problem) (t : List Placed) (front rest : List ℕ) → rest ≡ [] → IsTextReport i t front → IsExplainedText i t (front ++ (found_texts false i false (findings i t) ++ rest))
+text_explained i t front rest none is =
+    let found : List ℕ = found_texts false i false (findings i t) in
+    let only : found ++ rest ≡ explained i t = ap (λ bytes. found ++ bytes) none ∙ append-nil found ∙ sym (lines_found i false (findings i t)) in
+    record {
+      lawful = is.lawful;
+      complete = is.complete;
+      is_lawful = is.is_lawful;
+      is_complete = is.is_complete;
+      shown = ap (λ bytes. bytes ++ (found ++ rest)) is.shown ∙ ap (λ bytes. text_of i.name (has_barred i) (hard_counts i t) (penalty i t) is.lawful is.complete ++ bytes) only;
+    }

@@ -1,0 +1,36 @@
+use Rattle.std.proofs.Common.{◌++◌, ℕ, List, false, append_assoc, inr, subst, sym}
+use Rattle.std.specs.Io.KnownBytes.{Appends}
+use Rattle.std.proofs.KnownBytes.{Appends-trans}
+use Rattle.ctt_devices.specs.Output.{AppendsFront}
+use Rattle.ctt_files.proofs.Plain.{passed_on}
+use Rattle.ctt_findings.specs.Findings.{findings}
+use Rattle.ctt_reports.specs.Checks.{found_texts}
+use Rattle.ctt_reports.proofs.WritingLemmas.{cut, front_behind, front_more, on_err_weaker}
+use Rattle.ctt_reports.proofs.checking.print_explained.Goals as goal
+
+pub returns-in_err-tell-clause-part : goal.returns-in_err-tell-clause-part
+returns-in_err-tell-clause-part g c =
+    let i = c.args.instance.now in
+    let taken = g.W.Sink.taken in
+    let front : List ℕ = c.in_ok-front.front.items in
+    let rest : List ℕ = c.in_ok-front.rest.items in
+    let found : List ℕ = found_texts c.args.json i false (findings i c.args.timetable.now) in
+    let before : Appends (taken c.args.out.now) (taken c.print.new.out) front = subst (Appends (taken c.args.out.now) (taken c.print.new.out)) c.deref.ensures.value c.in_ok-print.ensures.printed in
+    let told : AppendsFront (taken c.args.out.now) (taken c.tell.new.out) (front ++ (found ++ rest)) =
+    front_more _ _ (front ++ found) rest _ (sym (append_assoc front found rest)) (front_behind _ _ _ front found before c.in_err-tell.ensures.front) in
+    passed_on c.from_residual-in_err-tell.result c.in_err-tell.field-0.0 _ c.from_residual-in_err-tell.ensures.1 (inr (c.in_err-tell.ensures.fault, (front ++ (found ++ rest), c.in_ok-front.ensures, told)))
+
+pub returns-clause-part : goal.returns-clause-part
+returns-clause-part g c =
+    let i = c.args.instance.now in
+    let taken = g.W.Sink.taken in
+    let front : List ℕ = c.in_ok-front.front.items in
+    let rest : List ℕ = c.in_ok-front.rest.items in
+    let found : List ℕ = found_texts c.args.json i false (findings i c.args.timetable.now) in
+    let before : Appends (taken c.args.out.now) (taken c.print.new.out) front = subst (Appends (taken c.args.out.now) (taken c.print.new.out)) c.deref.ensures.value c.in_ok-print.ensures.printed in
+    let told : Appends (taken c.args.out.now) (taken c.tell.new.out) (front ++ found) = Appends-trans _ _ _ front found before c.in_ok-tell.ensures.told in
+    cut c.print-2.result _ _ c.print-2.ensures.fault (on_err_weaker c.print-2.result _ _ (λ last. (
+      front ++ (found ++ rest),
+      c.in_ok-front.ensures,
+      subst (AppendsFront (taken c.args.out.now) (taken c.print-2.new.out)) (append_assoc front found rest) (front_behind _ _ _ (front ++ found) rest told (subst (AppendsFront (taken c.tell.new.out) (taken c.print-2.new.out)) c.deref-2.ensures.value last)),
+    )) c.print-2.ensures.front)
