@@ -1,19 +1,15 @@
 -- What `clap` says of the program's own words, and what the program says of them.
-use Rattle.std.proofs.Common.{◌≡◌, ◌≤◌, ◌<◌, ◌⊎◌, ◌∙◌, inl, inr, refl, subst, sym, ap₂, cond, Bool, true, false, true≢false, option_map, List, [], ◌∷◌, Result, Ok, Err, OnOk, IfOk, IfErr, IsErrAnd, Option, Some, None, arith, ap, ⊎_elim}
-use Rattle.std.specs.Box.{box_value}
-use Rattle.std.specs.Prelude.{Box, find}
+use Rattle.std.proofs.Common.{◌≡◌, ◌≤◌, ◌<◌, ◌⊎◌, ◌∙◌, inl, inr, refl, subst, sym, cond, Bool, true, false, true≢false, option_map, map, List, [], ◌∷◌, Result, Ok, Err, OnOk, IfOk, IfErr, IsErrAnd, Option, Some, None, arith, ap, ⊎_elim}
+use Rattle.std.specs.Prelude.{IfSome}
 use Rattle.std.specs.Str.{bytes_eq}
 use Rattle.std.proofs.lemmas.Slice.Eq.{bytes_eq-Decides}
-use Rattle.clap.specs.Simple.{subcommand_rows}
-use Rattle.clap.specs.Words.{IsAmong, Kinds, Row, Text, is_simple, is_simple_and_free, subcommand_name_of, subcommand_of, subcommand_rows_of}
+use Rattle.clap.specs.Words.{IsAmong, Kinds, Row, Text, is_simple, is_simple_and_free, subcommand_of}
 use Rattle.clap.specs.declared.error.kind.ErrorKind.{ErrorKind}
 use Rattle.clap.specs.declared.error.kind.ErrorKind.TheVariants.{OutOfMemory}
-use Rattle.clap.specs.declared.parser.matches.ArgMatches.{ArgMatches}
-use Rattle.clap.specs.declared.parser.matches.ArgMatches.TheViews.{out-ArgMatches, out-SubCommand}
-use Rattle.clap.specs.declared.parser.matches.SubCommand.{SubCommand}
 use Rattle.clap.proofs.OnLiterals.{clap_on_literals}
 use Rattle.ctt_words.specs.CommandLine.{audit, check, crew, desk, journal, list, page, run, timedesk, week}
-use Rattle.ctt_words.specs.Jobs.{AsksForSeveral, IsFaultOf, IsHelp, IsJobIn, IsMatched, IsNoJobIn, IsOfKind, IsRequest, IsWhole, SaysSeveral, WantsSeveral, choices, choices_of, count_given, faults_of, wanted_by, wanted_of}
+use Rattle.ctt_words.specs.Jobs.{AsksForSeveral, IsFaultOf, IsHelp, IsJobIn, IsNoJobIn, IsOfKind, IsRequest, SaysSeveral, WantsSeveralIn, choices, choices_of, count_given, faults_of}
+use Rattle.ctt_words.specs.Outlines.{commands, name_of, named, named_in, with_name}
 use Rattle.ctt_words.specs.declared.job.Job.{Job}
 use Rattle.ctt_words.specs.declared.job.Job.TheVariants.{Audit, Crew, Desk, Journal, Listing, Run, Show}
 use Rattle.ctt_words.specs.declared.job.Showing.TheVariants.{Page, Report, Week}
@@ -21,6 +17,7 @@ use Rattle.ctt_words.specs.declared.job.Whose.{Whose}
 use Rattle.ctt_words.specs.declared.job.Whose.TheVariants.{Course, Curriculum, Room, Teacher}
 use Rattle.ctt_words.specs.declared.job.WordsFault.{WordsFault}
 use Rattle.ctt_words.specs.declared.job.WordsFault.TheVariants.{Help, NoMemory, Refused}
+use Rattle.ctt_words.specs.declared.outline.Name.{Name}
 
 pub timedesk_simple : is_simple timedesk ≡ true
 unfolding clap_on_literals timedesk check week page run audit crew desk journal list
@@ -70,7 +67,7 @@ other_name : (name a b : Text) → bytes_eq a b ≡ false → name ≡ a → nam
 other_name name a b other is_a is_b = true≢false (sym ((bytes_eq-Decides a b).1 (sym is_a ∙ is_b)) ∙ other)
 
 -- a job is that of no such words
-not_several : (matched : Option (Text × List Row)) (job : Job) → IsJobIn matched job → WantsSeveral matched → ⊥
+not_several : (matched : Option (Text × List Row)) (job : Job) → IsJobIn matched job → WantsSeveralIn matched → ⊥
 not_several None job is several = several
 not_several (Some (name, rows)) (Show instance barred solution (Report json explain strict)) is several = other_name name _ _ refl is.0.0 several.0
 not_several (Some (name, rows)) (Show instance barred solution (Week whose)) is several = no_several rows whose is.0.1 several.1
@@ -103,47 +100,21 @@ several_taken words kind (Help text) (inr among) is asks = nothing_among kind (f
 several_taken words kind (Refused text) (inl memory) is asks = absurd (is.2 memory)
 several_taken words kind (Refused text) (inr among) is asks = absurd (nothing_among kind (faults_of words) asks.0 among)
 
--- ---- the command that is matched
+-- ---- names
 
-rows_named : {Z : Type 0} (o : Option (Box SubCommand Z)) → option_map (λ (p : Text × List Row). p.0) (subcommand_rows o) ≡ option_map (λ b. (out-SubCommand (box_value b)).name.now) o
-rows_named None = refl
-rows_named (Some b) = refl
+-- a command that is found by its name has that name
+pub has_name : (known : List Name) (name : Text) (command : Name) → named_in (map with_name known) name ≡ Some command → name ≡ name_of command
+has_name [] name command is = cc
+has_name (one ∷ more) name command is = here (bytes_eq (name_of one) name) one _ command refl is (λ later. has_name more name command later)
+  where
+    here : (t : Bool) (one : Name) (later : Option (Text × Name)) (command : Name) → bytes_eq (name_of one) name ≡ t
+        → option_map (λ (found : Text × Name). found.1) (cond t (Some (with_name one)) later) ≡ Some command
+        → (option_map (λ (found : Text × Name). found.1) later ≡ Some command → name ≡ name_of command) → name ≡ name_of command
+    here true one later command same is behind =
+        let found : one ≡ command = cc in
+        sym ((bytes_eq-Decides (name_of one) name).0 same) ∙ ap name_of found
+    here false one later command same is behind = behind is
 
-pub name_matched : (m : ArgMatches) (name : Text) → Some name ≡ subcommand_name_of m → Some name ≡ option_map (λ (p : Text × List Row). p.0) (subcommand_rows_of m)
-name_matched m name named = named ∙ sym (rows_named (out-ArgMatches m).subcommand)
-
--- its name and its matches
-pub matched_by : (name : Text) (rows : List Row) (matched : Option (Text × List Row)) → Some name ≡ option_map (λ (p : Text × List Row). p.0) matched
-    → Some rows ≡ option_map (λ (p : Text × List Row). p.1) matched → matched ≡ Some (name, rows)
-matched_by name rows None named has = cc
-matched_by name rows (Some p) named has =
-    let same : name ≡ p.0 = cc in
-    let all : rows ≡ p.1 = cc in
-    ap₂ (λ (n : Text) (r : List Row). Some (n, r)) (sym same) (sym all)
-
--- this is the name of none of these
-abbrev pub IsOther : Text → List (Text × Text) → Type 0
-IsOther name [] = Unit {0}
-IsOther name (one ∷ more) = (name ≡ one.0 → ⊥) × IsOther name more
-
-none_first : (t : Bool) (one : Text × Text) (later : Option (Text × Text)) → (t ≡ true → ⊥) → later ≡ None → cond t (Some one) later ≡ None
-none_first true one later other none = absurd (other refl)
-none_first false one later other none = none
-
-none_named : (name : Text) (table : List (Text × Text)) → IsOther name table → find (λ (one : Text × Text). bytes_eq one.0 name) table ≡ None
-none_named name [] other = refl
-none_named name (one ∷ more) other =
-    none_first (bytes_eq one.0 name) one _ (λ same. other.0 (sym ((bytes_eq-Decides one.0 name).0 same))) (none_named name more other.1)
-
--- there is no other command
-pub no_other : (matched : Option (Text × List Row)) (name : Text) (rows : List Row) → IsMatched matched → Some name ≡ option_map (λ (p : Text × List Row). p.0) matched
-    → Some rows ≡ option_map (λ (p : Text × List Row). p.1) matched → IsOther name wanted_by → ⊥
-no_other matched name rows is named has other =
-    let whole : IsWhole name rows = subst IsMatched (matched_by name rows matched named has) is in
-    let none : wanted_of name ≡ None = ap (option_map (λ (one : Text × Text). one.1)) (none_named name wanted_by other) in
-    let some : wanted_of name ≡ Some whole.wanted = whole.is_known in
-    cc
-
-pub none_matched : (matched : Option (Text × List Row)) → IsMatched matched → None ≡ option_map (λ (p : Text × List Row). p.1) matched → ⊥
-none_matched None is none = is
-none_matched (Some p) is none = cc
+pub named_so : (o : Option Name) (name : Text) → o ≡ named name → IfSome o (λ command. name ≡ name_of command)
+named_so None name is = tt
+named_so (Some command) name is = has_name commands name command (sym is)

@@ -1,5 +1,5 @@
 -- Words in which `clap` finds no fault ask for one of the program's commands, with all that it needs. No command has a lemma of its own.
-use Rattle.std.proofs.Common.{◌≡◌, ◌∙◌, ◌&&◌, ◌||◌, ◌⊎◌, Bool, true, false, not, refl, sym, ap, ap₂, subst, inl, inr, ⊎_elim, List, [], Option, Some, None, codes, true≢false}
+use Rattle.std.proofs.Common.{◌≡◌, ◌∙◌, ◌&&◌, ◌||◌, ◌⊎◌, Bool, true, false, refl, sym, ap, ap₂, subst, inl, inr, ⊎_elim, List, [], Option, Some, None, codes, true≢false}
 use Rattle.std.specs.List.{list_all, list_any}
 use Rattle.std.specs.Option.{option_map_or}
 use Rattle.std.specs.Str.{bytes_eq}
@@ -11,7 +11,10 @@ use Rattle.clap.specs.Words.{fault_of, subcommand_of}
 use Rattle.clap.proofs.OnLiterals.{clap_on_literals}
 use Rattle.clap.proofs.SimpleLemmas.{is_nil}
 use Rattle.ctt_words.specs.CommandLine.{audit, check, crew, desk, journal, list, page, run, timedesk, week}
-use Rattle.ctt_words.specs.Jobs.{HasFlags, IsMatched, IsWhole, wanted_of}
+use Rattle.ctt_words.specs.Jobs.{HasFlags, HasFlagsOf, IsMatched, IsWhole, wanted_by}
+use Rattle.ctt_words.specs.Outlines.{named}
+use Rattle.ctt_words.specs.declared.outline.Name.{Name}
+use Rattle.ctt_words.specs.declared.outline.Name.TheVariants as by
 use Rattle.ctt_words.proofs.Rows.{all_in, is_giving}
 use Rattle.ctt_words.proofs.Entered.{enters, has_flag, has_required, is_flag, is_required, not_help}
 
@@ -23,9 +26,16 @@ requires s id = list_any (is_required (codes "instance")) s.rules && list_any (i
 abbrev has_flags : Shape → Bool
 has_flags s = list_all (is_flag (codes "json")) s.rules && (list_all (is_flag (codes "explain")) s.rules && list_all (is_flag (codes "strict")) s.rules)
 
+abbrev has_flags_of : Name → Shape → Bool
+has_flags_of by.Check s = has_flags s
+has_flags_of _ s = true
+
 -- it is known, and has all that it needs
+abbrev has_needs : Shape → Name → Bool
+has_needs s command = requires s (wanted_by command) && has_flags_of command s
+
 abbrev has_all : Shape → Bool
-has_all s = list_all is_giving s.rules && (option_map_or (requires s) (wanted_of s.name) false && (not (bytes_eq s.name (codes "check")) || has_flags s))
+has_all s = list_all is_giving s.rules && option_map_or (has_needs s) (named s.name) false
 
 abbrev is_help : Shape → Bool
 is_help s = bytes_eq s.name (codes "help") && is_empty s.aliases
@@ -38,10 +48,6 @@ either : (a b : Bool) → (a || b) ≡ true → (a ≡ true) ⊎ (b ≡ true)
 either true b e = inl refl
 either false b e = inr e
 
-implied : (a b : Bool) → (not a || b) ≡ true → a ≡ true → b ≡ true
-implied true b e is = e
-implied false b e is = absurd (true≢false (sym is))
-
 module _ (s : Shape) (rest : List Text) (gives : list_all is_giving s.rules ≡ true) (none : level_fault s [] nothing_held rest false [] ≡ []) where
   flags_of : has_flags s ≡ true → HasFlags (rows_after s.rules [] rest)
   flags_of has =
@@ -52,23 +58,29 @@ module _ (s : Shape) (rest : List Text) (gives : list_all is_giving s.rules ≡ 
         strict = has_flag s rest (codes "strict") gives none later.1;
       }
 
-  whole_by : (o : Option Text) → wanted_of s.name ≡ o → option_map_or (requires s) o false ≡ true → (not (bytes_eq s.name (codes "check")) || has_flags s) ≡ true
-      → IsWhole s.name (rows_after s.rules [] rest)
-  whole_by None is has flags = absurd (true≢false (sym has))
-  whole_by (Some id) is has flags = record {
-    wanted = id;
-    is_known = is;
-    files = record {
-      instance = has_required s rest (codes "instance") gives none (both _ _ has).0;
-      other = has_required s rest id gives none (both _ _ has).1;
-    };
-    flags = λ named. flags_of (implied (bytes_eq s.name (codes "check")) (has_flags s) flags ((bytes_eq-Decides s.name (codes "check")).1 named));
-  }
+  flags_by : (command : Name) → has_flags_of command s ≡ true → HasFlagsOf command (rows_after s.rules [] rest)
+  flags_by by.Check has = flags_of has
+  flags_by _ has = tt
+
+  whole_by : (o : Option Name) → named s.name ≡ o → option_map_or (has_needs s) o false ≡ true → IsWhole s.name (rows_after s.rules [] rest)
+  whole_by None is has = absurd (true≢false (sym has))
+  whole_by (Some command) is has =
+      let needs = both (requires s (wanted_by command)) (has_flags_of command s) has in
+      let given = both (list_any (is_required (codes "instance")) s.rules) _ needs.0 in
+      record {
+        command = command;
+        is_known = is;
+        files = record {
+          instance = has_required s rest (codes "instance") gives none given.0;
+          other = has_required s rest (wanted_by command) gives none given.1;
+        };
+        flags = flags_by command needs.1;
+      }
 
 whole_of : (s : Shape) (rest : List Text) → has_all s ≡ true → level_fault s [] nothing_held rest false [] ≡ [] → IsWhole s.name (rows_after s.rules [] rest)
 whole_of s rest has none =
-    let later = both _ _ (both (list_all is_giving s.rules) _ has).1 in
-    whole_by s rest (both (list_all is_giving s.rules) _ has).0 none (wanted_of s.name) refl later.0 later.1
+    let parts = both (list_all is_giving s.rules) _ has in
+    whole_by s rest parts.0 none (named s.name) refl parts.1
 
 help_label : (s : Shape) → is_help s ≡ true → label_of s ≡ (codes "help", [])
 help_label s is =

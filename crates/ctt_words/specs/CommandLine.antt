@@ -84,9 +84,13 @@ abbrev pub with_commands : App → List App → App
 with_commands app [] = app
 with_commands app (one ∷ more) = with_commands (with_subcommand app one.top) more
 
+-- the commands, in the order of the help
+abbrev pub apps : List App
+apps = check ∷ week ∷ page ∷ run ∷ audit ∷ crew ∷ desk ∷ journal ∷ list ∷ []
+
 -- the program with its commands
 unfoldable pub timedesk : App
-timedesk = with_commands bare (check ∷ week ∷ page ∷ run ∷ audit ∷ crew ∷ desk ∷ journal ∷ list ∷ [])
+timedesk = with_commands bare apps
 
 -- `clap` reads words by this command as by `app`, and no argument of it holds for other commands
 pub record IsCommand (app : App) (made : Command) : Type 0 where

@@ -1,13 +1,13 @@
 -- Which job the words of a command line ask for, and what is said where they ask for none.
-use Rattle.std.specs.Prelude.{◌≡◌, ◌≢◌, ◌≤◌, ◌<◌, ◌⊎◌, ℕ, suc, Bool, List, [], ◌∷◌, Option, Some, None, IsSome, codes, find, length, map, option_map}
+use Rattle.std.specs.Prelude.{◌≡◌, ◌≢◌, ◌≤◌, ◌<◌, ◌⊎◌, ℕ, suc, Bool, List, [], ◌∷◌, Option, Some, None, IsSome, codes, length, map, option_map}
 use Rattle.std.specs.Global.{Global}
-use Rattle.std.specs.Str.{bytes_eq}
 use Rattle.std.specs.String.{string_bytes}
 use Rattle.std.specs.declared.string.String.{String}
 use Rattle.clap.specs.Words.{IsAmong, Kinds, Row, Text, all_of, fault_of, first_of, one_of, subcommand_of}
 use Rattle.clap.specs.declared.error.kind.ErrorKind.{ErrorKind}
 use Rattle.clap.specs.declared.error.kind.ErrorKind.TheVariants.{DisplayHelp, DisplayVersion, OutOfMemory}
 use Rattle.ctt_words.specs.CommandLine.{IsOnOrOff, is_on, timedesk}
+use Rattle.ctt_words.specs.Outlines.{named}
 use Rattle.ctt_words.specs.declared.job.Job.{Job}
 use Rattle.ctt_words.specs.declared.job.Job.TheVariants.{Audit, Crew, Desk, Journal, Listing, Run, Show}
 use Rattle.ctt_words.specs.declared.job.Showing.{Showing}
@@ -16,6 +16,8 @@ use Rattle.ctt_words.specs.declared.job.Whose.{Whose}
 use Rattle.ctt_words.specs.declared.job.Whose.TheVariants.{Course, Curriculum, Room, Teacher}
 use Rattle.ctt_words.specs.declared.job.WordsFault.{WordsFault}
 use Rattle.ctt_words.specs.declared.job.WordsFault.TheVariants.{Help, NoMemory, Refused}
+use Rattle.ctt_words.specs.declared.outline.Name.{Name}
+use Rattle.ctt_words.specs.declared.outline.Name.TheVariants as by
 
 -- ---- what the matches of a command have
 
@@ -55,14 +57,17 @@ count_given (Some text ∷ others) = suc (count_given others)
 
 -- ---- what a command needs
 
--- the argument that a command of this name wants beside the instance
-abbrev pub wanted_by : List (Text × Text)
-wanted_by = (codes "check", codes "solution") ∷ (codes "week", codes "solution") ∷ (codes "page", codes "solution") ∷ (codes "run", codes "script")
-    ∷ (codes "audit", codes "journal") ∷ (codes "crew", codes "script") ∷ (codes "desk", codes "seat") ∷ (codes "journal", codes "minutes")
-    ∷ (codes "list", codes "journal") ∷ []
-
-abbrev pub wanted_of : Text → Option Text
-wanted_of name = option_map (λ (one : Text × Text). one.1) (find (λ (one : Text × Text). bytes_eq one.0 name) wanted_by)
+-- the argument that the command wants beside the instance
+abbrev pub wanted_by : Name → Text
+wanted_by by.Check = codes "solution"
+wanted_by by.Week = codes "solution"
+wanted_by by.Page = codes "solution"
+wanted_by by.Run = codes "script"
+wanted_by by.Audit = codes "journal"
+wanted_by by.Crew = codes "script"
+wanted_by by.Desk = codes "seat"
+wanted_by by.Journal = codes "minutes"
+wanted_by by.List = codes "journal"
 
 -- the matches have the instance, and this argument
 pub record HasFiles (id : Text) (rows : List Row) : Type 0 where
@@ -75,12 +80,17 @@ pub record HasFlags (rows : List Row) : Type 0 where
   pub explain : IsOnOrOff (one_of (codes "explain") rows)
   pub strict : IsOnOrOff (one_of (codes "strict") rows)
 
+-- and those of another command nothing
+abbrev pub HasFlagsOf : Name → List Row → Type 0
+HasFlagsOf by.Check rows = HasFlags rows
+HasFlagsOf _ rows = Unit {0}
+
 -- the matches of the command of this name have what it needs
 pub record IsWhole (name : Text) (rows : List Row) : Type 0 where
-  pub wanted : Text
-  pub is_known : wanted_of name ≡ Some wanted
-  pub files : HasFiles wanted rows
-  pub flags : name ≡ codes "check" → HasFlags rows
+  pub command : Name
+  pub is_known : named name ≡ Some command
+  pub files : HasFiles (wanted_by command) rows
+  pub flags : HasFlagsOf command rows
 
 -- words are matched by the command of this name, with what it needs
 abbrev pub IsMatched : Option (Text × List Row) → Type 0
@@ -157,13 +167,16 @@ abbrev pub IsRefusal : Kinds → Type 0
 IsRefusal kinds = (kind : ErrorKind) × IsAmong kind kinds × (kind ≢ DisplayHelp) × (kind ≢ DisplayVersion)
 
 -- the matches are those of a week of which more is given than whose it is
-abbrev pub WantsSeveral : Option (Text × List Row) → Type 0
-WantsSeveral None = ⊥
-WantsSeveral (Some (name, rows)) = (name ≡ codes "week") × (1 < count_given (choices rows))
+abbrev pub WantsSeveral : Text → List Row → Type 0
+WantsSeveral name rows = (name ≡ codes "week") × (1 < count_given (choices rows))
+
+abbrev pub WantsSeveralIn : Option (Text × List Row) → Type 0
+WantsSeveralIn None = ⊥
+WantsSeveralIn (Some (name, rows)) = WantsSeveral name rows
 
 -- `clap` takes the words, and they ask for the weeks of several at once
 abbrev pub AsksForSeveral : List Text → Type 0
-AsksForSeveral words = (faults_of words ≡ []) × WantsSeveral (subcommand_of timedesk words)
+AsksForSeveral words = (faults_of words ≡ []) × WantsSeveralIn (subcommand_of timedesk words)
 
 -- what is said of such words
 abbrev pub several_said : Text
@@ -178,7 +191,7 @@ SaysSeveral NoMemory = Unit {0}
 -- words with these matches ask for no job, since they want several, or memory is wanted
 abbrev pub IsNoJobIn : Option (Text × List Row) → WordsFault → Type 0
 IsNoJobIn matched (Help text) = ⊥
-IsNoJobIn matched (Refused text) = WantsSeveral matched × (string_bytes text ≡ several_said)
+IsNoJobIn matched (Refused text) = WantsSeveralIn matched × (string_bytes text ≡ several_said)
 IsNoJobIn matched NoMemory = Unit {0}
 
 -- the words are refused: `clap` finds a fault that is no help, or they ask for the weeks of several at once

@@ -1,9 +1,12 @@
--- What the tables of the commands say to `clap`.
-use Rattle.std.specs.Prelude.{map}
-use Rattle.clap.specs.Words.{App, Rule}
+-- What the tables of the commands say to `clap`, and which command has which name.
+use Rattle.std.specs.Prelude.{List, [], ◌∷◌, Option, codes, find, map, option_map}
+use Rattle.std.specs.Str.{bytes_eq}
+use Rattle.clap.specs.Words.{App, Rule, Text}
 use Rattle.ctt_words.specs.CommandLine.{command_of, flag, required_word, required_words, valued}
 use Rattle.ctt_words.specs.declared.outline.Argument.{Argument}
 use Rattle.ctt_words.specs.declared.outline.Argument.TheVariants.{Flag, Valued, Word, Words}
+use Rattle.ctt_words.specs.declared.outline.Name.{Name}
+use Rattle.ctt_words.specs.declared.outline.Name.TheVariants.{Audit, Check, Crew, Desk, Journal, List as Listing, Page, Run, Week}
 use Rattle.ctt_words.specs.declared.outline.Outline.{Outline}
 
 -- the rule of an argument
@@ -16,3 +19,34 @@ rule_by (Valued id name help) = valued id.now
 -- the command with this outline
 abbrev pub app_by : Outline → App
 app_by outline = command_of outline.name.now (map rule_by outline.arguments.now)
+
+-- the name of each command
+abbrev pub name_of : Name → Text
+name_of Check = codes "check"
+name_of Week = codes "week"
+name_of Page = codes "page"
+name_of Run = codes "run"
+name_of Audit = codes "audit"
+name_of Crew = codes "crew"
+name_of Desk = codes "desk"
+name_of Journal = codes "journal"
+name_of Listing = codes "list"
+
+-- a command with its name
+abbrev pub with_name : Name → Text × Name
+with_name command = (name_of command, command)
+
+abbrev pub names_by : Outline → Text × Name
+names_by outline = (outline.name.now, outline.command)
+
+-- the command of this name among these
+abbrev pub named_in : List (Text × Name) → Text → Option Name
+named_in known name = option_map (λ (one : Text × Name). one.1) (find (λ (one : Text × Name). bytes_eq one.0 name) known)
+
+-- the commands that there are
+abbrev pub commands : List Name
+commands = Check ∷ Week ∷ Page ∷ Run ∷ Audit ∷ Crew ∷ Desk ∷ Journal ∷ Listing ∷ []
+
+-- the command of this name
+abbrev pub named : Text → Option Name
+named name = named_in (map with_name commands) name

@@ -1,9 +1,10 @@
 //! The commands of the program.
 
-ghost use Rattle.std.specs.Prelude.{IfOk};
-ghost use Rattle.ctt_words.specs.CommandLine.{IsCommand, timedesk};
+ghost use Rattle.std.specs.Prelude.{◌≡◌, map, IfOk, IfSome};
+ghost use Rattle.ctt_words.specs.CommandLine.{IsCommand, apps, timedesk};
+ghost use Rattle.ctt_words.specs.Outlines.{app_by, commands, name_of, named, names_by, with_name};
 
-use crate::outline::{Argument, Outline, with_commands};
+use crate::outline::{Argument, Name, Outline, find, with_commands};
 use clap::Command;
 use std::alloc::{AllocError, Global};
 
@@ -27,6 +28,7 @@ const START: Argument = Argument::Valued(
 
 const COMMANDS: &[Outline] = &[
     Outline {
+        command: Name::Check,
         name: "check",
         about: "Report what a solution breaks and what it costs",
         example: "\
@@ -58,6 +60,7 @@ Example: timedesk check comp07.ctt comp07.sol --explain",
         ],
     },
     Outline {
+        command: Name::Week,
         name: "week",
         about: "Print the week as a table, with a column for each day and a line for each period",
         example: "Example: timedesk week comp07.ctt comp07.sol --teacher t067",
@@ -76,12 +79,14 @@ Example: timedesk check comp07.ctt comp07.sol --explain",
         ],
     },
     Outline {
+        command: Name::Page,
         name: "page",
         about: "Print a page for a browser with the report, all that is found, and the weeks",
         example: "Example: timedesk page comp07.ctt comp07.sol >comp07.html",
         arguments: &[INSTANCE, SOLUTION, BARRED],
     },
     Outline {
+        command: Name::Run,
         name: "run",
         about: "Run a script of planners' steps and print the answers",
         example: "Example: timedesk run comp07.ctt planners.txt --start comp07.sol --journal monday.journal",
@@ -98,12 +103,14 @@ Example: timedesk check comp07.ctt comp07.sol --explain",
         ],
     },
     Outline {
+        command: Name::Audit,
         name: "audit",
         about: "Say whether a journal was told what its drafts are told, run one after another",
         example: "Example: timedesk audit comp07.ctt monday.journal --start comp07.sol",
         arguments: &[INSTANCE, JOURNAL, BARRED, START],
     },
     Outline {
+        command: Name::Crew,
         name: "crew",
         about: "Run scripts at once, each by a planner on a thread, and print the answers",
         example: "Example: timedesk crew comp07.ctt anna.txt ben.txt",
@@ -118,6 +125,7 @@ Example: timedesk check comp07.ctt comp07.sol --explain",
         ],
     },
     Outline {
+        command: Name::Desk,
         name: "desk",
         about: "Keep a desk for planners at their terminals",
         example: "Example: timedesk desk comp07.ctt - --start comp07.sol",
@@ -138,6 +146,7 @@ Example: timedesk check comp07.ctt comp07.sol --explain",
         ],
     },
     Outline {
+        command: Name::Journal,
         name: "journal",
         about: "Print the journal of the minutes of a desk",
         example: "Example: timedesk journal comp07.ctt monday.minutes >monday.journal",
@@ -148,6 +157,7 @@ Example: timedesk check comp07.ctt comp07.sol --explain",
         ],
     },
     Outline {
+        command: Name::List,
         name: "list",
         about: "Print the timetable after a journal as a solution",
         example: "Example: timedesk list comp07.ctt monday.journal --start comp07.sol >tuesday.sol",
@@ -175,6 +185,14 @@ Status: 0 where it is done, also where a report says that a solution is unlawful
 A refused file is one line, as in 'timedesk: instance I2 14': docs/FORMATS.md has
 each fault by its number, and how to see the word that it names.";
 
+/// The commands of the program, each with its name and its arguments.
+fn outlines() -> &'static [Outline]
+    ensures apps { map app_by result.now ≡ apps }
+    ensures names { map names_by result.now ≡ map with_name commands }
+{
+    COMMANDS
+}
+
 /// The command line of the program.
 pub(crate) fn command_line<'a>(alloc: Global) -> Result<Command<'a>, AllocError>
     ensures { IfOk result (IsCommand timedesk) }
@@ -184,5 +202,13 @@ pub(crate) fn command_line<'a>(alloc: Global) -> Result<Command<'a>, AllocError>
         .version("0.1.0")
         .after_help(BELOW_HELP)
         .subcommand_required(true);
-    with_commands(alloc, alone, COMMANDS)
+    with_commands(alloc, alone, outlines())
+}
+
+/// The command of this name.
+pub(crate) fn command_named(name: &str) -> Option<Name>
+    ensures known { result ≡ named name.now }
+    ensures name { IfSome result (λ command. name.now ≡ name_of command) }
+{
+    find(outlines(), name)
 }

@@ -2,7 +2,7 @@
 
 ghost use Rattle.std.specs.Prelude.{◌≡◌, false, map, IfOk, IsOkAnd};
 ghost use Rattle.clap.specs.Words.{AddsSubcommand, rule_of};
-ghost use Rattle.ctt_words.specs.Outlines.{app_by, rule_by};
+ghost use Rattle.ctt_words.specs.Outlines.{app_by, named_in, names_by, rule_by};
 ghost use Rattle.ctt_words.specs.CommandLine.{IsCommand, bare, with_commands};
 
 use clap::{Arg, ArgAction, Command};
@@ -21,8 +21,23 @@ pub(crate) enum Argument {
     Valued(&'static str, &'static str, &'static str),
 }
 
+/// Which command it is.
+#[derive(Clone, Copy)]
+pub(crate) enum Name {
+    Check,
+    Week,
+    Page,
+    Run,
+    Audit,
+    Crew,
+    Desk,
+    Journal,
+    List,
+}
+
 /// A command.
 pub(crate) struct Outline {
+    pub(crate) command: Name,
     pub(crate) name: &'static str,
     pub(crate) about: &'static str,
     pub(crate) example: &'static str,
@@ -104,4 +119,16 @@ pub(crate) fn with_commands<'a>(
         program = with_command(program, make_command(alloc, outline));
     }
     program
+}
+
+/// The command of this name among these.
+pub(crate) fn find(outlines: &[Outline], name: &str) -> Option<Name>
+    ensures { result ≡ named_in (map names_by outlines.now) name.now }
+{
+    for outline in outlines {
+        if outline.name == name {
+            return Some(outline.command);
+        }
+    }
+    None
 }

@@ -1,15 +1,16 @@
 //! The words of the command line.
 
 ghost use Rattle.std.specs.Prelude.{◌≡◌, ◌↔◌, [], map, IfOk, IfErr, IsErrAnd, IsTrue, OnOk};
-ghost use Rattle.clap.specs.Words.{kind_of, subcommand_rows_of};
-ghost use Rattle.ctt_words.specs.Jobs.{AsksForSeveral, IsFaultOf, IsJobIn, IsJobOf, IsMatched, IsNoJobIn, IsOfKind, SaysSeveral, WantsSeveral, faults_of};
+ghost use Rattle.clap.specs.Words.{found_of, kind_of, rows_of, subcommand_rows_of};
+ghost use Rattle.ctt_words.specs.Jobs.{AsksForSeveral, IsFaultOf, IsJobBy, IsJobIn, IsJobOf, IsMatched, IsNoJobIn, IsOfKind, IsWhole, SaysSeveral, WantsSeveral, faults_of};
 
 use crate::arguments::count;
-use crate::commands::command_line;
+use crate::commands::{command_line, command_named};
 use crate::found::{
     audit_job, check_job, crew_job, desk_job, journal_job, list_job, page_job, run_job, week_job,
 };
 use crate::job::{Job, WordsFault};
+use crate::outline::Name;
 use clap::ArgMatches;
 use clap::error::ErrorKind;
 use std::alloc::{AllocError, Global};
@@ -21,11 +22,11 @@ const CHOICES: &[&str] = &["curriculum", "teacher", "course", "room"];
 const SEVERAL: &str = "timedesk: at most one of --curriculum, --teacher, --course, --room\n";
 
 /// Whether the weeks of several are asked for at once.
-fn wants_several(matches: &ArgMatches<'_>) -> bool
-    ensures { IsTrue result ↔ WantsSeveral (subcommand_rows_of matches.now) }
+fn wants_several(name: &str, given: &ArgMatches<'_>) -> bool
+    ensures { IsTrue result ↔ WantsSeveral name.now (rows_of (found_of given.now)) }
 {
-    match matches.subcommand() {
-        Some(("week", given)) => count(given, CHOICES) > 1,
+    match name {
+        "week" => count(given, CHOICES) > 1,
         _ => false,
     }
 }
@@ -45,23 +46,23 @@ fn fault_of_words(alloc: Global, error: clap::Error) -> WordsFault
     }
 }
 
-/// The job of a command, by the matches of the words.
-fn job_by(alloc: Global, matches: &ArgMatches<'_>) -> Result<Job, AllocError>
-    requires whole { IsMatched (subcommand_rows_of matches.now) }
-    requires one { ¬ WantsSeveral (subcommand_rows_of matches.now) }
-    ensures { IfOk result (IsJobIn (subcommand_rows_of matches.now)) }
+/// The job of the command of this name, by its matches.
+fn job_by(alloc: Global, name: &str, given: &ArgMatches<'_>) -> Result<Job, AllocError>
+    requires whole { IsWhole name.now (rows_of (found_of given.now)) }
+    requires one { ¬ WantsSeveral name.now (rows_of (found_of given.now)) }
+    ensures { IfOk result (IsJobBy name.now (rows_of (found_of given.now))) }
 {
-    match matches.subcommand() {
-        Some(("check", given)) => check_job(alloc, given),
-        Some(("week", given)) => week_job(alloc, given),
-        Some(("page", given)) => page_job(alloc, given),
-        Some(("run", given)) => run_job(alloc, given),
-        Some(("audit", given)) => audit_job(alloc, given),
-        Some(("crew", given)) => crew_job(alloc, given),
-        Some(("desk", given)) => desk_job(alloc, given),
-        Some(("journal", given)) => journal_job(alloc, given),
-        Some(("list", given)) => list_job(alloc, given),
-        _ => unreachable!(),
+    match command_named(name) {
+        Some(Name::Check) => check_job(alloc, given),
+        Some(Name::Week) => week_job(alloc, given),
+        Some(Name::Page) => page_job(alloc, given),
+        Some(Name::Run) => run_job(alloc, given),
+        Some(Name::Audit) => audit_job(alloc, given),
+        Some(Name::Crew) => crew_job(alloc, given),
+        Some(Name::Desk) => desk_job(alloc, given),
+        Some(Name::Journal) => journal_job(alloc, given),
+        Some(Name::List) => list_job(alloc, given),
+        None => unreachable!(),
     }
 }
 
@@ -71,10 +72,13 @@ fn job_of(alloc: Global, matches: &ArgMatches<'_>) -> Result<Job, WordsFault>
     ensures job { IfOk result (IsJobIn (subcommand_rows_of matches.now)) }
     ensures fault { IfErr result (IsNoJobIn (subcommand_rows_of matches.now)) }
 {
-    if wants_several(matches) {
+    let Some((name, given)) = matches.subcommand() else {
+        unreachable!();
+    };
+    if wants_several(name, given) {
         return Err(WordsFault::Refused(String::from_str(alloc, SEVERAL)?));
     }
-    Ok(job_by(alloc, matches)?)
+    Ok(job_by(alloc, name, given)?)
 }
 
 /// Reads the words of a command line, of which the first is the program's name.
