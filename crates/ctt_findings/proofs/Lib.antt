@@ -7,3 +7,5 @@ pub mod AloneLemmas
 pub mod FrontLemmas
 pub mod ObjectLemmas
 pub mod ReportLemmas
+pub mod PieceLemmas
+pub mod ItemLemmas
