@@ -9,3 +9,4 @@ pub mod ObjectLemmas
 pub mod ReportLemmas
 pub mod PieceLemmas
 pub mod ItemLemmas
+pub mod NoneLemmas

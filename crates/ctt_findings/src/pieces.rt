@@ -28,20 +28,30 @@ fn push_two_digits(text: &mut String, number: u8) -> Result<(), AllocError>
     push_digit(text, number % 10)
 }
 
-/// Adds a number. Most have one digit or two.
-pub(crate) fn push_number(text: &mut String, number: u64) -> Result<(), AllocError>
+/// Adds a number of two digits or more.
+fn push_digits(text: &mut String, number: u64) -> Result<(), AllocError>
+    requires { 10 ≤ number }
     ensures { OnOk result (string_bytes text.new ≡ string_bytes text.old ++ decimal number) }
 {
-    if number < 10 {
-        return push_digit(text, number as u8);
-    }
     if number < 100 {
         return push_two_digits(text, number as u8);
     }
     write!(text, "{number}")
 }
 
+/// Adds a number. Most have one digit or two.
+#[inline(always)]
+pub(crate) fn push_number(text: &mut String, number: u64) -> Result<(), AllocError>
+    ensures { OnOk result (string_bytes text.new ≡ string_bytes text.old ++ decimal number) }
+{
+    if number < 10 {
+        return push_digit(text, number as u8);
+    }
+    push_digits(text, number)
+}
+
 /// Adds a blank and a word.
+#[inline(always)]
 pub(crate) fn push_word(text: &mut String, word: &str) -> Result<(), AllocError>
     ensures { OnOk result (string_bytes text.new
         ≡ string_bytes text.old ++ (codes " " ++ word.now)) }
@@ -51,6 +61,7 @@ pub(crate) fn push_word(text: &mut String, word: &str) -> Result<(), AllocError>
 }
 
 /// Adds a blank and a number.
+#[inline(always)]
 pub(crate) fn push_count(text: &mut String, count: u64) -> Result<(), AllocError>
     ensures { OnOk result (string_bytes text.new
         ≡ string_bytes text.old ++ (codes " " ++ decimal count)) }
@@ -60,6 +71,7 @@ pub(crate) fn push_count(text: &mut String, count: u64) -> Result<(), AllocError
 }
 
 /// Adds the day and the period of a slot, each behind a blank.
+#[inline(always)]
 pub(crate) fn push_slot(
     text: &mut String,
     instance: &Instance,
@@ -76,6 +88,7 @@ pub(crate) fn push_slot(
 }
 
 /// Adds a blank, the last word of a line, and its end.
+#[inline(always)]
 pub(crate) fn end_with_word(text: &mut String, word: &str) -> Result<(), AllocError>
     ensures { OnOk result (string_bytes text.new
         ≡ string_bytes text.old ++ (codes " " ++ (word.now ++ codes "\n"))) }
@@ -85,6 +98,7 @@ pub(crate) fn end_with_word(text: &mut String, word: &str) -> Result<(), AllocEr
 }
 
 /// Adds a blank, the last number of a line, and its end.
+#[inline(always)]
 pub(crate) fn end_with_count(text: &mut String, count: u64) -> Result<(), AllocError>
     ensures { OnOk result (string_bytes text.new
         ≡ string_bytes text.old ++ (codes " " ++ (decimal count ++ codes "\n"))) }
