@@ -7,3 +7,6 @@ pub mod AloneLemmas
 pub mod FrontLemmas
 pub mod ObjectLemmas
 pub mod ReportLemmas
+pub mod PieceLemmas
+pub mod ItemLemmas
+pub mod NoneLemmas

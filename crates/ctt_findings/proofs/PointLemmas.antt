@@ -23,7 +23,7 @@ use Rattle.ctt_findings.specs.declared.finding.Finding.TheVariants.{Lectures, Av
 abbrev pub worth : List Finding → ℕ
 worth xs = sum_by points_of xs
 
-worth_option : (o : Option Finding) (ys : List Finding) → worth (cons_option o ys) ≡ worth (option_to_list o) + worth ys
+pub worth_option : (o : Option Finding) (ys : List Finding) → worth (cons_option o ys) ≡ worth (option_to_list o) + worth ys
 worth_option None ys = omega arith
 worth_option (Some x) ys = omega (arith, sum_by-cons points_of x ys, sum_by-cons points_of x [])
 

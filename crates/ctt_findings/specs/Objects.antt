@@ -1,11 +1,13 @@
 -- Findings as JSON objects.
-use Rattle.std.specs.Prelude.{ℕ, Bool, true, List, [], ◌∷◌, ◌++◌}
+use Rattle.std.specs.Prelude.{ℕ, Bool, true, List, [], ◌∷◌, ◌++◌, codes, slice_index_or}
+use Rattle.std.specs.Fmt.{decimal}
+use Rattle.json.specs.Print.{quoted}
 use Rattle.serde_json.specs.Data.{Data, Items, Members, array, item, no_items, no_members, number as amount, object, put, string, unsigned}
 use Rattle.serde_json.specs.Written.{comma_if, compact_text}
-use Rattle.ctt_text.specs.Problem.{Problem}
+use Rattle.ctt_text.specs.Problem.{Problem, day_of, period_of}
 use Rattle.ctt_text.specs.declared.placed.Placed.{Placed}
 use Rattle.ctt_findings.specs.Findings.{findings}
-use Rattle.ctt_findings.specs.Lines.{Fact, Told, course, day, facts, kind, number, period, room, word}
+use Rattle.ctt_findings.specs.Lines.{Fact, Told, facts, number, word}
 use Rattle.ctt_findings.specs.declared.finding.Finding.{Finding}
 
 -- what is told, as a value
@@ -18,10 +20,6 @@ abbrev pub with_facts : List Fact → Members → Members
 with_facts [] ms = ms
 with_facts (f ∷ fs) ms = with_facts fs (put f.key (value_of f.value) ms)
 
--- a kind, and the course, room, day and period of a lecture: the first facts of several kinds
-abbrev pub placed_facts : Problem → List ℕ → Placed → List Fact
-placed_facts i name l = kind name ∷ course i l.course ∷ room i l.room ∷ day i l.slot ∷ period i l.slot ∷ []
-
 -- the object of a finding
 abbrev pub object_of : Problem → Finding → Data
 object_of i f = object (with_facts (facts i f) no_members)
@@ -33,6 +31,15 @@ objects_of i (f ∷ fs) = item (object_of i f) (objects_of i fs)
 
 abbrev pub all_objects : Problem → List Placed → Data
 all_objects i t = array (objects_of i (findings i t))
+
+-- the text of an object of a conflict behind the key of its first course: the two courses, their slot, and the name of what they have in common
+abbrev pub clash_text : Problem → ℕ → ℕ → ℕ → List ℕ → List ℕ
+clash_text i c d s name =
+    quoted (slice_index_or i.course_names c [])
+    ++ (codes ",\"day\":" ++ (decimal (day_of i s)
+    ++ (codes ",\"kind\":\"conflict\",\"name\":" ++ (quoted name
+    ++ (codes ",\"other\":" ++ (quoted (slice_index_or i.course_names d [])
+    ++ (codes ",\"period\":" ++ (decimal (period_of i s) ++ codes "}"))))))))
 
 -- the text of an object among others, with a comma before it, unless it is the first
 abbrev pub item_text : Problem → Bool → Finding → List ℕ

@@ -12,7 +12,7 @@ ghost use Rattle.ctt_findings.specs.Hearing.{Hears, HearsFront};
 use crate::finding::{Cause, Finding};
 use crate::listener::{Listener, tell};
 use crate::untold::Untold;
-use ctt_rules::{course_row, mark_slots};
+use ctt_rules::{course_row, hard_counts, mark_slots};
 use ctt_text::{CourseNo, CurriculumNo, Instance, Marks, Placed};
 
 /// The least curriculum that has both courses, or the number of curricula, where none has.
@@ -124,8 +124,8 @@ fn tell_conflicts_of<L: Listener>(
     Ok(())
 }
 
-/// Tells of the pairs of lectures in one slot whose courses clash.
-pub(crate) fn tell_conflicts<L: Listener>(
+/// Tells of the conflicts of each course with those behind it.
+fn tell_all_conflicts<L: Listener>(
     listener: &mut L,
     instance: &Instance,
     timetable: &[Placed],
@@ -140,4 +140,22 @@ pub(crate) fn tell_conflicts<L: Listener>(
         tell_conflicts_of(listener, instance, timetable, CourseNo::new(number))?;
     }
     Ok(())
+}
+
+/// Tells of the pairs of lectures in one slot whose courses clash. Where none is counted, none is looked for.
+pub(crate) fn tell_conflicts<L: Listener>(
+    listener: &mut L,
+    instance: &Instance,
+    timetable: &[Placed],
+) -> Result<(), Untold>
+    requires { IsTimetable instance.now timetable.now }
+    ensures heard { OnOk result (Hears (L.hears instance.now) listener.old
+        (conflict_findings instance.now timetable.now) listener.new) }
+    ensures front { IfErr result (HearsFront (L.hears instance.now) L.fails listener.old
+        (conflict_findings instance.now timetable.now) listener.new) }
+{
+    if hard_counts(instance, timetable).conflicts == 0 {
+        return Ok(());
+    }
+    tell_all_conflicts(listener, instance, timetable)
 }

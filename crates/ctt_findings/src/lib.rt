@@ -13,7 +13,10 @@ mod listener;
 mod members;
 mod objects;
 mod occupancy;
+mod parts;
+mod pieces;
 mod report;
+mod strings;
 mod telling;
 mod untold;
 

@@ -4,13 +4,15 @@ ghost use Rattle.std.specs.Prelude.{◌≡◌, ◌<◌, ◌++◌, OnOk, string_b
 ghost use Rattle.ctt_text.specs.Problem.{course_count, curriculum_count, slot_count};
 ghost use Rattle.ctt_text.specs.Timetable.{Fits};
 ghost use Rattle.ctt_findings.specs.Fitting.{CauseFits, FindingFits};
-ghost use Rattle.ctt_findings.specs.Lines.{line};
+ghost use Rattle.ctt_findings.specs.Lines.{cause_facts, line, rest_of_line};
 ghost use Rattle.ctt_findings.specs.declared.finding.Finding.TheVariants.{Lectures, Conflict, Availability, Occupancy, Barred, Capacity, Days, Compactness, Stability};
 
 use crate::finding::{Cause, Finding};
+use crate::pieces::{
+    end_with_count, end_with_slot, end_with_word, push_count, push_slot, push_word,
+};
 use ctt_text::{CourseNo, CurriculumNo, Instance, Placed, SlotNo};
 use std::alloc::AllocError;
-use std::fmt::Write;
 
 /// Adds the line of missing or surplus lectures.
 fn push_lectures(
@@ -24,8 +26,28 @@ fn push_lectures(
     ensures { OnOk result (string_bytes text.new
         ≡ string_bytes text.old ++ line instance.now (Lectures course placed stated)) }
 {
-    let course = instance.course_name(course);
-    writeln!(text, "lectures {course} {placed} {stated}")
+    text.push_str("lectures")?;
+    push_word(text, instance.course_name(course))?;
+    push_count(text, placed)?;
+    end_with_count(text, u64::from(stated))
+}
+
+/// Adds why two courses clash, and the end of the line.
+fn end_with_cause(text: &mut String, instance: &Instance, cause: &Cause) -> Result<(), AllocError>
+    requires { CauseFits instance.now cause.now }
+    ensures { OnOk result (string_bytes text.new
+        ≡ string_bytes text.old ++ rest_of_line (cause_facts instance.now cause.now)) }
+{
+    match cause {
+        Cause::Teacher(teacher) => {
+            push_word(text, "teacher")?;
+            end_with_word(text, instance.teacher_name(*teacher))
+        }
+        Cause::Curriculum(curriculum) => {
+            push_word(text, "curriculum")?;
+            end_with_word(text, instance.curriculum_name(*curriculum))
+        }
+    }
 }
 
 /// Adds the line of two lectures in one slot whose courses clash.
@@ -44,25 +66,11 @@ fn push_conflict(
     ensures { OnOk result (string_bytes text.new
         ≡ string_bytes text.old ++ line instance.now (Conflict course other slot cause.now)) }
 {
-    let course = instance.course_name(course);
-    let other = instance.course_name(other);
-    let (day, period) = (instance.day_of(slot), instance.period_of(slot));
-    match cause {
-        Cause::Teacher(teacher) => {
-            let name = instance.teacher_name(*teacher);
-            writeln!(
-                text,
-                "conflict {course} {other} {day} {period} teacher {name}"
-            )
-        }
-        Cause::Curriculum(curriculum) => {
-            let name = instance.curriculum_name(*curriculum);
-            writeln!(
-                text,
-                "conflict {course} {other} {day} {period} curriculum {name}"
-            )
-        }
-    }
+    text.push_str("conflict")?;
+    push_word(text, instance.course_name(course))?;
+    push_word(text, instance.course_name(other))?;
+    push_slot(text, instance, slot)?;
+    end_with_cause(text, instance, cause)
 }
 
 /// Adds the line of a lecture where its course is unavailable.
@@ -75,10 +83,9 @@ fn push_availability(
     ensures { OnOk result (string_bytes text.new
         ≡ string_bytes text.old ++ line instance.now (Availability lecture.now)) }
 {
-    let course = instance.course_name(lecture.course);
-    let day = instance.day_of(lecture.slot);
-    let period = instance.period_of(lecture.slot);
-    writeln!(text, "availability {course} {day} {period}")
+    text.push_str("availability")?;
+    push_word(text, instance.course_name(lecture.course))?;
+    end_with_slot(text, instance, lecture.slot)
 }
 
 /// Adds the line of a lecture in a room that is taken.
@@ -91,11 +98,10 @@ fn push_occupancy(
     ensures { OnOk result (string_bytes text.new
         ≡ string_bytes text.old ++ line instance.now (Occupancy lecture.now)) }
 {
-    let course = instance.course_name(lecture.course);
-    let room = instance.room_name(lecture.room);
-    let day = instance.day_of(lecture.slot);
-    let period = instance.period_of(lecture.slot);
-    writeln!(text, "occupancy {room} {day} {period} {course}")
+    text.push_str("occupancy")?;
+    push_word(text, instance.room_name(lecture.room))?;
+    push_slot(text, instance, lecture.slot)?;
+    end_with_word(text, instance.course_name(lecture.course))
 }
 
 /// Adds the line of a lecture in a barred room.
@@ -104,11 +110,10 @@ fn push_barred(text: &mut String, instance: &Instance, lecture: &Placed) -> Resu
     ensures { OnOk result (string_bytes text.new
         ≡ string_bytes text.old ++ line instance.now (Barred lecture.now)) }
 {
-    let course = instance.course_name(lecture.course);
-    let room = instance.room_name(lecture.room);
-    let day = instance.day_of(lecture.slot);
-    let period = instance.period_of(lecture.slot);
-    writeln!(text, "barred {course} {room} {day} {period}")
+    text.push_str("barred")?;
+    push_word(text, instance.course_name(lecture.course))?;
+    push_word(text, instance.room_name(lecture.room))?;
+    end_with_slot(text, instance, lecture.slot)
 }
 
 /// Adds the line of a lecture with more students than seats.
@@ -122,11 +127,11 @@ fn push_capacity(
     ensures { OnOk result (string_bytes text.new
         ≡ string_bytes text.old ++ line instance.now (Capacity lecture.now points)) }
 {
-    let course = instance.course_name(lecture.course);
-    let room = instance.room_name(lecture.room);
-    let day = instance.day_of(lecture.slot);
-    let period = instance.period_of(lecture.slot);
-    writeln!(text, "capacity {course} {room} {day} {period} {points}")
+    text.push_str("capacity")?;
+    push_word(text, instance.course_name(lecture.course))?;
+    push_word(text, instance.room_name(lecture.room))?;
+    push_slot(text, instance, lecture.slot)?;
+    end_with_count(text, points)
 }
 
 /// Adds the line of too few days of a course.
@@ -142,8 +147,11 @@ fn push_days(
     ensures { OnOk result (string_bytes text.new
         ≡ string_bytes text.old ++ line instance.now (Days course days minimum points)) }
 {
-    let course = instance.course_name(course);
-    writeln!(text, "days {course} {days} {minimum} {points}")
+    text.push_str("days")?;
+    push_word(text, instance.course_name(course))?;
+    push_count(text, days)?;
+    push_count(text, u64::from(minimum))?;
+    end_with_count(text, points)
 }
 
 /// Adds the line of a lecture that stands alone.
@@ -160,14 +168,11 @@ fn push_compactness(
         ≡ string_bytes text.old
         ++ line instance.now (Compactness curriculum lecture.now points)) }
 {
-    let curriculum = instance.curriculum_name(curriculum);
-    let course = instance.course_name(lecture.course);
-    let day = instance.day_of(lecture.slot);
-    let period = instance.period_of(lecture.slot);
-    writeln!(
-        text,
-        "compactness {curriculum} {course} {day} {period} {points}"
-    )
+    text.push_str("compactness")?;
+    push_word(text, instance.curriculum_name(curriculum))?;
+    push_word(text, instance.course_name(lecture.course))?;
+    push_slot(text, instance, lecture.slot)?;
+    end_with_count(text, points)
 }
 
 /// Adds the line of rooms of a course beyond the first.
@@ -182,8 +187,10 @@ fn push_stability(
     ensures { OnOk result (string_bytes text.new
         ≡ string_bytes text.old ++ line instance.now (Stability course rooms points)) }
 {
-    let course = instance.course_name(course);
-    writeln!(text, "stability {course} {rooms} {points}")
+    text.push_str("stability")?;
+    push_word(text, instance.course_name(course))?;
+    push_count(text, rooms)?;
+    end_with_count(text, points)
 }
 
 /// Adds the line of a finding: its kind, and what it tells, by name.

@@ -1,194 +1,190 @@
 //! Findings as JSON objects.
 
-ghost use Rattle.std.specs.Prelude.{◌≡◌, ◌<◌, ◌++◌, ◌∷◌, [], IfOk, OnOk, string_bytes};
-ghost use Rattle.serde_json.specs.View.{members_view, view};
-ghost use Rattle.serde_json.specs.Written.{comma_if};
+ghost use Rattle.std.specs.Prelude.{◌≡◌, ◌<◌, ◌++◌, OnOk, string_bytes};
+ghost use Rattle.serde_json.specs.Written.{comma_if, compact_text};
 ghost use Rattle.ctt_text.specs.Problem.{course_count, curriculum_count, slot_count};
 ghost use Rattle.ctt_text.specs.Timetable.{Fits};
 ghost use Rattle.ctt_findings.specs.Fitting.{CauseFits, FindingFits};
-ghost use Rattle.ctt_findings.specs.Lines.{cause_facts, course, day, facts, period};
-ghost use Rattle.ctt_findings.specs.Objects.{item_text, object_of, placed_facts, with_facts};
+ghost use Rattle.ctt_findings.specs.Objects.{clash_text, item_text, object_of};
 ghost use Rattle.ctt_findings.specs.declared.finding.Finding.TheVariants.{Lectures, Conflict, Availability, Occupancy, Barred, Capacity, Days, Compactness, Stability};
 
 use crate::finding::{Cause, Finding};
-use crate::members::{put_count, put_text};
+use crate::parts::{
+    end_object, push_count, push_course, push_day, push_name, push_period, push_room,
+};
 use ctt_text::{CourseNo, CurriculumNo, Instance, Placed, SlotNo};
-use serde_json::{Map, Value};
 use std::alloc::{AllocError, Global};
 
-/// Adds the name of a course.
-fn put_course(
+/// Adds the object of missing or surplus lectures.
+fn push_lectures(
     alloc: Global,
-    object: &mut Map<String, Value>,
-    instance: &Instance,
-    number: CourseNo,
-) -> Result<(), AllocError>
-    requires { number < course_count instance.now }
-    ensures { OnOk result (members_view object.new.entries
-        ≡ with_facts (course instance.now number ∷ []) (members_view object.old.entries)) }
-{
-    put_text(alloc, object, "course", instance.course_name(number))
-}
-
-/// Adds the day and the period of a slot.
-fn put_slot(
-    alloc: Global,
-    object: &mut Map<String, Value>,
-    instance: &Instance,
-    slot: SlotNo,
-) -> Result<(), AllocError>
-    requires { slot < slot_count instance.now }
-    ensures { OnOk result (members_view object.new.entries
-        ≡ with_facts (day instance.now slot ∷ period instance.now slot ∷ [])
-        (members_view object.old.entries)) }
-{
-    put_count(alloc, object, "day", u64::from(instance.day_of(slot)))?;
-    put_count(alloc, object, "period", u64::from(instance.period_of(slot)))
-}
-
-/// Adds why two courses clash.
-fn put_cause(
-    alloc: Global,
-    object: &mut Map<String, Value>,
-    instance: &Instance,
-    cause: &Cause,
-) -> Result<(), AllocError>
-    requires { CauseFits instance.now cause.now }
-    ensures { OnOk result (members_view object.new.entries
-        ≡ with_facts (cause_facts instance.now cause.now) (members_view object.old.entries)) }
-{
-    match cause {
-        Cause::Teacher(teacher) => {
-            put_text(alloc, object, "cause", "teacher")?;
-            put_text(alloc, object, "name", instance.teacher_name(*teacher))
-        }
-        Cause::Curriculum(curriculum) => {
-            put_text(alloc, object, "cause", "curriculum")?;
-            put_text(alloc, object, "name", instance.curriculum_name(*curriculum))
-        }
-    }
-}
-
-/// Adds what is told of missing or surplus lectures.
-fn put_lectures(
-    alloc: Global,
-    object: &mut Map<String, Value>,
+    text: &mut String,
     instance: &Instance,
     course: CourseNo,
     placed: u64,
     stated: u32,
 ) -> Result<(), AllocError>
     requires { course < course_count instance.now }
-    ensures { OnOk result (members_view object.new.entries
-        ≡ with_facts (facts instance.now (Lectures course placed stated))
-        (members_view object.old.entries)) }
+    ensures { OnOk result (string_bytes text.new ≡ string_bytes text.old
+        ++ compact_text (object_of instance.now (Lectures course placed stated))) }
 {
-    put_text(alloc, object, "kind", "lectures")?;
-    put_course(alloc, object, instance, course)?;
-    put_count(alloc, object, "placed", placed)?;
-    put_count(alloc, object, "stated", u64::from(stated))
+    push_course(alloc, text, "{\"course\":", instance, course)?;
+    push_count(text, ",\"kind\":\"lectures\",\"placed\":", placed)?;
+    push_count(text, ",\"stated\":", u64::from(stated))?;
+    end_object(text)
 }
 
-/// Adds what is told of two lectures in one slot whose courses clash.
-fn put_conflict(
+/// Adds the object of two lectures in one slot whose courses clash, by what they have in common and its name.
+fn push_clash(
     alloc: Global,
-    object: &mut Map<String, Value>,
+    text: &mut String,
     instance: &Instance,
-    course: CourseNo,
-    other: CourseNo,
+    courses: (CourseNo, CourseNo),
+    slot: SlotNo,
+    front: &str,
+    name: &str,
+) -> Result<(), AllocError>
+    requires course { courses.0 < course_count instance.now }
+    requires other { courses.1 < course_count instance.now }
+    requires slot { slot < slot_count instance.now }
+    ensures { OnOk result (string_bytes text.new ≡ string_bytes text.old
+        ++ (front.now ++ clash_text instance.now courses.0 courses.1 slot name.now)) }
+{
+    push_course(alloc, text, front, instance, courses.0)?;
+    push_day(text, ",\"day\":", instance, slot)?;
+    push_name(alloc, text, ",\"kind\":\"conflict\",\"name\":", name)?;
+    push_course(alloc, text, ",\"other\":", instance, courses.1)?;
+    push_period(text, ",\"period\":", instance, slot)?;
+    end_object(text)
+}
+
+/// Adds the object of two lectures in one slot whose courses clash.
+fn push_conflict(
+    alloc: Global,
+    text: &mut String,
+    instance: &Instance,
+    courses: (CourseNo, CourseNo),
     slot: SlotNo,
     cause: &Cause,
 ) -> Result<(), AllocError>
-    requires course { course < course_count instance.now }
-    requires other { other < course_count instance.now }
+    requires course { courses.0 < course_count instance.now }
+    requires other { courses.1 < course_count instance.now }
     requires slot { slot < slot_count instance.now }
     requires cause { CauseFits instance.now cause.now }
-    ensures { OnOk result (members_view object.new.entries
-        ≡ with_facts (facts instance.now (Conflict course other slot cause.now))
-        (members_view object.old.entries)) }
+    ensures { OnOk result (string_bytes text.new ≡ string_bytes text.old
+        ++ compact_text (object_of instance.now (Conflict courses.0 courses.1 slot cause.now))) }
 {
-    put_text(alloc, object, "kind", "conflict")?;
-    put_course(alloc, object, instance, course)?;
-    put_text(alloc, object, "other", instance.course_name(other))?;
-    put_slot(alloc, object, instance, slot)?;
-    put_cause(alloc, object, instance, cause)
+    match cause {
+        Cause::Teacher(teacher) => {
+            let name = instance.teacher_name(*teacher);
+            let front = "{\"cause\":\"teacher\",\"course\":";
+            push_clash(alloc, text, instance, courses, slot, front, name)
+        }
+        Cause::Curriculum(curriculum) => {
+            let name = instance.curriculum_name(*curriculum);
+            let front = "{\"cause\":\"curriculum\",\"course\":";
+            push_clash(alloc, text, instance, courses, slot, front, name)
+        }
+    }
 }
 
-/// Adds what is told of a lecture where its course is unavailable.
-fn put_availability(
+/// Adds the object of a lecture where its course is unavailable.
+fn push_availability(
     alloc: Global,
-    object: &mut Map<String, Value>,
+    text: &mut String,
     instance: &Instance,
     lecture: &Placed,
 ) -> Result<(), AllocError>
     requires { Fits instance.now lecture.now }
-    ensures { OnOk result (members_view object.new.entries
-        ≡ with_facts (facts instance.now (Availability lecture.now))
-        (members_view object.old.entries)) }
+    ensures { OnOk result (string_bytes text.new ≡ string_bytes text.old
+        ++ compact_text (object_of instance.now (Availability lecture.now))) }
 {
-    put_text(alloc, object, "kind", "availability")?;
-    put_course(alloc, object, instance, lecture.course)?;
-    put_slot(alloc, object, instance, lecture.slot)
+    push_course(alloc, text, "{\"course\":", instance, lecture.course)?;
+    push_day(text, ",\"day\":", instance, lecture.slot)?;
+    push_period(
+        text,
+        ",\"kind\":\"availability\",\"period\":",
+        instance,
+        lecture.slot,
+    )?;
+    end_object(text)
 }
 
-/// Adds what is told of a lecture in a room that is taken.
-fn put_occupancy(
+/// Adds the object of a lecture in a room that is taken.
+fn push_occupancy(
     alloc: Global,
-    object: &mut Map<String, Value>,
+    text: &mut String,
     instance: &Instance,
     lecture: &Placed,
 ) -> Result<(), AllocError>
     requires { Fits instance.now lecture.now }
-    ensures { OnOk result (members_view object.new.entries
-        ≡ with_facts (facts instance.now (Occupancy lecture.now))
-        (members_view object.old.entries)) }
+    ensures { OnOk result (string_bytes text.new ≡ string_bytes text.old
+        ++ compact_text (object_of instance.now (Occupancy lecture.now))) }
 {
-    put_text(alloc, object, "kind", "occupancy")?;
-    put_text(alloc, object, "room", instance.room_name(lecture.room))?;
-    put_slot(alloc, object, instance, lecture.slot)?;
-    put_course(alloc, object, instance, lecture.course)
+    push_course(alloc, text, "{\"course\":", instance, lecture.course)?;
+    push_day(text, ",\"day\":", instance, lecture.slot)?;
+    push_period(
+        text,
+        ",\"kind\":\"occupancy\",\"period\":",
+        instance,
+        lecture.slot,
+    )?;
+    push_room(alloc, text, ",\"room\":", instance, lecture.room)?;
+    end_object(text)
 }
 
-/// Adds a kind, and the course, room, day and period of a lecture.
-fn put_placed(
+/// Adds the object of a lecture in a barred room.
+fn push_barred(
     alloc: Global,
-    object: &mut Map<String, Value>,
+    text: &mut String,
     instance: &Instance,
-    kind: &str,
     lecture: &Placed,
 ) -> Result<(), AllocError>
     requires { Fits instance.now lecture.now }
-    ensures { OnOk result (members_view object.new.entries
-        ≡ with_facts (placed_facts instance.now kind.now lecture.now)
-        (members_view object.old.entries)) }
+    ensures { OnOk result (string_bytes text.new ≡ string_bytes text.old
+        ++ compact_text (object_of instance.now (Barred lecture.now))) }
 {
-    put_text(alloc, object, "kind", kind)?;
-    put_course(alloc, object, instance, lecture.course)?;
-    put_text(alloc, object, "room", instance.room_name(lecture.room))?;
-    put_slot(alloc, object, instance, lecture.slot)
+    push_course(alloc, text, "{\"course\":", instance, lecture.course)?;
+    push_day(text, ",\"day\":", instance, lecture.slot)?;
+    push_period(
+        text,
+        ",\"kind\":\"barred\",\"period\":",
+        instance,
+        lecture.slot,
+    )?;
+    push_room(alloc, text, ",\"room\":", instance, lecture.room)?;
+    end_object(text)
 }
 
-/// Adds what is told of a lecture with more students than seats.
-fn put_capacity(
+/// Adds the object of a lecture with more students than seats.
+fn push_capacity(
     alloc: Global,
-    object: &mut Map<String, Value>,
+    text: &mut String,
     instance: &Instance,
     lecture: &Placed,
     points: u64,
 ) -> Result<(), AllocError>
     requires { Fits instance.now lecture.now }
-    ensures { OnOk result (members_view object.new.entries
-        ≡ with_facts (facts instance.now (Capacity lecture.now points))
-        (members_view object.old.entries)) }
+    ensures { OnOk result (string_bytes text.new ≡ string_bytes text.old
+        ++ compact_text (object_of instance.now (Capacity lecture.now points))) }
 {
-    put_placed(alloc, object, instance, "capacity", lecture)?;
-    put_count(alloc, object, "points", points)
+    push_course(alloc, text, "{\"course\":", instance, lecture.course)?;
+    push_day(text, ",\"day\":", instance, lecture.slot)?;
+    push_period(
+        text,
+        ",\"kind\":\"capacity\",\"period\":",
+        instance,
+        lecture.slot,
+    )?;
+    push_count(text, ",\"points\":", points)?;
+    push_room(alloc, text, ",\"room\":", instance, lecture.room)?;
+    end_object(text)
 }
 
-/// Adds what is told of too few days of a course.
-fn put_days(
+/// Adds the object of too few days of a course.
+fn push_days(
     alloc: Global,
-    object: &mut Map<String, Value>,
+    text: &mut String,
     instance: &Instance,
     course: CourseNo,
     days: u64,
@@ -196,21 +192,20 @@ fn put_days(
     points: u64,
 ) -> Result<(), AllocError>
     requires { course < course_count instance.now }
-    ensures { OnOk result (members_view object.new.entries
-        ≡ with_facts (facts instance.now (Days course days minimum points))
-        (members_view object.old.entries)) }
+    ensures { OnOk result (string_bytes text.new ≡ string_bytes text.old
+        ++ compact_text (object_of instance.now (Days course days minimum points))) }
 {
-    put_text(alloc, object, "kind", "days")?;
-    put_course(alloc, object, instance, course)?;
-    put_count(alloc, object, "days", days)?;
-    put_count(alloc, object, "minimum", u64::from(minimum))?;
-    put_count(alloc, object, "points", points)
+    push_course(alloc, text, "{\"course\":", instance, course)?;
+    push_count(text, ",\"days\":", days)?;
+    push_count(text, ",\"kind\":\"days\",\"minimum\":", u64::from(minimum))?;
+    push_count(text, ",\"points\":", points)?;
+    end_object(text)
 }
 
-/// Adds what is told of a lecture that stands alone.
-fn put_compactness(
+/// Adds the object of a lecture that stands alone.
+fn push_compactness(
     alloc: Global,
-    object: &mut Map<String, Value>,
+    text: &mut String,
     instance: &Instance,
     curriculum: CurriculumNo,
     lecture: &Placed,
@@ -218,93 +213,87 @@ fn put_compactness(
 ) -> Result<(), AllocError>
     requires curriculum { curriculum < curriculum_count instance.now }
     requires lecture { Fits instance.now lecture.now }
-    ensures { OnOk result (members_view object.new.entries
-        ≡ with_facts (facts instance.now (Compactness curriculum lecture.now points))
-        (members_view object.old.entries)) }
+    ensures { OnOk result (string_bytes text.new ≡ string_bytes text.old
+        ++ compact_text (object_of instance.now (Compactness curriculum lecture.now points))) }
 {
-    put_text(alloc, object, "kind", "compactness")?;
-    put_text(
+    push_course(alloc, text, "{\"course\":", instance, lecture.course)?;
+    push_name(
         alloc,
-        object,
-        "curriculum",
+        text,
+        ",\"curriculum\":",
         instance.curriculum_name(curriculum),
     )?;
-    put_course(alloc, object, instance, lecture.course)?;
-    put_slot(alloc, object, instance, lecture.slot)?;
-    put_count(alloc, object, "points", points)
+    push_day(text, ",\"day\":", instance, lecture.slot)?;
+    push_period(
+        text,
+        ",\"kind\":\"compactness\",\"period\":",
+        instance,
+        lecture.slot,
+    )?;
+    push_count(text, ",\"points\":", points)?;
+    end_object(text)
 }
 
-/// Adds what is told of rooms of a course beyond the first.
-fn put_stability(
+/// Adds the object of rooms of a course beyond the first.
+fn push_stability(
     alloc: Global,
-    object: &mut Map<String, Value>,
+    text: &mut String,
     instance: &Instance,
     course: CourseNo,
     rooms: u64,
     points: u64,
 ) -> Result<(), AllocError>
     requires { course < course_count instance.now }
-    ensures { OnOk result (members_view object.new.entries
-        ≡ with_facts (facts instance.now (Stability course rooms points))
-        (members_view object.old.entries)) }
+    ensures { OnOk result (string_bytes text.new ≡ string_bytes text.old
+        ++ compact_text (object_of instance.now (Stability course rooms points))) }
 {
-    put_text(alloc, object, "kind", "stability")?;
-    put_course(alloc, object, instance, course)?;
-    put_count(alloc, object, "rooms", rooms)?;
-    put_count(alloc, object, "points", points)
+    push_course(alloc, text, "{\"course\":", instance, course)?;
+    push_count(text, ",\"kind\":\"stability\",\"points\":", points)?;
+    push_count(text, ",\"rooms\":", rooms)?;
+    end_object(text)
 }
 
-/// Adds what a finding tells.
-fn put_facts(
+/// Adds the object of a finding.
+fn push_object(
     alloc: Global,
-    object: &mut Map<String, Value>,
+    text: &mut String,
     instance: &Instance,
     finding: &Finding,
 ) -> Result<(), AllocError>
     requires { FindingFits instance.now finding.now }
-    ensures { OnOk result (members_view object.new.entries
-        ≡ with_facts (facts instance.now finding.now) (members_view object.old.entries)) }
+    ensures { OnOk result (string_bytes text.new
+        ≡ string_bytes text.old ++ compact_text (object_of instance.now finding.now)) }
 {
     match finding {
         Finding::Lectures(course, placed, stated) => {
-            put_lectures(alloc, object, instance, *course, *placed, *stated)
+            push_lectures(alloc, text, instance, *course, *placed, *stated)
         }
         Finding::Conflict(course, other, slot, cause) => {
-            put_conflict(alloc, object, instance, *course, *other, *slot, cause)
+            push_conflict(alloc, text, instance, (*course, *other), *slot, cause)
         }
-        Finding::Availability(lecture) => put_availability(alloc, object, instance, lecture),
-        Finding::Occupancy(lecture) => put_occupancy(alloc, object, instance, lecture),
-        Finding::Barred(lecture) => put_placed(alloc, object, instance, "barred", lecture),
+        Finding::Availability(lecture) => push_availability(alloc, text, instance, lecture),
+        Finding::Occupancy(lecture) => push_occupancy(alloc, text, instance, lecture),
+        Finding::Barred(lecture) => push_barred(alloc, text, instance, lecture),
         Finding::Capacity(lecture, points) => {
-            put_capacity(alloc, object, instance, lecture, *points)
+            push_capacity(alloc, text, instance, lecture, *points)
         }
         Finding::Days(course, days, minimum, points) => {
-            put_days(alloc, object, instance, *course, *days, *minimum, *points)
+            push_days(alloc, text, instance, *course, *days, *minimum, *points)
         }
         Finding::Compactness(curriculum, lecture, points) => {
-            put_compactness(alloc, object, instance, *curriculum, lecture, *points)
+            push_compactness(alloc, text, instance, *curriculum, lecture, *points)
         }
         Finding::Stability(course, rooms, points) => {
-            put_stability(alloc, object, instance, *course, *rooms, *points)
+            push_stability(alloc, text, instance, *course, *rooms, *points)
         }
     }
-}
-
-/// The object of a finding.
-fn object(alloc: Global, instance: &Instance, finding: &Finding) -> Result<Value, AllocError>
-    requires { FindingFits instance.now finding.now }
-    ensures { IfOk result (λ object. view object ≡ object_of instance.now finding.now) }
-{
-    let mut object = Map::new(alloc);
-    put_facts(alloc, &mut object, instance, finding)?;
-    Ok(Value::Object(object))
 }
 
 /// Adds a comma, where something stands before.
 fn push_comma(text: &mut String, later: bool) -> Result<(), AllocError>
     ensures { OnOk result (string_bytes text.new ≡ string_bytes text.old ++ comma_if later) }
 {
-    if later { text.push_str(",") } else { Ok(()) }
+    if later { text.push(',') } else { Ok(()) }
 }
 
 /// Adds the text of a finding's object, with a comma before it where another one stands there: an item of an
@@ -320,8 +309,6 @@ pub fn push_item(
     ensures { OnOk result (string_bytes text.new
         ≡ string_bytes text.old ++ item_text instance.now later finding.now) }
 {
-    let found = object(alloc, instance, finding)?;
-    let written = found.to_string(alloc)?;
     push_comma(text, later)?;
-    text.push_str(written.as_str())
+    push_object(alloc, text, instance, finding)
 }

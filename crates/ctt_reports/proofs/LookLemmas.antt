@@ -1,9 +1,8 @@
 -- Why a look is refused, and what is printed of one.
-use Rattle.std.proofs.Common.{◌≡◌, Bool, true, false, inl, inr, subst, sym, Option, Some, None}
+use Rattle.std.proofs.Common.{◌≡◌, inl, inr, subst, sym, Option, Some, None}
 use Rattle.std.specs.Global.{Global}
 use Rattle.std.specs.declared.string.String.{String}
 use Rattle.ctt_text.specs.Problem.{Problem}
-use Rattle.ctt_files.specs.Faults.{MayHaveWritten}
 use Rattle.ctt_files.specs.Refusals.{IsOfSolution}
 use Rattle.ctt_files.specs.Texts.{Held}
 use Rattle.ctt_files.proofs.Plain.{IsPlain, behind_plain, solution_file_plain}
@@ -11,7 +10,7 @@ use Rattle.ctt_files.specs.declared.fault.Fault.{Fault}
 use Rattle.ctt_files.specs.declared.fault.Fault.TheVariants.{NoMemory}
 use Rattle.ctt_words.specs.declared.job.Whose.{Whose}
 use Rattle.ctt_words.specs.declared.job.Whose.TheVariants.{Course, Curriculum, Room, Teacher}
-use Rattle.ctt_reports.specs.Refusals.{IsOfSubject, IsOfWeek, MayHaveTold, no_name}
+use Rattle.ctt_reports.specs.Refusals.{IsOfSubject, IsOfWeek, no_name}
 
 -- a fault of the solution
 pub of_solution : (whose : Option Whose) (solution : String Global) (held : Held) (problem : Problem) (fault : Fault) → IsOfSolution solution held problem fault → IsOfSubject whose solution held problem fault
@@ -36,8 +35,3 @@ look_plain held instance barred whose solution fault is = behind_plain (IsOfSubj
 -- memory may be wanted at any time
 pub of_memory : (held : Held) (instance : String Global) (barred : Option (String Global)) (whose : Option Whose) (solution : String Global) (fault : Fault) → fault ≡ NoMemory → IsOfWeek held instance barred whose solution fault
 of_memory held instance barred whose solution fault is = inl (inl (inl (inr (inr is))))
-
--- what may be printed before a check fails may be printed before a job fails
-pub may_have_written : (explain : Bool) (fault : Fault) → MayHaveTold explain fault → MayHaveWritten fault
-may_have_written true fault may = may
-may_have_written false fault may = subst MayHaveWritten (sym may) tt

@@ -1,23 +1,14 @@
-use Rattle.std.proofs.Common.{ap}
-use Rattle.ctt_findings.specs.Findings.{conflicts_of}
-use Rattle.ctt_findings.proofs.HearLemmas.{hears_number}
+use Rattle.std.proofs.Common.{◌≡◌, [], ◌∙◌, ap, arith, refl, subst, sym}
+use Rattle.ctt_rules.specs.declared.hard.Hard.{Hard}
+use Rattle.ctt_findings.specs.Findings.{conflict_findings}
+use Rattle.ctt_findings.specs.Hearing.{Hears}
+use Rattle.ctt_findings.proofs.NoneLemmas.{no_conflicts}
 use Rattle.ctt_findings.proofs.conflicts.tell_conflicts.Goals as goal
-use Rattle.ctt_text.specs.Problem.{course_count}
-use Rattle.ctt_findings.specs.Hearing.{HearsFront}
-use Rattle.ctt_findings.proofs.FrontLemmas.{err_number}
-use Rattle.std.proofs.Common.{IfErr, rules, arith}
 
-pub loop-number-preserved : goal.loop-number-preserved
-loop-number-preserved g c =
-    let of : _ = conflicts_of c.args.instance.now c.args.timetable.now in
-    hears_number (g.L.Listener.hears c.args.instance.now) c.args.listener.now c.loop-number.listener c.tell_conflicts_of.new.listener of c.loop-number.number (of c.new.result) (ap of c.new.ensures)
-    c.loop-number.invariant c.in_ok-tell_conflicts_of.ensures.heard
-
-pub returns-in_err-tell_conflicts_of-clause-front : goal.returns-in_err-tell_conflicts_of-clause-front
-returns-in_err-tell_conflicts_of-clause-front g c =
+pub returns-then-hard_counts-eq0-clause-heard : goal.returns-then-hard_counts-eq0-clause-heard
+returns-then-hard_counts-eq0-clause-heard g c =
     let i = c.args.instance.now in
-    let of : _ = conflicts_of i c.args.timetable.now in
-    let R = g.L.Listener.hears i in
-    let failed : IfErr c.from_residual.result (HearsFront R g.L.Listener.fails c.loop-number.listener (of c.new.result) c.tell_conflicts_of.new.listener) = search rules in
-    err_number R g.L.Listener.fails c.from_residual.result c.args.listener.now c.loop-number.listener c.tell_conflicts_of.new.listener of (course_count i) c.loop-number.number (of c.new.result)
-    (omega (arith, c.loop-number-test.true, c.courses-number-end.ensures.exact)) (ap of c.new.ensures) c.loop-number.invariant failed
+    let t = c.args.timetable.now in
+    let counted : c.hard_counts.result.conflicts ≡ 0 = omega (arith, c.if-hard_counts-eq0.true) in
+    let none : conflict_findings i t ≡ [] = no_conflicts i t c.requires (ap (λ (h : Hard). h.conflicts) (sym c.hard_counts.ensures) ∙ counted) in
+    subst (λ fs. Hears (g.L.Listener.hears i) c.args.listener.now fs c.args.listener.now) (sym none) refl
