@@ -17,6 +17,7 @@ table { border-collapse: collapse; }
 th, td { border: 1px solid GrayText; padding: 0.2rem 0.5rem; text-align: left; vertical-align: top; }
 th { white-space: nowrap; }
 section th:first-child { background: Canvas; left: 0; position: sticky; }
+section th:first-child::after { border-right: 1px solid GrayText; bottom: 0; content: ''; position: absolute; right: -1px; top: 0; }
 section td { min-width: 7rem; }
 td p { margin: 0 0 0.3rem; }
 b, i { color: var(--broken); font-style: normal; }
