@@ -31,6 +31,8 @@ TITLES = {
 }
 # the signs at a lecture, by what is found of it
 SIGNS = {kind: TITLES[kind].split(":")[0] for kind in ("conflict", "availability", "occupancy", "barred", "capacity", "compactness")}
+# the lines of the report that count what is found of a kind
+COUNTS = {"conflicts" if kind == "conflict" else kind: kind for kind in TITLES}
 BREAKS = ("conflict", "availability", "occupancy", "barred")
 
 
@@ -46,6 +48,12 @@ class Page:
         for character, name in ("&", "amp"), ("<", "lt"), (">", "gt"), ('"', "quot"), ("'", "#39"):
             text = text.replace(character, f"&{name};")
         return text
+
+    def row(self, key, value):
+        """A line of the report."""
+        if key in COUNTS and value != "0":
+            value = f"<a href='#{COUNTS[key]}'>{numbered(TITLES[COUNTS[key]][0])} {value}</a>"
+        return f"<tr><th scope='row'>{key}</th><td>{'<b>&#10007; no</b>' if value == 'no' else value}</td></tr>\n"
 
     def place(self, finding):
         """The id of the cell, or of the grid, in which something is seen."""
@@ -84,7 +92,7 @@ class Page:
         """The grid of a curriculum, a teacher or a room."""
         own = [lecture for lecture in self.t if self.instance.has(kind, name, lecture)]
         letter = self.ids[kind][name]
-        text = f"<section><h3 id='{letter}'>{self.escape(name)}</h3><div><table>\n<tr><th>period</th>"
+        text = f"<section><h3 id='{letter}'>{kind.capitalize()} <bdi>{self.escape(name)}</bdi></h3><div><table>\n<tr><th>period</th>"
         text += "".join(f"<th scope='col'>day {day}</th>" for day in range(self.instance.days)) + "</tr>\n"
         for period in range(self.instance.periods):
             text += f"<tr><th scope='row'>{period}</th>"
@@ -93,7 +101,7 @@ class Page:
                 for lecture in own:
                     if lecture[1:3] == (day, period):
                         course, room = self.instance.courses[lecture[0]][0], self.instance.rooms[lecture[3]][0]
-                        text += f"<p>{self.escape(course)} <small>{self.escape(room)}</small>"
+                        text += f"<p><bdi>{self.escape(course)}</bdi> <small><bdi>{self.escape(room)}</bdi></small>"
                         text += "".join(self.signs(kind, own, lecture)) + "</p>"
                 text += "</td>"
             text += "</tr>\n"
@@ -104,17 +112,18 @@ class Page:
         name = self.escape(self.instance.name)
         text = "<!DOCTYPE html>\n<html lang='en'><head><meta charset='utf-8'>\n"
         text += "<meta name='viewport' content='width=device-width, initial-scale=1'>\n"
-        text += f"<title>{name}</title><style>{self.style}</style></head>\n<body><h1>{name}</h1>\n<nav>"
+        text += f"<title>{name}</title><style>{self.style}</style></head>\n<body><h1><bdi>{name}</bdi></h1>\n<nav>"
         links = [("report", "Report"), ("findings", "Findings"), *((part, title) for part, title, _, _ in PARTS)]
         text += " ".join(f"<a href='#{part}'>{title}</a>" for part, title in links) + "</nav>\n<h2 id='report'>Report</h2><table>\n"
         for row in self.instance.report(self.t)[0].split("\n")[1:-1]:
-            text += "<tr><th scope='row'>{}</th><td>{}</td></tr>\n".format(*row.split(" "))
+            text += self.row(*row.split(" "))
         text += "</table>\n<h2 id='findings'>Findings</h2>\n"
         for kind in KINDS.values():
-            text += f"<h3>{numbered(TITLES[kind])}</h3><ul>\n"
+            text += f"<h3 id='{kind}'>{numbered(TITLES[kind])}</h3><ul>\n"
             for finding in self.found:
                 if finding["kind"] == kind:
-                    text += f"<li><a href='#{self.place(finding)}'>{self.escape(line(finding))}</a></li>\n"
+                    words = " ".join(f"<bdi>{self.escape(word)}</bdi>" for word in line(finding).split(" "))
+                    text += f"<li><a href='#{self.place(finding)}'>{words}</a></li>\n"
             text += "</ul>\n"
         for part, title, kind, _ in PARTS:
             text += f"<h2 id='{part}'>{title}</h2>\n" + "".join(self.grid(kind, of) for of in self.instance.names()[kind])
@@ -132,8 +141,10 @@ class Reader(html.parser.HTMLParser):
     def __init__(self):
         super().__init__()
         self.open, self.ids, self.links, self.tags, self.names, self.faults = [], [], [], set(), set(), []
-        # the texts by the id of the cell and the element that they stand in
-        self.cells, self.titles, self.items = {}, {}, []
+        # the texts by the id of the cell and the element that they stand in; heads and findings, and the lines of the report
+        self.cells, self.heads, self.items, self.rows = {}, {}, [], []
+        # the texts that stand in an element with a direction of its own
+        self.apart = set()
 
     def handle_starttag(self, tag, attributes):
         self.tags.add(tag)
@@ -145,12 +156,16 @@ class Reader(html.parser.HTMLParser):
             self.links.append(given["href"])
         if tag == "td" and "id" in given:
             self.cells[given["id"]] = []
+        if tag == "a" and "li" in self.open:
+            self.items.append([given["href"], ""])
+        if tag == "th" and given.get("scope") == "row" and self.ids[-1] == "report":
+            self.rows.append(["", ""])
         if tag == "p":
             self.cells[self.ids[-1]].append({"p": "", "small": "", "b": [], "i": []})
         if tag == "meta":
             return
         self.open.append(tag)
-        if tag in ("b", "i"):
+        if tag in ("b", "i") and "p" in self.open:
             self.cells[self.ids[-1]][-1][tag].append("")
 
     def handle_endtag(self, tag):
@@ -158,21 +173,25 @@ class Reader(html.parser.HTMLParser):
             self.faults.append(f"</{tag}> at {self.getpos()}")
 
     def handle_data(self, text):
-        where = self.open[-1] if self.open else ""
+        if "bdi" in self.open:
+            self.apart.add(text.strip("\n"))
+        where = next((tag for tag in reversed(self.open) if tag != "bdi"), "")
         if "p" in self.open:
             told = self.cells[self.ids[-1]][-1]
             if where in ("b", "i"):
                 told[where][-1] += text
             else:
                 told[where] += text
-        elif where == "h3" and "section" in self.open:
-            self.titles[self.ids[-1]] = self.titles.get(self.ids[-1], "") + text
-        elif where == "a" and "li" in self.open:
-            self.items.append((self.links[-1], text))
+        elif where == "h3":
+            self.heads[self.ids[-1]] = self.heads.get(self.ids[-1], "") + text
+        elif "li" in self.open:
+            self.items[-1][1] += text
+        elif self.ids[-1:] == ["report"] and "tr" in self.open:
+            self.rows[-1][0 if where == "th" else 1] += text
 
 
 TAGS = {"html", "head", "meta", "title", "style", "body", "h1", "h2", "h3", "nav", "a", "table", "tr", "th", "td", "ul", "li", "section",
-        "div", "p", "small", "b", "i"}
+        "div", "p", "small", "b", "i", "bdi"}
 
 
 def check_read(name, text, page):
@@ -186,9 +205,9 @@ def check_read(name, text, page):
     check(f"{name}: each id once", len(reader.ids), len(set(reader.ids)))
     check(f"{name}: links to ids of the page", [link for link in reader.links if link[:1] != "#" or link[1:] not in reader.ids], [])
     instance, t = page.instance, page.t
-    titles = {page.ids[kind][of]: of for kind in page.ids for of in instance.names()[kind]}
-    check(f"{name}: the grids", reader.titles, titles)
-    wanted = {f"{grid}-{slot}": [] for grid in titles for slot in range(instance.days * instance.periods)}
+    grids = {page.ids[kind][of]: f"{kind.capitalize()} {of}" for kind in page.ids for of in instance.names()[kind]}
+    check(f"{name}: the heads", reader.heads, {**TITLES, **grids})
+    wanted = {f"{grid}-{slot}": [] for grid in grids for slot in range(instance.days * instance.periods)}
     for kind in page.ids:
         for of in instance.names()[kind]:
             for lecture in t:
@@ -197,14 +216,36 @@ def check_read(name, text, page):
                     wanted[cell].append((instance.courses[lecture[0]][0], instance.rooms[lecture[3]][0]))
     cells = {cell: [(told["p"].strip(" "), told["small"]) for told in lectures] for cell, lectures in reader.cells.items()}
     check(f"{name}: the lectures", cells, wanted)
-    lines = [(f"#{page.place(finding)}", line(finding)) for finding in page.found]
+    lines = [[f"#{page.place(finding)}", line(finding)] for finding in page.found]
     check(f"{name}: the findings", reader.items, lines)
+    check_apart(name, reader, page)
+    check_rows(name, reader, page)
     # what breaks a rule is marked where its link leads
     for finding in page.found:
         if "period" in finding:
             tag = "b" if finding["kind"] in BREAKS else "i"
             marks = [mark for told in reader.cells[page.place(finding)] for mark in told[tag]]
             check(f"{name}: {line(finding)} marked", SIGNS[finding["kind"]] in marks, True)
+
+
+def check_apart(name, reader, page):
+    """Each name, and each word of a finding, stands in an element of its own, so that it turns nothing beside it."""
+    names = {name for kind in page.ids for name in page.instance.names()[kind]}
+    placed = {page.instance.courses[lecture[0]][0] for lecture in page.t}
+    words = {word for finding in page.found for word in line(finding).rstrip("\n").split(" ")}
+    check(f"{name}: names and words apart", reader.apart, {page.instance.name} | names | placed | words)
+
+
+def check_rows(name, reader, page):
+    """In the report a link leads to each kind of which something is found, and to no other; its sign, and that of `no`, is there."""
+    kinds = {finding["kind"] for finding in page.found}
+    counts = [kind for kind in COUNTS.values() if kind != "barred" or page.instance.barred]
+    check(f"{name}: links to kinds", [link for link in reader.links if link[1:] in TITLES], [f"#{kind}" for kind in counts if kind in kinds])
+    for row in page.instance.report(page.t)[0].split("\n")[1:-1]:
+        key, value = row.split(" ")
+        marked = COUNTS[key] in kinds if key in COUNTS else value == "no"
+        sign = f"{TITLES[COUNTS[key]][0] if key in COUNTS else '✗'} " if marked else ""
+        check(f"{name}: {key} marked", [told for told in reader.rows if told[0] == key], [[key, sign + value]])
 
 
 def check_page(name, files):

@@ -33,6 +33,11 @@ module _ {X : Type 0} (p : X → Bool) (f : X → List ℕ) (xs : List X) (k : �
 pub piece_is : {T E : Type 0} (r : Result T E) (old new more other : List ℕ) → more ≡ other → OnOk r (new ≡ old ++ more) → OnOk r (new ≡ old ++ other)
 piece_is r old new more other e h = subst (λ piece. OnOk r (new ≡ old ++ piece)) e h
 
+-- a text of seven pieces, and one behind it
+pub one_behind : (a b c d e f g z : List ℕ) → (a ++ (b ++ (c ++ (d ++ (e ++ (f ++ g)))))) ++ z ≡ a ++ (b ++ (c ++ (d ++ (e ++ (f ++ (g ++ z))))))
+one_behind a b c d e f g z =
+    append_assoc a _ z ∙ ap (λ xs. a ++ xs) (append_assoc b _ z ∙ ap (λ xs. b ++ xs) (append_assoc c _ z ∙ ap (λ xs. c ++ xs) (append_assoc d _ z ∙ ap (λ xs. d ++ xs) (append_assoc e _ z ∙ ap (λ xs. e ++ xs) (append_assoc f g z)))))
+
 -- an element that passes, one more that does not, and none at all
 pub any_here : {X : Type 0} (p : X → Bool) (xs : List X) (k : ℕ) (x : X) → k < length xs → x ≡ get_or xs k x → p x ≡ true → list_any p xs ≡ true
 any_here p xs k x lt at e = list_any_at p xs k x lt (ap p (sym at) ∙ e)

@@ -10,11 +10,11 @@ use Rattle.ctt_page.specs.declared.grid.Grid.{Grid}
 
 -- the names of a lecture's course and room
 unfoldable pub names_text : Problem → Placed → List ℕ
-names_text i l = codes "<p>"
+names_text i l = codes "<p><bdi>"
     ++ (escaped (slice_index_or i.course_names l.course [])
-    ++ (codes " <small>"
+    ++ (codes "</bdi> <small><bdi>"
     ++ (escaped (slice_index_or i.room_names l.room [])
-    ++ codes "</small>")))
+    ++ codes "</bdi></small>")))
 
 -- a lecture as it stands in a grid: its names and its signs
 unfoldable pub lecture_text : Problem → List (List Placed) → Grid → Placed → List ℕ

@@ -1,5 +1,5 @@
 -- Text of a page.
-use Rattle.std.specs.Prelude.{ℕ, List, ◌==◌, chars, codes, encode_utf8, flat_map, if◌then◌else◌}
+use Rattle.std.specs.Prelude.{ℕ, ◌==◌, List, chars, codes, encode_utf8, flat_map, if◌then◌else◌}
 
 -- a character; one that has a meaning in HTML goes by its name
 unfoldable pub escaped_char : ℕ → List ℕ
@@ -13,3 +13,11 @@ escaped_char c = if c == 38 then codes "&amp;"
 -- a text, character by character
 unfoldable pub escaped : List ℕ → List ℕ
 escaped text = flat_map escaped_char (chars text)
+
+-- a character of a line: at a blank the element of a word ends, and that of the next one begins
+unfoldable pub line_char : ℕ → List ℕ
+line_char c = if c == 32 then codes "</bdi> <bdi>" else escaped_char c
+
+-- a line within such an element, so that no word turns the direction of another
+unfoldable pub words_apart : List ℕ → List ℕ
+words_apart line = flat_map line_char (chars line)

@@ -5,7 +5,7 @@ use Rattle.ctt_text.specs.Problem.{Problem, curriculum_count, room_count, slot_o
 use Rattle.ctt_text.specs.declared.placed.Placed.{Placed}
 use Rattle.ctt_page.specs.Cells.{cell}
 use Rattle.ctt_page.specs.Escape.{escaped}
-use Rattle.ctt_page.specs.Grids.{grid_id, name_of}
+use Rattle.ctt_page.specs.Grids.{grid_id, name_of, word_of}
 use Rattle.ctt_page.specs.declared.grid.Grid.{Grid}
 use Rattle.ctt_page.specs.declared.grid.Grid.TheVariants.{Curriculum, Room, Teacher}
 
@@ -25,13 +25,15 @@ line_start p = codes "<tr><th scope='row'>" ++ (decimal p ++ codes "</th>")
 unfoldable pub line : Problem → List (List Placed) → Grid → ℕ → List ℕ
 line i w g p = line_start p ++ (each_below (λ d. cell i w g (slot_of i d p)) i.days ++ codes "</tr>\n")
 
--- the beginning of a grid: its name, and the first field of the line of the days
+-- the beginning of a grid: what it is of, and the first field of the line of the days
 unfoldable pub grid_start : Problem → Grid → List ℕ
 grid_start i g = codes "<section><h3 id='"
     ++ (grid_id g
     ++ (codes "'>"
+    ++ (word_of g
+    ++ (codes " <bdi>"
     ++ (escaped (name_of i g)
-    ++ codes "</h3><div><table>\n<tr><th>period</th>")))
+    ++ codes "</bdi></h3><div><table>\n<tr><th>period</th>")))))
 
 -- a grid: a column for each day, and a line for each period
 unfoldable pub grid_text : Problem → List (List Placed) → Grid → List ℕ

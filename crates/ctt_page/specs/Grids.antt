@@ -19,7 +19,12 @@ GridFits i (Curriculum q) = q < curriculum_count i
 GridFits i (Teacher n) = n < teacher_count i
 GridFits i (Room r) = r < room_count i
 
--- the name of what it is of
+-- the word for what it is of, and its name
+abbrev pub word_of : Grid → List ℕ
+word_of (Curriculum q) = codes "Curriculum"
+word_of (Teacher n) = codes "Teacher"
+word_of (Room r) = codes "Room"
+
 abbrev pub name_of : Problem → Grid → List ℕ
 name_of i (Curriculum q) = slice_index_or i.curriculum_names q []
 name_of i (Teacher n) = slice_index_or i.teacher_names n []

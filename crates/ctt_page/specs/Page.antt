@@ -17,9 +17,9 @@ page_head style name = codes "<!DOCTYPE html>\n<html lang='en'><head><meta chars
     ++ (escaped name
     ++ (codes "</title><style>"
     ++ (style
-    ++ (codes "</style></head>\n<body><h1>"
+    ++ (codes "</style></head>\n<body><h1><bdi>"
     ++ (escaped name
-    ++ codes "</h1>\n<nav><a href='#report'>Report</a> <a href='#findings'>Findings</a> <a href='#curricula'>Curricula</a> <a href='#teachers'>Teachers</a> <a href='#rooms'>Rooms</a></nav>\n")))))
+    ++ codes "</bdi></h1>\n<nav><a href='#report'>Report</a> <a href='#findings'>Findings</a> <a href='#curricula'>Curricula</a> <a href='#teachers'>Teachers</a> <a href='#rooms'>Rooms</a></nav>\n")))))
 
 -- the page, of a timetable that is lawful or not, and complete or not
 unfoldable pub page : List ℕ → Bool → Bool → Problem → List Placed → List ℕ

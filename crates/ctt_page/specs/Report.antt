@@ -1,5 +1,5 @@
 -- The report on a timetable as a table.
-use Rattle.std.specs.Prelude.{ℕ, Bool, true, false, ◌++◌, List, [], codes, if◌then◌else◌}
+use Rattle.std.specs.Prelude.{ℕ, Bool, true, false, ◌==◌, ◌++◌, List, [], codes, if◌then◌else◌}
 use Rattle.std.specs.Fmt.{decimal}
 use Rattle.ctt_rules.specs.Penalty.{total}
 use Rattle.ctt_rules.specs.declared.cost.Cost.{Cost}
@@ -9,32 +9,37 @@ use Rattle.ctt_rules.specs.declared.hard.Hard.{Hard}
 unfoldable pub row : List ℕ → List ℕ → List ℕ
 row key text = codes "<tr><th scope='row'>" ++ (key ++ (codes "</th><td>" ++ (text ++ codes "</td></tr>\n")))
 
-unfoldable pub count_row : List ℕ → ℕ → List ℕ
-count_row key count = row key (decimal count)
+-- the line of a count, with the sign of its kind and a link to what was found, if there is some
+unfoldable pub count_row : List ℕ → List ℕ → List ℕ → ℕ → List ℕ
+count_row key kind sign count = row key (if count == 0 then codes "0"
+    else codes "<a href='#" ++ (kind ++ (codes "'>" ++ (sign ++ (codes " " ++ (decimal count ++ codes "</a>"))))))
+
+unfoldable pub total_row : ℕ → List ℕ
+total_row count = row (codes "total") (decimal count)
 
 unfoldable pub answer_row : List ℕ → Bool → List ℕ
-answer_row key answer = row key (if answer then codes "yes" else codes "no")
+answer_row key answer = row key (if answer then codes "yes" else codes "<b>&#10007; no</b>")
 
 -- the line of the lectures in barred rooms, where some room is barred
 unfoldable pub barred_row : Bool → ℕ → List ℕ
-barred_row true count = count_row (codes "barred") count
+barred_row true count = count_row (codes "barred") (codes "barred") (codes "&#9632;") count
 barred_row false count = []
 
 -- how often the hard rules are broken
 unfoldable pub hard_rows : Bool → Hard → List ℕ
-hard_rows barred hard = count_row (codes "lectures") hard.lectures
-    ++ (count_row (codes "conflicts") hard.conflicts
-    ++ (count_row (codes "availability") hard.availability
-    ++ (count_row (codes "occupancy") hard.occupancy
+hard_rows barred hard = count_row (codes "lectures") (codes "lectures") (codes "&#9661;") hard.lectures
+    ++ (count_row (codes "conflicts") (codes "conflict") (codes "&#9650;") hard.conflicts
+    ++ (count_row (codes "availability") (codes "availability") (codes "&#9660;") hard.availability
+    ++ (count_row (codes "occupancy") (codes "occupancy") (codes "&#9670;") hard.occupancy
     ++ barred_row barred hard.barred)))
 
 -- what the timetable costs
 unfoldable pub cost_rows : Cost → List ℕ
-cost_rows cost = count_row (codes "capacity") cost.capacity
-    ++ (count_row (codes "days") cost.days
-    ++ (count_row (codes "compactness") cost.compactness
-    ++ (count_row (codes "stability") cost.stability
-    ++ count_row (codes "total") (total cost))))
+cost_rows cost = count_row (codes "capacity") (codes "capacity") (codes "&#9679;") cost.capacity
+    ++ (count_row (codes "days") (codes "days") (codes "&#9651;") cost.days
+    ++ (count_row (codes "compactness") (codes "compactness") (codes "&#9675;") cost.compactness
+    ++ (count_row (codes "stability") (codes "stability") (codes "&#9671;") cost.stability
+    ++ total_row (total cost))))
 
 -- the report, where some room is barred or none is
 unfoldable pub report : Bool → Hard → Cost → Bool → Bool → List ℕ

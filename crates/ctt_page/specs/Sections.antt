@@ -9,7 +9,7 @@ use Rattle.ctt_findings.specs.declared.finding.Cause.{Cause}
 use Rattle.ctt_findings.specs.declared.finding.Cause.TheVariants.{Teacher as HasTeacher, Curriculum as HasCurriculum}
 use Rattle.ctt_findings.specs.declared.finding.Finding.{Finding}
 use Rattle.ctt_findings.specs.declared.finding.Finding.TheVariants.{Lectures, Conflict, Availability, Occupancy, Barred, Capacity, Days, Compactness, Stability}
-use Rattle.ctt_page.specs.Escape.{escaped}
+use Rattle.ctt_page.specs.Escape.{words_apart}
 use Rattle.ctt_page.specs.Grids.{place_id}
 use Rattle.ctt_page.specs.declared.grid.Grid.{Grid}
 use Rattle.ctt_page.specs.declared.grid.Grid.TheVariants.{Curriculum, Room, Teacher}
@@ -59,9 +59,9 @@ slot_at (Stability c rooms n) = None
 unfoldable pub link : Grid → Option ℕ → List ℕ → List ℕ
 link g s text = codes "<li><a href='#"
     ++ (place_id g s
-    ++ (codes "'>"
-    ++ (escaped text
-    ++ codes "</a></li>\n")))
+    ++ (codes "'><bdi>"
+    ++ (words_apart text
+    ++ codes "</bdi></a></li>\n")))
 
 -- a finding: its line, as a link to where it is seen
 unfoldable pub finding_item : Problem → Finding → List ℕ
@@ -71,13 +71,15 @@ finding_item i f = link (grid_at i f) (slot_at f) (line i f)
 abbrev pub item_of : Problem → List ℕ → Finding → List ℕ
 item_of i kind f = if bytes_eq (kind_word f) kind then finding_item i f else []
 
--- the section of a kind
+-- the section of a kind, which is known by its word
 unfoldable pub section : Problem → List Placed → List ℕ → List ℕ → List ℕ
-section i t kind title = codes "<h3>"
+section i t kind title = codes "<h3 id='"
+    ++ (kind
+    ++ (codes "'>"
     ++ (title
     ++ (codes "</h3><ul>\n"
     ++ (flat_map (item_of i kind) (findings i t)
-    ++ codes "</ul>\n")))
+    ++ codes "</ul>\n")))))
 
 -- what breaks hard rules
 unfoldable pub broken_rules : Problem → List Placed → List ℕ

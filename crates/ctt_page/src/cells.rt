@@ -25,7 +25,10 @@ fn push_names(page: &mut String, instance: &Instance, lecture: &Placed) -> Resul
 {
     let course = Escaped(instance.course_name(lecture.course));
     let room = Escaped(instance.room_name(lecture.room));
-    write!(page, "<p>{course} <small>{room}</small>")
+    write!(
+        page,
+        "<p><bdi>{course}</bdi> <small><bdi>{room}</bdi></small>"
+    )
 }
 
 /// Adds a lecture as it stands in a grid: its names and its signs.

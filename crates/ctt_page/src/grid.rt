@@ -2,7 +2,7 @@
 
 ghost use Rattle.std.specs.Prelude.{◌≡◌, Some};
 ghost use Rattle.ctt_text.specs.Timetable.{Fits};
-ghost use Rattle.ctt_page.specs.Grids.{GridFits, grid_id, is_of, name_of, place_id};
+ghost use Rattle.ctt_page.specs.Grids.{GridFits, grid_id, is_of, name_of, place_id, word_of};
 
 use ctt_text::{CurriculumNo, Instance, Placed, RoomNo, SlotNo, TeacherNo};
 use std::fmt;
@@ -28,6 +28,17 @@ pub(crate) fn is_of(instance: &Instance, grid: &Grid, lecture: &Placed) -> bool
         Grid::Curriculum(curriculum) => instance.members(*curriculum).contains(&lecture.course),
         Grid::Teacher(teacher) => instance.teacher(lecture.course) == *teacher,
         Grid::Room(room) => lecture.room == *room,
+    }
+}
+
+/// The word for what a grid is of.
+pub(crate) fn word_of(grid: &Grid) -> &'static str
+    ensures { result.now ≡ word_of grid.now }
+{
+    match grid {
+        Grid::Curriculum(_) => "Curriculum",
+        Grid::Teacher(_) => "Teacher",
+        Grid::Room(_) => "Room",
     }
 }
 

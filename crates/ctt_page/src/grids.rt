@@ -9,7 +9,7 @@ ghost use Rattle.ctt_page.specs.Weeks.{WeekFits};
 
 use crate::cells::push_cell;
 use crate::escape::Escaped;
-use crate::grid::{Grid, name_of};
+use crate::grid::{Grid, name_of, word_of};
 use crate::week::Week;
 use ctt_text::{CurriculumNo, Instance, RoomNo, TeacherNo};
 use std::alloc::AllocError;
@@ -89,7 +89,7 @@ fn push_lines(
     Ok(())
 }
 
-/// Begins a grid: its name, and the first field of the line of the days.
+/// Begins a grid: what it is of, and the first field of the line of the days.
 #[tactic(auto, unfolding(crate::specs::GridTexts::grid_start))]
 fn push_grid_start(page: &mut String, instance: &Instance, grid: &Grid) -> Result<(), AllocError>
     requires { GridFits instance.now grid.now }
@@ -97,10 +97,11 @@ fn push_grid_start(page: &mut String, instance: &Instance, grid: &Grid) -> Resul
         ≡ string_bytes page.old ++ grid_start instance.now grid.now) }
 {
     let name = Escaped(name_of(instance, grid));
+    let word = word_of(grid);
     let grid = *grid;
     write!(
         page,
-        "<section><h3 id='{grid}'>{name}</h3><div><table>\n<tr><th>period</th>"
+        "<section><h3 id='{grid}'>{word} <bdi>{name}</bdi></h3><div><table>\n<tr><th>period</th>"
     )
 }
 

@@ -31,7 +31,7 @@ fn push_head(page: &mut String, style: &str, name: &str) -> Result<(), AllocErro
         "<!DOCTYPE html>\n<html lang='en'><head><meta charset='utf-8'>\n\
          <meta name='viewport' content='width=device-width, initial-scale=1'>\n\
          <title>{name}</title><style>{style}</style></head>\n\
-         <body><h1>{name}</h1>\n\
+         <body><h1><bdi>{name}</bdi></h1>\n\
          <nav><a href='#report'>Report</a> <a href='#findings'>Findings</a> \
          <a href='#curricula'>Curricula</a> <a href='#teachers'>Teachers</a> \
          <a href='#rooms'>Rooms</a></nav>\n"

@@ -2,7 +2,7 @@
 
 ghost use Rattle.std.specs.Prelude.{◌≡◌, ◌<◌, ◌^◌, ◌++◌, OnOk, string_bytes};
 ghost use Rattle.ctt_rules.specs.Penalty.{total};
-ghost use Rattle.ctt_page.specs.Report.{answer_row, barred_row, cost_rows, count_row, hard_rows, report, row};
+ghost use Rattle.ctt_page.specs.Report.{answer_row, barred_row, cost_rows, count_row, hard_rows, report, row, total_row};
 
 use ctt_rules::{Assessment, Cost, Hard};
 use std::alloc::AllocError;
@@ -17,13 +17,35 @@ fn push_row(page: &mut String, key: &str, text: &str) -> Result<(), AllocError>
     writeln!(page, "<tr><th scope='row'>{key}</th><td>{text}</td></tr>")
 }
 
-/// Adds the line of a count.
+/// Adds the line of a count, with the sign of its kind and a link to what was found, if there is some.
 #[tactic(auto, unfolding(crate::specs::Report::count_row, crate::specs::Report::row))]
-fn push_count(page: &mut String, key: &str, count: u64) -> Result<(), AllocError>
+fn push_count(
+    page: &mut String,
+    key: &str,
+    kind: &str,
+    sign: &str,
+    count: u64,
+) -> Result<(), AllocError>
     ensures { OnOk result (string_bytes page.new
-        ≡ string_bytes page.old ++ count_row key.now count) }
+        ≡ string_bytes page.old ++ count_row key.now kind.now sign.now count) }
 {
-    writeln!(page, "<tr><th scope='row'>{key}</th><td>{count}</td></tr>")
+    if count == 0 {
+        push_row(page, key, "0")
+    } else {
+        writeln!(
+            page,
+            "<tr><th scope='row'>{key}</th><td><a href='#{kind}'>{sign} {count}</a></td></tr>"
+        )
+    }
+}
+
+/// Adds the line of the total.
+#[tactic(auto, unfolding(crate::specs::Report::total_row, crate::specs::Report::row))]
+fn push_total(page: &mut String, count: u64) -> Result<(), AllocError>
+    ensures { OnOk result (string_bytes page.new
+        ≡ string_bytes page.old ++ total_row count) }
+{
+    writeln!(page, "<tr><th scope='row'>total</th><td>{count}</td></tr>")
 }
 
 /// Adds the line of the lectures in barred rooms, where some room is barred.
@@ -33,7 +55,7 @@ fn push_barred(page: &mut String, barred: bool, count: u64) -> Result<(), AllocE
         ≡ string_bytes page.old ++ barred_row barred count) }
 {
     if barred {
-        push_count(page, "barred", count)
+        push_count(page, "barred", "barred", "&#9632;", count)
     } else {
         Ok(())
     }
@@ -48,7 +70,7 @@ fn push_answer(page: &mut String, key: &str, answer: bool) -> Result<(), AllocEr
     if answer {
         push_row(page, key, "yes")
     } else {
-        push_row(page, key, "no")
+        push_row(page, key, "<b>&#10007; no</b>")
     }
 }
 
@@ -58,10 +80,16 @@ fn push_hard(page: &mut String, barred: bool, hard: &Hard) -> Result<(), AllocEr
     ensures { OnOk result (string_bytes page.new
         ≡ string_bytes page.old ++ hard_rows barred hard.now) }
 {
-    push_count(page, "lectures", hard.lectures)?;
-    push_count(page, "conflicts", hard.conflicts)?;
-    push_count(page, "availability", hard.availability)?;
-    push_count(page, "occupancy", hard.occupancy)?;
+    push_count(page, "lectures", "lectures", "&#9661;", hard.lectures)?;
+    push_count(page, "conflicts", "conflict", "&#9650;", hard.conflicts)?;
+    push_count(
+        page,
+        "availability",
+        "availability",
+        "&#9660;",
+        hard.availability,
+    )?;
+    push_count(page, "occupancy", "occupancy", "&#9670;", hard.occupancy)?;
     push_barred(page, barred, hard.barred)
 }
 
@@ -73,11 +101,17 @@ fn push_costs(page: &mut String, cost: &Cost) -> Result<(), AllocError>
         ≡ string_bytes page.old ++ cost_rows cost.now) }
 {
     let total = cost.total();
-    push_count(page, "capacity", cost.capacity)?;
-    push_count(page, "days", cost.days)?;
-    push_count(page, "compactness", cost.compactness)?;
-    push_count(page, "stability", cost.stability)?;
-    push_count(page, "total", total)
+    push_count(page, "capacity", "capacity", "&#9679;", cost.capacity)?;
+    push_count(page, "days", "days", "&#9651;", cost.days)?;
+    push_count(
+        page,
+        "compactness",
+        "compactness",
+        "&#9675;",
+        cost.compactness,
+    )?;
+    push_count(page, "stability", "stability", "&#9671;", cost.stability)?;
+    push_total(page, total)
 }
 
 /// Adds the report as a table. `barred` says whether some room is barred.

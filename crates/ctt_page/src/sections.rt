@@ -7,7 +7,7 @@ ghost use Rattle.ctt_findings.specs.Findings.{findings};
 ghost use Rattle.ctt_findings.specs.Fitting.{FindingFits};
 ghost use Rattle.ctt_page.specs.Sections.{broken_rules, cause_grid, costs, finding_item, grid_at, item_of, kind_word, link, section, sections, slot_at};
 
-use crate::escape::Escaped;
+use crate::escape::WordsApart;
 use crate::grid::{Grid, Place};
 use ctt_findings::{Cause, Finding, Listener, Untold, push_line, tell_findings};
 use ctt_text::{Instance, NoMemory, Placed, SlotNo};
@@ -90,8 +90,8 @@ fn push_link(page: &mut String, place: &Place, line: &str) -> Result<(), AllocEr
         ≡ string_bytes page.old ++ link place.now.grid place.now.slot line.now) }
 {
     let place = *place;
-    let text = Escaped(line);
-    writeln!(page, "<li><a href='#{place}'>{text}</a></li>")
+    let text = WordsApart(line);
+    writeln!(page, "<li><a href='#{place}'><bdi>{text}</bdi></a></li>")
 }
 
 /// Adds a finding: its line, as a link to where it is seen.
@@ -185,7 +185,7 @@ fn items_of_kind(
     }
 }
 
-/// Adds the section of a kind.
+/// Adds the section of a kind, which is known by its word.
 #[tactic(auto, unfolding(crate::specs::Sections::section))]
 fn push_section(
     alloc: Global,
@@ -201,7 +201,7 @@ fn push_section(
 {
     let items = items_of_kind(alloc, instance, timetable, kind)?;
     let items = items.as_str();
-    write!(page, "<h3>{title}</h3><ul>\n{items}</ul>\n")?;
+    write!(page, "<h3 id='{kind}'>{title}</h3><ul>\n{items}</ul>\n")?;
     Ok(())
 }
 

@@ -1,27 +1,33 @@
 //! How the page looks.
 
 /// The style of the page: by the system's colours, light or dark; a grid that is wider than the window is
-/// moved sideways in its own box; a link to a cell shows its grid round it; on paper no grid is cut in two, if
-/// it fits on a sheet.
+/// moved sideways in its own box, past its periods; the links to the parts stay in sight, and a link to a cell
+/// shows its grid round it; on paper no grid is cut in two, if it fits on a sheet.
 pub const STYLE: &str = "
 :root { color-scheme: light dark; --broken: #b00020; --costs: #7a4f00; }
 @media (prefers-color-scheme: dark) { :root { --broken: #ff9a9a; --costs: #f0c060; } }
 body { background: Canvas; color: CanvasText; font: 100%/1.4 system-ui, sans-serif;
   margin: 0 auto; max-width: 80rem; padding: 1rem; overflow-wrap: anywhere; }
-nav a { margin-right: 1rem; }
+nav { background: Canvas; border-bottom: 1px solid GrayText; padding: 0.3rem 0; position: sticky; top: 0; z-index: 1; }
+nav a { margin-right: 0.6rem; }
+h2, h3 { scroll-margin-top: 4rem; }
 section { break-inside: avoid; }
 section div { overflow-x: auto; }
 table { border-collapse: collapse; }
 th, td { border: 1px solid GrayText; padding: 0.2rem 0.5rem; text-align: left; vertical-align: top; }
 th { white-space: nowrap; }
+section th:first-child { background: Canvas; left: 0; position: sticky; }
+section th:first-child::after { border-right: 1px solid GrayText; bottom: 0; content: ''; position: absolute; right: -1px; top: 0; }
 section td { min-width: 7rem; }
 td p { margin: 0 0 0.3rem; }
-b, i { color: var(--broken); display: block; font-size: 0.9em; font-style: normal; }
+b, i { color: var(--broken); font-style: normal; }
 i { color: var(--costs); }
+p b, p i { display: block; font-size: 0.9em; }
 ul { columns: 24rem; column-gap: 2rem; padding-left: 1.2rem; }
 li { break-inside: avoid; }
 ul:not(:has(li))::after { content: 'none'; }
-td:target, h3:target { outline: 3px solid LinkText; scroll-margin: 40vh 7rem; }
+h3:target, td:target { outline: 3px solid LinkText; }
+td:target { outline-offset: -3px; scroll-margin: 40vh 7rem; }
 @media print {
   body { max-width: none; padding: 0; }
   nav { display: none; }
