@@ -1,11 +1,12 @@
 //! A case is a row of a table: a script with its opening, and in which ways it is played.
 
-use crate::shared::Script;
 use crate::story::Story;
 use crate::texts::{Lectures, Opening};
-use crate::{crews, cuts, desks, drafts, journals, reports, scripts, shared, sheets, transfers};
+use crate::{
+    crews, cuts, desks, drafts, findings, journals, reports, scripts, shared, sheets, transfers,
+};
 use ctt_board::{GridSheet, ListSheet, Sheet};
-use ctt_text::Instance;
+use ctt_text::{Instance, Placed};
 use std::marker::Sync;
 use std::sync::Wait;
 use std::thread::Threads;
@@ -28,6 +29,12 @@ pub(crate) enum Way {
     Reports,
     /// Its opening is written and read again.
     Written,
+    /// What is found of its opening.
+    Findings,
+    /// The week of its opening.
+    Weeks,
+    /// The page of its opening.
+    Page,
     /// Its lines, each of which is a call, on a sheet.
     Lines,
     /// One placement on a sheet.
@@ -48,6 +55,8 @@ pub(crate) enum Way {
     Text,
     /// Its lines are the text of a journal, which is audited.
     Audit,
+    /// Its lines are the text of a journal, and what this leaves is told.
+    Left,
     /// Whether a shared desk opens.
     Opening,
     /// Its lines are the script of a crew of one.
@@ -82,6 +91,29 @@ pub(crate) struct Case {
     pub(crate) drops: bool,
 }
 
+/// The lines of a case, and the lectures with which it opens.
+#[derive(Drop)]
+pub(crate) struct Script<'a> {
+    pub(crate) opening: &'a [Placed],
+    pub(crate) lines: &'a str,
+    pub(crate) drops: bool,
+    /// Where its answers begin and end in what was told first, and where what the desk left ends.
+    pub(crate) answers: usize,
+    pub(crate) end: usize,
+    pub(crate) all: usize,
+}
+
+impl Script<'_> {
+    /// Notes what was told of it from a place on, if its answers end in a place behind that.
+    fn note(&mut self, answers: usize, end: usize, all: usize) {
+        if answers < end {
+            self.answers = answers;
+            self.end = end;
+            self.all = all;
+        }
+    }
+}
+
 /// Plays a case on sheets of one kind.
 fn play_on<'i, S: Sheet<'i>, R: Threads + Wait + Sync>(
     story: &mut Story,
@@ -93,17 +125,31 @@ fn play_on<'i, S: Sheet<'i>, R: Threads + Wait + Sync>(
     match way {
         Way::Reports => reports::play_reports(story, small, script.opening),
         Way::Written => reports::play_written(story, small, script.opening),
+        Way::Findings => findings::play_findings(story, small, script.opening),
+        Way::Weeks => findings::play_weeks(story, small, script.opening),
+        Way::Page => findings::play_page(story, small, script.opening),
         Way::Lines | Way::Placement | Way::Accepted => sheets::play::<S>(story, small, way, script),
-        Way::Rows => sheets::play_rows(story, small, script),
+        Way::Rows => sheets::tell_rows(story, small, script.lines),
         Way::Draft | Way::LongDraft => drafts::play::<S>(story, small, way),
         Way::Step | Way::Run => desks::play::<S>(story, small, way, script),
         Way::Text => scripts::play_script::<S>(story, small, script),
-        Way::Devices => scripts::play_devices::<S>(story, small, script),
-        Way::Audit => {
-            journals::audit_text::<S>(story, small, script.opening, script.lines.as_bytes())
-        }
+        Way::Devices => scripts::play_devices::<S>(story, small, script.lines),
+        Way::Audit => journals::read_text::<S>(
+            story,
+            small,
+            script.opening,
+            script.lines.as_bytes(),
+            false,
+        ),
+        Way::Left => journals::read_text::<S>(
+            story,
+            small,
+            script.opening,
+            script.lines.as_bytes(),
+            true,
+        ),
         Way::Opening => shared::tell_opening::<S>(story, small, script.opening),
-        Way::Crew => crews::play(story, rt, small, script),
+        Way::Crew => crews::play(story, rt, small, script.lines),
         Way::Cut => cuts::cut(story, small),
         Way::Counts => cuts::false_counts(story, small),
         Way::Transfers => transfers::play_texts(story),
@@ -126,42 +172,26 @@ fn play_once<R: Threads + Wait + Sync>(
     }
 }
 
-/// Plays a case in one way, and once more where a call of it wanted memory.
-fn play_twice<R: Threads + Wait + Sync>(
+/// Plays a script in some ways, in each once more where a call wanted memory.
+fn play_ways<R: Threads + Wait + Sync>(
     story: &mut Story,
     rt: &R,
     small: &Instance,
-    play: &Play,
-    script: &Script,
+    script: &mut Script,
+    plays: &[Play],
 ) {
-    let here = story.len();
-    play_once(story, rt, small, play, script);
-    if story.takes_back(here) {
-        play_once(story, rt, small, play, script);
-    }
-}
-
-/// Plays a case in all its ways.
-fn play_case<R: Threads + Wait + Sync>(
-    story: &mut Story,
-    rt: &R,
-    small: &Instance,
-    lectures: &Lectures,
-    case: &Case,
-) {
-    if !case.name.is_empty() {
-        story.say(case.name);
-    }
-    let mut script = Script::new(lectures.of(&case.opening), case.lines, case.drops);
     let (mut from, mut to) = (0, 0);
-    for one in case.plays {
+    for play in plays {
         let here = story.len();
-        play_twice(story, rt, small, one, &script);
-        if one.called.is_empty() {
+        play_once(story, rt, small, play, script);
+        if story.takes_back(here) {
+            play_once(story, rt, small, play, script);
+        }
+        if play.called.is_empty() {
             (from, to) = (here, story.len());
             script.note(here, story.marked(), to);
         } else {
-            story.compare(from, to, here, one.called);
+            story.compare(from, to, here, play.called);
         }
     }
 }
@@ -175,6 +205,17 @@ pub(crate) fn play_cases<R: Threads + Wait + Sync>(
     cases: &[Case],
 ) {
     for case in cases {
-        play_case(story, rt, small, lectures, case);
+        if !case.name.is_empty() {
+            story.say(case.name);
+        }
+        let mut script = Script {
+            opening: lectures.of(&case.opening),
+            lines: case.lines,
+            drops: case.drops,
+            answers: 0,
+            end: 0,
+            all: 0,
+        };
+        play_ways(story, rt, small, &mut script, case.plays);
     }
 }

@@ -41,42 +41,33 @@ fn tell_journal(
     story.read(fault, JournalFault::NoMemory, fit, words, at);
 }
 
-/// The small instance, cut behind each of its words.
-fn cut_instance(story: &mut Story) {
+/// The small instance, its solution and a journal, cut behind each of their words. Behind each fourth one the solution ends
+/// with a lecture.
+pub(crate) fn cut(story: &mut Story, small: &Instance) {
     story.bytes(b"instance");
     for at in 1..=46 {
         let text = front(SMALL.as_bytes(), at - 1);
         tell_instance(story, text, ReadFault::Missing(at), "missing", at);
     }
-}
-
-/// Its solution, cut behind each of its words: behind each fourth one it ends with a lecture.
-fn cut_solution(story: &mut Story, small: &Instance) {
     story.bytes(b"\nsolution");
     for at in 1..=21 {
         let text = front(SOLUTION.as_bytes(), at - 1);
         story.bytes(b" ");
         let fault = read_solution(story.alloc(), small, text).err();
-        let fit = SolutionFault::Cut(at);
-        story.read(fault, SolutionFault::NoMemory, fit, "cut", at);
+        story.read(
+            fault,
+            SolutionFault::NoMemory,
+            SolutionFault::Cut(at),
+            "cut",
+            at,
+        );
     }
-}
-
-/// A journal, cut behind each of its words.
-fn cut_journal(story: &mut Story, small: &Instance) {
     story.bytes(b"\njournal");
     for at in 1..=15 {
         let text = front(JOURNAL.as_bytes(), at - 1);
         tell_journal(story, small, text, JournalFault::Missing(at), "missing", at);
     }
     story.say("");
-}
-
-/// The small instance, its solution and a journal, cut behind each of their words.
-pub(crate) fn cut(story: &mut Story, small: &Instance) {
-    cut_instance(story);
-    cut_solution(story, small);
-    cut_journal(story, small);
 }
 
 /// The text of the small instance with a byte behind it that is no text.
@@ -87,22 +78,23 @@ fn spoilt(alloc: Global) -> Result<Vec<u8>, AllocError> {
     Ok(text)
 }
 
-/// An instance that is no text behind its end.
-fn tell_spoilt(story: &mut Story) {
+/// Counts that promise what does not come, and a byte that is no text behind the end.
+pub(crate) fn false_counts(story: &mut Story, small: &Instance) {
+    story.bytes(b"instance");
+    let fit = ReadFault::UnknownCourse(45);
+    tell_instance(
+        story,
+        MANY_CONSTRAINTS.as_bytes(),
+        fit,
+        "unknown course",
+        45,
+    );
+    let fit = ReadFault::UnknownCourse(41);
+    tell_instance(story, MANY_MEMBERS.as_bytes(), fit, "unknown course", 41);
     match spoilt(story.alloc()) {
         Ok(text) => tell_instance(story, &text, ReadFault::NotText(220), "not text", 220),
         Err(AllocError) => story.no_memory(),
     }
-}
-
-/// Counts that promise what does not come, and a byte that is no text behind the end.
-pub(crate) fn false_counts(story: &mut Story, small: &Instance) {
-    story.bytes(b"instance");
-    for (text, at) in [(MANY_CONSTRAINTS, 45), (MANY_MEMBERS, 41)] {
-        let fit = ReadFault::UnknownCourse(at);
-        tell_instance(story, text.as_bytes(), fit, "unknown course", at);
-    }
-    tell_spoilt(story);
     story.bytes(b"\njournal");
     let fit = JournalFault::BadWord(3);
     tell_journal(story, small, b"journal 999999999 END.", fit, "bad word", 3);

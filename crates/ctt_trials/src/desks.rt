@@ -4,10 +4,9 @@ ghost use Rattle.std.specs.Prelude.{◌↔◌, IsTrue, length};
 ghost use Rattle.std.specs.List.{AllByRecursion as Each};
 ghost use Rattle.ctt_core.specs.Runs.{EventFits};
 
-use crate::cases::Way;
+use crate::cases::{Script, Way};
 use crate::journals::tell_journal;
 use crate::lists::add;
-use crate::shared::Script;
 use crate::story::Story;
 use ctt_board::Sheet;
 use ctt_core::{Answer, Desk, DeskFault, Event};
@@ -32,24 +31,14 @@ pub(crate) fn tell_desk<'i, S: Sheet<'i>>(
 
 /// A desk with these lectures, for as many planners as a script has.
 fn desk_with<'i, S: Sheet<'i>>(
-    story: &mut Story,
+    alloc: Global,
     small: &'i Instance,
     opening: &[Placed],
-) -> Option<Desk<'i, S, KeepAll>> {
+) -> Result<Desk<'i, S, KeepAll>, DeskFault> {
     if !is_timetable(small, opening) {
-        return None;
+        return Err(DeskFault::NoMemory);
     }
-    match Desk::new(story.alloc(), small, opening, PLANNERS) {
-        Ok(desk) => Some(desk),
-        Err(DeskFault::NoMemory) => {
-            story.no_memory();
-            None
-        }
-        Err(DeskFault::Unlawful(at, fault)) => {
-            story.unlawful(small, at, fault);
-            None
-        }
-    }
+    Desk::new(alloc, small, opening, PLANNERS)
 }
 
 /// Whether an event is one of a desk.
@@ -67,22 +56,7 @@ fn step_once<'i, S: Sheet<'i>>(desk: &mut Desk<'i, S, KeepAll>, event: &Event) -
     desk.step(*event)
 }
 
-/// Tells what a desk answers to an event. Where that is want of memory, it is asked again.
-fn tell_answer<'i, S: Sheet<'i>>(
-    story: &mut Story,
-    small: &'i Instance,
-    desk: &mut Desk<'i, S, KeepAll>,
-    event: &Event,
-) {
-    let mut answer = step_once(desk, event);
-    if matches!(answer, Answer::NoMemory) {
-        story.call_again();
-        answer = step_once(desk, event);
-    }
-    story.answer(small, &answer);
-}
-
-/// Answers a script line by line.
+/// Answers a script line by line. Where an answer is want of memory, the desk is asked again.
 fn answer_lines<'i, S: Sheet<'i>>(
     story: &mut Story,
     small: &'i Instance,
@@ -91,7 +65,14 @@ fn answer_lines<'i, S: Sheet<'i>>(
 ) {
     for line in Lines::new(script.as_bytes()) {
         match read_line(small, line) {
-            Some(event) => tell_answer(story, small, desk, &event),
+            Some(event) => {
+                let mut answer = step_once(desk, &event);
+                if matches!(answer, Answer::NoMemory) {
+                    story.call_again();
+                    answer = step_once(desk, &event);
+                }
+                story.answer(small, &answer);
+            }
             None if line.is_empty() => {}
             None => story.say("bad line"),
         }
@@ -140,32 +121,6 @@ fn events_fit<'i, S: Sheet<'i>>(desk: &Desk<'i, S, KeepAll>, events: &[Event]) -
     all_fit(events, desk.instance(), desk.planners())
 }
 
-/// What a desk answers to events of it at once.
-fn run_once<'i, S: Sheet<'i>>(
-    desk: &mut Desk<'i, S, KeepAll>,
-    events: &[Event],
-) -> Result<Vec<Answer>, NoMemory> {
-    if !events_fit(desk, events) {
-        return Err(NoMemory);
-    }
-    desk.run(events)
-}
-
-/// What a desk answers to events at once. Where that is want of memory, it is asked again.
-fn answers<'i, S: Sheet<'i>>(
-    story: &mut Story,
-    desk: &mut Desk<'i, S, KeepAll>,
-    events: &[Event],
-) -> Result<Vec<Answer>, NoMemory> {
-    match run_once(desk, events) {
-        Ok(answers) => Ok(answers),
-        Err(NoMemory) => {
-            story.call_again();
-            run_once(desk, events)
-        }
-    }
-}
-
 /// Tells what a desk answers to events at once. Where an event wants memory those behind it meet another desk than they
 /// should: then the case is played again.
 fn tell_answers<'i, S: Sheet<'i>>(
@@ -174,7 +129,10 @@ fn tell_answers<'i, S: Sheet<'i>>(
     desk: &mut Desk<'i, S, KeepAll>,
     events: &[Event],
 ) {
-    let Ok(answers) = answers(story, desk, events) else {
+    if !events_fit(desk, events) {
+        return story.say("unfit");
+    }
+    let Ok(answers) = desk.run(events) else {
         return story.no_memory();
     };
     for answer in &answers {
@@ -182,34 +140,40 @@ fn tell_answers<'i, S: Sheet<'i>>(
     }
 }
 
-/// Answers a script at once.
-fn answer_at_once<'i, S: Sheet<'i>>(
+/// Plays a script on a desk event by event, or at once, and tells what the desk then has. The place where its answers end in
+/// what is told is marked.
+fn play_at<'i, S: Sheet<'i>>(
     story: &mut Story,
     small: &'i Instance,
     desk: &mut Desk<'i, S, KeepAll>,
-    script: &str,
+    way: &Way,
+    script: &Script,
 ) {
-    match asked_in::<Event>(story.alloc(), small, script) {
-        Ok(events) => tell_answers(story, small, desk, &events),
-        Err(AllocError) => story.no_memory(),
+    if matches!(way, Way::Run) {
+        match asked_in::<Event>(story.alloc(), small, script.lines) {
+            Ok(events) => tell_answers(story, small, desk, &events),
+            Err(AllocError) => story.no_memory(),
+        }
+    } else {
+        answer_lines(story, small, desk, script.lines);
     }
+    story.mark();
+    tell_desk(story, small, script.opening, desk);
 }
 
-/// Plays a script event by event, or at once. The place where its answers end in what is told is marked.
+/// Plays a script event by event, or at once.
 pub(crate) fn play<'i, S: Sheet<'i>>(
     story: &mut Story,
     small: &'i Instance,
     way: &Way,
     script: &Script,
 ) {
-    if let Some(mut desk) = desk_with::<S>(story, small, script.opening) {
-        if matches!(way, Way::Run) {
-            answer_at_once(story, small, &mut desk, script.lines);
-        } else {
-            answer_lines(story, small, &mut desk, script.lines);
+    match desk_with::<S>(story.alloc(), small, script.opening) {
+        Ok(mut desk) => {
+            play_at(story, small, &mut desk, way, script);
+            let_go(desk);
         }
-        story.mark();
-        tell_desk(story, small, script.opening, &desk);
-        let_go(desk);
+        Err(DeskFault::Unlawful(at, fault)) => story.unlawful(small, at, fault),
+        Err(DeskFault::NoMemory) => story.no_memory(),
     }
 }

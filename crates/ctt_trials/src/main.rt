@@ -10,6 +10,7 @@ mod cuts;
 mod desks;
 mod devices;
 mod drafts;
+mod findings;
 mod journals;
 mod lists;
 mod reports;

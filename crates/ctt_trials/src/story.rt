@@ -1,7 +1,7 @@
 //! What is told of the trials, and how many calls were made again.
 
 ghost use Rattle.std.specs.Prelude.{◌↔◌, IsTrue};
-ghost use Rattle.ctt_script.specs.Entries.{AnswerFits, RowFits};
+ghost use Rattle.ctt_script.specs.Entries.{AnswerFits};
 
 use ctt_core::Answer;
 use ctt_devices::{Sink, put_all};
@@ -20,7 +20,6 @@ const LINE: usize = 4_096;
 /// A text, with room for all that is told, so that telling takes no memory.
 #[derive(Drop)]
 pub(crate) struct Story {
-    alloc: Global,
     text: Vec<u8>,
     line: String,
     marked: usize,
@@ -29,23 +28,14 @@ pub(crate) struct Story {
     is_lost: bool,
 }
 
-/// Whether the number of a row is one of the instance.
-fn row_fits(instance: &Instance, row: &Row) -> bool
-    ensures { IsTrue result ↔ RowFits instance.now row.now }
-{
-    match row {
-        Row::Course(course) => course.fits(instance),
-        Row::Slot(slot) => slot.fits(instance),
-    }
-}
-
 /// Whether an answer can be written.
 fn answer_fits(instance: &Instance, answer: &Answer) -> bool
     ensures { IsTrue result ↔ AnswerFits instance.now answer.now }
 {
     match answer {
         Answer::Replied(reply) => reply.fits(instance),
-        Answer::Stale(row) => row_fits(instance, row),
+        Answer::Stale(Row::Course(course)) => course.fits(instance),
+        Answer::Stale(Row::Slot(slot)) => slot.fits(instance),
         Answer::Opened
         | Answer::AlreadyOpen
         | Answer::NoDraft
@@ -62,7 +52,6 @@ impl Story {
         let text = Vec::with_capacity(alloc, ROOM).ok()?;
         let line = String::with_capacity(alloc, LINE).ok()?;
         Some(Story {
-            alloc,
             text,
             line,
             marked: 0,
@@ -73,7 +62,7 @@ impl Story {
     }
 
     pub(crate) fn alloc(&self) -> Global {
-        self.alloc
+        *self.text.allocator()
     }
 
     /// How many bytes are told.
@@ -205,7 +194,8 @@ impl Story {
         }
     }
 
-    /// Tells how a text was read: that it was, or by its words and its place the fault that it has to have.
+    /// Tells how a text was read: that it was, or by its words and its place the fault that it has to have. Of another
+    /// fault nothing is told.
     pub(crate) fn read<F: PartialEq + Drop>(
         &mut self,
         fault: Option<F>,
@@ -221,8 +211,6 @@ impl Story {
                     self.no_memory();
                 } else if fault == fit {
                     self.pair(words, at);
-                } else {
-                    self.bytes(b"another fault");
                 }
             }
         }

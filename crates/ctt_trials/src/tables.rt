@@ -97,6 +97,19 @@ const AUDIT: &[Play] = plays![
     Grid Audit "",
 ];
 
+/// What a journal leaves on both kinds of sheets.
+const LEFT: &[Play] = plays![
+    List Left "",
+    Grid Left "on the grid sheet",
+];
+
+/// What is found of a timetable, and how it looks.
+const FOUND: &[Play] = plays![
+    Grid Findings "",
+    Grid Weeks "",
+    Grid Page "",
+];
+
 /// An opening that is refused, in each way.
 const UNLAWFUL: &[Play] = plays![
     Grid Step "",
@@ -164,6 +177,14 @@ pub(crate) const CASES: &[Case] = &[
         drops: true,
         ..case!("left open, or dropped", Nothing, LEFT_OPEN, DESK)
     },
+    case!("refreshed with nothing new", Nothing, NOTHING_NEW, DESK),
+    case!("stale behind a refresh", Nothing, STALE_AGAIN, DESK),
+    case!(
+        "changed back before a refresh",
+        Nothing,
+        BACK_REFRESHED,
+        DESK
+    ),
     case!("bad lines", Nothing, BAD_LINES, BAD),
     case!(
         "a drop and a placement in one slot",
@@ -174,7 +195,12 @@ pub(crate) const CASES: &[Case] = &[
     case!("the drop first", WithoutTop, DROP_FIRST, DESK),
     case!("a refused edit", WithoutTop, REFUSED, DESK),
     case!("another reply", WithoutTop, OTHER_JOURNAL, AUDIT),
+    case!("what a journal leaves", WithoutTop, TOP_JOURNAL, LEFT),
+    case!("what another reply leaves", WithoutTop, OTHER_JOURNAL, LEFT),
     case!("an unlawful opening", Clash, JOURNAL, UNLAWFUL),
+    case!("what an unlawful opening leaves", Clash, JOURNAL, LEFT),
+    case!("what is found of the solution", Solution, "", FOUND),
+    case!("what is found of a clash", Clash, "", FOUND),
     case!("a crew of one", Nothing, CREW, A_CREW),
     case!(
         "a crew whose draft is left open",

@@ -1,7 +1,7 @@
 use Rattle.std.proofs.Common.{rules, ◌≡◌, false}
 use Rattle.std.specs.List.{AllByRecursion as Each}
 use Rattle.ctt_text.specs.Timetable.{Fits, IsTimetable}
-use Rattle.ctt_trials.proofs.scripts.run_once.Goals as goal
+use Rattle.ctt_trials.proofs.scripts.run.Goals as goal
 
 pub run_script-ran-requires : goal.run_script-ran-requires
 run_script-ran-requires g c κs =
