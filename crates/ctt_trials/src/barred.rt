@@ -3,7 +3,6 @@
 use crate::cases::play_cases;
 use crate::story::Story;
 use crate::tables::{BARRED, OTHER_BARRED};
-use crate::texts::Lectures;
 use ctt_text::{BarredFault, Instance, read_barred};
 use std::marker::Sync;
 use std::sync::Wait;
@@ -98,9 +97,9 @@ fn tell_read(story: &mut Story, small: &mut Instance, files: &[File]) {
     for file in files {
         let fault = read(story, small, file.text);
         story.read(
-            fault,
-            BarredFault::NoMemory,
-            file.fault,
+            &fault,
+            &BarredFault::NoMemory,
+            &file.fault,
             file.words,
             file.at,
         );
@@ -109,15 +108,10 @@ fn tell_read(story: &mut Story, small: &mut Instance, files: &[File]) {
 }
 
 /// What is played before and behind files of barred rooms.
-pub(crate) fn play<R: Threads + Wait + Sync>(
-    story: &mut Story,
-    rt: &R,
-    small: &mut Instance,
-    lectures: &Lectures,
-) {
+pub(crate) fn play<R: Threads + Wait + Sync>(story: &mut Story, rt: &R, small: &mut Instance) {
     story.say("files of barred rooms");
     tell_read(story, small, FILES);
-    play_cases(story, rt, small, lectures, BARRED);
+    play_cases(story, rt, small, BARRED);
     tell_read(story, small, OTHER_FILES);
-    play_cases(story, rt, small, lectures, OTHER_BARRED);
+    play_cases(story, rt, small, OTHER_BARRED);
 }

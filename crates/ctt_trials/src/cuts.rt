@@ -1,10 +1,9 @@
 //! Texts that are cut short, and texts that count falsely.
 
 use crate::story::Story;
-use crate::texts::{JOURNAL, MANY_CONSTRAINTS, MANY_MEMBERS, SMALL, SOLUTION};
+use crate::texts::{JOURNAL, MANY_CONSTRAINTS, MANY_MEMBERS, SMALL, SOLUTION, SPOILT};
 use ctt_script::{JournalFault, read_journal};
 use ctt_text::{Instance, ReadFault, SolutionFault, read_instance, read_solution};
-use std::alloc::{AllocError, Global};
 
 /// The front of a text that has so many words. Behind each of its words stands one blank.
 fn front(text: &[u8], words: u64) -> &[u8] {
@@ -24,7 +23,7 @@ fn front(text: &[u8], words: u64) -> &[u8] {
 fn tell_instance(story: &mut Story, text: &[u8], fit: ReadFault, words: &str, at: u64) {
     story.bytes(b" ");
     let fault = read_instance(story.alloc(), text).err();
-    story.read(fault, ReadFault::NoMemory, fit, words, at);
+    story.read(&fault, &ReadFault::NoMemory, &fit, words, at);
 }
 
 /// Reads the text of a journal, and tells how that ends.
@@ -38,12 +37,12 @@ fn tell_journal(
 ) {
     story.bytes(b" ");
     let fault = read_journal(story.alloc(), small, text).err();
-    story.read(fault, JournalFault::NoMemory, fit, words, at);
+    story.read(&fault, &JournalFault::NoMemory, &fit, words, at);
 }
 
 /// The small instance, its solution and a journal, cut behind each of their words. Behind each fourth one the solution ends
 /// with a lecture.
-pub(crate) fn cut(story: &mut Story, small: &Instance) {
+fn cut(story: &mut Story, small: &Instance) {
     story.bytes(b"instance");
     for at in 1..=46 {
         let text = front(SMALL.as_bytes(), at - 1);
@@ -55,9 +54,9 @@ pub(crate) fn cut(story: &mut Story, small: &Instance) {
         story.bytes(b" ");
         let fault = read_solution(story.alloc(), small, text).err();
         story.read(
-            fault,
-            SolutionFault::NoMemory,
-            SolutionFault::Cut(at),
+            &fault,
+            &SolutionFault::NoMemory,
+            &SolutionFault::Cut(at),
             "cut",
             at,
         );
@@ -70,16 +69,8 @@ pub(crate) fn cut(story: &mut Story, small: &Instance) {
     story.say("");
 }
 
-/// The text of the small instance with a byte behind it that is no text.
-fn spoilt(alloc: Global) -> Result<Vec<u8>, AllocError> {
-    let mut text = Vec::with_capacity(alloc, 512)?;
-    text.extend_from_slice(SMALL.as_bytes())?;
-    text.extend_from_slice(&[255])?;
-    Ok(text)
-}
-
 /// Counts that promise what does not come, and a byte that is no text behind the end.
-pub(crate) fn false_counts(story: &mut Story, small: &Instance) {
+fn false_counts(story: &mut Story, small: &Instance) {
     story.bytes(b"instance");
     let fit = ReadFault::UnknownCourse(45);
     tell_instance(
@@ -91,12 +82,16 @@ pub(crate) fn false_counts(story: &mut Story, small: &Instance) {
     );
     let fit = ReadFault::UnknownCourse(41);
     tell_instance(story, MANY_MEMBERS.as_bytes(), fit, "unknown course", 41);
-    match spoilt(story.alloc()) {
-        Ok(text) => tell_instance(story, &text, ReadFault::NotText(220), "not text", 220),
-        Err(AllocError) => story.no_memory(),
-    }
+    tell_instance(story, SPOILT, ReadFault::NotText(220), "not text", 220);
     story.bytes(b"\njournal");
     let fit = JournalFault::BadWord(3);
     tell_journal(story, small, b"journal 999999999 END.", fit, "bad word", 3);
     story.say("");
+}
+
+/// Texts that are cut, and texts that count falsely.
+pub(crate) fn play(story: &mut Story, small: &Instance) {
+    cut(story, small);
+    story.say("counted falsely");
+    false_counts(story, small);
 }

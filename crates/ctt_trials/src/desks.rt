@@ -4,7 +4,7 @@ ghost use Rattle.std.specs.Prelude.{◌↔◌, IsTrue, length};
 ghost use Rattle.std.specs.List.{AllByRecursion as Each};
 ghost use Rattle.ctt_core.specs.Runs.{EventFits};
 
-use crate::cases::{Script, Way};
+use crate::cases::{On, Script};
 use crate::journals::tell_journal;
 use crate::lists::add;
 use crate::story::Story;
@@ -12,7 +12,7 @@ use ctt_board::Sheet;
 use ctt_core::{Answer, Desk, DeskFault, Event};
 use ctt_draft::KeepAll;
 use ctt_script::{Lines, PLANNERS, read_line};
-use ctt_text::{Instance, NoMemory, Placed, is_timetable, let_go};
+use ctt_text::{Instance, NoMemory, let_go};
 use std::alloc::{AllocError, Global};
 
 /// How many events a script has at most.
@@ -21,24 +21,11 @@ const EVENTS: usize = 64;
 /// Tells the lectures, the cost and the journal of a desk.
 pub(crate) fn tell_desk<'i, S: Sheet<'i>>(
     story: &mut Story,
-    small: &'i Instance,
-    opening: &[Placed],
+    script: &Script<'i>,
     desk: &Desk<'i, S, KeepAll>,
 ) {
-    story.timetable(small, desk.list(), desk.cost());
-    tell_journal::<S>(story, small, opening, desk.journal());
-}
-
-/// A desk with these lectures, for as many planners as a script has.
-fn desk_with<'i, S: Sheet<'i>>(
-    alloc: Global,
-    small: &'i Instance,
-    opening: &[Placed],
-) -> Result<Desk<'i, S, KeepAll>, DeskFault> {
-    if !is_timetable(small, opening) {
-        return Err(DeskFault::NoMemory);
-    }
-    Desk::new(alloc, small, opening, PLANNERS)
+    story.timetable(script.small, desk.list(), desk.cost());
+    tell_journal::<S>(story, script, desk.journal());
 }
 
 /// Whether an event is one of a desk.
@@ -59,19 +46,18 @@ fn step_once<'i, S: Sheet<'i>>(desk: &mut Desk<'i, S, KeepAll>, event: &Event) -
 /// Answers a script line by line. Where an answer is want of memory, the desk is asked again.
 fn answer_lines<'i, S: Sheet<'i>>(
     story: &mut Story,
-    small: &'i Instance,
+    script: &Script<'i>,
     desk: &mut Desk<'i, S, KeepAll>,
-    script: &str,
 ) {
-    for line in Lines::new(script.as_bytes()) {
-        match read_line(small, line) {
+    for line in Lines::new(script.lines.as_bytes()) {
+        match read_line(script.small, line) {
             Some(event) => {
                 let mut answer = step_once(desk, &event);
                 if matches!(answer, Answer::NoMemory) {
                     story.call_again();
                     answer = step_once(desk, &event);
                 }
-                story.answer(small, &answer);
+                story.answer(script.small, &answer);
             }
             None if line.is_empty() => {}
             None => story.say("bad line"),
@@ -92,14 +78,10 @@ impl OfLine for Event {
 }
 
 /// What the lines of a script ask for, with nothing for a bad line.
-fn asked_in<T: OfLine>(
-    alloc: Global,
-    small: &Instance,
-    script: &str,
-) -> Result<Vec<T>, AllocError> {
+fn asked_in<T: OfLine>(alloc: Global, script: &Script) -> Result<Vec<T>, AllocError> {
     let mut list = Vec::with_capacity(alloc, EVENTS)?;
-    for line in Lines::new(script.as_bytes()) {
-        if let Some(one) = T::of_line(small, line) {
+    for line in Lines::new(script.lines.as_bytes()) {
+        if let Some(one) = T::of_line(script.small, line) {
             add(&mut list, one)?;
         }
     }
@@ -132,11 +114,13 @@ fn tell_answers<'i, S: Sheet<'i>>(
     if !events_fit(desk, events) {
         return story.say("unfit");
     }
-    let Ok(answers) = desk.run(events) else {
-        return story.no_memory();
-    };
-    for answer in &answers {
-        story.answer(small, answer);
+    match desk.run(events) {
+        Ok(answers) => {
+            for answer in &answers {
+                story.answer(small, answer);
+            }
+        }
+        Err(NoMemory) => story.no_memory(),
     }
 }
 
@@ -144,36 +128,30 @@ fn tell_answers<'i, S: Sheet<'i>>(
 /// what is told is marked.
 fn play_at<'i, S: Sheet<'i>>(
     story: &mut Story,
-    small: &'i Instance,
+    on: &On,
+    script: &Script<'i>,
     desk: &mut Desk<'i, S, KeepAll>,
-    way: &Way,
-    script: &Script,
 ) {
-    if matches!(way, Way::Run) {
-        match asked_in::<Event>(story.alloc(), small, script.lines) {
-            Ok(events) => tell_answers(story, small, desk, &events),
+    if matches!(on, On::Run) {
+        match asked_in::<Event>(story.alloc(), script) {
+            Ok(events) => tell_answers(story, script.small, desk, &events),
             Err(AllocError) => story.no_memory(),
         }
     } else {
-        answer_lines(story, small, desk, script.lines);
+        answer_lines(story, script, desk);
     }
-    story.mark();
-    tell_desk(story, small, script.opening, desk);
+    story.marked = story.len();
+    tell_desk(story, script, desk);
 }
 
 /// Plays a script event by event, or at once.
-pub(crate) fn play<'i, S: Sheet<'i>>(
-    story: &mut Story,
-    small: &'i Instance,
-    way: &Way,
-    script: &Script,
-) {
-    match desk_with::<S>(story.alloc(), small, script.opening) {
+pub(crate) fn play<'i, S: Sheet<'i>>(story: &mut Story, on: &On, script: &Script<'i>) {
+    match Desk::<S, KeepAll>::new(story.alloc(), script.small, script.opening, PLANNERS) {
         Ok(mut desk) => {
-            play_at(story, small, &mut desk, way, script);
+            play_at(story, on, script, &mut desk);
             let_go(desk);
         }
-        Err(DeskFault::Unlawful(at, fault)) => story.unlawful(small, at, fault),
+        Err(DeskFault::Unlawful(at, fault)) => story.unlawful(script.small, at, fault),
         Err(DeskFault::NoMemory) => story.no_memory(),
     }
 }

@@ -3,7 +3,7 @@
 ghost use Rattle.std.specs.Prelude.{◌≡◌, ◌↔◌, IsTrue, IfOk};
 ghost use Rattle.ctt_edits.specs.Calls.{CallFits};
 
-use crate::cases::Way;
+use crate::cases::On;
 use crate::sheets::{call_of, tell_cells, tell_sheet};
 use crate::story::Story;
 use ctt_board::{Cell, Change, Sheet, Timetable};
@@ -197,12 +197,12 @@ fn place_top<S: Timetable>(sheet: &mut S)
 }
 
 /// A draft on an empty sheet, beside another sheet, or a long one.
-pub(crate) fn play<'i, S: Sheet<'i>>(story: &mut Story, small: &'i Instance, way: &Way) {
+pub(crate) fn play<'i, S: Sheet<'i>>(story: &mut Story, on: &On, small: &'i Instance) {
     let alloc = story.alloc();
     let Ok(mut sheet) = empty_sheet::<S>(alloc, small) else {
         return story.no_memory();
     };
-    if matches!(way, Way::LongDraft) {
+    if matches!(on, On::LongDraft) {
         return long_draft(story, &mut sheet);
     }
     let Ok(mut other) = empty_sheet::<S>(alloc, small) else {

@@ -6,12 +6,13 @@ ghost use Rattle.ctt_edits.specs.Fitting.{IsShortReply};
 ghost use Rattle.ctt_core.specs.Entries.{EntryFits};
 ghost use Rattle.ctt_script.specs.Entries.{IsEntry, IsShort};
 
+use crate::cases::{On, Script};
 use crate::story::Story;
 use ctt_board::Sheet;
 use ctt_core::{JournalEntry, NoList, Verdict, audit, list_after};
 use ctt_edits::Reply;
 use ctt_script::{read_journal, write_journal};
-use ctt_text::{Instance, NoMemory, Placed, is_timetable};
+use ctt_text::{Instance, NoMemory};
 
 /// Whether a reply can be written.
 fn is_short_reply(reply: &Reply) -> bool
@@ -52,48 +53,55 @@ fn tell_found(story: &mut Story, small: &Instance, found: Verdict) {
     }
 }
 
-/// Reads the text of a journal, and tells what is found of it, or the timetable that it leaves.
-pub(crate) fn read_text<'i, S: Sheet<'i>>(
+/// Tells what an audit of entries finds, or the timetable that they leave.
+fn tell_entries<'i, S: Sheet<'i>>(
     story: &mut Story,
-    small: &'i Instance,
-    opening: &[Placed],
-    text: &[u8],
-    is_left: bool,
-) {
-    if !is_timetable(small, opening) {
-        return story.say("unfit");
-    }
-    let Ok(entries) = read_journal(story.alloc(), small, text) else {
-        return story.no_memory();
-    };
-    if is_left {
-        match list_after::<S>(story.alloc(), small, opening, &entries) {
-            Ok(list) => story.lectures(small, Ok(list)),
-            Err(NoList::Found(found)) => tell_found(story, small, found),
+    on: &On,
+    script: &Script<'i>,
+    entries: &[JournalEntry],
+)
+    requires { Each (EntryFits script.now.small.now) entries.now }
+{
+    if matches!(on, On::Left) {
+        match list_after::<S>(story.alloc(), script.small, script.opening, entries) {
+            Ok(list) => story.lectures(script.small, Ok(list)),
+            Err(NoList::Found(found)) => tell_found(story, script.small, found),
             Err(NoList::NoMemory) => story.no_memory(),
         }
     } else {
-        match audit::<S>(story.alloc(), small, opening, &entries) {
-            Ok(found) => tell_found(story, small, found),
+        match audit::<S>(story.alloc(), script.small, script.opening, entries) {
+            Ok(found) => tell_found(story, script.small, found),
             Err(NoMemory) => story.no_memory(),
         }
+    }
+}
+
+/// Reads the text of a journal, and tells what an audit finds, or the timetable that it leaves.
+pub(crate) fn read_text<'i, S: Sheet<'i>>(
+    story: &mut Story,
+    on: &On,
+    script: &Script<'i>,
+    text: &[u8],
+) {
+    match read_journal(story.alloc(), script.small, text) {
+        Ok(entries) => tell_entries::<S>(story, on, script, &entries),
+        Err(_fault) => story.no_memory(),
     }
 }
 
 /// Tells the journal of entries, and what is found of it.
 pub(crate) fn tell_journal<'i, S: Sheet<'i>>(
     story: &mut Story,
-    small: &'i Instance,
-    opening: &[Placed],
+    script: &Script<'i>,
     entries: &[JournalEntry],
 ) {
-    if !are_entries(small, entries) || entries.len() > 999_999_999 {
+    if !are_entries(script.small, entries) || entries.len() > 999_999_999 {
         return story.say("unfit");
     }
-    match write_journal(story.alloc(), small, entries) {
+    match write_journal(story.alloc(), script.small, entries) {
         Ok(text) => {
             story.bytes(&text);
-            read_text::<S>(story, small, opening, &text, false);
+            read_text::<S>(story, &On::Audit, script, &text);
         }
         Err(NoMemory) => story.no_memory(),
     }

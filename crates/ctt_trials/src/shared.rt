@@ -9,7 +9,7 @@ use crate::story::Story;
 use crate::turns::{Here, LOOKS, Part, VIEWER, answer_lines, leave, sit};
 use ctt_board::{GridSheet, ListSheet, Sheet, Timetable};
 use ctt_desk::{Named, Naming, Opened, Planner, SharedDesk, SharedFault};
-use ctt_text::{Instance, Placed, is_timetable, let_go};
+use ctt_text::let_go;
 use std::alloc::Global;
 use std::marker::{Brand, PhantomData};
 use std::sync::Wait;
@@ -18,17 +18,10 @@ use std::sync::Wait;
 const PLANNERS: u16 = 4;
 
 /// The opening of a desk.
-fn opened<'i, S: Sheet<'i>>(
-    alloc: Global,
-    small: &'i Instance,
-    opening: &[Placed],
-) -> Result<Opened<S>, SharedFault>
-    ensures { IfOk result (λ opened. opened.problem ≡ small.now) }
+fn opened<'i, S: Sheet<'i>>(alloc: Global, script: &Script<'i>) -> Result<Opened<S>, SharedFault>
+    ensures { IfOk result (λ opened. opened.problem ≡ script.now.small.now) }
 {
-    if !is_timetable(small, opening) {
-        return Err(SharedFault::NoMemory);
-    }
-    Opened::<S>::new(alloc, small, opening)
+    Opened::<S>::new(alloc, script.small, script.opening)
 }
 
 /// The planners play a script at their desk, and look at what it has left. They come back from their seats.
@@ -38,7 +31,7 @@ fn play_at<'i, S: Sheet<'i>, J: Naming, R: Wait>(
     desk: &SharedDesk<S, J>,
     here: &Here<'i, J>,
     planners: Vec<Planner<S, J>>,
-    script: &Script,
+    script: &Script<'i>,
 ) -> Vec<Planner<S, J>> {
     let mut seats = sit(story, planners);
     let from = story.len();
@@ -48,7 +41,7 @@ fn play_at<'i, S: Sheet<'i>, J: Naming, R: Wait>(
         drops: script.drops,
     };
     answer_lines(story, rt, desk, here, &mut seats, &part);
-    story.compare(script.answers, script.end, from, "on a shared desk");
+    story.compare(story.answers, story.end, from, "on a shared desk");
     for part in LOOKS {
         answer_lines(story, rt, desk, here, &mut seats, part);
     }
@@ -70,18 +63,18 @@ fn close<'i, S: Sheet<'i>, J: Naming, R: Wait>(
     desk: SharedDesk<S, J>,
     here: &Here<'i, J>,
     planners: &mut [Planner<S, J>],
-    script: &Script,
+    script: &Script<'i>,
 ) {
     let from = story.len();
     match desk.close(rt, planners) {
         Ok(closed) => {
             story.timetable(here.small, closed.list(), closed.cost());
-            tell_journal::<S>(story, here.small, script.opening, closed.journal());
+            tell_journal::<S>(story, script, closed.journal());
             let_go(closed);
         }
         Err(closed) => let_go(closed),
     }
-    story.compare(script.end, script.all, from, "what it left");
+    story.compare(story.end, story.all, from, "what it left");
     tell_seen(story, planners);
 }
 
@@ -91,7 +84,7 @@ fn play_named<'i, S: Sheet<'i>, J: Naming, R: Wait>(
     rt: &R,
     named: Named<S, J>,
     here: &Here<'i, J>,
-    script: &Script,
+    script: &Script<'i>,
 ) {
     match SharedDesk::<S, J>::new(rt, named) {
         Ok((desk, all)) => {
@@ -109,14 +102,13 @@ fn named_on_list<'i, J: Naming, R: Wait>(
     rt: &R,
     opened: Opened<ListSheet<'i>>,
     count: u16,
-    small: &'i Instance,
-    script: &Script,
+    script: &Script<'i>,
 )
     requires named { IsNamed J.problem J.opening J.planners J.book opened count }
-    requires problem { opened.problem ≡ small.now }
+    requires problem { opened.problem ≡ script.now.small.now }
 {
     let here = Here {
-        small,
+        small: script.small,
         desk: PhantomData,
     };
     let named = Named {
@@ -128,9 +120,9 @@ fn named_on_list<'i, J: Naming, R: Wait>(
 }
 
 /// Plays a script on a desk of list sheets.
-pub(crate) fn on_list<R: Wait>(story: &mut Story, rt: &R, small: &Instance, script: &Script) {
-    match opened::<ListSheet>(story.alloc(), small, script.opening) {
-        Ok(opened) => named_on_list::<Brand, R>(story, rt, opened, PLANNERS, small, script),
+pub(crate) fn on_list<R: Wait>(story: &mut Story, rt: &R, script: &Script) {
+    match opened::<ListSheet>(story.alloc(), script) {
+        Ok(opened) => named_on_list::<Brand, R>(story, rt, opened, PLANNERS, script),
         Err(_fault) => story.no_memory(),
     }
 }
@@ -141,14 +133,13 @@ fn named_on_grid<'i, J: Naming, R: Wait>(
     rt: &R,
     opened: Opened<GridSheet<'i>>,
     count: u16,
-    small: &'i Instance,
-    script: &Script,
+    script: &Script<'i>,
 )
     requires named { IsNamed J.problem J.opening J.planners J.book opened count }
-    requires problem { opened.problem ≡ small.now }
+    requires problem { opened.problem ≡ script.now.small.now }
 {
     let here = Here {
-        small,
+        small: script.small,
         desk: PhantomData,
     };
     let named = Named {
@@ -160,25 +151,21 @@ fn named_on_grid<'i, J: Naming, R: Wait>(
 }
 
 /// Plays a script on a desk of grid sheets.
-pub(crate) fn on_grid<R: Wait>(story: &mut Story, rt: &R, small: &Instance, script: &Script) {
-    match opened::<GridSheet>(story.alloc(), small, script.opening) {
-        Ok(opened) => named_on_grid::<Brand, R>(story, rt, opened, PLANNERS, small, script),
+pub(crate) fn on_grid<R: Wait>(story: &mut Story, rt: &R, script: &Script) {
+    match opened::<GridSheet>(story.alloc(), script) {
+        Ok(opened) => named_on_grid::<Brand, R>(story, rt, opened, PLANNERS, script),
         Err(_fault) => story.no_memory(),
     }
 }
 
-/// Tells whether a desk opens with some lectures.
-pub(crate) fn tell_opening<'i, S: Sheet<'i>>(
-    story: &mut Story,
-    small: &'i Instance,
-    lectures: &[Placed],
-) {
-    match opened::<S>(story.alloc(), small, lectures) {
+/// Tells whether a desk opens with the lectures of a script.
+pub(crate) fn tell_opening<'i, S: Sheet<'i>>(story: &mut Story, script: &Script<'i>) {
+    match opened::<S>(story.alloc(), script) {
         Ok(opened) => {
             story.say("opened");
             let_go(opened);
         }
-        Err(SharedFault::Unlawful(at, fault)) => story.unlawful(small, at, fault),
+        Err(SharedFault::Unlawful(at, fault)) => story.unlawful(script.small, at, fault),
         Err(_fault) => story.no_memory(),
     }
 }

@@ -5,13 +5,13 @@ ghost use Rattle.ctt_text.specs.Timetable.{Fits};
 ghost use Rattle.ctt_edits.specs.Edits.{EditFits};
 ghost use Rattle.ctt_edits.specs.Looks.{LookFits};
 
-use crate::cases::{Script, Way};
+use crate::cases::{On, Script};
 use crate::story::Story;
 use ctt_board::{Cell, Change, Sheet};
-use ctt_core::{Event, PlannerNo, placed};
+use ctt_core::{DeskFault, Event, PlannerNo, placed};
 use ctt_edits::{Call, Edit, Look, Row, check, look, reads};
 use ctt_script::{Lines, read_own_line};
-use ctt_text::{CourseNo, Instance, NoMemory, Placed, RoomNo, SlotNo, is_timetable};
+use ctt_text::{CourseNo, Instance, NoMemory, Placed, RoomNo, SlotNo};
 
 /// The call that a line asks for.
 pub(crate) fn call_of(small: &Instance, line: &[u8]) -> Option<Call> {
@@ -40,18 +40,6 @@ fn look_fits<'i, S: Sheet<'i>>(sheet: &S, asked: &Look) -> bool
     ensures { IsTrue result ↔ LookFits (S.problem sheet.now) asked.now }
 {
     asked.fits(sheet.instance())
-}
-
-/// A sheet with lectures, or none where they are no opening.
-fn sheet_of<'i, S: Sheet<'i>>(
-    story: &Story,
-    small: &'i Instance,
-    lectures: &[Placed],
-) -> Option<S> {
-    if !is_timetable(small, lectures) {
-        return None;
-    }
-    placed(story.alloc(), small, lectures).ok()
 }
 
 /// Tells the cells of a change: course, slot and room by their numbers, or that the room is none.
@@ -99,14 +87,9 @@ pub(crate) fn tell_sheet<'i, S: Sheet<'i>>(story: &mut Story, sheet: &S) {
 }
 
 /// Makes the calls that lines ask for, and tells what the sheet then has.
-fn answer_lines<'i, S: Sheet<'i>>(
-    story: &mut Story,
-    small: &'i Instance,
-    sheet: &mut S,
-    lines: &str,
-) {
-    for line in Lines::new(lines.as_bytes()) {
-        match call_of(small, line) {
+fn answer_lines<'i, S: Sheet<'i>>(story: &mut Story, script: &Script<'i>, sheet: &mut S) {
+    for line in Lines::new(script.lines.as_bytes()) {
+        match call_of(script.small, line) {
             Some(Call::Edit(edit)) => make(story, sheet, &edit, false),
             Some(Call::Look(asked)) => show(story, sheet, &asked),
             None if line.is_empty() => {}
@@ -175,37 +158,40 @@ fn tell_accepted<'i, S: Sheet<'i>>(story: &mut Story, sheet: &S) {
 }
 
 /// Plays lines, a placement or changes on a sheet that has the lectures of a script at first.
-pub(crate) fn play<'i, S: Sheet<'i>>(
-    story: &mut Story,
-    small: &'i Instance,
-    way: &Way,
-    script: &Script,
-) {
-    match sheet_of::<S>(story, small, script.opening) {
-        Some(mut sheet) => match way {
-            Way::Placement => place_geo(story, &mut sheet),
-            Way::Accepted => tell_accepted(story, &sheet),
-            _ => answer_lines(story, small, &mut sheet, script.lines),
+pub(crate) fn play<'i, S: Sheet<'i>>(story: &mut Story, on: &On, script: &Script<'i>) {
+    let told: Result<S, DeskFault> = placed(story.alloc(), script.small, script.opening);
+    match told {
+        Ok(mut sheet) => match on {
+            On::Placement => place_geo(story, &mut sheet),
+            On::Accepted => tell_accepted(story, &sheet),
+            _ => answer_lines(story, script, &mut sheet),
         },
-        None => story.no_memory(),
+        Err(_fault) => story.no_memory(),
+    }
+}
+
+/// Tells the rows that a call reads.
+fn tell_rows_of(story: &mut Story, small: &Instance, call: &Call) {
+    if !call.fits(small) {
+        return story.say("unfit");
+    }
+    match reads(story.alloc(), small, call) {
+        Ok(rows) => {
+            for row in &rows {
+                match row {
+                    Row::Course(course) => story.count("course", u64::from(course.get())),
+                    Row::Slot(slot) => story.count("slot", u64::from(slot.get())),
+                }
+            }
+        }
+        Err(NoMemory) => story.no_memory(),
     }
 }
 
 /// Tells the rows that the call of a line reads.
-pub(crate) fn tell_rows(story: &mut Story, small: &Instance, line: &str) {
-    let Some(call) = call_of(small, line.as_bytes()) else {
-        return story.say("bad line");
-    };
-    if !call.fits(small) {
-        return story.say("unfit");
-    }
-    let Ok(rows) = reads(story.alloc(), small, &call) else {
-        return story.no_memory();
-    };
-    for row in &rows {
-        match row {
-            Row::Course(course) => story.count("course", u64::from(course.get())),
-            Row::Slot(slot) => story.count("slot", u64::from(slot.get())),
-        }
+pub(crate) fn tell_rows(story: &mut Story, script: &Script) {
+    match call_of(script.small, script.lines.as_bytes()) {
+        Some(call) => tell_rows_of(story, script.small, &call),
+        None => story.say("bad line"),
     }
 }

@@ -1,10 +1,10 @@
 //! What is told of the trials, and how many calls were made again.
 
-ghost use Rattle.std.specs.Prelude.{◌↔◌, IsTrue};
+ghost use Rattle.std.specs.Prelude.{◌↔◌, IsTrue, None, false};
 ghost use Rattle.ctt_script.specs.Entries.{AnswerFits};
 
 use ctt_core::Answer;
-use ctt_devices::{Sink, put_all};
+use ctt_devices::{Failed, Sink, put_all};
 use ctt_edits::{EditFault, Lectures, Reply, Row};
 use ctt_rules::Cost;
 use ctt_script::write_answer;
@@ -22,7 +22,12 @@ const LINE: usize = 4_096;
 pub(crate) struct Story {
     text: Vec<u8>,
     line: String,
-    marked: usize,
+    /// Where the answers of a script end that were told last by a desk for one thread; 0 where there are none.
+    pub(crate) marked: usize,
+    /// Where the answers of the case begin and end in what was told of it first, and where what the desk left ends.
+    pub(crate) answers: usize,
+    pub(crate) end: usize,
+    pub(crate) all: usize,
     again: u64,
     is_wanting: bool,
     is_lost: bool,
@@ -55,6 +60,9 @@ impl Story {
             text,
             line,
             marked: 0,
+            answers: 0,
+            end: 0,
+            all: 0,
             again: 0,
             is_wanting: false,
             is_lost: false,
@@ -70,14 +78,13 @@ impl Story {
         self.text.len()
     }
 
-    /// Marks the place up to which is told.
-    pub(crate) fn mark(&mut self) {
-        self.marked = self.text.len();
-    }
-
-    /// The place that was marked last.
-    pub(crate) fn marked(&self) -> usize {
-        self.marked
+    /// Notes what was told of a script from a place on, if a desk for one thread answered it there.
+    pub(crate) fn note(&mut self, from: usize) {
+        if self.marked > 0 {
+            self.answers = from;
+            self.end = self.marked;
+            self.all = self.text.len();
+        }
     }
 
     /// Notes that a call is made again.
@@ -196,23 +203,19 @@ impl Story {
 
     /// Tells how a text was read: that it was, or by its words and its place the fault that it has to have. Of another
     /// fault nothing is told.
-    pub(crate) fn read<F: PartialEq + Drop>(
+    pub(crate) fn read<F: PartialEq>(
         &mut self,
-        fault: Option<F>,
-        no_memory: F,
-        fit: F,
+        fault: &Option<F>,
+        no_memory: &F,
+        fit: &F,
         words: &str,
         at: u64,
     ) {
         match fault {
             None => self.bytes(b"read"),
-            Some(fault) => {
-                if fault == no_memory {
-                    self.no_memory();
-                } else if fault == fit {
-                    self.pair(words, at);
-                }
-            }
+            Some(fault) if fault == no_memory => self.no_memory(),
+            Some(fault) if fault == fit => self.pair(words, at),
+            Some(_) => {}
         }
     }
 
@@ -220,10 +223,7 @@ impl Story {
     /// same, that is told in its place.
     pub(crate) fn compare(&mut self, from: usize, to: usize, here: usize, way: &str) {
         let is_same = match self.text.get(from..to) {
-            Some(before) => {
-                self.text.len().saturating_sub(here) == before.len()
-                    && self.text.as_slice().ends_with(before)
-            }
+            Some(before) => self.text.get(here..) == Some(before),
             None => false,
         };
         if is_same {
@@ -237,5 +237,20 @@ impl Story {
     pub(crate) fn write<W: Sink>(&mut self, writer: &mut W) -> bool {
         self.count("again", self.again);
         !self.is_lost && put_all(writer, &self.text).is_ok() && writer.flush().is_ok()
+    }
+}
+
+impl Sink for Story {
+    ghost has_failed = { λ story. false };
+
+    ghost taken = { λ story. None };
+
+    fn put(&mut self, bytes: &[u8]) -> Result<usize, Failed> {
+        self.bytes(bytes);
+        Ok(bytes.len())
+    }
+
+    fn flush(&mut self) -> Result<(), Failed> {
+        Ok(())
     }
 }

@@ -257,3 +257,30 @@ pub(crate) const OTHER_JOURNAL: &str = "journal 1 entry 0 1 place top A 0 1 done
 
 /// A journal of a draft in which top was placed in room B.
 pub(crate) const TOP_JOURNAL: &str = "journal 1 entry 0 1 place top B 0 2 done END.";
+
+/// The report on the solution.
+pub(crate) const REPORT: &str = "instance Small
+lectures 0
+conflicts 0
+availability 0
+occupancy 0
+capacity 15
+days 0
+compactness 4
+stability 1
+total 20
+lawful yes
+complete yes
+";
+
+/// What an audit finds.
+pub(crate) const VERDICT: &str = "differs 1 1\n";
+
+/// What a crew of one planner writes.
+pub(crate) const CREW_ANSWERS: &str = "planner 0
+opened
+done
+committed 1
+journal 1
+costs 0 15 2 0
+";
