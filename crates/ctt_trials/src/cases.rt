@@ -1,7 +1,6 @@
 //! A case is a row of a table: a script with its opening, and in which ways it is played.
 
-ghost use Rattle.std.specs.List.{AllByRecursion as Each};
-ghost use Rattle.ctt_text.specs.Timetable.{Fits, IsTimetable};
+ghost use Rattle.ctt_text.specs.Timetable.{IsTimetable};
 
 use crate::story::Story;
 use crate::{crews, cuts, desks, drafts, journals, scripts, shared, sheets, shown, transfers};
@@ -99,12 +98,12 @@ pub(crate) struct Script<'i> {
     pub(crate) opening: &'i [Placed],
     pub(crate) lines: &'i str,
     pub(crate) drops: bool,
-    ghost timetable: { IsTimetable small.now opening.now },
-    ghost fits: { Each (Fits small.now) opening.now },
 }
 
 /// Plays a case without a sheet.
-fn play_plain<R: Threads + Wait + Sync>(story: &mut Story, rt: &R, plain: &Plain, script: &Script) {
+fn play_plain<R: Threads + Wait + Sync>(story: &mut Story, rt: &R, plain: &Plain, script: &Script)
+    requires { IsTimetable script.now.small.now script.now.opening.now }
+{
     match plain {
         Plain::Reports => shown::play_reports(story, script),
         Plain::Written => shown::play_written(story, script),
@@ -118,7 +117,9 @@ fn play_plain<R: Threads + Wait + Sync>(story: &mut Story, rt: &R, plain: &Plain
 }
 
 /// Plays a case on sheets of one kind.
-fn play_on<'i, S: Sheet<'i>>(story: &mut Story, on: &On, script: &Script<'i>) {
+fn play_on<'i, S: Sheet<'i>>(story: &mut Story, on: &On, script: &Script<'i>)
+    requires { IsTimetable script.now.small.now script.now.opening.now }
+{
     match on {
         On::Lines | On::Placement | On::Accepted => sheets::play::<S>(story, on, script),
         On::Draft | On::LongDraft => drafts::play::<S>(story, on, script.small),
@@ -133,7 +134,9 @@ fn play_on<'i, S: Sheet<'i>>(story: &mut Story, on: &On, script: &Script<'i>) {
 }
 
 /// Plays a case in one way.
-fn play_once<R: Threads + Wait + Sync>(story: &mut Story, rt: &R, way: &Way, script: &Script) {
+fn play_once<R: Threads + Wait + Sync>(story: &mut Story, rt: &R, way: &Way, script: &Script)
+    requires { IsTimetable script.now.small.now script.now.opening.now }
+{
     match way {
         Way::Plain(plain) => play_plain(story, rt, plain, script),
         Way::List(on) => play_on::<ListSheet>(story, on, script),
@@ -151,8 +154,7 @@ fn play_opened<R: Threads + Wait + Sync>(
     opening: &[Placed],
     case: &Case,
 )
-    requires timetable { IsTimetable small.now opening.now }
-    requires fits { Each (Fits small.now) opening.now }
+    requires { IsTimetable small.now opening.now }
 {
     let script = Script {
         small,

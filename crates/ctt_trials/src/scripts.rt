@@ -1,5 +1,7 @@
 //! A script that is read from a device, and its answers that are written to one; also where the devices fail.
 
+ghost use Rattle.ctt_text.specs.Timetable.{IsTimetable};
+
 use crate::cases::Script;
 use crate::desks::tell_desk;
 use crate::devices::{Failing, Memory, Shelf};
@@ -11,7 +13,9 @@ use ctt_script::{ScriptFault, run_script};
 use ctt_text::let_go;
 
 /// Plays a script that is read from a device, and whose answers are told as they are written.
-pub(crate) fn play_script<'i, S: Sheet<'i>>(story: &mut Story, script: &Script<'i>) {
+pub(crate) fn play_script<'i, S: Sheet<'i>>(story: &mut Story, script: &Script<'i>)
+    requires { IsTimetable script.now.small.now script.now.opening.now }
+{
     let alloc = story.alloc();
     let mut reader = Memory::new(script.lines.as_bytes(), 0);
     match run_script::<S, KeepAll, Memory, Story>(
@@ -40,7 +44,9 @@ fn fails<'i, S: Sheet<'i>>(
     fails_at: u64,
     shelf: &mut Shelf,
     taken: usize,
-) -> bool {
+) -> bool
+    requires { IsTimetable script.now.small.now script.now.opening.now }
+{
     let mut reader = Memory::new(lines, fails_at);
     match run_script::<S, KeepAll, Memory, Shelf>(
         story.alloc(),
@@ -66,7 +72,9 @@ fn fails<'i, S: Sheet<'i>>(
 
 /// Tells behind how many bytes a writer may fail so that the script has a failed write, and these bytes were written, and
 /// behind how many a reader, so that it has a failed read, and nothing was written.
-fn tell_all_failing<'i, S: Sheet<'i>>(story: &mut Story, script: &Script<'i>) {
+fn tell_all_failing<'i, S: Sheet<'i>>(story: &mut Story, script: &Script<'i>)
+    requires { IsTimetable script.now.small.now script.now.opening.now }
+{
     let lines = script.lines.as_bytes();
     let answers = PHANTOM_ANSWERS.as_bytes();
     let mut failed = 0u64;
@@ -100,7 +108,9 @@ fn tell_failing<'i, S: Sheet<'i>>(
     answers: &str,
     failing: Failing,
     taken: usize,
-) {
+)
+    requires { IsTimetable script.now.small.now script.now.opening.now }
+{
     let mut shelf = Shelf::new(answers.as_bytes(), failing);
     let is_failed = fails::<S>(story, script, lines.as_bytes(), 0, &mut shelf, taken);
     story.count("a failed write", u64::from(is_failed));
@@ -109,7 +119,9 @@ fn tell_failing<'i, S: Sheet<'i>>(
 }
 
 /// The script of the phantom with its answers on devices that fail.
-pub(crate) fn play_devices<'i, S: Sheet<'i>>(story: &mut Story, script: &Script<'i>) {
+pub(crate) fn play_devices<'i, S: Sheet<'i>>(story: &mut Story, script: &Script<'i>)
+    requires { IsTimetable script.now.small.now script.now.opening.now }
+{
     tell_all_failing::<S>(story, script);
     let lines = script.lines;
     let whole = PHANTOM_ANSWERS.len();

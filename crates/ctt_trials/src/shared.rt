@@ -1,5 +1,6 @@
 //! A script on a shared desk, played by its planners on one thread, of whom one learns each receipt.
 
+ghost use Rattle.ctt_text.specs.Timetable.{IsTimetable};
 ghost use Rattle.std.specs.Prelude.{◌≡◌, IfOk};
 ghost use Rattle.ctt_desk.specs.Names.{IsNamed};
 
@@ -19,6 +20,7 @@ const PLANNERS: u16 = 4;
 
 /// The opening of a desk.
 fn opened<'i, S: Sheet<'i>>(alloc: Global, script: &Script<'i>) -> Result<Opened<S>, SharedFault>
+    requires { IsTimetable script.now.small.now script.now.opening.now }
     ensures { IfOk result (λ opened. opened.problem ≡ script.now.small.now) }
 {
     Opened::<S>::new(alloc, script.small, script.opening)
@@ -64,7 +66,9 @@ fn close<'i, S: Sheet<'i>, J: Naming, R: Wait>(
     here: &Here<'i, J>,
     planners: &mut [Planner<S, J>],
     script: &Script<'i>,
-) {
+)
+    requires { IsTimetable script.now.small.now script.now.opening.now }
+{
     let from = story.len();
     match desk.close(rt, planners) {
         Ok(closed) => {
@@ -85,7 +89,9 @@ fn play_named<'i, S: Sheet<'i>, J: Naming, R: Wait>(
     named: Named<S, J>,
     here: &Here<'i, J>,
     script: &Script<'i>,
-) {
+)
+    requires { IsTimetable script.now.small.now script.now.opening.now }
+{
     match SharedDesk::<S, J>::new(rt, named) {
         Ok((desk, all)) => {
             let mut planners = play_at(story, rt, &desk, here, all, script);
@@ -104,6 +110,7 @@ fn named_on_list<'i, J: Naming, R: Wait>(
     count: u16,
     script: &Script<'i>,
 )
+    requires timetable { IsTimetable script.now.small.now script.now.opening.now }
     requires named { IsNamed J.problem J.opening J.planners J.book opened count }
     requires problem { opened.problem ≡ script.now.small.now }
 {
@@ -120,7 +127,9 @@ fn named_on_list<'i, J: Naming, R: Wait>(
 }
 
 /// Plays a script on a desk of list sheets.
-pub(crate) fn on_list<R: Wait>(story: &mut Story, rt: &R, script: &Script) {
+pub(crate) fn on_list<R: Wait>(story: &mut Story, rt: &R, script: &Script)
+    requires { IsTimetable script.now.small.now script.now.opening.now }
+{
     match opened::<ListSheet>(story.alloc(), script) {
         Ok(opened) => named_on_list::<Brand, R>(story, rt, opened, PLANNERS, script),
         Err(_fault) => story.no_memory(),
@@ -135,6 +144,7 @@ fn named_on_grid<'i, J: Naming, R: Wait>(
     count: u16,
     script: &Script<'i>,
 )
+    requires timetable { IsTimetable script.now.small.now script.now.opening.now }
     requires named { IsNamed J.problem J.opening J.planners J.book opened count }
     requires problem { opened.problem ≡ script.now.small.now }
 {
@@ -151,7 +161,9 @@ fn named_on_grid<'i, J: Naming, R: Wait>(
 }
 
 /// Plays a script on a desk of grid sheets.
-pub(crate) fn on_grid<R: Wait>(story: &mut Story, rt: &R, script: &Script) {
+pub(crate) fn on_grid<R: Wait>(story: &mut Story, rt: &R, script: &Script)
+    requires { IsTimetable script.now.small.now script.now.opening.now }
+{
     match opened::<GridSheet>(story.alloc(), script) {
         Ok(opened) => named_on_grid::<Brand, R>(story, rt, opened, PLANNERS, script),
         Err(_fault) => story.no_memory(),
@@ -159,7 +171,9 @@ pub(crate) fn on_grid<R: Wait>(story: &mut Story, rt: &R, script: &Script) {
 }
 
 /// Tells whether a desk opens with the lectures of a script.
-pub(crate) fn tell_opening<'i, S: Sheet<'i>>(story: &mut Story, script: &Script<'i>) {
+pub(crate) fn tell_opening<'i, S: Sheet<'i>>(story: &mut Story, script: &Script<'i>)
+    requires { IsTimetable script.now.small.now script.now.opening.now }
+{
     match opened::<S>(story.alloc(), script) {
         Ok(opened) => {
             story.say("opened");

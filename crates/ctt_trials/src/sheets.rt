@@ -1,14 +1,14 @@
 //! Cases on one sheet: what is placed, asked and refused.
 
 ghost use Rattle.std.specs.Prelude.{◌↔◌, IsTrue};
-ghost use Rattle.ctt_text.specs.Timetable.{Fits};
+ghost use Rattle.ctt_text.specs.Timetable.{Fits, IsTimetable};
 ghost use Rattle.ctt_edits.specs.Edits.{EditFits};
 ghost use Rattle.ctt_edits.specs.Looks.{LookFits};
 
 use crate::cases::{On, Script};
 use crate::story::Story;
 use ctt_board::{Cell, Change, Sheet};
-use ctt_core::{DeskFault, Event, PlannerNo, placed};
+use ctt_core::{Event, PlannerNo, placed};
 use ctt_edits::{Call, Edit, Look, Row, check, look, reads};
 use ctt_script::{Lines, read_own_line};
 use ctt_text::{CourseNo, Instance, NoMemory, Placed, RoomNo, SlotNo};
@@ -158,9 +158,10 @@ fn tell_accepted<'i, S: Sheet<'i>>(story: &mut Story, sheet: &S) {
 }
 
 /// Plays lines, a placement or changes on a sheet that has the lectures of a script at first.
-pub(crate) fn play<'i, S: Sheet<'i>>(story: &mut Story, on: &On, script: &Script<'i>) {
-    let told: Result<S, DeskFault> = placed(story.alloc(), script.small, script.opening);
-    match told {
+pub(crate) fn play<'i, S: Sheet<'i>>(story: &mut Story, on: &On, script: &Script<'i>)
+    requires { IsTimetable script.now.small.now script.now.opening.now }
+{
+    match placed::<S>(story.alloc(), script.small, script.opening) {
         Ok(mut sheet) => match on {
             On::Placement => place_geo(story, &mut sheet),
             On::Accepted => tell_accepted(story, &sheet),
