@@ -14,10 +14,6 @@ use ctt_core::{Answer, Desk, DeskFault, Event};
 use ctt_draft::KeepAll;
 use ctt_script::{Lines, PLANNERS, read_line};
 use ctt_text::{Instance, NoMemory, let_go};
-use std::alloc::{AllocError, Global};
-
-/// How many events a script has at most.
-const EVENTS: usize = 64;
 
 /// Tells the lectures, the cost and the journal of a desk.
 pub(crate) fn tell_desk<'i, S: Sheet<'i>>(
@@ -46,7 +42,23 @@ fn step_once<'i, S: Sheet<'i>>(desk: &mut Desk<'i, S, KeepAll>, event: &Event) -
     desk.step(*event)
 }
 
-/// Answers a script line by line. Where an answer is want of memory, the desk is asked again.
+/// Tells what a desk answers to an event. Where that is want of memory, it is asked again.
+fn tell_answer<'i, S: Sheet<'i>>(
+    story: &mut Story,
+    small: &'i Instance,
+    desk: &mut Desk<'i, S, KeepAll>,
+    event: &Event,
+) {
+    let answer = step_once(desk, event);
+    if matches!(answer, Answer::NoMemory) {
+        story.call_again();
+        story.answer(small, &step_once(desk, event));
+    } else {
+        story.answer(small, &answer);
+    }
+}
+
+/// Answers a script line by line.
 fn answer_lines<'i, S: Sheet<'i>>(
     story: &mut Story,
     script: &Script<'i>,
@@ -54,41 +66,23 @@ fn answer_lines<'i, S: Sheet<'i>>(
 ) {
     for line in Lines::new(script.lines.as_bytes()) {
         match read_line(script.small, line) {
-            Some(event) => {
-                let mut answer = step_once(desk, &event);
-                if matches!(answer, Answer::NoMemory) {
-                    story.call_again();
-                    answer = step_once(desk, &event);
-                }
-                story.answer(script.small, &answer);
-            }
-            None if line.is_empty() => {}
-            None => story.say("bad line"),
+            Some(event) => tell_answer(story, script.small, desk, &event),
+            None => story.bad_line(line),
         }
-    }
-}
-
-/// What a line of a script asks for.
-trait OfLine: Drop {
-    /// None for a bad line.
-    fn of_line(small: &Instance, line: &[u8]) -> Option<Self>;
-}
-
-impl OfLine for Event {
-    fn of_line(small: &Instance, line: &[u8]) -> Option<Self> {
-        read_line(small, line)
     }
 }
 
 /// What the lines of a script ask for, with nothing for a bad line.
-fn asked_in<T: OfLine>(alloc: Global, script: &Script) -> Result<Vec<T>, AllocError> {
-    let mut list = Vec::with_capacity(alloc, EVENTS)?;
+fn events_of(story: &mut Story, script: &Script) -> Vec<Event> {
+    let mut events = Vec::new(story.alloc());
     for line in Lines::new(script.lines.as_bytes()) {
-        if let Some(one) = T::of_line(script.small, line) {
-            add(&mut list, one)?;
+        if let Some(event) = read_line(script.small, line) {
+            if add(&mut events, event).is_err() {
+                story.no_memory();
+            }
         }
     }
-    Ok(list)
+    events
 }
 
 /// Whether a desk of the instance with so many planners can be asked to answer these events.
@@ -138,10 +132,8 @@ fn play_at<'i, S: Sheet<'i>>(
     requires { IsTimetable script.now.small.now script.now.opening.now }
 {
     if matches!(on, On::Run) {
-        match asked_in::<Event>(story.alloc(), script) {
-            Ok(events) => tell_answers(story, script.small, desk, &events),
-            Err(AllocError) => story.no_memory(),
-        }
+        let events = events_of(story, script);
+        tell_answers(story, script.small, desk, &events);
     } else {
         answer_lines(story, script, desk);
     }

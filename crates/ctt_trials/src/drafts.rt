@@ -2,6 +2,7 @@
 
 ghost use Rattle.std.specs.Prelude.{◌≡◌, ◌↔◌, IsTrue, IfOk};
 ghost use Rattle.ctt_edits.specs.Calls.{CallFits};
+ghost use Rattle.ctt_draft.specs.DraftValues.{Settles};
 
 use crate::cases::On;
 use crate::sheets::{call_of, tell_cells, tell_sheet};
@@ -64,7 +65,7 @@ fn ask<'i, S: Sheet<'i>>(
     }
 }
 
-/// What a draft answers to the call of a line.
+/// What a draft answers to the call of a line, unless the case is to be played again.
 fn ask_line<'i, S: Sheet<'i>>(
     story: &mut Story,
     draft: &mut Draft<'i, S, KeepAll>,
@@ -89,22 +90,23 @@ fn tell_asked<'i, S: Sheet<'i>>(story: &mut Story, draft: &mut Draft<'i, S, Keep
     }
 }
 
-/// Asks a draft a thousand times, by turns to place geo and to drop it again, and tells how often that was done.
+/// Asks a draft what a line says: an edit, whose answer is not told.
+fn make<'i, S: Sheet<'i>>(story: &mut Story, draft: &mut Draft<'i, S, KeepAll>, line: &str)
+    ensures { draft.new.problem ≡ draft.old.problem }
+{
+    if !matches!(ask_line(story, draft, line), Some(Reply::Done)) {
+        story.no_memory();
+    }
+}
+
+/// Asks a draft a thousand times, by turns to place geo and to drop it again.
 fn ask_often<'i, S: Sheet<'i>>(story: &mut Story, draft: &mut Draft<'i, S, KeepAll>)
     ensures { draft.new.problem ≡ draft.old.problem }
 {
-    let mut done = 0u64;
-    for turn in 0..1000u64 {
-        let line = if turn % 2 == 0 {
-            "place geo A 0 1"
-        } else {
-            "drop geo 0 1"
-        };
-        if matches!(ask_line(story, draft, line), Some(Reply::Done)) {
-            done = done.saturating_add(1);
-        }
+    for turn in 0..500u64 {
+        make(story, draft, "place geo A 0 1");
+        make(story, draft, "drop geo 0 1");
     }
-    story.count("done", done);
 }
 
 /// Tells whether a draft is stale against a sheet.
@@ -136,20 +138,26 @@ fn tell_work<'i, S: Sheet<'i>>(story: &mut Story, draft: &Draft<'i, S, KeepAll>)
     story.count("calls", draft.asked().len() as u64);
 }
 
+/// Ends a draft, and settles it on a sheet on which it is not stale.
+fn settle_fresh<'i, S: Sheet<'i>>(story: &mut Story, draft: Draft<'i, S, KeepAll>, sheet: &mut S)
+    requires same { S.problem sheet.old ≡ draft.problem }
+    requires fresh { Settles draft (S.list sheet.old) }
+{
+    let work = draft.finish();
+    story.count("calls", work.asked.len());
+    story.count("changes", work.changes.len() as u64);
+    work.settle(sheet);
+    let_go(work);
+    tell_sheet(story, sheet);
+}
+
 /// Ends a draft, and settles it on a sheet, unless it is stale there.
 fn settle<'i, S: Sheet<'i>>(story: &mut Story, draft: Draft<'i, S, KeepAll>, sheet: &mut S)
     requires { S.problem sheet.old ≡ draft.problem }
 {
     match draft.stale(sheet) {
-        Ok(None) => {
-            let work = draft.finish();
-            story.count("calls", work.asked.len());
-            story.count("changes", work.changes.len() as u64);
-            work.settle(sheet);
-            let_go(work);
-            tell_sheet(story, sheet);
-        }
-        Ok(Some(_)) | Err(NoMemory) => {
+        Ok(None) => settle_fresh(story, draft, sheet),
+        _ => {
             let_go(draft);
             story.no_memory();
         }

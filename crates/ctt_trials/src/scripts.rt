@@ -1,5 +1,6 @@
 //! A script that is read from a device, and its answers that are written to one; also where the devices fail.
 
+ghost use Rattle.std.specs.Prelude.{◌≡◌, false};
 ghost use Rattle.ctt_text.specs.Timetable.{IsTimetable};
 
 use crate::cases::Script;
@@ -11,6 +12,7 @@ use ctt_board::Sheet;
 use ctt_draft::KeepAll;
 use ctt_script::{ScriptFault, run_script};
 use ctt_text::let_go;
+use std::alloc::Global;
 
 /// Plays a script that is read from a device, and whose answers are told as they are written.
 pub(crate) fn play_script<'i, S: Sheet<'i>>(story: &mut Story, script: &Script<'i>)
@@ -18,14 +20,15 @@ pub(crate) fn play_script<'i, S: Sheet<'i>>(story: &mut Story, script: &Script<'
 {
     let alloc = story.alloc();
     let mut reader = Memory::new(script.lines.as_bytes(), 0);
-    match run_script::<S, KeepAll, Memory, Story>(
+    let ran = run_script::<S, KeepAll, Memory, Story>(
         alloc,
         script.small,
         script.opening,
         &mut reader,
         story,
         &mut None,
-    ) {
+    );
+    match ran {
         Ok(desk) => {
             tell_desk(story, script, &desk);
             let_go(desk);
@@ -33,6 +36,27 @@ pub(crate) fn play_script<'i, S: Sheet<'i>>(story: &mut Story, script: &Script<'
         Err(ScriptFault::Unlawful(at, fault)) => story.unlawful(script.small, at, fault),
         Err(_fault) => story.no_memory(),
     }
+}
+
+/// Runs the lines that a reader gives, whose answers a writer takes, and answers why they could not be run.
+fn fault_of<'i, S: Sheet<'i>>(
+    alloc: Global,
+    script: &Script<'i>,
+    reader: &mut Memory,
+    shelf: &mut Shelf,
+) -> Option<ScriptFault>
+    requires timetable { IsTimetable script.now.small.now script.now.opening.now }
+    requires unmarked { reader.old.failed ≡ false }
+{
+    run_script::<S, KeepAll, Memory, Shelf>(
+        alloc,
+        script.small,
+        script.opening,
+        reader,
+        shelf,
+        &mut None,
+    )
+    .err()
 }
 
 /// Runs lines on a reader whose read with this number fails, or where it is 0 on a writer that fails. Answers whether that is
@@ -48,26 +72,16 @@ fn fails<'i, S: Sheet<'i>>(
     requires { IsTimetable script.now.small.now script.now.opening.now }
 {
     let mut reader = Memory::new(lines, fails_at);
-    match run_script::<S, KeepAll, Memory, Shelf>(
-        story.alloc(),
-        script.small,
-        script.opening,
-        &mut reader,
-        shelf,
-        &mut None,
-    ) {
-        Ok(desk) => {
-            let_go(desk);
-            false
-        }
-        Err(ScriptFault::Write) => fails_at == 0 && shelf.holds(taken),
-        Err(ScriptFault::Read) => reader.pulls == fails_at && shelf.holds(taken),
-        Err(ScriptFault::NoMemory) => {
-            story.no_memory();
-            false
-        }
-        Err(_fault) => false,
+    let fault = fault_of::<S>(story.alloc(), script, &mut reader, shelf);
+    if fault == Some(ScriptFault::NoMemory) {
+        story.no_memory();
     }
+    let is_failed = if fails_at == 0 {
+        fault == Some(ScriptFault::Write)
+    } else {
+        fault == Some(ScriptFault::Read) && reader.pulls == fails_at
+    };
+    is_failed && shelf.holds(taken)
 }
 
 /// Tells behind how many bytes a writer may fail so that the script has a failed write, and these bytes were written, and

@@ -86,14 +86,20 @@ pub(crate) fn tell_sheet<'i, S: Sheet<'i>>(story: &mut Story, sheet: &S) {
     story.timetable(sheet.instance(), sheet.list(), sheet.cost());
 }
 
-/// Makes the calls that lines ask for, and tells what the sheet then has.
+/// Makes a call on a sheet, and tells the reply.
+fn answer<'i, S: Sheet<'i>>(story: &mut Story, sheet: &mut S, call: &Call) {
+    match call {
+        Call::Edit(edit) => make(story, sheet, edit, false),
+        Call::Look(asked) => show(story, sheet, asked),
+    }
+}
+
+/// Makes the calls that the lines of a script ask for, and tells what the sheet then has.
 fn answer_lines<'i, S: Sheet<'i>>(story: &mut Story, script: &Script<'i>, sheet: &mut S) {
     for line in Lines::new(script.lines.as_bytes()) {
         match call_of(script.small, line) {
-            Some(Call::Edit(edit)) => make(story, sheet, &edit, false),
-            Some(Call::Look(asked)) => show(story, sheet, &asked),
-            None if line.is_empty() => {}
-            None => story.say("bad line"),
+            Some(call) => answer(story, sheet, &call),
+            None => story.bad_line(line),
         }
     }
     tell_sheet(story, sheet);

@@ -121,6 +121,13 @@ impl Story {
         self.bytes(b"\n");
     }
 
+    /// Tells that a line is no right one, unless it is empty.
+    pub(crate) fn bad_line(&mut self, line: &[u8]) {
+        if !line.is_empty() {
+            self.say("bad line");
+        }
+    }
+
     /// Tells the line that was written, if it was.
     fn end_line(&mut self, is_written: bool) {
         if !is_written || self.text.extend_from_slice(self.line.as_bytes()).is_err() {

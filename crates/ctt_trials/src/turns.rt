@@ -186,8 +186,7 @@ pub(crate) fn answer_lines<'i, S: Sheet<'i>, J: Naming, R: Wait>(
                 }
                 answer(story, rt, desk, here, seats, place, &event);
             }
-            None if line.is_empty() => {}
-            None => story.say("bad line"),
+            None => story.bad_line(line),
         }
     }
 }
