@@ -49,13 +49,11 @@ fn tell_answer<'i, S: Sheet<'i>>(
     desk: &mut Desk<'i, S, KeepAll>,
     event: &Event,
 ) {
-    let answer = step_once(desk, event);
-    if matches!(answer, Answer::NoMemory) {
-        story.call_again();
-        story.answer(small, &step_once(desk, event));
-    } else {
-        story.answer(small, &answer);
+    if story.tells(small, &step_once(desk, event)) {
+        return;
     }
+    story.call_again();
+    story.answer(small, &step_once(desk, event));
 }
 
 /// Answers a script line by line.
@@ -72,17 +70,29 @@ fn answer_lines<'i, S: Sheet<'i>>(
     }
 }
 
+/// What a line of a script asks for.
+trait OfLine: Drop {
+    /// None for a bad line.
+    fn of_line(small: &Instance, line: &[u8]) -> Option<Self>;
+}
+
+impl OfLine for Event {
+    fn of_line(small: &Instance, line: &[u8]) -> Option<Self> {
+        read_line(small, line)
+    }
+}
+
 /// What the lines of a script ask for, with nothing for a bad line.
-fn events_of(story: &mut Story, script: &Script) -> Vec<Event> {
-    let mut events = Vec::new(story.alloc());
+fn asked_in<T: OfLine>(story: &mut Story, script: &Script) -> Vec<T> {
+    let mut list = Vec::new(story.alloc());
     for line in Lines::new(script.lines.as_bytes()) {
-        if let Some(event) = read_line(script.small, line) {
-            if add(&mut events, event).is_err() {
+        if let Some(one) = T::of_line(script.small, line) {
+            if add(&mut list, one).is_err() {
                 story.no_memory();
             }
         }
     }
-    events
+    list
 }
 
 /// Whether a desk of the instance with so many planners can be asked to answer these events.
@@ -112,11 +122,7 @@ fn tell_answers<'i, S: Sheet<'i>>(
         return story.say("unfit");
     }
     match desk.run(events) {
-        Ok(answers) => {
-            for answer in &answers {
-                story.answer(small, answer);
-            }
-        }
+        Ok(answers) => story.answers(small, &answers),
         Err(NoMemory) => story.no_memory(),
     }
 }
@@ -132,7 +138,7 @@ fn play_at<'i, S: Sheet<'i>>(
     requires { IsTimetable script.now.small.now script.now.opening.now }
 {
     if matches!(on, On::Run) {
-        let events = events_of(story, script);
+        let events = asked_in::<Event>(story, script);
         tell_answers(story, script.small, desk, &events);
     } else {
         answer_lines(story, script, desk);

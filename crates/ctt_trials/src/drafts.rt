@@ -2,7 +2,6 @@
 
 ghost use Rattle.std.specs.Prelude.{◌≡◌, ◌↔◌, IsTrue, IfOk};
 ghost use Rattle.ctt_edits.specs.Calls.{CallFits};
-ghost use Rattle.ctt_draft.specs.DraftValues.{Settles};
 
 use crate::cases::On;
 use crate::sheets::{call_of, tell_cells, tell_sheet};
@@ -138,25 +137,19 @@ fn tell_work<'i, S: Sheet<'i>>(story: &mut Story, draft: &Draft<'i, S, KeepAll>)
     story.count("calls", draft.asked().len() as u64);
 }
 
-/// Ends a draft, and settles it on a sheet on which it is not stale.
-fn settle_fresh<'i, S: Sheet<'i>>(story: &mut Story, draft: Draft<'i, S, KeepAll>, sheet: &mut S)
-    requires same { S.problem sheet.old ≡ draft.problem }
-    requires fresh { Settles draft (S.list sheet.old) }
-{
-    let work = draft.finish();
-    story.count("calls", work.asked.len());
-    story.count("changes", work.changes.len() as u64);
-    work.settle(sheet);
-    let_go(work);
-    tell_sheet(story, sheet);
-}
-
 /// Ends a draft, and settles it on a sheet, unless it is stale there.
 fn settle<'i, S: Sheet<'i>>(story: &mut Story, draft: Draft<'i, S, KeepAll>, sheet: &mut S)
     requires { S.problem sheet.old ≡ draft.problem }
 {
     match draft.stale(sheet) {
-        Ok(None) => settle_fresh(story, draft, sheet),
+        Ok(None) => {
+            let work = draft.finish();
+            story.count("calls", work.asked.len());
+            story.count("changes", work.changes.len() as u64);
+            work.settle(sheet);
+            let_go(work);
+            tell_sheet(story, sheet);
+        }
         _ => {
             let_go(draft);
             story.no_memory();

@@ -155,14 +155,29 @@ impl Story {
         self.refused(instance, fault);
     }
 
-    /// Tells an answer. Want of memory is none: then the case is to be played again.
-    pub(crate) fn answer(&mut self, instance: &Instance, answer: &Answer) {
+    /// Tells an answer, unless that is want of memory, and answers whether it was told.
+    pub(crate) fn tells(&mut self, instance: &Instance, answer: &Answer) -> bool {
         if matches!(answer, Answer::NoMemory) {
-            return self.no_memory();
+            return false;
         }
         let is_written = answer_fits(instance, answer)
             && write_answer(&mut self.line, instance, answer).is_ok();
         self.end_line(is_written);
+        true
+    }
+
+    /// Tells an answer. Want of memory is none: then the case is to be played again.
+    pub(crate) fn answer(&mut self, instance: &Instance, answer: &Answer) {
+        if !self.tells(instance, answer) {
+            self.no_memory();
+        }
+    }
+
+    /// Tells answers.
+    pub(crate) fn answers(&mut self, instance: &Instance, answers: &[Answer]) {
+        for answer in answers {
+            self.answer(instance, answer);
+        }
     }
 
     /// Tells a fault.

@@ -122,26 +122,33 @@ fn take<'i, S: Sheet<'i>, J: Naming, R: Wait>(
     (seat, Err(told))
 }
 
-/// Tells what a planner is answered, whose receipt is learnt where he has one, unless memory was wanted: this is answered.
-/// A place that was refused is told as want of memory, since it comes of nothing else here.
-fn tell<'i, S: Sheet<'i>, J: Naming>(
+/// One of the planners learns a receipt, if he has no draft open.
+fn learn<'i, S: Sheet<'i>, J: Naming>(seats: &mut [Option<Seat<'i, S, J>>], receipt: &Receipt<J>) {
+    if let Some(Some(Seat::Free(planner))) = seats.get_mut(usize::from(LEARNER)) {
+        planner.learn(receipt);
+    }
+}
+
+/// Tells what a planner is answered, whose receipt is learnt where he has one, and answers whether it was told: want of memory
+/// is not, and no more a place that was refused, since this comes of nothing else here.
+fn tells<'i, S: Sheet<'i>, J: Naming>(
     story: &mut Story,
     here: &Here<'i, J>,
     seats: &mut [Option<Seat<'i, S, J>>],
-    told: Result<Receipt<J>, Told>,
+    told: &Result<Receipt<J>, Told>,
 ) -> bool {
     match told {
         Ok(receipt) => {
-            story.answer(here.small, &Answer::Committed(receipt.number()));
-            if let Some(Some(Seat::Free(planner))) = seats.get_mut(usize::from(LEARNER)) {
-                planner.learn(&receipt);
-            }
+            learn(seats, receipt);
+            story.tells(here.small, &Answer::Committed(receipt.number()))
         }
-        Err(Told::Answer(Answer::NoMemory) | Told::NoPlace) => return true,
-        Err(Told::Answer(answer)) => story.answer(here.small, &answer),
-        Err(Told::NotYours(_)) => story.say("not yours"),
+        Err(Told::Answer(answer)) => story.tells(here.small, answer),
+        Err(Told::NoPlace) => false,
+        Err(Told::NotYours(_)) => {
+            story.say("not yours");
+            true
+        }
     }
-    false
 }
 
 /// The planner of a place does what an event says, and once more where memory is wanted.
@@ -160,7 +167,7 @@ fn answer<'i, S: Sheet<'i>, J: Naming, R: Wait>(
         };
         let (seat, told) = take(rt, desk, here, seat, event);
         put_at(seats, place, seat);
-        if !tell(story, here, seats, told) {
+        if tells(story, here, seats, &told) {
             return;
         }
         story.call_again();
