@@ -8,6 +8,10 @@
 # that asks for room for as many elements as may come, and where this is refused for one. Of these there are so many as stand below:
 # the words of the command line are collected twice, and `clap` collects the letters of each two words that it compares.
 #
+# At a seat of a desk each request of the program is refused alone: a line that is answered 'no memory' is typed again. The answers
+# have to be those with memory, and the minutes too. Or the desk ends with status 3 and 'timedesk: no memory': then what it answered,
+# and the minutes, are the front of what they are with memory, and what was told as committed is in the minutes.
+#
 # It needs a C compiler. TRIALS and PROGRAM name other builds. The last line is 'N passed, M failed', of runs that met a refusal.
 set -u
 here=$(CDPATH='' cd -- "$(dirname -- "${BASH_SOURCE[0]}")/.." && pwd) || exit 1
@@ -72,6 +76,10 @@ cd -- "$room" || exit 1
 head -n 4 s.sol >s0.sol
 printf '%s\n' 'journal 1' 'entry 0 2' 'place top A 0 1' 'refused roomtaken geo' 'slot 0 0' 'lectures 1 alg A 0 0' END. >told
 echo 'Barred: 2 alg A top A END.' >barred
+printf '%s\n' 'entry 0 1' 'place top B 0 2' done 'entry 1 1' 'slot 0 2' 'lectures 1 top B 0 2' 'entry 0 1' 'drop top 0' >torn
+# what a planner types at a seat
+printf '%s\n' open 'place geo A 0 1' 'price place top B 0 2' refresh commit open 'slot 0 1' 'teacher t1' 'drop geo 0 1' \
+    'place alg A 0 0' 'swap alg 0 0 geo 0 1' 'reroom alg B 0 0' 'frob it' commit 'show cost' open abandon leave >typed
 # a draft that is brought up to date, and one that turns out to be stale
 printf '%s\n' '0 open' '0 place geo A 0 1' '2 open' '2 slot 0 2' '1 open' '1 place top B 0 2' '1 commit' '0 refresh' '2 refresh' '0 slot 0 2' \
     '0 commit' >refreshed
@@ -120,7 +128,8 @@ of_trials=$((passed + failed))
 spared=0
 for words in 'check small.ctt s.sol --json --barred barred' 'check small.ctt small.ctt' \
     'check small.ctt s.sol --explain' 'check small.ctt s.sol --explain --json' 'week small.ctt s.sol --course geo' 'page small.ctt s.sol' \
-    'run small.ctt refreshed --barred barred --journal journal' 'audit small.ctt told --start s0.sol' frobnicate; do
+    'run small.ctt refreshed --barred barred --journal journal' 'audit small.ctt told --start s0.sol' \
+    'journal small.ctt torn' 'list small.ctt told --start s0.sol' frobnicate; do
     "$program" $words >out 2>err
     wanted=$?
     spare=2
@@ -156,5 +165,71 @@ for words in 'check small.ctt s.sol --json --barred barred' 'check small.ctt sma
     done
 done
 echo "the program met $((passed + failed - of_trials)) more, of which $spared were for room by a guess"
+
+# Plays the typed lines at a seat, each when the one before is answered, and notes the answers in `out.now`, how often a line was
+# typed again in `again`, and how the desk ended in `status`.
+sit() {
+    local line answer into from desk
+    again=0
+    rm -f minutes met
+    : >out.now
+    coproc seat { exec env "$@" "$program" desk small.ctt - --minutes minutes 2>err.now; }
+    desk=$! into=${seat[1]} from=${seat[0]}
+    exec 8<&"$from" 9>&"$into"
+    eval "exec $from<&- $into>&-"
+    while read -r line; do
+        echo "$line" >&9 2>pipe || break
+        read -r answer <&8 || break
+        if [ "$answer" = 'no memory' ]; then
+            again=$((again + 1))
+            echo "$line" >&9 2>pipe || break
+            read -r answer <&8 || break
+        fi
+        echo "$answer" >>out.now
+    done <typed
+    exec 9>&-
+    cat <&8 >>out.now
+    exec 8<&-
+    wait "$desk" 2>pipe
+    status=$?
+}
+
+# Whether the first file is the front of the second one.
+begins() { cmp -s -n "$(wc -c <"$1")" "$1" "$2"; }
+
+trap '' PIPE
+of_all=$((passed + failed))
+typed_again=0
+spare=2
+sit MET=met
+mv out.now out
+mv minutes minutes.all
+if [ "$status" != 0 ] || [ -s met ]; then
+    failed=$((failed + 1))
+    echo "FAILED: a seat: status $status"
+fi
+for ((number = 1; ; number++)); do
+    sit LD_PRELOAD="$room/refuse.so" MET=met REFUSE="$number"
+    [ -s met ] || break
+    [ "$again" = 0 ] || typed_again=$((typed_again + 1))
+    if [ "$status" = 0 ] && cmp -s out out.now && cmp -s minutes.all minutes; then
+        if [ "$again" = 0 ] && grep -q more met; then
+            spare=$((spare - 1))
+        fi
+        if [ "$spare" -ge 0 ]; then
+            passed=$((passed + 1))
+        else
+            failed=$((failed + 1))
+            echo "FAILED: a seat, request $number, which could be done without"
+        fi
+    elif [ "$status" = 3 ] && [ "$(<err.now)" = 'timedesk: no memory' ] && begins out.now out && { [ ! -e minutes ] || begins minutes minutes.all; } \
+        && [ "$(grep -c '^committed' out.now)" -le "$(cat minutes 2>pipe | grep -c '^entry')" ]; then
+        passed=$((passed + 1))
+    else
+        failed=$((failed + 1))
+        echo "FAILED: a seat, request $number: status $status"
+    fi
+done
+echo "a seat met $((passed + failed - of_all)) more, of which $typed_again were answered and made again"
 echo "$passed passed, $failed failed"
 [ "$failed" = 0 ]

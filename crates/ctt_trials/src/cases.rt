@@ -1,41 +1,57 @@
 //! A case is a row of a table: a script with its opening, and in which ways it is played.
 
-use crate::shared::Script;
+ghost use Rattle.ctt_text.specs.Timetable.{IsTimetable};
+
 use crate::story::Story;
-use crate::texts::{Lectures, Opening};
-use crate::{crews, cuts, desks, drafts, journals, reports, scripts, shared, sheets, transfers};
+use crate::{crews, cuts, desks, drafts, journals, scripts, shared, sheets, shown, transfers};
 use ctt_board::{GridSheet, ListSheet, Sheet};
-use ctt_text::Instance;
+use ctt_text::{Instance, Placed, let_go, read_solution};
 use std::marker::Sync;
 use std::sync::Wait;
 use std::thread::Threads;
 
-/// On what a case is played.
-pub(crate) enum On {
-    /// `ListSheet`.
-    List,
-    /// `GridSheet`.
-    Grid,
-    /// A shared desk of list sheets.
+/// How a case is played.
+pub(crate) enum Way {
+    /// Without a sheet.
+    Plain(Plain),
+    /// On list sheets.
+    List(On),
+    /// On grid sheets.
+    Grid(On),
+    /// Its lines by the planners of a shared desk of list sheets.
     SharedList,
-    /// A shared desk of grid sheets.
+    /// Its lines by the planners of a shared desk of grid sheets.
     SharedGrid,
 }
 
-/// How a case is played.
-pub(crate) enum Way {
+/// How a case is played without a sheet.
+pub(crate) enum Plain {
     /// The reports on its opening.
     Reports,
     /// Its opening is written and read again.
     Written,
+    /// What is found of its opening, its week and its page.
+    Findings,
+    /// Which rows its line reads.
+    Rows,
+    /// Its lines are the script of a crew of one.
+    Crew,
+    /// Texts that are cut, and texts that count falsely.
+    Cut,
+    /// Its lines are a text that is read from devices that fail.
+    Reads,
+    /// Its lines are a text that is written to devices that fail.
+    Writes,
+}
+
+/// How a case is played on sheets of one kind.
+pub(crate) enum On {
     /// Its lines, each of which is a call, on a sheet.
     Lines,
     /// One placement on a sheet.
     Placement,
     /// Which changes a sheet accepts.
     Accepted,
-    /// Which rows its line reads.
-    Rows,
     /// A draft that is stale on another sheet.
     Draft,
     /// A draft of a thousand calls.
@@ -46,25 +62,18 @@ pub(crate) enum Way {
     Run,
     /// Its lines as a text, whose answers are a text.
     Text,
-    /// Its lines are the text of a journal, which is audited.
-    Audit,
-    /// Whether a shared desk opens.
-    Opening,
-    /// Its lines are the script of a crew of one.
-    Crew,
-    /// Texts that are cut.
-    Cut,
-    /// Texts that count falsely.
-    Counts,
     /// Its lines as a script on devices that fail.
     Devices,
-    /// Texts on devices that fail.
-    Transfers,
+    /// Its lines are the text of a journal, which is audited.
+    Audit,
+    /// Its lines are the text of a journal, and what this leaves is told.
+    Left,
+    /// Whether a shared desk opens.
+    Opening,
 }
 
 /// One way in which a case is played.
 pub(crate) struct Play {
-    pub(crate) on: On,
     pub(crate) way: Way,
     /// How the way is called, where what is told has to be what was told in the last way that is not called.
     pub(crate) called: &'static str,
@@ -74,107 +83,125 @@ pub(crate) struct Play {
 pub(crate) struct Case {
     /// Its name, if it has one.
     pub(crate) name: &'static str,
-    /// What stands at first.
-    pub(crate) opening: Opening,
+    /// The text of the timetable that stands at first.
+    pub(crate) opening: &'static str,
     pub(crate) lines: &'static str,
     pub(crate) plays: &'static [Play],
     /// Whether the first planner is dropped when another one begins, with the draft that he has open, where the desk is shared.
     pub(crate) drops: bool,
 }
 
+/// The lines of a case, with its instance and the lectures with which it opens.
+#[derive(Drop)]
+pub(crate) struct Script<'i> {
+    pub(crate) small: &'i Instance,
+    pub(crate) opening: &'i [Placed],
+    pub(crate) lines: &'i str,
+    pub(crate) drops: bool,
+}
+
+/// Plays a case without a sheet.
+fn play_plain<R: Threads + Wait + Sync>(story: &mut Story, rt: &R, plain: &Plain, script: &Script)
+    requires { IsTimetable script.now.small.now script.now.opening.now }
+{
+    match plain {
+        Plain::Reports => shown::play_reports(story, script),
+        Plain::Written => shown::play_written(story, script),
+        Plain::Findings => shown::play_findings(story, script),
+        Plain::Rows => sheets::tell_rows(story, script),
+        Plain::Crew => crews::play(story, rt, script),
+        Plain::Cut => cuts::play(story, script.small),
+        Plain::Reads => transfers::play_reads(story, script.lines),
+        Plain::Writes => transfers::play_writes(story, script.lines),
+    }
+}
+
 /// Plays a case on sheets of one kind.
-fn play_on<'i, S: Sheet<'i>, R: Threads + Wait + Sync>(
-    story: &mut Story,
-    rt: &R,
-    small: &'i Instance,
-    way: &Way,
-    script: &Script,
-) {
-    match way {
-        Way::Reports => reports::play_reports(story, small, script.opening),
-        Way::Written => reports::play_written(story, small, script.opening),
-        Way::Lines | Way::Placement | Way::Accepted => sheets::play::<S>(story, small, way, script),
-        Way::Rows => sheets::play_rows(story, small, script),
-        Way::Draft | Way::LongDraft => drafts::play::<S>(story, small, way),
-        Way::Step | Way::Run => desks::play::<S>(story, small, way, script),
-        Way::Text => scripts::play_script::<S>(story, small, script),
-        Way::Devices => scripts::play_devices::<S>(story, small, script),
-        Way::Audit => {
-            journals::audit_text::<S>(story, small, script.opening, script.lines.as_bytes())
+fn play_on<'i, S: Sheet<'i>>(story: &mut Story, on: &On, script: &Script<'i>)
+    requires { IsTimetable script.now.small.now script.now.opening.now }
+{
+    match on {
+        On::Lines | On::Placement | On::Accepted => sheets::play::<S>(story, on, script),
+        On::Draft | On::LongDraft => drafts::play::<S>(story, on, script.small),
+        On::Step | On::Run => desks::play::<S>(story, on, script),
+        On::Text => scripts::play_script::<S>(story, script),
+        On::Devices => scripts::play_devices::<S>(story, script),
+        On::Audit | On::Left => {
+            journals::read_text::<S>(story, on, script, script.lines.as_bytes());
         }
-        Way::Opening => shared::tell_opening::<S>(story, small, script.opening),
-        Way::Crew => crews::play(story, rt, small, script),
-        Way::Cut => cuts::cut(story, small),
-        Way::Counts => cuts::false_counts(story, small),
-        Way::Transfers => transfers::play_texts(story),
+        On::Opening => shared::tell_opening::<S>(story, script),
     }
 }
 
 /// Plays a case in one way.
-fn play_once<R: Threads + Wait + Sync>(
-    story: &mut Story,
-    rt: &R,
-    small: &Instance,
-    play: &Play,
-    script: &Script,
-) {
-    match play.on {
-        On::List => play_on::<ListSheet, R>(story, rt, small, &play.way, script),
-        On::Grid => play_on::<GridSheet, R>(story, rt, small, &play.way, script),
-        On::SharedList => shared::on_list(story, rt, small, script),
-        On::SharedGrid => shared::on_grid(story, rt, small, script),
+fn play_once<R: Threads + Wait + Sync>(story: &mut Story, rt: &R, way: &Way, script: &Script)
+    requires { IsTimetable script.now.small.now script.now.opening.now }
+{
+    match way {
+        Way::Plain(plain) => play_plain(story, rt, plain, script),
+        Way::List(on) => play_on::<ListSheet>(story, on, script),
+        Way::Grid(on) => play_on::<GridSheet>(story, on, script),
+        Way::SharedList => shared::on_list(story, rt, script),
+        Way::SharedGrid => shared::on_grid(story, rt, script),
     }
 }
 
-/// Plays a case in one way, and once more where a call of it wanted memory.
-fn play_twice<R: Threads + Wait + Sync>(
+/// Plays a case with the lectures of its opening.
+fn play_opened<R: Threads + Wait + Sync>(
     story: &mut Story,
     rt: &R,
     small: &Instance,
-    play: &Play,
-    script: &Script,
-) {
-    let here = story.len();
-    play_once(story, rt, small, play, script);
-    if story.takes_back(here) {
-        play_once(story, rt, small, play, script);
-    }
-}
-
-/// Plays a case in all its ways.
-fn play_case<R: Threads + Wait + Sync>(
-    story: &mut Story,
-    rt: &R,
-    small: &Instance,
-    lectures: &Lectures,
+    opening: &[Placed],
     case: &Case,
-) {
-    if !case.name.is_empty() {
-        story.say(case.name);
-    }
-    let mut script = Script::new(lectures.of(&case.opening), case.lines, case.drops);
+)
+    requires { IsTimetable small.now opening.now }
+{
+    let script = Script {
+        small,
+        opening,
+        lines: case.lines,
+        drops: case.drops,
+    };
     let (mut from, mut to) = (0, 0);
-    for one in case.plays {
+    for play in case.plays {
         let here = story.len();
-        play_twice(story, rt, small, one, &script);
-        if one.called.is_empty() {
+        story.marked = 0;
+        play_once(story, rt, &play.way, &script);
+        if play.called.is_empty() {
             (from, to) = (here, story.len());
-            script.note(here, story.marked(), to);
+            story.note(here);
         } else {
-            story.compare(from, to, here, one.called);
+            story.compare(from, to, here, play.called);
         }
     }
 }
 
-/// Plays cases.
+/// Plays a case.
+fn play_case<R: Threads + Wait + Sync>(story: &mut Story, rt: &R, small: &Instance, case: &Case) {
+    match read_solution(story.alloc(), small, case.opening.as_bytes()) {
+        Ok(opening) => {
+            play_opened(story, rt, small, &opening, case);
+            let_go(opening);
+        }
+        Err(_fault) => story.no_memory(),
+    }
+}
+
+/// Plays cases, each once more where a call of it wanted memory.
 pub(crate) fn play_cases<R: Threads + Wait + Sync>(
     story: &mut Story,
     rt: &R,
     small: &Instance,
-    lectures: &Lectures,
     cases: &[Case],
 ) {
     for case in cases {
-        play_case(story, rt, small, lectures, case);
+        if !case.name.is_empty() {
+            story.say(case.name);
+        }
+        let here = story.len();
+        play_case(story, rt, small, case);
+        if story.takes_back(here) {
+            play_case(story, rt, small, case);
+        }
     }
 }

@@ -1,10 +1,9 @@
 //! Texts that are cut short, and texts that count falsely.
 
 use crate::story::Story;
-use crate::texts::{JOURNAL, MANY_CONSTRAINTS, MANY_MEMBERS, SMALL, SOLUTION};
+use crate::texts::{JOURNAL, MANY_CONSTRAINTS, MANY_MEMBERS, SMALL, SOLUTION, SPOILT};
 use ctt_script::{JournalFault, read_journal};
 use ctt_text::{Instance, ReadFault, SolutionFault, read_instance, read_solution};
-use std::alloc::{AllocError, Global};
 
 /// The front of a text that has so many words. Behind each of its words stands one blank.
 fn front(text: &[u8], words: u64) -> &[u8] {
@@ -24,7 +23,7 @@ fn front(text: &[u8], words: u64) -> &[u8] {
 fn tell_instance(story: &mut Story, text: &[u8], fit: ReadFault, words: &str, at: u64) {
     story.bytes(b" ");
     let fault = read_instance(story.alloc(), text).err();
-    story.read(fault, ReadFault::NoMemory, fit, words, at);
+    story.read(&fault, &ReadFault::NoMemory, &fit, words, at);
 }
 
 /// Reads the text of a journal, and tells how that ends.
@@ -38,32 +37,30 @@ fn tell_journal(
 ) {
     story.bytes(b" ");
     let fault = read_journal(story.alloc(), small, text).err();
-    story.read(fault, JournalFault::NoMemory, fit, words, at);
+    story.read(&fault, &JournalFault::NoMemory, &fit, words, at);
 }
 
-/// The small instance, cut behind each of its words.
-fn cut_instance(story: &mut Story) {
+/// The small instance, its solution and a journal, cut behind each of their words. Behind each fourth one the solution ends
+/// with a lecture.
+fn cut(story: &mut Story, small: &Instance) {
     story.bytes(b"instance");
     for at in 1..=46 {
         let text = front(SMALL.as_bytes(), at - 1);
         tell_instance(story, text, ReadFault::Missing(at), "missing", at);
     }
-}
-
-/// Its solution, cut behind each of its words: behind each fourth one it ends with a lecture.
-fn cut_solution(story: &mut Story, small: &Instance) {
     story.bytes(b"\nsolution");
     for at in 1..=21 {
         let text = front(SOLUTION.as_bytes(), at - 1);
         story.bytes(b" ");
         let fault = read_solution(story.alloc(), small, text).err();
-        let fit = SolutionFault::Cut(at);
-        story.read(fault, SolutionFault::NoMemory, fit, "cut", at);
+        story.read(
+            &fault,
+            &SolutionFault::NoMemory,
+            &SolutionFault::Cut(at),
+            "cut",
+            at,
+        );
     }
-}
-
-/// A journal, cut behind each of its words.
-fn cut_journal(story: &mut Story, small: &Instance) {
     story.bytes(b"\njournal");
     for at in 1..=15 {
         let text = front(JOURNAL.as_bytes(), at - 1);
@@ -72,39 +69,29 @@ fn cut_journal(story: &mut Story, small: &Instance) {
     story.say("");
 }
 
-/// The small instance, its solution and a journal, cut behind each of their words.
-pub(crate) fn cut(story: &mut Story, small: &Instance) {
-    cut_instance(story);
-    cut_solution(story, small);
-    cut_journal(story, small);
-}
-
-/// The text of the small instance with a byte behind it that is no text.
-fn spoilt(alloc: Global) -> Result<Vec<u8>, AllocError> {
-    let mut text = Vec::with_capacity(alloc, 512)?;
-    text.extend_from_slice(SMALL.as_bytes())?;
-    text.extend_from_slice(&[255])?;
-    Ok(text)
-}
-
-/// An instance that is no text behind its end.
-fn tell_spoilt(story: &mut Story) {
-    match spoilt(story.alloc()) {
-        Ok(text) => tell_instance(story, &text, ReadFault::NotText(220), "not text", 220),
-        Err(AllocError) => story.no_memory(),
-    }
-}
-
 /// Counts that promise what does not come, and a byte that is no text behind the end.
-pub(crate) fn false_counts(story: &mut Story, small: &Instance) {
+fn false_counts(story: &mut Story, small: &Instance) {
     story.bytes(b"instance");
-    for (text, at) in [(MANY_CONSTRAINTS, 45), (MANY_MEMBERS, 41)] {
-        let fit = ReadFault::UnknownCourse(at);
-        tell_instance(story, text.as_bytes(), fit, "unknown course", at);
-    }
-    tell_spoilt(story);
+    let fit = ReadFault::UnknownCourse(45);
+    tell_instance(
+        story,
+        MANY_CONSTRAINTS.as_bytes(),
+        fit,
+        "unknown course",
+        45,
+    );
+    let fit = ReadFault::UnknownCourse(41);
+    tell_instance(story, MANY_MEMBERS.as_bytes(), fit, "unknown course", 41);
+    tell_instance(story, SPOILT, ReadFault::NotText(220), "not text", 220);
     story.bytes(b"\njournal");
     let fit = JournalFault::BadWord(3);
     tell_journal(story, small, b"journal 999999999 END.", fit, "bad word", 3);
     story.say("");
+}
+
+/// Texts that are cut, and texts that count falsely.
+pub(crate) fn play(story: &mut Story, small: &Instance) {
+    cut(story, small);
+    story.say("counted falsely");
+    false_counts(story, small);
 }

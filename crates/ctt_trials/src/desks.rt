@@ -1,55 +1,30 @@
 //! A script as events on a desk that keeps its journal: one by one, and at once. What the desk leaves is told.
 
+ghost use Rattle.ctt_text.specs.Timetable.{IsTimetable};
 ghost use Rattle.std.specs.Prelude.{◌↔◌, IsTrue, length};
 ghost use Rattle.std.specs.List.{AllByRecursion as Each};
 ghost use Rattle.ctt_core.specs.Runs.{EventFits};
 
-use crate::cases::Way;
+use crate::cases::{On, Script};
 use crate::journals::tell_journal;
 use crate::lists::add;
-use crate::shared::Script;
 use crate::story::Story;
 use ctt_board::Sheet;
 use ctt_core::{Answer, Desk, DeskFault, Event};
 use ctt_draft::KeepAll;
 use ctt_script::{Lines, PLANNERS, read_line};
-use ctt_text::{Instance, NoMemory, Placed, is_timetable, let_go};
-use std::alloc::{AllocError, Global};
-
-/// How many events a script has at most.
-const EVENTS: usize = 64;
+use ctt_text::{Instance, NoMemory, let_go};
 
 /// Tells the lectures, the cost and the journal of a desk.
 pub(crate) fn tell_desk<'i, S: Sheet<'i>>(
     story: &mut Story,
-    small: &'i Instance,
-    opening: &[Placed],
+    script: &Script<'i>,
     desk: &Desk<'i, S, KeepAll>,
-) {
-    story.timetable(small, desk.list(), desk.cost());
-    tell_journal::<S>(story, small, opening, desk.journal());
-}
-
-/// A desk with these lectures, for as many planners as a script has.
-fn desk_with<'i, S: Sheet<'i>>(
-    story: &mut Story,
-    small: &'i Instance,
-    opening: &[Placed],
-) -> Option<Desk<'i, S, KeepAll>> {
-    if !is_timetable(small, opening) {
-        return None;
-    }
-    match Desk::new(story.alloc(), small, opening, PLANNERS) {
-        Ok(desk) => Some(desk),
-        Err(DeskFault::NoMemory) => {
-            story.no_memory();
-            None
-        }
-        Err(DeskFault::Unlawful(at, fault)) => {
-            story.unlawful(small, at, fault);
-            None
-        }
-    }
+)
+    requires { IsTimetable script.now.small.now script.now.opening.now }
+{
+    story.timetable(script.small, desk.list(), desk.cost());
+    tell_journal::<S>(story, script, desk.journal());
 }
 
 /// Whether an event is one of a desk.
@@ -74,26 +49,23 @@ fn tell_answer<'i, S: Sheet<'i>>(
     desk: &mut Desk<'i, S, KeepAll>,
     event: &Event,
 ) {
-    let mut answer = step_once(desk, event);
-    if matches!(answer, Answer::NoMemory) {
-        story.call_again();
-        answer = step_once(desk, event);
+    if story.tells(small, &step_once(desk, event)) {
+        return;
     }
-    story.answer(small, &answer);
+    story.call_again();
+    story.answer(small, &step_once(desk, event));
 }
 
 /// Answers a script line by line.
 fn answer_lines<'i, S: Sheet<'i>>(
     story: &mut Story,
-    small: &'i Instance,
+    script: &Script<'i>,
     desk: &mut Desk<'i, S, KeepAll>,
-    script: &str,
 ) {
-    for line in Lines::new(script.as_bytes()) {
-        match read_line(small, line) {
-            Some(event) => tell_answer(story, small, desk, &event),
-            None if line.is_empty() => {}
-            None => story.say("bad line"),
+    for line in Lines::new(script.lines.as_bytes()) {
+        match read_line(script.small, line) {
+            Some(event) => tell_answer(story, script.small, desk, &event),
+            None => story.bad_line(line),
         }
     }
 }
@@ -111,18 +83,16 @@ impl OfLine for Event {
 }
 
 /// What the lines of a script ask for, with nothing for a bad line.
-fn asked_in<T: OfLine>(
-    alloc: Global,
-    small: &Instance,
-    script: &str,
-) -> Result<Vec<T>, AllocError> {
-    let mut list = Vec::with_capacity(alloc, EVENTS)?;
-    for line in Lines::new(script.as_bytes()) {
-        if let Some(one) = T::of_line(small, line) {
-            add(&mut list, one)?;
+fn asked_in<T: OfLine>(story: &mut Story, script: &Script) -> Vec<T> {
+    let mut list = Vec::new(story.alloc());
+    for line in Lines::new(script.lines.as_bytes()) {
+        if let Some(one) = T::of_line(script.small, line) {
+            if add(&mut list, one).is_err() {
+                story.no_memory();
+            }
         }
     }
-    Ok(list)
+    list
 }
 
 /// Whether a desk of the instance with so many planners can be asked to answer these events.
@@ -140,32 +110,6 @@ fn events_fit<'i, S: Sheet<'i>>(desk: &Desk<'i, S, KeepAll>, events: &[Event]) -
     all_fit(events, desk.instance(), desk.planners())
 }
 
-/// What a desk answers to events of it at once.
-fn run_once<'i, S: Sheet<'i>>(
-    desk: &mut Desk<'i, S, KeepAll>,
-    events: &[Event],
-) -> Result<Vec<Answer>, NoMemory> {
-    if !events_fit(desk, events) {
-        return Err(NoMemory);
-    }
-    desk.run(events)
-}
-
-/// What a desk answers to events at once. Where that is want of memory, it is asked again.
-fn answers<'i, S: Sheet<'i>>(
-    story: &mut Story,
-    desk: &mut Desk<'i, S, KeepAll>,
-    events: &[Event],
-) -> Result<Vec<Answer>, NoMemory> {
-    match run_once(desk, events) {
-        Ok(answers) => Ok(answers),
-        Err(NoMemory) => {
-            story.call_again();
-            run_once(desk, events)
-        }
-    }
-}
-
 /// Tells what a desk answers to events at once. Where an event wants memory those behind it meet another desk than they
 /// should: then the case is played again.
 fn tell_answers<'i, S: Sheet<'i>>(
@@ -174,42 +118,45 @@ fn tell_answers<'i, S: Sheet<'i>>(
     desk: &mut Desk<'i, S, KeepAll>,
     events: &[Event],
 ) {
-    let Ok(answers) = answers(story, desk, events) else {
-        return story.no_memory();
-    };
-    for answer in &answers {
-        story.answer(small, answer);
+    if !events_fit(desk, events) {
+        return story.say("unfit");
+    }
+    match desk.run(events) {
+        Ok(answers) => story.answers(small, &answers),
+        Err(NoMemory) => story.no_memory(),
     }
 }
 
-/// Answers a script at once.
-fn answer_at_once<'i, S: Sheet<'i>>(
+/// Plays a script on a desk event by event, or at once, and tells what the desk then has. The place where its answers end in
+/// what is told is marked.
+fn play_at<'i, S: Sheet<'i>>(
     story: &mut Story,
-    small: &'i Instance,
+    on: &On,
+    script: &Script<'i>,
     desk: &mut Desk<'i, S, KeepAll>,
-    script: &str,
-) {
-    match asked_in::<Event>(story.alloc(), small, script) {
-        Ok(events) => tell_answers(story, small, desk, &events),
-        Err(AllocError) => story.no_memory(),
+)
+    requires { IsTimetable script.now.small.now script.now.opening.now }
+{
+    if matches!(on, On::Run) {
+        let events = asked_in::<Event>(story, script);
+        tell_answers(story, script.small, desk, &events);
+    } else {
+        answer_lines(story, script, desk);
     }
+    story.marked = story.len();
+    tell_desk(story, script, desk);
 }
 
-/// Plays a script event by event, or at once. The place where its answers end in what is told is marked.
-pub(crate) fn play<'i, S: Sheet<'i>>(
-    story: &mut Story,
-    small: &'i Instance,
-    way: &Way,
-    script: &Script,
-) {
-    if let Some(mut desk) = desk_with::<S>(story, small, script.opening) {
-        if matches!(way, Way::Run) {
-            answer_at_once(story, small, &mut desk, script.lines);
-        } else {
-            answer_lines(story, small, &mut desk, script.lines);
+/// Plays a script event by event, or at once.
+pub(crate) fn play<'i, S: Sheet<'i>>(story: &mut Story, on: &On, script: &Script<'i>)
+    requires { IsTimetable script.now.small.now script.now.opening.now }
+{
+    match Desk::<S, KeepAll>::new(story.alloc(), script.small, script.opening, PLANNERS) {
+        Ok(mut desk) => {
+            play_at(story, on, script, &mut desk);
+            let_go(desk);
         }
-        story.mark();
-        tell_desk(story, small, script.opening, &desk);
-        let_go(desk);
+        Err(DeskFault::Unlawful(at, fault)) => story.unlawful(script.small, at, fault),
+        Err(DeskFault::NoMemory) => story.no_memory(),
     }
 }

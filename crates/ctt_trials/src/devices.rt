@@ -1,11 +1,8 @@
 //! Readers and writers over memory that give and take a little at a time, and fail where they are told to.
 
-ghost use Rattle.std.specs.Prelude.{◌≡◌, false, Some};
+ghost use Rattle.std.specs.Prelude.{◌≡◌, false, None, Some};
 
 use ctt_devices::{Failed, Sink, Source};
-use std::alloc::{AllocError, Global};
-use std::io;
-use std::io::{ErrorKind, Read, Write};
 
 /// A reader over memory that tells its bytes. It gives them one by one, and its read of the number `fails_at`, counted from
 /// 1, fails; those behind it do not.
@@ -14,7 +11,8 @@ pub(crate) struct Memory<'a> {
     bytes: &'a [u8],
     fails_at: u64,
     failed: bool,
-    pulls: u64,
+    /// How many reads were tried.
+    pub(crate) pulls: u64,
 }
 
 impl<'a> Memory<'a> {
@@ -28,11 +26,6 @@ impl<'a> Memory<'a> {
             failed: false,
             pulls: 0,
         }
-    }
-
-    /// How many reads were tried.
-    pub(crate) fn pulls(&self) -> u64 {
-        self.pulls
     }
 }
 
@@ -59,8 +52,6 @@ impl<'a> Source for Memory<'a> {
 /// How a writer fails.
 #[derive(Clone, Copy)]
 pub(crate) enum Failing {
-    /// Not at all.
-    Never,
     /// A write is refused when it has taken so many bytes.
     Behind(usize),
     /// Each write is answered, but takes nothing.
@@ -69,61 +60,52 @@ pub(crate) enum Failing {
     Flush,
 }
 
-/// A writer over memory that tells what it took.
+/// A writer that compares what it takes with the front of a text.
 #[derive(Drop)]
-pub(crate) struct Shelf {
-    held: Vec<u8>,
+pub(crate) struct Shelf<'a> {
+    text: &'a [u8],
     failing: Failing,
     failed: bool,
-    flushes: u64,
+    /// How many bytes it took that are those of the text.
+    pub(crate) taken: usize,
+    /// Whether it took others.
+    is_other: bool,
+    /// How often it was flushed.
+    pub(crate) flushes: u64,
 }
 
-/// How many bytes a writer has room for.
-const ROOM: usize = 4_096;
-
-impl Shelf {
-    /// An empty writer.
-    pub(crate) fn new(alloc: Global, failing: Failing) -> Result<Self, AllocError> {
-        Ok(Shelf {
-            held: Vec::with_capacity(alloc, ROOM)?,
+impl<'a> Shelf<'a> {
+    /// A writer that wants a text, and fails in this way.
+    pub(crate) fn new(text: &'a [u8], failing: Failing) -> Self {
+        Shelf {
+            text,
             failing,
             failed: false,
+            taken: 0,
+            is_other: false,
             flushes: 0,
-        })
+        }
     }
 
-    /// What it took.
-    pub(crate) fn held(&self) -> &[u8] {
-        self.held.as_slice()
-    }
-
-    /// Gives up what it took, and fails in another way from now on.
-    pub(crate) fn renew(&mut self, failing: Failing) {
-        self.held.clear();
-        self.failing = failing;
-        self.failed = false;
-        self.flushes = 0;
-    }
-
-    /// How often it was flushed.
-    pub(crate) fn flushes(&self) -> u64 {
-        self.flushes
+    /// Whether it took so many bytes of the text, and no others.
+    pub(crate) fn holds(&self, taken: usize) -> bool {
+        self.taken == taken && !self.is_other
     }
 
     /// How many bytes it would take now.
     fn room(&self) -> usize {
         match self.failing {
-            Failing::Never | Failing::Flush => usize::MAX,
-            Failing::Behind(most) => most.saturating_sub(self.held.len()),
+            Failing::Flush => usize::MAX,
+            Failing::Behind(most) => most.saturating_sub(self.taken),
             Failing::Idle => 0,
         }
     }
 }
 
-impl Sink for Shelf {
+impl<'a> Sink for Shelf<'a> {
     ghost has_failed = { λ shelf. shelf.failed };
 
-    ghost taken = { λ shelf. Some shelf.held.items };
+    ghost taken = { λ shelf. None };
 
     fn put(&mut self, bytes: &[u8]) -> Result<usize, Failed> {
         let n = bytes.len().min(self.room());
@@ -135,10 +117,14 @@ impl Sink for Shelf {
                 Err(Failed)
             };
         }
-        let Ok(()) = self.held.extend_from_slice(&bytes[..n]) else {
-            self.failed = true;
-            return Err(Failed);
+        let is_same = match self.text.get(self.taken..) {
+            Some(rest) => rest.starts_with(&bytes[..n]),
+            None => false,
         };
+        if !is_same {
+            self.is_other = true;
+        }
+        self.taken = self.taken.saturating_add(n);
         Ok(n)
     }
 
@@ -150,50 +136,5 @@ impl Sink for Shelf {
         } else {
             Ok(())
         }
-    }
-}
-
-/// How an input is read.
-#[derive(Drop)]
-pub(crate) struct Reading<'a> {
-    pub(crate) text: &'a [u8],
-    /// The number of the read that fails, counted from 1; none where it is 0.
-    pub(crate) fails_at: u64,
-    /// How many reads were tried.
-    pub(crate) pulls: u64,
-}
-
-impl<'a> Reading<'a> {
-    pub(crate) fn new(text: &'a [u8], fails_at: u64) -> Self {
-        Reading {
-            text,
-            fails_at,
-            pulls: 0,
-        }
-    }
-}
-
-/// Whether a writer holds so many bytes, which are the front of a text.
-pub(crate) fn holds(shelf: &Shelf, text: &[u8], taken: usize) -> bool {
-    shelf.held().len() == taken && text.starts_with(shelf.held())
-}
-
-/// A reader and a writer of std whose calls all fail.
-#[derive(Drop)]
-pub(crate) struct Broken;
-
-impl Read for Broken {
-    fn read(&mut self, _buffer: &mut [u8]) -> io::Result<usize> {
-        Err(ErrorKind::PermissionDenied.into())
-    }
-}
-
-impl Write for Broken {
-    fn write(&mut self, _bytes: &[u8]) -> io::Result<usize> {
-        Err(ErrorKind::PermissionDenied.into())
-    }
-
-    fn flush(&mut self) -> io::Result<()> {
-        Err(ErrorKind::PermissionDenied.into())
     }
 }

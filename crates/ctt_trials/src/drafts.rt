@@ -3,7 +3,7 @@
 ghost use Rattle.std.specs.Prelude.{◌≡◌, ◌↔◌, IsTrue, IfOk};
 ghost use Rattle.ctt_edits.specs.Calls.{CallFits};
 
-use crate::cases::Way;
+use crate::cases::On;
 use crate::sheets::{call_of, tell_cells, tell_sheet};
 use crate::story::Story;
 use ctt_board::{Cell, Change, Sheet, Timetable};
@@ -11,19 +11,20 @@ use ctt_core::Answer;
 use ctt_draft::{Draft, KeepAll, replay};
 use ctt_edits::{Call, Reply};
 use ctt_text::{CourseNo, Instance, NoMemory, RoomNo, SlotNo, let_go};
+use std::alloc::Global;
 
 /// An empty sheet.
-fn empty_sheet<'i, S: Sheet<'i>>(story: &Story, small: &'i Instance) -> Result<S, NoMemory>
+fn empty_sheet<'i, S: Sheet<'i>>(alloc: Global, small: &'i Instance) -> Result<S, NoMemory>
     ensures { IfOk result (λ sheet. S.problem sheet ≡ small.now) }
 {
-    S::empty(story.alloc(), small)
+    S::empty(alloc, small)
 }
 
 /// Opens a draft on a sheet.
-fn open<'i, S: Sheet<'i>>(story: &Story, sheet: &S) -> Result<Draft<'i, S, KeepAll>, NoMemory>
+fn open<'i, S: Sheet<'i>>(alloc: Global, sheet: &S) -> Result<Draft<'i, S, KeepAll>, NoMemory>
     ensures { IfOk result (λ draft. draft.problem ≡ S.problem sheet.now) }
 {
-    Draft::open(story.alloc(), sheet)
+    Draft::open(alloc, sheet)
 }
 
 /// Whether a call has numbers of a draft's instance.
@@ -63,17 +64,47 @@ fn ask<'i, S: Sheet<'i>>(
     }
 }
 
+/// What a draft answers to the call of a line, unless the case is to be played again.
+fn ask_line<'i, S: Sheet<'i>>(
+    story: &mut Story,
+    draft: &mut Draft<'i, S, KeepAll>,
+    line: &str,
+) -> Option<Reply>
+    ensures { draft.new.problem ≡ draft.old.problem }
+{
+    match call_of(draft.instance(), line.as_bytes()) {
+        Some(call) => ask(story, draft, &call),
+        None => None,
+    }
+}
+
 /// Asks a draft what a line says, and tells the answer.
-fn ask_line<'i, S: Sheet<'i>>(story: &mut Story, draft: &mut Draft<'i, S, KeepAll>, line: &str)
+fn tell_asked<'i, S: Sheet<'i>>(story: &mut Story, draft: &mut Draft<'i, S, KeepAll>, line: &str)
     ensures { draft.new.problem ≡ draft.old.problem }
 {
     let small = draft.instance();
-    match call_of(small, line.as_bytes()) {
-        Some(call) => match ask(story, draft, &call) {
-            Some(reply) => story.answer(small, &Answer::Replied(reply)),
-            None => story.no_memory(),
-        },
-        None => story.say("bad line"),
+    match ask_line(story, draft, line) {
+        Some(reply) => story.answer(small, &Answer::Replied(reply)),
+        None => story.no_memory(),
+    }
+}
+
+/// Asks a draft what a line says: an edit, whose answer is not told.
+fn make<'i, S: Sheet<'i>>(story: &mut Story, draft: &mut Draft<'i, S, KeepAll>, line: &str)
+    ensures { draft.new.problem ≡ draft.old.problem }
+{
+    if !matches!(ask_line(story, draft, line), Some(Reply::Done)) {
+        story.no_memory();
+    }
+}
+
+/// Asks a draft a thousand times, by turns to place geo and to drop it again.
+fn ask_often<'i, S: Sheet<'i>>(story: &mut Story, draft: &mut Draft<'i, S, KeepAll>)
+    ensures { draft.new.problem ≡ draft.old.problem }
+{
+    for turn in 0..500u64 {
+        make(story, draft, "place geo A 0 1");
+        make(story, draft, "drop geo 0 1");
     }
 }
 
@@ -119,9 +150,9 @@ fn settle<'i, S: Sheet<'i>>(story: &mut Story, draft: Draft<'i, S, KeepAll>, she
             let_go(work);
             tell_sheet(story, sheet);
         }
-        Ok(Some(_)) | Err(NoMemory) => {
+        _ => {
             let_go(draft);
-            story.say("not settled");
+            story.no_memory();
         }
     }
 }
@@ -130,11 +161,11 @@ fn settle<'i, S: Sheet<'i>>(story: &mut Story, draft: Draft<'i, S, KeepAll>, she
 fn one_draft<'i, S: Sheet<'i>>(story: &mut Story, sheet: &mut S, other: &S)
     requires { S.problem other.now ≡ S.problem sheet.old }
 {
-    let Ok(mut draft) = open(story, sheet) else {
+    let Ok(mut draft) = open(story.alloc(), sheet) else {
         return story.no_memory();
     };
-    ask_line(story, &mut draft, "slot 0 2");
-    ask_line(story, &mut draft, "place geo A 0 1");
+    tell_asked(story, &mut draft, "slot 0 2");
+    tell_asked(story, &mut draft, "place geo A 0 1");
     tell_stale(story, &draft, sheet);
     tell_stale(story, &draft, other);
     tell_replayed(story, &draft, other);
@@ -142,27 +173,12 @@ fn one_draft<'i, S: Sheet<'i>>(story: &mut Story, sheet: &mut S, other: &S)
     settle(story, draft, sheet);
 }
 
-/// Whether a draft answers that the edit of a line is done.
-fn does<'i, S: Sheet<'i>>(story: &mut Story, draft: &mut Draft<'i, S, KeepAll>, line: &str) -> bool
-    ensures { draft.new.problem ≡ draft.old.problem }
-{
-    match call_of(draft.instance(), line.as_bytes()) {
-        Some(call) => matches!(ask(story, draft, &call), Some(Reply::Done)),
-        None => false,
-    }
-}
-
-/// A draft of a thousand calls, which places geo and drops it again by turns.
+/// A draft of a thousand calls.
 fn long_draft<'i, S: Sheet<'i>>(story: &mut Story, sheet: &mut S) {
-    let Ok(mut draft) = open(story, sheet) else {
+    let Ok(mut draft) = open(story.alloc(), sheet) else {
         return story.no_memory();
     };
-    let mut done = 0u64;
-    for turn in 0..500u64 {
-        done = done.saturating_add(u64::from(does(story, &mut draft, "place geo A 0 1")));
-        done = done.saturating_add(u64::from(does(story, &mut draft, "drop geo 0 1")));
-    }
-    story.count("done", done);
+    ask_often(story, &mut draft);
     tell_work(story, &draft);
     settle(story, draft, sheet);
 }
@@ -182,16 +198,17 @@ fn place_top<S: Timetable>(sheet: &mut S)
 }
 
 /// A draft on an empty sheet, beside another sheet, or a long one.
-pub(crate) fn play<'i, S: Sheet<'i>>(story: &mut Story, small: &'i Instance, way: &Way) {
-    let (Ok(mut sheet), Ok(mut other)) = (
-        empty_sheet::<S>(story, small),
-        empty_sheet::<S>(story, small),
-    ) else {
+pub(crate) fn play<'i, S: Sheet<'i>>(story: &mut Story, on: &On, small: &'i Instance) {
+    let alloc = story.alloc();
+    let Ok(mut sheet) = empty_sheet::<S>(alloc, small) else {
         return story.no_memory();
     };
-    if matches!(way, Way::LongDraft) {
+    if matches!(on, On::LongDraft) {
         return long_draft(story, &mut sheet);
     }
+    let Ok(mut other) = empty_sheet::<S>(alloc, small) else {
+        return story.no_memory();
+    };
     place_top(&mut other);
     one_draft(story, &mut sheet, &other);
 }

@@ -1,17 +1,19 @@
 //! Journals: their entries written, read and audited.
 
+ghost use Rattle.ctt_text.specs.Timetable.{IsTimetable};
 ghost use Rattle.std.specs.Prelude.{◌↔◌, IsTrue};
 ghost use Rattle.std.specs.List.{AllByRecursion as Each};
 ghost use Rattle.ctt_edits.specs.Fitting.{IsShortReply};
 ghost use Rattle.ctt_core.specs.Entries.{EntryFits};
-ghost use Rattle.ctt_script.specs.Entries.{IsShort};
+ghost use Rattle.ctt_script.specs.Entries.{IsEntry, IsShort};
 
+use crate::cases::{On, Script};
 use crate::story::Story;
 use ctt_board::Sheet;
-use ctt_core::{JournalEntry, Verdict, audit};
+use ctt_core::{JournalEntry, NoList, Verdict, audit, list_after};
 use ctt_edits::Reply;
-use ctt_script::{JournalFault, read_journal, write_journal};
-use ctt_text::{Instance, NoMemory, Placed, is_timetable};
+use ctt_script::{read_journal, write_journal};
+use ctt_text::{Instance, NoMemory};
 
 /// Whether a reply can be written.
 fn is_short_reply(reply: &Reply) -> bool
@@ -31,18 +33,13 @@ fn is_short(entry: &JournalEntry) -> bool
     asked.len() <= 999_999_999 && asked.iter().all(|one| is_short_reply(&one.reply))
 }
 
-/// Whether entries can be written.
-fn are_short(entries: &[JournalEntry]) -> bool
-    ensures { IsTrue result ↔ Each IsShort entries.now }
+/// Whether entries are some of an instance, and can be written.
+fn are_entries(small: &Instance, entries: &[JournalEntry]) -> bool
+    ensures { IsTrue result ↔ Each (IsEntry small.now) entries.now }
 {
-    entries.iter().all(|entry| is_short(entry))
-}
-
-/// Whether the numbers of entries are those of an instance.
-fn entries_fit(small: &Instance, entries: &[JournalEntry]) -> bool
-    ensures { IsTrue result ↔ Each (EntryFits small.now) entries.now }
-{
-    entries.iter().all(|entry| entry.fits(small))
+    entries
+        .iter()
+        .all(|entry| entry.fits(small) && is_short(entry))
 }
 
 /// Tells what was found of a journal.
@@ -57,52 +54,60 @@ fn tell_found(story: &mut Story, small: &Instance, found: Verdict) {
     }
 }
 
-/// Tells what is found of entries.
-fn tell_verdict<'i, S: Sheet<'i>>(
+/// Tells what an audit of entries finds, or the timetable that they leave.
+fn tell_entries<'i, S: Sheet<'i>>(
     story: &mut Story,
-    small: &'i Instance,
-    opening: &[Placed],
+    on: &On,
+    script: &Script<'i>,
     entries: &[JournalEntry],
 )
-    requires { Each (EntryFits small.now) entries.now }
+    requires timetable { IsTimetable script.now.small.now script.now.opening.now }
+    requires entries { Each (EntryFits script.now.small.now) entries.now }
 {
-    if !is_timetable(small, opening) {
-        return story.say("unfit");
-    }
-    match audit::<S>(story.alloc(), small, opening, entries) {
-        Ok(found) => tell_found(story, small, found),
-        Err(NoMemory) => story.no_memory(),
+    if matches!(on, On::Left) {
+        match list_after::<S>(story.alloc(), script.small, script.opening, entries) {
+            Ok(list) => story.lectures(script.small, Ok(list)),
+            Err(NoList::Found(found)) => tell_found(story, script.small, found),
+            Err(NoList::NoMemory) => story.no_memory(),
+        }
+    } else {
+        match audit::<S>(story.alloc(), script.small, script.opening, entries) {
+            Ok(found) => tell_found(story, script.small, found),
+            Err(NoMemory) => story.no_memory(),
+        }
     }
 }
 
-/// Reads and audits the text of a journal.
-pub(crate) fn audit_text<'i, S: Sheet<'i>>(
+/// Reads the text of a journal, and tells what an audit finds, or the timetable that it leaves.
+pub(crate) fn read_text<'i, S: Sheet<'i>>(
     story: &mut Story,
-    small: &'i Instance,
-    opening: &[Placed],
+    on: &On,
+    script: &Script<'i>,
     text: &[u8],
-) {
-    match read_journal(story.alloc(), small, text) {
-        Ok(entries) => tell_verdict::<S>(story, small, opening, &entries),
-        Err(JournalFault::NoMemory) => story.no_memory(),
-        Err(_fault) => story.say("no journal"),
+)
+    requires { IsTimetable script.now.small.now script.now.opening.now }
+{
+    match read_journal(story.alloc(), script.small, text) {
+        Ok(entries) => tell_entries::<S>(story, on, script, &entries),
+        Err(_fault) => story.no_memory(),
     }
 }
 
 /// Tells the journal of entries, and what is found of it.
 pub(crate) fn tell_journal<'i, S: Sheet<'i>>(
     story: &mut Story,
-    small: &'i Instance,
-    opening: &[Placed],
+    script: &Script<'i>,
     entries: &[JournalEntry],
-) {
-    if !entries_fit(small, entries) || !are_short(entries) || entries.len() > 999_999_999 {
+)
+    requires { IsTimetable script.now.small.now script.now.opening.now }
+{
+    if !are_entries(script.small, entries) || entries.len() > 999_999_999 {
         return story.say("unfit");
     }
-    match write_journal(story.alloc(), small, entries) {
+    match write_journal(story.alloc(), script.small, entries) {
         Ok(text) => {
             story.bytes(&text);
-            audit_text::<S>(story, small, opening, &text);
+            read_text::<S>(story, &On::Audit, script, &text);
         }
         Err(NoMemory) => story.no_memory(),
     }

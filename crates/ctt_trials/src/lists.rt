@@ -21,8 +21,3 @@ pub(crate) fn put_at<T: Drop>(places: &mut [Option<T>], place: usize, one: T) {
         *empty = Some(one);
     }
 }
-
-/// Drops what stands in a place.
-pub(crate) fn drop_at<T: Drop>(places: &mut [Option<T>], place: usize) {
-    drop(take_at(places, place));
-}

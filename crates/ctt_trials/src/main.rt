@@ -12,10 +12,10 @@ mod devices;
 mod drafts;
 mod journals;
 mod lists;
-mod reports;
 mod scripts;
 mod shared;
 mod sheets;
+mod shown;
 mod story;
 mod tables;
 mod texts;
@@ -25,7 +25,7 @@ mod worked;
 
 use cases::play_cases;
 use ctt_devices::Device;
-use ctt_text::{Instance, let_go, read_instance};
+use ctt_text::{let_go, read_instance};
 use std::alloc::Global;
 use std::marker::Sync;
 use std::process::ExitCode;
@@ -33,26 +33,14 @@ use std::sync::Wait;
 use std::thread::Threads;
 use story::Story;
 use tables::CASES;
-use texts::{SMALL, read_lectures};
-
-/// All that is played on the small instance.
-fn play_small<R: Threads + Wait + Sync>(story: &mut Story, rt: &R, small: &mut Instance) {
-    match read_lectures(story.alloc(), small) {
-        Ok(lectures) => {
-            play_cases(story, rt, small, &lectures, CASES);
-            barred::play(story, rt, small, &lectures);
-            let_go(lectures);
-        }
-        Err(_fault) => story.no_memory(),
-    }
-}
+use texts::SMALL;
 
 /// All that is played.
 fn play<R: Threads + Wait + Sync>(story: &mut Story, rt: &R) {
     match read_instance(story.alloc(), SMALL.as_bytes()) {
-        Ok(small) => {
-            let mut small = small;
-            play_small(story, rt, &mut small);
+        Ok(mut small) => {
+            play_cases(story, rt, &small, CASES);
+            barred::play(story, rt, &mut small);
             let_go(small);
         }
         Err(_fault) => story.no_memory(),

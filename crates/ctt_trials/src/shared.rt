@@ -1,104 +1,53 @@
 //! A script on a shared desk, played by its planners on one thread, of whom one learns each receipt.
 
+ghost use Rattle.ctt_text.specs.Timetable.{IsTimetable};
+ghost use Rattle.std.specs.Prelude.{◌≡◌, IfOk};
 ghost use Rattle.ctt_desk.specs.Names.{IsNamed};
 
+use crate::cases::Script;
 use crate::journals::tell_journal;
 use crate::story::Story;
-use crate::turns::{LOOKS, Part, VIEWER, answer_lines, instance_of, leave, sit};
+use crate::turns::{Here, LOOKS, Part, VIEWER, answer_lines, leave, sit};
 use ctt_board::{GridSheet, ListSheet, Sheet, Timetable};
-use ctt_desk::{Closed, Named, Naming, Opened, Planner, SharedDesk, SharedFault};
-use ctt_text::{Instance, Placed, is_timetable, let_go};
+use ctt_desk::{Named, Naming, Opened, Planner, SharedDesk, SharedFault};
+use ctt_text::let_go;
+use std::alloc::Global;
 use std::marker::{Brand, PhantomData};
 use std::sync::Wait;
 
 /// How many planners a desk has.
 const PLANNERS: u16 = 4;
 
-/// A script, and the lectures with which the desk opens on which it is played.
-#[derive(Drop)]
-pub(crate) struct Script<'a> {
-    pub(crate) opening: &'a [Placed],
-    pub(crate) lines: &'a str,
-    /// Whether the first planner is dropped when another one begins, with the draft that he has open, where the desk is shared.
-    drops: bool,
-    /// Where its answers begin and end in what was told first, and where what the desk left ends.
-    answers: usize,
-    end: usize,
-    all: usize,
-}
-
-impl<'a> Script<'a> {
-    /// A script that was not played yet.
-    pub(crate) fn new(opening: &'a [Placed], lines: &'a str, drops: bool) -> Self {
-        Script {
-            opening,
-            lines,
-            drops,
-            answers: 0,
-            end: 0,
-            all: 0,
-        }
-    }
-
-    /// Notes what was told of it from a place on, if its answers end in a place behind that.
-    pub(crate) fn note(&mut self, answers: usize, end: usize, all: usize) {
-        if answers < end {
-            self.answers = answers;
-            self.end = end;
-            self.all = all;
-        }
-    }
-}
-
 /// The opening of a desk.
-fn opened<'i, S: Sheet<'i>>(
-    story: &Story,
-    small: &'i Instance,
-    opening: &[Placed],
-) -> Result<Opened<S>, SharedFault> {
-    if !is_timetable(small, opening) {
-        return Err(SharedFault::NoMemory);
-    }
-    Opened::<S>::new(story.alloc(), small, opening)
+fn opened<'i, S: Sheet<'i>>(alloc: Global, script: &Script<'i>) -> Result<Opened<S>, SharedFault>
+    requires { IsTimetable script.now.small.now script.now.opening.now }
+    ensures { IfOk result (λ opened. opened.problem ≡ script.now.small.now) }
+{
+    Opened::<S>::new(alloc, script.small, script.opening)
 }
 
-/// The planners play a script at their desk. They come back from their seats.
+/// The planners play a script at their desk, and look at what it has left. They come back from their seats.
 fn play_at<'i, S: Sheet<'i>, J: Naming, R: Wait>(
     story: &mut Story,
     rt: &R,
     desk: &SharedDesk<S, J>,
+    here: &Here<'i, J>,
     planners: Vec<Planner<S, J>>,
-    script: &Script,
+    script: &Script<'i>,
 ) -> Vec<Planner<S, J>> {
-    let mut planners = planners;
-    let Some(small) = instance_of(&mut planners) else {
-        story.no_memory();
-        return planners;
-    };
     let mut seats = sit(story, planners);
-    let here = story.len();
+    let from = story.len();
     let part = Part {
         lines: script.lines,
         viewer: VIEWER,
         drops: script.drops,
     };
-    answer_lines(story, rt, desk, small, &mut seats, &part);
-    story.compare(script.answers, script.end, here, "on a shared desk");
+    answer_lines(story, rt, desk, here, &mut seats, &part);
+    story.compare(story.answers, story.end, from, "on a shared desk");
     for part in LOOKS {
-        answer_lines(story, rt, desk, small, &mut seats, part);
+        answer_lines(story, rt, desk, here, &mut seats, part);
     }
     leave(story, seats)
-}
-
-/// Tells what a closed desk has.
-fn tell_closed<'i, S: Sheet<'i>, J: Naming>(
-    story: &mut Story,
-    small: &'i Instance,
-    opening: &[Placed],
-    closed: &Closed<S, J>,
-) {
-    story.timetable(small, closed.list(), closed.cost());
-    tell_journal::<S>(story, small, opening, closed.journal());
 }
 
 /// Tells how many drafts each planner has seen, and committed.
@@ -114,21 +63,22 @@ fn close<'i, S: Sheet<'i>, J: Naming, R: Wait>(
     story: &mut Story,
     rt: &R,
     desk: SharedDesk<S, J>,
-    small: &'i Instance,
+    here: &Here<'i, J>,
     planners: &mut [Planner<S, J>],
-    script: &Script,
-) {
-    let here = story.len();
-    let closed = match desk.close(rt, planners) {
-        Ok(closed) => closed,
-        Err(closed) => {
-            story.say("not closed with all");
-            closed
+    script: &Script<'i>,
+)
+    requires { IsTimetable script.now.small.now script.now.opening.now }
+{
+    let from = story.len();
+    match desk.close(rt, planners) {
+        Ok(closed) => {
+            story.timetable(here.small, closed.list(), closed.cost());
+            tell_journal::<S>(story, script, closed.journal());
+            let_go(closed);
         }
-    };
-    tell_closed(story, small, script.opening, &closed);
-    let_go(closed);
-    story.compare(script.end, script.all, here, "what it left");
+        Err(closed) => let_go(closed),
+    }
+    story.compare(story.end, story.all, from, "what it left");
     tell_seen(story, planners);
 }
 
@@ -137,13 +87,15 @@ fn play_named<'i, S: Sheet<'i>, J: Naming, R: Wait>(
     story: &mut Story,
     rt: &R,
     named: Named<S, J>,
-    small: &'i Instance,
-    script: &Script,
-) {
+    here: &Here<'i, J>,
+    script: &Script<'i>,
+)
+    requires { IsTimetable script.now.small.now script.now.opening.now }
+{
     match SharedDesk::<S, J>::new(rt, named) {
         Ok((desk, all)) => {
-            let mut planners = play_at(story, rt, &desk, all, script);
-            close(story, rt, desk, small, planners.as_mut_slice(), script);
+            let mut planners = play_at(story, rt, &desk, here, all, script);
+            close(story, rt, desk, here, planners.as_mut_slice(), script);
             let_go(planners);
         }
         Err(_fault) => story.no_memory(),
@@ -156,23 +108,30 @@ fn named_on_list<'i, J: Naming, R: Wait>(
     rt: &R,
     opened: Opened<ListSheet<'i>>,
     count: u16,
-    small: &'i Instance,
-    script: &Script,
+    script: &Script<'i>,
 )
-    requires { IsNamed J.problem J.opening J.planners J.book opened count }
+    requires timetable { IsTimetable script.now.small.now script.now.opening.now }
+    requires named { IsNamed J.problem J.opening J.planners J.book opened count }
+    requires problem { opened.problem ≡ script.now.small.now }
 {
+    let here = Here {
+        small: script.small,
+        desk: PhantomData,
+    };
     let named = Named {
         opened,
         count,
         name: PhantomData,
     };
-    play_named::<ListSheet, J, R>(story, rt, named, small, script);
+    play_named::<ListSheet, J, R>(story, rt, named, &here, script);
 }
 
 /// Plays a script on a desk of list sheets.
-pub(crate) fn on_list<R: Wait>(story: &mut Story, rt: &R, small: &Instance, script: &Script) {
-    match opened::<ListSheet>(story, small, script.opening) {
-        Ok(opened) => named_on_list::<Brand, R>(story, rt, opened, PLANNERS, small, script),
+pub(crate) fn on_list<R: Wait>(story: &mut Story, rt: &R, script: &Script)
+    requires { IsTimetable script.now.small.now script.now.opening.now }
+{
+    match opened::<ListSheet>(story.alloc(), script) {
+        Ok(opened) => named_on_list::<Brand, R>(story, rt, opened, PLANNERS, script),
         Err(_fault) => story.no_memory(),
     }
 }
@@ -183,39 +142,44 @@ fn named_on_grid<'i, J: Naming, R: Wait>(
     rt: &R,
     opened: Opened<GridSheet<'i>>,
     count: u16,
-    small: &'i Instance,
-    script: &Script,
+    script: &Script<'i>,
 )
-    requires { IsNamed J.problem J.opening J.planners J.book opened count }
+    requires timetable { IsTimetable script.now.small.now script.now.opening.now }
+    requires named { IsNamed J.problem J.opening J.planners J.book opened count }
+    requires problem { opened.problem ≡ script.now.small.now }
 {
+    let here = Here {
+        small: script.small,
+        desk: PhantomData,
+    };
     let named = Named {
         opened,
         count,
         name: PhantomData,
     };
-    play_named::<GridSheet, J, R>(story, rt, named, small, script);
+    play_named::<GridSheet, J, R>(story, rt, named, &here, script);
 }
 
 /// Plays a script on a desk of grid sheets.
-pub(crate) fn on_grid<R: Wait>(story: &mut Story, rt: &R, small: &Instance, script: &Script) {
-    match opened::<GridSheet>(story, small, script.opening) {
-        Ok(opened) => named_on_grid::<Brand, R>(story, rt, opened, PLANNERS, small, script),
+pub(crate) fn on_grid<R: Wait>(story: &mut Story, rt: &R, script: &Script)
+    requires { IsTimetable script.now.small.now script.now.opening.now }
+{
+    match opened::<GridSheet>(story.alloc(), script) {
+        Ok(opened) => named_on_grid::<Brand, R>(story, rt, opened, PLANNERS, script),
         Err(_fault) => story.no_memory(),
     }
 }
 
-/// Tells whether a desk opens with some lectures.
-pub(crate) fn tell_opening<'i, S: Sheet<'i>>(
-    story: &mut Story,
-    small: &'i Instance,
-    lectures: &[Placed],
-) {
-    match opened::<S>(story, small, lectures) {
+/// Tells whether a desk opens with the lectures of a script.
+pub(crate) fn tell_opening<'i, S: Sheet<'i>>(story: &mut Story, script: &Script<'i>)
+    requires { IsTimetable script.now.small.now script.now.opening.now }
+{
+    match opened::<S>(story.alloc(), script) {
         Ok(opened) => {
             story.say("opened");
             let_go(opened);
         }
-        Err(SharedFault::Unlawful(at, fault)) => story.unlawful(small, at, fault),
+        Err(SharedFault::Unlawful(at, fault)) => story.unlawful(script.small, at, fault),
         Err(_fault) => story.no_memory(),
     }
 }

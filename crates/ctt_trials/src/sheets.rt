@@ -1,19 +1,17 @@
 //! Cases on one sheet: what is placed, asked and refused.
 
-ghost use Rattle.std.specs.Prelude.{◌≡◌, ◌↔◌, IsTrue, IfOk};
-ghost use Rattle.ctt_text.specs.Timetable.{Fits};
-ghost use Rattle.ctt_board.specs.Changes.{ChangeFits};
+ghost use Rattle.std.specs.Prelude.{◌↔◌, IsTrue};
+ghost use Rattle.ctt_text.specs.Timetable.{Fits, IsTimetable};
 ghost use Rattle.ctt_edits.specs.Edits.{EditFits};
 ghost use Rattle.ctt_edits.specs.Looks.{LookFits};
 
-use crate::cases::Way;
-use crate::shared::Script;
+use crate::cases::{On, Script};
 use crate::story::Story;
 use ctt_board::{Cell, Change, Sheet};
 use ctt_core::{Event, PlannerNo, placed};
 use ctt_edits::{Call, Edit, Look, Row, check, look, reads};
 use ctt_script::{Lines, read_own_line};
-use ctt_text::{CourseNo, Instance, NoMemory, Placed, RoomNo, SlotNo, is_timetable};
+use ctt_text::{CourseNo, Instance, NoMemory, Placed, RoomNo, SlotNo};
 
 /// The call that a line asks for.
 pub(crate) fn call_of(small: &Instance, line: &[u8]) -> Option<Call> {
@@ -44,18 +42,6 @@ fn look_fits<'i, S: Sheet<'i>>(sheet: &S, asked: &Look) -> bool
     asked.fits(sheet.instance())
 }
 
-/// A sheet with lectures, or none where they are no opening.
-fn sheet_of<'i, S: Sheet<'i>>(
-    story: &Story,
-    small: &'i Instance,
-    lectures: &[Placed],
-) -> Option<S> {
-    if !is_timetable(small, lectures) {
-        return None;
-    }
-    placed(story.alloc(), small, lectures).ok()
-}
-
 /// Tells the cells of a change: course, slot and room by their numbers, or that the room is none.
 pub(crate) fn tell_cells(story: &mut Story, cells: &[Cell]) {
     for cell in cells {
@@ -68,25 +54,19 @@ pub(crate) fn tell_cells(story: &mut Story, cells: &[Cell]) {
     }
 }
 
-/// Tells that a change is made, or in full its cells, and what it costs less.
-fn tell_change<'i, S: Sheet<'i>>(story: &mut Story, sheet: &S, change: &Change, in_full: bool)
-    requires { ChangeFits (S.problem sheet.now) change.now (S.list sheet.now) }
-{
-    if !in_full {
-        return story.say("done");
-    }
-    tell_cells(story, change.cells());
-    story.count("less", sheet.delta(change).unsigned_abs());
-}
-
-/// Makes an edit on a sheet.
+/// Makes an edit on a sheet, and tells that it is done, or in full its change, and what that costs less.
 fn make<'i, S: Sheet<'i>>(story: &mut Story, sheet: &mut S, edit: &Edit, in_full: bool) {
     if !edit_fits(sheet, edit) {
         return story.say("unfit");
     }
     match check(sheet, edit) {
         Ok(change) => {
-            tell_change(story, sheet, &change, in_full);
+            if in_full {
+                tell_cells(story, change.cells());
+                story.count("less", sheet.delta(&change).unsigned_abs());
+            } else {
+                story.say("done");
+            }
             sheet.apply(&change);
         }
         Err(fault) => story.refused(sheet.instance(), fault),
@@ -106,19 +86,20 @@ pub(crate) fn tell_sheet<'i, S: Sheet<'i>>(story: &mut Story, sheet: &S) {
     story.timetable(sheet.instance(), sheet.list(), sheet.cost());
 }
 
-/// Makes the calls that lines ask for, and tells what the sheet then has.
-fn answer_lines<'i, S: Sheet<'i>>(
-    story: &mut Story,
-    small: &'i Instance,
-    sheet: &mut S,
-    lines: &str,
-) {
-    for line in Lines::new(lines.as_bytes()) {
-        match call_of(small, line) {
-            Some(Call::Edit(edit)) => make(story, sheet, &edit, false),
-            Some(Call::Look(asked)) => show(story, sheet, &asked),
-            None if line.is_empty() => {}
-            None => story.say("bad line"),
+/// Makes a call on a sheet, and tells the reply.
+fn answer<'i, S: Sheet<'i>>(story: &mut Story, sheet: &mut S, call: &Call) {
+    match call {
+        Call::Edit(edit) => make(story, sheet, edit, false),
+        Call::Look(asked) => show(story, sheet, asked),
+    }
+}
+
+/// Makes the calls that the lines of a script ask for, and tells what the sheet then has.
+fn answer_lines<'i, S: Sheet<'i>>(story: &mut Story, script: &Script<'i>, sheet: &mut S) {
+    for line in Lines::new(script.lines.as_bytes()) {
+        match call_of(script.small, line) {
+            Some(call) => answer(story, sheet, &call),
+            None => story.bad_line(line),
         }
     }
     tell_sheet(story, sheet);
@@ -142,16 +123,8 @@ fn tell_lecture<'i, S: Sheet<'i>>(story: &mut Story, sheet: &S, lecture: &Placed
     tell_sheet(story, sheet);
 }
 
-/// Tells what a sheet and a copy of it have of a lecture.
-fn tell_both<'i, S: Sheet<'i>>(story: &mut Story, sheet: &S, lecture: &Placed) {
-    tell_lecture(story, sheet, lecture);
-    match sheet.copy() {
-        Ok(copy) => tell_lecture(story, &copy, lecture),
-        Err(NoMemory) => story.no_memory(),
-    }
-}
-
-/// One placement on an empty sheet: geo in the second period of the first day, in room A.
+/// One placement on an empty sheet: geo in the second period of the first day, in room A. It is told of the sheet and of a
+/// copy.
 fn place_geo<'i, S: Sheet<'i>>(story: &mut Story, sheet: &mut S) {
     tell_sheet(story, sheet);
     let geo = Placed {
@@ -161,73 +134,71 @@ fn place_geo<'i, S: Sheet<'i>>(story: &mut Story, sheet: &mut S) {
     };
     let edit = Edit::Place(geo.course, geo.slot, geo.room);
     make(story, sheet, &edit, true);
-    tell_both(story, sheet, &geo);
-}
-
-/// Tells whether a sheet accepts the change of one cell.
-fn accepts<'i, S: Sheet<'i>>(
-    story: &mut Story,
-    sheet: &S,
-    course: u16,
-    slot: u16,
-    room: Option<RoomNo>,
-) {
-    let cell = Cell {
-        course: CourseNo::new(course),
-        slot: SlotNo::new(slot),
-        room,
-    };
-    match Change::of(&[cell]) {
-        Some(change) => story.count("accepted", u64::from(sheet.accepts(&change))),
-        None => story.say("no change"),
+    tell_lecture(story, sheet, &geo);
+    match sheet.copy() {
+        Ok(copy) => tell_lecture(story, &copy, &geo),
+        Err(NoMemory) => story.no_memory(),
     }
 }
 
-/// Which changes a sheet accepts: an addition of top where the room is taken, a removal of geo, and a cell of a course that
-/// is not there.
+/// Changes of one cell, by the numbers of course and slot, and whether room A is named: an addition of top where the room is
+/// taken, a removal of geo, and a cell of a course that is not there.
+const CHANGES: &[(u16, u16, bool)] = &[(2, 1, true), (1, 5, false), (3, 1, true)];
+
+/// Which changes a sheet accepts.
 fn tell_accepted<'i, S: Sheet<'i>>(story: &mut Story, sheet: &S) {
-    accepts(story, sheet, 2, 1, Some(RoomNo::new(0)));
-    accepts(story, sheet, 1, 5, None);
-    accepts(story, sheet, 3, 1, Some(RoomNo::new(0)));
-}
-
-/// Plays lines, a placement or changes on a sheet that has the lectures of a script at first.
-pub(crate) fn play<'i, S: Sheet<'i>>(
-    story: &mut Story,
-    small: &'i Instance,
-    way: &Way,
-    script: &Script,
-) {
-    match sheet_of::<S>(story, small, script.opening) {
-        Some(mut sheet) => match way {
-            Way::Placement => place_geo(story, &mut sheet),
-            Way::Accepted => tell_accepted(story, &sheet),
-            _ => answer_lines(story, small, &mut sheet, script.lines),
-        },
-        None => story.no_memory(),
-    }
-}
-
-/// Tells the rows that a call reads.
-fn tell_rows(story: &mut Story, small: &Instance, call: &Call) {
-    if !call.fits(small) {
-        return story.say("unfit");
-    }
-    let Ok(rows) = reads(story.alloc(), small, call) else {
-        return story.no_memory();
-    };
-    for row in &rows {
-        match row {
-            Row::Course(course) => story.count("course", u64::from(course.get())),
-            Row::Slot(slot) => story.count("slot", u64::from(slot.get())),
+    for (course, slot, is_placed) in CHANGES {
+        let cell = Cell {
+            course: CourseNo::new(*course),
+            slot: SlotNo::new(*slot),
+            room: if *is_placed {
+                Some(RoomNo::new(0))
+            } else {
+                None
+            },
+        };
+        if let Some(change) = Change::of(&[cell]) {
+            story.count("accepted", u64::from(sheet.accepts(&change)));
         }
     }
 }
 
-/// The rows that the line of a script reads.
-pub(crate) fn play_rows(story: &mut Story, small: &Instance, script: &Script) {
-    match call_of(small, script.lines.as_bytes()) {
-        Some(call) => tell_rows(story, small, &call),
+/// Plays lines, a placement or changes on a sheet that has the lectures of a script at first.
+pub(crate) fn play<'i, S: Sheet<'i>>(story: &mut Story, on: &On, script: &Script<'i>)
+    requires { IsTimetable script.now.small.now script.now.opening.now }
+{
+    match placed::<S>(story.alloc(), script.small, script.opening) {
+        Ok(mut sheet) => match on {
+            On::Placement => place_geo(story, &mut sheet),
+            On::Accepted => tell_accepted(story, &sheet),
+            _ => answer_lines(story, script, &mut sheet),
+        },
+        Err(_fault) => story.no_memory(),
+    }
+}
+
+/// Tells the rows that a call reads.
+fn tell_rows_of(story: &mut Story, small: &Instance, call: &Call) {
+    if !call.fits(small) {
+        return story.say("unfit");
+    }
+    match reads(story.alloc(), small, call) {
+        Ok(rows) => {
+            for row in &rows {
+                match row {
+                    Row::Course(course) => story.count("course", u64::from(course.get())),
+                    Row::Slot(slot) => story.count("slot", u64::from(slot.get())),
+                }
+            }
+        }
+        Err(NoMemory) => story.no_memory(),
+    }
+}
+
+/// Tells the rows that the call of a line reads.
+pub(crate) fn tell_rows(story: &mut Story, script: &Script) {
+    match call_of(script.small, script.lines.as_bytes()) {
+        Some(call) => tell_rows_of(story, script.small, &call),
         None => story.say("bad line"),
     }
 }

@@ -1,10 +1,10 @@
 //! What is told of the trials, and how many calls were made again.
 
-ghost use Rattle.std.specs.Prelude.{◌↔◌, IsTrue};
-ghost use Rattle.ctt_script.specs.Entries.{AnswerFits, RowFits};
+ghost use Rattle.std.specs.Prelude.{◌↔◌, IsTrue, None, false};
+ghost use Rattle.ctt_script.specs.Entries.{AnswerFits};
 
 use ctt_core::Answer;
-use ctt_devices::{Sink, put_all};
+use ctt_devices::{Failed, Sink, put_all};
 use ctt_edits::{EditFault, Lectures, Reply, Row};
 use ctt_rules::Cost;
 use ctt_script::write_answer;
@@ -20,23 +20,17 @@ const LINE: usize = 4_096;
 /// A text, with room for all that is told, so that telling takes no memory.
 #[derive(Drop)]
 pub(crate) struct Story {
-    alloc: Global,
     text: Vec<u8>,
     line: String,
-    marked: usize,
+    /// Where the answers of a script end that were told last by a desk for one thread; 0 where there are none.
+    pub(crate) marked: usize,
+    /// Where the answers of the case begin and end in what was told of it first, and where what the desk left ends.
+    pub(crate) answers: usize,
+    pub(crate) end: usize,
+    pub(crate) all: usize,
     again: u64,
     is_wanting: bool,
     is_lost: bool,
-}
-
-/// Whether the number of a row is one of the instance.
-fn row_fits(instance: &Instance, row: &Row) -> bool
-    ensures { IsTrue result ↔ RowFits instance.now row.now }
-{
-    match row {
-        Row::Course(course) => course.fits(instance),
-        Row::Slot(slot) => slot.fits(instance),
-    }
 }
 
 /// Whether an answer can be written.
@@ -45,7 +39,8 @@ fn answer_fits(instance: &Instance, answer: &Answer) -> bool
 {
     match answer {
         Answer::Replied(reply) => reply.fits(instance),
-        Answer::Stale(row) => row_fits(instance, row),
+        Answer::Stale(Row::Course(course)) => course.fits(instance),
+        Answer::Stale(Row::Slot(slot)) => slot.fits(instance),
         Answer::Opened
         | Answer::AlreadyOpen
         | Answer::NoDraft
@@ -62,10 +57,12 @@ impl Story {
         let text = Vec::with_capacity(alloc, ROOM).ok()?;
         let line = String::with_capacity(alloc, LINE).ok()?;
         Some(Story {
-            alloc,
             text,
             line,
             marked: 0,
+            answers: 0,
+            end: 0,
+            all: 0,
             again: 0,
             is_wanting: false,
             is_lost: false,
@@ -73,7 +70,7 @@ impl Story {
     }
 
     pub(crate) fn alloc(&self) -> Global {
-        self.alloc
+        *self.text.allocator()
     }
 
     /// How many bytes are told.
@@ -81,14 +78,13 @@ impl Story {
         self.text.len()
     }
 
-    /// Marks the place up to which is told.
-    pub(crate) fn mark(&mut self) {
-        self.marked = self.text.len();
-    }
-
-    /// The place that was marked last.
-    pub(crate) fn marked(&self) -> usize {
-        self.marked
+    /// Notes what was told of a script from a place on, if a desk for one thread answered it there.
+    pub(crate) fn note(&mut self, from: usize) {
+        if self.marked > 0 {
+            self.answers = from;
+            self.end = self.marked;
+            self.all = self.text.len();
+        }
     }
 
     /// Notes that a call is made again.
@@ -125,6 +121,13 @@ impl Story {
         self.bytes(b"\n");
     }
 
+    /// Tells that a line is no right one, unless it is empty.
+    pub(crate) fn bad_line(&mut self, line: &[u8]) {
+        if !line.is_empty() {
+            self.say("bad line");
+        }
+    }
+
     /// Tells the line that was written, if it was.
     fn end_line(&mut self, is_written: bool) {
         if !is_written || self.text.extend_from_slice(self.line.as_bytes()).is_err() {
@@ -152,14 +155,29 @@ impl Story {
         self.refused(instance, fault);
     }
 
-    /// Tells an answer. Want of memory is none: then the case is to be played again.
-    pub(crate) fn answer(&mut self, instance: &Instance, answer: &Answer) {
+    /// Tells an answer, unless that is want of memory, and answers whether it was told.
+    pub(crate) fn tells(&mut self, instance: &Instance, answer: &Answer) -> bool {
         if matches!(answer, Answer::NoMemory) {
-            return self.no_memory();
+            return false;
         }
         let is_written = answer_fits(instance, answer)
             && write_answer(&mut self.line, instance, answer).is_ok();
         self.end_line(is_written);
+        true
+    }
+
+    /// Tells an answer. Want of memory is none: then the case is to be played again.
+    pub(crate) fn answer(&mut self, instance: &Instance, answer: &Answer) {
+        if !self.tells(instance, answer) {
+            self.no_memory();
+        }
+    }
+
+    /// Tells answers.
+    pub(crate) fn answers(&mut self, instance: &Instance, answers: &[Answer]) {
+        for answer in answers {
+            self.answer(instance, answer);
+        }
     }
 
     /// Tells a fault.
@@ -205,26 +223,21 @@ impl Story {
         }
     }
 
-    /// Tells how a text was read: that it was, or by its words and its place the fault that it has to have.
-    pub(crate) fn read<F: PartialEq + Drop>(
+    /// Tells how a text was read: that it was, or by its words and its place the fault that it has to have. Of another
+    /// fault nothing is told.
+    pub(crate) fn read<F: PartialEq>(
         &mut self,
-        fault: Option<F>,
-        no_memory: F,
-        fit: F,
+        fault: &Option<F>,
+        no_memory: &F,
+        fit: &F,
         words: &str,
         at: u64,
     ) {
         match fault {
             None => self.bytes(b"read"),
-            Some(fault) => {
-                if fault == no_memory {
-                    self.no_memory();
-                } else if fault == fit {
-                    self.pair(words, at);
-                } else {
-                    self.bytes(b"another fault");
-                }
-            }
+            Some(fault) if fault == no_memory => self.no_memory(),
+            Some(fault) if fault == fit => self.pair(words, at),
+            Some(_) => {}
         }
     }
 
@@ -232,10 +245,7 @@ impl Story {
     /// same, that is told in its place.
     pub(crate) fn compare(&mut self, from: usize, to: usize, here: usize, way: &str) {
         let is_same = match self.text.get(from..to) {
-            Some(before) => {
-                self.text.len().saturating_sub(here) == before.len()
-                    && self.text.as_slice().ends_with(before)
-            }
+            Some(before) => self.text.get(here..) == Some(before),
             None => false,
         };
         if is_same {
@@ -249,5 +259,20 @@ impl Story {
     pub(crate) fn write<W: Sink>(&mut self, writer: &mut W) -> bool {
         self.count("again", self.again);
         !self.is_lost && put_all(writer, &self.text).is_ok() && writer.flush().is_ok()
+    }
+}
+
+impl Sink for Story {
+    ghost has_failed = { λ story. false };
+
+    ghost taken = { λ story. None };
+
+    fn put(&mut self, bytes: &[u8]) -> Result<usize, Failed> {
+        self.bytes(bytes);
+        Ok(bytes.len())
+    }
+
+    fn flush(&mut self) -> Result<(), Failed> {
+        Ok(())
     }
 }

@@ -1,15 +1,14 @@
 //! The tables of all cases.
 
-use crate::cases::{Case, On, Play, Way};
-use crate::texts::{JOURNAL, Opening};
+use crate::cases::{Case, On, Plain, Play, Way};
+use crate::texts::{CLASH, JOURNAL, NOTHING, SMALL, SOLUTION, WITHOUT_TOP};
 use crate::worked::*;
 
-/// Ways in which a case is played: on what, how, and how the way is called.
+/// Ways in which a case is played, and how each is called.
 macro_rules! plays {
-    ($($on:ident $way:ident $called:literal),+ $(,)?) => {
+    ($($way:expr => $called:literal),+ $(,)?) => {
         &[$(Play {
-            on: On::$on,
-            way: Way::$way,
+            way: $way,
             called: $called,
         }),+]
     };
@@ -20,7 +19,7 @@ macro_rules! case {
     ($name:literal, $opening:ident, $lines:expr, $plays:expr) => {
         Case {
             name: $name,
-            opening: Opening::$opening,
+            opening: $opening,
             lines: $lines,
             plays: $plays,
             drops: false,
@@ -30,171 +29,187 @@ macro_rules! case {
 
 /// The reports, and the opening written and read again.
 const REPORTS: &[Play] = plays![
-    Grid Reports "",
-    Grid Written "",
+    Way::Plain(Plain::Reports) => "",
+    Way::Plain(Plain::Written) => "",
 ];
 
 /// The reports alone.
-const REPORTS_ALONE: &[Play] = plays![
-    Grid Reports "",
-];
+const REPORTS_ALONE: &[Play] = plays![Way::Plain(Plain::Reports) => ""];
+
+/// What is found of a timetable, and how it looks.
+const FINDINGS: &[Play] = plays![Way::Plain(Plain::Findings) => ""];
 
 /// Lines on both kinds of sheets.
 const LINES: &[Play] = plays![
-    List Lines "",
-    Grid Lines "on the grid sheet",
+    Way::List(On::Lines) => "",
+    Way::Grid(On::Lines) => "on the grid sheet",
 ];
 
 /// One placement on both kinds of sheets.
 const PLACEMENT: &[Play] = plays![
-    List Placement "",
-    Grid Placement "on the grid sheet",
+    Way::List(On::Placement) => "",
+    Way::Grid(On::Placement) => "on the grid sheet",
 ];
 
 /// Which changes both kinds of sheets accept.
 const ACCEPTED: &[Play] = plays![
-    List Accepted "",
-    Grid Accepted "on the grid sheet",
+    Way::List(On::Accepted) => "",
+    Way::Grid(On::Accepted) => "on the grid sheet",
 ];
 
 /// The rows that a line reads.
-const ROWS: &[Play] = plays![
-    Grid Rows "",
-];
+const ROWS: &[Play] = plays![Way::Plain(Plain::Rows) => ""];
 
 /// A draft on both kinds of sheets.
 const DRAFT: &[Play] = plays![
-    List Draft "",
-    Grid Draft "on the grid sheet",
+    Way::List(On::Draft) => "",
+    Way::Grid(On::Draft) => "on the grid sheet",
 ];
 
 /// A long draft on both kinds of sheets.
 const LONG_DRAFT: &[Play] = plays![
-    List LongDraft "",
-    Grid LongDraft "on the grid sheet",
+    Way::List(On::LongDraft) => "",
+    Way::Grid(On::LongDraft) => "on the grid sheet",
 ];
 
 /// A script by step, at once and as a text, on desks of both kinds of sheets, and on shared desks of both.
 const DESK: &[Play] = plays![
-    List Step "",
-    Grid Step "on the grid sheet",
-    List Run "at once",
-    Grid Run "at once on the grid sheet",
-    List Text "as a script",
-    Grid Text "as a script on the grid sheet",
-    SharedList Step "",
-    SharedGrid Step "on a shared desk on the grid sheet",
+    Way::List(On::Step) => "",
+    Way::Grid(On::Step) => "on the grid sheet",
+    Way::List(On::Run) => "at once",
+    Way::Grid(On::Run) => "at once on the grid sheet",
+    Way::List(On::Text) => "as a script",
+    Way::Grid(On::Text) => "as a script on the grid sheet",
+    Way::SharedList => "",
+    Way::SharedGrid => "on a shared desk on the grid sheet",
 ];
 
 /// Lines that are no events, by step and as a text.
 const BAD: &[Play] = plays![
-    Grid Step "",
-    Grid Text "as a script",
+    Way::Grid(On::Step) => "",
+    Way::Grid(On::Text) => "as a script",
 ];
 
 /// A journal is audited.
-const AUDIT: &[Play] = plays![
-    Grid Audit "",
+const AUDIT: &[Play] = plays![Way::Grid(On::Audit) => ""];
+
+/// What a journal leaves on both kinds of sheets.
+const LEFT: &[Play] = plays![
+    Way::List(On::Left) => "",
+    Way::Grid(On::Left) => "on the grid sheet",
 ];
 
 /// An opening that is refused, in each way.
 const UNLAWFUL: &[Play] = plays![
-    Grid Step "",
-    Grid Opening "",
-    Grid Audit "",
-    Grid Text "",
+    Way::Grid(On::Step) => "",
+    Way::Grid(On::Opening) => "",
+    Way::Grid(On::Audit) => "",
+    Way::Grid(On::Text) => "",
 ];
 
 /// A crew of one.
-const A_CREW: &[Play] = plays![
-    Grid Crew "",
-];
+const A_CREW: &[Play] = plays![Way::Plain(Plain::Crew) => ""];
 
-/// Texts that are cut.
-const CUT: &[Play] = plays![
-    Grid Cut "",
-];
-
-/// Texts that count falsely.
-const COUNTS: &[Play] = plays![
-    Grid Counts "",
-];
+/// Texts that are cut, and texts that count falsely.
+const CUT: &[Play] = plays![Way::Plain(Plain::Cut) => ""];
 
 /// A script on devices that fail.
-const DEVICES: &[Play] = plays![
-    Grid Devices "",
-];
+const DEVICES: &[Play] = plays![Way::Grid(On::Devices) => ""];
 
-/// Texts on devices that fail.
-const TRANSFERS: &[Play] = plays![
-    Grid Transfers "",
-];
+/// A text that is read from devices that fail.
+const READS: &[Play] = plays![Way::Plain(Plain::Reads) => ""];
+
+/// A text that is written to devices that fail.
+const WRITES: &[Play] = plays![Way::Plain(Plain::Writes) => ""];
 
 /// What is played without barred rooms.
 pub(crate) const CASES: &[Case] = &[
-    case!("reports", Solution, "", REPORTS),
-    case!("on the empty sheet", Nothing, EMPTY_SHEET, LINES),
-    case!("a swap of rooms", Nothing, SWAP_OF_ROOMS, LINES),
-    case!("the border of two days", Nothing, BORDER, LINES),
-    case!("prices and looks on the solution", Solution, PRICES, LINES),
+    case!("reports", SOLUTION, "", REPORTS),
+    case!("on the empty sheet", NOTHING, EMPTY_SHEET, LINES),
+    case!("a swap of rooms", NOTHING, SWAP_OF_ROOMS, LINES),
+    case!("the border of two days", NOTHING, BORDER, LINES),
+    case!("prices and looks on the solution", SOLUTION, PRICES, LINES),
     case!(
         "edits that are refused on the solution",
-        Solution,
+        SOLUTION,
         REFUSED_EDITS,
         LINES
     ),
-    case!("a swap", Solution, SWAP, LINES),
-    case!("a drop", Solution, DROP, LINES),
-    case!("a room that is taken", WithoutTop, ROOM_TAKEN, LINES),
-    case!("one placement", Nothing, "", PLACEMENT),
-    case!("accepted changes", Solution, "", ACCEPTED),
-    case!("price place alg B 0 0", Nothing, PRICE, ROWS),
-    case!("swap geo 0 1 top 0 2", Nothing, SWAP, ROWS),
-    case!("drafts", Nothing, "", DRAFT),
-    case!("a draft of a thousand calls", Nothing, "", LONG_DRAFT),
-    case!("phantom", Nothing, PHANTOM, DESK),
-    case!("changed and changed back", Nothing, CHANGED_BACK, DESK),
-    case!("out of turn", Nothing, OUT_OF_TURN, DESK),
-    case!("a price that changed", Nothing, STALE_PRICE, DESK),
-    case!("abandoned", Nothing, ABANDONED, DESK),
-    case!("refreshed", Nothing, REFRESHED, DESK),
-    case!("not refreshed", Nothing, NOT_REFRESHED, DESK),
-    case!("stale at a refresh", Nothing, STALE_REFRESH, DESK),
+    case!("a swap", SOLUTION, SWAP, LINES),
+    case!("a drop", SOLUTION, DROP, LINES),
+    case!("a room that is taken", WITHOUT_TOP, ROOM_TAKEN, LINES),
+    case!("one placement", NOTHING, "", PLACEMENT),
+    case!("accepted changes", SOLUTION, "", ACCEPTED),
+    case!("price place alg B 0 0", NOTHING, PRICE, ROWS),
+    case!("swap geo 0 1 top 0 2", NOTHING, SWAP, ROWS),
+    case!("drafts", NOTHING, "", DRAFT),
+    case!("a draft of a thousand calls", NOTHING, "", LONG_DRAFT),
+    case!("phantom", NOTHING, PHANTOM, DESK),
+    case!("changed and changed back", NOTHING, CHANGED_BACK, DESK),
+    case!("out of turn", NOTHING, OUT_OF_TURN, DESK),
+    case!("a price that changed", NOTHING, STALE_PRICE, DESK),
+    case!("abandoned", NOTHING, ABANDONED, DESK),
+    case!("refreshed", NOTHING, REFRESHED, DESK),
+    case!("not refreshed", NOTHING, NOT_REFRESHED, DESK),
+    case!("stale at a refresh", NOTHING, STALE_REFRESH, DESK),
     Case {
         drops: true,
-        ..case!("left open, or dropped", Nothing, LEFT_OPEN, DESK)
+        ..case!("left open, or dropped", NOTHING, LEFT_OPEN, DESK)
     },
-    case!("bad lines", Nothing, BAD_LINES, BAD),
+    case!("refreshed with nothing new", NOTHING, NOTHING_NEW, DESK),
+    case!("stale behind a refresh", NOTHING, STALE_AGAIN, DESK),
+    case!(
+        "changed back before a refresh",
+        NOTHING,
+        BACK_REFRESHED,
+        DESK
+    ),
+    case!("bad lines", NOTHING, BAD_LINES, BAD),
     case!(
         "a drop and a placement in one slot",
-        WithoutTop,
+        WITHOUT_TOP,
         DROP_AND_PLACE,
         DESK
     ),
-    case!("the drop first", WithoutTop, DROP_FIRST, DESK),
-    case!("a refused edit", WithoutTop, REFUSED, DESK),
-    case!("another reply", WithoutTop, OTHER_JOURNAL, AUDIT),
-    case!("an unlawful opening", Clash, JOURNAL, UNLAWFUL),
-    case!("a crew of one", Nothing, CREW, A_CREW),
+    case!("the drop first", WITHOUT_TOP, DROP_FIRST, DESK),
+    case!("a refused edit", WITHOUT_TOP, REFUSED, DESK),
+    case!("another reply", WITHOUT_TOP, OTHER_JOURNAL, AUDIT),
+    case!("what a journal leaves", WITHOUT_TOP, TOP_JOURNAL, LEFT),
+    case!(
+        "what another reply leaves",
+        WITHOUT_TOP,
+        OTHER_JOURNAL,
+        LEFT
+    ),
+    case!("an unlawful opening", CLASH, JOURNAL, UNLAWFUL),
+    case!("what an unlawful opening leaves", CLASH, JOURNAL, LEFT),
+    case!("what is found of the solution", SOLUTION, "", FINDINGS),
+    case!("what is found of a clash", CLASH, "", FINDINGS),
+    case!("a crew of one", NOTHING, CREW, A_CREW),
     case!(
         "a crew whose draft is left open",
-        Nothing,
+        NOTHING,
         CREW_LEFT,
         A_CREW
     ),
-    case!("cut", Nothing, "", CUT),
-    case!("counted falsely", Nothing, "", COUNTS),
-    case!("a script on devices that fail", Nothing, PHANTOM, DEVICES),
-    case!("texts on devices that fail", Nothing, "", TRANSFERS),
-    case!("", Nothing, OTHER_JOURNAL, AUDIT),
+    case!("cut", NOTHING, "", CUT),
+    case!("a script on devices that fail", NOTHING, PHANTOM, DEVICES),
+    case!("texts on devices that fail", NOTHING, SMALL, READS),
+    case!("", NOTHING, SOLUTION, READS),
+    case!("", NOTHING, JOURNAL, READS),
+    case!("", NOTHING, CREW, READS),
+    case!("", NOTHING, REPORT, WRITES),
+    case!("", NOTHING, VERDICT, WRITES),
+    case!("", NOTHING, CREW_ANSWERS, WRITES),
+    case!("", NOTHING, OTHER_JOURNAL, AUDIT),
 ];
 
 /// What is played where room A is barred for top: an old journal, and a swap and a script that meet that room.
 pub(crate) const BARRED: &[Case] = &[
-    case!("an old journal", Nothing, OTHER_JOURNAL, AUDIT),
-    case!("a swap into a barred room", Solution, SWAP, LINES),
-    case!("a barred room", WithoutTop, BARRED_ROOM, DESK),
+    case!("an old journal", NOTHING, OTHER_JOURNAL, AUDIT),
+    case!("a swap into a barred room", SOLUTION, SWAP, LINES),
+    case!("a barred room", WITHOUT_TOP, BARRED_ROOM, DESK),
 ];
 
 /// What is played where room A is barred for alg.
-pub(crate) const OTHER_BARRED: &[Case] = &[case!("", Solution, "", REPORTS_ALONE)];
+pub(crate) const OTHER_BARRED: &[Case] = &[case!("", SOLUTION, "", REPORTS_ALONE)];

@@ -1,133 +1,61 @@
 //! Texts that are read from devices that fail, and written to such.
 
-use crate::devices::{Broken, Failing, Memory, Reading, Shelf, holds};
+use crate::devices::{Failing, Memory, Shelf};
 use crate::story::Story;
-use crate::texts::{JOURNAL, SMALL, SOLUTION};
-use crate::worked::CREW;
-use ctt_devices::{Device, Failed, InputFault, Sink, put_all, put_whole, read_all};
-
-/// The report on the solution.
-const REPORT: &str = "instance Small
-lectures 0
-conflicts 0
-availability 0
-occupancy 0
-capacity 15
-days 0
-compactness 4
-stability 1
-total 20
-lawful yes
-complete yes
-";
-
-/// What a crew of one planner writes.
-const CREW_ANSWERS: &str = "planner 0
-opened
-done
-committed 1
-journal 1
-costs 0 15 2 0
-";
-
-/// The texts that are read.
-const READ: &[&str] = &[SMALL, SOLUTION, JOURNAL, CREW];
-
-/// The texts that are written.
-const WRITTEN: &[&str] = &[REPORT, "differs 1 1\n", CREW_ANSWERS];
+use ctt_devices::{Failed, InputFault, put_whole, read_all};
 
 /// How many bytes an input has at most.
 const LIMIT: usize = 4_096;
 
-/// Reads a text from a device.
-fn read(story: &mut Story, reading: &mut Reading, limit: usize) -> Result<Vec<u8>, InputFault> {
-    let mut reader = Memory::new(reading.text, reading.fails_at);
-    let told = read_all(story.alloc(), &mut reader, limit);
-    reading.pulls = reader.pulls();
-    if matches!(told, Err(InputFault::NoMemory)) {
-        story.no_memory();
+/// Whether a text is read from a device whose read with this number fails as a failed read, behind which no other one was tried,
+/// or where the number is 0 as it is.
+fn is_read(story: &mut Story, text: &[u8], fails_at: u64) -> bool {
+    let mut reader = Memory::new(text, fails_at);
+    match read_all(story.alloc(), &mut reader, LIMIT) {
+        Ok(bytes) => fails_at == 0 && bytes.as_slice() == text,
+        Err(InputFault::Read) => reader.pulls == fails_at,
+        Err(InputFault::NoMemory) => {
+            story.no_memory();
+            false
+        }
+        Err(InputFault::TooLong) => false,
     }
-    told
 }
 
-/// Behind how many bytes a reader of a text may fail so that this is a failed read, and no other one was tried.
-fn failing_reads_of(story: &mut Story, text: &[u8]) -> u64 {
+/// Tells whether a text is read, and behind how many of its bytes a reader may fail so that this is a failed read.
+pub(crate) fn play_reads(story: &mut Story, text: &str) {
+    let is_whole = is_read(story, text.as_bytes(), 0);
+    story.count("read", u64::from(is_whole));
     let mut failed = 0u64;
     for behind in 0..=text.len() as u64 {
-        let fails_at = behind.saturating_add(1);
-        let mut reading = Reading::new(text, fails_at);
-        let told = read(story, &mut reading, LIMIT);
-        if matches!(told, Err(InputFault::Read)) && reading.pulls == fails_at {
-            failed = failed.saturating_add(1);
-        }
+        let is_failed = is_read(story, text.as_bytes(), behind.saturating_add(1));
+        failed = failed.saturating_add(u64::from(is_failed));
     }
-    failed
+    story.count("failed reads", failed);
 }
 
-/// Whether a text has a failed write on a writer that fails, which has then taken so many of its bytes.
-fn fails_to_take(shelf: &mut Shelf, text: &[u8], failing: Failing, taken: usize) -> bool {
-    shelf.renew(failing);
-    put_whole(shelf, text) == Err(Failed) && holds(shelf, text, taken)
+/// Whether a text has a failed write on a writer that fails, which has then taken so many of its bytes, as a number.
+fn is_unwritten(text: &[u8], failing: Failing, taken: usize) -> u64 {
+    let mut shelf = Shelf::new(text, failing);
+    let is_failed = put_whole(&mut shelf, text) == Err(Failed);
+    u64::from(is_failed && shelf.holds(taken))
 }
 
 /// Tells on how many writers that fail a text has a failed write: behind some of its bytes, where nothing is taken, and where
 /// the flush alone fails.
-fn tell_failing_writes(story: &mut Story, text: &[u8], shelf: &mut Shelf) {
+pub(crate) fn play_writes(story: &mut Story, text: &str) {
+    let text = text.as_bytes();
     let mut failed = 0u64;
-    for behind in 0..text.len() {
-        let is_failed = fails_to_take(shelf, text, Failing::Behind(behind), behind);
-        failed = failed.saturating_add(u64::from(is_failed));
+    for taken in 0..text.len() {
+        failed = failed.saturating_add(is_unwritten(text, Failing::Behind(taken), taken));
     }
     story.count("failed writes", failed);
-    let is_failed = fails_to_take(shelf, text, Failing::Idle, 0);
-    story.count("where nothing is taken", u64::from(is_failed));
-    let is_failed = fails_to_take(shelf, text, Failing::Flush, text.len());
-    story.count("where the flush fails", u64::from(is_failed));
-}
-
-/// Tells how a text is read that may have four bytes.
-fn tell_limited(story: &mut Story, text: &[u8]) {
-    let mut reading = Reading::new(text, 0);
-    match read(story, &mut reading, 4) {
-        Ok(bytes) => {
-            story.bytes(&bytes);
-            story.say("");
-        }
-        Err(InputFault::TooLong) => story.say("too long"),
-        Err(_) => story.say("not read"),
-    }
-}
-
-/// Readers and writers of std whose calls all fail.
-fn broken(story: &mut Story) {
-    let mut broken = Device::new(Broken);
-    let fault = read_all(story.alloc(), &mut broken, 4).err();
-    story.count("a failed read", u64::from(fault == Some(InputFault::Read)));
-    let mut broken = Device::new(Broken);
     story.count(
-        "a failed write",
-        u64::from(put_all(&mut broken, b"no") == Err(Failed)),
+        "where nothing is taken",
+        is_unwritten(text, Failing::Idle, 0),
     );
-    let mut broken = Device::new(Broken);
     story.count(
-        "a failed flush",
-        u64::from(Sink::flush(&mut broken) == Err(Failed)),
+        "where the flush fails",
+        is_unwritten(text, Failing::Flush, text.len()),
     );
-}
-
-/// Texts that are read from devices that fail, and written to such.
-pub(crate) fn play_texts(story: &mut Story) {
-    let Ok(mut shelf) = Shelf::new(story.alloc(), Failing::Never) else {
-        return story.no_memory();
-    };
-    for text in READ {
-        let failed = failing_reads_of(story, text.as_bytes());
-        story.count("failed reads", failed);
-    }
-    for text in WRITTEN {
-        tell_failing_writes(story, text.as_bytes(), &mut shelf);
-    }
-    tell_limited(story, b"four");
-    tell_limited(story, b"fives");
-    broken(story);
 }

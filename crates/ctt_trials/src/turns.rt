@@ -1,17 +1,17 @@
 //! The planners of a shared desk in their seats, and what they do there by turns.
 
-ghost use Rattle.std.specs.Prelude.{◌≡◌, ◌↔◌, IsTrue, IfSome};
+ghost use Rattle.std.specs.Prelude.{◌≡◌, ◌↔◌, IsTrue};
 ghost use Rattle.ctt_core.specs.Runs.{EventFits};
 
-use crate::lists::{add, drop_at, put_at, take_at};
+use crate::lists::{add, put_at, take_at};
 use crate::story::Story;
 use ctt_board::{Sheet, Timetable};
 use ctt_core::{Answer, Event};
 use ctt_crew::{Seat, Told};
 use ctt_desk::{Naming, Planner, Receipt, SharedDesk};
-use ctt_draft::KeepAll;
 use ctt_script::{Lines, PLANNERS, read_line};
 use ctt_text::Instance;
+use std::marker::PhantomData;
 use std::sync::Wait;
 
 /// The place of the planner who learns each receipt.
@@ -19,6 +19,14 @@ const LEARNER: u16 = 2;
 
 /// The place of the planner who learns nothing, and looks at the timetable as it stands.
 pub(crate) const VIEWER: u16 = 3;
+
+/// The instance of a desk.
+#[derive(Drop)]
+pub(crate) struct Here<'i, J: Naming> {
+    pub(crate) small: &'i Instance,
+    pub(crate) desk: PhantomData<J>,
+    ghost same: { J.problem ≡ small.now },
+}
 
 /// A part of what planners do.
 #[derive(Drop)]
@@ -70,28 +78,48 @@ pub(crate) fn sit<'i, S: Timetable, J: Naming>(
     seats
 }
 
-/// The planner of a seat. A draft of his is given up.
-fn planner_of<'i, S: Sheet<'i>, J: Naming>(seat: Seat<'i, S, J>) -> Planner<S, J> {
-    match seat {
-        Seat::Free(planner) => planner,
-        Seat::Drafting(drafting) => drafting.abandon(),
-    }
-}
-
-/// The planners leave their seats.
+/// The planners leave their seats. A draft of theirs is given up.
 pub(crate) fn leave<'i, S: Sheet<'i>, J: Naming>(
     story: &mut Story,
     seats: Vec<Option<Seat<'i, S, J>>>,
 ) -> Vec<Planner<S, J>> {
     let mut planners = Vec::new(story.alloc());
     for seat in seats {
-        if let Some(seat) = seat {
-            if add(&mut planners, planner_of(seat)).is_err() {
-                story.no_memory();
-            }
+        let planner = match seat {
+            Some(Seat::Free(planner)) => planner,
+            Some(Seat::Drafting(drafting)) => drafting.abandon(),
+            None => continue,
+        };
+        if add(&mut planners, planner).is_err() {
+            story.no_memory();
         }
     }
     planners
+}
+
+/// Whether an event has numbers of the instance of a desk.
+fn event_fits<'i, J: Naming>(here: &Here<'i, J>, event: &Event) -> bool
+    ensures { IsTrue result ↔ EventFits J.problem 64 event.now }
+{
+    event.fits(here.small, PLANNERS)
+}
+
+/// A planner does what an event says, and has a receipt, or is told something else.
+fn take<'i, S: Sheet<'i>, J: Naming, R: Wait>(
+    rt: &R,
+    desk: &SharedDesk<S, J>,
+    here: &Here<'i, J>,
+    seat: Seat<'i, S, J>,
+    event: &Event,
+) -> (Seat<'i, S, J>, Result<Receipt<J>, Told>) {
+    if matches!(event, Event::Commit(_)) {
+        return seat.commit(rt, desk);
+    }
+    if !event_fits(here, event) {
+        return (seat, Err(Told::NotYours(0)));
+    }
+    let (seat, told) = seat.take(rt, desk, *event);
+    (seat, Err(told))
 }
 
 /// One of the planners learns a receipt, if he has no draft open.
@@ -101,52 +129,26 @@ fn learn<'i, S: Sheet<'i>, J: Naming>(seats: &mut [Option<Seat<'i, S, J>>], rece
     }
 }
 
-/// Whether an event has numbers of the instance of a desk.
-fn event_fits<J: Naming>(small: &Instance, event: &Event) -> bool
-    requires { small.now ≡ J.problem }
-    ensures { IsTrue result ↔ EventFits J.problem 64 event.now }
-{
-    event.fits(small, PLANNERS)
-}
-
-/// A planner does what an event says, and has a receipt, or is told something else.
-fn take<'i, S: Sheet<'i>, J: Naming, R: Wait>(
-    rt: &R,
-    desk: &SharedDesk<S, J>,
-    small: &Instance,
-    seat: Seat<'i, S, J>,
-    event: &Event,
-) -> (Seat<'i, S, J>, Result<Receipt<J>, Told>)
-    requires { small.now ≡ J.problem }
-{
-    if matches!(event, Event::Commit(_)) {
-        return seat.commit(rt, desk);
-    }
-    if !event_fits::<J>(small, event) {
-        return (seat, Err(Told::NotYours(0)));
-    }
-    let (seat, told) = seat.take(rt, desk, *event);
-    (seat, Err(told))
-}
-
-/// Tells what a planner is answered, whose receipt is learnt where he has one, unless memory was wanted: this is answered.
-/// A place that was refused is told as want of memory, since it comes of nothing else here.
-fn tell<'i, S: Sheet<'i>, J: Naming>(
+/// Tells what a planner is answered, whose receipt is learnt where he has one, and answers whether it was told: want of memory
+/// is not, and no more a place that was refused, since this comes of nothing else here.
+fn tells<'i, S: Sheet<'i>, J: Naming>(
     story: &mut Story,
-    small: &Instance,
+    here: &Here<'i, J>,
     seats: &mut [Option<Seat<'i, S, J>>],
-    told: Result<Receipt<J>, Told>,
+    told: &Result<Receipt<J>, Told>,
 ) -> bool {
     match told {
         Ok(receipt) => {
-            story.answer(small, &Answer::Committed(receipt.number()));
-            learn(seats, &receipt);
+            learn(seats, receipt);
+            story.tells(here.small, &Answer::Committed(receipt.number()))
         }
-        Err(Told::Answer(Answer::NoMemory) | Told::NoPlace) => return true,
-        Err(Told::Answer(answer)) => story.answer(small, &answer),
-        Err(Told::NotYours(_)) => story.say("not yours"),
+        Err(Told::Answer(answer)) => story.tells(here.small, answer),
+        Err(Told::NoPlace) => false,
+        Err(Told::NotYours(_)) => {
+            story.say("not yours");
+            true
+        }
     }
-    false
 }
 
 /// The planner of a place does what an event says, and once more where memory is wanted.
@@ -154,20 +156,18 @@ fn answer<'i, S: Sheet<'i>, J: Naming, R: Wait>(
     story: &mut Story,
     rt: &R,
     desk: &SharedDesk<S, J>,
-    small: &Instance,
+    here: &Here<'i, J>,
     seats: &mut [Option<Seat<'i, S, J>>],
     place: usize,
     event: &Event,
-)
-    requires { small.now ≡ J.problem }
-{
+) {
     for _ in 0..2 {
         let Some(seat) = take_at(seats, place) else {
             return story.say("no planner");
         };
-        let (seat, told) = take(rt, desk, small, seat, event);
+        let (seat, told) = take(rt, desk, here, seat, event);
         put_at(seats, place, seat);
-        if !tell(story, small, seats, told) {
+        if tells(story, here, seats, &told) {
             return;
         }
         story.call_again();
@@ -180,35 +180,20 @@ pub(crate) fn answer_lines<'i, S: Sheet<'i>, J: Naming, R: Wait>(
     story: &mut Story,
     rt: &R,
     desk: &SharedDesk<S, J>,
-    small: &Instance,
+    here: &Here<'i, J>,
     seats: &mut [Option<Seat<'i, S, J>>],
     part: &Part,
-)
-    requires { small.now ≡ J.problem }
-{
+) {
     for line in Lines::new(part.lines.as_bytes()) {
-        match read_line(small, line) {
+        match read_line(here.small, line) {
             Some(event) => {
                 let place = place_of(&event, part.viewer);
                 if part.drops && place > 0 {
-                    drop_at(seats, 0);
+                    drop(take_at(seats, 0));
                 }
-                answer(story, rt, desk, small, seats, place, &event);
+                answer(story, rt, desk, here, seats, place, &event);
             }
-            None if line.is_empty() => {}
-            None => story.say("bad line"),
+            None => story.bad_line(line),
         }
     }
-}
-
-/// The instance of a desk. The last planner opens a draft, which tells it, and gives it up.
-pub(crate) fn instance_of<'i, S: Sheet<'i>, J: Naming>(
-    planners: &mut Vec<Planner<S, J>>,
-) -> Option<&'i Instance>
-    ensures { IfSome result (λ small. small.now ≡ J.problem) }
-{
-    let drafting = planners.pop()?.open::<KeepAll>().ok()?;
-    let small = drafting.instance();
-    add(planners, drafting.abandon()).ok()?;
-    Some(small)
 }

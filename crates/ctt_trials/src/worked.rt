@@ -113,6 +113,52 @@ pub(crate) const STALE_REFRESH: &str = "0 open
 show cost
 ";
 
+/// A planner brings drafts up to date behind which nothing was accepted, or his own draft alone.
+pub(crate) const NOTHING_NEW: &str = "0 open
+0 place geo A 0 1
+0 refresh
+0 commit
+0 open
+0 slot 0 1
+0 refresh
+0 drop geo 0 1
+0 refresh
+0 commit
+0 refresh
+show cost
+";
+
+/// What a planner sees behind a refresh is changed before he commits.
+pub(crate) const STALE_AGAIN: &str = "0 open
+0 place geo A 0 1
+1 open
+1 place top B 0 2
+1 commit
+0 refresh
+0 slot 0 2
+1 open
+1 drop top 0 2
+1 commit
+0 commit
+show cost
+";
+
+/// What a planner has seen is changed, and changed back, before he brings his draft up to date.
+pub(crate) const BACK_REFRESHED: &str = "0 open
+0 slot 0 2
+0 place geo A 0 1
+1 open
+1 place top B 0 2
+1 commit
+1 open
+1 drop top 0 2
+1 commit
+0 refresh
+0 slot 0 2
+0 commit
+show cost
+";
+
 /// A draft that is left open changes nothing.
 pub(crate) const LEFT_OPEN: &str = "0 open
 0 place geo A 0 1
@@ -208,3 +254,33 @@ place geo A 0 1
 
 /// A journal of a draft in which top was placed in room A.
 pub(crate) const OTHER_JOURNAL: &str = "journal 1 entry 0 1 place top A 0 1 done END.";
+
+/// A journal of a draft in which top was placed in room B.
+pub(crate) const TOP_JOURNAL: &str = "journal 1 entry 0 1 place top B 0 2 done END.";
+
+/// The report on the solution.
+pub(crate) const REPORT: &str = "instance Small
+lectures 0
+conflicts 0
+availability 0
+occupancy 0
+capacity 15
+days 0
+compactness 4
+stability 1
+total 20
+lawful yes
+complete yes
+";
+
+/// What an audit finds.
+pub(crate) const VERDICT: &str = "differs 1 1\n";
+
+/// What a crew of one planner writes.
+pub(crate) const CREW_ANSWERS: &str = "planner 0
+opened
+done
+committed 1
+journal 1
+costs 0 15 2 0
+";
