@@ -9,8 +9,9 @@
 # the words of the command line are collected twice, and `clap` collects the letters of each two words that it compares.
 #
 # At a seat of a desk each request of the program is refused alone: a line that is answered 'no memory' is typed again. The answers
-# have to be those with memory, and the minutes too. Or the desk ends with status 3 and 'timedesk: no memory': then what it answered,
-# and the minutes, are the front of what they are with memory, and what was told as committed is in the minutes.
+# have to be those with memory, and the minutes too. Or the desk ends with status 3 and 'timedesk: no memory', or 'timedesk: no thread'
+# where the system wanted the memory for it: then what it answered, and the minutes, are the front of what they are with memory, and
+# what was told as committed is in the minutes.
 #
 # It needs a C compiler. TRIALS and PROGRAM name other builds. The last line is 'N passed, M failed', of runs that met a refusal.
 set -u
@@ -222,7 +223,7 @@ for ((number = 1; ; number++)); do
             failed=$((failed + 1))
             echo "FAILED: a seat, request $number, which could be done without"
         fi
-    elif [ "$status" = 3 ] && [ "$(<err.now)" = 'timedesk: no memory' ] && begins out.now out && { [ ! -e minutes ] || begins minutes minutes.all; } \
+    elif [ "$status" = 3 ] && [[ $(<err.now) =~ ^timedesk:\ no\ (memory|thread)$ ]] && begins out.now out && { [ ! -e minutes ] || begins minutes minutes.all; } \
         && [ "$(grep -c '^committed' out.now)" -le "$(cat minutes 2>pipe | grep -c '^entry')" ]; then
         passed=$((passed + 1))
     else
