@@ -10,7 +10,7 @@ use crate::story::Story;
 use crate::turns::{Here, LOOKS, Part, VIEWER, answer_lines, leave, sit};
 use ctt_board::{GridSheet, ListSheet, Sheet, Timetable};
 use ctt_desk::{Named, Naming, Opened, Planner, SharedDesk, SharedFault};
-use ctt_text::let_go;
+use ctt_text::{is_timetable, let_go};
 use std::alloc::Global;
 use std::marker::{Brand, PhantomData};
 use std::sync::Wait;
@@ -66,14 +66,14 @@ fn close<'i, S: Sheet<'i>, J: Naming, R: Wait>(
     here: &Here<'i, J>,
     planners: &mut [Planner<S, J>],
     script: &Script<'i>,
-)
-    requires { IsTimetable script.now.small.now script.now.opening.now }
-{
+) {
     let from = story.len();
     match desk.close(rt, planners) {
         Ok(closed) => {
             story.timetable(here.small, closed.list(), closed.cost());
-            tell_journal::<S>(story, script, closed.journal());
+            if is_timetable(script.small, script.opening) {
+                tell_journal::<S>(story, script, closed.journal());
+            }
             let_go(closed);
         }
         Err(closed) => let_go(closed),
@@ -89,9 +89,7 @@ fn play_named<'i, S: Sheet<'i>, J: Naming, R: Wait>(
     named: Named<S, J>,
     here: &Here<'i, J>,
     script: &Script<'i>,
-)
-    requires { IsTimetable script.now.small.now script.now.opening.now }
-{
+) {
     match SharedDesk::<S, J>::new(rt, named) {
         Ok((desk, all)) => {
             let mut planners = play_at(story, rt, &desk, here, all, script);
@@ -110,7 +108,6 @@ fn named_on_list<'i, J: Naming, R: Wait>(
     count: u16,
     script: &Script<'i>,
 )
-    requires timetable { IsTimetable script.now.small.now script.now.opening.now }
     requires named { IsNamed J.problem J.opening J.planners J.book opened count }
     requires problem { opened.problem ≡ script.now.small.now }
 {
@@ -144,7 +141,6 @@ fn named_on_grid<'i, J: Naming, R: Wait>(
     count: u16,
     script: &Script<'i>,
 )
-    requires timetable { IsTimetable script.now.small.now script.now.opening.now }
     requires named { IsNamed J.problem J.opening J.planners J.book opened count }
     requires problem { opened.problem ≡ script.now.small.now }
 {
