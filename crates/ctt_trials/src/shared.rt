@@ -1,6 +1,5 @@
 //! A script on a shared desk, played by its planners on one thread, of whom one learns each receipt.
 
-ghost use Rattle.ctt_text.specs.Timetable.{IsTimetable};
 ghost use Rattle.std.specs.Prelude.{◌≡◌, IfOk};
 ghost use Rattle.ctt_desk.specs.Names.{IsNamed};
 
@@ -20,9 +19,11 @@ const PLANNERS: u16 = 4;
 
 /// The opening of a desk.
 fn opened<'i, S: Sheet<'i>>(alloc: Global, script: &Script<'i>) -> Result<Opened<S>, SharedFault>
-    requires { IsTimetable script.now.small.now script.now.opening.now }
     ensures { IfOk result (λ opened. opened.problem ≡ script.now.small.now) }
 {
+    if !is_timetable(script.small, script.opening) {
+        return Err(SharedFault::NoMemory);
+    }
     Opened::<S>::new(alloc, script.small, script.opening)
 }
 
@@ -124,9 +125,7 @@ fn named_on_list<'i, J: Naming, R: Wait>(
 }
 
 /// Plays a script on a desk of list sheets.
-pub(crate) fn on_list<R: Wait>(story: &mut Story, rt: &R, script: &Script)
-    requires { IsTimetable script.now.small.now script.now.opening.now }
-{
+pub(crate) fn on_list<R: Wait>(story: &mut Story, rt: &R, script: &Script) {
     match opened::<ListSheet>(story.alloc(), script) {
         Ok(opened) => named_on_list::<Brand, R>(story, rt, opened, PLANNERS, script),
         Err(_fault) => story.no_memory(),
@@ -157,9 +156,7 @@ fn named_on_grid<'i, J: Naming, R: Wait>(
 }
 
 /// Plays a script on a desk of grid sheets.
-pub(crate) fn on_grid<R: Wait>(story: &mut Story, rt: &R, script: &Script)
-    requires { IsTimetable script.now.small.now script.now.opening.now }
-{
+pub(crate) fn on_grid<R: Wait>(story: &mut Story, rt: &R, script: &Script) {
     match opened::<GridSheet>(story.alloc(), script) {
         Ok(opened) => named_on_grid::<Brand, R>(story, rt, opened, PLANNERS, script),
         Err(_fault) => story.no_memory(),
@@ -167,9 +164,7 @@ pub(crate) fn on_grid<R: Wait>(story: &mut Story, rt: &R, script: &Script)
 }
 
 /// Tells whether a desk opens with the lectures of a script.
-pub(crate) fn tell_opening<'i, S: Sheet<'i>>(story: &mut Story, script: &Script<'i>)
-    requires { IsTimetable script.now.small.now script.now.opening.now }
-{
+pub(crate) fn tell_opening<'i, S: Sheet<'i>>(story: &mut Story, script: &Script<'i>) {
     match opened::<S>(story.alloc(), script) {
         Ok(opened) => {
             story.say("opened");
