@@ -5,7 +5,7 @@ ghost use Rattle.ctt_text.specs.Timetable.{IsTimetable};
 use crate::story::Story;
 use crate::{crews, cuts, desks, drafts, journals, scripts, shared, sheets, shown, transfers};
 use ctt_board::{GridSheet, ListSheet, Sheet};
-use ctt_text::{Instance, Placed, let_go, read_solution};
+use ctt_text::{Instance, Placed, is_timetable, let_go, read_solution};
 use std::marker::Sync;
 use std::sync::Wait;
 use std::thread::Threads;
@@ -116,8 +116,8 @@ fn play_plain<R: Threads + Wait + Sync>(story: &mut Story, rt: &R, plain: &Plain
     }
 }
 
-/// Plays a case on sheets of one kind.
-fn play_on<'i, S: Sheet<'i>>(story: &mut Story, on: &On, script: &Script<'i>)
+/// Plays a case on sheets of one kind, with the lectures of a timetable.
+fn play_way<'i, S: Sheet<'i>>(story: &mut Story, on: &On, script: &Script<'i>)
     requires { IsTimetable script.now.small.now script.now.opening.now }
 {
     match on {
@@ -130,6 +130,15 @@ fn play_on<'i, S: Sheet<'i>>(story: &mut Story, on: &On, script: &Script<'i>)
             journals::read_text::<S>(story, on, script, script.lines.as_bytes());
         }
         On::Opening => shared::tell_opening::<S>(story, script),
+    }
+}
+
+/// Plays a case on sheets of one kind.
+fn play_on<'i, S: Sheet<'i>>(story: &mut Story, on: &On, script: &Script<'i>) {
+    if is_timetable(script.small, script.opening) {
+        play_way::<S>(story, on, script);
+    } else {
+        story.say("unfit");
     }
 }
 

@@ -1,6 +1,5 @@
 //! A script on a shared desk, played by its planners on one thread, of whom one learns each receipt.
 
-ghost use Rattle.ctt_text.specs.Timetable.{IsTimetable};
 ghost use Rattle.std.specs.Prelude.{◌≡◌, IfOk};
 ghost use Rattle.ctt_desk.specs.Names.{IsNamed};
 
@@ -10,7 +9,7 @@ use crate::story::Story;
 use crate::turns::{Here, LOOKS, Part, VIEWER, answer_lines, leave, sit};
 use ctt_board::{GridSheet, ListSheet, Sheet, Timetable};
 use ctt_desk::{Named, Naming, Opened, Planner, SharedDesk, SharedFault};
-use ctt_text::let_go;
+use ctt_text::{is_timetable, let_go};
 use std::alloc::Global;
 use std::marker::{Brand, PhantomData};
 use std::sync::Wait;
@@ -20,9 +19,11 @@ const PLANNERS: u16 = 4;
 
 /// The opening of a desk.
 fn opened<'i, S: Sheet<'i>>(alloc: Global, script: &Script<'i>) -> Result<Opened<S>, SharedFault>
-    requires { IsTimetable script.now.small.now script.now.opening.now }
     ensures { IfOk result (λ opened. opened.problem ≡ script.now.small.now) }
 {
+    if !is_timetable(script.small, script.opening) {
+        return Err(SharedFault::NoMemory);
+    }
     Opened::<S>::new(alloc, script.small, script.opening)
 }
 
@@ -66,14 +67,14 @@ fn close<'i, S: Sheet<'i>, J: Naming, R: Wait>(
     here: &Here<'i, J>,
     planners: &mut [Planner<S, J>],
     script: &Script<'i>,
-)
-    requires { IsTimetable script.now.small.now script.now.opening.now }
-{
+) {
     let from = story.len();
     match desk.close(rt, planners) {
         Ok(closed) => {
             story.timetable(here.small, closed.list(), closed.cost());
-            tell_journal::<S>(story, script, closed.journal());
+            if is_timetable(script.small, script.opening) {
+                tell_journal::<S>(story, script, closed.journal());
+            }
             let_go(closed);
         }
         Err(closed) => let_go(closed),
@@ -89,9 +90,7 @@ fn play_named<'i, S: Sheet<'i>, J: Naming, R: Wait>(
     named: Named<S, J>,
     here: &Here<'i, J>,
     script: &Script<'i>,
-)
-    requires { IsTimetable script.now.small.now script.now.opening.now }
-{
+) {
     match SharedDesk::<S, J>::new(rt, named) {
         Ok((desk, all)) => {
             let mut planners = play_at(story, rt, &desk, here, all, script);
@@ -110,7 +109,6 @@ fn named_on_list<'i, J: Naming, R: Wait>(
     count: u16,
     script: &Script<'i>,
 )
-    requires timetable { IsTimetable script.now.small.now script.now.opening.now }
     requires named { IsNamed J.problem J.opening J.planners J.book opened count }
     requires problem { opened.problem ≡ script.now.small.now }
 {
@@ -127,9 +125,7 @@ fn named_on_list<'i, J: Naming, R: Wait>(
 }
 
 /// Plays a script on a desk of list sheets.
-pub(crate) fn on_list<R: Wait>(story: &mut Story, rt: &R, script: &Script)
-    requires { IsTimetable script.now.small.now script.now.opening.now }
-{
+pub(crate) fn on_list<R: Wait>(story: &mut Story, rt: &R, script: &Script) {
     match opened::<ListSheet>(story.alloc(), script) {
         Ok(opened) => named_on_list::<Brand, R>(story, rt, opened, PLANNERS, script),
         Err(_fault) => story.no_memory(),
@@ -144,7 +140,6 @@ fn named_on_grid<'i, J: Naming, R: Wait>(
     count: u16,
     script: &Script<'i>,
 )
-    requires timetable { IsTimetable script.now.small.now script.now.opening.now }
     requires named { IsNamed J.problem J.opening J.planners J.book opened count }
     requires problem { opened.problem ≡ script.now.small.now }
 {
@@ -161,9 +156,7 @@ fn named_on_grid<'i, J: Naming, R: Wait>(
 }
 
 /// Plays a script on a desk of grid sheets.
-pub(crate) fn on_grid<R: Wait>(story: &mut Story, rt: &R, script: &Script)
-    requires { IsTimetable script.now.small.now script.now.opening.now }
-{
+pub(crate) fn on_grid<R: Wait>(story: &mut Story, rt: &R, script: &Script) {
     match opened::<GridSheet>(story.alloc(), script) {
         Ok(opened) => named_on_grid::<Brand, R>(story, rt, opened, PLANNERS, script),
         Err(_fault) => story.no_memory(),
@@ -171,9 +164,7 @@ pub(crate) fn on_grid<R: Wait>(story: &mut Story, rt: &R, script: &Script)
 }
 
 /// Tells whether a desk opens with the lectures of a script.
-pub(crate) fn tell_opening<'i, S: Sheet<'i>>(story: &mut Story, script: &Script<'i>)
-    requires { IsTimetable script.now.small.now script.now.opening.now }
-{
+pub(crate) fn tell_opening<'i, S: Sheet<'i>>(story: &mut Story, script: &Script<'i>) {
     match opened::<S>(story.alloc(), script) {
         Ok(opened) => {
             story.say("opened");
