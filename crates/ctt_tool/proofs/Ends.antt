@@ -3,15 +3,15 @@ use Rattle.std.proofs.Common.{◌≡◌, ◌≢◌, ◌∙◌, ◌⊎◌, refl, 
 use Rattle.ctt_words.specs.Jobs.{faults_of}
 use Rattle.ctt_words.specs.declared.job.Job.TheVariants.{Audit, Crew, Desk, Journal as Journals, Listing, Run, Show}
 use Rattle.ctt_files.specs.Faults.{MayHaveWritten, status_of}
-use Rattle.ctt_tool.specs.Faults.{KeptUnless, SaysFault}
 use Rattle.ctt_files.specs.Outcomes.{outcome_status}
 use Rattle.ctt_files.specs.Texts.{Held}
-use Rattle.ctt_tool.specs.Work.{DoesAsAsked, HasCause, IsOfWords}
 use Rattle.ctt_files.specs.declared.fault.Fault.{Fault}
 use Rattle.ctt_files.specs.declared.fault.Fault.TheVariants.{BadSeats, Barred, CannotRead, CannotWrite, Instance, Journal, MinutesExist, NoCourse, NoCurriculum, NoMemory, NoPlace, NoRoom, NoTeacher, NoThread, Opening, Solution, TooLong, TooManyScripts, Words, WordsNotText}
 use Rattle.ctt_files.specs.declared.outcome.Outcome.{Outcome}
 use Rattle.ctt_files.specs.declared.outcome.Outcome.TheVariants.{Differs, Done, Incomplete, Unlawful}
 use Rattle.ctt_files.proofs.Causes.{three_is_one}
+use Rattle.ctt_tool.specs.Faults.{KeptUnless, SaysFault}
+use Rattle.ctt_tool.specs.Work.{DoesAsAsked, HasCause, IsOfWords}
 use Rattle.ctt_tool.proofs.Known.{says_caused, says_weaker}
 
 -- how a job ended is known by the status

@@ -2,9 +2,9 @@
 use Rattle.std.specs.Prelude.{List, [], Option, Some, None}
 use Rattle.std.specs.Global.{Global}
 use Rattle.std.specs.declared.string.String.{String}
-use Rattle.ctt_tool.specs.Seats.{AreBadSeats}
 use Rattle.ctt_words.specs.declared.job.Job.{Job}
 use Rattle.ctt_words.specs.declared.job.Job.TheVariants.{Crew, Desk, Journal, Run}
+use Rattle.ctt_tool.specs.Seats.{AreBadSeats}
 
 -- a file is given
 abbrev pub IsGiven : Option (String Global) → Type 0

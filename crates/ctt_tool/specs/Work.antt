@@ -4,21 +4,21 @@ use Rattle.ctt_words.specs.Jobs.{IsFaultOf, IsJobOf, IsRequest, faults_of}
 use Rattle.ctt_words.specs.declared.job.WordsFault.TheVariants.{Refused}
 use Rattle.ctt_words.specs.declared.job.Job.{Job}
 use Rattle.ctt_words.specs.declared.job.Job.TheVariants.{Audit, Crew, Desk, Journal, Listing, Run, Show}
-use Rattle.ctt_tool.specs.Audits.{AuditsJournal}
 use Rattle.ctt_reports.specs.Showings.{IsOfShowing, ShowsSolution}
-use Rattle.ctt_tool.specs.Crews.{PrintsCrew}
-use Rattle.ctt_tool.specs.Desks.{PrintsLast}
 use Rattle.ctt_files.specs.Faults.{status_of}
-use Rattle.ctt_tool.specs.Jobs.{HasBadSeats, Saying, Storing, scripts_of}
-use Rattle.ctt_tool.specs.Lists.{ListsJournal, PrintsJournal}
-use Rattle.ctt_tool.specs.Refusals.{IsOfAudit, IsOfCrew, IsOfDesk, IsOfRecovery, IsOfRun}
-use Rattle.ctt_tool.specs.Runs.{RunsScript}
 use Rattle.ctt_files.specs.Outcomes.{outcome_status}
 use Rattle.ctt_files.specs.Texts.{Held}
 use Rattle.ctt_files.specs.declared.fault.Fault.{Fault}
 use Rattle.ctt_files.specs.declared.fault.Fault.TheVariants.{CannotWrite, NoMemory, Words, WordsNotText}
 use Rattle.ctt_files.specs.declared.outcome.Outcome.{Outcome}
 use Rattle.ctt_files.specs.declared.outcome.Outcome.TheVariants.{Done}
+use Rattle.ctt_tool.specs.Audits.{AuditsJournal}
+use Rattle.ctt_tool.specs.Crews.{PrintsCrew}
+use Rattle.ctt_tool.specs.Desks.{PrintsLast}
+use Rattle.ctt_tool.specs.Jobs.{HasBadSeats, Saying, Storing, scripts_of}
+use Rattle.ctt_tool.specs.Lists.{ListsJournal, PrintsJournal}
+use Rattle.ctt_tool.specs.Refusals.{IsOfAudit, IsOfCrew, IsOfDesk, IsOfRecovery, IsOfRun}
+use Rattle.ctt_tool.specs.Runs.{RunsScript}
 
 -- the job is done over these files, where they tell their bytes; its answer is printed, and the program ends as it says
 abbrev pub DoesJob : Job → Outcome → Held → Held → Option (List ℕ) → Option (List ℕ) → Type 0

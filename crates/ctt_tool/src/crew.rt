@@ -2,12 +2,12 @@
 
 ghost use Rattle.std.specs.Prelude.{◌≡◌, ◌≤◌, ◌<◌, [], Err, length, true, OnOk, IfOk, IfErr};
 ghost use Rattle.ctt_crew.specs.CrewText.{IsCrewText};
-ghost use Rattle.ctt_tool.specs.Crews.{IsOfCrewOn, PrintsCrew};
-ghost use Rattle.ctt_tool.specs.Faults.{fault_of_crew};
 ghost use Rattle.ctt_files.specs.Faults.{IfUnwritten};
 ghost use Rattle.ctt_files.specs.Refusals.{IsOfInstanceOr};
-ghost use Rattle.ctt_tool.specs.Refusals.{IsOfCrew, IsOfScripts, IsOfWork};
 ghost use Rattle.ctt_files.specs.declared.fault.Fault.TheVariants.{TooManyScripts};
+ghost use Rattle.ctt_tool.specs.Crews.{IsOfCrewOn, PrintsCrew};
+ghost use Rattle.ctt_tool.specs.Faults.{fault_of_crew};
+ghost use Rattle.ctt_tool.specs.Refusals.{IsOfCrew, IsOfScripts, IsOfWork};
 
 use ctt_crew::{CrewFault, NoGate};
 use ctt_devices::Sink;

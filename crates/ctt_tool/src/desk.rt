@@ -3,12 +3,12 @@
 ghost use Rattle.std.specs.Prelude.{◌≡◌, ◌⊎◌, ◌≤◌, ◌<◌, ◌++◌, Err, true, length, codes, OnOk, OnErr, IfOk, IfErr};
 ghost use Rattle.std.specs.String.{string_bytes};
 ghost use Rattle.ctt_office.specs.OfficeFaults.{IsOfficeFault};
-ghost use Rattle.ctt_tool.specs.Desks.{IsOfDeskFrom, IsOfDeskOn, IsOpenOn, TellsLast};
 ghost use Rattle.ctt_files.specs.Faults.{IfUnwritten, MayHaveWritten};
 ghost use Rattle.ctt_files.specs.Refusals.{IsOfInstanceOr};
+ghost use Rattle.ctt_files.specs.declared.fault.Fault.TheVariants.{BadSeats, CannotWrite, NoMemory};
+ghost use Rattle.ctt_tool.specs.Desks.{IsOfDeskFrom, IsOfDeskOn, IsOpenOn, TellsLast};
 ghost use Rattle.ctt_tool.specs.Refusals.{IsOfDesk, IsOfOldMinutes, IsOfOpening, IsOfSeats, IsOfWork, IsUnread, IsUnreadAt};
 ghost use Rattle.ctt_tool.specs.Seats.{has_seat, has_twice};
-ghost use Rattle.ctt_files.specs.declared.fault.Fault.TheVariants.{BadSeats, CannotWrite, NoMemory};
 
 use crate::office::{Office, STANDARD};
 use crate::refused::refused_opening;

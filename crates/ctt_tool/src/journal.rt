@@ -2,9 +2,9 @@
 
 ghost use Rattle.std.specs.Prelude.{◌≡◌, ◌⊎◌, true, is_some, OnOk, OnErr, IfOk, IfErr};
 ghost use Rattle.ctt_files.specs.Faults.{IfUnwritten};
+ghost use Rattle.ctt_files.specs.declared.fault.Fault.TheVariants.{NoMemory};
 ghost use Rattle.ctt_tool.specs.Lists.{IsRecoveredJournal, PrintsEntries, PrintsJournal};
 ghost use Rattle.ctt_tool.specs.Refusals.{IsNoMinutes, IsOfMinutes, IsOfRecovery};
-ghost use Rattle.ctt_files.specs.declared.fault.Fault.TheVariants.{NoMemory};
 
 use crate::refused::refused_journal;
 use ctt_devices::Sink;

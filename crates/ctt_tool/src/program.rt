@@ -3,11 +3,11 @@
 ghost use Rattle.std.specs.Prelude.{◌≡◌, ◌≢◌, ◌≤◌, ◌⊎◌, [], true, false, map, OnOk, OnErr, IfOk, IfErr};
 ghost use Rattle.ctt_words.specs.Jobs.{AreRefused, HasScripts, faults_of};
 ghost use Rattle.ctt_files.specs.Faults.{IfUnwritten, MayHaveWritten, status_of};
+ghost use Rattle.ctt_files.specs.declared.fault.Fault.TheVariants.{NoMemory};
+ghost use Rattle.ctt_files.specs.declared.outcome.Outcome.TheVariants.{Differs, Done, Incomplete, Unlawful};
 ghost use Rattle.ctt_tool.specs.Faults.{KeptUnless, SaysFault};
 ghost use Rattle.ctt_tool.specs.Jobs.{Saying, Storing};
 ghost use Rattle.ctt_tool.specs.Work.{AsksForBadSeats, AsksForRefusedText, AsksForTooMany, AsksToSay, AsksToStore, DoesAsAsked, DoesJob, EndsAsDone, HasCause, IsOfJob};
-ghost use Rattle.ctt_files.specs.declared.fault.Fault.TheVariants.{NoMemory};
-ghost use Rattle.ctt_files.specs.declared.outcome.Outcome.TheVariants.{Differs, Done, Incomplete, Unlawful};
 
 use crate::audit::audit;
 use crate::crew::crew;

@@ -9,11 +9,11 @@ ghost use Rattle.ctt_core.specs.Runs.{accepted_of};
 ghost use Rattle.ctt_script.specs.AnswerText.{answer_text, script_run};
 ghost use Rattle.ctt_script.specs.Minutes.{IsMinuted, blank, minutes_text};
 ghost use Rattle.ctt_files.specs.Faults.{IfUnwritten, MayHaveWritten};
+ghost use Rattle.ctt_files.specs.declared.fault.Fault.TheVariants.{NoMemory as OutOfMemory};
 ghost use Rattle.ctt_tool.specs.Faults.{IsRunFault, KeptUnless, RunFaultFits};
 ghost use Rattle.ctt_tool.specs.Jobs.{IsGiven};
 ghost use Rattle.ctt_tool.specs.Refusals.{IsAnswerFault, IsOfRun, IsOfScript};
 ghost use Rattle.ctt_tool.specs.Runs.{RunsOn, RunsScript, Stores};
-ghost use Rattle.ctt_files.specs.declared.fault.Fault.TheVariants.{NoMemory as OutOfMemory};
 
 use crate::refused::refused_opening;
 use ctt_board::{GridSheet, Sheet};

@@ -1,9 +1,9 @@
 use Rattle.std.proofs.Common.{◌≡◌, ◌⊎◌, inl, inr, ap, subst, sym, true}
 use Rattle.std.proofs.lemmas.Result.{IfErr-weaker}
 use Rattle.ctt_files.specs.Faults.{IfUnwritten}
+use Rattle.ctt_files.proofs.Plain.{passed_on, unwritten_more}
 use Rattle.ctt_tool.specs.Jobs.{Storing}
 use Rattle.ctt_tool.specs.Work.{IsOfJob}
-use Rattle.ctt_files.proofs.Plain.{passed_on, unwritten_more}
 use Rattle.ctt_tool.proofs.program.do_job.Goals as goal
 
 pub returns-in-Show-clause-cause : goal.returns-in-Show-clause-cause
