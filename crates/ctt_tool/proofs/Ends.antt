@@ -1,7 +1,10 @@
 -- How the program ends, by its status.
-use Rattle.std.proofs.Common.{◌≡◌, ◌≢◌, ◌∙◌, ◌⊎◌, refl, ap, sym, inl, inr, true, ⊎_elim, subst, ℕ, suc, Bool, List, [], Option, arith}
+use Rattle.std.proofs.Common.{◌≡◌, ◌≢◌, ◌∙◌, ◌⊎◌, refl, ap, sym, inl, inr, true, ⊎_elim, subst, ℕ, suc, Bool, List, [], Option, Result, Ok, Err, IfOk, OnOk, arith}
+use Rattle.std.specs.Global.{Global}
+use Rattle.std.specs.declared.string.String.{String}
 use Rattle.ctt_words.specs.Jobs.{faults_of}
-use Rattle.ctt_words.specs.declared.job.Job.TheVariants.{Audit, Crew, Desk, Journal as Journals, Listing, Run, Show}
+use Rattle.ctt_words.specs.declared.job.Task.{Task}
+use Rattle.ctt_words.specs.declared.job.Task.TheVariants.{Audit, Crew, Desk, Journal as Journals, Listing, Run, Show}
 use Rattle.ctt_files.specs.Faults.{MayHaveWritten, status_of}
 use Rattle.ctt_files.specs.Outcomes.{outcome_status}
 use Rattle.ctt_files.specs.Texts.{Held}
@@ -11,7 +14,7 @@ use Rattle.ctt_files.specs.declared.outcome.Outcome.{Outcome}
 use Rattle.ctt_files.specs.declared.outcome.Outcome.TheVariants.{Differs, Done, Incomplete, Unlawful}
 use Rattle.ctt_files.proofs.Causes.{three_is_one}
 use Rattle.ctt_tool.specs.Faults.{KeptUnless, SaysFault}
-use Rattle.ctt_tool.specs.Work.{DoesAsAsked, HasCause, IsOfWords}
+use Rattle.ctt_tool.specs.Work.{DoesAsAsked, DoesTask, HasCause, IsOfWords}
 use Rattle.ctt_tool.proofs.Known.{says_caused, says_weaker}
 
 -- how a job ended is known by the status
@@ -82,16 +85,26 @@ ended_kept (NoTeacher name) status S K is kept = inl kept
 ended_kept (NoCourse name) status S K is kept = inl kept
 ended_kept (NoRoom name) status S K is kept = inl kept
 
+-- what ends as done alone has done what it says
+pub done_so : {E : Type 0} (r : Result Outcome E) (P : Type 0) (Q : Outcome → Type 0) → IfOk r (λ outcome. outcome ≡ Done) → OnOk r P
+    → ((outcome : Outcome) → outcome ≡ Done → P → Q outcome) → IfOk r Q
+done_so (Ok outcome) P Q done does gives = gives outcome done does
+done_so (Err fault) P Q done does gives = tt
+
 -- a job that ends otherwise than as done has changed no file
+task_kept : (instance : String Global) (barred : Option (String Global)) (task : Task) (outcome : Outcome) (before after : Held) (old new : Option (List ℕ))
+    → DoesTask instance barred task outcome before after old new → outcome ≢ Done → after ≡ before
+task_kept instance barred (Show solution showing) outcome before after old new does other = does.0
+task_kept instance barred (Run script start journal) outcome before after old new does other = absurd (other does.0)
+task_kept instance barred (Audit journal start) outcome before after old new does other = does.0
+task_kept instance barred (Crew scripts) outcome before after old new does other = absurd (other does.0)
+task_kept instance barred (Desk seats start minutes) outcome before after old new does other = absurd (other does.0)
+task_kept instance barred (Journals minutes) outcome before after old new does other = absurd (other does.0)
+task_kept instance barred (Listing journal start) outcome before after old new does other = does.0
+
 pub other_kept : (words : List (List ℕ)) (outcome : Outcome) (before after : Held) (old new : Option (List ℕ)) → DoesAsAsked words outcome before after old new → outcome ≢ Done → after ≡ before
 other_kept words outcome before after old new (inl help) other = help.2
-other_kept words outcome before after old new (inr (taken, (Show instance barred solution showing, is, does))) other = does.0
-other_kept words outcome before after old new (inr (taken, (Run instance barred script start journal, is, does))) other = absurd (other does.0)
-other_kept words outcome before after old new (inr (taken, (Audit instance barred journal start, is, does))) other = does.0
-other_kept words outcome before after old new (inr (taken, (Crew instance barred scripts, is, does))) other = absurd (other does.0)
-other_kept words outcome before after old new (inr (taken, (Desk instance barred seats start minutes, is, does))) other = absurd (other does.0)
-other_kept words outcome before after old new (inr (taken, (Journals instance barred minutes, is, does))) other = absurd (other does.0)
-other_kept words outcome before after old new (inr (taken, (Listing instance barred journal start, is, does))) other = does.0
+other_kept words outcome before after old new (inr (taken, (job, is, does))) other = task_kept job.instance job.barred job.task outcome before after old new does other
 
 -- where a text is refused, nothing was printed
 pub unprinted_one : (fault : Fault) (P : Type 0) → MayHaveWritten fault ⊎ P → status_of fault ≡ 1 → P

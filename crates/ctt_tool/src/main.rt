@@ -7,6 +7,7 @@ mod desk;
 mod journal;
 mod list;
 mod office;
+mod printed;
 mod program;
 mod refused;
 mod run;
