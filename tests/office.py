@@ -522,6 +522,8 @@ def office_script():
         env=environment,
         text=True,
         start_new_session=True,
+        # a test that runs in the background ignores this signal, and so would the office
+        preexec_fn=lambda: signal.signal(signal.SIGINT, signal.SIG_DFL),
     )
     check("the office says that it is open", process.stderr.readline().startswith("office: open, seats 0 to 2:"), True)
     check("its folder is its owner's", os.stat(folder).st_mode & 0o777, 0o700)
