@@ -1,7 +1,5 @@
--- Texts that grow piece by piece, and the texts of short numbers.
-use Rattle.std.proofs.Common.{◌≡◌, ℕ, ◌+◌, ◌<◌, ◌≤◌, ◌/◌, ◌%◌, ◌^◌, List, [], ◌∷◌, ◌++◌, Result, Ok, Err, OnOk, subst, sym, ap, ◌∙◌, append_assoc, arith}
-use Rattle.std.specs.Fmt.{decimal}
-use Rattle.std.proofs.lemmas.Fmt.{decimal_digit, decimal_step}
+-- Texts that grow piece by piece.
+use Rattle.std.proofs.Common.{◌≡◌, ℕ, List, ◌++◌, Result, Ok, Err, OnOk, subst, sym, ap, ◌∙◌, append_assoc}
 
 -- a text that is added is another one
 pub told : {T E : Type 0} (r : Result T E) (old new text other : List ℕ) → other ≡ text → OnOk r (new ≡ old ++ text) → OnOk r (new ≡ old ++ other)
@@ -18,12 +16,3 @@ pub after : {T E : Type 0} (r : Result T E) (old now new front value other last 
 after r old now new front value other last same e h =
     told r old new ((front ++ other) ++ last) (front ++ (other ++ last)) (sym (append_assoc front other last))
     (behind r old now new (front ++ other) last (e ∙ ap (λ text. old ++ (front ++ text)) same) h)
-
-pub digit_text : (n : ℕ) → n < 10 → decimal n ≡ (48 + n) ∷ []
-digit_text n lt = decimal_digit n lt
-
-pub two_digits : (n : ℕ) → 10 ≤ n → n < 100 → decimal n ≡ decimal (n / 10) ++ decimal (n % 10)
-two_digits n ten hundred =
-    let last : n % 10 < 10 = omega arith in
-    let small : n < 2 ^ 64 = omega arith in
-    decimal_step n ten small ∙ ap (λ r. decimal (n / 10) ++ r) (sym (digit_text (n % 10) last))

@@ -1,6 +1,7 @@
 //! What a timetable breaks and costs: the report, and each finding by name.
 #![tactic(auto)]
 
+mod alone_lines;
 mod compactness;
 mod conflicts;
 mod courses;

@@ -7,11 +7,10 @@ ghost use Rattle.ctt_findings.specs.Fitting.{CauseFits, FindingFits};
 ghost use Rattle.ctt_findings.specs.Lines.{cause_facts, line, rest_of_line};
 ghost use Rattle.ctt_findings.specs.declared.finding.Finding.TheVariants.{Lectures, Conflict, Availability, Occupancy, Barred, Capacity, Days, Compactness, Stability};
 
+use crate::alone_lines::push_compactness;
 use crate::finding::{Cause, Finding};
-use crate::pieces::{
-    end_with_count, end_with_slot, end_with_word, push_count, push_slot, push_word,
-};
-use ctt_text::{CourseNo, CurriculumNo, Instance, Placed, SlotNo};
+use crate::pieces::{end_with_count, end_with_slot, end_with_word, push_slot};
+use ctt_text::{CourseNo, Instance, Placed, SlotNo, push_count, push_word};
 use std::alloc::AllocError;
 
 /// Adds the line of missing or surplus lectures.
@@ -151,27 +150,6 @@ fn push_days(
     push_word(text, instance.course_name(course))?;
     push_count(text, days)?;
     push_count(text, u64::from(minimum))?;
-    end_with_count(text, points)
-}
-
-/// Adds the line of a lecture that stands alone.
-fn push_compactness(
-    text: &mut String,
-    instance: &Instance,
-    curriculum: CurriculumNo,
-    lecture: &Placed,
-    points: u64,
-) -> Result<(), AllocError>
-    requires curriculum { curriculum < curriculum_count instance.now }
-    requires lecture { Fits instance.now lecture.now }
-    ensures { OnOk result (string_bytes text.new
-        ≡ string_bytes text.old
-        ++ line instance.now (Compactness curriculum lecture.now points)) }
-{
-    text.push_str("compactness")?;
-    push_word(text, instance.curriculum_name(curriculum))?;
-    push_word(text, instance.course_name(lecture.course))?;
-    push_slot(text, instance, lecture.slot)?;
     end_with_count(text, points)
 }
 

@@ -5,9 +5,8 @@ ghost use Rattle.std.specs.Fmt.{decimal};
 ghost use Rattle.json.specs.Print.{quoted};
 ghost use Rattle.ctt_text.specs.Problem.{course_count, day_of, period_of, room_count, slot_count};
 
-use crate::pieces::push_number;
 use crate::strings::push_string;
-use ctt_text::{CourseNo, Instance, RoomNo, SlotNo};
+use ctt_text::{CourseNo, Instance, RoomNo, SlotNo, push_number};
 use std::alloc::{AllocError, Global};
 
 /// Adds what stands before a number, and the number.

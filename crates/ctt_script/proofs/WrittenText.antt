@@ -4,13 +4,13 @@ use Rattle.std.specs.Prelude.{codes, nat_lt, slice_index_or, unsigned_abs}
 use Rattle.std.specs.List.{list_all, AllByRecursion as Each}
 use Rattle.std.specs.Fmt.{decimal, signed_decimal}
 use Rattle.std.proofs.lemmas.Bool.{and_parts, ltb-true}
-use Rattle.std.proofs.lemmas.Fmt.{decimal_digit}
 use Rattle.ctt_text.specs.Words.{words, is_blank}
 use Rattle.ctt_text.specs.Labels.{IsLabelOf, IsLabelOfDigits}
 use Rattle.ctt_text.specs.Problem.{Problem, IsProblem, day_of, period_of, course_count, room_count, slot_count, teacher_count, curriculum_count}
 use Rattle.ctt_text.specs.Named.{IsWord, IsNamed}
 use Rattle.ctt_text.specs.Timetable.{Fits}
 use Rattle.ctt_text.specs.declared.placed.Placed.{Placed}
+use Rattle.ctt_text.proofs.DigitLemmas.{digit_text}
 use Rattle.ctt_text.proofs.TimetableLemmas.{Each-at}
 use Rattle.ctt_text.proofs.WrittenLaws.{decimal_word, word_first, space_blank, line_end_blank, split}
 use Rattle.ctt_edits.specs.declared.edit.Edit.{Edit}
@@ -36,10 +36,6 @@ use Rattle.ctt_script.specs.JournalText.{JournalSpells}
 use Rattle.ctt_script.specs.WrittenWords.{course_word, room_word, day_word, period_word, edit_words, look_words, call_words, fault_words, lecture_words, reply_words, asked_words, entry_words, journal_words}
 use Rattle.ctt_script.specs.WrittenText.{line, rest_of_line, lecture_part, asked_text, entry_text, journal_text}
 use Rattle.ctt_script.proofs.WrittenWords.{journal_fills}
-
--- the text of a number of one digit
-pub digit_text : (n : ℕ) → n < 10 → decimal n ≡ (48 + n) ∷ []
-digit_text n lt = decimal_digit n lt
 
 -- the labels of a lecture, one behind the other
 pub labelled : (i : Problem) (l : Placed) (old one two all course room slot : List ℕ) → one ≡ old ++ course → two ≡ one ++ room → all ≡ two ++ slot

@@ -6,47 +6,9 @@ ghost use Rattle.ctt_text.specs.Problem.{slot_count};
 ghost use Rattle.ctt_script.specs.WrittenText.{rest_of_line, slot_part};
 ghost use Rattle.ctt_script.specs.WrittenWords.{day_word, period_word};
 
-use ctt_text::{Instance, SlotNo};
+use ctt_text::{Instance, SlotNo, push_count, push_word};
 use itoa::Buffer;
 use std::alloc::AllocError;
-
-/// Adds a blank and a word.
-pub(crate) fn push_word(text: &mut String, word: &str) -> Result<(), AllocError>
-    ensures { OnOk result (string_bytes text.new
-        ≡ string_bytes text.old ++ (codes " " ++ word.now)) }
-{
-    text.push(' ')?;
-    text.push_str(word)
-}
-
-/// Adds a number of one digit, which most numbers are.
-#[tactic(auto, using(crate::proofs::WrittenText::digit_text))]
-fn push_digit(text: &mut String, digit: u8) -> Result<(), AllocError>
-    requires { digit < 10 }
-    ensures { OnOk result (string_bytes text.new ≡ string_bytes text.old ++ decimal digit) }
-{
-    text.push(char::from(b'0' + digit))
-}
-
-/// Adds a number of any length.
-fn push_digits(text: &mut String, number: u64) -> Result<(), AllocError>
-    ensures { OnOk result (string_bytes text.new ≡ string_bytes text.old ++ decimal number) }
-{
-    text.push_str(Buffer::new().format(number))
-}
-
-/// Adds a blank and a number.
-#[inline(always)]
-pub(crate) fn push_number(text: &mut String, number: u64) -> Result<(), AllocError>
-    ensures { OnOk result (string_bytes text.new
-        ≡ string_bytes text.old ++ (codes " " ++ decimal number)) }
-{
-    text.push(' ')?;
-    if number < 10 {
-        return push_digit(text, number as u8);
-    }
-    push_digits(text, number)
-}
 
 /// Adds a blank and a number with its sign.
 pub(crate) fn push_signed(text: &mut String, number: i64) -> Result<(), AllocError>
@@ -68,8 +30,8 @@ pub(crate) fn push_slot(
         ≡ string_bytes text.old ++ slot_part instance.now slot) }
 {
     let (day, period) = (instance.day_of(slot), instance.period_of(slot));
-    push_number(text, u64::from(day))?;
-    push_number(text, u64::from(period))
+    push_count(text, u64::from(day))?;
+    push_count(text, u64::from(period))
 }
 
 /// Adds the last word of a line, and its end.
@@ -86,7 +48,7 @@ pub(crate) fn end_with_number(text: &mut String, number: u64) -> Result<(), Allo
     ensures { OnOk result (string_bytes text.new
         ≡ string_bytes text.old ++ rest_of_line (decimal number ∷ [])) }
 {
-    push_number(text, number)?;
+    push_count(text, number)?;
     text.push('\n')
 }
 

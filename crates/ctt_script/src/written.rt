@@ -19,15 +19,13 @@ ghost use Rattle.ctt_script.specs.JournalText.{JournalSpells};
 ghost use Rattle.ctt_script.specs.WrittenWords.{course_word, edit_words, look_words, call_words, fault_words, lecture_words, cost_words, reply_words};
 ghost use Rattle.ctt_script.specs.WrittenText.{line, rest_of_line, slot_part, asked_text, entry_text, journal_text};
 
-use crate::gathered::{Gathered, add_lecture, write_lecture};
-use crate::pieces::{
-    end_with_number, end_with_slot, end_with_word, push_number, push_signed, push_slot, push_word,
-};
+use crate::gathered::{add_lecture, write_lecture};
+use crate::pieces::{end_with_number, end_with_slot, end_with_word, push_signed, push_slot};
 use ctt_core::{JournalEntry, PlannerNo};
 use ctt_draft::Asked;
 use ctt_edits::{Call, Edit, EditFault, Look, Reply};
 use ctt_rules::Cost;
-use ctt_text::{CourseNo, Instance, NoMemory, Placed, SlotNo};
+use ctt_text::{CourseNo, Gathered, Instance, NoMemory, Placed, SlotNo, push_count, push_word};
 use std::alloc::{AllocError, Global};
 
 /// Adds the line of an edit that names a course, a room and a slot.
@@ -199,7 +197,7 @@ fn write_lectures(
         ≡ string_bytes text.old ++ line (reply_words instance.now (Lectures lectures.now))) }
 {
     text.push_str("lectures")?;
-    push_number(text, lectures.len() as u64)?;
+    push_count(text, lectures.len() as u64)?;
     let mut gathered = Gathered::new();
     for lecture in lectures {
         add_lecture(text, &mut gathered, instance, lecture)?;
@@ -220,9 +218,9 @@ pub fn write_costs(text: &mut String, cost: &Cost) -> Result<(), AllocError>
         stability,
     } = cost;
     text.push_str("costs")?;
-    push_number(text, *capacity)?;
-    push_number(text, *days)?;
-    push_number(text, *compactness)?;
+    push_count(text, *capacity)?;
+    push_count(text, *days)?;
+    push_count(text, *compactness)?;
     end_with_number(text, *stability)
 }
 
@@ -275,7 +273,7 @@ pub(crate) fn write_entry_head(
         ≡ string_bytes text.old ++ line (codes "entry" ∷ decimal planner ∷ decimal calls ∷ [])) }
 {
     text.push_str("entry")?;
-    push_number(text, u64::from(planner.get()))?;
+    push_count(text, u64::from(planner.get()))?;
     end_with_number(text, calls)
 }
 

@@ -76,3 +76,14 @@ digits_are_text a b la lb = IsUtf8-from_ascii (32 ∷ (48 + a) ∷ 32 ∷ (48 + 
 pub day_has_some : (days periods : ℕ) → 0 < days * periods → 0 < periods
 day_has_some days zero some = absurd (omega (arith, some, mul-zero days))
 day_has_some days (suc n) some = omega arith
+
+-- text behind text is text
+pub still_text : (old piece all : List ℕ) → all ≡ old ++ piece → IsUtf8 old → IsUtf8 piece → IsUtf8 all
+still_text old piece all e a b = subst IsUtf8 (sym e) (IsUtf8-append old piece a b)
+
+pub digit_is_text : (n : ℕ) → n < 10 → IsUtf8 ((48 + n) ∷ [])
+digit_is_text n lt = IsUtf8-from_ascii ((48 + n) ∷ []) small
+  where
+    small : (i : ℕ) → get_or ((48 + n) ∷ []) i 0 < 128
+    small zero = omega arith
+    small (suc i) = omega arith

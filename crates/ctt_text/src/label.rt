@@ -62,7 +62,7 @@ impl Label {
     /// Puts the blank and the word among some bytes, from a place on, and answers where they end. Sixteen bytes
     /// from the place on are overwritten, and no others.
     #[inline(always)]
-    pub fn put(&self, bytes: &mut [u8], at: usize) -> usize
+    pub(crate) fn put(&self, bytes: &mut [u8], at: usize) -> usize
         requires { at + 16 ≤ length bytes.old }
         ensures size { length bytes.new ≡ length bytes.old }
         ensures end { result ≡ at + length self.now }
