@@ -1,16 +1,15 @@
 -- The text that is written of a journal, as its words.
-use Rattle.std.proofs.Common.{◌≡◌, ℕ, suc, ◌+◌, ◌<◌, ◌≤◌, List, [], ◌∷◌, ◌++◌, length, flat_map, Bool, true, false, not, ◌&&◌, Some, ℤ, pos, negsuc, refl, sym, ap, subst, ◌∙◌, arith, append_assoc}
+use Rattle.std.proofs.Common.{◌≡◌, ℕ, suc, ◌<◌, ◌≤◌, List, [], ◌∷◌, ◌++◌, length, flat_map, Bool, true, false, not, ◌&&◌, Some, ℤ, pos, negsuc, refl, sym, ap, subst, ◌∙◌, arith, append_assoc}
 use Rattle.std.specs.Prelude.{codes, nat_lt, slice_index_or, unsigned_abs}
 use Rattle.std.specs.List.{list_all, AllByRecursion as Each}
 use Rattle.std.specs.Fmt.{decimal, signed_decimal}
 use Rattle.std.proofs.lemmas.Bool.{and_parts, ltb-true}
 use Rattle.ctt_text.specs.Words.{words, is_blank}
-use Rattle.ctt_text.specs.Labels.{IsLabelOf, IsLabelOfDigits}
+use Rattle.ctt_text.specs.Labels.{IsLabelOf, slot_words}
 use Rattle.ctt_text.specs.Problem.{Problem, IsProblem, day_of, period_of, course_count, room_count, slot_count, teacher_count, curriculum_count}
 use Rattle.ctt_text.specs.Named.{IsWord, IsNamed}
 use Rattle.ctt_text.specs.Timetable.{Fits}
 use Rattle.ctt_text.specs.declared.placed.Placed.{Placed}
-use Rattle.ctt_text.proofs.DigitLemmas.{digit_text}
 use Rattle.ctt_text.proofs.TimetableLemmas.{Each-at}
 use Rattle.ctt_text.proofs.WrittenLaws.{decimal_word, word_first, space_blank, line_end_blank, split}
 use Rattle.ctt_edits.specs.declared.edit.Edit.{Edit}
@@ -39,15 +38,12 @@ use Rattle.ctt_script.proofs.WrittenWords.{journal_fills}
 
 -- the labels of a lecture, one behind the other
 pub labelled : (i : Problem) (l : Placed) (old one two all course room slot : List ℕ) → one ≡ old ++ course → two ≡ one ++ room → all ≡ two ++ slot
-    → IsLabelOf (course_word i l.course) (Some course) → IsLabelOf (room_word i l.room) (Some room) → IsLabelOfDigits (day_of i l.slot) (period_of i l.slot) (Some slot) → all ≡ old ++ lecture_part i l
+    → IsLabelOf (course_word i l.course) (Some course) → IsLabelOf (room_word i l.room) (Some room) → IsLabelOf (slot_words (day_of i l.slot) (period_of i l.slot)) (Some slot) → all ≡ old ++ lecture_part i l
 labelled i l old one two all course room slot e f g c r s =
     rw (g, f, e) (append_assoc (old ++ course) room slot ∙ append_assoc old course (room ++ slot) ∙ ap (λ rest. old ++ rest) parts)
   where
-    days : 32 ∷ (48 + day_of i l.slot) ∷ 32 ∷ (48 + period_of i l.slot) ∷ [] ≡ 32 ∷ (day_word i l.slot ++ (32 ∷ period_word i l.slot))
-    days = rw (digit_text (day_of i l.slot) s.0, digit_text (period_of i l.slot) s.1) refl
-
     parts : course ++ (room ++ slot) ≡ lecture_part i l
-    parts = rw (c, r) (ap (λ q. 32 ∷ (course_word i l.course ++ (32 ∷ (room_word i l.room ++ q)))) (s.2 ∙ days))
+    parts = rw (c, r) (ap (λ q. 32 ∷ (course_word i l.course ++ (32 ∷ (room_word i l.room ++ q)))) s)
 
 -- words, each of them
 abbrev pub AreWords : List (List ℕ) → Type 0

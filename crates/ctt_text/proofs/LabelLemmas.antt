@@ -62,16 +62,6 @@ spaced_is_text word text = IsUtf8-append (32 ∷ []) word (IsUtf8-from_ascii (32
 pub label_is_text : (word rest : List ℕ) → IsUtf8 word → IsUtf8 (take (length word + 1) (32 ∷ (word ++ rest)))
 label_is_text word rest text = subst IsUtf8 (sym (spaced word rest)) (spaced_is_text word text)
 
-pub digits_are_text : (a b : ℕ) → a < 10 → b < 10 → IsUtf8 (32 ∷ (48 + a) ∷ 32 ∷ (48 + b) ∷ [])
-digits_are_text a b la lb = IsUtf8-from_ascii (32 ∷ (48 + a) ∷ 32 ∷ (48 + b) ∷ []) small
-  where
-    small : (i : ℕ) → get_or (32 ∷ (48 + a) ∷ 32 ∷ (48 + b) ∷ []) i 0 < 128
-    small zero = omega arith
-    small (suc zero) = omega arith
-    small (suc (suc zero)) = omega arith
-    small (suc (suc (suc zero))) = omega arith
-    small (suc (suc (suc (suc i)))) = omega arith
-
 -- where there are slots, a day has some
 pub day_has_some : (days periods : ℕ) → 0 < days * periods → 0 < periods
 day_has_some days zero some = absurd (omega (arith, some, mul-zero days))

@@ -2,9 +2,10 @@
 
 ghost use Rattle.std.specs.Prelude.{◌≡◌, ◌<◌, ◌≤◌, ◌+◌, ◌++◌, length, take, drop, IfOk};
 ghost use Rattle.std.specs.Str.{IsUtf8};
-ghost use Rattle.ctt_text.specs.Labels.{IsLabelOf, IsLabelOfDigits, AreLabels, AreSlotLabels};
+ghost use Rattle.ctt_text.specs.Labels.{IsLabelOf, AreLabels, AreSlotLabels, slot_words};
 
 use crate::names::Names;
+use crate::pieces::{push_count, push_number};
 use std::alloc::{AllocError, Global};
 use std::marker::Model;
 use std::simd::prelude::*;
@@ -46,19 +47,6 @@ impl Label {
         })
     }
 
-    /// The label of two words that are numbers of one digit each; other numbers have none.
-    pub(crate) fn of_digits(first: u16, second: u16) -> Option<Self>
-        ensures { IsLabelOfDigits first second result }
-    {
-        if first > 9 || second > 9 {
-            return None;
-        }
-        let mut bytes = [b' '; 16];
-        bytes[1] = b'0' + first as u8;
-        bytes[3] = b'0' + second as u8;
-        Some(Label { bytes, len: 4 })
-    }
-
     /// Puts the blank and the word among some bytes, from a place on, and answers where they end. Sixteen bytes
     /// from the place on are overwritten, and no others.
     #[inline(always)]
@@ -87,6 +75,16 @@ pub(crate) fn labels(alloc: Global, names: &Names) -> Result<Vec<Option<Label>>,
     Ok(labels)
 }
 
+/// The label of a slot, by its day and its period. What the words held before is forgotten.
+fn slot_label(words: &mut String, day: u16, period: u16) -> Result<Option<Label>, AllocError>
+    ensures { IfOk result (IsLabelOf (slot_words day period)) }
+{
+    words.clear();
+    push_number(words, u64::from(day))?;
+    push_count(words, u64::from(period))?;
+    Ok(Label::of(words))
+}
+
 /// The labels of the slots: of the day and the period of each.
 pub(crate) fn slot_labels(
     alloc: Global,
@@ -97,8 +95,9 @@ pub(crate) fn slot_labels(
     ensures { IfOk result (λ labels. AreSlotLabels slots periods labels.items) }
 {
     let mut labels = Vec::with_capacity(alloc, slots as usize)?;
+    let mut words = String::new(alloc);
     for slot in 0..slots {
-        labels.push(Label::of_digits(slot / periods, slot % periods))?;
+        labels.push(slot_label(&mut words, slot / periods, slot % periods)?)?;
     }
     Ok(labels)
 }

@@ -3,7 +3,7 @@
 ghost use Rattle.std.specs.Prelude.{◌≡◌, ◌<◌, [], slice_index_or, IfSome};
 ghost use Rattle.std.specs.Option.{option_map};
 ghost use Rattle.ctt_text.specs.Problem.{course_count, room_count, teacher_count, curriculum_count, slot_count, day_of, period_of, number_in};
-ghost use Rattle.ctt_text.specs.Labels.{IsLabelOf, IsLabelOfDigits};
+ghost use Rattle.ctt_text.specs.Labels.{IsLabelOf, slot_words};
 
 use crate::ids::{CourseNo, CurriculumNo, RoomNo, SlotNo, TeacherNo};
 use crate::instance::Instance;
@@ -44,10 +44,10 @@ impl Instance {
         self.room_labels[room.get() as usize].as_ref()
     }
 
-    /// The label of a slot's day and period; only where one of them has two digits or more there is none.
+    /// The label of a slot: its day and period, a blank between them.
     pub fn slot_label(&self, slot: SlotNo) -> Option<&Label>
         requires { slot < slot_count self.now }
-        ensures { IsLabelOfDigits (day_of self.now slot) (period_of self.now slot)
+        ensures { IsLabelOf (slot_words (day_of self.now slot) (period_of self.now slot))
             (option_map (λ l. l.now) result) }
     {
         self.slot_labels[slot.get() as usize].as_ref()
