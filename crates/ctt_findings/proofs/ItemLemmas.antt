@@ -1,5 +1,5 @@
 -- The texts of the objects of findings, kind by kind.
-use Rattle.std.proofs.Common.{◌≡◌, ℕ, List, [], ◌++◌, codes, refl}
+use Rattle.std.proofs.Common.{◌≡◌, ℕ, [], ◌++◌, codes, refl}
 use Rattle.std.specs.Prelude.{slice_index_or}
 use Rattle.std.specs.Fmt.{decimal}
 use Rattle.json.specs.Print.{quoted}

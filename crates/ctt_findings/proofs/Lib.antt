@@ -7,6 +7,7 @@ pub mod AloneLemmas
 pub mod FrontLemmas
 pub mod ObjectLemmas
 pub mod ReportLemmas
+pub mod RowLemmas
 pub mod PieceLemmas
 pub mod ItemLemmas
 pub mod NoneLemmas

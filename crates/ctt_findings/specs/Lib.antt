@@ -5,3 +5,4 @@ pub mod Lines
 pub mod Laws
 pub mod Objects
 pub mod ReportText
+pub mod Rows

@@ -28,7 +28,11 @@ fn put_count(gathered: &mut Gathered, count: u64) -> bool
     gathered.put(" ") && gathered.put_number(count)
 }
 
-/// Gathers the place of a lecture, if there is room: its course, day and period, each behind a blank.
+/// How many bytes the two labels of a place have at most.
+const PLACE: usize = 32;
+
+/// Gathers the place of a lecture, if there is room and its course has a label: its course, day and period, each
+/// behind a blank.
 #[inline(always)]
 fn put_place(gathered: &mut Gathered, instance: &Instance, lecture: &Placed) -> bool
     requires { Fits instance.now lecture.now }
@@ -37,9 +41,18 @@ fn put_place(gathered: &mut Gathered, instance: &Instance, lecture: &Placed) -> 
         ++ (codes " " ++ (decimal (day_of instance.now lecture.now.slot)
         ++ (codes " " ++ decimal (period_of instance.now lecture.now.slot)))))) }
 {
-    put_word(gathered, instance.course_name(lecture.course))
-        && put_count(gathered, u64::from(instance.day_of(lecture.slot)))
-        && put_count(gathered, u64::from(instance.period_of(lecture.slot)))
+    if gathered.room() < PLACE {
+        return false;
+    }
+    let (Some(course), Some(slot)) = (
+        instance.course_label(lecture.course),
+        instance.slot_label(lecture.slot),
+    ) else {
+        return false;
+    };
+    gathered.put_label(course);
+    gathered.put_label(slot);
+    true
 }
 
 /// Gathers the line of a lecture that stands alone, if there is room.

@@ -14,9 +14,11 @@ ghost use Rattle.ctt_findings.specs.Hearing.{Hears, HearsFront};
 
 use crate::finding::Finding;
 use crate::listener::{Listener, tell};
+use crate::rows::Rows;
 use crate::untold::Untold;
-use ctt_rules::{count_alone, course_row, mark_slots};
+use ctt_rules::{count_alone, mark_slots};
 use ctt_text::{CourseNo, CurriculumNo, Instance, Marks, Placed};
+use std::alloc::Global;
 use std::slice::from_ref;
 
 /// The members of a curriculum.
@@ -33,19 +35,15 @@ fn members_of(instance: &Instance, curriculum: CurriculumNo) -> Marks
 }
 
 /// The slots in which members of a curriculum stand.
-fn slots_of(instance: &Instance, timetable: &[Placed], curriculum: CurriculumNo) -> Marks
-    requires timetable { IsTimetable instance.now timetable.now }
+fn slots_of(instance: &Instance, rows: &Rows<'_>, curriculum: CurriculumNo) -> Marks
+    requires timetable { IsTimetable instance.now rows.now }
     requires curriculum { curriculum < curriculum_count instance.now }
     ensures { (s : ℕ) → is_marked result s
-        ≡ busy (lectures_of (members instance.now curriculum) timetable.now) s }
+        ≡ busy (lectures_of (members instance.now curriculum) rows.now) s }
 {
     let mut slots = Marks::new();
     for course in instance.members(curriculum) {
-        mark_slots(
-            instance,
-            &mut slots,
-            course_row(instance, timetable, *course),
-        );
+        mark_slots(instance, &mut slots, rows.row(instance, *course));
     }
     slots
 }
@@ -100,29 +98,48 @@ fn tell_alone<L: Listener>(
 fn tell_compactness_of<L: Listener>(
     listener: &mut L,
     instance: &Instance,
-    timetable: &[Placed],
+    rows: &Rows<'_>,
     curriculum: CurriculumNo,
 ) -> Result<(), Untold>
-    requires timetable { IsTimetable instance.now timetable.now }
+    requires timetable { IsTimetable instance.now rows.now }
     requires curriculum { curriculum < curriculum_count instance.now }
     ensures heard { OnOk result (Hears (L.hears instance.now) listener.old
-        (compactness_of instance.now timetable.now curriculum) listener.new) }
+        (compactness_of instance.now rows.now curriculum) listener.new) }
     ensures front { IfErr result (HearsFront (L.hears instance.now) L.fails listener.old
-        (compactness_of instance.now timetable.now curriculum) listener.new) }
+        (compactness_of instance.now rows.now curriculum) listener.new) }
 {
     let courses = members_of(instance, curriculum);
-    let slots = slots_of(instance, timetable, curriculum);
+    let slots = slots_of(instance, rows, curriculum);
     let mut from = 0;
     while let Some(number) = courses.next_between(from, instance.courses() as usize) {
-        let row = course_row(instance, timetable, CourseNo::new(number as u16));
+        let row = rows.row(instance, CourseNo::new(number as u16));
         tell_alone(listener, instance, curriculum, &slots, row)?;
         from = number + 1;
     }
     Ok(())
 }
 
-/// Tells of the lectures that stand alone in a curriculum.
+/// Tells of the lectures that stand alone, curriculum by curriculum.
+fn tell_each<L: Listener>(
+    listener: &mut L,
+    instance: &Instance,
+    rows: &Rows<'_>,
+) -> Result<(), Untold>
+    requires { IsTimetable instance.now rows.now }
+    ensures heard { OnOk result (Hears (L.hears instance.now) listener.old
+        (compactness_findings instance.now rows.now) listener.new) }
+    ensures front { IfErr result (HearsFront (L.hears instance.now) L.fails listener.old
+        (compactness_findings instance.now rows.now) listener.new) }
+{
+    for number in 0..instance.curricula() {
+        tell_compactness_of(listener, instance, rows, CurriculumNo::new(number))?;
+    }
+    Ok(())
+}
+
+/// Tells of the lectures that stand alone in a curriculum. Each row is found once, since a course is in many curricula.
 pub(crate) fn tell_compactness<L: Listener>(
+    alloc: Global,
     listener: &mut L,
     instance: &Instance,
     timetable: &[Placed],
@@ -133,8 +150,6 @@ pub(crate) fn tell_compactness<L: Listener>(
     ensures front { IfErr result (HearsFront (L.hears instance.now) L.fails listener.old
         (compactness_findings instance.now timetable.now) listener.new) }
 {
-    for number in 0..instance.curricula() {
-        tell_compactness_of(listener, instance, timetable, CurriculumNo::new(number))?;
-    }
-    Ok(())
+    let rows = Rows::of(alloc, instance, timetable)?;
+    tell_each(listener, instance, &rows)
 }

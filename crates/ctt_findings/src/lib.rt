@@ -17,6 +17,7 @@ mod occupancy;
 mod parts;
 mod pieces;
 mod report;
+mod rows;
 mod strings;
 mod telling;
 mod untold;

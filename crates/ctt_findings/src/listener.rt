@@ -28,6 +28,7 @@ pub trait Listener {
 }
 
 /// Tells a finding, if there is one.
+#[inline(always)]
 pub(crate) fn tell<L: Listener>(
     listener: &mut L,
     instance: &Instance,

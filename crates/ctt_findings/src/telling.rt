@@ -37,6 +37,7 @@ fn tell_hard<L: Listener>(
 
 /// Tells of what costs points.
 fn tell_soft<L: Listener>(
+    alloc: Global,
     listener: &mut L,
     instance: &Instance,
     timetable: &[Placed],
@@ -49,7 +50,7 @@ fn tell_soft<L: Listener>(
 {
     tell_capacity(listener, instance, timetable)?;
     tell_days(listener, instance, timetable)?;
-    tell_compactness(listener, instance, timetable)?;
+    tell_compactness(alloc, listener, instance, timetable)?;
     tell_stability(listener, instance, timetable)
 }
 
@@ -71,5 +72,5 @@ pub fn tell_findings<L: Listener>(
         (findings instance.now timetable.now) listener.new) }
 {
     tell_hard(alloc, listener, instance, timetable)?;
-    tell_soft(listener, instance, timetable)
+    tell_soft(alloc, listener, instance, timetable)
 }

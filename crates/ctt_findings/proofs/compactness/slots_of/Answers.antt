@@ -10,5 +10,5 @@ use Rattle.ctt_findings.proofs.compactness.slots_of.Goals as goal
 pub returns : goal.returns
 returns c s =
     c.loop-course.invariant s
-    ∙ ap (list_any (λ m. busy (course_row m c.args.timetable.now) s)) (take_all c.loop-course.course-index c.members-course-items.result.now c.loop-course-test.false ∙ c.members-course-items.ensures.exact)
-    ∙ busy_lectures (members c.args.instance.now c.args.curriculum) c.args.timetable.now s
+    ∙ ap (list_any (λ m. busy (course_row m c.args.rows.now) s)) (take_all c.loop-course.course-index c.members-course-items.result.now c.loop-course-test.false ∙ c.members-course-items.ensures.exact)
+    ∙ busy_lectures (members c.args.instance.now c.args.curriculum) c.args.rows.now s

@@ -9,7 +9,7 @@ abbrev pub invariant-loop-number : goal.invariant-loop-number
 invariant-loop-number g l = record {
   within : l.from ≤ course_count l.instance;
   heard : Hears (g.L.Listener.hears l.instance) l.initial.listener
-      (for_each (where_passes (λ c. has c (members l.instance l.curriculum)) (alone_of l.instance l.timetable l.curriculum)) l.from) l.listener;
+      (for_each (where_passes (λ c. has c (members l.instance l.curriculum)) (alone_of l.instance l.rows l.curriculum)) l.from) l.listener;
 }
 
 abbrev pub decreases-loop-number : goal.decreases-loop-number
