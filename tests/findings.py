@@ -190,10 +190,22 @@ def check_long(folder):
     check_files("many findings", write_files(folder, text.encode(), t.encode()))
 
 
+def check_gathered(folder):
+    """Compares the lines of lectures that stand alone where names are as long as a line is gathered with, and longer."""
+    curricula = [f"{'q' * n}{n}" for n in (1, 14, *range(190, 260))]
+    courses = ["c" * n for n in (1, 15, 16, 200, 300)]
+    head = "Name: gathered Courses: 5 Rooms: 5 Days: 12 Periods_per_day: 12 Curricula: 72 Constraints: 0 COURSES:"
+    text = f"{head} {' '.join(f'{name} {name} 2 2 1' for name in courses)} ROOMS: {' '.join(f'r{n} 1' for n in range(5))} CURRICULA:"
+    text += "".join(f" {name} 5 {' '.join(courses)}" for name in curricula) + " UNAVAILABILITY_CONSTRAINTS: END."
+    t = "".join(f"{name} r{n} {2 * n} {2 * n + 3}\n{name} r{n} {2 * n + 3} {2 * n}\n" for n, name in enumerate(courses))
+    check_files("names as long as a line", write_files(folder, text.encode(), t.encode()))
+
+
 def main():
     with tempfile.TemporaryDirectory() as folder:
         check_worked(folder)
         check_long(folder)
+        check_gathered(folder)
         check_drawn(folder)
     end()
 
