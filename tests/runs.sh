@@ -376,10 +376,15 @@ for ((count = 0; count < ${#words[@]}; count++)); do
     echo "${words[@]:0:count}" >told.ctt
     run "an instance of $count words" 1 '' "timedesk: instance I2 $((count + 1))"$'\n' check told.ctt s.sol
 done
-for ((count = 0; count < ${#lines[@]}; count++)); do
-    [ $((count % 4)) != 0 ] || continue
+echo 'journal 0 END.' >empty.journal
+for ((count = 0; count <= ${#lines[@]}; count++)); do
     echo "${lines[@]:0:count}" >told.sol
-    run "a solution of $count words" 1 '' "timedesk: solution S2 $((count + 1))"$'\n' check small.ctt told.sol
+    if [ $((count % 4)) = 0 ]; then
+        told=$(head -n $((count / 4)) s.sol && echo .)
+        run "a solution of $count words" 0 "${told%.}" '' list small.ctt empty.journal --start told.sol
+    else
+        run "a solution of $count words" 1 '' "timedesk: solution S2 $((count + 1))"$'\n' check small.ctt told.sol
+    fi
 done
 # Changes the word at a place of the instance, and names the fault that it has then.
 changes() {
@@ -414,6 +419,10 @@ changes 43 x 'I4 43'
 changes 44 3 'I9 44'
 changes 44 9999999999 'I4 44'
 changes 45 END 'I3 45'
+cat small.ctt >told.ctt
+printf '\xff' >>told.ctt
+run 'an instance that is not UTF-8 behind its end' 1 '' 'timedesk: instance I1 220
+' check told.ctt s.sol
 printf 'Name: Small Courses: 2001\xff' >told.ctt
 run 'an instance that is not UTF-8 behind a fault' 1 '' 'timedesk: instance I1 25
 ' check told.ctt s.sol
@@ -451,7 +460,6 @@ complete no
 barred_json='{"availability":0,"barred":1,"capacity":15,"compactness":4,"complete":false,"conflicts":0,"days":0,"instance":"Small","lawful":false,"lectures":0,"occupancy":0,"stability":1,"total":20}
 '
 echo 'Barred: 1 alg A END. and more' >barred
-echo 'journal 0 END.' >empty.journal
 run 'a lecture in a barred room' 0 "$barred_report" '' check small.ctt s.sol --barred barred
 run 'a lecture in a barred room, as JSON' 0 "$barred_json" '' check small.ctt s.sol --json --barred barred
 run 'an opening in a barred room' 1 '' 'timedesk: opening 1 barred

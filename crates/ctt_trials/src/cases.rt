@@ -3,7 +3,7 @@
 ghost use Rattle.ctt_text.specs.Timetable.{IsTimetable};
 
 use crate::story::Story;
-use crate::{crews, cuts, desks, drafts, journals, scripts, shared, sheets, shown, transfers};
+use crate::{crews, desks, drafts, journals, scripts, shared, sheets, shown, transfers};
 use ctt_board::{GridSheet, ListSheet, Sheet};
 use ctt_text::{Instance, Placed, is_timetable, let_go, read_solution};
 use std::marker::Sync;
@@ -30,14 +30,10 @@ pub(crate) enum Plain {
     Reports,
     /// Its opening is written and read again.
     Written,
-    /// What is found of its opening, its week and its page.
-    Findings,
     /// Which rows its line reads.
     Rows,
     /// Its lines are the script of a crew of one.
     Crew,
-    /// Texts that are cut, and texts that count falsely.
-    Cut,
     /// Its lines are a text that is read from devices that fail.
     Reads,
     /// Its lines are a text that is written to devices that fail.
@@ -46,16 +42,8 @@ pub(crate) enum Plain {
 
 /// How a case is played on sheets of one kind.
 pub(crate) enum On {
-    /// Its lines, each of which is a call, on a sheet.
-    Lines,
-    /// One placement on a sheet.
-    Placement,
-    /// Which changes a sheet accepts.
-    Accepted,
-    /// A draft that is stale on another sheet.
-    Draft,
-    /// A draft of a thousand calls.
-    LongDraft,
+    /// Its lines, each of which is a call, are asked of a draft so often.
+    Draft(u64),
     /// Its lines as events, one by one.
     Step,
     /// Its lines as events, all at once.
@@ -66,10 +54,6 @@ pub(crate) enum On {
     Devices,
     /// Its lines are the text of a journal, which is audited.
     Audit,
-    /// Its lines are the text of a journal, and what this leaves is told.
-    Left,
-    /// Whether a shared desk opens.
-    Opening,
 }
 
 /// One way in which a case is played.
@@ -87,8 +71,6 @@ pub(crate) struct Case {
     pub(crate) opening: &'static str,
     pub(crate) lines: &'static str,
     pub(crate) plays: &'static [Play],
-    /// Whether the first planner is dropped when another one begins, with the draft that he has open, where the desk is shared.
-    pub(crate) drops: bool,
 }
 
 /// The lines of a case, with its instance and the lectures with which it opens.
@@ -97,7 +79,6 @@ pub(crate) struct Script<'i> {
     pub(crate) small: &'i Instance,
     pub(crate) opening: &'i [Placed],
     pub(crate) lines: &'i str,
-    pub(crate) drops: bool,
 }
 
 /// Plays a case without a sheet.
@@ -107,10 +88,8 @@ fn play_plain<R: Threads + Wait + Sync>(story: &mut Story, rt: &R, plain: &Plain
     match plain {
         Plain::Reports => shown::play_reports(story, script),
         Plain::Written => shown::play_written(story, script),
-        Plain::Findings => shown::play_findings(story, script),
         Plain::Rows => sheets::tell_rows(story, script),
         Plain::Crew => crews::play(story, rt, script),
-        Plain::Cut => cuts::play(story, script.small),
         Plain::Reads => transfers::play_reads(story, script.lines),
         Plain::Writes => transfers::play_writes(story, script.lines),
     }
@@ -121,15 +100,11 @@ fn play_way<'i, S: Sheet<'i>>(story: &mut Story, on: &On, script: &Script<'i>)
     requires { IsTimetable script.now.small.now script.now.opening.now }
 {
     match on {
-        On::Lines | On::Placement | On::Accepted => sheets::play::<S>(story, on, script),
-        On::Draft | On::LongDraft => drafts::play::<S>(story, on, script.small),
+        On::Draft(times) => drafts::play::<S>(story, *times, script),
         On::Step | On::Run => desks::play::<S>(story, on, script),
         On::Text => scripts::play_script::<S>(story, script),
         On::Devices => scripts::play_devices::<S>(story, script),
-        On::Audit | On::Left => {
-            journals::read_text::<S>(story, on, script, script.lines.as_bytes());
-        }
-        On::Opening => shared::tell_opening::<S>(story, script),
+        On::Audit => journals::read_text::<S>(story, script, script.lines.as_bytes()),
     }
 }
 
@@ -169,16 +144,13 @@ fn play_opened<R: Threads + Wait + Sync>(
         small,
         opening,
         lines: case.lines,
-        drops: case.drops,
     };
     let (mut from, mut to) = (0, 0);
     for play in case.plays {
         let here = story.len();
-        story.marked = 0;
         play_once(story, rt, &play.way, &script);
         if play.called.is_empty() {
             (from, to) = (here, story.len());
-            story.note(here);
         } else {
             story.compare(from, to, here, play.called);
         }

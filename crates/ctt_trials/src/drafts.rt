@@ -1,31 +1,18 @@
-//! Drafts by themselves.
+//! A draft by itself: its calls, what it would change, on which sheets it is stale, and what it leaves.
 
-ghost use Rattle.std.specs.Prelude.{◌≡◌, ◌↔◌, IsTrue, IfOk};
+ghost use Rattle.std.specs.Prelude.{◌≡◌, ◌↔◌, IsTrue};
+ghost use Rattle.ctt_text.specs.Timetable.{Fits, IsTimetable};
 ghost use Rattle.ctt_edits.specs.Calls.{CallFits};
 
-use crate::cases::On;
-use crate::sheets::{call_of, tell_cells, tell_sheet};
+use crate::cases::Script;
+use crate::sheets::{call_of, lecture, place, tell_lecture, tell_sheet};
 use crate::story::Story;
-use ctt_board::{Cell, Change, Sheet, Timetable};
-use ctt_core::Answer;
+use ctt_board::Sheet;
+use ctt_core::{Answer, placed};
 use ctt_draft::{Draft, KeepAll, replay};
 use ctt_edits::{Call, Reply};
-use ctt_text::{CourseNo, Instance, NoMemory, RoomNo, SlotNo, let_go};
-use std::alloc::Global;
-
-/// An empty sheet.
-fn empty_sheet<'i, S: Sheet<'i>>(alloc: Global, small: &'i Instance) -> Result<S, NoMemory>
-    ensures { IfOk result (λ sheet. S.problem sheet ≡ small.now) }
-{
-    S::empty(alloc, small)
-}
-
-/// Opens a draft on a sheet.
-fn open<'i, S: Sheet<'i>>(alloc: Global, sheet: &S) -> Result<Draft<'i, S, KeepAll>, NoMemory>
-    ensures { IfOk result (λ draft. draft.problem ≡ S.problem sheet.now) }
-{
-    Draft::open(alloc, sheet)
-}
+use ctt_script::Lines;
+use ctt_text::{NoMemory, let_go};
 
 /// Whether a call has numbers of a draft's instance.
 fn call_fits<'i, S: Sheet<'i>>(draft: &Draft<'i, S, KeepAll>, call: &Call) -> bool
@@ -34,7 +21,7 @@ fn call_fits<'i, S: Sheet<'i>>(draft: &Draft<'i, S, KeepAll>, call: &Call) -> bo
     call.fits(draft.instance())
 }
 
-/// What a draft answers to a call of its instance.
+/// What a draft answers to a call.
 fn ask_once<'i, S: Sheet<'i>>(
     draft: &mut Draft<'i, S, KeepAll>,
     call: &Call,
@@ -47,105 +34,67 @@ fn ask_once<'i, S: Sheet<'i>>(
     draft.call(*call)
 }
 
-/// What a draft answers to a call. Where that is want of memory, it is asked again.
-fn ask<'i, S: Sheet<'i>>(
-    story: &mut Story,
-    draft: &mut Draft<'i, S, KeepAll>,
-    call: &Call,
-) -> Option<Reply>
-    ensures { draft.new.problem ≡ draft.old.problem }
-{
-    match ask_once(draft, call) {
-        Ok(reply) => Some(reply),
-        Err(NoMemory) => {
-            story.call_again();
-            ask_once(draft, call).ok()
-        }
-    }
-}
-
-/// What a draft answers to the call of a line, unless the case is to be played again.
-fn ask_line<'i, S: Sheet<'i>>(
-    story: &mut Story,
-    draft: &mut Draft<'i, S, KeepAll>,
-    line: &str,
-) -> Option<Reply>
-    ensures { draft.new.problem ≡ draft.old.problem }
-{
-    match call_of(draft.instance(), line.as_bytes()) {
-        Some(call) => ask(story, draft, &call),
-        None => None,
-    }
-}
-
 /// Asks a draft what a line says, and tells the answer.
-fn tell_asked<'i, S: Sheet<'i>>(story: &mut Story, draft: &mut Draft<'i, S, KeepAll>, line: &str)
+fn ask<'i, S: Sheet<'i>>(story: &mut Story, draft: &mut Draft<'i, S, KeepAll>, line: &[u8])
     ensures { draft.new.problem ≡ draft.old.problem }
 {
     let small = draft.instance();
-    match ask_line(story, draft, line) {
-        Some(reply) => story.answer(small, &Answer::Replied(reply)),
-        None => story.no_memory(),
+    match call_of(small, line) {
+        Some(call) => story.reply(small, ask_once(draft, &call)),
+        None => story.bad_line(line),
     }
 }
 
-/// Asks a draft what a line says: an edit, whose answer is not told.
-fn make<'i, S: Sheet<'i>>(story: &mut Story, draft: &mut Draft<'i, S, KeepAll>, line: &str)
+/// Asks a draft what the lines of a script say.
+fn ask_lines<'i, S: Sheet<'i>>(story: &mut Story, draft: &mut Draft<'i, S, KeepAll>, lines: &str)
     ensures { draft.new.problem ≡ draft.old.problem }
 {
-    if !matches!(ask_line(story, draft, line), Some(Reply::Done)) {
-        story.no_memory();
+    for line in Lines::new(lines.as_bytes()) {
+        ask(story, draft, line);
     }
 }
 
-/// Asks a draft a thousand times, by turns to place geo and to drop it again.
-fn ask_often<'i, S: Sheet<'i>>(story: &mut Story, draft: &mut Draft<'i, S, KeepAll>)
+/// Asks a draft so often what the lines of a script say. The answers are told that it gives at last.
+fn ask_often<'i, S: Sheet<'i>>(
+    story: &mut Story,
+    draft: &mut Draft<'i, S, KeepAll>,
+    lines: &str,
+    times: u64,
+)
     ensures { draft.new.problem ≡ draft.old.problem }
 {
-    for turn in 0..500u64 {
-        make(story, draft, "place geo A 0 1");
-        make(story, draft, "drop geo 0 1");
+    let here = story.len();
+    for turn in 0..times {
+        story.untell(here);
+        ask_lines(story, draft, lines);
     }
 }
 
-/// Tells whether a draft is stale against a sheet.
-fn tell_stale<'i, S: Sheet<'i>>(story: &mut Story, draft: &Draft<'i, S, KeepAll>, sheet: &S)
-    requires { S.problem sheet.now ≡ draft.now.problem }
+/// Tells how many cells a draft would put back, and how many changes and calls it has. Whether it is stale on another sheet is
+/// told, and what its changes leave there.
+fn tell_work<'i, S: Sheet<'i>>(story: &mut Story, draft: &Draft<'i, S, KeepAll>, other: &mut S)
+    requires { S.problem other.old ≡ draft.now.problem }
 {
-    match draft.stale(sheet) {
-        Ok(Some(row)) => story.answer(sheet.instance(), &Answer::Stale(row)),
+    story.count("undo", draft.undo().len() as u64);
+    story.count("changes", draft.changes().len() as u64);
+    story.count("calls", draft.asked().len() as u64);
+    match draft.stale(other) {
+        Ok(Some(row)) => story.answer(draft.instance(), &Answer::Stale(row)),
         Ok(None) => story.say("not stale"),
         Err(NoMemory) => story.no_memory(),
     }
+    story.count("replayed", u64::from(replay(draft.changes(), other)));
+    tell_sheet(story, other);
 }
 
-/// Makes the changes of a draft again on a copy of a sheet.
-fn tell_replayed<'i, S: Sheet<'i>>(story: &mut Story, draft: &Draft<'i, S, KeepAll>, sheet: &S) {
-    match sheet.copy() {
-        Ok(mut copy) => {
-            story.count("replayed", u64::from(replay(draft.changes(), &mut copy)));
-            tell_sheet(story, &copy);
-        }
-        Err(NoMemory) => story.no_memory(),
-    }
-}
-
-/// Tells the cells that a draft would put back, and how many changes and calls it has.
-fn tell_work<'i, S: Sheet<'i>>(story: &mut Story, draft: &Draft<'i, S, KeepAll>) {
-    tell_cells(story, draft.undo());
-    story.count("changes", draft.changes().len() as u64);
-    story.count("calls", draft.asked().len() as u64);
-}
-
-/// Ends a draft, and settles it on a sheet, unless it is stale there.
+/// Ends a draft, and settles it on its sheet, where it is not stale.
 fn settle<'i, S: Sheet<'i>>(story: &mut Story, draft: Draft<'i, S, KeepAll>, sheet: &mut S)
     requires { S.problem sheet.old ≡ draft.problem }
 {
     match draft.stale(sheet) {
         Ok(None) => {
             let work = draft.finish();
-            story.count("calls", work.asked.len());
-            story.count("changes", work.changes.len() as u64);
+            story.count("settled", work.changes.len() as u64);
             work.settle(sheet);
             let_go(work);
             tell_sheet(story, sheet);
@@ -157,58 +106,38 @@ fn settle<'i, S: Sheet<'i>>(story: &mut Story, draft: Draft<'i, S, KeepAll>, she
     }
 }
 
-/// A draft on an empty sheet that looks at a slot and places geo. Another sheet has top in that slot.
-fn one_draft<'i, S: Sheet<'i>>(story: &mut Story, sheet: &mut S, other: &S)
-    requires { S.problem other.now ≡ S.problem sheet.old }
+/// A draft on a sheet, beside a copy of it, on which top is placed in the third period of the first day, in room B, if that may be.
+fn draft_on<'i, S: Sheet<'i>>(
+    story: &mut Story,
+    script: &Script<'i>,
+    times: u64,
+    sheet: &mut S,
+    other: &mut S,
+)
+    requires { S.problem other.old ≡ S.problem sheet.old }
 {
-    let Ok(mut draft) = open(story.alloc(), sheet) else {
-        return story.no_memory();
-    };
-    tell_asked(story, &mut draft, "slot 0 2");
-    tell_asked(story, &mut draft, "place geo A 0 1");
-    tell_stale(story, &draft, sheet);
-    tell_stale(story, &draft, other);
-    tell_replayed(story, &draft, other);
-    tell_work(story, &draft);
-    settle(story, draft, sheet);
-}
-
-/// A draft of a thousand calls.
-fn long_draft<'i, S: Sheet<'i>>(story: &mut Story, sheet: &mut S) {
-    let Ok(mut draft) = open(story.alloc(), sheet) else {
-        return story.no_memory();
-    };
-    ask_often(story, &mut draft);
-    tell_work(story, &draft);
-    settle(story, draft, sheet);
-}
-
-/// Places top in the third period of the first day, in room B, by a change.
-fn place_top<S: Timetable>(sheet: &mut S)
-    ensures { S.problem sheet.new ≡ S.problem sheet.old }
-{
-    let top = Cell {
-        course: CourseNo::new(2),
-        slot: SlotNo::new(2),
-        room: Some(RoomNo::new(1)),
-    };
-    if let Some(change) = Change::of(&[top]) {
-        let _is_made = replay(&[change], sheet);
+    let top = lecture(2, 2, 1);
+    story.count("placed on a copy", u64::from(place(other, &top)));
+    tell_lecture(story, other, &top);
+    match Draft::open(story.alloc(), sheet) {
+        Ok(mut draft) => {
+            ask_often(story, &mut draft, script.lines, times);
+            tell_work(story, &draft, other);
+            settle(story, draft, sheet);
+        }
+        Err(NoMemory) => story.no_memory(),
     }
 }
 
-/// A draft on an empty sheet, beside another sheet, or a long one.
-pub(crate) fn play<'i, S: Sheet<'i>>(story: &mut Story, on: &On, small: &'i Instance) {
-    let alloc = story.alloc();
-    let Ok(mut sheet) = empty_sheet::<S>(alloc, small) else {
+/// Asks a draft so often what the lines of a script say.
+pub(crate) fn play<'i, S: Sheet<'i>>(story: &mut Story, times: u64, script: &Script<'i>)
+    requires { IsTimetable script.now.small.now script.now.opening.now }
+{
+    let Ok(mut sheet) = placed::<S>(story.alloc(), script.small, script.opening) else {
         return story.no_memory();
     };
-    if matches!(on, On::LongDraft) {
-        return long_draft(story, &mut sheet);
+    match sheet.copy() {
+        Ok(mut other) => draft_on(story, script, times, &mut sheet, &mut other),
+        Err(NoMemory) => story.no_memory(),
     }
-    let Ok(mut other) = empty_sheet::<S>(alloc, small) else {
-        return story.no_memory();
-    };
-    place_top(&mut other);
-    one_draft(story, &mut sheet, &other);
 }

@@ -7,13 +7,13 @@ ghost use Rattle.ctt_edits.specs.Fitting.{IsShortReply};
 ghost use Rattle.ctt_core.specs.Entries.{EntryFits};
 ghost use Rattle.ctt_script.specs.Entries.{IsEntry, IsShort};
 
-use crate::cases::{On, Script};
+use crate::cases::Script;
 use crate::story::Story;
 use ctt_board::Sheet;
-use ctt_core::{JournalEntry, NoList, Verdict, audit, list_after};
+use ctt_core::{JournalEntry, Verdict, audit};
 use ctt_edits::Reply;
 use ctt_script::{read_journal, write_journal};
-use ctt_text::{Instance, NoMemory};
+use ctt_text::{Instance, NoMemory, is_timetable};
 
 /// Whether a reply can be written.
 fn is_short_reply(reply: &Reply) -> bool
@@ -42,72 +42,47 @@ fn are_entries(small: &Instance, entries: &[JournalEntry]) -> bool
         .all(|entry| entry.fits(small) && is_short(entry))
 }
 
-/// Tells what was found of a journal.
-fn tell_found(story: &mut Story, small: &Instance, found: Verdict) {
-    match found {
-        Verdict::Agrees => story.say("agrees"),
-        Verdict::Differs(entry, call) => {
-            story.pair("differs", entry);
-            story.count("", call);
-        }
-        Verdict::BadOpening(at, fault) => story.unlawful(small, at, fault),
-    }
-}
-
-/// Tells what an audit of entries finds, or the timetable that they leave.
-fn tell_entries<'i, S: Sheet<'i>>(
-    story: &mut Story,
-    on: &On,
-    script: &Script<'i>,
-    entries: &[JournalEntry],
-)
+/// Tells what an audit of entries finds.
+fn tell_audit<'i, S: Sheet<'i>>(story: &mut Story, script: &Script<'i>, entries: &[JournalEntry])
     requires timetable { IsTimetable script.now.small.now script.now.opening.now }
     requires entries { Each (EntryFits script.now.small.now) entries.now }
 {
-    if matches!(on, On::Left) {
-        match list_after::<S>(story.alloc(), script.small, script.opening, entries) {
-            Ok(list) => story.lectures(script.small, Ok(list)),
-            Err(NoList::Found(found)) => tell_found(story, script.small, found),
-            Err(NoList::NoMemory) => story.no_memory(),
+    match audit::<S>(story.alloc(), script.small, script.opening, entries) {
+        Ok(Verdict::Agrees) => story.say("agrees"),
+        Ok(Verdict::Differs(entry, call)) => {
+            story.pair("differs", entry);
+            story.count("", call);
         }
-    } else {
-        match audit::<S>(story.alloc(), script.small, script.opening, entries) {
-            Ok(found) => tell_found(story, script.small, found),
-            Err(NoMemory) => story.no_memory(),
-        }
+        Ok(Verdict::BadOpening(..)) | Err(NoMemory) => story.no_memory(),
     }
 }
 
-/// Reads the text of a journal, and tells what an audit finds, or the timetable that it leaves.
-pub(crate) fn read_text<'i, S: Sheet<'i>>(
-    story: &mut Story,
-    on: &On,
-    script: &Script<'i>,
-    text: &[u8],
-)
+/// Reads the text of a journal, and tells what an audit finds of it.
+pub(crate) fn read_text<'i, S: Sheet<'i>>(story: &mut Story, script: &Script<'i>, text: &[u8])
     requires { IsTimetable script.now.small.now script.now.opening.now }
 {
     match read_journal(story.alloc(), script.small, text) {
-        Ok(entries) => tell_entries::<S>(story, on, script, &entries),
+        Ok(entries) => tell_audit::<S>(story, script, &entries),
         Err(_fault) => story.no_memory(),
     }
 }
 
-/// Tells the journal of entries, and what is found of it.
+/// Tells the journal of entries, and what an audit finds of its text.
 pub(crate) fn tell_journal<'i, S: Sheet<'i>>(
     story: &mut Story,
     script: &Script<'i>,
     entries: &[JournalEntry],
-)
-    requires { IsTimetable script.now.small.now script.now.opening.now }
-{
-    if !are_entries(script.small, entries) || entries.len() > 999_999_999 {
+) {
+    if !is_timetable(script.small, script.opening)
+        || !are_entries(script.small, entries)
+        || entries.len() > 999_999_999
+    {
         return story.say("unfit");
     }
     match write_journal(story.alloc(), script.small, entries) {
         Ok(text) => {
             story.bytes(&text);
-            read_text::<S>(story, &On::Audit, script, &text);
+            read_text::<S>(story, script, &text);
         }
         Err(NoMemory) => story.no_memory(),
     }

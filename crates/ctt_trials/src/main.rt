@@ -6,7 +6,6 @@
 mod barred;
 mod cases;
 mod crews;
-mod cuts;
 mod desks;
 mod devices;
 mod drafts;
@@ -23,7 +22,6 @@ mod transfers;
 mod turns;
 mod worked;
 
-use cases::play_cases;
 use ctt_devices::Device;
 use ctt_text::{let_go, read_instance};
 use std::alloc::Global;
@@ -32,14 +30,12 @@ use std::process::ExitCode;
 use std::sync::Wait;
 use std::thread::Threads;
 use story::Story;
-use tables::CASES;
 use texts::SMALL;
 
 /// All that is played.
 fn play<R: Threads + Wait + Sync>(story: &mut Story, rt: &R) {
     match read_instance(story.alloc(), SMALL.as_bytes()) {
         Ok(mut small) => {
-            play_cases(story, rt, &small, CASES);
             barred::play(story, rt, &mut small);
             let_go(small);
         }

@@ -33,7 +33,6 @@ pub(crate) fn play_script<'i, S: Sheet<'i>>(story: &mut Story, script: &Script<'
             tell_desk(story, script, &desk);
             let_go(desk);
         }
-        Err(ScriptFault::Unlawful(at, fault)) => story.unlawful(script.small, at, fault),
         Err(_fault) => story.no_memory(),
     }
 }
@@ -59,20 +58,22 @@ fn fault_of<'i, S: Sheet<'i>>(
     .err()
 }
 
-/// Runs lines on a reader whose read with this number fails, or where it is 0 on a writer that fails. Answers whether that is
-/// a failed read, behind which no other one was tried, or a failed write, behind so many bytes of the right answers.
+/// Runs a script on a reader whose read with this number fails, or where it is 0 on a writer that fails. Answers as a number whether
+/// that is a failed read, behind which no other one was tried, or a failed write, behind so many bytes of these answers, of which
+/// the writer flushed all or none.
 fn fails<'i, S: Sheet<'i>>(
     story: &mut Story,
     script: &Script<'i>,
-    lines: &[u8],
+    answers: &[u8],
     fails_at: u64,
-    shelf: &mut Shelf,
+    failing: Failing,
     taken: usize,
-) -> bool
+) -> u64
     requires { IsTimetable script.now.small.now script.now.opening.now }
 {
-    let mut reader = Memory::new(lines, fails_at);
-    let fault = fault_of::<S>(story.alloc(), script, &mut reader, shelf);
+    let mut reader = Memory::new(script.lines.as_bytes(), fails_at);
+    let mut shelf = Shelf::new(answers, failing);
+    let fault = fault_of::<S>(story.alloc(), script, &mut reader, &mut shelf);
     if fault == Some(ScriptFault::NoMemory) {
         story.no_memory();
     }
@@ -81,69 +82,43 @@ fn fails<'i, S: Sheet<'i>>(
     } else {
         fault == Some(ScriptFault::Read) && reader.pulls == fails_at
     };
-    is_failed && shelf.holds(taken)
+    u64::from(is_failed && shelf.holds(taken) && shelf.flushes == u64::from(taken == answers.len()))
 }
 
-/// Tells behind how many bytes a writer may fail so that the script has a failed write, and these bytes were written, and
-/// behind how many a reader, so that it has a failed read, and nothing was written.
-fn tell_all_failing<'i, S: Sheet<'i>>(story: &mut Story, script: &Script<'i>)
+/// Tells behind how many bytes a writer may fail so that the script has a failed write, and these bytes were written.
+fn tell_writers<'i, S: Sheet<'i>>(story: &mut Story, script: &Script<'i>, answers: &[u8])
     requires { IsTimetable script.now.small.now script.now.opening.now }
 {
-    let lines = script.lines.as_bytes();
-    let answers = PHANTOM_ANSWERS.as_bytes();
     let mut failed = 0u64;
     for taken in 0..answers.len() {
-        let mut shelf = Shelf::new(answers, Failing::Behind(taken));
-        let is_failed = fails::<S>(story, script, lines, 0, &mut shelf, taken);
-        failed = failed.saturating_add(u64::from(is_failed));
+        let one = fails::<S>(story, script, answers, 0, Failing::Behind(taken), taken);
+        failed = failed.saturating_add(one);
     }
     story.count("writers that fail behind some bytes", failed);
-    failed = 0;
-    for behind in 0..=lines.len() as u64 {
-        let mut shelf = Shelf::new(answers, Failing::Flush);
-        let is_failed = fails::<S>(
-            story,
-            script,
-            lines,
-            behind.saturating_add(1),
-            &mut shelf,
-            0,
-        );
-        failed = failed.saturating_add(u64::from(is_failed));
-    }
-    story.count("readers that fail behind some bytes", failed);
 }
 
-/// Tells how lines end on a writer that fails, and what it took of the right answers.
-fn tell_failing<'i, S: Sheet<'i>>(
-    story: &mut Story,
-    script: &Script<'i>,
-    lines: &str,
-    answers: &str,
-    failing: Failing,
-    taken: usize,
-)
+/// Tells behind how many bytes a reader may fail so that the script has a failed read, and nothing was written.
+fn tell_readers<'i, S: Sheet<'i>>(story: &mut Story, script: &Script<'i>, answers: &[u8])
     requires { IsTimetable script.now.small.now script.now.opening.now }
 {
-    let mut shelf = Shelf::new(answers.as_bytes(), failing);
-    let is_failed = fails::<S>(story, script, lines.as_bytes(), 0, &mut shelf, taken);
-    story.count("a failed write", u64::from(is_failed));
-    story.count("flushes", shelf.flushes);
-    story.count("bytes", shelf.taken as u64);
+    let mut failed = 0u64;
+    for behind in 0..=script.lines.len() as u64 {
+        let fails_at = behind.saturating_add(1);
+        let one = fails::<S>(story, script, answers, fails_at, Failing::Flush, 0);
+        failed = failed.saturating_add(one);
+    }
+    story.count("readers that fail behind some bytes", failed);
 }
 
 /// The script of the phantom with its answers on devices that fail.
 pub(crate) fn play_devices<'i, S: Sheet<'i>>(story: &mut Story, script: &Script<'i>)
     requires { IsTimetable script.now.small.now script.now.opening.now }
 {
-    tell_all_failing::<S>(story, script);
-    let lines = script.lines;
-    let whole = PHANTOM_ANSWERS.len();
-    story.say("a writer that takes nothing");
-    tell_failing::<S>(story, script, lines, PHANTOM_ANSWERS, Failing::Idle, 0);
-    story.say("a writer whose flush fails");
-    tell_failing::<S>(story, script, lines, PHANTOM_ANSWERS, Failing::Flush, whole);
-    story.say("a writer that fails behind three bytes");
-    let (lines, answers) = ("0 commit", "no draft\n");
-    tell_failing::<S>(story, script, lines, answers, Failing::Behind(3), 3);
+    let answers = PHANTOM_ANSWERS.as_bytes();
+    tell_writers::<S>(story, script, answers);
+    tell_readers::<S>(story, script, answers);
+    let idle = fails::<S>(story, script, answers, 0, Failing::Idle, 0);
+    story.count("where nothing is taken", idle);
+    let unflushed = fails::<S>(story, script, answers, 0, Failing::Flush, answers.len());
+    story.count("where the flush fails", unflushed);
 }

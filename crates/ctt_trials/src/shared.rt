@@ -6,8 +6,8 @@ ghost use Rattle.ctt_desk.specs.Names.{IsNamed};
 use crate::cases::Script;
 use crate::journals::tell_journal;
 use crate::story::Story;
-use crate::turns::{Here, LOOKS, Part, VIEWER, answer_lines, leave, sit};
-use ctt_board::{GridSheet, ListSheet, Sheet, Timetable};
+use crate::turns::{Here, answer_lines, leave, sit};
+use ctt_board::{GridSheet, ListSheet, Sheet};
 use ctt_desk::{Named, Naming, Opened, Planner, SharedDesk, SharedFault};
 use ctt_text::{is_timetable, let_go};
 use std::alloc::Global;
@@ -27,36 +27,18 @@ fn opened<'i, S: Sheet<'i>>(alloc: Global, script: &Script<'i>) -> Result<Opened
     Opened::<S>::new(alloc, script.small, script.opening)
 }
 
-/// The planners play a script at their desk, and look at what it has left. They come back from their seats.
+/// The planners play a script at their desk. They come back from their seats.
 fn play_at<'i, S: Sheet<'i>, J: Naming, R: Wait>(
     story: &mut Story,
     rt: &R,
     desk: &SharedDesk<S, J>,
     here: &Here<'i, J>,
     planners: Vec<Planner<S, J>>,
-    script: &Script<'i>,
+    lines: &str,
 ) -> Vec<Planner<S, J>> {
     let mut seats = sit(story, planners);
-    let from = story.len();
-    let part = Part {
-        lines: script.lines,
-        viewer: VIEWER,
-        drops: script.drops,
-    };
-    answer_lines(story, rt, desk, here, &mut seats, &part);
-    story.compare(story.answers, story.end, from, "on a shared desk");
-    for part in LOOKS {
-        answer_lines(story, rt, desk, here, &mut seats, part);
-    }
+    answer_lines(story, rt, desk, here, &mut seats, lines);
     leave(story, seats)
-}
-
-/// Tells how many drafts each planner has seen, and committed.
-fn tell_seen<S: Timetable, J: Naming>(story: &mut Story, planners: &[Planner<S, J>]) {
-    for planner in planners {
-        story.pair("seen", planner.seen());
-        story.count(" committed", planner.committed());
-    }
 }
 
 /// Closes a desk with all its planners, and tells what it has.
@@ -64,23 +46,17 @@ fn close<'i, S: Sheet<'i>, J: Naming, R: Wait>(
     story: &mut Story,
     rt: &R,
     desk: SharedDesk<S, J>,
-    here: &Here<'i, J>,
     planners: &mut [Planner<S, J>],
     script: &Script<'i>,
 ) {
-    let from = story.len();
     match desk.close(rt, planners) {
         Ok(closed) => {
-            story.timetable(here.small, closed.list(), closed.cost());
-            if is_timetable(script.small, script.opening) {
-                tell_journal::<S>(story, script, closed.journal());
-            }
+            story.timetable(script.small, closed.list(), closed.cost());
+            tell_journal::<S>(story, script, closed.journal());
             let_go(closed);
         }
         Err(closed) => let_go(closed),
     }
-    story.compare(story.end, story.all, from, "what it left");
-    tell_seen(story, planners);
 }
 
 /// Plays a script on a desk that is opened for it.
@@ -93,8 +69,8 @@ fn play_named<'i, S: Sheet<'i>, J: Naming, R: Wait>(
 ) {
     match SharedDesk::<S, J>::new(rt, named) {
         Ok((desk, all)) => {
-            let mut planners = play_at(story, rt, &desk, here, all, script);
-            close(story, rt, desk, here, planners.as_mut_slice(), script);
+            let mut planners = play_at(story, rt, &desk, here, all, script.lines);
+            close(story, rt, desk, planners.as_mut_slice(), script);
             let_go(planners);
         }
         Err(_fault) => story.no_memory(),
@@ -159,18 +135,6 @@ fn named_on_grid<'i, J: Naming, R: Wait>(
 pub(crate) fn on_grid<R: Wait>(story: &mut Story, rt: &R, script: &Script) {
     match opened::<GridSheet>(story.alloc(), script) {
         Ok(opened) => named_on_grid::<Brand, R>(story, rt, opened, PLANNERS, script),
-        Err(_fault) => story.no_memory(),
-    }
-}
-
-/// Tells whether a desk opens with the lectures of a script.
-pub(crate) fn tell_opening<'i, S: Sheet<'i>>(story: &mut Story, script: &Script<'i>) {
-    match opened::<S>(story.alloc(), script) {
-        Ok(opened) => {
-            story.say("opened");
-            let_go(opened);
-        }
-        Err(SharedFault::Unlawful(at, fault)) => story.unlawful(script.small, at, fault),
         Err(_fault) => story.no_memory(),
     }
 }

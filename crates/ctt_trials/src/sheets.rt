@@ -1,16 +1,15 @@
-//! Cases on one sheet: what is placed, asked and refused.
+//! One sheet: a placement on it, and the rows that a call reads.
 
-ghost use Rattle.std.specs.Prelude.{◌↔◌, IsTrue};
-ghost use Rattle.ctt_text.specs.Timetable.{Fits, IsTimetable};
-ghost use Rattle.ctt_edits.specs.Edits.{EditFits};
-ghost use Rattle.ctt_edits.specs.Looks.{LookFits};
+ghost use Rattle.std.specs.Prelude.{◌≡◌, ◌↔◌, IsTrue};
+ghost use Rattle.ctt_text.specs.Timetable.{Fits};
 
-use crate::cases::{On, Script};
+use crate::cases::Script;
 use crate::story::Story;
-use ctt_board::{Cell, Change, Sheet};
-use ctt_core::{Event, PlannerNo, placed};
-use ctt_edits::{Call, Edit, Look, Row, check, look, reads};
-use ctt_script::{Lines, read_own_line};
+use ctt_board::{Cell, Change, Sheet, Timetable};
+use ctt_core::{Event, PlannerNo};
+use ctt_draft::replay;
+use ctt_edits::{Call, Row, reads};
+use ctt_script::read_own_line;
 use ctt_text::{CourseNo, Instance, NoMemory, Placed, RoomNo, SlotNo};
 
 /// The call that a line asks for.
@@ -21,64 +20,28 @@ pub(crate) fn call_of(small: &Instance, line: &[u8]) -> Option<Call> {
     }
 }
 
-/// Whether a lecture has numbers of the instance of a sheet.
-fn lecture_fits<'i, S: Sheet<'i>>(sheet: &S, lecture: &Placed) -> bool
-    ensures { IsTrue result ↔ Fits (S.problem sheet.now) lecture.now }
+/// A lecture in room A or B, by the numbers of course and slot.
+pub(crate) fn lecture(course: u16, slot: u16, room: u16) -> Placed {
+    Placed {
+        course: CourseNo::new(course),
+        slot: SlotNo::new(slot),
+        room: RoomNo::new(room),
+    }
+}
+
+/// Places a lecture by a change, and answers whether the sheet accepts that.
+pub(crate) fn place<S: Timetable>(sheet: &mut S, lecture: &Placed) -> bool
+    ensures { S.problem sheet.new ≡ S.problem sheet.old }
 {
-    lecture.fits(sheet.instance())
-}
-
-/// Whether an edit has numbers of the instance of a sheet.
-fn edit_fits<'i, S: Sheet<'i>>(sheet: &S, edit: &Edit) -> bool
-    ensures { IsTrue result ↔ EditFits (S.problem sheet.now) edit.now }
-{
-    edit.fits(sheet.instance())
-}
-
-/// Whether a look has numbers of the instance of a sheet.
-fn look_fits<'i, S: Sheet<'i>>(sheet: &S, asked: &Look) -> bool
-    ensures { IsTrue result ↔ LookFits (S.problem sheet.now) asked.now }
-{
-    asked.fits(sheet.instance())
-}
-
-/// Tells the cells of a change: course, slot and room by their numbers, or that the room is none.
-pub(crate) fn tell_cells(story: &mut Story, cells: &[Cell]) {
-    for cell in cells {
-        story.pair("cell", u64::from(cell.course.get()));
-        story.pair("", u64::from(cell.slot.get()));
-        match cell.room {
-            Some(room) => story.count("", u64::from(room.get())),
-            None => story.say(" none"),
-        }
+    let cell = Cell {
+        course: lecture.course,
+        slot: lecture.slot,
+        room: Some(lecture.room),
+    };
+    match Change::of(&[cell]) {
+        Some(change) => replay(&[change], sheet),
+        None => false,
     }
-}
-
-/// Makes an edit on a sheet, and tells that it is done, or in full its change, and what that costs less.
-fn make<'i, S: Sheet<'i>>(story: &mut Story, sheet: &mut S, edit: &Edit, in_full: bool) {
-    if !edit_fits(sheet, edit) {
-        return story.say("unfit");
-    }
-    match check(sheet, edit) {
-        Ok(change) => {
-            if in_full {
-                tell_cells(story, change.cells());
-                story.count("less", sheet.delta(&change).unsigned_abs());
-            } else {
-                story.say("done");
-            }
-            sheet.apply(&change);
-        }
-        Err(fault) => story.refused(sheet.instance(), fault),
-    }
-}
-
-/// Looks at a sheet.
-fn show<'i, S: Sheet<'i>>(story: &mut Story, sheet: &S, asked: &Look) {
-    if !look_fits(sheet, asked) {
-        return story.say("unfit");
-    }
-    story.reply(sheet.instance(), look(story.alloc(), sheet, asked));
 }
 
 /// Tells the lectures and the cost of a sheet.
@@ -86,27 +49,15 @@ pub(crate) fn tell_sheet<'i, S: Sheet<'i>>(story: &mut Story, sheet: &S) {
     story.timetable(sheet.instance(), sheet.list(), sheet.cost());
 }
 
-/// Makes a call on a sheet, and tells the reply.
-fn answer<'i, S: Sheet<'i>>(story: &mut Story, sheet: &mut S, call: &Call) {
-    match call {
-        Call::Edit(edit) => make(story, sheet, edit, false),
-        Call::Look(asked) => show(story, sheet, asked),
-    }
-}
-
-/// Makes the calls that the lines of a script ask for, and tells what the sheet then has.
-fn answer_lines<'i, S: Sheet<'i>>(story: &mut Story, script: &Script<'i>, sheet: &mut S) {
-    for line in Lines::new(script.lines.as_bytes()) {
-        match call_of(script.small, line) {
-            Some(call) => answer(story, sheet, &call),
-            None => story.bad_line(line),
-        }
-    }
-    tell_sheet(story, sheet);
+/// Whether a lecture has numbers of the instance of a sheet.
+fn lecture_fits<'i, S: Sheet<'i>>(sheet: &S, lecture: &Placed) -> bool
+    ensures { IsTrue result ↔ Fits (S.problem sheet.now) lecture.now }
+{
+    lecture.fits(sheet.instance())
 }
 
 /// Tells what a sheet has of a lecture, in each way in which it can be read.
-fn tell_lecture<'i, S: Sheet<'i>>(story: &mut Story, sheet: &S, lecture: &Placed) {
+pub(crate) fn tell_lecture<'i, S: Sheet<'i>>(story: &mut Story, sheet: &S, lecture: &Placed) {
     if !lecture_fits(sheet, lecture) {
         return story.say("unfit");
     }
@@ -118,87 +69,30 @@ fn tell_lecture<'i, S: Sheet<'i>>(story: &mut Story, sheet: &S, lecture: &Placed
         "lectures of the course",
         u64::from(sheet.count(lecture.course)),
     );
-    story.lectures(sheet.instance(), sheet.course_row(lecture.course));
-    story.lectures(sheet.instance(), sheet.slot_row(lecture.slot));
+    let small = sheet.instance();
+    story.lectures(small, sheet.course_row(lecture.course));
+    story.lectures(small, sheet.slot_row(lecture.slot));
     tell_sheet(story, sheet);
-}
-
-/// One placement on an empty sheet: geo in the second period of the first day, in room A. It is told of the sheet and of a
-/// copy.
-fn place_geo<'i, S: Sheet<'i>>(story: &mut Story, sheet: &mut S) {
-    tell_sheet(story, sheet);
-    let geo = Placed {
-        course: CourseNo::new(1),
-        slot: SlotNo::new(1),
-        room: RoomNo::new(0),
-    };
-    let edit = Edit::Place(geo.course, geo.slot, geo.room);
-    make(story, sheet, &edit, true);
-    tell_lecture(story, sheet, &geo);
-    match sheet.copy() {
-        Ok(copy) => tell_lecture(story, &copy, &geo),
-        Err(NoMemory) => story.no_memory(),
-    }
-}
-
-/// Changes of one cell, by the numbers of course and slot, and whether room A is named: an addition of top where the room is
-/// taken, a removal of geo, and a cell of a course that is not there.
-const CHANGES: &[(u16, u16, bool)] = &[(2, 1, true), (1, 5, false), (3, 1, true)];
-
-/// Which changes a sheet accepts.
-fn tell_accepted<'i, S: Sheet<'i>>(story: &mut Story, sheet: &S) {
-    for (course, slot, is_placed) in CHANGES {
-        let cell = Cell {
-            course: CourseNo::new(*course),
-            slot: SlotNo::new(*slot),
-            room: if *is_placed {
-                Some(RoomNo::new(0))
-            } else {
-                None
-            },
-        };
-        if let Some(change) = Change::of(&[cell]) {
-            story.count("accepted", u64::from(sheet.accepts(&change)));
-        }
-    }
-}
-
-/// Plays lines, a placement or changes on a sheet that has the lectures of a script at first.
-pub(crate) fn play<'i, S: Sheet<'i>>(story: &mut Story, on: &On, script: &Script<'i>)
-    requires { IsTimetable script.now.small.now script.now.opening.now }
-{
-    match placed::<S>(story.alloc(), script.small, script.opening) {
-        Ok(mut sheet) => match on {
-            On::Placement => place_geo(story, &mut sheet),
-            On::Accepted => tell_accepted(story, &sheet),
-            _ => answer_lines(story, script, &mut sheet),
-        },
-        Err(_fault) => story.no_memory(),
-    }
-}
-
-/// Tells the rows that a call reads.
-fn tell_rows_of(story: &mut Story, small: &Instance, call: &Call) {
-    if !call.fits(small) {
-        return story.say("unfit");
-    }
-    match reads(story.alloc(), small, call) {
-        Ok(rows) => {
-            for row in &rows {
-                match row {
-                    Row::Course(course) => story.count("course", u64::from(course.get())),
-                    Row::Slot(slot) => story.count("slot", u64::from(slot.get())),
-                }
-            }
-        }
-        Err(NoMemory) => story.no_memory(),
-    }
 }
 
 /// Tells the rows that the call of a line reads.
 pub(crate) fn tell_rows(story: &mut Story, script: &Script) {
-    match call_of(script.small, script.lines.as_bytes()) {
-        Some(call) => tell_rows_of(story, script.small, &call),
-        None => story.say("bad line"),
+    let small = script.small;
+    match call_of(small, script.lines.as_bytes()) {
+        Some(call) if call.fits(small) => match reads(story.alloc(), small, &call) {
+            Ok(rows) => tell_all(story, &rows),
+            Err(NoMemory) => story.no_memory(),
+        },
+        _ => story.say("bad line"),
+    }
+}
+
+/// Tells rows.
+fn tell_all(story: &mut Story, rows: &[Row]) {
+    for row in rows {
+        match row {
+            Row::Course(course) => story.count("course", u64::from(course.get())),
+            Row::Slot(slot) => story.count("slot", u64::from(slot.get())),
+        }
     }
 }

@@ -5,9 +5,9 @@ ghost use Rattle.ctt_script.specs.Entries.{AnswerFits};
 
 use ctt_core::Answer;
 use ctt_devices::{Failed, Sink, put_all};
-use ctt_edits::{EditFault, Lectures, Reply, Row};
+use ctt_edits::{Lectures, Reply, Row};
 use ctt_rules::Cost;
-use ctt_script::write_answer;
+use ctt_script::{has_words, write_answer};
 use ctt_text::{Instance, NoMemory, Placed};
 use std::alloc::Global;
 
@@ -22,15 +22,10 @@ const LINE: usize = 4_096;
 pub(crate) struct Story {
     text: Vec<u8>,
     line: String,
-    /// Where the answers of a script end that were told last by a desk for one thread; 0 where there are none.
-    pub(crate) marked: usize,
-    /// Where the answers of the case begin and end in what was told of it first, and where what the desk left ends.
-    pub(crate) answers: usize,
-    pub(crate) end: usize,
-    pub(crate) all: usize,
+    /// How many calls were made again.
     again: u64,
+    /// Whether a call wanted memory, or something could not be told.
     is_wanting: bool,
-    is_lost: bool,
 }
 
 /// Whether an answer can be written.
@@ -59,13 +54,8 @@ impl Story {
         Some(Story {
             text,
             line,
-            marked: 0,
-            answers: 0,
-            end: 0,
-            all: 0,
             again: 0,
             is_wanting: false,
-            is_lost: false,
         })
     }
 
@@ -78,13 +68,9 @@ impl Story {
         self.text.len()
     }
 
-    /// Notes what was told of a script from a place on, if a desk for one thread answered it there.
-    pub(crate) fn note(&mut self, from: usize) {
-        if self.marked > 0 {
-            self.answers = from;
-            self.end = self.marked;
-            self.all = self.text.len();
-        }
+    /// Takes back what was told from a place on.
+    pub(crate) fn untell(&mut self, from: usize) {
+        self.text.truncate(from);
     }
 
     /// Notes that a call is made again.
@@ -103,7 +89,7 @@ impl Story {
             return false;
         }
         self.is_wanting = false;
-        self.text.truncate(from);
+        self.untell(from);
         self.call_again();
         true
     }
@@ -111,7 +97,7 @@ impl Story {
     /// Tells bytes.
     pub(crate) fn bytes(&mut self, bytes: &[u8]) {
         if self.text.extend_from_slice(bytes).is_err() {
-            self.is_lost = true;
+            self.is_wanting = true;
         }
     }
 
@@ -121,9 +107,9 @@ impl Story {
         self.bytes(b"\n");
     }
 
-    /// Tells that a line is no right one, unless it is empty.
+    /// Tells that a line is no right one, if it has words.
     pub(crate) fn bad_line(&mut self, line: &[u8]) {
-        if !line.is_empty() {
+        if has_words(line) {
             self.say("bad line");
         }
     }
@@ -131,7 +117,7 @@ impl Story {
     /// Tells the line that was written, if it was.
     fn end_line(&mut self, is_written: bool) {
         if !is_written || self.text.extend_from_slice(self.line.as_bytes()).is_err() {
-            self.is_lost = true;
+            self.is_wanting = true;
         }
         self.line.clear();
     }
@@ -146,13 +132,6 @@ impl Story {
     pub(crate) fn count(&mut self, word: &str, number: u64) {
         self.pair(word, number);
         self.bytes(b"\n");
-    }
-
-    /// Tells at which lecture an opening is refused.
-    pub(crate) fn unlawful(&mut self, instance: &Instance, at: u64, fault: EditFault) {
-        self.pair("opening", at);
-        self.bytes(b" ");
-        self.refused(instance, fault);
     }
 
     /// Tells an answer, unless that is want of memory, and answers whether it was told.
@@ -178,11 +157,6 @@ impl Story {
         for answer in answers {
             self.answer(instance, answer);
         }
-    }
-
-    /// Tells a fault.
-    pub(crate) fn refused(&mut self, instance: &Instance, fault: EditFault) {
-        self.answer(instance, &Answer::Replied(Reply::Refused(fault)));
     }
 
     /// Tells what a call answers that gives a reply.
@@ -223,24 +197,6 @@ impl Story {
         }
     }
 
-    /// Tells how a text was read: that it was, or by its words and its place the fault that it has to have. Of another
-    /// fault nothing is told.
-    pub(crate) fn read<F: PartialEq>(
-        &mut self,
-        fault: &Option<F>,
-        no_memory: &F,
-        fit: &F,
-        words: &str,
-        at: u64,
-    ) {
-        match fault {
-            None => self.bytes(b"read"),
-            Some(fault) if fault == no_memory => self.no_memory(),
-            Some(fault) if fault == fit => self.pair(words, at),
-            Some(_) => {}
-        }
-    }
-
     /// Compares what was told from the third place on with what was told from the first to the second: where it is the
     /// same, that is told in its place.
     pub(crate) fn compare(&mut self, from: usize, to: usize, here: usize, way: &str) {
@@ -258,7 +214,7 @@ impl Story {
     /// Writes all that was told, and how many calls were made again, and answers whether nothing was lost.
     pub(crate) fn write<W: Sink>(&mut self, writer: &mut W) -> bool {
         self.count("again", self.again);
-        !self.is_lost && put_all(writer, &self.text).is_ok() && writer.flush().is_ok()
+        !self.is_wanting && put_all(writer, &self.text).is_ok() && writer.flush().is_ok()
     }
 }
 

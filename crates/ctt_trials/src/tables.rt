@@ -1,7 +1,7 @@
 //! The tables of all cases.
 
 use crate::cases::{Case, On, Plain, Play, Way};
-use crate::texts::{CLASH, JOURNAL, NOTHING, SMALL, SOLUTION, WITHOUT_TOP};
+use crate::texts::{JOURNAL, NOTHING, SMALL, SOLUTION, WITHOUT_TOP};
 use crate::worked::*;
 
 /// Ways in which a case is played, and how each is called.
@@ -22,7 +22,6 @@ macro_rules! case {
             opening: $opening,
             lines: $lines,
             plays: $plays,
-            drops: false,
         }
     };
 }
@@ -36,41 +35,20 @@ const REPORTS: &[Play] = plays![
 /// The reports alone.
 const REPORTS_ALONE: &[Play] = plays![Way::Plain(Plain::Reports) => ""];
 
-/// What is found of a timetable, and how it looks.
-const FINDINGS: &[Play] = plays![Way::Plain(Plain::Findings) => ""];
-
-/// Lines on both kinds of sheets.
+/// Lines in a draft on both kinds of sheets.
 const LINES: &[Play] = plays![
-    Way::List(On::Lines) => "",
-    Way::Grid(On::Lines) => "on the grid sheet",
+    Way::List(On::Draft(1)) => "",
+    Way::Grid(On::Draft(1)) => "on the grid sheet",
 ];
 
-/// One placement on both kinds of sheets.
-const PLACEMENT: &[Play] = plays![
-    Way::List(On::Placement) => "",
-    Way::Grid(On::Placement) => "on the grid sheet",
-];
-
-/// Which changes both kinds of sheets accept.
-const ACCEPTED: &[Play] = plays![
-    Way::List(On::Accepted) => "",
-    Way::Grid(On::Accepted) => "on the grid sheet",
+/// Lines in a draft 500 times.
+const OFTEN: &[Play] = plays![
+    Way::List(On::Draft(500)) => "",
+    Way::Grid(On::Draft(500)) => "on the grid sheet",
 ];
 
 /// The rows that a line reads.
 const ROWS: &[Play] = plays![Way::Plain(Plain::Rows) => ""];
-
-/// A draft on both kinds of sheets.
-const DRAFT: &[Play] = plays![
-    Way::List(On::Draft) => "",
-    Way::Grid(On::Draft) => "on the grid sheet",
-];
-
-/// A long draft on both kinds of sheets.
-const LONG_DRAFT: &[Play] = plays![
-    Way::List(On::LongDraft) => "",
-    Way::Grid(On::LongDraft) => "on the grid sheet",
-];
 
 /// A script by step, at once and as a text, on desks of both kinds of sheets, and on shared desks of both.
 const DESK: &[Play] = plays![
@@ -80,7 +58,7 @@ const DESK: &[Play] = plays![
     Way::Grid(On::Run) => "at once on the grid sheet",
     Way::List(On::Text) => "as a script",
     Way::Grid(On::Text) => "as a script on the grid sheet",
-    Way::SharedList => "",
+    Way::SharedList => "on a shared desk",
     Way::SharedGrid => "on a shared desk on the grid sheet",
 ];
 
@@ -93,25 +71,8 @@ const BAD: &[Play] = plays![
 /// A journal is audited.
 const AUDIT: &[Play] = plays![Way::Grid(On::Audit) => ""];
 
-/// What a journal leaves on both kinds of sheets.
-const LEFT: &[Play] = plays![
-    Way::List(On::Left) => "",
-    Way::Grid(On::Left) => "on the grid sheet",
-];
-
-/// An opening that is refused, in each way.
-const UNLAWFUL: &[Play] = plays![
-    Way::Grid(On::Step) => "",
-    Way::Grid(On::Opening) => "",
-    Way::Grid(On::Audit) => "",
-    Way::Grid(On::Text) => "",
-];
-
 /// A crew of one.
 const A_CREW: &[Play] = plays![Way::Plain(Plain::Crew) => ""];
-
-/// Texts that are cut, and texts that count falsely.
-const CUT: &[Play] = plays![Way::Plain(Plain::Cut) => ""];
 
 /// A script on devices that fail.
 const DEVICES: &[Play] = plays![Way::Grid(On::Devices) => ""];
@@ -138,12 +99,15 @@ pub(crate) const CASES: &[Case] = &[
     case!("a swap", SOLUTION, SWAP, LINES),
     case!("a drop", SOLUTION, DROP, LINES),
     case!("a room that is taken", WITHOUT_TOP, ROOM_TAKEN, LINES),
-    case!("one placement", NOTHING, "", PLACEMENT),
-    case!("accepted changes", SOLUTION, "", ACCEPTED),
     case!("price place alg B 0 0", NOTHING, PRICE, ROWS),
     case!("swap geo 0 1 top 0 2", NOTHING, SWAP, ROWS),
-    case!("drafts", NOTHING, "", DRAFT),
-    case!("a draft of a thousand calls", NOTHING, "", LONG_DRAFT),
+    case!(
+        "a draft that is stale elsewhere",
+        NOTHING,
+        STALE_ELSEWHERE,
+        LINES
+    ),
+    case!("a draft of a thousand calls", NOTHING, TO_AND_FRO, OFTEN),
     case!("phantom", NOTHING, PHANTOM, DESK),
     case!("changed and changed back", NOTHING, CHANGED_BACK, DESK),
     case!("out of turn", NOTHING, OUT_OF_TURN, DESK),
@@ -152,10 +116,7 @@ pub(crate) const CASES: &[Case] = &[
     case!("refreshed", NOTHING, REFRESHED, DESK),
     case!("not refreshed", NOTHING, NOT_REFRESHED, DESK),
     case!("stale at a refresh", NOTHING, STALE_REFRESH, DESK),
-    Case {
-        drops: true,
-        ..case!("left open, or dropped", NOTHING, LEFT_OPEN, DESK)
-    },
+    case!("left open, or dropped", NOTHING, LEFT_OPEN, DESK),
     case!("refreshed with nothing new", NOTHING, NOTHING_NEW, DESK),
     case!("stale behind a refresh", NOTHING, STALE_AGAIN, DESK),
     case!(
@@ -174,17 +135,6 @@ pub(crate) const CASES: &[Case] = &[
     case!("the drop first", WITHOUT_TOP, DROP_FIRST, DESK),
     case!("a refused edit", WITHOUT_TOP, REFUSED, DESK),
     case!("another reply", WITHOUT_TOP, OTHER_JOURNAL, AUDIT),
-    case!("what a journal leaves", WITHOUT_TOP, TOP_JOURNAL, LEFT),
-    case!(
-        "what another reply leaves",
-        WITHOUT_TOP,
-        OTHER_JOURNAL,
-        LEFT
-    ),
-    case!("an unlawful opening", CLASH, JOURNAL, UNLAWFUL),
-    case!("what an unlawful opening leaves", CLASH, JOURNAL, LEFT),
-    case!("what is found of the solution", SOLUTION, "", FINDINGS),
-    case!("what is found of a clash", CLASH, "", FINDINGS),
     case!("a crew of one", NOTHING, CREW, A_CREW),
     case!(
         "a crew whose draft is left open",
@@ -192,7 +142,6 @@ pub(crate) const CASES: &[Case] = &[
         CREW_LEFT,
         A_CREW
     ),
-    case!("cut", NOTHING, "", CUT),
     case!("a script on devices that fail", NOTHING, PHANTOM, DEVICES),
     case!("texts on devices that fail", NOTHING, SMALL, READS),
     case!("", NOTHING, SOLUTION, READS),

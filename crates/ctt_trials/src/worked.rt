@@ -1,7 +1,19 @@
-//! The scripts of the worked desks, and the lines that are played on one sheet.
+//! The scripts of the worked desks, and the lines that are asked of a draft by itself.
+
+/// The lines of planners, behind which two others look at the timetable: one who learns each receipt on a shared desk, and one who
+/// learns nothing there, and is asked to show it.
+macro_rules! day {
+    ($lines:literal) => {
+        concat!(
+            $lines,
+            "2 open\n2 cost\n2 abandon\nshow cost\n3 open\n3 cost\n3 abandon\n"
+        )
+    };
+}
 
 /// A planner has seen that a slot is empty, which another one fills.
-pub(crate) const PHANTOM: &str = "0 open
+pub(crate) const PHANTOM: &str = day!(
+    "0 open
 0 slot 0 2
 0 place geo A 0 1
 1 open
@@ -9,7 +21,8 @@ pub(crate) const PHANTOM: &str = "0 open
 1 commit
 0 commit
 show cost
-";
+"
+);
 
 /// What its lines are answered.
 pub(crate) const PHANTOM_ANSWERS: &str = "opened
@@ -20,10 +33,18 @@ done
 committed 1
 stale slot 0 2
 costs 10 15 0 0
+opened
+costs 10 15 0 0
+abandoned
+costs 10 15 0 0
+opened
+costs 10 15 0 0
+abandoned
 ";
 
 /// The same, but what the other one placed is taken away again before the first one commits.
-pub(crate) const CHANGED_BACK: &str = "0 open
+pub(crate) const CHANGED_BACK: &str = day!(
+    "0 open
 0 slot 0 2
 0 place geo A 0 1
 1 open
@@ -34,54 +55,68 @@ pub(crate) const CHANGED_BACK: &str = "0 open
 1 commit
 0 commit
 show cost
-";
+"
+);
 
-pub(crate) const DROP_AND_PLACE: &str = "0 open
+pub(crate) const DROP_AND_PLACE: &str = day!(
+    "0 open
 1 open
 0 drop geo 1 2
 1 place top B 1 2
 1 commit
 0 commit
 show slot 1 2
-";
+"
+);
 
-pub(crate) const DROP_FIRST: &str = "0 open
+pub(crate) const DROP_FIRST: &str = day!(
+    "0 open
 1 open
 0 drop geo 1 2
 1 place top B 1 2
 0 commit
 1 commit
-";
+"
+);
 
-pub(crate) const OUT_OF_TURN: &str = "0 commit
+pub(crate) const OUT_OF_TURN: &str = day!(
+    "0 commit
 0 open
 0 open
 0 commit
 show cost
-";
+"
+);
 
-pub(crate) const STALE_PRICE: &str = "0 open
+pub(crate) const STALE_PRICE: &str = day!(
+    "0 open
 0 price place alg B 0 0
 1 open
 1 place geo A 0 1
 1 commit
 0 commit
-";
+"
+);
 
-pub(crate) const REFUSED: &str = "0 open
+pub(crate) const REFUSED: &str = day!(
+    "0 open
 0 place top A 0 1
 0 commit
-";
+"
+);
 
-pub(crate) const ABANDONED: &str = "0 open
+pub(crate) const ABANDONED: &str = day!(
+    "0 open
 0 place geo A 0 1
 0 abandon
 0 abandon
 show cost
-";
+"
+);
 
 /// A planner brings his draft up to date, and sees what another one placed.
-pub(crate) const REFRESHED: &str = "0 open
+pub(crate) const REFRESHED: &str = day!(
+    "0 open
 0 place geo A 0 1
 1 open
 1 place top B 0 2
@@ -90,18 +125,22 @@ pub(crate) const REFRESHED: &str = "0 open
 0 slot 0 2
 0 commit
 show cost
-";
+"
+);
 
-pub(crate) const NOT_REFRESHED: &str = "0 open
+pub(crate) const NOT_REFRESHED: &str = day!(
+    "0 open
 0 place geo A 0 1
 1 open
 1 place top B 0 2
 1 commit
 0 slot 0 2
 0 commit
-";
+"
+);
 
-pub(crate) const STALE_REFRESH: &str = "0 open
+pub(crate) const STALE_REFRESH: &str = day!(
+    "0 open
 0 slot 0 2
 0 place geo A 0 1
 1 open
@@ -111,10 +150,12 @@ pub(crate) const STALE_REFRESH: &str = "0 open
 0 commit
 0 refresh
 show cost
-";
+"
+);
 
 /// A planner brings drafts up to date behind which nothing was accepted, or his own draft alone.
-pub(crate) const NOTHING_NEW: &str = "0 open
+pub(crate) const NOTHING_NEW: &str = day!(
+    "0 open
 0 place geo A 0 1
 0 refresh
 0 commit
@@ -126,10 +167,12 @@ pub(crate) const NOTHING_NEW: &str = "0 open
 0 commit
 0 refresh
 show cost
-";
+"
+);
 
 /// What a planner sees behind a refresh is changed before he commits.
-pub(crate) const STALE_AGAIN: &str = "0 open
+pub(crate) const STALE_AGAIN: &str = day!(
+    "0 open
 0 place geo A 0 1
 1 open
 1 place top B 0 2
@@ -141,10 +184,12 @@ pub(crate) const STALE_AGAIN: &str = "0 open
 1 commit
 0 commit
 show cost
-";
+"
+);
 
 /// What a planner has seen is changed, and changed back, before he brings his draft up to date.
-pub(crate) const BACK_REFRESHED: &str = "0 open
+pub(crate) const BACK_REFRESHED: &str = day!(
+    "0 open
 0 slot 0 2
 0 place geo A 0 1
 1 open
@@ -157,16 +202,20 @@ pub(crate) const BACK_REFRESHED: &str = "0 open
 0 slot 0 2
 0 commit
 show cost
-";
+"
+);
 
-/// A draft that is left open changes nothing.
-pub(crate) const LEFT_OPEN: &str = "0 open
+/// A draft that is left open changes nothing, and no more one that is dropped, as it is on a shared desk at the blank line.
+pub(crate) const LEFT_OPEN: &str = day!(
+    "0 open
 0 place geo A 0 1
+\t
 1 open
 1 place top B 0 2
 1 commit
 show cost
-";
+"
+);
 
 pub(crate) const BAD_LINES: &str = "64 open
 0 place nul A 0 0
@@ -176,12 +225,24 @@ pub(crate) const BAD_LINES: &str = "64 open
 0\topen\r
 ";
 
-pub(crate) const BARRED_ROOM: &str = "0 open
+pub(crate) const BARRED_ROOM: &str = day!(
+    "0 open
 0 place top A 0 1
 0 place top A 0 0
 0 place top B 0 0
 0 place geo A 0 0
 0 commit
+"
+);
+
+/// A draft looks at a slot, in which top stands on another sheet.
+pub(crate) const STALE_ELSEWHERE: &str = "slot 0 2
+place geo A 0 1
+";
+
+/// What a draft does again and again.
+pub(crate) const TO_AND_FRO: &str = "place geo A 0 1
+drop geo 0 1
 ";
 
 /// Lines on the empty sheet: what it costs, and one placement.
@@ -254,9 +315,6 @@ place geo A 0 1
 
 /// A journal of a draft in which top was placed in room A.
 pub(crate) const OTHER_JOURNAL: &str = "journal 1 entry 0 1 place top A 0 1 done END.";
-
-/// A journal of a draft in which top was placed in room B.
-pub(crate) const TOP_JOURNAL: &str = "journal 1 entry 0 1 place top B 0 2 done END.";
 
 /// The report on the solution.
 pub(crate) const REPORT: &str = "instance Small

@@ -1,0 +1,12 @@
+use Rattle.std.proofs.Common.{rules, ◌≡◌, ◌∙◌, sym}
+use Rattle.ctt_trials.proofs.drafts.draft_on.Goals as goal
+
+pub tell_work-requires : goal.tell_work-requires
+tell_work-requires g c κs =
+    let same : g.S.Rooms.problem c.place.new.sheet ≡ c.ask_often.new.draft.problem = c.place.ensures ∙ c.requires ∙ sym (c.ask_often.ensures ∙ c.in-Ok.ensures.problem) in
+    search rules
+
+pub settle-requires : goal.settle-requires
+settle-requires g c κs =
+    let same : g.S.Rooms.problem c.args.sheet.now ≡ c.ask_often.new.draft.problem = sym (c.ask_often.ensures ∙ c.in-Ok.ensures.problem) in
+    search rules
