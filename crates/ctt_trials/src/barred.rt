@@ -2,7 +2,7 @@
 
 use crate::cases::play_cases;
 use crate::story::Story;
-use crate::tables::{BARRED, CASES, OTHER_BARRED};
+use crate::tables::{BARRED, OTHER_BARRED, cases};
 use ctt_text::{Instance, read_barred};
 use std::marker::Sync;
 use std::sync::Wait;
@@ -21,7 +21,7 @@ fn bar(story: &mut Story, small: &mut Instance, text: &str) {
 
 /// What is played where no room is barred, where room A is barred for top, and where it is barred for alg alone.
 pub(crate) fn play<R: Threads + Wait + Sync>(story: &mut Story, rt: &R, small: &mut Instance) {
-    play_cases(story, rt, small, CASES);
+    play_cases(story, rt, small, cases());
     bar(story, small, "Barred: 1 top A END.");
     play_cases(story, rt, small, BARRED);
     bar(story, small, "Barred: 1 alg A END.");

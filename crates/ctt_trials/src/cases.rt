@@ -3,6 +3,7 @@
 ghost use Rattle.ctt_text.specs.Timetable.{IsTimetable};
 
 use crate::story::Story;
+use crate::tables::plays_of;
 use crate::{crews, desks, drafts, journals, scripts, shared, sheets, shown, transfers};
 use ctt_board::{GridSheet, ListSheet, Sheet};
 use ctt_text::{Instance, Placed, is_timetable, let_go, read_solution};
@@ -63,6 +64,22 @@ pub(crate) struct Play {
     pub(crate) called: &'static str,
 }
 
+/// In which ways a case is played: `tables` has them.
+pub(crate) enum Ways {
+    Reports,
+    ReportsAlone,
+    Lines,
+    Often,
+    Rows,
+    Desk,
+    Bad,
+    Audit,
+    Crew,
+    Devices,
+    Reads,
+    Writes,
+}
+
 /// A case.
 pub(crate) struct Case {
     /// Its name, if it has one.
@@ -70,7 +87,7 @@ pub(crate) struct Case {
     /// The text of the timetable that stands at first.
     pub(crate) opening: &'static str,
     pub(crate) lines: &'static str,
-    pub(crate) plays: &'static [Play],
+    pub(crate) ways: Ways,
 }
 
 /// The lines of a case, with its instance and the lectures with which it opens.
@@ -146,7 +163,7 @@ fn play_opened<R: Threads + Wait + Sync>(
         lines: case.lines,
     };
     let (mut from, mut to) = (0, 0);
-    for play in case.plays {
+    for play in plays_of(&case.ways) {
         let here = story.len();
         play_once(story, rt, &play.way, &script);
         if play.called.is_empty() {
