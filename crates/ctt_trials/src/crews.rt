@@ -4,7 +4,7 @@ ghost use Rattle.std.specs.Prelude.{◌≤◌, length};
 
 use crate::cases::Script;
 use crate::story::Story;
-use ctt_crew::{NoGate, crew};
+use ctt_crew::{Gate, NoGate, crew};
 use ctt_script::Lines;
 use ctt_text::Instance;
 use std::alloc::Global;
@@ -13,16 +13,17 @@ use std::sync::Wait;
 use std::thread::Threads;
 
 /// What a crew writes that follows these scripts, if it is given memory, a place and a thread.
-fn written<R: Threads + Wait + Sync>(
+fn written<R: Threads + Wait + Sync, G: Gate>(
     rt: &R,
     alloc: Global,
     small: &Instance,
     scripts: &[&[u8]],
+    gate: &G,
 ) -> Option<Vec<u8>>
     requires some { 1 ≤ length scripts.now }
     requires few { length scripts.now ≤ 64 }
 {
-    crew(rt, alloc, small, scripts, &NoGate).ok()
+    crew(rt, alloc, small, scripts, gate).ok()
 }
 
 /// Tells a text, unless a line of it says `no memory` or `no place`.
@@ -39,7 +40,7 @@ fn tell(story: &mut Story, text: &[u8]) {
 /// answers that says `no memory` or `no place`.
 pub(crate) fn play<R: Threads + Wait + Sync>(story: &mut Story, rt: &R, script: &Script) {
     let scripts = [script.lines.as_bytes()];
-    match written(rt, story.alloc(), script.small, &scripts) {
+    match written(rt, story.alloc(), script.small, &scripts, &NoGate) {
         Some(text) => tell(story, &text),
         None => story.no_memory(),
     }
