@@ -155,7 +155,12 @@ const CASES: &[Case] = &[
     case!("another reply", WITHOUT_TOP, OTHER_JOURNAL, Audit),
     case!("a crew of one", NOTHING, CREW, Crew),
     case!("a crew whose draft is left open", NOTHING, CREW_LEFT, Crew),
-    case!("a script on devices that fail", NOTHING, PHANTOM, Devices),
+    case!(
+        "a script on devices that fail",
+        NOTHING,
+        PHANTOM_ALONE,
+        Devices
+    ),
     case!("texts on devices that fail", NOTHING, SMALL, Reads),
     case!("", NOTHING, SOLUTION, Reads),
     case!("", NOTHING, JOURNAL, Reads),

@@ -24,6 +24,17 @@ show cost
 "
 );
 
+/// The same without the looks.
+pub(crate) const PHANTOM_ALONE: &str = "0 open
+0 slot 0 2
+0 place geo A 0 1
+1 open
+1 place top B 0 2
+1 commit
+0 commit
+show cost
+";
+
 /// What its lines are answered.
 pub(crate) const PHANTOM_ANSWERS: &str = "opened
 lectures 0
@@ -33,16 +44,9 @@ done
 committed 1
 stale slot 0 2
 costs 10 15 0 0
-opened
-costs 10 15 0 0
-abandoned
-costs 10 15 0 0
-opened
-costs 10 15 0 0
-abandoned
 ";
 
-/// The same, but what the other one placed is taken away again before the first one commits.
+/// What the other one placed is taken away again before the first one commits.
 pub(crate) const CHANGED_BACK: &str = day!(
     "0 open
 0 slot 0 2
