@@ -67,6 +67,7 @@ impl Gathered {
     pub fn put(&mut self, piece: &str) -> bool
         ensures added { result ≡ true → self.new ≡ self.old ++ piece.now }
         ensures kept { result ≡ false → self.new ≡ self.old }
+        ensures full { result ≡ false → 256 < length self.old + length piece.now }
     {
         let (at, len) = (self.len, piece.len());
         if len > ROOM - at {
@@ -119,6 +120,7 @@ impl Gathered {
     pub fn put_number(&mut self, number: u64) -> bool
         ensures added { result ≡ true → self.new ≡ self.old ++ decimal number }
         ensures kept { result ≡ false → self.new ≡ self.old }
+        ensures full { result ≡ false → 256 < length self.old + length (decimal number) }
     {
         if number < 100 && self.room() >= 2 {
             self.put_short(number as u8);
