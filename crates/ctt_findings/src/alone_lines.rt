@@ -1,5 +1,5 @@
-//! The lines of lectures that stand alone, which are most of all lines: nine in ten and more. Each is gathered and then
-//! added at once, where there is room.
+//! The lines of lectures that stand alone, which are most of all lines. Each is gathered and then added at once, where
+//! there is room.
 
 ghost use Rattle.std.specs.Prelude.{◌≡◌, ◌<◌, ◌++◌, OnOk, true, codes, slice_index_or, string_bytes, []};
 ghost use Rattle.std.specs.Fmt.{decimal};
@@ -8,8 +8,7 @@ ghost use Rattle.ctt_text.specs.Timetable.{Fits};
 ghost use Rattle.ctt_findings.specs.Lines.{line};
 ghost use Rattle.ctt_findings.specs.declared.finding.Finding.TheVariants.{Compactness};
 
-use crate::pieces::{end_with_count, push_slot};
-use ctt_text::{CurriculumNo, Gathered, Instance, Placed, push_word};
+use ctt_text::{CurriculumNo, Gathered, Instance, Placed, end_with_count, push_slot, push_word};
 use std::alloc::AllocError;
 
 /// Gathers a blank and a word, if there is room.
@@ -41,7 +40,7 @@ fn put_place(gathered: &mut Gathered, instance: &Instance, lecture: &Placed) -> 
         ++ (codes " " ++ (decimal (day_of instance.now lecture.now.slot)
         ++ (codes " " ++ decimal (period_of instance.now lecture.now.slot)))))) }
 {
-    if gathered.room() < PLACE {
+    if gathered.left() < PLACE {
         return false;
     }
     let (Some(course), Some(slot)) = (

@@ -15,7 +15,6 @@ mod members;
 mod objects;
 mod occupancy;
 mod parts;
-mod pieces;
 mod report;
 mod rows;
 mod strings;

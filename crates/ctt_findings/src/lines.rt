@@ -9,8 +9,10 @@ ghost use Rattle.ctt_findings.specs.declared.finding.Finding.TheVariants.{Lectur
 
 use crate::alone_lines::push_compactness;
 use crate::finding::{Cause, Finding};
-use crate::pieces::{end_with_count, end_with_slot, end_with_word, push_slot};
-use ctt_text::{CourseNo, Instance, Placed, SlotNo, push_count, push_word};
+use ctt_text::{
+    CourseNo, Instance, Placed, SlotNo, end_with_count, end_with_slot, end_with_word, push_count,
+    push_slot, push_word,
+};
 use std::alloc::AllocError;
 
 /// Adds the line of missing or surplus lectures.

@@ -5,11 +5,10 @@ ghost use Rattle.ctt_script.specs.AnswerText.{answer_words, bad_line, row_words}
 ghost use Rattle.ctt_script.specs.Entries.{AnswerFits, RowFits};
 ghost use Rattle.ctt_script.specs.WrittenText.{line};
 
-use crate::pieces::{end_with_number, end_with_slot, end_with_word};
 use crate::written::write_reply;
 use ctt_core::Answer;
 use ctt_edits::Row;
-use ctt_text::Instance;
+use ctt_text::{Instance, end_with_count, end_with_slot, end_with_word};
 use std::alloc::AllocError;
 
 /// Adds the line of a draft that is refused for a row that has changed.
@@ -47,7 +46,7 @@ pub fn write_answer(
         Answer::Replied(reply) => write_reply(text, instance, reply),
         Answer::Committed(number) => {
             text.push_str("committed")?;
-            end_with_number(text, *number)
+            end_with_count(text, *number)
         }
         Answer::Refreshed => text.push_str("refreshed\n"),
         Answer::Stale(row) => write_stale(text, instance, row),

@@ -4,8 +4,7 @@ ghost use Rattle.std.specs.Prelude.{◌≡◌, ◌++◌, OnOk, true, false, stri
 ghost use Rattle.ctt_text.specs.Timetable.{Fits};
 ghost use Rattle.ctt_script.specs.WrittenText.{lecture_part};
 
-use crate::pieces::push_slot;
-use ctt_text::{Gathered, Instance, Placed, push_word};
+use ctt_text::{Gathered, Instance, Placed, push_slot, push_word};
 use std::alloc::AllocError;
 
 /// How many bytes the three labels of a lecture have at most.
@@ -19,7 +18,7 @@ fn gather(gathered: &mut Gathered, instance: &Instance, lecture: &Placed) -> boo
         → gathered.new ≡ gathered.old ++ lecture_part instance.now lecture.now }
     ensures kept { result ≡ false → gathered.new ≡ gathered.old }
 {
-    if gathered.room() < LECTURE {
+    if gathered.left() < LECTURE {
         return false;
     }
     let (Some(course), Some(room), Some(slot)) = (

@@ -13,7 +13,6 @@ mod journal_fault;
 mod kinds;
 mod lines;
 mod minutes;
-mod pieces;
 mod places;
 mod replies;
 mod script;

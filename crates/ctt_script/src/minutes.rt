@@ -7,11 +7,10 @@ ghost use Rattle.ctt_core.specs.Runs.{EventFits};
 ghost use Rattle.ctt_script.specs.Entries.{AnswerFits};
 ghost use Rattle.ctt_script.specs.Minutes.{blank, minutes_text, no_notes, noted, noted_ask, noted_call, noted_commit, noted_open, notes_at, with_entry};
 
-use crate::pieces::end_with_number;
 use crate::written::{write_call, write_entry_head, write_reply};
 use ctt_core::{Answer, Event, PlannerNo};
 use ctt_edits::{Call, Reply};
-use ctt_text::{Instance, NoMemory};
+use ctt_text::{Instance, NoMemory, end_with_count};
 use std::alloc::{AllocError, Global};
 use std::marker::Model;
 
@@ -187,7 +186,7 @@ impl Minutes {
         text.push_str("END.\n")?;
         let mut head = String::new(*text.allocator());
         head.push_str("journal")?;
-        end_with_number(&mut head, self.count)?;
+        end_with_count(&mut head, self.count)?;
         text.insert_str(0, head.as_str())?;
         Ok(text.into_bytes())
     }

@@ -20,12 +20,15 @@ ghost use Rattle.ctt_script.specs.WrittenWords.{course_word, edit_words, look_wo
 ghost use Rattle.ctt_script.specs.WrittenText.{line, rest_of_line, slot_part, asked_text, entry_text, journal_text};
 
 use crate::gathered::{add_lecture, write_lecture};
-use crate::pieces::{end_with_number, end_with_slot, end_with_word, push_signed, push_slot};
 use ctt_core::{JournalEntry, PlannerNo};
 use ctt_draft::Asked;
 use ctt_edits::{Call, Edit, EditFault, Look, Reply};
 use ctt_rules::Cost;
-use ctt_text::{CourseNo, Gathered, Instance, NoMemory, Placed, SlotNo, push_count, push_word};
+use ctt_text::{
+    CourseNo, Gathered, Instance, NoMemory, Placed, SlotNo, end_with_count, end_with_slot,
+    end_with_word, push_count, push_slot, push_word,
+};
+use itoa::Buffer;
 use std::alloc::{AllocError, Global};
 
 /// Adds the line of an edit that names a course, a room and a slot.
@@ -221,7 +224,7 @@ pub fn write_costs(text: &mut String, cost: &Cost) -> Result<(), AllocError>
     push_count(text, *capacity)?;
     push_count(text, *days)?;
     push_count(text, *compactness)?;
-    end_with_number(text, *stability)
+    end_with_count(text, *stability)
 }
 
 /// Adds the line of a price.
@@ -229,8 +232,8 @@ fn write_price(text: &mut String, price: i64) -> Result<(), AllocError>
     ensures { OnOk result (string_bytes text.new
         ≡ string_bytes text.old ++ line (codes "price" ∷ signed_decimal price ∷ [])) }
 {
-    text.push_str("price")?;
-    push_signed(text, price)?;
+    text.push_str("price ")?;
+    text.push_str(Buffer::new().format(price))?;
     text.push('\n')
 }
 
@@ -274,7 +277,7 @@ pub(crate) fn write_entry_head(
 {
     text.push_str("entry")?;
     push_count(text, u64::from(planner.get()))?;
-    end_with_number(text, calls)
+    end_with_count(text, calls)
 }
 
 /// Adds the lines of the entry of a planner's draft with these calls.
@@ -315,7 +318,7 @@ pub fn write_journal(
     instance.names_are_words();
     let mut text = String::new(alloc);
     text.push_str("journal")?;
-    end_with_number(&mut text, entries.len() as u64)?;
+    end_with_count(&mut text, entries.len() as u64)?;
     for entry in entries {
         write_entry(&mut text, instance, entry.planner, entry.asked.as_slice())?;
     }

@@ -56,7 +56,7 @@ impl Gathered {
     }
 
     /// How many bytes more can be gathered.
-    pub fn room(&self) -> usize
+    pub fn left(&self) -> usize
         ensures { length self.now + result ≡ 256 }
     {
         ROOM - self.len
@@ -67,6 +67,7 @@ impl Gathered {
     pub fn put(&mut self, piece: &str) -> bool
         ensures added { result ≡ true → self.new ≡ self.old ++ piece.now }
         ensures kept { result ≡ false → self.new ≡ self.old }
+        ensures full { result ≡ false → 256 < length self.old + length piece.now }
     {
         let (at, len) = (self.len, piece.len());
         if len > ROOM - at {
@@ -119,8 +120,9 @@ impl Gathered {
     pub fn put_number(&mut self, number: u64) -> bool
         ensures added { result ≡ true → self.new ≡ self.old ++ decimal number }
         ensures kept { result ≡ false → self.new ≡ self.old }
+        ensures full { result ≡ false → 256 < length self.old + length (decimal number) }
     {
-        if number < 100 && self.room() >= 2 {
+        if number < 100 && self.left() >= 2 {
             self.put_short(number as u8);
             return true;
         }

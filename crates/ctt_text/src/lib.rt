@@ -34,7 +34,9 @@ pub use letting::let_go;
 pub use marks::Marks;
 pub use no_memory::NoMemory;
 pub use numbers::number;
-pub use pieces::{push_count, push_number, push_word};
+pub use pieces::{
+    end_with_count, end_with_slot, end_with_word, push_count, push_number, push_slot, push_word,
+};
 pub use placed::Placed;
 pub use places::{
     FixedFault, PlaceFault, RoomFault, SlotFault, next_course, next_fixed, next_number, next_room,
