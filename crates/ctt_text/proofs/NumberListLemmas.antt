@@ -56,3 +56,10 @@ pub list_read : {V : Type 0} (items : V → List ℕ) (values : List V) (lists :
 list_read items values lists k c x list e same lt is value =
     let within : k < length values = omega (arith, lt, same, length-map values items, ap length e) in
     value ∙ ap items is ∙ sym (get_or-map items values k x [] within) ∙ ap₂ (λ xs n. get_or xs n []) e same
+
+-- where no list has a number, and one more has none
+pub none_more : {N V : Type 0} (items : V → List N) (lists : List V) (v : V) → items v ≡ [] → ((c : ℕ) → get_or (map items lists) c [] ≡ []) → (c : ℕ) → get_or (map items (lists ++ v ∷ [])) c [] ≡ []
+none_more items [] v e none zero = e
+none_more items [] v e none (suc c) = refl
+none_more items (x ∷ xs) v e none zero = none zero
+none_more items (x ∷ xs) v e none (suc c) = none_more items xs v e (λ k. none (suc k)) c

@@ -1,10 +1,11 @@
 -- Rows of marks.
-use Rattle.std.proofs.Common.{◌≡◌, ◌≢◌, ℕ, zero, suc, ◌+◌, ◌*◌, ◌<◌, ◌≤◌, List, [], ◌∷◌, ◌++◌, length, get_or, Bool, true, false, not, cond, ◌==◌, ◌&&◌, ◌||◌, take, take_all, replicate, refl, sym, ap, ap₂, subst, ◌∙◌, arith, nat_lt, zero-add}
+use Rattle.std.proofs.Common.{◌≡◌, ◌≢◌, ℕ, zero, suc, ◌+◌, ◌*◌, ◌%◌, ◌<◌, ◌≤◌, List, [], ◌∷◌, ◌++◌, length, get_or, Bool, true, false, not, cond, ◌==◌, ◌&&◌, ◌||◌, take, take_all, replicate, refl, sym, ap, ap₂, subst, ◌∙◌, arith, nat_lt, zero-add}
 use Rattle.std.specs.List.{slice_set, list_any, AllByRecursion as Each}
 use Rattle.std.proofs.lemmas.List.{get_or-set_other, get_or-replicate, length-set, length-replicate, take-append-le, ext_get_or}
 use Rattle.std.proofs.lemmas.List.FromFn.{length-map-range_with_len, get_or-map-range_with_len}
 use Rattle.std.proofs.Math.Nat.{le_refl}
 use Rattle.std.proofs.lemmas.Nat.{row_fits}
+use Rattle.std.proofs.lemmas.Nat.Bits.{bit_at-zero}
 use Rattle.std.proofs.lemmas.Grind.{get_or-set_at}
 use Rattle.std.proofs.lemmas.Bool.{eqb-true, eqb-false}
 use Rattle.std.proofs.lemmas.Bool.Decides.{nat_tests}
@@ -160,3 +161,10 @@ marks_more n words next m within wrote = ext_get_or false (marks_below n next) (
     mark_of n next k less ∙ wrote k ∙ bool_case _ (k == m)
     (λ is. rw is (sym (get_or-set_at (marks_below n words) m k true false (eqb-true k m is) (subst (λ j. m < j) (sym (marks_length n words)) within))))
     (λ isnt. rw isnt (sym (get_or-set_other (marks_below n words) m k true false (eqb-false k m isnt) ∙ mark_of n words k less))))
+
+-- in rows that are all alike, where none is marked
+pub alike_unmarked : (words : List ℕ) (k r n : ℕ) → ((m : ℕ) → is_marked words m ≡ false) → mark_at (replicate k words) r n ≡ false
+unfolding is_marked
+alike_unmarked words zero r n none = rw (bit_at-zero (n % 64)) refl
+alike_unmarked words (suc k) zero n none = none n
+alike_unmarked words (suc k) (suc r) n none = alike_unmarked words k r n none

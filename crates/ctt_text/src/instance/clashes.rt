@@ -146,6 +146,7 @@ fn mark_clashes(rows: &mut [Marks], courses: &[CourseFacts], curricula: &[Vec<Co
 }
 
 /// For each course, a row of the courses that it clashes with.
+#[tactic(auto, using(crate::proofs::TableLemmas::alike_unmarked))]
 pub(crate) fn clash_rows(
     alloc: Global,
     courses: &[CourseFacts],

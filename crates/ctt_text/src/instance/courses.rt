@@ -61,6 +61,19 @@ fn read_one_course(
     Ok(())
 }
 
+impl CourseSection {
+    /// No course.
+    fn new(alloc: Global) -> Self
+        ensures { result ≡ no_courses }
+    {
+        CourseSection {
+            names: Names::new(alloc),
+            facts: Vec::new(alloc),
+            teachers: Names::new(alloc),
+        }
+    }
+}
+
 /// Reads so many courses.
 fn read_courses(alloc: Global, reader: &mut Reader, count: u32) -> Result<CourseSection, ReadFault>
     requires { count ≤ 2000 }
@@ -68,11 +81,7 @@ fn read_courses(alloc: Global, reader: &mut Reader, count: u32) -> Result<Course
     ensures exact { GivesRead (λ section. (section, reader.new)) result
         (reads (times course count no_courses) reader.old) }
 {
-    let mut section = CourseSection {
-        names: Names::new(alloc),
-        facts: Vec::new(alloc),
-        teachers: Names::new(alloc),
-    };
+    let mut section = CourseSection::new(alloc);
     for _ in 0..count {
         read_one_course(alloc, reader, &mut section)?;
     }

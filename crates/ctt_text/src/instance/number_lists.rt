@@ -21,6 +21,7 @@ pub(crate) fn add_to<N: Drop>(
 }
 
 /// In each of so many places, no number.
+#[tactic(auto, using(crate::proofs::NumberListLemmas::none_more))]
 pub(crate) fn empty_lists<N: Drop>(alloc: Global, count: usize) -> Result<Vec<Vec<N>>, AllocError>
     ensures size { IfOk result (λ v. length v.items ≡ count) }
     ensures empty { IfOk result (λ v. (p : ℕ) → get_or (map (λ v. v.items) v.items) p [] ≡ []) }
