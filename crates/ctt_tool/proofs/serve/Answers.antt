@@ -13,10 +13,10 @@ pub returns-clause-one : goal.returns-clause-one
 returns-clause-one g c = λ one. (_, c.program.ensures.one one)
 
 pub returns-clause-four : goal.returns-clause-four
-returns-clause-four g c = λ four. (_, c.program.ensures.four four)
+returns-clause-four g c = λ four. (_, (c.program.ensures.four four).0, (c.program.ensures.four four).1)
 
 pub returns-clause-five : goal.returns-clause-five
-returns-clause-five g c = λ five. (_, c.program.ensures.five five)
+returns-clause-five g c = λ five. (_, (c.program.ensures.five five).0, (c.program.ensures.five five).1)
 
 pub returns-clause-said : goal.returns-clause-said
 returns-clause-said g c = λ some. of_some_words _ (g.F.Files.held c.args.files.now) (g.W.Sink.has_failed c.program.new.out) (λ words. EndsAsDone words c.program.result (g.F.Files.held c.args.files.now) (g.F.Files.held c.program.new.files) (g.W.Sink.taken c.args.out.now) (g.W.Sink.taken c.program.new.out)) _ _ _ _ (c.program.ensures.said some)
