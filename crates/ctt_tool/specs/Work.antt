@@ -1,8 +1,9 @@
 -- What the program has done where it ends well, and what was the cause where it did not.
-use Rattle.std.specs.Prelude.{◌≡◌, ◌⊎◌, ◌<◌, ℕ, Bool, true, List, [], Option, length}
+use Rattle.std.specs.Prelude.{◌≡◌, ◌⊎◌, ◌<◌, ℕ, Bool, true, List, [], Option, length, map}
+use Rattle.std.specs.Borrow.{Bor}
 use Rattle.std.specs.Global.{Global}
 use Rattle.std.specs.declared.string.String.{String}
-use Rattle.ctt_words.specs.Jobs.{IsFaultOf, IsJobOf, IsRequest, faults_of}
+use Rattle.ctt_words.specs.Jobs.{AreRefused, IsFaultOf, IsJobOf, IsRequest, faults_of}
 use Rattle.ctt_words.specs.declared.job.WordsFault.{WordsFault}
 use Rattle.ctt_words.specs.declared.job.WordsFault.TheVariants as no
 use Rattle.ctt_words.specs.declared.job.WordsFault.TheVariants.{Help, Refused}
@@ -46,6 +47,10 @@ DoesTask instance barred (Listing journal start) outcome before after old new = 
 abbrev pub DoesJob : Job → Outcome → Held → Held → Option (List ℕ) → Option (List ℕ) → Type 0
 DoesJob job outcome before after old new = DoesTask job.instance job.barred job.task outcome before after old new
 
+-- the texts of words that are lent
+abbrev pub texts : List (Bor (List ℕ)) → List (List ℕ)
+texts words = map (λ word. word.now) words
+
 -- the words ask for help or the version, or `clap` finds no fault in them and they ask for a job that is done
 abbrev pub DoesAsAsked : List (List ℕ) → Outcome → Held → Held → Option (List ℕ) → Option (List ℕ) → Type 0
 DoesAsAsked words outcome before after old new = (IsRequest (faults_of words) × (outcome ≡ Done) × (after ≡ before))
@@ -88,6 +93,10 @@ AsksForTooMany words = (job : Job) × IsJobOf words job × (64 < length (scripts
 -- the words ask for a desk whose seats are refused
 abbrev pub AsksForBadSeats : List (List ℕ) → Type 0
 AsksForBadSeats words = (job : Job) × IsJobOf words job × HasBadSeats job.task
+
+-- so the words are refused: by `clap`, or by how many weeks, scripts or seats they ask for
+abbrev pub AreTurnedDown : List (List ℕ) → Type 0
+AreTurnedDown words = AreRefused words ⊎ (AsksForTooMany words ⊎ AsksForBadSeats words)
 
 -- the words ask for a job that may say something where it is done
 abbrev pub AsksToSay : List (List ℕ) → Type 0

@@ -1,13 +1,13 @@
 //! What the program does.
 
-ghost use Rattle.std.specs.Prelude.{◌≡◌, ◌≢◌, ◌≤◌, ◌⊎◌, [], true, false, map, OnOk, OnErr, IfOk, IfErr};
-ghost use Rattle.ctt_words.specs.Jobs.{AreRefused, HasScripts, faults_of};
+ghost use Rattle.std.specs.Prelude.{◌≡◌, ◌≢◌, ◌≤◌, ◌⊎◌, [], true, false, OnOk, OnErr, IfOk, IfErr};
+ghost use Rattle.ctt_words.specs.Jobs.{HasScripts, faults_of};
 ghost use Rattle.ctt_files.specs.Faults.{IfUnwritten, MayHaveWritten, status_of};
 ghost use Rattle.ctt_files.specs.declared.fault.Fault.TheVariants.{NoMemory};
 ghost use Rattle.ctt_files.specs.declared.outcome.Outcome.TheVariants.{Differs, Done, Incomplete, Unlawful};
 ghost use Rattle.ctt_tool.specs.Faults.{KeptUnless, SaysFault};
 ghost use Rattle.ctt_tool.specs.Jobs.{Saying, Storing};
-ghost use Rattle.ctt_tool.specs.Work.{AsksForBadSeats, AsksForRefusedText, AsksForTooMany, AsksToSay, AsksToStore, DoesAsAsked, DoesJob, EndsAsDone, GivesHelp, HasCause, IsOfHelp, IsOfJob};
+ghost use Rattle.ctt_tool.specs.Work.{AreTurnedDown, AsksForRefusedText, AsksToSay, AsksToStore, DoesAsAsked, DoesJob, EndsAsDone, GivesHelp, HasCause, IsOfHelp, IsOfJob, texts};
 
 use crate::audit::audit;
 use crate::crew::crew;
@@ -110,24 +110,21 @@ fn do_as_asked<R: Threads + Wait + Sync, F: Files, O: Office, W: Sink, V: Sink>(
     out: &mut W,
     err: &mut V,
 ) -> Result<Outcome, Fault>
-    ensures done { IfOk result (λ outcome. DoesAsAsked (map (λ word. word.now) words.now) outcome
+    ensures done { IfOk result (λ outcome. DoesAsAsked (texts words.now) outcome
         (F.held files.old) (F.held files.new) (W.taken out.old) (W.taken out.new)) }
     ensures unmarked { OnOk result (W.has_failed out.new ≡ W.has_failed out.old) }
     ensures marked { IfErr result (λ fault. (status_of fault ≡ 3)
         ⊎ (W.has_failed out.new ≡ W.has_failed out.old)) }
     ensures unwritten { IfErr result (λ fault. MayHaveWritten fault ⊎ (out.new ≡ out.old)) }
     ensures unstored { IfErr result (λ fault. KeptUnless fault
-        ((W.has_failed out.new ≡ W.has_failed out.old)
-        × AsksToStore (map (λ word. word.now) words.now))
+        ((W.has_failed out.new ≡ W.has_failed out.old) × AsksToStore (texts words.now))
         (F.held files.new ≡ F.held files.old)) }
-    ensures taken { IfErr result (λ fault. status_of fault ≡ 1
-        → faults_of (map (λ word. word.now) words.now) ≡ []) }
+    ensures taken { IfErr result (λ fault. status_of fault ≡ 1 → faults_of (texts words.now) ≡ []) }
     ensures quiet { IfOk result (λ outcome.
-        (AsksToSay (map (λ word. word.now) words.now) × (outcome ≡ Done))
-        ⊎ (err.new ≡ err.old)) }
+        (AsksToSay (texts words.now) × (outcome ≡ Done)) ⊎ (err.new ≡ err.old)) }
     ensures unsaid { OnErr result ((err.new ≡ err.old) ⊎ (V.has_failed err.new ≡ true)) }
-    ensures cause { IfErr result (HasCause (map (λ word. word.now) words.now) (F.held files.old)
-        (W.has_failed out.new)) }
+    ensures cause { IfErr result
+        (HasCause (texts words.now) (F.held files.old) (W.has_failed out.new)) }
 {
     match read_words(alloc, words) {
         Ok(job) => do_job(rt, alloc, job, files, office, out, err),
@@ -173,41 +170,31 @@ pub fn program<R: AllocGlobal + Threads + Wait + Sync, F: Files, O: Office, W: S
 ) -> u8
     requires out { W.has_failed out.old ≡ false }
     requires err { V.has_failed err.old ≡ false }
-
     ensures known { result ≤ 5 }
-    ensures done { result ≡ 0 → DoesAsAsked (map (λ word. word.now) words.now) Done
+    ensures done { result ≡ 0 → DoesAsAsked (texts words.now) Done
         (F.held files.old) (F.held files.new) (W.taken out.old) (W.taken out.new) }
     ensures unmarked { result ≡ 0 → W.has_failed out.new ≡ false }
-    ensures unsaid { result ≡ 0
-        → AsksToSay (map (λ word. word.now) words.now) ⊎ (err.new ≡ err.old) }
-
+    ensures unsaid { result ≡ 0 → AsksToSay (texts words.now) ⊎ (err.new ≡ err.old) }
     ensures one { result ≡ 1
-        → (AsksForRefusedText (map (λ word. word.now) words.now) (F.held files.old)
-        × (out.new ≡ out.old))
-        ⊎ (DoesAsAsked (map (λ word. word.now) words.now) Differs
+        → (AsksForRefusedText (texts words.now) (F.held files.old) × (out.new ≡ out.old))
+        ⊎ (DoesAsAsked (texts words.now) Differs (F.held files.old) (F.held files.new)
+        (W.taken out.old) (W.taken out.new) × (err.new ≡ err.old)) }
+    ensures four { result ≡ 4 → DoesAsAsked (texts words.now) Unlawful (F.held files.old)
+        (F.held files.new) (W.taken out.old) (W.taken out.new) × (err.new ≡ err.old) }
+    ensures five { result ≡ 5 → DoesAsAsked (texts words.now) Incomplete (F.held files.old)
+        (F.held files.new) (W.taken out.old) (W.taken out.new) × (err.new ≡ err.old) }
+    ensures taken { result ≡ 1 → faults_of (texts words.now) ≡ [] }
+    ensures refused { result ≡ 2 → AreTurnedDown (texts words.now) }
+    ensures said { result ≢ 0 → EndsAsDone (texts words.now) result
         (F.held files.old) (F.held files.new) (W.taken out.old) (W.taken out.new)
-        × (err.new ≡ err.old)) }
-    ensures four { result ≡ 4 → DoesAsAsked (map (λ word. word.now) words.now) Unlawful
-        (F.held files.old) (F.held files.new) (W.taken out.old) (W.taken out.new)
-        × (err.new ≡ err.old) }
-    ensures five { result ≡ 5 → DoesAsAsked (map (λ word. word.now) words.now) Incomplete
-        (F.held files.old) (F.held files.new) (W.taken out.old) (W.taken out.new)
-        × (err.new ≡ err.old) }
-    ensures taken { result ≡ 1 → faults_of (map (λ word. word.now) words.now) ≡ [] }
-    ensures refused { result ≡ 2 → AreRefused (map (λ word. word.now) words.now)
-        ⊎ (AsksForTooMany (map (λ word. word.now) words.now)
-        ⊎ AsksForBadSeats (map (λ word. word.now) words.now)) }
-    ensures said { result ≢ 0 → EndsAsDone (map (λ word. word.now) words.now) result
-        (F.held files.old) (F.held files.new) (W.taken out.old) (W.taken out.new)
-        ⊎ ((V.has_failed err.new ≡ true)
-        ⊎ SaysFault
-        (HasCause (map (λ word. word.now) words.now) (F.held files.old) (W.has_failed out.new))
+        ⊎ ((V.has_failed err.new ≡ true) ⊎ SaysFault
+        (HasCause (texts words.now) (F.held files.old) (W.has_failed out.new))
         result (V.taken err.old) (V.taken err.new)) }
     ensures unprinted { result ≡ 2 → out.new ≡ out.old }
     ensures unwritten { W.has_failed out.new ≡ true → result ≡ 3 }
     ensures unstored { result ≢ 0 → (F.held files.new ≡ F.held files.old)
         ⊎ ((result ≡ 3) × ((W.has_failed out.new ≡ W.has_failed out.old)
-        × AsksToStore (map (λ word. word.now) words.now))) }
+        × AsksToStore (texts words.now))) }
 {
     let alloc = rt.alloc();
     match do_as_asked(rt, alloc, words, files, office, out, err) {
