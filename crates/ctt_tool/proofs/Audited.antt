@@ -14,11 +14,11 @@ use Rattle.ctt_core.specs.declared.auditing.Verdict.{Verdict}
 use Rattle.ctt_script.specs.AuditedText.{AuditsText}
 use Rattle.ctt_core.specs.declared.auditing.Verdict.TheVariants as found
 use Rattle.ctt_core.specs.declared.journal.JournalEntry.{JournalEntry}
+use Rattle.ctt_files.specs.Texts.{Held, Holds, IsStart}
+use Rattle.ctt_files.specs.declared.fault.Fault.{Fault}
 use Rattle.ctt_tool.specs.Audits.{FindsIn, IsVerdictFault, VerdictFits}
 use Rattle.ctt_tool.specs.Refusals.{IsOfAudited}
-use Rattle.ctt_files.specs.Texts.{Held, Holds, IsStart}
 use Rattle.ctt_tool.specs.Texts.{IsJournalText}
-use Rattle.ctt_files.specs.declared.fault.Fault.{Fault}
 use Rattle.ctt_tool.proofs.Desks.{verdict_fits}
 
 module _ (problem : Problem) (lectures : List Placed) (bytes : List ℕ) where

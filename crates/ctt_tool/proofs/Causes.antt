@@ -7,11 +7,11 @@ use Rattle.ctt_core.specs.declared.journal.JournalEntry.{JournalEntry}
 use Rattle.ctt_script.specs.JournalText.{IsJournalCauseOf, JournalSpells}
 use Rattle.ctt_script.specs.declared.journal_fault.JournalFault.{JournalFault}
 use Rattle.ctt_script.specs.declared.journal_fault.JournalFault.TheVariants as journal
-use Rattle.ctt_tool.specs.Refusals.{IsNoJournalOf}
 use Rattle.ctt_files.specs.Faults.{status_of}
-use Rattle.ctt_tool.specs.Faults.{fault_of_journal}
 use Rattle.ctt_files.specs.declared.fault.Fault.{Fault}
 use Rattle.ctt_files.proofs.Causes.{three_is_one}
+use Rattle.ctt_tool.specs.Refusals.{IsNoJournalOf}
+use Rattle.ctt_tool.specs.Faults.{fault_of_journal}
 
 -- where the fault is no want of memory, the text is that of no journal
 abbrev pub TakesJournals : Problem → List ℕ → JournalFault → Type 0

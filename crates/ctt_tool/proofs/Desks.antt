@@ -21,14 +21,14 @@ use Rattle.ctt_script.specs.RunFaults.{IsCauseOf}
 use Rattle.ctt_script.specs.WrittenText.{journal_text, line}
 use Rattle.ctt_script.specs.declared.script_fault.ScriptFault.{ScriptFault}
 use Rattle.ctt_script.specs.declared.script_fault.ScriptFault.TheVariants as script
-use Rattle.ctt_tool.specs.Audits.{VerdictFits}
 use Rattle.ctt_files.specs.Faults.{IfUnwritten}
-use Rattle.ctt_tool.specs.Faults.{IsRunFault, RunFaultFits}
-use Rattle.ctt_tool.specs.Refusals.{IsAnswerFault, IsOfScript}
-use Rattle.ctt_tool.specs.Runs.{Stores}
 use Rattle.ctt_files.specs.Texts.{Held, Holds, IsStart}
 use Rattle.ctt_files.specs.declared.fault.Fault.{Fault}
 use Rattle.ctt_files.proofs.Plain.{plain_written}
+use Rattle.ctt_tool.specs.Audits.{VerdictFits}
+use Rattle.ctt_tool.specs.Faults.{IsRunFault, RunFaultFits}
+use Rattle.ctt_tool.specs.Refusals.{IsAnswerFault, IsOfScript}
+use Rattle.ctt_tool.specs.Runs.{Stores}
 use Rattle.ctt_tool.proofs.Plain.{refused_plain}
 
 -- the fault of an opening names a course of the instance, if it names one

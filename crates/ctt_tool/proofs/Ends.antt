@@ -1,17 +1,20 @@
 -- How the program ends, by its status.
-use Rattle.std.proofs.Common.{◌≡◌, ◌≢◌, ◌∙◌, ◌⊎◌, refl, ap, sym, inl, inr, true, ⊎_elim, subst, ℕ, suc, Bool, List, [], Option, arith}
+use Rattle.std.proofs.Common.{◌≡◌, ◌≢◌, ◌≤◌, ◌∙◌, ◌⊎◌, refl, ap, sym, inl, inr, true, ⊎_elim, subst, ℕ, suc, Bool, List, [], Option, Result, Ok, Err, IfOk, IfErr, OnOk, OnErr, arith}
+use Rattle.std.specs.Global.{Global}
+use Rattle.std.specs.declared.string.String.{String}
 use Rattle.ctt_words.specs.Jobs.{faults_of}
-use Rattle.ctt_words.specs.declared.job.Job.TheVariants.{Audit, Crew, Desk, Journal as Journals, Listing, Run, Show}
+use Rattle.ctt_words.specs.declared.job.Task.{Task}
+use Rattle.ctt_words.specs.declared.job.Task.TheVariants.{Audit, Crew, Desk, Journal as Journals, Listing, Run, Show}
 use Rattle.ctt_files.specs.Faults.{MayHaveWritten, status_of}
-use Rattle.ctt_tool.specs.Faults.{KeptUnless, SaysFault}
 use Rattle.ctt_files.specs.Outcomes.{outcome_status}
 use Rattle.ctt_files.specs.Texts.{Held}
-use Rattle.ctt_tool.specs.Work.{DoesAsAsked, HasCause, IsOfWords}
 use Rattle.ctt_files.specs.declared.fault.Fault.{Fault}
 use Rattle.ctt_files.specs.declared.fault.Fault.TheVariants.{BadSeats, Barred, CannotRead, CannotWrite, Instance, Journal, MinutesExist, NoCourse, NoCurriculum, NoMemory, NoPlace, NoRoom, NoTeacher, NoThread, Opening, Solution, TooLong, TooManyScripts, Words, WordsNotText}
 use Rattle.ctt_files.specs.declared.outcome.Outcome.{Outcome}
 use Rattle.ctt_files.specs.declared.outcome.Outcome.TheVariants.{Differs, Done, Incomplete, Unlawful}
 use Rattle.ctt_files.proofs.Causes.{three_is_one}
+use Rattle.ctt_tool.specs.Faults.{KeptUnless, SaysFault}
+use Rattle.ctt_tool.specs.Work.{DoesAsAsked, DoesTask, HasCause, IsOfWords}
 use Rattle.ctt_tool.proofs.Known.{says_caused, says_weaker}
 
 -- how a job ended is known by the status
@@ -82,40 +85,84 @@ ended_kept (NoTeacher name) status S K is kept = inl kept
 ended_kept (NoCourse name) status S K is kept = inl kept
 ended_kept (NoRoom name) status S K is kept = inl kept
 
+-- what ends as done alone has done what it says
+pub done_so : {E : Type 0} (r : Result Outcome E) (P : Type 0) (Q : Outcome → Type 0) → IfOk r (λ outcome. outcome ≡ Done) → OnOk r P
+    → ((outcome : Outcome) → outcome ≡ Done → P → Q outcome) → IfOk r Q
+done_so (Ok outcome) P Q done does gives = gives outcome done does
+done_so (Err fault) P Q done does gives = tt
+
+-- and what fails in one way alone has its cause
+pub failed_so : {T : Type 0} (r : Result T Fault) (F : Fault → Type 0) (P : Type 0) (Q : Fault → Type 0) → IfErr r F → OnErr r P → ((fault : Fault) → F fault → P → Q fault) → IfErr r Q
+failed_so (Ok value) F P Q is holds gives = tt
+failed_so (Err fault) F P Q is holds gives = gives fault is holds
+
 -- a job that ends otherwise than as done has changed no file
+task_kept : (instance : String Global) (barred : Option (String Global)) (task : Task) (outcome : Outcome) (before after : Held) (old new : Option (List ℕ))
+    → DoesTask instance barred task outcome before after old new → outcome ≢ Done → after ≡ before
+task_kept instance barred (Show solution showing) outcome before after old new does other = does.0
+task_kept instance barred (Run script start journal) outcome before after old new does other = absurd (other does.0)
+task_kept instance barred (Audit journal start) outcome before after old new does other = does.0
+task_kept instance barred (Crew scripts) outcome before after old new does other = absurd (other does.0)
+task_kept instance barred (Desk seats start minutes) outcome before after old new does other = absurd (other does.0)
+task_kept instance barred (Journals minutes) outcome before after old new does other = absurd (other does.0)
+task_kept instance barred (Listing journal start) outcome before after old new does other = does.0
+
 pub other_kept : (words : List (List ℕ)) (outcome : Outcome) (before after : Held) (old new : Option (List ℕ)) → DoesAsAsked words outcome before after old new → outcome ≢ Done → after ≡ before
 other_kept words outcome before after old new (inl help) other = help.2
-other_kept words outcome before after old new (inr (taken, (Show instance barred solution showing, is, does))) other = does.0
-other_kept words outcome before after old new (inr (taken, (Run instance barred script start journal, is, does))) other = absurd (other does.0)
-other_kept words outcome before after old new (inr (taken, (Audit instance barred journal start, is, does))) other = does.0
-other_kept words outcome before after old new (inr (taken, (Crew instance barred scripts, is, does))) other = absurd (other does.0)
-other_kept words outcome before after old new (inr (taken, (Desk instance barred seats start minutes, is, does))) other = absurd (other does.0)
-other_kept words outcome before after old new (inr (taken, (Journals instance barred minutes, is, does))) other = absurd (other does.0)
-other_kept words outcome before after old new (inr (taken, (Listing instance barred journal start, is, does))) other = does.0
+other_kept words outcome before after old new (inr (taken, (job, is, does))) other = task_kept job.instance job.barred job.task outcome before after old new does other
 
--- where a text is refused, nothing was printed
+-- only where the status is 3 a part of an answer may have been printed
+may_is_three : (fault : Fault) → MayHaveWritten fault → status_of fault ≡ 3
+may_is_three CannotWrite may = refl
+may_is_three NoMemory may = refl
+may_is_three (Instance number at) may = absurd may
+may_is_three (Solution number at) may = absurd may
+may_is_three (Barred number at) may = absurd may
+may_is_three (Journal number at) may = absurd may
+may_is_three (Opening text) may = absurd may
+may_is_three (CannotRead name) may = absurd may
+may_is_three (TooLong name) may = absurd may
+may_is_three (Words text) may = absurd may
+may_is_three WordsNotText may = absurd may
+may_is_three TooManyScripts may = absurd may
+may_is_three NoThread may = absurd may
+may_is_three NoPlace may = absurd may
+may_is_three BadSeats may = absurd may
+may_is_three (MinutesExist name) may = absurd may
+may_is_three (NoCurriculum name) may = absurd may
+may_is_three (NoTeacher name) may = absurd may
+may_is_three (NoCourse name) may = absurd may
+may_is_three (NoRoom name) may = absurd may
+
+-- so where a text or the words are refused, nothing was
 pub unprinted_one : (fault : Fault) (P : Type 0) → MayHaveWritten fault ⊎ P → status_of fault ≡ 1 → P
-unprinted_one fault P (inr same) one = same
-unprinted_one CannotWrite P (inl may) one = three_is_one one
-unprinted_one NoMemory P (inl may) one = three_is_one one
-unprinted_one (Instance number at) P (inl may) one = absurd may
-unprinted_one (Solution number at) P (inl may) one = absurd may
-unprinted_one (Barred number at) P (inl may) one = absurd may
-unprinted_one (Journal number at) P (inl may) one = absurd may
-unprinted_one (Opening text) P (inl may) one = absurd may
-unprinted_one (CannotRead name) P (inl may) one = absurd may
-unprinted_one (TooLong name) P (inl may) one = absurd may
-unprinted_one (Words text) P (inl may) one = absurd may
-unprinted_one WordsNotText P (inl may) one = absurd may
-unprinted_one TooManyScripts P (inl may) one = absurd may
-unprinted_one NoThread P (inl may) one = absurd may
-unprinted_one NoPlace P (inl may) one = absurd may
-unprinted_one BadSeats P (inl may) one = absurd may
-unprinted_one (MinutesExist name) P (inl may) one = absurd may
-unprinted_one (NoCurriculum name) P (inl may) one = absurd may
-unprinted_one (NoTeacher name) P (inl may) one = absurd may
-unprinted_one (NoCourse name) P (inl may) one = absurd may
-unprinted_one (NoRoom name) P (inl may) one = absurd may
+unprinted_one fault P unwritten one = ⊎_elim (λ may. three_is_one (sym (may_is_three fault may) ∙ one)) (λ same. same) unwritten
+
+pub unprinted_two : (fault : Fault) (P : Type 0) → MayHaveWritten fault ⊎ P → status_of fault ≡ 2 → P
+unprinted_two fault P unwritten two = ⊎_elim (λ may. absurd (omega (arith, may_is_three fault may, two))) (λ same. same) unwritten
+
+-- the status of a fault is 1, 2 or 3
+pub status_between : (fault : Fault) → (1 ≤ status_of fault) × (status_of fault ≤ 3)
+status_between CannotWrite = (omega arith, omega arith)
+status_between NoMemory = (omega arith, omega arith)
+status_between (Instance number at) = (omega arith, omega arith)
+status_between (Solution number at) = (omega arith, omega arith)
+status_between (Barred number at) = (omega arith, omega arith)
+status_between (Journal number at) = (omega arith, omega arith)
+status_between (Opening text) = (omega arith, omega arith)
+status_between (CannotRead name) = (omega arith, omega arith)
+status_between (TooLong name) = (omega arith, omega arith)
+status_between (Words text) = (omega arith, omega arith)
+status_between WordsNotText = (omega arith, omega arith)
+status_between TooManyScripts = (omega arith, omega arith)
+status_between NoThread = (omega arith, omega arith)
+status_between NoPlace = (omega arith, omega arith)
+status_between BadSeats = (omega arith, omega arith)
+status_between (MinutesExist name) = (omega arith, omega arith)
+status_between (NoCurriculum name) = (omega arith, omega arith)
+status_between (NoTeacher name) = (omega arith, omega arith)
+status_between (NoCourse name) = (omega arith, omega arith)
+status_between (NoRoom name) = (omega arith, omega arith)
 
 -- what is so of these words is so of some
 pub of_some_words : (words : List (List ℕ)) (held : Held) (failed : Bool) (D : List (List ℕ) → Type 0) (M : Type 0) (status : ℕ) (old new : Option (List ℕ)) → D words ⊎ (M ⊎ SaysFault (HasCause words held failed) status old new)

@@ -1,20 +1,26 @@
 -- What holds where bytes are told.
 use Rattle.std.proofs.Common.{◌≡◌, ◌<◌, ◌⊎◌, ⊎_elim, length, arith, inl, inr, ap, ℕ, Bool, true, List, refl, sym, subst, Option}
+use Rattle.std.specs.Global.{Global}
 use Rattle.std.specs.Io.KnownBytes.{Appends}
-use Rattle.ctt_words.specs.Jobs.{AreRefused, IsJobOf}
+use Rattle.std.specs.declared.string.String.{String}
+use Rattle.ctt_words.specs.Jobs.{AreRefused, IsFaultOf, IsJobOf, IsRequest, faults_of}
 use Rattle.ctt_words.specs.declared.job.Job.{Job}
-use Rattle.ctt_words.specs.declared.job.Job.TheVariants.{Audit, Crew, Desk, Journal as Journals, Listing, Run, Show}
+use Rattle.ctt_words.specs.declared.job.Task.{Task}
+use Rattle.ctt_words.specs.declared.job.Task.TheVariants.{Audit, Crew, Desk, Journal as Journals, Listing, Run, Show}
+use Rattle.ctt_words.specs.declared.job.WordsFault.{WordsFault}
+use Rattle.ctt_words.specs.declared.job.WordsFault.TheVariants as no
+use Rattle.ctt_words.specs.declared.job.WordsFault.TheVariants.{Help, Refused}
 use Rattle.ctt_files.specs.Faults.{IfUnwritten, IsLineOf, status_of}
-use Rattle.ctt_tool.specs.Faults.{KeptUnless, SaysFault}
-use Rattle.ctt_tool.specs.Jobs.{HasBadSeats, Storing, scripts_of}
-use Rattle.ctt_tool.specs.Refusals.{IsOfAudited, IsOfMinutes, IsOfScript, IsOfScripts, IsOfSeats}
 use Rattle.ctt_files.specs.Texts.{Held}
-use Rattle.ctt_tool.specs.Work.{AsksForBadSeats, AsksForRefusedText, AsksForTooMany, HasCause, IsOfJob}
 use Rattle.ctt_files.specs.declared.fault.Fault.{Fault}
 use Rattle.ctt_files.specs.declared.fault.Fault.TheVariants.{BadSeats, Barred, CannotRead, CannotWrite, Instance, Journal, MinutesExist, NoCourse, NoCurriculum, NoMemory, NoPlace, NoRoom, NoTeacher, NoThread, Opening, Solution, TooLong, TooManyScripts, Words, WordsNotText}
 use Rattle.ctt_files.proofs.Plain.{IsPlain, behind_plain, unwritten_more}
 use Rattle.ctt_reports.specs.Showings.{whose_of}
 use Rattle.ctt_reports.proofs.LookLemmas.{look_plain}
+use Rattle.ctt_tool.specs.Faults.{KeptUnless, SaysFault}
+use Rattle.ctt_tool.specs.Jobs.{HasBadSeats, Storing, scripts_of}
+use Rattle.ctt_tool.specs.Refusals.{IsOfAudited, IsOfMinutes, IsOfScript, IsOfScripts, IsOfSeats}
+use Rattle.ctt_tool.specs.Work.{AsksForBadSeats, AsksForRefusedText, AsksForTooMany, GivesHelp, HasCause, IsOfHelp, IsOfJob, IsOfTask}
 use Rattle.ctt_tool.proofs.Plain.{audited_plain, minutes_plain, script_plain, scripts_plain, seats_plain}
 
 -- what is said whole, where the mark is not set, is the line of a fault
@@ -41,31 +47,35 @@ IsWord WordsNotText = Unit {0}
 IsWord _ = ⊥
 
 -- a fault of a job is a plain one, but for too many scripts, which only a crew has, and the seats of a desk
-abbrev IsSpecial : Job → Fault → Type 0
-IsSpecial job fault = ((fault ≡ TooManyScripts) × (64 < length (scripts_of job))) ⊎ ((fault ≡ BadSeats) × HasBadSeats job)
+abbrev IsSpecial : Task → Fault → Type 0
+IsSpecial task fault = ((fault ≡ TooManyScripts) × (64 < length (scripts_of task))) ⊎ ((fault ≡ BadSeats) × HasBadSeats task)
 
-job_plain : (job : Job) (held : Held) (fault : Fault) → IsOfJob job held fault → IsPlain fault ⊎ IsSpecial job fault
-job_plain (Show instance barred solution showing) held fault is = inl (look_plain held instance barred (whose_of showing) solution fault is)
-job_plain (Run instance barred script start journal) held fault is = inl (behind_plain (IsOfScript script start) (script_plain script start) held instance barred fault is)
-job_plain (Audit instance barred journal start) held fault is = inl (behind_plain (IsOfAudited journal start) (audited_plain journal start) held instance barred fault is)
-job_plain (Crew instance barred scripts) held fault (inl many) = inr (inl many)
-job_plain (Crew instance barred scripts) held fault (inr other) = inl (behind_plain (IsOfScripts scripts.items) (scripts_plain scripts.items) held instance barred fault other)
-job_plain (Desk instance barred seats start minutes) held fault (inl (inl bad)) = inr (inr bad)
-job_plain (Desk instance barred seats start minutes) held fault (inl (inr exist)) = inl (subst IsPlain (sym exist.2) tt)
-job_plain (Desk instance barred seats start minutes) held fault (inr other) = inl (behind_plain (IsOfSeats seats.items start) (seats_plain seats.items start) held instance barred fault other)
-job_plain (Journals instance barred minutes) held fault is = inl (behind_plain (IsOfMinutes minutes) (minutes_plain minutes) held instance barred fault is)
-job_plain (Listing instance barred journal start) held fault is = inl (behind_plain (IsOfAudited journal start) (audited_plain journal start) held instance barred fault is)
+task_plain : (instance : String Global) (barred : Option (String Global)) (task : Task) (held : Held) (fault : Fault) → IsOfTask instance barred task held fault
+    → IsPlain fault ⊎ IsSpecial task fault
+task_plain instance barred (Show solution showing) held fault is = inl (look_plain held instance barred (whose_of showing) solution fault is)
+task_plain instance barred (Run script start journal) held fault is = inl (behind_plain (IsOfScript script start) (script_plain script start) held instance barred fault is)
+task_plain instance barred (Audit journal start) held fault is = inl (behind_plain (IsOfAudited journal start) (audited_plain journal start) held instance barred fault is)
+task_plain instance barred (Crew scripts) held fault (inl many) = inr (inl many)
+task_plain instance barred (Crew scripts) held fault (inr other) = inl (behind_plain (IsOfScripts scripts.items) (scripts_plain scripts.items) held instance barred fault other)
+task_plain instance barred (Desk seats start minutes) held fault (inl (inl bad)) = inr (inr bad)
+task_plain instance barred (Desk seats start minutes) held fault (inl (inr exist)) = inl (subst IsPlain (sym exist.2) tt)
+task_plain instance barred (Desk seats start minutes) held fault (inr other) = inl (behind_plain (IsOfSeats seats.items start) (seats_plain seats.items start) held instance barred fault other)
+task_plain instance barred (Journals minutes) held fault is = inl (behind_plain (IsOfMinutes minutes) (minutes_plain minutes) held instance barred fault is)
+task_plain instance barred (Listing journal start) held fault is = inl (behind_plain (IsOfAudited journal start) (audited_plain journal start) held instance barred fault is)
+
+job_plain : (job : Job) (held : Held) (fault : Fault) → IsOfJob job held fault → IsPlain fault ⊎ IsSpecial job.task fault
+job_plain job held fault is = task_plain job.instance job.barred job.task held fault is
 
 -- no job refuses the words that ask for it
-not_special : {C : Type 0} (job : Job) (fault : Fault) → IsWord fault → IsSpecial job fault → C
-not_special job fault word (inl many) = absurd (subst IsWord many.0 word)
-not_special job fault word (inr bad) = absurd (subst IsWord bad.0 word)
+not_special : {C : Type 0} (task : Task) (fault : Fault) → IsWord fault → IsSpecial task fault → C
+not_special task fault word (inl many) = absurd (subst IsWord many.0 word)
+not_special task fault word (inr bad) = absurd (subst IsWord bad.0 word)
 
 job_words : {C : Type 0} (job : Job) (held : Held) (fault : Fault) → IsWord fault → (IsPlain fault → C) → IsOfJob job held fault → C
-job_words job held fault word plain is = ⊎_elim plain (λ special. not_special job fault word special) (job_plain job held fault is)
+job_words job held fault word plain is = ⊎_elim plain (λ special. not_special job.task fault word special) (job_plain job held fault is)
 
 -- the cause of a fault of a job
-pub job_caused : (words : List (List ℕ)) (held : Held) (failed : Bool) (job : Job) (U : Type 0) (fault : Fault) → IsJobOf words job → IfUnwritten fault ((failed ≡ true) ⊎ Storing job) (IsOfJob job held fault × U) → HasCause words held failed fault
+pub job_caused : (words : List (List ℕ)) (held : Held) (failed : Bool) (job : Job) (U : Type 0) (fault : Fault) → IsJobOf words job → IfUnwritten fault ((failed ≡ true) ⊎ Storing job.task) (IsOfJob job held fault × U) → HasCause words held failed fault
 job_caused words held failed job U (Instance number at) is cause = (job, is, cause.0)
 job_caused words held failed job U (Solution number at) is cause = (job, is, cause.0)
 job_caused words held failed job U (Barred number at) is cause = (job, is, cause.0)
@@ -107,12 +117,12 @@ refused_two words held failed CannotWrite has two = absurd (omega (arith, two))
 refused_two words held failed NoMemory has two = absurd (omega (arith, two))
 refused_two words held failed (Words text) has two = inl (⊎_elim inl (λ several. inr several.0) has)
 refused_two words held failed WordsNotText has two = absurd has
-refused_two words held failed TooManyScripts has two = inr (inl (has.0, has.1, many_of has.0 (job_plain has.0 held TooManyScripts has.2)))
+refused_two words held failed TooManyScripts has two = inr (inl (has.0, has.1, many_of has.0.task (job_plain has.0 held TooManyScripts has.2)))
   where
-    many_of : (job : Job) → IsPlain TooManyScripts ⊎ IsSpecial job TooManyScripts → 64 < length (scripts_of job)
-    many_of job (inl plain) = absurd plain
-    many_of job (inr (inl many)) = many.1
-    many_of job (inr (inr bad)) = one_is_none (ap is_many bad.0)
+    many_of : (task : Task) → IsPlain TooManyScripts ⊎ IsSpecial task TooManyScripts → 64 < length (scripts_of task)
+    many_of task (inl plain) = absurd plain
+    many_of task (inr (inl many)) = many.1
+    many_of task (inr (inr bad)) = one_is_none (ap is_many bad.0)
 refused_two words held failed NoThread has two = absurd (omega (arith, two))
 refused_two words held failed NoPlace has two = absurd (omega (arith, two))
 refused_two words held failed (MinutesExist name) has two = absurd (omega (arith, two))
@@ -120,12 +130,12 @@ refused_two words held failed (NoCurriculum name) has two = absurd (omega (arith
 refused_two words held failed (NoTeacher name) has two = absurd (omega (arith, two))
 refused_two words held failed (NoCourse name) has two = absurd (omega (arith, two))
 refused_two words held failed (NoRoom name) has two = absurd (omega (arith, two))
-refused_two words held failed BadSeats has two = inr (inr (has.0, has.1, seats_of has.0 (job_plain has.0 held BadSeats has.2)))
+refused_two words held failed BadSeats has two = inr (inr (has.0, has.1, seats_of has.0.task (job_plain has.0 held BadSeats has.2)))
   where
-    seats_of : (job : Job) → IsPlain BadSeats ⊎ IsSpecial job BadSeats → HasBadSeats job
-    seats_of job (inl plain) = absurd plain
-    seats_of job (inr (inl many)) = one_is_none (sym (ap is_many many.0))
-    seats_of job (inr (inr bad)) = bad.1
+    seats_of : (task : Task) → IsPlain BadSeats ⊎ IsSpecial task BadSeats → HasBadSeats task
+    seats_of task (inl plain) = absurd plain
+    seats_of task (inr (inl many)) = one_is_none (sym (ap is_many many.0))
+    seats_of task (inr (inr bad)) = bad.1
 
 -- and a text is refused by a job that they ask for
 pub asked_one : (words : List (List ℕ)) (held : Held) (failed : Bool) (fault : Fault) → HasCause words held failed fault → status_of fault ≡ 1 → AsksForRefusedText words held
@@ -153,3 +163,25 @@ asked_one words held failed (NoRoom name) has one = ((NoRoom name), one, has)
 -- what is so of files that are kept, and of the cause of the others, may be said otherwise
 pub kept_weaker : (fault : Fault) (S R K L : Type 0) → (S → R) → (K → L) → KeptUnless fault S K → KeptUnless fault R L
 kept_weaker fault S R K L more kept is = unwritten_more fault (K ⊎ S) K (L ⊎ R) L (λ either. ⊎_elim (λ same. inl (kept same)) (λ stored. inr (more stored)) either) kept is
+
+-- ---- the answer to words that ask for no job
+
+pub help_asked : (words : List (List ℕ)) (fault : WordsFault) → IsFaultOf words fault → GivesHelp fault → IsRequest (faults_of words)
+help_asked words (Help text) is helps = is
+help_asked words (Refused text) is helps = absurd helps
+help_asked words no.NoMemory is helps = absurd helps
+
+pub help_caused : (words : List (List ℕ)) (held : Held) (failed : Bool) (fault : WordsFault) (told : Fault) → IsFaultOf words fault → IsOfHelp fault failed told → HasCause words held failed told
+help_caused words held failed (Help text) told is of = subst (HasCause words held failed) (sym of.0) (inl of.1)
+help_caused words held failed (Refused text) told is of = subst (HasCause words held failed) (sym of) is
+help_caused words held failed no.NoMemory told is of = subst (HasCause words held failed) (sym of) tt
+
+pub help_kept : (fault : WordsFault) (failed : Bool) (told : Fault) (S K : Type 0) → IsOfHelp fault failed told → K → KeptUnless told S K
+help_kept (Help text) failed told S K of kept = subst (λ f. KeptUnless f S K) (sym of.0) (inl kept)
+help_kept (Refused text) failed told S K of kept = subst (λ f. KeptUnless f S K) (sym of) kept
+help_kept no.NoMemory failed told S K of kept = subst (λ f. KeptUnless f S K) (sym of) kept
+
+pub help_not_one : (fault : WordsFault) (failed : Bool) (told : Fault) (P : Type 0) → IsOfHelp fault failed told → status_of told ≡ 1 → P
+help_not_one (Help text) failed told P of one = absurd (omega (arith, ap status_of of.0, one))
+help_not_one (Refused text) failed told P of one = absurd (omega (arith, ap status_of of, one))
+help_not_one no.NoMemory failed told P of one = absurd (omega (arith, ap status_of of, one))

@@ -6,14 +6,14 @@ use Rattle.std.specs.declared.string.String.{String}
 use Rattle.ctt_text.specs.Problem.{Problem}
 use Rattle.ctt_text.specs.declared.placed.Placed.{Placed}
 use Rattle.ctt_core.specs.declared.journal.JournalEntry.{JournalEntry}
-use Rattle.ctt_tool.specs.Desks.{PrintsLast, TellsLast}
 use Rattle.ctt_files.specs.Faults.{IfUnwritten}
-use Rattle.ctt_tool.specs.Refusals.{IsLeftFault, IsNoMinutes, IsOfAudited, IsOfMinutes, IsOfWork, IsUnread, IsUnreadAt}
 use Rattle.ctt_files.specs.Texts.{Held, Holds, IsStart}
-use Rattle.ctt_tool.specs.Texts.{IsJournalText}
 use Rattle.ctt_files.specs.declared.fault.Fault.{Fault}
 use Rattle.ctt_files.specs.declared.fault.Fault.TheVariants.{NoMemory}
 use Rattle.ctt_files.proofs.Plain.{IsPlain, plain_written}
+use Rattle.ctt_tool.specs.Desks.{PrintsLast, TellsLast}
+use Rattle.ctt_tool.specs.Refusals.{IsLeftFault, IsNoMinutes, IsOfAudited, IsOfMinutes, IsOfWork, IsUnread, IsUnreadAt}
+use Rattle.ctt_tool.specs.Texts.{IsJournalText}
 
 -- where the last lines are told, they are printed, or nothing is
 pub last_printed : (instance : String Global) (barred : Option (String Global)) (seats : List (String Global)) (start : Option (String Global)) (held : Held) (old new said_old said_new : Option (List ℕ))

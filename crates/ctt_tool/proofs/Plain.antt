@@ -7,12 +7,11 @@ use Rattle.ctt_edits.specs.declared.fault.EditFault.{EditFault}
 use Rattle.ctt_script.specs.declared.journal_fault.JournalFault.{JournalFault}
 use Rattle.ctt_script.specs.declared.journal_fault.JournalFault.TheVariants as journal
 use Rattle.ctt_files.specs.Faults.{IfUnwritten}
-use Rattle.ctt_tool.specs.Faults.{IsOpeningFault, fault_of_journal}
-use Rattle.ctt_tool.specs.Refusals.{IsOfAudited, IsOfJournal, IsOfMinutes, IsOfOpening, IsOfScript, IsOfScripts, IsOfSeats, IsOfWork, IsUnread}
 use Rattle.ctt_files.specs.Texts.{Held}
 use Rattle.ctt_files.specs.declared.fault.Fault.{Fault}
-use Rattle.ctt_files.specs.declared.fault.Fault.TheVariants.{NoMemory}
 use Rattle.ctt_files.proofs.Plain.{IsPlain, file_text_plain, files_plain, plain_written, start_plain}
+use Rattle.ctt_tool.specs.Faults.{IsOpeningFault, fault_of_journal}
+use Rattle.ctt_tool.specs.Refusals.{IsOfAudited, IsOfJournal, IsOfMinutes, IsOfOpening, IsOfScript, IsOfScripts, IsOfSeats, IsOfWork, IsUnread}
 
 journal_plain : (met : JournalFault) → IsPlain (fault_of_journal met)
 journal_plain (journal.NotText byte) = tt

@@ -12,13 +12,13 @@ use Rattle.ctt_core.specs.declared.auditing.Verdict.{Verdict}
 use Rattle.ctt_core.specs.declared.auditing.Verdict.TheVariants as found
 use Rattle.ctt_core.specs.declared.journal.JournalEntry.{JournalEntry}
 use Rattle.ctt_script.specs.WrittenText.{line}
-use Rattle.ctt_tool.specs.Faults.{IsOpeningFault}
 use Rattle.ctt_files.specs.Texts.{Held, Holds, IsInstanceIn, IsStart}
-use Rattle.ctt_tool.specs.Texts.{IsJournalText}
 use Rattle.ctt_files.specs.declared.fault.Fault.{Fault}
 use Rattle.ctt_files.specs.declared.fault.Fault.TheVariants.{NoMemory}
 use Rattle.ctt_files.specs.declared.outcome.Outcome.{Outcome}
 use Rattle.ctt_files.specs.declared.outcome.Outcome.TheVariants.{Done, Differs}
+use Rattle.ctt_tool.specs.Faults.{IsOpeningFault}
+use Rattle.ctt_tool.specs.Texts.{IsJournalText}
 
 -- the verdict is printed, and the program ends as it says
 abbrev pub PrintsVerdict : Verdict → Outcome → Option (List ℕ) → Option (List ℕ) → Type 0

@@ -7,8 +7,8 @@ use Rattle.ctt_text.specs.Problem.{Problem}
 use Rattle.ctt_text.specs.declared.placed.Placed.{Placed}
 use Rattle.ctt_edits.specs.Openings.{opening}
 use Rattle.ctt_crew.specs.CrewText.{IsCrewText}
-use Rattle.ctt_tool.specs.Seats.{has_standard}
 use Rattle.ctt_files.specs.Texts.{Held, IsInstanceIn, IsStart}
+use Rattle.ctt_tool.specs.Seats.{has_standard}
 
 -- the start is placed, lecture by lecture, and makes this timetable
 pub record IsOpenOn (problem : Problem) (start : Option (String Global)) (held : Held) (t0 : List Placed) : Type 0 where

@@ -12,11 +12,11 @@ use Rattle.ctt_core.specs.declared.auditing.Verdict.TheVariants.{Agrees}
 use Rattle.ctt_core.specs.declared.journal.JournalEntry.{JournalEntry}
 use Rattle.ctt_script.specs.WrittenText.{journal_text}
 use Rattle.ctt_office.specs.Recovery.{IsRecovered}
-use Rattle.ctt_tool.specs.Audits.{PrintsVerdict}
 use Rattle.ctt_files.specs.Texts.{Held, Holds, IsInstanceIn, IsStart}
-use Rattle.ctt_tool.specs.Texts.{IsJournalText}
 use Rattle.ctt_files.specs.declared.outcome.Outcome.{Outcome}
 use Rattle.ctt_files.specs.declared.outcome.Outcome.TheVariants.{Done}
+use Rattle.ctt_tool.specs.Audits.{PrintsVerdict}
+use Rattle.ctt_tool.specs.Texts.{IsJournalText}
 
 -- the bytes are the journal of the whole entries at the beginning of minutes
 pub record IsRecoveredJournal (problem : Problem) (text : List ℕ) (torn : Bool) (bytes : List ℕ) : Type 0 where

@@ -11,12 +11,12 @@ use Rattle.ctt_core.specs.declared.journal.JournalEntry.{JournalEntry}
 use Rattle.ctt_script.specs.JournalText.{IsJournalCauseOf}
 use Rattle.ctt_office.specs.Recovery.{IsMinutesFault}
 use Rattle.ctt_files.specs.Refusals.{IsNoText, IsOfFiles, IsOfInstanceOr, IsOfStart, IsOfText, IsTooLong}
-use Rattle.ctt_tool.specs.Faults.{IsOpeningFault, fault_of_journal}
-use Rattle.ctt_tool.specs.Seats.{AreBadSeats}
 use Rattle.ctt_files.specs.Texts.{Held, Holds, IsStart}
-use Rattle.ctt_tool.specs.Texts.{IsJournalText, IsNoJournal, IsUnlawfulStart}
 use Rattle.ctt_files.specs.declared.fault.Fault.{Fault}
 use Rattle.ctt_files.specs.declared.fault.Fault.TheVariants.{BadSeats, CannotRead, MinutesExist, NoMemory, NoPlace, NoThread, TooLong, TooManyScripts}
+use Rattle.ctt_tool.specs.Faults.{IsOpeningFault, fault_of_journal}
+use Rattle.ctt_tool.specs.Seats.{AreBadSeats}
+use Rattle.ctt_tool.specs.Texts.{IsJournalText, IsNoJournal, IsUnlawfulStart}
 
 -- in a journal's text, and in a journal's file
 abbrev pub IsNoJournalOf : Problem → List ℕ → Fault → Type 0

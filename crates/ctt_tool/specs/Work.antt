@@ -1,41 +1,55 @@
 -- What the program has done where it ends well, and what was the cause where it did not.
-use Rattle.std.specs.Prelude.{◌≡◌, ◌⊎◌, ◌<◌, ℕ, Bool, true, List, [], Option, length}
-use Rattle.ctt_words.specs.Jobs.{IsFaultOf, IsJobOf, IsRequest, faults_of}
-use Rattle.ctt_words.specs.declared.job.WordsFault.TheVariants.{Refused}
+use Rattle.std.specs.Prelude.{◌≡◌, ◌⊎◌, ◌<◌, ℕ, Bool, true, List, [], Option, length, map}
+use Rattle.std.specs.Borrow.{Bor}
+use Rattle.std.specs.Global.{Global}
+use Rattle.std.specs.declared.string.String.{String}
+use Rattle.ctt_words.specs.Jobs.{AreRefused, IsFaultOf, IsJobOf, IsRequest, faults_of}
+use Rattle.ctt_words.specs.declared.job.WordsFault.{WordsFault}
+use Rattle.ctt_words.specs.declared.job.WordsFault.TheVariants as no
+use Rattle.ctt_words.specs.declared.job.WordsFault.TheVariants.{Help, Refused}
 use Rattle.ctt_words.specs.declared.job.Job.{Job}
-use Rattle.ctt_words.specs.declared.job.Job.TheVariants.{Audit, Crew, Desk, Journal, Listing, Run, Show}
-use Rattle.ctt_tool.specs.Audits.{AuditsJournal}
+use Rattle.ctt_words.specs.declared.job.Task.{Task}
+use Rattle.ctt_words.specs.declared.job.Task.TheVariants.{Audit, Crew, Desk, Journal, Listing, Run, Show}
 use Rattle.ctt_reports.specs.Showings.{IsOfShowing, ShowsSolution}
-use Rattle.ctt_tool.specs.Crews.{PrintsCrew}
-use Rattle.ctt_tool.specs.Desks.{PrintsLast}
 use Rattle.ctt_files.specs.Faults.{status_of}
-use Rattle.ctt_tool.specs.Jobs.{HasBadSeats, Saying, Storing, scripts_of}
-use Rattle.ctt_tool.specs.Lists.{ListsJournal, PrintsJournal}
-use Rattle.ctt_tool.specs.Refusals.{IsOfAudit, IsOfCrew, IsOfDesk, IsOfRecovery, IsOfRun}
-use Rattle.ctt_tool.specs.Runs.{RunsScript}
 use Rattle.ctt_files.specs.Outcomes.{outcome_status}
 use Rattle.ctt_files.specs.Texts.{Held}
 use Rattle.ctt_files.specs.declared.fault.Fault.{Fault}
 use Rattle.ctt_files.specs.declared.fault.Fault.TheVariants.{CannotWrite, NoMemory, Words, WordsNotText}
 use Rattle.ctt_files.specs.declared.outcome.Outcome.{Outcome}
 use Rattle.ctt_files.specs.declared.outcome.Outcome.TheVariants.{Done}
+use Rattle.ctt_tool.specs.Audits.{AuditsJournal}
+use Rattle.ctt_tool.specs.Crews.{PrintsCrew}
+use Rattle.ctt_tool.specs.Desks.{PrintsLast}
+use Rattle.ctt_tool.specs.Jobs.{HasBadSeats, Saying, Storing, scripts_of}
+use Rattle.ctt_tool.specs.Lists.{ListsJournal, PrintsJournal}
+use Rattle.ctt_tool.specs.Refusals.{IsOfAudit, IsOfCrew, IsOfDesk, IsOfRecovery, IsOfRun}
+use Rattle.ctt_tool.specs.Runs.{RunsScript}
 
--- the job is done over these files, where they tell their bytes; its answer is printed, and the program ends as it says
-abbrev pub DoesJob : Job → Outcome → Held → Held → Option (List ℕ) → Option (List ℕ) → Type 0
-DoesJob (Show instance barred solution showing) outcome before after old new = (after ≡ before)
+-- the task is done with this instance over these files, where they tell their bytes; its answer is printed, and the program ends as it says
+abbrev pub DoesTask : String Global → Option (String Global) → Task → Outcome → Held → Held → Option (List ℕ) → Option (List ℕ) → Type 0
+DoesTask instance barred (Show solution showing) outcome before after old new = (after ≡ before)
     × ShowsSolution showing instance barred solution outcome before old new
-DoesJob (Run instance barred script start journal) outcome before after old new = (outcome ≡ Done)
+DoesTask instance barred (Run script start journal) outcome before after old new = (outcome ≡ Done)
     × RunsScript instance barred script start journal before after old new
-DoesJob (Audit instance barred journal start) outcome before after old new = (after ≡ before)
+DoesTask instance barred (Audit journal start) outcome before after old new = (after ≡ before)
     × AuditsJournal instance barred journal start outcome before old new
-DoesJob (Crew instance barred scripts) outcome before after old new = (outcome ≡ Done)
+DoesTask instance barred (Crew scripts) outcome before after old new = (outcome ≡ Done)
     × (after ≡ before) × PrintsCrew instance barred (length scripts.items) before old new
-DoesJob (Desk instance barred seats start minutes) outcome before after old new = (outcome ≡ Done)
+DoesTask instance barred (Desk seats start minutes) outcome before after old new = (outcome ≡ Done)
     × (after ≡ before) × PrintsLast instance barred seats.items start before old new
-DoesJob (Journal instance barred minutes) outcome before after old new = (outcome ≡ Done)
+DoesTask instance barred (Journal minutes) outcome before after old new = (outcome ≡ Done)
     × (after ≡ before) × PrintsJournal instance barred minutes before old new
-DoesJob (Listing instance barred journal start) outcome before after old new = (after ≡ before)
+DoesTask instance barred (Listing journal start) outcome before after old new = (after ≡ before)
     × ListsJournal instance barred journal start outcome before old new
+
+-- and so is the job
+abbrev pub DoesJob : Job → Outcome → Held → Held → Option (List ℕ) → Option (List ℕ) → Type 0
+DoesJob job outcome before after old new = DoesTask job.instance job.barred job.task outcome before after old new
+
+-- the texts of words that are lent
+abbrev pub texts : List (Bor (List ℕ)) → List (List ℕ)
+texts words = map (λ word. word.now) words
 
 -- the words ask for help or the version, or `clap` finds no fault in them and they ask for a job that is done
 abbrev pub DoesAsAsked : List (List ℕ) → Outcome → Held → Held → Option (List ℕ) → Option (List ℕ) → Type 0
@@ -46,15 +60,19 @@ DoesAsAsked words outcome before after old new = (IsRequest (faults_of words) ×
 abbrev pub EndsAsDone : List (List ℕ) → ℕ → Held → Held → Option (List ℕ) → Option (List ℕ) → Type 0
 EndsAsDone words status before after old new = (outcome : Outcome) × (outcome_status outcome ≡ status) × DoesAsAsked words outcome before after old new
 
--- a fault that the job may meet, over these files, where they tell their bytes; an output that cannot be written aside
+-- a fault that the task may meet, over these files, where they tell their bytes; an output that cannot be written aside
+abbrev pub IsOfTask : String Global → Option (String Global) → Task → Held → Fault → Type 0
+IsOfTask instance barred (Show solution showing) held fault = IsOfShowing showing held instance barred solution fault
+IsOfTask instance barred (Run script start journal) held fault = IsOfRun held instance barred script start fault
+IsOfTask instance barred (Audit journal start) held fault = IsOfAudit held instance barred journal start fault
+IsOfTask instance barred (Crew scripts) held fault = IsOfCrew held instance barred scripts.items fault
+IsOfTask instance barred (Desk seats start minutes) held fault = IsOfDesk held instance barred seats.items start minutes fault
+IsOfTask instance barred (Journal minutes) held fault = IsOfRecovery held instance barred minutes fault
+IsOfTask instance barred (Listing journal start) held fault = IsOfAudit held instance barred journal start fault
+
+-- and so may the job
 abbrev pub IsOfJob : Job → Held → Fault → Type 0
-IsOfJob (Show instance barred solution showing) held fault = IsOfShowing showing held instance barred solution fault
-IsOfJob (Run instance barred script start journal) held fault = IsOfRun held instance barred script start fault
-IsOfJob (Audit instance barred journal start) held fault = IsOfAudit held instance barred journal start fault
-IsOfJob (Crew instance barred scripts) held fault = IsOfCrew held instance barred scripts.items fault
-IsOfJob (Desk instance barred seats start minutes) held fault = IsOfDesk held instance barred seats.items start minutes fault
-IsOfJob (Journal instance barred minutes) held fault = IsOfRecovery held instance barred minutes fault
-IsOfJob (Listing instance barred journal start) held fault = IsOfAudit held instance barred journal start fault
+IsOfJob job held fault = IsOfTask job.instance job.barred job.task held fault
 
 -- the words ask for a job that meets this fault
 abbrev pub AsksFor : List (List ℕ) → Held → Fault → Type 0
@@ -66,19 +84,34 @@ AsksForRefusedText words held = (fault : Fault) × (status_of fault ≡ 1) × As
 
 -- the words ask for a job that stores a file
 abbrev pub AsksToStore : List (List ℕ) → Type 0
-AsksToStore words = (job : Job) × IsJobOf words job × Storing job
+AsksToStore words = (job : Job) × IsJobOf words job × Storing job.task
 
 -- the words ask for a crew of more than 64 scripts
 abbrev pub AsksForTooMany : List (List ℕ) → Type 0
-AsksForTooMany words = (job : Job) × IsJobOf words job × (64 < length (scripts_of job))
+AsksForTooMany words = (job : Job) × IsJobOf words job × (64 < length (scripts_of job.task))
 
 -- the words ask for a desk whose seats are refused
 abbrev pub AsksForBadSeats : List (List ℕ) → Type 0
-AsksForBadSeats words = (job : Job) × IsJobOf words job × HasBadSeats job
+AsksForBadSeats words = (job : Job) × IsJobOf words job × HasBadSeats job.task
+
+-- so the words are refused: by `clap`, or by how many weeks, scripts or seats they ask for
+abbrev pub AreTurnedDown : List (List ℕ) → Type 0
+AreTurnedDown words = AreRefused words ⊎ (AsksForTooMany words ⊎ AsksForBadSeats words)
 
 -- the words ask for a job that may say something where it is done
 abbrev pub AsksToSay : List (List ℕ) → Type 0
-AsksToSay words = (job : Job) × IsJobOf words job × Saying job
+AsksToSay words = (job : Job) × IsJobOf words job × Saying job.task
+
+-- help is given, or the version
+abbrev pub GivesHelp : WordsFault → Type 0
+GivesHelp (Help text) = Unit {0}
+GivesHelp _ = ⊥
+
+-- what is told where it is not: the words are refused, there was no memory for that, or standard output failed
+abbrev pub IsOfHelp : WordsFault → Bool → Fault → Type 0
+IsOfHelp (Help text) failed told = (told ≡ CannotWrite) × (failed ≡ true)
+IsOfHelp (Refused text) failed told = told ≡ Words text
+IsOfHelp no.NoMemory failed told = told ≡ NoMemory
 
 -- the cause of a fault, by the words, the files, and whether standard output failed; wanted memory has none, and words that are given are text
 abbrev pub HasCause : List (List ℕ) → Held → Bool → Fault → Type 0

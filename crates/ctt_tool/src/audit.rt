@@ -7,8 +7,8 @@ ghost use Rattle.ctt_text.specs.Timetable.{Fits};
 ghost use Rattle.ctt_text.specs.Words.{words};
 ghost use Rattle.ctt_core.specs.declared.journal.JournalEntry.{JournalEntry};
 ghost use Rattle.ctt_script.specs.AuditedText.{AuditsText};
-ghost use Rattle.ctt_tool.specs.Audits.{AuditsJournal, AuditsOn, FindsIn, IsVerdictFault, PrintsVerdict, VerdictFits};
 ghost use Rattle.ctt_files.specs.Faults.{IfUnwritten};
+ghost use Rattle.ctt_tool.specs.Audits.{AuditsJournal, AuditsOn, FindsIn, IsVerdictFault, PrintsVerdict, VerdictFits};
 ghost use Rattle.ctt_tool.specs.Refusals.{IsNoJournalOf, IsOfAudit, IsOfAudited};
 ghost use Rattle.ctt_tool.specs.Texts.{IsJournalText};
 

@@ -2,16 +2,18 @@
 
 ghost use Rattle.std.specs.Prelude.{◌≡◌, ◌≤◌, ◌<◌, [], Err, length, true, OnOk, IfOk, IfErr};
 ghost use Rattle.ctt_crew.specs.CrewText.{IsCrewText};
-ghost use Rattle.ctt_tool.specs.Crews.{IsOfCrewOn, PrintsCrew};
-ghost use Rattle.ctt_tool.specs.Faults.{fault_of_crew};
 ghost use Rattle.ctt_files.specs.Faults.{IfUnwritten};
 ghost use Rattle.ctt_files.specs.Refusals.{IsOfInstanceOr};
-ghost use Rattle.ctt_tool.specs.Refusals.{IsOfCrew, IsOfScripts, IsOfWork};
 ghost use Rattle.ctt_files.specs.declared.fault.Fault.TheVariants.{TooManyScripts};
+ghost use Rattle.ctt_files.specs.declared.outcome.Outcome.TheVariants.{Done};
+ghost use Rattle.ctt_tool.specs.Crews.{IsOfCrewOn, PrintsCrew};
+ghost use Rattle.ctt_tool.specs.Faults.{fault_of_crew};
+ghost use Rattle.ctt_tool.specs.Refusals.{IsOfCrew, IsOfScripts, IsOfWork};
 
+use crate::printed::print_all;
 use ctt_crew::{CrewFault, NoGate};
 use ctt_devices::Sink;
-use ctt_files::{Fault, Files, fetch_instance, print, read_files};
+use ctt_files::{Fault, Files, Outcome, fetch_instance, read_files};
 use ctt_script::PLANNERS;
 use ctt_text::{Instance, let_go};
 use std::alloc::Global;
@@ -107,11 +109,12 @@ pub fn crew<R: Threads + Wait + Sync, F: Files, W: Sink>(
     instance: String,
     barred: Option<String>,
     scripts: Vec<String>,
-) -> Result<(), Fault>
+) -> Result<Outcome, Fault>
     requires { 1 ≤ length scripts.items }
     ensures prints { OnOk result
         (PrintsCrew instance barred (length scripts.items) (F.held files.old)
         (W.taken out.old) (W.taken out.new)) }
+    ensures done { IfOk result (λ outcome. outcome ≡ Done) }
     ensures many { 64 < length scripts.items → result ≡ Err TooManyScripts }
     ensures kept { F.held files.new ≡ F.held files.old }
     ensures unmarked { OnOk result (W.has_failed out.new ≡ W.has_failed out.old) }
@@ -123,5 +126,5 @@ pub fn crew<R: Threads + Wait + Sync, F: Files, W: Sink>(
         return Err(Fault::TooManyScripts);
     }
     let report = report(rt, alloc, files, instance, barred, scripts)?;
-    print(out, &report)
+    print_all(out, &report)
 }

@@ -3,19 +3,21 @@
 ghost use Rattle.std.specs.Prelude.{◌≡◌, ◌⊎◌, ◌≤◌, ◌<◌, ◌++◌, Err, true, length, codes, OnOk, OnErr, IfOk, IfErr};
 ghost use Rattle.std.specs.String.{string_bytes};
 ghost use Rattle.ctt_office.specs.OfficeFaults.{IsOfficeFault};
-ghost use Rattle.ctt_tool.specs.Desks.{IsOfDeskFrom, IsOfDeskOn, IsOpenOn, TellsLast};
 ghost use Rattle.ctt_files.specs.Faults.{IfUnwritten, MayHaveWritten};
 ghost use Rattle.ctt_files.specs.Refusals.{IsOfInstanceOr};
+ghost use Rattle.ctt_files.specs.declared.fault.Fault.TheVariants.{BadSeats, CannotWrite, NoMemory};
+ghost use Rattle.ctt_files.specs.declared.outcome.Outcome.TheVariants.{Done};
+ghost use Rattle.ctt_tool.specs.Desks.{IsOfDeskFrom, IsOfDeskOn, IsOpenOn, TellsLast};
 ghost use Rattle.ctt_tool.specs.Refusals.{IsOfDesk, IsOfOldMinutes, IsOfOpening, IsOfSeats, IsOfWork, IsUnread, IsUnreadAt};
 ghost use Rattle.ctt_tool.specs.Seats.{has_seat, has_twice};
-ghost use Rattle.ctt_files.specs.declared.fault.Fault.TheVariants.{BadSeats, CannotWrite, NoMemory};
 
 use crate::office::{Office, STANDARD};
+use crate::printed::print_all;
 use crate::refused::refused_opening;
 use ctt_board::{GridSheet, Sheet};
 use ctt_desk::{Opened, SharedFault};
 use ctt_devices::Sink;
-use ctt_files::{Fault, Files, fetch_instance, fetch_start, print};
+use ctt_files::{Fault, Files, Outcome, fetch_instance, fetch_start};
 use ctt_office::{OfficeFault, keep_desk};
 use ctt_text::{Instance, let_go};
 use std::alloc::{AllocError, Global};
@@ -206,10 +208,11 @@ pub fn desk<R: Threads + Wait + Sync, F: Files, O: Office, W: Sink, V: Sink>(
     seats: Vec<String>,
     start: Option<String>,
     minutes: Option<String>,
-) -> Result<(), Fault>
+) -> Result<Outcome, Fault>
     requires { 1 ≤ length seats.items }
     ensures tells { OnOk result (TellsLast instance barred seats.items start (F.held files.old)
         (W.taken out.old) (W.taken out.new) (V.taken err.old) (V.taken err.new)) }
+    ensures done { IfOk result (λ outcome. outcome ≡ Done) }
     ensures many { 64 < length seats.items → result ≡ Err BadSeats }
     ensures twice { has_twice seats.items ≡ true → result ≡ Err BadSeats }
     ensures unmarked { OnOk result (W.has_failed out.new ≡ W.has_failed out.old) }
@@ -229,8 +232,8 @@ pub fn desk<R: Threads + Wait + Sync, F: Files, O: Office, W: Sink, V: Sink>(
         rt, alloc, files, office, instance, barred, &seats, start, minutes,
     )?;
     if has_seat(&seats, STANDARD) {
-        print(err, &report)
+        print_all(err, &report)
     } else {
-        print(out, &report)
+        print_all(out, &report)
     }
 }

@@ -2,13 +2,14 @@
 
 ghost use Rattle.std.specs.Prelude.{◌≡◌, ◌⊎◌, true, is_some, OnOk, OnErr, IfOk, IfErr};
 ghost use Rattle.ctt_files.specs.Faults.{IfUnwritten};
+ghost use Rattle.ctt_files.specs.declared.fault.Fault.TheVariants.{NoMemory};
+ghost use Rattle.ctt_files.specs.declared.outcome.Outcome.TheVariants.{Done};
 ghost use Rattle.ctt_tool.specs.Lists.{IsRecoveredJournal, PrintsEntries, PrintsJournal};
 ghost use Rattle.ctt_tool.specs.Refusals.{IsNoMinutes, IsOfMinutes, IsOfRecovery};
-ghost use Rattle.ctt_files.specs.declared.fault.Fault.TheVariants.{NoMemory};
 
 use crate::refused::refused_journal;
 use ctt_devices::Sink;
-use ctt_files::{Fault, Files, complain, fetch_instance, print, read_file};
+use ctt_files::{Fault, Files, Outcome, complain, fetch_instance, print, read_file};
 use ctt_office::read_blocks;
 use ctt_script::write_journal;
 use ctt_text::{Instance, let_go};
@@ -54,9 +55,10 @@ fn print_journal<F: Files, W: Sink, V: Sink>(
     err: &mut V,
     instance: &Instance,
     minutes: String,
-) -> Result<(), Fault>
+) -> Result<Outcome, Fault>
     ensures prints { OnOk result (PrintsEntries instance.now minutes (F.held files.old)
         (W.taken out.old) (W.taken out.new)) }
+    ensures done { IfOk result (λ outcome. outcome ≡ Done) }
     ensures unmarked { OnOk result (W.has_failed out.new ≡ W.has_failed out.old) }
     ensures kept { F.held files.new ≡ F.held files.old }
     ensures cause { IfErr result (λ fault. IfUnwritten fault
@@ -69,7 +71,7 @@ fn print_journal<F: Files, W: Sink, V: Sink>(
     let line = torn_line(alloc, torn)?;
     print(out, &journal)?;
     complain(err, line.as_bytes());
-    Ok(())
+    Ok(Outcome::Done)
 }
 
 /// Prints the journal of minutes of an instance, each given by the name of its file. A last entry that is torn is left
@@ -82,9 +84,10 @@ pub fn journal<F: Files, W: Sink, V: Sink>(
     instance: String,
     barred: Option<String>,
     minutes: String,
-) -> Result<(), Fault>
+) -> Result<Outcome, Fault>
     ensures prints { OnOk result (PrintsJournal instance barred minutes (F.held files.old)
         (W.taken out.old) (W.taken out.new)) }
+    ensures done { IfOk result (λ outcome. outcome ≡ Done) }
     ensures unmarked { OnOk result (W.has_failed out.new ≡ W.has_failed out.old) }
     ensures kept { F.held files.new ≡ F.held files.old }
     ensures cause { IfErr result (λ fault. IfUnwritten fault

@@ -7,15 +7,16 @@ mod desk;
 mod journal;
 mod list;
 mod office;
+mod printed;
 mod program;
 mod refused;
 mod run;
 
 ghost use Rattle.std.specs.Prelude.{◌≡◌, ◌≢◌, ◌≤◌, ◌⊎◌, ℕ, List, true, false, IfErr};
-ghost use Rattle.ctt_tool.specs.Faults.{SaysFault};
-ghost use Rattle.ctt_tool.specs.Work.{AsksForRefusedText, AsksToSay, DoesAsAsked, EndsAsDone, IsOfWords};
 ghost use Rattle.ctt_files.specs.declared.fault.Fault.TheVariants.{NoMemory, WordsNotText};
 ghost use Rattle.ctt_files.specs.declared.outcome.Outcome.TheVariants.{Differs, Done, Incomplete, Unlawful};
+ghost use Rattle.ctt_tool.specs.Faults.{SaysFault};
+ghost use Rattle.ctt_tool.specs.Work.{AsksForRefusedText, AsksToSay, DoesAsAsked, EndsAsDone, IsOfWords};
 
 use ctt_devices::{Device, Sink};
 use ctt_files::{Fault, Files, SystemFiles};

@@ -1,13 +1,13 @@
 //! What the program does.
 
-ghost use Rattle.std.specs.Prelude.{◌≡◌, ◌≢◌, ◌≤◌, ◌⊎◌, [], true, false, map, OnOk, OnErr, IfOk, IfErr};
-ghost use Rattle.ctt_words.specs.Jobs.{AreRefused, HasScripts, faults_of};
+ghost use Rattle.std.specs.Prelude.{◌≡◌, ◌≢◌, ◌≤◌, ◌⊎◌, [], true, false, OnOk, OnErr, IfOk, IfErr};
+ghost use Rattle.ctt_words.specs.Jobs.{HasScripts, faults_of};
 ghost use Rattle.ctt_files.specs.Faults.{IfUnwritten, MayHaveWritten, status_of};
-ghost use Rattle.ctt_tool.specs.Faults.{KeptUnless, SaysFault};
-ghost use Rattle.ctt_tool.specs.Jobs.{Saying, Storing};
-ghost use Rattle.ctt_tool.specs.Work.{AsksForBadSeats, AsksForRefusedText, AsksForTooMany, AsksToSay, AsksToStore, DoesAsAsked, DoesJob, EndsAsDone, HasCause, IsOfJob};
 ghost use Rattle.ctt_files.specs.declared.fault.Fault.TheVariants.{NoMemory};
 ghost use Rattle.ctt_files.specs.declared.outcome.Outcome.TheVariants.{Differs, Done, Incomplete, Unlawful};
+ghost use Rattle.ctt_tool.specs.Faults.{KeptUnless, SaysFault};
+ghost use Rattle.ctt_tool.specs.Jobs.{Saying, Storing};
+ghost use Rattle.ctt_tool.specs.Work.{AreTurnedDown, AsksForRefusedText, AsksToSay, AsksToStore, DoesAsAsked, DoesJob, EndsAsDone, GivesHelp, HasCause, IsOfHelp, IsOfJob, texts};
 
 use crate::audit::audit;
 use crate::crew::crew;
@@ -15,11 +15,12 @@ use crate::desk::desk;
 use crate::journal::journal;
 use crate::list::list;
 use crate::office::Office;
+use crate::printed::print_all;
 use crate::run::run;
 use ctt_devices::Sink;
-use ctt_files::{Fault, Files, NO_MEMORY, Outcome, complain, print};
+use ctt_files::{Fault, Files, NO_MEMORY, Outcome, complain};
 use ctt_reports::show;
-use ctt_words::{Job, WordsFault, read_words};
+use ctt_words::{Job, Task, WordsFault, read_words};
 use std::alloc::Global;
 use std::marker::Sync;
 use std::sync::Wait;
@@ -35,78 +36,67 @@ fn do_job<R: Threads + Wait + Sync, F: Files, O: Office, W: Sink, V: Sink>(
     out: &mut W,
     err: &mut V,
 ) -> Result<Outcome, Fault>
-    requires { HasScripts job }
+    requires { HasScripts job.task }
     ensures done { IfOk result (λ outcome. DoesJob job outcome (F.held files.old) (F.held files.new)
         (W.taken out.old) (W.taken out.new)) }
     ensures unmarked { OnOk result (W.has_failed out.new ≡ W.has_failed out.old) }
     ensures cause { IfErr result (λ fault. IfUnwritten fault
-        ((W.has_failed out.new ≡ true) ⊎ Storing job)
+        ((W.has_failed out.new ≡ true) ⊎ Storing job.task)
         (IsOfJob job (F.held files.old) fault × (W.has_failed out.new ≡ W.has_failed out.old))) }
     ensures unwritten { IfErr result (λ fault. MayHaveWritten fault ⊎ (out.new ≡ out.old)) }
     ensures unstored { IfErr result (λ fault. KeptUnless fault
-        ((W.has_failed out.new ≡ W.has_failed out.old) × Storing job)
+        ((W.has_failed out.new ≡ W.has_failed out.old) × Storing job.task)
         (F.held files.new ≡ F.held files.old)) }
     ensures quiet { IfOk result (λ outcome.
-        (Saying job × (outcome ≡ Done)) ⊎ (err.new ≡ err.old)) }
+        (Saying job.task × (outcome ≡ Done)) ⊎ (err.new ≡ err.old)) }
     ensures unsaid { OnErr result ((err.new ≡ err.old) ⊎ (V.has_failed err.new ≡ true)) }
 {
-    match job {
-        Job::Show {
-            instance,
-            barred,
-            solution,
-            showing,
-        } => show(alloc, files, out, instance, barred, solution, showing),
-        Job::Run {
-            instance,
-            barred,
+    let Job {
+        instance,
+        barred,
+        task,
+    } = job;
+    match task {
+        Task::Show { solution, showing } => {
+            show(alloc, files, out, instance, barred, solution, showing)
+        }
+        Task::Run {
             script,
             start,
             journal,
-        } => {
-            run(alloc, files, out, instance, barred, script, start, journal)?;
-            Ok(Outcome::Done)
+        } => run(alloc, files, out, instance, barred, script, start, journal),
+        Task::Audit { journal, start } => {
+            audit(alloc, files, out, instance, barred, journal, start)
         }
-        Job::Audit {
-            instance,
-            barred,
-            journal,
-            start,
-        } => audit(alloc, files, out, instance, barred, journal, start),
-        Job::Crew {
-            instance,
-            barred,
-            scripts,
-        } => {
-            crew(rt, alloc, files, out, instance, barred, scripts)?;
-            Ok(Outcome::Done)
-        }
-        Job::Desk {
-            instance,
-            barred,
+        Task::Crew { scripts } => crew(rt, alloc, files, out, instance, barred, scripts),
+        Task::Desk {
             seats,
             start,
             minutes,
-        } => {
-            desk(
-                rt, alloc, files, office, out, err, instance, barred, seats, start, minutes,
-            )?;
-            Ok(Outcome::Done)
+        } => desk(
+            rt, alloc, files, office, out, err, instance, barred, seats, start, minutes,
+        ),
+        Task::Journal { minutes } => journal(alloc, files, out, err, instance, barred, minutes),
+        Task::Listing { journal, start } => {
+            list(alloc, files, out, instance, barred, journal, start)
         }
-        Job::Journal {
-            instance,
-            barred,
-            minutes,
-        } => {
-            journal(alloc, files, out, err, instance, barred, minutes)?;
-            Ok(Outcome::Done)
-        }
-        Job::Listing {
-            instance,
-            barred,
-            journal,
-            start,
-        } => list(alloc, files, out, instance, barred, journal, start),
+    }
+}
+
+/// Gives the help that words ask for, or says why they are refused.
+fn answer_words<W: Sink>(out: &mut W, fault: WordsFault) -> Result<Outcome, Fault>
+    ensures done { IfOk result (λ outcome. outcome ≡ Done) }
+    ensures helps { OnOk result (GivesHelp fault) }
+    ensures unmarked { OnOk result (W.has_failed out.new ≡ W.has_failed out.old) }
+    ensures marked { IfErr result (λ told. (status_of told ≡ 3)
+        ⊎ (W.has_failed out.new ≡ W.has_failed out.old)) }
+    ensures cause { IfErr result (IsOfHelp fault (W.has_failed out.new)) }
+    ensures unwritten { IfErr result (λ told. MayHaveWritten told ⊎ (out.new ≡ out.old)) }
+{
+    match fault {
+        WordsFault::Help(text) => print_all(out, text.as_bytes()),
+        WordsFault::Refused(text) => Err(Fault::Words(text)),
+        WordsFault::NoMemory => Err(Fault::NoMemory),
     }
 }
 
@@ -120,33 +110,25 @@ fn do_as_asked<R: Threads + Wait + Sync, F: Files, O: Office, W: Sink, V: Sink>(
     out: &mut W,
     err: &mut V,
 ) -> Result<Outcome, Fault>
-    ensures done { IfOk result (λ outcome. DoesAsAsked (map (λ word. word.now) words.now) outcome
+    ensures done { IfOk result (λ outcome. DoesAsAsked (texts words.now) outcome
         (F.held files.old) (F.held files.new) (W.taken out.old) (W.taken out.new)) }
     ensures unmarked { OnOk result (W.has_failed out.new ≡ W.has_failed out.old) }
     ensures marked { IfErr result (λ fault. (status_of fault ≡ 3)
         ⊎ (W.has_failed out.new ≡ W.has_failed out.old)) }
     ensures unwritten { IfErr result (λ fault. MayHaveWritten fault ⊎ (out.new ≡ out.old)) }
     ensures unstored { IfErr result (λ fault. KeptUnless fault
-        ((W.has_failed out.new ≡ W.has_failed out.old)
-        × AsksToStore (map (λ word. word.now) words.now))
+        ((W.has_failed out.new ≡ W.has_failed out.old) × AsksToStore (texts words.now))
         (F.held files.new ≡ F.held files.old)) }
-    ensures taken { IfErr result (λ fault. status_of fault ≡ 1
-        → faults_of (map (λ word. word.now) words.now) ≡ []) }
+    ensures taken { IfErr result (λ fault. status_of fault ≡ 1 → faults_of (texts words.now) ≡ []) }
     ensures quiet { IfOk result (λ outcome.
-        (AsksToSay (map (λ word. word.now) words.now) × (outcome ≡ Done))
-        ⊎ (err.new ≡ err.old)) }
+        (AsksToSay (texts words.now) × (outcome ≡ Done)) ⊎ (err.new ≡ err.old)) }
     ensures unsaid { OnErr result ((err.new ≡ err.old) ⊎ (V.has_failed err.new ≡ true)) }
-    ensures cause { IfErr result (HasCause (map (λ word. word.now) words.now) (F.held files.old)
-        (W.has_failed out.new)) }
+    ensures cause { IfErr result
+        (HasCause (texts words.now) (F.held files.old) (W.has_failed out.new)) }
 {
     match read_words(alloc, words) {
         Ok(job) => do_job(rt, alloc, job, files, office, out, err),
-        Err(WordsFault::Help(text)) => {
-            print(out, text.as_bytes())?;
-            Ok(Outcome::Done)
-        }
-        Err(WordsFault::Refused(text)) => Err(Fault::Words(text)),
-        Err(WordsFault::NoMemory) => Err(Fault::NoMemory),
+        Err(fault) => answer_words(out, fault),
     }
 }
 
@@ -155,6 +137,7 @@ fn do_as_asked<R: Threads + Wait + Sync, F: Files, O: Office, W: Sink, V: Sink>(
 /// Where no memory is left for the line, that is said instead.
 pub fn fail_with<V: Sink>(alloc: Global, fault: &Fault, err: &mut V) -> u8
     ensures status { (result ≡ status_of fault.now) ⊎ (result ≡ 3) }
+    ensures told { (1 ≤ result) × (result ≤ 3) }
     ensures marked { V.has_failed err.old ≡ true → V.has_failed err.new ≡ true }
     ensures said { (V.has_failed err.new ≡ true)
         ⊎ SaysFault (λ told. (told ≡ fault.now) ⊎ (told ≡ NoMemory)) result
@@ -187,41 +170,31 @@ pub fn program<R: AllocGlobal + Threads + Wait + Sync, F: Files, O: Office, W: S
 ) -> u8
     requires out { W.has_failed out.old ≡ false }
     requires err { V.has_failed err.old ≡ false }
-
     ensures known { result ≤ 5 }
-    ensures done { result ≡ 0 → DoesAsAsked (map (λ word. word.now) words.now) Done
+    ensures done { result ≡ 0 → DoesAsAsked (texts words.now) Done
         (F.held files.old) (F.held files.new) (W.taken out.old) (W.taken out.new) }
     ensures unmarked { result ≡ 0 → W.has_failed out.new ≡ false }
-    ensures unsaid { result ≡ 0
-        → AsksToSay (map (λ word. word.now) words.now) ⊎ (err.new ≡ err.old) }
-
+    ensures unsaid { result ≡ 0 → AsksToSay (texts words.now) ⊎ (err.new ≡ err.old) }
     ensures one { result ≡ 1
-        → (AsksForRefusedText (map (λ word. word.now) words.now) (F.held files.old)
-        × (out.new ≡ out.old))
-        ⊎ (DoesAsAsked (map (λ word. word.now) words.now) Differs
+        → (AsksForRefusedText (texts words.now) (F.held files.old) × (out.new ≡ out.old))
+        ⊎ (DoesAsAsked (texts words.now) Differs (F.held files.old) (F.held files.new)
+        (W.taken out.old) (W.taken out.new) × (err.new ≡ err.old)) }
+    ensures four { result ≡ 4 → DoesAsAsked (texts words.now) Unlawful (F.held files.old)
+        (F.held files.new) (W.taken out.old) (W.taken out.new) × (err.new ≡ err.old) }
+    ensures five { result ≡ 5 → DoesAsAsked (texts words.now) Incomplete (F.held files.old)
+        (F.held files.new) (W.taken out.old) (W.taken out.new) × (err.new ≡ err.old) }
+    ensures taken { result ≡ 1 → faults_of (texts words.now) ≡ [] }
+    ensures refused { result ≡ 2 → AreTurnedDown (texts words.now) }
+    ensures said { result ≢ 0 → EndsAsDone (texts words.now) result
         (F.held files.old) (F.held files.new) (W.taken out.old) (W.taken out.new)
-        × (err.new ≡ err.old)) }
-    ensures four { result ≡ 4 → DoesAsAsked (map (λ word. word.now) words.now) Unlawful
-        (F.held files.old) (F.held files.new) (W.taken out.old) (W.taken out.new)
-        × (err.new ≡ err.old) }
-    ensures five { result ≡ 5 → DoesAsAsked (map (λ word. word.now) words.now) Incomplete
-        (F.held files.old) (F.held files.new) (W.taken out.old) (W.taken out.new)
-        × (err.new ≡ err.old) }
-    ensures taken { result ≡ 1 → faults_of (map (λ word. word.now) words.now) ≡ [] }
-    ensures refused { result ≡ 2 → AreRefused (map (λ word. word.now) words.now)
-        ⊎ (AsksForTooMany (map (λ word. word.now) words.now)
-        ⊎ AsksForBadSeats (map (λ word. word.now) words.now)) }
-    ensures said { result ≢ 0 → EndsAsDone (map (λ word. word.now) words.now) result
-        (F.held files.old) (F.held files.new) (W.taken out.old) (W.taken out.new)
-        ⊎ ((V.has_failed err.new ≡ true)
-        ⊎ SaysFault
-        (HasCause (map (λ word. word.now) words.now) (F.held files.old) (W.has_failed out.new))
+        ⊎ ((V.has_failed err.new ≡ true) ⊎ SaysFault
+        (HasCause (texts words.now) (F.held files.old) (W.has_failed out.new))
         result (V.taken err.old) (V.taken err.new)) }
     ensures unprinted { result ≡ 2 → out.new ≡ out.old }
     ensures unwritten { W.has_failed out.new ≡ true → result ≡ 3 }
     ensures unstored { result ≢ 0 → (F.held files.new ≡ F.held files.old)
         ⊎ ((result ≡ 3) × ((W.has_failed out.new ≡ W.has_failed out.old)
-        × AsksToStore (map (λ word. word.now) words.now))) }
+        × AsksToStore (texts words.now))) }
 {
     let alloc = rt.alloc();
     match do_as_asked(rt, alloc, words, files, office, out, err) {

@@ -9,18 +9,19 @@ ghost use Rattle.ctt_core.specs.Runs.{accepted_of};
 ghost use Rattle.ctt_script.specs.AnswerText.{answer_text, script_run};
 ghost use Rattle.ctt_script.specs.Minutes.{IsMinuted, blank, minutes_text};
 ghost use Rattle.ctt_files.specs.Faults.{IfUnwritten, MayHaveWritten};
+ghost use Rattle.ctt_files.specs.declared.fault.Fault.TheVariants.{NoMemory as OutOfMemory};
+ghost use Rattle.ctt_files.specs.declared.outcome.Outcome.TheVariants.{Done};
 ghost use Rattle.ctt_tool.specs.Faults.{IsRunFault, KeptUnless, RunFaultFits};
 ghost use Rattle.ctt_tool.specs.Jobs.{IsGiven};
 ghost use Rattle.ctt_tool.specs.Refusals.{IsAnswerFault, IsOfRun, IsOfScript};
 ghost use Rattle.ctt_tool.specs.Runs.{RunsOn, RunsScript, Stores};
-ghost use Rattle.ctt_files.specs.declared.fault.Fault.TheVariants.{NoMemory as OutOfMemory};
 
 use crate::refused::refused_opening;
 use ctt_board::{GridSheet, Sheet};
 use ctt_core::Desk;
 use ctt_devices::{Sink, Source};
 use ctt_draft::KeepNone;
-use ctt_files::{Fault, Files, fetch_instance, fetch_start};
+use ctt_files::{Fault, Files, Outcome, fetch_instance, fetch_start};
 use ctt_script::{Minutes, PLANNERS, ScriptFault, run_script};
 use ctt_text::{Instance, NoMemory, Placed, let_go};
 use std::alloc::Global;
@@ -88,13 +89,14 @@ fn minutes_for(alloc: Global, journal: &Option<String>) -> Result<Option<Minutes
     }
 }
 
-/// Stores a journal where a file is given for it.
+/// Stores a journal where a file is given for it, with which a run is done.
 fn store_journal<F: Files>(
     files: &mut F,
     journal: Option<String>,
     minutes: Option<Minutes>,
-) -> Result<(), Fault>
+) -> Result<Outcome, Fault>
     requires { is_some minutes ≡ is_some journal }
+    ensures done { IfOk result (λ outcome. outcome ≡ Done) }
     ensures stores { OnOk result (Stores journal (F.held files.old) (F.held files.new) (λ bytes.
         IfSome minutes (λ m. bytes ≡ minutes_text m))) }
     ensures fault { IfErr result (λ fault. IfUnwritten fault
@@ -102,14 +104,14 @@ fn store_journal<F: Files>(
         ((fault ≡ OutOfMemory) × (F.held files.new ≡ F.held files.old))) }
 {
     let Some(name) = journal else {
-        return Ok(());
+        return Ok(Outcome::Done);
     };
     let Some(minutes) = minutes else {
         unreachable!()
     };
     let text = minutes.into_text()?;
     match files.store(&name, &text) {
-        Ok(()) => Ok(()),
+        Ok(()) => Ok(Outcome::Done),
         Err(_) => Err(Fault::CannotWrite),
     }
 }
@@ -124,10 +126,11 @@ fn run_on<'i, S: Sheet<'i>, F: Files, W: Sink>(
     script: String,
     start: Option<String>,
     journal: Option<String>,
-) -> Result<(), Fault>
+) -> Result<Outcome, Fault>
     ensures runs { OnOk result
         (RunsOn instance.now script start journal (F.held files.old) (F.held files.new)
         (W.taken out.old) (W.taken out.new)) }
+    ensures done { IfOk result (λ outcome. outcome ≡ Done) }
     ensures unmarked { OnOk result (W.has_failed out.new ≡ W.has_failed out.old) }
     ensures cause { IfErr result (λ fault. IfUnwritten fault
         ((W.has_failed out.new ≡ true) ⊎ IsGiven journal)
@@ -166,10 +169,11 @@ pub fn run<F: Files, W: Sink>(
     script: String,
     start: Option<String>,
     journal: Option<String>,
-) -> Result<(), Fault>
+) -> Result<Outcome, Fault>
     ensures runs { OnOk result
         (RunsScript instance barred script start journal (F.held files.old) (F.held files.new)
         (W.taken out.old) (W.taken out.new)) }
+    ensures done { IfOk result (λ outcome. outcome ≡ Done) }
     ensures unmarked { OnOk result (W.has_failed out.new ≡ W.has_failed out.old) }
     ensures cause { IfErr result (λ fault. IfUnwritten fault
         ((W.has_failed out.new ≡ true) ⊎ IsGiven journal)

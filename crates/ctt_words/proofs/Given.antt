@@ -7,9 +7,10 @@ use Rattle.std.specs.declared.string.String.{String}
 use Rattle.std.proofs.lemmas.List.{length-map}
 use Rattle.clap.specs.Words.{Row, Text, all_of, first_of, subcommand_of}
 use Rattle.ctt_words.specs.CommandLine.{IsOnOrOff, is_on, timedesk}
-use Rattle.ctt_words.specs.Jobs.{HasAll, HasScripts, IsJobIn, IsJobOf, count_given}
+use Rattle.ctt_words.specs.Jobs.{HasAll, HasScripts, IsJobIn, IsJobOf, IsTaskBy, count_given}
 use Rattle.ctt_words.specs.declared.job.Job.{Job}
-use Rattle.ctt_words.specs.declared.job.Job.TheVariants.{Audit, Crew, Desk, Journal, Listing, Run, Show}
+use Rattle.ctt_words.specs.declared.job.Task.{Task}
+use Rattle.ctt_words.specs.declared.job.Task.TheVariants.{Audit, Crew, Desk, Journal, Listing, Run, Show}
 
 given_here : (o : Option Row) → is_some (option_and_then (λ (r : Row). slice_get r.values 0) o) ≡ true → is_some (option_map (λ (r : Row). r.values) o) ≡ true
 given_here None first = first
@@ -52,15 +53,18 @@ count_more None None others left before after all same more (inl (some, counted)
 count_more None None others left before after all same more (inr (none, counted)) was = omega (arith, counted, was, ap count_given more)
 
 -- a job that words ask for has what a crew needs
-pub job_has_scripts : (words : List Text) (job : Job) → IsJobOf words job → HasScripts job
+pub job_has_scripts : (words : List Text) (job : Job) → IsJobOf words job → HasScripts job.task
 job_has_scripts words job is = in_matched (subcommand_of timedesk words) job is
   where
-    in_matched : (matched : Option (Text × List Row)) (job : Job) → IsJobIn matched job → HasScripts job
+    in_task : (name : Text) (rows : List Row) (task : Task) → IsTaskBy name rows task → HasScripts task
+    in_task name rows (Show solution showing) is = tt
+    in_task name rows (Run script start journal) is = tt
+    in_task name rows (Audit journal start) is = tt
+    in_task name rows (Crew scripts) is = is.1.1
+    in_task name rows (Desk seats start minutes) is = is.1.1
+    in_task name rows (Journal minutes) is = tt
+    in_task name rows (Listing journal start) is = tt
+
+    in_matched : (matched : Option (Text × List Row)) (job : Job) → IsJobIn matched job → HasScripts job.task
     in_matched None job is = absurd is
-    in_matched (Some (name, rows)) (Show instance barred solution showing) is = tt
-    in_matched (Some (name, rows)) (Run instance barred script start journal) is = tt
-    in_matched (Some (name, rows)) (Audit instance barred journal start) is = tt
-    in_matched (Some (name, rows)) (Crew instance barred scripts) is = is.3.1
-    in_matched (Some (name, rows)) (Desk instance barred seats start minutes) is = is.3.1
-    in_matched (Some (name, rows)) (Journal instance barred minutes) is = tt
-    in_matched (Some (name, rows)) (Listing instance barred journal start) is = tt
+    in_matched (Some (name, rows)) job is = in_task name rows job.task is.2

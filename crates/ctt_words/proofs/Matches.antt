@@ -8,11 +8,12 @@ use Rattle.clap.specs.declared.error.kind.ErrorKind.{ErrorKind}
 use Rattle.clap.specs.declared.error.kind.ErrorKind.TheVariants.{OutOfMemory}
 use Rattle.clap.proofs.OnLiterals.{clap_on_literals}
 use Rattle.ctt_words.specs.CommandLine.{audit, check, crew, desk, journal, list, page, run, timedesk, week}
-use Rattle.ctt_words.specs.Jobs.{AsksForSeveral, IsFaultOf, IsHelp, IsJobIn, IsNoJobIn, IsOfKind, IsRequest, SaysSeveral, WantsSeveralIn, choices, choices_of, count_given, faults_of}
+use Rattle.ctt_words.specs.Jobs.{AsksForSeveral, IsFaultOf, IsHelp, IsJobIn, IsNoJobIn, IsOfKind, IsRequest, IsTaskBy, SaysSeveral, WantsSeveral, WantsSeveralIn, choices, choices_of, count_given, faults_of}
 use Rattle.ctt_words.specs.Outlines.{commands, name_of, named, named_in, with_name}
 use Rattle.ctt_words.specs.declared.job.Job.{Job}
-use Rattle.ctt_words.specs.declared.job.Job.TheVariants.{Audit, Crew, Desk, Journal, Listing, Run, Show}
 use Rattle.ctt_words.specs.declared.job.Showing.TheVariants.{Page, Report, Week}
+use Rattle.ctt_words.specs.declared.job.Task.{Task}
+use Rattle.ctt_words.specs.declared.job.Task.TheVariants.{Audit, Crew, Desk, Journal, Listing, Run, Show}
 use Rattle.ctt_words.specs.declared.job.Whose.{Whose}
 use Rattle.ctt_words.specs.declared.job.Whose.TheVariants.{Course, Curriculum, Room, Teacher}
 use Rattle.ctt_words.specs.declared.job.WordsFault.{WordsFault}
@@ -67,17 +68,20 @@ other_name : (name a b : Text) → bytes_eq a b ≡ false → name ≡ a → nam
 other_name name a b other is_a is_b = true≢false (sym ((bytes_eq-Decides a b).1 (sym is_a ∙ is_b)) ∙ other)
 
 -- a job is that of no such words
+task_not_several : (name : Text) (rows : List Row) (task : Task) → IsTaskBy name rows task → WantsSeveral name rows → ⊥
+task_not_several name rows (Show solution (Report json explain strict)) is several = other_name name _ _ refl is.0.0 several.0
+task_not_several name rows (Show solution (Week whose)) is several = no_several rows whose is.0.1 several.1
+task_not_several name rows (Show solution Page) is several = other_name name _ _ refl is.0 several.0
+task_not_several name rows (Run script start stored) is several = other_name name _ _ refl is.0 several.0
+task_not_several name rows (Audit audited start) is several = other_name name _ _ refl is.0 several.0
+task_not_several name rows (Crew scripts) is several = other_name name _ _ refl is.0 several.0
+task_not_several name rows (Desk seats start minutes) is several = other_name name _ _ refl is.0 several.0
+task_not_several name rows (Journal minutes) is several = other_name name _ _ refl is.0 several.0
+task_not_several name rows (Listing audited start) is several = other_name name _ _ refl is.0 several.0
+
 not_several : (matched : Option (Text × List Row)) (job : Job) → IsJobIn matched job → WantsSeveralIn matched → ⊥
 not_several None job is several = several
-not_several (Some (name, rows)) (Show instance barred solution (Report json explain strict)) is several = other_name name _ _ refl is.0.0 several.0
-not_several (Some (name, rows)) (Show instance barred solution (Week whose)) is several = no_several rows whose is.0.1 several.1
-not_several (Some (name, rows)) (Show instance barred solution Page) is several = other_name name _ _ refl is.0 several.0
-not_several (Some (name, rows)) (Run instance barred script start stored) is several = other_name name _ _ refl is.0 several.0
-not_several (Some (name, rows)) (Audit instance barred audited start) is several = other_name name _ _ refl is.0 several.0
-not_several (Some (name, rows)) (Crew instance barred scripts) is several = other_name name _ _ refl is.0 several.0
-not_several (Some (name, rows)) (Desk instance barred seats start minutes) is several = other_name name _ _ refl is.0 several.0
-not_several (Some (name, rows)) (Journal instance barred minutes) is several = other_name name _ _ refl is.0 several.0
-not_several (Some (name, rows)) (Listing instance barred audited start) is several = other_name name _ _ refl is.0 several.0
+not_several (Some (name, rows)) job is several = task_not_several name rows job.task is.2 several
 
 -- so they are refused as such
 pub several_refused : (words : List Text) (r : Result Job WordsFault) → IfOk r (IsJobIn (subcommand_of timedesk words)) → IfErr r (IsNoJobIn (subcommand_of timedesk words))

@@ -9,9 +9,10 @@ use Rattle.clap.specs.declared.error.kind.ErrorKind.TheVariants.{DisplayHelp, Di
 use Rattle.ctt_words.specs.CommandLine.{IsOnOrOff, is_on, timedesk}
 use Rattle.ctt_words.specs.Outlines.{named}
 use Rattle.ctt_words.specs.declared.job.Job.{Job}
-use Rattle.ctt_words.specs.declared.job.Job.TheVariants.{Audit, Crew, Desk, Journal, Listing, Run, Show}
 use Rattle.ctt_words.specs.declared.job.Showing.{Showing}
 use Rattle.ctt_words.specs.declared.job.Showing.TheVariants.{Page, Report, Week}
+use Rattle.ctt_words.specs.declared.job.Task.{Task}
+use Rattle.ctt_words.specs.declared.job.Task.TheVariants.{Audit, Crew, Desk, Journal, Listing, Run, Show}
 use Rattle.ctt_words.specs.declared.job.Whose.{Whose}
 use Rattle.ctt_words.specs.declared.job.Whose.TheVariants.{Course, Curriculum, Room, Teacher}
 use Rattle.ctt_words.specs.declared.job.WordsFault.{WordsFault}
@@ -106,26 +107,21 @@ IsShowingBy name rows (Report json explain strict) = (name ≡ codes "check")
 IsShowingBy name rows (Week whose) = (name ≡ codes "week") × (choices rows ≡ choices_of whose)
 IsShowingBy name rows Page = name ≡ codes "page"
 
+-- the task is that of the command of this name, with what its matches have
+abbrev pub IsTaskBy : Text → List Row → Task → Type 0
+IsTaskBy name rows (Show solution showing) = IsShowingBy name rows showing × Has rows (codes "solution") solution
+IsTaskBy name rows (Run script start journal) = (name ≡ codes "run") × Has rows (codes "script") script
+    × MayHave rows (codes "start") start × MayHave rows (codes "journal") journal
+IsTaskBy name rows (Audit journal start) = (name ≡ codes "audit") × Has rows (codes "journal") journal × MayHave rows (codes "start") start
+IsTaskBy name rows (Crew scripts) = (name ≡ codes "crew") × HasAll rows (codes "script") scripts.items
+IsTaskBy name rows (Desk seats start minutes) = (name ≡ codes "desk") × HasAll rows (codes "seat") seats.items
+    × MayHave rows (codes "start") start × MayHave rows (codes "minutes") minutes
+IsTaskBy name rows (Journal minutes) = (name ≡ codes "journal") × Has rows (codes "minutes") minutes
+IsTaskBy name rows (Listing journal start) = (name ≡ codes "list") × Has rows (codes "journal") journal × MayHave rows (codes "start") start
+
 -- the job is that of the command of this name, with what its matches have
 abbrev pub IsJobBy : Text → List Row → Job → Type 0
-IsJobBy name rows (Show instance barred solution showing) = IsShowingBy name rows showing
-    × Has rows (codes "instance") instance × MayHave rows (codes "barred") barred × Has rows (codes "solution") solution
-IsJobBy name rows (Run instance barred script start journal) = (name ≡ codes "run")
-    × Has rows (codes "instance") instance × MayHave rows (codes "barred") barred × Has rows (codes "script") script
-    × MayHave rows (codes "start") start × MayHave rows (codes "journal") journal
-IsJobBy name rows (Audit instance barred journal start) = (name ≡ codes "audit")
-    × Has rows (codes "instance") instance × MayHave rows (codes "barred") barred × Has rows (codes "journal") journal
-    × MayHave rows (codes "start") start
-IsJobBy name rows (Crew instance barred scripts) = (name ≡ codes "crew")
-    × Has rows (codes "instance") instance × MayHave rows (codes "barred") barred × HasAll rows (codes "script") scripts.items
-IsJobBy name rows (Desk instance barred seats start minutes) = (name ≡ codes "desk")
-    × Has rows (codes "instance") instance × MayHave rows (codes "barred") barred × HasAll rows (codes "seat") seats.items
-    × MayHave rows (codes "start") start × MayHave rows (codes "minutes") minutes
-IsJobBy name rows (Journal instance barred minutes) = (name ≡ codes "journal")
-    × Has rows (codes "instance") instance × MayHave rows (codes "barred") barred × Has rows (codes "minutes") minutes
-IsJobBy name rows (Listing instance barred journal start) = (name ≡ codes "list")
-    × Has rows (codes "instance") instance × MayHave rows (codes "barred") barred × Has rows (codes "journal") journal
-    × MayHave rows (codes "start") start
+IsJobBy name rows job = Has rows (codes "instance") job.instance × MayHave rows (codes "barred") job.barred × IsTaskBy name rows job.task
 
 -- the job is that of the command that was matched
 abbrev pub IsJobIn : Option (Text × List Row) → Job → Type 0
@@ -137,10 +133,10 @@ abbrev pub IsJobOf : List Text → Job → Type 0
 IsJobOf words job = IsJobIn (subcommand_of timedesk words) job
 
 -- a crew is given at least one, and a desk at least one seat
-abbrev pub HasScripts : Job → Type 0
-HasScripts (Crew instance barred scripts) = 1 ≤ length scripts.items
-HasScripts (Desk instance barred seats start minutes) = 1 ≤ length seats.items
-HasScripts job = Unit {0}
+abbrev pub HasScripts : Task → Type 0
+HasScripts (Crew scripts) = 1 ≤ length scripts.items
+HasScripts (Desk seats start minutes) = 1 ≤ length seats.items
+HasScripts task = Unit {0}
 
 -- ---- words that ask for no job
 

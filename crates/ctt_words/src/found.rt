@@ -1,23 +1,21 @@
-//! The job of each command, by the matches that `clap` found for it.
+//! The task of each command, by the matches that `clap` found for it.
 
 ghost use Rattle.std.specs.Prelude.{◌≡◌, ◌≤◌, codes, IfOk};
 ghost use Rattle.clap.specs.Words.{found_of, rows_of};
-ghost use Rattle.ctt_words.specs.Jobs.{HasFiles, HasFlags, IsJobBy, choices, choices_of, count_given};
+ghost use Rattle.ctt_words.specs.Jobs.{HasFiles, HasFlags, IsTaskBy, choices, choices_of, count_given};
 
 use crate::arguments::{is_set, option, text, texts};
-use crate::job::{Job, Showing, Whose};
+use crate::job::{Showing, Task, Whose};
 use clap::ArgMatches;
 use std::alloc::{AllocError, Global};
 
-/// The job of the command `check`, by its matches.
-pub(crate) fn check_job(alloc: Global, given: &ArgMatches<'_>) -> Result<Job, AllocError>
+/// The task of the command `check`, by its matches.
+pub(crate) fn check_task(alloc: Global, given: &ArgMatches<'_>) -> Result<Task, AllocError>
     requires files { HasFiles (codes "solution") (rows_of (found_of given.now)) }
     requires flags { HasFlags (rows_of (found_of given.now)) }
-    ensures { IfOk result (IsJobBy (codes "check") (rows_of (found_of given.now))) }
+    ensures { IfOk result (IsTaskBy (codes "check") (rows_of (found_of given.now))) }
 {
-    Ok(Job::Show {
-        instance: text(alloc, given, "instance")?,
-        barred: option(alloc, given, "barred")?,
+    Ok(Task::Show {
         solution: text(alloc, given, "solution")?,
         showing: Showing::Report {
             json: is_set(given, "json"),
@@ -47,106 +45,90 @@ fn whose(alloc: Global, given: &ArgMatches<'_>) -> Result<Option<Whose>, AllocEr
     }
 }
 
-/// The job of the command `week`, by its matches.
-pub(crate) fn week_job(alloc: Global, given: &ArgMatches<'_>) -> Result<Job, AllocError>
+/// The task of the command `week`, by its matches.
+pub(crate) fn week_task(alloc: Global, given: &ArgMatches<'_>) -> Result<Task, AllocError>
     requires files { HasFiles (codes "solution") (rows_of (found_of given.now)) }
     requires one { count_given (choices (rows_of (found_of given.now))) ≤ 1 }
-    ensures { IfOk result (IsJobBy (codes "week") (rows_of (found_of given.now))) }
+    ensures { IfOk result (IsTaskBy (codes "week") (rows_of (found_of given.now))) }
 {
-    Ok(Job::Show {
-        instance: text(alloc, given, "instance")?,
-        barred: option(alloc, given, "barred")?,
+    Ok(Task::Show {
         solution: text(alloc, given, "solution")?,
         showing: Showing::Week(whose(alloc, given)?),
     })
 }
 
-/// The job of the command `page`, by its matches.
-pub(crate) fn page_job(alloc: Global, given: &ArgMatches<'_>) -> Result<Job, AllocError>
+/// The task of the command `page`, by its matches.
+pub(crate) fn page_task(alloc: Global, given: &ArgMatches<'_>) -> Result<Task, AllocError>
     requires { HasFiles (codes "solution") (rows_of (found_of given.now)) }
-    ensures { IfOk result (IsJobBy (codes "page") (rows_of (found_of given.now))) }
+    ensures { IfOk result (IsTaskBy (codes "page") (rows_of (found_of given.now))) }
 {
-    Ok(Job::Show {
-        instance: text(alloc, given, "instance")?,
-        barred: option(alloc, given, "barred")?,
+    Ok(Task::Show {
         solution: text(alloc, given, "solution")?,
         showing: Showing::Page,
     })
 }
 
-/// The job of the command `run`, by its matches.
-pub(crate) fn run_job(alloc: Global, given: &ArgMatches<'_>) -> Result<Job, AllocError>
+/// The task of the command `run`, by its matches.
+pub(crate) fn run_task(alloc: Global, given: &ArgMatches<'_>) -> Result<Task, AllocError>
     requires { HasFiles (codes "script") (rows_of (found_of given.now)) }
-    ensures { IfOk result (IsJobBy (codes "run") (rows_of (found_of given.now))) }
+    ensures { IfOk result (IsTaskBy (codes "run") (rows_of (found_of given.now))) }
 {
-    Ok(Job::Run {
-        instance: text(alloc, given, "instance")?,
-        barred: option(alloc, given, "barred")?,
+    Ok(Task::Run {
         script: text(alloc, given, "script")?,
         start: option(alloc, given, "start")?,
         journal: option(alloc, given, "journal")?,
     })
 }
 
-/// The job of the command `audit`, by its matches.
-pub(crate) fn audit_job(alloc: Global, given: &ArgMatches<'_>) -> Result<Job, AllocError>
+/// The task of the command `audit`, by its matches.
+pub(crate) fn audit_task(alloc: Global, given: &ArgMatches<'_>) -> Result<Task, AllocError>
     requires { HasFiles (codes "journal") (rows_of (found_of given.now)) }
-    ensures { IfOk result (IsJobBy (codes "audit") (rows_of (found_of given.now))) }
+    ensures { IfOk result (IsTaskBy (codes "audit") (rows_of (found_of given.now))) }
 {
-    Ok(Job::Audit {
-        instance: text(alloc, given, "instance")?,
-        barred: option(alloc, given, "barred")?,
+    Ok(Task::Audit {
         journal: text(alloc, given, "journal")?,
         start: option(alloc, given, "start")?,
     })
 }
 
-/// The job of the command `crew`, by its matches.
-pub(crate) fn crew_job(alloc: Global, given: &ArgMatches<'_>) -> Result<Job, AllocError>
+/// The task of the command `crew`, by its matches.
+pub(crate) fn crew_task(alloc: Global, given: &ArgMatches<'_>) -> Result<Task, AllocError>
     requires { HasFiles (codes "script") (rows_of (found_of given.now)) }
-    ensures { IfOk result (IsJobBy (codes "crew") (rows_of (found_of given.now))) }
+    ensures { IfOk result (IsTaskBy (codes "crew") (rows_of (found_of given.now))) }
 {
-    Ok(Job::Crew {
-        instance: text(alloc, given, "instance")?,
-        barred: option(alloc, given, "barred")?,
+    Ok(Task::Crew {
         scripts: texts(alloc, given, "script")?,
     })
 }
 
-/// The job of the command `desk`, by its matches.
-pub(crate) fn desk_job(alloc: Global, given: &ArgMatches<'_>) -> Result<Job, AllocError>
+/// The task of the command `desk`, by its matches.
+pub(crate) fn desk_task(alloc: Global, given: &ArgMatches<'_>) -> Result<Task, AllocError>
     requires { HasFiles (codes "seat") (rows_of (found_of given.now)) }
-    ensures { IfOk result (IsJobBy (codes "desk") (rows_of (found_of given.now))) }
+    ensures { IfOk result (IsTaskBy (codes "desk") (rows_of (found_of given.now))) }
 {
-    Ok(Job::Desk {
-        instance: text(alloc, given, "instance")?,
-        barred: option(alloc, given, "barred")?,
+    Ok(Task::Desk {
         seats: texts(alloc, given, "seat")?,
         start: option(alloc, given, "start")?,
         minutes: option(alloc, given, "minutes")?,
     })
 }
 
-/// The job of the command `journal`, by its matches.
-pub(crate) fn journal_job(alloc: Global, given: &ArgMatches<'_>) -> Result<Job, AllocError>
+/// The task of the command `journal`, by its matches.
+pub(crate) fn journal_task(alloc: Global, given: &ArgMatches<'_>) -> Result<Task, AllocError>
     requires { HasFiles (codes "minutes") (rows_of (found_of given.now)) }
-    ensures { IfOk result (IsJobBy (codes "journal") (rows_of (found_of given.now))) }
+    ensures { IfOk result (IsTaskBy (codes "journal") (rows_of (found_of given.now))) }
 {
-    Ok(Job::Journal {
-        instance: text(alloc, given, "instance")?,
-        barred: option(alloc, given, "barred")?,
+    Ok(Task::Journal {
         minutes: text(alloc, given, "minutes")?,
     })
 }
 
-/// The job of the command `list`, by its matches.
-pub(crate) fn list_job(alloc: Global, given: &ArgMatches<'_>) -> Result<Job, AllocError>
+/// The task of the command `list`, by its matches.
+pub(crate) fn list_task(alloc: Global, given: &ArgMatches<'_>) -> Result<Task, AllocError>
     requires { HasFiles (codes "journal") (rows_of (found_of given.now)) }
-    ensures { IfOk result (IsJobBy (codes "list") (rows_of (found_of given.now))) }
+    ensures { IfOk result (IsTaskBy (codes "list") (rows_of (found_of given.now))) }
 {
-    Ok(Job::Listing {
-        instance: text(alloc, given, "instance")?,
-        barred: option(alloc, given, "barred")?,
+    Ok(Task::Listing {
         journal: text(alloc, given, "journal")?,
         start: option(alloc, given, "start")?,
     })

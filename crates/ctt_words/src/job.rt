@@ -31,59 +31,54 @@ pub enum Showing {
     Page,
 }
 
-/// What the program is asked to do. Files are given by their names; `barred` is that of the rooms that are
-/// barred in the instance.
+/// What the program is asked to do. Files are given by their names.
 #[derive(Drop)]
-pub enum Job {
-    /// To show a solution of an instance.
+pub struct Job {
+    /// The file of the instance.
+    pub instance: String,
+    /// That of the rooms that are barred in it.
+    pub barred: Option<String>,
+    /// What is to be done with them.
+    pub task: Task,
+}
+
+/// What is to be done with an instance.
+#[derive(Drop)]
+pub enum Task {
+    /// To show a solution.
     Show {
-        instance: String,
-        barred: Option<String>,
         solution: String,
         showing: Showing,
     },
-    /// To run a script on a desk of an instance, which opens with a solution or empty, and to store the
-    /// journal where a file is given for it.
+    /// To run a script on a desk, which opens with a solution or empty, and to store the journal where a file is given
+    /// for it.
     Run {
-        instance: String,
-        barred: Option<String>,
         script: String,
         start: Option<String>,
         journal: Option<String>,
     },
     /// To audit a journal of drafts on such a desk.
     Audit {
-        instance: String,
-        barred: Option<String>,
         journal: String,
         start: Option<String>,
     },
-    /// To run scripts on one desk of an instance that opens empty, each by a planner on a thread of his
-    /// own.
+    /// To run scripts on one desk that opens empty, each by a planner on a thread of his own.
     Crew {
-        instance: String,
-        barred: Option<String>,
         scripts: Vec<String>,
     },
-    /// To keep a desk of an instance, which opens with a solution or empty, with a seat for each planner, and to write
-    /// minutes where a file is given for them.
+    /// To keep a desk, which opens with a solution or empty, with a seat for each planner, and to write minutes where a
+    /// file is given for them.
     Desk {
-        instance: String,
-        barred: Option<String>,
         seats: Vec<String>,
         start: Option<String>,
         minutes: Option<String>,
     },
     /// To give the journal of minutes.
     Journal {
-        instance: String,
-        barred: Option<String>,
         minutes: String,
     },
     /// To give the timetable after a journal as a solution.
     Listing {
-        instance: String,
-        barred: Option<String>,
         journal: String,
         start: Option<String>,
     },

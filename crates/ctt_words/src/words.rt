@@ -2,14 +2,15 @@
 
 ghost use Rattle.std.specs.Prelude.{◌≡◌, ◌↔◌, [], map, IfOk, IfErr, IsErrAnd, IsTrue, OnOk};
 ghost use Rattle.clap.specs.Words.{found_of, kind_of, rows_of, subcommand_rows_of};
-ghost use Rattle.ctt_words.specs.Jobs.{AsksForSeveral, IsFaultOf, IsJobBy, IsJobIn, IsJobOf, IsMatched, IsNoJobIn, IsOfKind, IsWhole, SaysSeveral, WantsSeveral, faults_of};
+ghost use Rattle.ctt_words.specs.Jobs.{AsksForSeveral, IsFaultOf, IsJobBy, IsJobIn, IsJobOf, IsMatched, IsNoJobIn, IsOfKind, IsTaskBy, IsWhole, SaysSeveral, WantsSeveral, faults_of};
 
-use crate::arguments::count;
+use crate::arguments::{count, option, text};
 use crate::commands::{command_line, command_named};
 use crate::found::{
-    audit_job, check_job, crew_job, desk_job, journal_job, list_job, page_job, run_job, week_job,
+    audit_task, check_task, crew_task, desk_task, journal_task, list_task, page_task, run_task,
+    week_task,
 };
-use crate::job::{Job, WordsFault};
+use crate::job::{Job, Task, WordsFault};
 use crate::outline::Name;
 use clap::ArgMatches;
 use clap::error::ErrorKind;
@@ -46,24 +47,37 @@ fn fault_of_words(alloc: Global, error: clap::Error) -> WordsFault
     }
 }
 
+/// The task of the command of this name, by its matches.
+fn task_by(alloc: Global, name: &str, given: &ArgMatches<'_>) -> Result<Task, AllocError>
+    requires whole { IsWhole name.now (rows_of (found_of given.now)) }
+    requires one { ¬ WantsSeveral name.now (rows_of (found_of given.now)) }
+    ensures { IfOk result (IsTaskBy name.now (rows_of (found_of given.now))) }
+{
+    match command_named(name) {
+        Some(Name::Check) => check_task(alloc, given),
+        Some(Name::Week) => week_task(alloc, given),
+        Some(Name::Page) => page_task(alloc, given),
+        Some(Name::Run) => run_task(alloc, given),
+        Some(Name::Audit) => audit_task(alloc, given),
+        Some(Name::Crew) => crew_task(alloc, given),
+        Some(Name::Desk) => desk_task(alloc, given),
+        Some(Name::Journal) => journal_task(alloc, given),
+        Some(Name::List) => list_task(alloc, given),
+        None => unreachable!(),
+    }
+}
+
 /// The job of the command of this name, by its matches.
 fn job_by(alloc: Global, name: &str, given: &ArgMatches<'_>) -> Result<Job, AllocError>
     requires whole { IsWhole name.now (rows_of (found_of given.now)) }
     requires one { ¬ WantsSeveral name.now (rows_of (found_of given.now)) }
     ensures { IfOk result (IsJobBy name.now (rows_of (found_of given.now))) }
 {
-    match command_named(name) {
-        Some(Name::Check) => check_job(alloc, given),
-        Some(Name::Week) => week_job(alloc, given),
-        Some(Name::Page) => page_job(alloc, given),
-        Some(Name::Run) => run_job(alloc, given),
-        Some(Name::Audit) => audit_job(alloc, given),
-        Some(Name::Crew) => crew_job(alloc, given),
-        Some(Name::Desk) => desk_job(alloc, given),
-        Some(Name::Journal) => journal_job(alloc, given),
-        Some(Name::List) => list_job(alloc, given),
-        None => unreachable!(),
-    }
+    Ok(Job {
+        instance: text(alloc, given, "instance")?,
+        barred: option(alloc, given, "barred")?,
+        task: task_by(alloc, name, given)?,
+    })
 }
 
 /// The job that is asked for, by the matches of the words.

@@ -1,8 +1,8 @@
 use Rattle.std.proofs.Common.{refl}
 use Rattle.std.proofs.lemmas.Result.{IfErr-weaker, IfOk-weaker}
+use Rattle.ctt_files.proofs.Plain.{passed_plain, unwritten_more}
 use Rattle.ctt_tool.specs.Refusals.{IsOfAudited}
 use Rattle.ctt_tool.proofs.Audited.{verdict_refused}
-use Rattle.ctt_files.proofs.Plain.{passed_plain, unwritten_more}
 use Rattle.ctt_tool.proofs.Plain.{audited_plain}
 use Rattle.ctt_tool.proofs.audit.audit_on.Goals as goal
 

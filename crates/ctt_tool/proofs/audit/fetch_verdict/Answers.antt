@@ -4,10 +4,10 @@ use Rattle.std.specs.List.{AllByRecursion as Each}
 use Rattle.std.specs.String.{string_bytes}
 use Rattle.ctt_text.specs.Timetable.{Fits}
 use Rattle.ctt_files.specs.Refusals.{IsOfStart}
-use Rattle.ctt_tool.specs.Refusals.{IsOfAudited}
 use Rattle.ctt_files.specs.Texts.{Held, Holds, IsStart}
-use Rattle.ctt_tool.proofs.Audited.{finds_in, finds_fit, journal_in}
 use Rattle.ctt_files.proofs.Plain.{passed_on, told_of}
+use Rattle.ctt_tool.specs.Refusals.{IsOfAudited}
+use Rattle.ctt_tool.proofs.Audited.{finds_in, finds_fit, journal_in}
 use Rattle.ctt_tool.proofs.audit.fetch_verdict.Goals as goal
 
 pub verdict_of-requires : goal.verdict_of-requires

@@ -1,8 +1,8 @@
 use Rattle.std.proofs.Common.{◌≤◌, ◌∙◌, [], ap, inl, inr, length, subst, sym, IfOk}
 use Rattle.std.proofs.lemmas.Result.{IfErr-weaker}
 use Rattle.ctt_crew.specs.CrewText.{IsCrewText}
-use Rattle.ctt_tool.specs.Refusals.{IsOfScripts}
 use Rattle.ctt_files.proofs.Plain.{passed_on}
+use Rattle.ctt_tool.specs.Refusals.{IsOfScripts}
 use Rattle.ctt_tool.proofs.crew.answers_on.Goals as goal
 
 pub answers-requires-clause-some : goal.answers-requires-clause-some

@@ -1,6 +1,6 @@
 use Rattle.std.proofs.Common.{inr, refl}
-use Rattle.ctt_tool.specs.Refusals.{IsOfCrew, IsOfScripts}
 use Rattle.ctt_files.proofs.Plain.{behind_plain, passed_plain}
+use Rattle.ctt_tool.specs.Refusals.{IsOfCrew, IsOfScripts}
 use Rattle.ctt_tool.proofs.Plain.{scripts_plain}
 use Rattle.ctt_tool.proofs.crew.crew.Goals as goal
 

@@ -1,8 +1,8 @@
 use Rattle.std.proofs.Common.{inl}
 use Rattle.std.proofs.lemmas.Result.{IfErr-weaker, IfOk-weaker}
 use Rattle.ctt_files.specs.Refusals.{IsOfInstanceOr}
-use Rattle.ctt_tool.specs.Refusals.{IsOfScripts}
 use Rattle.ctt_files.proofs.Plain.{behind_instance, passed_on}
+use Rattle.ctt_tool.specs.Refusals.{IsOfScripts}
 use Rattle.ctt_tool.proofs.crew.report.Goals as goal
 
 pub returns-in_err-instance-clause-cause : goal.returns-in_err-instance-clause-cause

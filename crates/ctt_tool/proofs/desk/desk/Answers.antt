@@ -1,8 +1,8 @@
 use Rattle.std.proofs.Common.{◌≡◌, inl, inr, refl, subst, sym}
 use Rattle.ctt_files.specs.Faults.{IfUnwritten}
 use Rattle.ctt_files.specs.Refusals.{IsOfInstanceOr}
-use Rattle.ctt_tool.specs.Refusals.{IsOfDesk, IsOfSeats}
 use Rattle.ctt_files.proofs.Plain.{IsPlain, passed_on, unwritten_more}
+use Rattle.ctt_tool.specs.Refusals.{IsOfDesk, IsOfSeats}
 use Rattle.ctt_tool.proofs.Plain.{passed_desk}
 use Rattle.ctt_tool.proofs.desk.desk.Goals as goal
 

@@ -1,10 +1,10 @@
 use Rattle.std.proofs.Common.{inl, subst}
 use Rattle.std.proofs.lemmas.Result.{IfErr-weaker, IfOk-weaker}
 use Rattle.ctt_text.specs.Problem.{Problem}
-use Rattle.ctt_tool.specs.Desks.{IsOfDeskFrom}
 use Rattle.ctt_files.specs.Refusals.{IsOfInstanceOr}
-use Rattle.ctt_tool.specs.Refusals.{IsOfSeats}
 use Rattle.ctt_files.proofs.Plain.{behind_instance, instance_in_plain, unwritten_more}
+use Rattle.ctt_tool.specs.Desks.{IsOfDeskFrom}
+use Rattle.ctt_tool.specs.Refusals.{IsOfSeats}
 use Rattle.ctt_tool.proofs.Plain.{passed_desk}
 use Rattle.ctt_tool.proofs.desk.report.Goals as goal
 

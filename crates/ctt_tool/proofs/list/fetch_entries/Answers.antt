@@ -1,9 +1,9 @@
 use Rattle.std.proofs.Common.{◌∙◌, inl, inr, subst}
 use Rattle.std.specs.String.{string_bytes}
 use Rattle.std.proofs.lemmas.Option.{IfSome_then}
+use Rattle.ctt_files.proofs.Plain.{passed_on, told_of}
 use Rattle.ctt_tool.specs.Refusals.{IsOfJournal}
 use Rattle.ctt_tool.specs.Texts.{IsJournalText}
-use Rattle.ctt_files.proofs.Plain.{passed_on, told_of}
 use Rattle.ctt_tool.proofs.Causes.{no_journal}
 use Rattle.ctt_tool.proofs.list.fetch_entries.Goals as goal
 

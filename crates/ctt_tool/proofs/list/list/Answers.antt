@@ -1,9 +1,9 @@
 use Rattle.std.proofs.Common.{inl, refl, subst}
 use Rattle.std.proofs.lemmas.Result.{IfErr-weaker, IfOk-weaker}
 use Rattle.ctt_text.specs.Problem.{Problem}
+use Rattle.ctt_files.proofs.Plain.{behind_instance, instance_in_plain, passed_plain, unwritten_more}
 use Rattle.ctt_tool.specs.Lists.{ListsOn}
 use Rattle.ctt_tool.specs.Refusals.{IsOfAudit, IsOfAudited}
-use Rattle.ctt_files.proofs.Plain.{behind_instance, instance_in_plain, passed_plain, unwritten_more}
 use Rattle.ctt_tool.proofs.list.list.Goals as goal
 
 pub returns-in_err-instance-clause-cause : goal.returns-in_err-instance-clause-cause

@@ -2,8 +2,8 @@ use Rattle.std.proofs.Common.{rules, inl, refl, subst, sym}
 use Rattle.std.specs.List.{AllByRecursion as Each}
 use Rattle.ctt_text.specs.Timetable.{Fits}
 use Rattle.ctt_core.specs.Entries.{EntryFits}
-use Rattle.ctt_tool.specs.Refusals.{IsOfAudited}
 use Rattle.ctt_files.proofs.Plain.{passed_plain}
+use Rattle.ctt_tool.specs.Refusals.{IsOfAudited}
 use Rattle.ctt_tool.proofs.Plain.{audited_plain}
 use Rattle.ctt_tool.proofs.list.list_on.Goals as goal
 

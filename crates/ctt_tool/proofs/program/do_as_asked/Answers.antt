@@ -1,8 +1,9 @@
-use Rattle.std.proofs.Common.{inl, inr, rules, ⊎_elim}
+use Rattle.std.proofs.Common.{inl, inr, refl, rules, ⊎_elim}
 use Rattle.std.proofs.lemmas.Result.{IfErr-weaker, IfOk-weaker}
 use Rattle.ctt_words.specs.Jobs.{HasScripts}
 use Rattle.ctt_words.proofs.Given.{job_has_scripts}
-use Rattle.ctt_tool.proofs.Known.{job_caused, kept_weaker}
+use Rattle.ctt_tool.proofs.Ends.{done_so}
+use Rattle.ctt_tool.proofs.Known.{help_asked, help_caused, help_kept, help_not_one, job_caused, kept_weaker}
 use Rattle.ctt_tool.proofs.program.do_as_asked.Goals as goal
 
 pub returns-in-Ok-clause-done : goal.returns-in-Ok-clause-done
@@ -13,7 +14,7 @@ returns-in-Ok-clause-quiet g c = IfOk-weaker c.do_job.result _ _ (λ outcome qui
 
 pub do_job-requires : goal.do_job-requires
 do_job-requires g c =
-    let has : HasScripts c.in-Ok.job = job_has_scripts _ c.in-Ok.job c.in-Ok.ensures.job in
+    let has : HasScripts c.in-Ok.job.task = job_has_scripts _ c.in-Ok.job c.in-Ok.ensures.job in
     search rules
 
 pub returns-in-Ok-clause-unstored : goal.returns-in-Ok-clause-unstored
@@ -21,3 +22,15 @@ returns-in-Ok-clause-unstored g c = IfErr-weaker c.do_job.result _ _ (λ fault k
 
 pub returns-in-Ok-clause-cause : goal.returns-in-Ok-clause-cause
 returns-in-Ok-clause-cause g c = IfErr-weaker c.do_job.result _ _ (λ fault is. job_caused _ (g.F.Files.held c.args.files.now) _ c.in-Ok.job _ fault c.in-Ok.ensures.job is) c.do_job.ensures.cause
+
+pub returns-in-Err-clause-done : goal.returns-in-Err-clause-done
+returns-in-Err-clause-done g c = done_so c.answer_words.result _ _ c.answer_words.ensures.done c.answer_words.ensures.helps (λ outcome done helps. inl (help_asked _ c.in-Err.fault c.in-Err.ensures.fault helps, done, refl))
+
+pub returns-in-Err-clause-unstored : goal.returns-in-Err-clause-unstored
+returns-in-Err-clause-unstored g c = IfErr-weaker c.answer_words.result _ _ (λ told of. help_kept c.in-Err.fault _ told _ _ of refl) c.answer_words.ensures.cause
+
+pub returns-in-Err-clause-taken : goal.returns-in-Err-clause-taken
+returns-in-Err-clause-taken g c = IfErr-weaker c.answer_words.result _ _ (λ told of. help_not_one c.in-Err.fault _ told _ of) c.answer_words.ensures.cause
+
+pub returns-in-Err-clause-cause : goal.returns-in-Err-clause-cause
+returns-in-Err-clause-cause g c = IfErr-weaker c.answer_words.result _ _ (λ told of. help_caused _ (g.F.Files.held c.args.files.now) _ c.in-Err.fault told c.in-Err.ensures.fault of) c.answer_words.ensures.cause

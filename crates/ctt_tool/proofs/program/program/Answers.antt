@@ -1,7 +1,7 @@
-use Rattle.std.proofs.Common.{inl, inr, map, sym, ⊎_elim}
+use Rattle.std.proofs.Common.{inl, inr, map, sym, ⊎_elim, arith}
 use Rattle.ctt_files.specs.declared.outcome.Outcome.TheVariants.{Differs, Done, Incomplete, Unlawful}
 use Rattle.ctt_tool.specs.Work.{DoesAsAsked}
-use Rattle.ctt_tool.proofs.Ends.{differs_taken, ended_kept, ends_as, is_other, is_some_status, one_is_of_fault, other_kept, said_since, two_is_of_fault, unprinted_one, unsaid_other}
+use Rattle.ctt_tool.proofs.Ends.{differs_taken, ended_kept, ends_as, is_other, is_some_status, one_is_of_fault, other_kept, said_since, two_is_of_fault, unprinted_one, unprinted_two, unsaid_other}
 use Rattle.ctt_tool.proofs.Known.{asked_one, refused_two, says_caused}
 use Rattle.ctt_tool.proofs.program.program.Goals as goal
 
@@ -43,3 +43,27 @@ returns-in-Err-clause-unstored g c = λ some. ended_kept c.in-Err.fault c.fail_w
 
 pub returns-in-Ok-clause-unsaid : goal.returns-in-Ok-clause-unsaid
 returns-in-Ok-clause-unsaid g c = λ zero. ⊎_elim (λ says. inl says.0) inr c.in-Ok.ensures.quiet
+
+pub returns-in-Err-clause-known : goal.returns-in-Err-clause-known
+returns-in-Err-clause-known g c = omega (arith, c.fail_with.ensures.told.1)
+
+pub returns-in-Err-clause-done : goal.returns-in-Err-clause-done
+returns-in-Err-clause-done g c = λ zero. absurd (omega (arith, c.fail_with.ensures.told.0, zero))
+
+pub returns-in-Err-clause-unmarked : goal.returns-in-Err-clause-unmarked
+returns-in-Err-clause-unmarked g c = λ zero. absurd (omega (arith, c.fail_with.ensures.told.0, zero))
+
+pub returns-in-Err-clause-unsaid : goal.returns-in-Err-clause-unsaid
+returns-in-Err-clause-unsaid g c = λ zero. absurd (omega (arith, c.fail_with.ensures.told.0, zero))
+
+pub returns-in-Err-clause-four : goal.returns-in-Err-clause-four
+returns-in-Err-clause-four g c = λ four. absurd (omega (arith, c.fail_with.ensures.told.1, four))
+
+pub returns-in-Err-clause-five : goal.returns-in-Err-clause-five
+returns-in-Err-clause-five g c = λ five. absurd (omega (arith, c.fail_with.ensures.told.1, five))
+
+pub returns-in-Err-clause-taken : goal.returns-in-Err-clause-taken
+returns-in-Err-clause-taken g c = λ one. c.in-Err.ensures.taken (one_is_of_fault c.in-Err.fault c.fail_with.result c.fail_with.ensures.status one)
+
+pub returns-in-Err-clause-unprinted : goal.returns-in-Err-clause-unprinted
+returns-in-Err-clause-unprinted g c = λ two. unprinted_two c.in-Err.fault _ c.in-Err.ensures.unwritten (two_is_of_fault c.in-Err.fault c.fail_with.result c.fail_with.ensures.status two)
