@@ -111,9 +111,9 @@ Examples:
   timedesk list comp07.ctt monday.journal --start comp07.sol >tuesday.sol
 
 Status: 0 where it is done, also where a report says that a solution is unlawful;
-1 where the content of a file is refused, or an audit does not agree; 2 where the words are refused;
-3 where a file cannot be read, is too long, minutes exist, or output or memory fails; with --strict
-4 where the solution is not lawful, and 5 where it is lawful and not complete.
+1 where the content of a file is refused, a name is not in it, or an audit does not agree; 2 where the
+words are refused; 3 where a file cannot be read, is too long, minutes exist, or output or memory fails;
+with --strict 4 where the solution is not lawful, and 5 where it is lawful and not complete.
 A refused file is one line, as in 'timedesk: instance I2 14': docs/FORMATS.md has
 each fault by its number, and how to see the word that it names.
 "
