@@ -1,9 +1,9 @@
 //! A crew of one planner, on a thread.
 
 use crate::cases::Script;
-use crate::story::Story;
 use ctt_crew::{NoGate, crew};
 use ctt_script::Lines;
+use ctt_story::Story;
 use std::marker::Sync;
 use std::sync::Wait;
 use std::thread::Threads;

@@ -3,14 +3,14 @@
 ghost use Rattle.std.specs.Prelude.{◌≡◌, false};
 ghost use Rattle.ctt_text.specs.Timetable.{IsTimetable};
 
+use crate::answers::tell_unlawful;
 use crate::cases::Script;
 use crate::desks::tell_desk;
-use crate::devices::{Failing, Memory, Shelf};
-use crate::story::Story;
 use crate::worked::PHANTOM_ANSWERS;
-use ctt_board::Sheet;
+use ctt_board::{GridSheet, Sheet};
 use ctt_draft::KeepAll;
 use ctt_script::{ScriptFault, run_script};
+use ctt_story::{Failing, Memory, Shelf, Story};
 use ctt_text::let_go;
 use std::alloc::Global;
 
@@ -33,22 +33,22 @@ pub(crate) fn play_script<'i, S: Sheet<'i>>(story: &mut Story, script: &Script<'
             tell_desk(story, script, &desk);
             let_go(desk);
         }
-        Err(ScriptFault::Unlawful(at, fault)) => story.unlawful(script.small, at, fault),
+        Err(ScriptFault::Unlawful(at, fault)) => tell_unlawful(story, script.small, at, fault),
         Err(_fault) => story.no_memory(),
     }
 }
 
-/// Runs the lines that a reader gives, whose answers a writer takes, and answers why they could not be run.
-fn fault_of<'i, S: Sheet<'i>>(
+/// Runs the lines that a reader gives on a grid sheet, whose answers a writer takes, and answers why they could not be run.
+fn fault_of(
     alloc: Global,
-    script: &Script<'i>,
+    script: &Script,
     reader: &mut Memory,
     shelf: &mut Shelf,
 ) -> Option<ScriptFault>
     requires timetable { IsTimetable script.now.small.now script.now.opening.now }
     requires unmarked { reader.old.failed ≡ false }
 {
-    run_script::<S, KeepAll, Memory, Shelf>(
+    run_script::<GridSheet, KeepAll, Memory, Shelf>(
         alloc,
         script.small,
         script.opening,
@@ -61,9 +61,9 @@ fn fault_of<'i, S: Sheet<'i>>(
 
 /// Runs lines on a reader whose read with this number fails, or where it is 0 on a writer that fails. Answers whether that is
 /// a failed read, behind which no other one was tried, or a failed write, behind so many bytes of the right answers.
-fn fails<'i, S: Sheet<'i>>(
+fn fails(
     story: &mut Story,
-    script: &Script<'i>,
+    script: &Script,
     lines: &[u8],
     fails_at: u64,
     shelf: &mut Shelf,
@@ -72,7 +72,7 @@ fn fails<'i, S: Sheet<'i>>(
     requires { IsTimetable script.now.small.now script.now.opening.now }
 {
     let mut reader = Memory::new(lines, fails_at);
-    let fault = fault_of::<S>(story.alloc(), script, &mut reader, shelf);
+    let fault = fault_of(story.alloc(), script, &mut reader, shelf);
     if fault == Some(ScriptFault::NoMemory) {
         story.no_memory();
     }
@@ -84,24 +84,28 @@ fn fails<'i, S: Sheet<'i>>(
     is_failed && shelf.holds(taken)
 }
 
-/// Tells behind how many bytes a writer may fail so that the script has a failed write, and these bytes were written, and
-/// behind how many a reader, so that it has a failed read, and nothing was written.
-fn tell_all_failing<'i, S: Sheet<'i>>(story: &mut Story, script: &Script<'i>)
+/// Tells behind how many bytes a writer may fail so that the script has a failed write, and these bytes were written.
+fn tell_writers(story: &mut Story, script: &Script, answers: &[u8])
     requires { IsTimetable script.now.small.now script.now.opening.now }
 {
-    let lines = script.lines.as_bytes();
-    let answers = PHANTOM_ANSWERS.as_bytes();
     let mut failed = 0u64;
     for taken in 0..answers.len() {
         let mut shelf = Shelf::new(answers, Failing::Behind(taken));
-        let is_failed = fails::<S>(story, script, lines, 0, &mut shelf, taken);
+        let is_failed = fails(story, script, script.lines.as_bytes(), 0, &mut shelf, taken);
         failed = failed.saturating_add(u64::from(is_failed));
     }
     story.count("writers that fail behind some bytes", failed);
-    failed = 0;
+}
+
+/// Tells behind how many bytes a reader may fail so that the script has a failed read, and nothing was written.
+fn tell_readers(story: &mut Story, script: &Script, answers: &[u8])
+    requires { IsTimetable script.now.small.now script.now.opening.now }
+{
+    let lines = script.lines.as_bytes();
+    let mut failed = 0u64;
     for behind in 0..=lines.len() as u64 {
         let mut shelf = Shelf::new(answers, Failing::Flush);
-        let is_failed = fails::<S>(
+        let is_failed = fails(
             story,
             script,
             lines,
@@ -115,9 +119,9 @@ fn tell_all_failing<'i, S: Sheet<'i>>(story: &mut Story, script: &Script<'i>)
 }
 
 /// Tells how lines end on a writer that fails, and what it took of the right answers.
-fn tell_failing<'i, S: Sheet<'i>>(
+fn tell_failing(
     story: &mut Story,
-    script: &Script<'i>,
+    script: &Script,
     lines: &str,
     answers: &str,
     failing: Failing,
@@ -126,24 +130,25 @@ fn tell_failing<'i, S: Sheet<'i>>(
     requires { IsTimetable script.now.small.now script.now.opening.now }
 {
     let mut shelf = Shelf::new(answers.as_bytes(), failing);
-    let is_failed = fails::<S>(story, script, lines.as_bytes(), 0, &mut shelf, taken);
+    let is_failed = fails(story, script, lines.as_bytes(), 0, &mut shelf, taken);
     story.count("a failed write", u64::from(is_failed));
     story.count("flushes", shelf.flushes);
     story.count("bytes", shelf.taken as u64);
 }
 
 /// The script of the phantom with its answers on devices that fail.
-pub(crate) fn play_devices<'i, S: Sheet<'i>>(story: &mut Story, script: &Script<'i>)
+pub(crate) fn play_devices(story: &mut Story, script: &Script)
     requires { IsTimetable script.now.small.now script.now.opening.now }
 {
-    tell_all_failing::<S>(story, script);
+    tell_writers(story, script, PHANTOM_ANSWERS.as_bytes());
+    tell_readers(story, script, PHANTOM_ANSWERS.as_bytes());
     let lines = script.lines;
     let whole = PHANTOM_ANSWERS.len();
     story.say("a writer that takes nothing");
-    tell_failing::<S>(story, script, lines, PHANTOM_ANSWERS, Failing::Idle, 0);
+    tell_failing(story, script, lines, PHANTOM_ANSWERS, Failing::Idle, 0);
     story.say("a writer whose flush fails");
-    tell_failing::<S>(story, script, lines, PHANTOM_ANSWERS, Failing::Flush, whole);
+    tell_failing(story, script, lines, PHANTOM_ANSWERS, Failing::Flush, whole);
     story.say("a writer that fails behind three bytes");
     let (lines, answers) = ("0 commit", "no draft\n");
-    tell_failing::<S>(story, script, lines, answers, Failing::Behind(3), 3);
+    tell_failing(story, script, lines, answers, Failing::Behind(3), 3);
 }
