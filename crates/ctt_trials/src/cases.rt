@@ -25,7 +25,7 @@ pub(crate) enum Way {
     SharedGrid,
 }
 
-/// How a case is played without a sheet, or on a grid sheet alone.
+/// How a case is played without a sheet.
 pub(crate) enum Plain {
     /// Which rows its line reads.
     Rows,
@@ -33,10 +33,6 @@ pub(crate) enum Plain {
     Crew,
     /// A journal that is cut, and one that counts falsely.
     Cut,
-    /// Its lines as a script on devices that fail.
-    Devices,
-    /// Whether a shared desk opens.
-    Opening,
 }
 
 /// How a case is played on sheets of one kind.
@@ -55,6 +51,10 @@ pub(crate) enum On {
     Run,
     /// Its lines as a text, whose answers are a text.
     Text,
+    /// Its lines as a script on devices that fail.
+    Devices,
+    /// Whether a shared desk opens.
+    Opening,
     /// Its lines are the text of a journal, which is audited.
     Audit,
     /// Its lines are the text of a journal, and what this leaves is told.
@@ -104,7 +104,7 @@ pub(crate) struct Script<'i> {
     pub(crate) lines: &'i str,
 }
 
-/// Plays a case without a sheet, or on a grid sheet alone.
+/// Plays a case without a sheet.
 fn play_plain<R: Threads + Wait + Sync>(story: &mut Story, rt: &R, plain: &Plain, script: &Script)
     requires { IsTimetable script.now.small.now script.now.opening.now }
 {
@@ -112,8 +112,6 @@ fn play_plain<R: Threads + Wait + Sync>(story: &mut Story, rt: &R, plain: &Plain
         Plain::Rows => sheets::tell_rows(story, script),
         Plain::Crew => crews::play(story, rt, script),
         Plain::Cut => journals::play_cut(story, script.small),
-        Plain::Devices => scripts::play_devices(story, script),
-        Plain::Opening => shared::tell_opening(story, script),
     }
 }
 
@@ -126,6 +124,8 @@ fn play_way<'i, S: Sheet<'i>>(story: &mut Story, on: &On, script: &Script<'i>)
         On::Draft(times) => drafts::play::<S>(story, script.small, script.lines, *times),
         On::Step | On::Run => desks::play::<S>(story, on, script),
         On::Text => scripts::play_script::<S>(story, script),
+        On::Devices => scripts::play_devices::<S>(story, script),
+        On::Opening => shared::tell_opening::<S>(story, script),
         On::Audit | On::Left => {
             journals::read_text::<S>(story, on, script, script.lines.as_bytes());
         }

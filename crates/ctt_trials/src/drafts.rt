@@ -124,28 +124,6 @@ fn settle<'i, S: Sheet<'i>>(story: &mut Story, draft: Draft<'i, S, KeepAll>, she
     }
 }
 
-/// A draft on a sheet is asked so often what lines say. Another sheet has top in a slot.
-fn draft_on<'i, S: Sheet<'i>>(
-    story: &mut Story,
-    lines: &str,
-    times: u64,
-    sheet: &mut S,
-    other: &mut S,
-)
-    requires { S.problem other.old ≡ S.problem sheet.old }
-{
-    match Draft::open(story.alloc(), sheet) {
-        Ok(mut draft) => {
-            ask_often(story, &mut draft, lines, times);
-            tell_stale(story, &draft, sheet);
-            tell_stale(story, &draft, other);
-            tell_work(story, &draft, other);
-            settle(story, draft, sheet);
-        }
-        Err(NoMemory) => story.no_memory(),
-    }
-}
-
 /// Places top in the third period of the first day, in room B, by a change.
 fn place_top<S: Timetable>(sheet: &mut S)
     ensures { S.problem sheet.new ≡ S.problem sheet.old }
@@ -160,6 +138,29 @@ fn place_top<S: Timetable>(sheet: &mut S)
     }
 }
 
+/// A draft on a sheet is asked so often what lines say, beside another sheet, on which top is placed.
+fn draft_on<'i, S: Sheet<'i>>(
+    story: &mut Story,
+    lines: &str,
+    times: u64,
+    sheet: &mut S,
+    other: &mut S,
+)
+    requires { S.problem other.old ≡ S.problem sheet.old }
+{
+    place_top(other);
+    match Draft::open(story.alloc(), sheet) {
+        Ok(mut draft) => {
+            ask_often(story, &mut draft, lines, times);
+            tell_stale(story, &draft, sheet);
+            tell_stale(story, &draft, other);
+            tell_work(story, &draft, other);
+            settle(story, draft, sheet);
+        }
+        Err(NoMemory) => story.no_memory(),
+    }
+}
+
 /// Asks a draft on an empty sheet so often what lines say, beside another sheet.
 pub(crate) fn play<'i, S: Sheet<'i>>(
     story: &mut Story,
@@ -171,10 +172,7 @@ pub(crate) fn play<'i, S: Sheet<'i>>(
         return story.no_memory();
     };
     match sheet.copy() {
-        Ok(mut other) => {
-            place_top(&mut other);
-            draft_on(story, lines, times, &mut sheet, &mut other);
-        }
+        Ok(mut other) => draft_on(story, lines, times, &mut sheet, &mut other),
         Err(NoMemory) => story.no_memory(),
     }
 }

@@ -7,7 +7,7 @@ use crate::answers::tell_unlawful;
 use crate::cases::Script;
 use crate::desks::tell_desk;
 use crate::worked::PHANTOM_ANSWERS;
-use ctt_board::{GridSheet, Sheet};
+use ctt_board::Sheet;
 use ctt_draft::KeepAll;
 use ctt_script::{ScriptFault, run_script};
 use ctt_story::{Failing, Memory, Shelf, Story};
@@ -38,17 +38,17 @@ pub(crate) fn play_script<'i, S: Sheet<'i>>(story: &mut Story, script: &Script<'
     }
 }
 
-/// Runs the lines that a reader gives on a grid sheet, whose answers a writer takes, and answers why they could not be run.
-fn fault_of(
+/// Runs the lines that a reader gives, whose answers a writer takes, and answers why they could not be run.
+fn fault_of<'i, S: Sheet<'i>>(
     alloc: Global,
-    script: &Script,
+    script: &Script<'i>,
     reader: &mut Memory,
     shelf: &mut Shelf,
 ) -> Option<ScriptFault>
     requires timetable { IsTimetable script.now.small.now script.now.opening.now }
     requires unmarked { reader.old.failed ≡ false }
 {
-    run_script::<GridSheet, KeepAll, Memory, Shelf>(
+    run_script::<S, KeepAll, Memory, Shelf>(
         alloc,
         script.small,
         script.opening,
@@ -61,9 +61,9 @@ fn fault_of(
 
 /// Runs lines on a reader whose read with this number fails, or where it is 0 on a writer that fails. Answers whether that is
 /// a failed read, behind which no other one was tried, or a failed write, behind so many bytes of the right answers.
-fn fails(
+fn fails<'i, S: Sheet<'i>>(
     story: &mut Story,
-    script: &Script,
+    script: &Script<'i>,
     lines: &[u8],
     fails_at: u64,
     shelf: &mut Shelf,
@@ -72,7 +72,7 @@ fn fails(
     requires { IsTimetable script.now.small.now script.now.opening.now }
 {
     let mut reader = Memory::new(lines, fails_at);
-    let fault = fault_of(story.alloc(), script, &mut reader, shelf);
+    let fault = fault_of::<S>(story.alloc(), script, &mut reader, shelf);
     if fault == Some(ScriptFault::NoMemory) {
         story.no_memory();
     }
@@ -85,27 +85,27 @@ fn fails(
 }
 
 /// Tells behind how many bytes a writer may fail so that the script has a failed write, and these bytes were written.
-fn tell_writers(story: &mut Story, script: &Script, answers: &[u8])
+fn tell_writers<'i, S: Sheet<'i>>(story: &mut Story, script: &Script<'i>, answers: &[u8])
     requires { IsTimetable script.now.small.now script.now.opening.now }
 {
     let mut failed = 0u64;
     for taken in 0..answers.len() {
         let mut shelf = Shelf::new(answers, Failing::Behind(taken));
-        let is_failed = fails(story, script, script.lines.as_bytes(), 0, &mut shelf, taken);
+        let is_failed = fails::<S>(story, script, script.lines.as_bytes(), 0, &mut shelf, taken);
         failed = failed.saturating_add(u64::from(is_failed));
     }
     story.count("writers that fail behind some bytes", failed);
 }
 
 /// Tells behind how many bytes a reader may fail so that the script has a failed read, and nothing was written.
-fn tell_readers(story: &mut Story, script: &Script, answers: &[u8])
+fn tell_readers<'i, S: Sheet<'i>>(story: &mut Story, script: &Script<'i>, answers: &[u8])
     requires { IsTimetable script.now.small.now script.now.opening.now }
 {
     let lines = script.lines.as_bytes();
     let mut failed = 0u64;
     for behind in 0..=lines.len() as u64 {
         let mut shelf = Shelf::new(answers, Failing::Flush);
-        let is_failed = fails(
+        let is_failed = fails::<S>(
             story,
             script,
             lines,
@@ -119,9 +119,9 @@ fn tell_readers(story: &mut Story, script: &Script, answers: &[u8])
 }
 
 /// Tells how lines end on a writer that fails, and what it took of the right answers.
-fn tell_failing(
+fn tell_failing<'i, S: Sheet<'i>>(
     story: &mut Story,
-    script: &Script,
+    script: &Script<'i>,
     lines: &str,
     answers: &str,
     failing: Failing,
@@ -130,25 +130,25 @@ fn tell_failing(
     requires { IsTimetable script.now.small.now script.now.opening.now }
 {
     let mut shelf = Shelf::new(answers.as_bytes(), failing);
-    let is_failed = fails(story, script, lines.as_bytes(), 0, &mut shelf, taken);
+    let is_failed = fails::<S>(story, script, lines.as_bytes(), 0, &mut shelf, taken);
     story.count("a failed write", u64::from(is_failed));
     story.count("flushes", shelf.flushes);
     story.count("bytes", shelf.taken as u64);
 }
 
 /// The script of the phantom with its answers on devices that fail.
-pub(crate) fn play_devices(story: &mut Story, script: &Script)
+pub(crate) fn play_devices<'i, S: Sheet<'i>>(story: &mut Story, script: &Script<'i>)
     requires { IsTimetable script.now.small.now script.now.opening.now }
 {
-    tell_writers(story, script, PHANTOM_ANSWERS.as_bytes());
-    tell_readers(story, script, PHANTOM_ANSWERS.as_bytes());
+    tell_writers::<S>(story, script, PHANTOM_ANSWERS.as_bytes());
+    tell_readers::<S>(story, script, PHANTOM_ANSWERS.as_bytes());
     let lines = script.lines;
     let whole = PHANTOM_ANSWERS.len();
     story.say("a writer that takes nothing");
-    tell_failing(story, script, lines, PHANTOM_ANSWERS, Failing::Idle, 0);
+    tell_failing::<S>(story, script, lines, PHANTOM_ANSWERS, Failing::Idle, 0);
     story.say("a writer whose flush fails");
-    tell_failing(story, script, lines, PHANTOM_ANSWERS, Failing::Flush, whole);
+    tell_failing::<S>(story, script, lines, PHANTOM_ANSWERS, Failing::Flush, whole);
     story.say("a writer that fails behind three bytes");
     let (lines, answers) = ("0 commit", "no draft\n");
-    tell_failing(story, script, lines, answers, Failing::Behind(3), 3);
+    tell_failing::<S>(story, script, lines, answers, Failing::Behind(3), 3);
 }

@@ -29,11 +29,9 @@ fn opened<'i, S: Sheet<'i>>(alloc: Global, script: &Script<'i>) -> Result<Opened
 }
 
 /// The planners play a script at their desk, and look at what it has left. They come back from their seats.
-fn play_at<'i, S: Sheet<'i>, J: Naming, R: Wait>(
+fn play_at<'a, 'i, S: Sheet<'i>, J: Naming, R: Wait>(
     story: &mut Story,
-    rt: &R,
-    desk: &SharedDesk<S, J>,
-    here: &Here<'i, J>,
+    here: &Here<'a, 'i, S, J, R>,
     planners: Vec<Planner<S, J>>,
     script: &Script<'i>,
 ) -> Vec<Planner<S, J>> {
@@ -43,10 +41,10 @@ fn play_at<'i, S: Sheet<'i>, J: Naming, R: Wait>(
         lines: script.lines,
         viewer: VIEWER,
     };
-    answer_lines(story, rt, desk, here, &mut seats, &part);
+    answer_lines(story, here, &mut seats, &part);
     story.compare(story.answers, story.end, from, "on a shared desk");
     for part in LOOKS {
-        answer_lines(story, rt, desk, here, &mut seats, part);
+        answer_lines(story, here, &mut seats, part);
     }
     leave(story, seats)
 }
@@ -85,12 +83,18 @@ fn play_named<'i, S: Sheet<'i>, J: Naming, R: Wait>(
     story: &mut Story,
     rt: &R,
     named: Named<S, J>,
-    here: &Here<'i, J>,
     script: &Script<'i>,
-) {
+)
+    requires { J.problem ≡ script.now.small.now }
+{
     match SharedDesk::<S, J>::new(rt, named) {
         Ok((desk, all)) => {
-            let mut planners = play_at(story, rt, &desk, here, all, script);
+            let here = Here {
+                rt,
+                desk: &desk,
+                small: script.small,
+            };
+            let mut planners = play_at(story, &here, all, script);
             close(story, rt, desk, planners.as_mut_slice(), script);
             let_go(planners);
         }
@@ -109,16 +113,12 @@ fn named_on_list<'i, J: Naming, R: Wait>(
     requires named { IsNamed J.problem J.opening J.planners J.book opened count }
     requires problem { opened.problem ≡ script.now.small.now }
 {
-    let here = Here {
-        small: script.small,
-        desk: PhantomData,
-    };
     let named = Named {
         opened,
         count,
         name: PhantomData,
     };
-    play_named::<ListSheet, J, R>(story, rt, named, &here, script);
+    play_named::<ListSheet, J, R>(story, rt, named, script);
 }
 
 /// Plays a script on a desk of list sheets.
@@ -140,16 +140,12 @@ fn named_on_grid<'i, J: Naming, R: Wait>(
     requires named { IsNamed J.problem J.opening J.planners J.book opened count }
     requires problem { opened.problem ≡ script.now.small.now }
 {
-    let here = Here {
-        small: script.small,
-        desk: PhantomData,
-    };
     let named = Named {
         opened,
         count,
         name: PhantomData,
     };
-    play_named::<GridSheet, J, R>(story, rt, named, &here, script);
+    play_named::<GridSheet, J, R>(story, rt, named, script);
 }
 
 /// Plays a script on a desk of grid sheets.
@@ -161,8 +157,8 @@ pub(crate) fn on_grid<R: Wait>(story: &mut Story, rt: &R, script: &Script) {
 }
 
 /// Tells whether a desk opens with the lectures of a script.
-pub(crate) fn tell_opening(story: &mut Story, script: &Script) {
-    match opened::<GridSheet>(story.alloc(), script) {
+pub(crate) fn tell_opening<'i, S: Sheet<'i>>(story: &mut Story, script: &Script<'i>) {
+    match opened::<S>(story.alloc(), script) {
         Ok(opened) => {
             story.say("opened");
             let_go(opened);

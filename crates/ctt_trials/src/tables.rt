@@ -89,7 +89,7 @@ const LEFT: &[Play] = plays![
 /// An opening that is refused, in each way.
 const UNLAWFUL: &[Play] = plays![
     Way::Grid(On::Step) => "",
-    Way::Plain(Plain::Opening) => "",
+    Way::Grid(On::Opening) => "",
     Way::Grid(On::Audit) => "",
     Way::Grid(On::Text) => "",
 ];
@@ -101,7 +101,7 @@ const A_CREW: &[Play] = plays![Way::Plain(Plain::Crew) => ""];
 const CUT: &[Play] = plays![Way::Plain(Plain::Cut) => ""];
 
 /// A script on devices that fail.
-const DEVICES: &[Play] = plays![Way::Plain(Plain::Devices) => ""];
+const DEVICES: &[Play] = plays![Way::Grid(On::Devices) => ""];
 
 /// The ways in which a case is played.
 pub(crate) fn plays_of(ways: &Ways) -> &'static [Play] {

@@ -8,7 +8,7 @@ tell_stale-requires g c κs =
 
 pub tell_stale-requires-2 : goal.tell_stale-requires-2
 tell_stale-requires-2 g c κs =
-    let same : g.S.Rooms.problem c.args.other.now ≡ c.ask_often.new.draft.problem = c.requires ∙ sym (c.ask_often.ensures ∙ c.in-Ok.ensures.problem) in
+    let same : g.S.Rooms.problem c.place_top.new.sheet ≡ c.ask_often.new.draft.problem = c.place_top.ensures ∙ c.requires ∙ sym (c.ask_often.ensures ∙ c.in-Ok.ensures.problem) in
     search rules
 
 pub settle-requires : goal.settle-requires
