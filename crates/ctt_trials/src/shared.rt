@@ -29,9 +29,11 @@ fn opened<'i, S: Sheet<'i>>(alloc: Global, script: &Script<'i>) -> Result<Opened
 }
 
 /// The planners play a script at their desk, and look at what it has left. They come back from their seats.
-fn play_at<'a, 'i, S: Sheet<'i>, J: Naming, R: Wait>(
+fn play_at<'i, S: Sheet<'i>, J: Naming, R: Wait>(
     story: &mut Story,
-    here: &Here<'a, 'i, S, J, R>,
+    rt: &R,
+    desk: &SharedDesk<S, J>,
+    here: &Here<'i, J>,
     planners: Vec<Planner<S, J>>,
     script: &Script<'i>,
 ) -> Vec<Planner<S, J>> {
@@ -41,10 +43,10 @@ fn play_at<'a, 'i, S: Sheet<'i>, J: Naming, R: Wait>(
         lines: script.lines,
         viewer: VIEWER,
     };
-    answer_lines(story, here, &mut seats, &part);
+    answer_lines(story, rt, desk, here, &mut seats, &part);
     story.compare(story.answers, story.end, from, "on a shared desk");
     for part in LOOKS {
-        answer_lines(story, here, &mut seats, part);
+        answer_lines(story, rt, desk, here, &mut seats, part);
     }
     leave(story, seats)
 }
@@ -83,18 +85,12 @@ fn play_named<'i, S: Sheet<'i>, J: Naming, R: Wait>(
     story: &mut Story,
     rt: &R,
     named: Named<S, J>,
+    here: &Here<'i, J>,
     script: &Script<'i>,
-)
-    requires { J.problem ≡ script.now.small.now }
-{
+) {
     match SharedDesk::<S, J>::new(rt, named) {
         Ok((desk, all)) => {
-            let here = Here {
-                rt,
-                desk: &desk,
-                small: script.small,
-            };
-            let mut planners = play_at(story, &here, all, script);
+            let mut planners = play_at(story, rt, &desk, here, all, script);
             close(story, rt, desk, planners.as_mut_slice(), script);
             let_go(planners);
         }
@@ -113,12 +109,16 @@ fn named_on_list<'i, J: Naming, R: Wait>(
     requires named { IsNamed J.problem J.opening J.planners J.book opened count }
     requires problem { opened.problem ≡ script.now.small.now }
 {
+    let here = Here {
+        small: script.small,
+        desk: PhantomData,
+    };
     let named = Named {
         opened,
         count,
         name: PhantomData,
     };
-    play_named::<ListSheet, J, R>(story, rt, named, script);
+    play_named::<ListSheet, J, R>(story, rt, named, &here, script);
 }
 
 /// Plays a script on a desk of list sheets.
@@ -140,12 +140,16 @@ fn named_on_grid<'i, J: Naming, R: Wait>(
     requires named { IsNamed J.problem J.opening J.planners J.book opened count }
     requires problem { opened.problem ≡ script.now.small.now }
 {
+    let here = Here {
+        small: script.small,
+        desk: PhantomData,
+    };
     let named = Named {
         opened,
         count,
         name: PhantomData,
     };
-    play_named::<GridSheet, J, R>(story, rt, named, script);
+    play_named::<GridSheet, J, R>(story, rt, named, &here, script);
 }
 
 /// Plays a script on a desk of grid sheets.

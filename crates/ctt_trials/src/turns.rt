@@ -12,6 +12,7 @@ use ctt_desk::{Naming, Planner, Receipt, SharedDesk};
 use ctt_script::{Lines, PLANNERS, read_line};
 use ctt_story::Story;
 use ctt_text::{Instance, let_go};
+use std::marker::PhantomData;
 use std::sync::Wait;
 
 /// The place of the planner who learns each receipt.
@@ -20,12 +21,11 @@ const LEARNER: u16 = 2;
 /// The place of the planner who learns nothing, and looks at the timetable as it stands.
 pub(crate) const VIEWER: u16 = 3;
 
-/// A desk with its instance.
+/// The instance of a desk.
 #[derive(Drop)]
-pub(crate) struct Here<'a, 'i, S: Sheet<'i>, J: Naming, R: Wait> {
-    pub(crate) rt: &'a R,
-    pub(crate) desk: &'a SharedDesk<S, J>,
+pub(crate) struct Here<'i, J: Naming> {
     pub(crate) small: &'i Instance,
+    pub(crate) desk: PhantomData<J>,
     ghost same: { J.problem ≡ small.now },
 }
 
@@ -100,10 +100,7 @@ pub(crate) fn leave<'i, S: Sheet<'i>, J: Naming>(
 }
 
 /// Whether an event has numbers of the instance of a desk.
-fn event_fits<'a, 'i, S: Sheet<'i>, J: Naming, R: Wait>(
-    here: &Here<'a, 'i, S, J, R>,
-    event: &Event,
-) -> bool
+fn event_fits<'i, J: Naming>(here: &Here<'i, J>, event: &Event) -> bool
     ensures { IsTrue result ↔ EventFits J.problem 64 event.now }
 {
     event.fits(here.small, PLANNERS)
@@ -117,12 +114,13 @@ fn learn<'i, S: Sheet<'i>, J: Naming>(seats: &mut [Option<Seat<'i, S, J>>], rece
 }
 
 /// A planner commits his draft. His receipt is learnt where he has one.
-fn commit<'a, 'i, S: Sheet<'i>, J: Naming, R: Wait>(
-    here: &Here<'a, 'i, S, J, R>,
+fn commit<'i, S: Sheet<'i>, J: Naming, R: Wait>(
+    rt: &R,
+    desk: &SharedDesk<S, J>,
     seats: &mut [Option<Seat<'i, S, J>>],
     seat: Seat<'i, S, J>,
 ) -> (Seat<'i, S, J>, Told) {
-    let (seat, outcome) = seat.commit(here.rt, here.desk);
+    let (seat, outcome) = seat.commit(rt, desk);
     match outcome {
         Ok(receipt) => {
             learn(seats, &receipt);
@@ -133,19 +131,21 @@ fn commit<'a, 'i, S: Sheet<'i>, J: Naming, R: Wait>(
 }
 
 /// A planner does what an event says.
-fn take<'a, 'i, S: Sheet<'i>, J: Naming, R: Wait>(
-    here: &Here<'a, 'i, S, J, R>,
+fn take<'i, S: Sheet<'i>, J: Naming, R: Wait>(
+    rt: &R,
+    desk: &SharedDesk<S, J>,
+    here: &Here<'i, J>,
     seats: &mut [Option<Seat<'i, S, J>>],
     seat: Seat<'i, S, J>,
     event: &Event,
 ) -> (Seat<'i, S, J>, Told) {
     if matches!(event, Event::Commit(_)) {
-        return commit(here, seats, seat);
+        return commit(rt, desk, seats, seat);
     }
     if !event_fits(here, event) {
         return (seat, Told::NotYours(0));
     }
-    seat.take(here.rt, here.desk, *event)
+    seat.take(rt, desk, *event)
 }
 
 /// Tells what a planner is told, and answers whether it was told: want of memory is not, and no more a place that was refused,
@@ -162,16 +162,18 @@ fn tell(story: &mut Story, small: &Instance, told: &Told) -> bool {
 }
 
 /// The planner of a place does what an event says. Answers whether he was told something, and not that memory is wanted.
-fn tells_place<'a, 'i, S: Sheet<'i>, J: Naming, R: Wait>(
+fn tells_place<'i, S: Sheet<'i>, J: Naming, R: Wait>(
     story: &mut Story,
-    here: &Here<'a, 'i, S, J, R>,
+    rt: &R,
+    desk: &SharedDesk<S, J>,
+    here: &Here<'i, J>,
     seats: &mut [Option<Seat<'i, S, J>>],
     place: usize,
     event: &Event,
 ) -> bool {
     match take_at(seats, place) {
         Some(seat) => {
-            let (seat, told) = take(here, seats, seat, event);
+            let (seat, told) = take(rt, desk, here, seats, seat, event);
             put_at(seats, place, seat);
             tell(story, here.small, &told)
         }
@@ -183,15 +185,17 @@ fn tells_place<'a, 'i, S: Sheet<'i>, J: Naming, R: Wait>(
 }
 
 /// The planner of a place does what an event says, and once more where memory is wanted.
-fn answer<'a, 'i, S: Sheet<'i>, J: Naming, R: Wait>(
+fn answer<'i, S: Sheet<'i>, J: Naming, R: Wait>(
     story: &mut Story,
-    here: &Here<'a, 'i, S, J, R>,
+    rt: &R,
+    desk: &SharedDesk<S, J>,
+    here: &Here<'i, J>,
     seats: &mut [Option<Seat<'i, S, J>>],
     place: usize,
     event: &Event,
 ) {
     for turn in 0..2 {
-        if tells_place(story, here, seats, place, event) {
+        if tells_place(story, rt, desk, here, seats, place, event) {
             return;
         }
         story.call_again();
@@ -207,9 +211,11 @@ fn drop_first<'i, S: Sheet<'i>, J: Naming>(seats: &mut [Option<Seat<'i, S, J>>],
 }
 
 /// The lines of a part. At a blank one the first planner is dropped, with the draft that he may have open.
-pub(crate) fn answer_lines<'a, 'i, S: Sheet<'i>, J: Naming, R: Wait>(
+pub(crate) fn answer_lines<'i, S: Sheet<'i>, J: Naming, R: Wait>(
     story: &mut Story,
-    here: &Here<'a, 'i, S, J, R>,
+    rt: &R,
+    desk: &SharedDesk<S, J>,
+    here: &Here<'i, J>,
     seats: &mut [Option<Seat<'i, S, J>>],
     part: &Part,
 ) {
@@ -217,7 +223,7 @@ pub(crate) fn answer_lines<'a, 'i, S: Sheet<'i>, J: Naming, R: Wait>(
         match read_line(here.small, line) {
             Some(event) => {
                 let place = place_of(&event, part.viewer);
-                answer(story, here, seats, place, &event);
+                answer(story, rt, desk, here, seats, place, &event);
             }
             None => drop_first(seats, line),
         }
