@@ -6,8 +6,8 @@ tell_stale-requires g c κs =
     let same : g.S.Rooms.problem c.args.sheet.now ≡ c.ask_often.new.draft.problem = sym (c.ask_often.ensures ∙ c.in-Ok.ensures.problem) in
     search rules
 
-pub tell_stale-requires-2 : goal.tell_stale-requires-2
-tell_stale-requires-2 g c κs =
+pub tell_stale-requires-in-Ok : goal.tell_stale-requires-in-Ok
+tell_stale-requires-in-Ok g c κs =
     let same : g.S.Rooms.problem c.place_top.new.sheet ≡ c.ask_often.new.draft.problem = c.place_top.ensures ∙ c.requires ∙ sym (c.ask_often.ensures ∙ c.in-Ok.ensures.problem) in
     search rules
 
