@@ -13,12 +13,10 @@
 # where the system wanted the memory for it: then what it answered, and the minutes, are the front of what they are with memory, and
 # what was told as committed is in the minutes.
 #
-# It needs a C compiler. TRIALS names other builds of both programs of trials, with a blank between, and PROGRAM one of the program.
-# The last line is 'N passed, M failed', of runs that met a refusal.
+# It needs a C compiler. TRIALS and PROGRAM name other builds. The last line is 'N passed, M failed', of runs that met a refusal.
 set -u
 here=$(CDPATH='' cd -- "$(dirname -- "${BASH_SOURCE[0]}")/.." && pwd) || exit 1
-trials=("$here/crates/ctt_text_trials/out/ctt_text_trials" "$here/crates/ctt_trials/out/ctt_trials")
-[ -z "${TRIALS:-}" ] || read -ra trials <<<"$TRIALS"
+trials=${TRIALS:-$here/crates/ctt_trials/out/ctt_trials}
 program=${PROGRAM:-$here/crates/ctt_tool/out/ctt_tool}
 room=$(mktemp -d) || exit 1
 trap 'rm -rf -- "$room"' EXIT
@@ -88,23 +86,23 @@ printf '%s\n' '0 open' '0 place geo A 0 1' '2 open' '2 slot 0 2' '1 open' '1 pla
     '0 commit' >refreshed
 lanes=$(nproc)
 
-# Runs a program of trials with each request refused whose number is that of the lane, or so many more, and notes how each run ended.
+# Runs the trials with each request refused whose number is that of the lane, or so many more, and notes how each run ended.
 lane() {
     local number printed told kind
     for ((number = $1; ; number += lanes)); do
-        printed=$(LD_PRELOAD=$room/refuse.so MET=met.$1 REFUSE=$number "$played" 2>/dev/null && echo done)
+        printed=$(LD_PRELOAD=$room/refuse.so MET=met.$1 REFUSE=$number "$trials" 2>/dev/null && echo done)
         kind=
         read -r kind <"met.$1"
         [ -n "$kind" ] || break
         told=${printed##*again }
         if [ "${printed%again *}" != "$wanted" ] || [[ ! $told =~ ^[0-9]+$'\n'done$ ]]; then
-            echo "FAILED: ${played##*/}, request $number"
+            echo "FAILED: the trials, request $number"
         elif [[ $told != 0* ]]; then
             echo again
         elif [ "$kind" = less ]; then
             echo back
         else
-            echo "FAILED: ${played##*/}, request $number, which could be done without"
+            echo "FAILED: the trials, request $number, which could be done without"
         fi
     done
 }
@@ -112,18 +110,16 @@ lane() {
 # How many runs were noted as this.
 noted() { cat lane.* | grep -c "$@"; }
 
-for played in "${trials[@]}"; do
-    wanted=$("$played")
-    wanted=${wanted%again *}
-    if [ -z "$wanted" ]; then
-        echo "${played##*/} prints nothing"
-        exit 1
-    fi
-    for ((first = 1; first <= lanes; first++)); do
-        lane "$first" >>"lane.$first" &
-    done
-    wait
+wanted=$("$trials")
+wanted=${wanted%again *}
+if [ -z "$wanted" ]; then
+    echo 'the trials print nothing'
+    exit 1
+fi
+for ((first = 1; first <= lanes; first++)); do
+    lane "$first" >"lane.$first" &
 done
+wait
 cat lane.* | grep FAILED | head -n 20
 passed=$(noted -v FAILED)
 failed=$(noted FAILED)

@@ -2,10 +2,9 @@
 
 ghost use Rattle.ctt_text.specs.Timetable.{IsTimetable};
 
-use crate::tables::plays_of;
-use crate::{crews, desks, drafts, journals, scripts, shared, sheets};
+use crate::story::Story;
+use crate::{crews, cuts, desks, drafts, journals, scripts, shared, sheets, shown, transfers};
 use ctt_board::{GridSheet, ListSheet, Sheet};
-use ctt_story::Story;
 use ctt_text::{Instance, Placed, is_timetable, let_go, read_solution};
 use std::marker::Sync;
 use std::sync::Wait;
@@ -27,12 +26,22 @@ pub(crate) enum Way {
 
 /// How a case is played without a sheet.
 pub(crate) enum Plain {
+    /// The reports on its opening.
+    Reports,
+    /// Its opening is written and read again.
+    Written,
+    /// What is found of its opening, its week and its page.
+    Findings,
     /// Which rows its line reads.
     Rows,
     /// Its lines are the script of a crew of one.
     Crew,
-    /// A journal that is cut, and one that counts falsely.
+    /// Texts that are cut, and texts that count falsely.
     Cut,
+    /// Its lines are a text that is read from devices that fail.
+    Reads,
+    /// Its lines are a text that is written to devices that fail.
+    Writes,
 }
 
 /// How a case is played on sheets of one kind.
@@ -43,8 +52,10 @@ pub(crate) enum On {
     Placement,
     /// Which changes a sheet accepts.
     Accepted,
-    /// Its lines, each of which is a call, are asked of a draft so often.
-    Draft(u64),
+    /// A draft that is stale on another sheet.
+    Draft,
+    /// A draft of a thousand calls.
+    LongDraft,
     /// Its lines as events, one by one.
     Step,
     /// Its lines as events, all at once.
@@ -53,12 +64,12 @@ pub(crate) enum On {
     Text,
     /// Its lines as a script on devices that fail.
     Devices,
-    /// Whether a shared desk opens.
-    Opening,
     /// Its lines are the text of a journal, which is audited.
     Audit,
     /// Its lines are the text of a journal, and what this leaves is told.
     Left,
+    /// Whether a shared desk opens.
+    Opening,
 }
 
 /// One way in which a case is played.
@@ -68,24 +79,6 @@ pub(crate) struct Play {
     pub(crate) called: &'static str,
 }
 
-/// In which ways a case is played: `tables` has them.
-pub(crate) enum Ways {
-    Lines,
-    Placement,
-    Accepted,
-    Rows,
-    Draft,
-    LongDraft,
-    Desk,
-    Bad,
-    Audit,
-    Left,
-    Unlawful,
-    Crew,
-    Cut,
-    Devices,
-}
-
 /// A case.
 pub(crate) struct Case {
     /// Its name, if it has one.
@@ -93,7 +86,9 @@ pub(crate) struct Case {
     /// The text of the timetable that stands at first.
     pub(crate) opening: &'static str,
     pub(crate) lines: &'static str,
-    pub(crate) ways: Ways,
+    pub(crate) plays: &'static [Play],
+    /// Whether the first planner is dropped when another one begins, with the draft that he has open, where the desk is shared.
+    pub(crate) drops: bool,
 }
 
 /// The lines of a case, with its instance and the lectures with which it opens.
@@ -102,6 +97,7 @@ pub(crate) struct Script<'i> {
     pub(crate) small: &'i Instance,
     pub(crate) opening: &'i [Placed],
     pub(crate) lines: &'i str,
+    pub(crate) drops: bool,
 }
 
 /// Plays a case without a sheet.
@@ -109,9 +105,14 @@ fn play_plain<R: Threads + Wait + Sync>(story: &mut Story, rt: &R, plain: &Plain
     requires { IsTimetable script.now.small.now script.now.opening.now }
 {
     match plain {
+        Plain::Reports => shown::play_reports(story, script),
+        Plain::Written => shown::play_written(story, script),
+        Plain::Findings => shown::play_findings(story, script),
         Plain::Rows => sheets::tell_rows(story, script),
         Plain::Crew => crews::play(story, rt, script),
-        Plain::Cut => journals::play_cut(story, script.small),
+        Plain::Cut => cuts::play(story, script.small),
+        Plain::Reads => transfers::play_reads(story, script.lines),
+        Plain::Writes => transfers::play_writes(story, script.lines),
     }
 }
 
@@ -121,14 +122,14 @@ fn play_way<'i, S: Sheet<'i>>(story: &mut Story, on: &On, script: &Script<'i>)
 {
     match on {
         On::Lines | On::Placement | On::Accepted => sheets::play::<S>(story, on, script),
-        On::Draft(times) => drafts::play::<S>(story, script.small, script.lines, *times),
+        On::Draft | On::LongDraft => drafts::play::<S>(story, on, script.small),
         On::Step | On::Run => desks::play::<S>(story, on, script),
         On::Text => scripts::play_script::<S>(story, script),
         On::Devices => scripts::play_devices::<S>(story, script),
-        On::Opening => shared::tell_opening::<S>(story, script),
         On::Audit | On::Left => {
             journals::read_text::<S>(story, on, script, script.lines.as_bytes());
         }
+        On::Opening => shared::tell_opening::<S>(story, script),
     }
 }
 
@@ -168,9 +169,10 @@ fn play_opened<R: Threads + Wait + Sync>(
         small,
         opening,
         lines: case.lines,
+        drops: case.drops,
     };
     let (mut from, mut to) = (0, 0);
-    for play in plays_of(&case.ways) {
+    for play in case.plays {
         let here = story.len();
         story.marked = 0;
         play_once(story, rt, &play.way, &script);

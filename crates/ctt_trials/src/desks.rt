@@ -5,15 +5,14 @@ ghost use Rattle.std.specs.Prelude.{◌↔◌, IsTrue, length};
 ghost use Rattle.std.specs.List.{AllByRecursion as Each};
 ghost use Rattle.ctt_core.specs.Runs.{EventFits};
 
-use crate::answers::{tell_all, tell_bad_line, tell_timetable, tell_unlawful, tells};
 use crate::cases::{On, Script};
 use crate::journals::tell_journal;
 use crate::lists::add;
+use crate::story::Story;
 use ctt_board::Sheet;
-use ctt_core::{Desk, DeskFault, Event};
+use ctt_core::{Answer, Desk, DeskFault, Event};
 use ctt_draft::KeepAll;
 use ctt_script::{Lines, PLANNERS, read_line};
-use ctt_story::Story;
 use ctt_text::{Instance, NoMemory, let_go};
 
 /// Tells the lectures, the cost and the journal of a desk.
@@ -21,8 +20,10 @@ pub(crate) fn tell_desk<'i, S: Sheet<'i>>(
     story: &mut Story,
     script: &Script<'i>,
     desk: &Desk<'i, S, KeepAll>,
-) {
-    tell_timetable(story, script.small, desk.list(), desk.cost());
+)
+    requires { IsTimetable script.now.small.now script.now.opening.now }
+{
+    story.timetable(script.small, desk.list(), desk.cost());
     tell_journal::<S>(story, script, desk.journal());
 }
 
@@ -33,29 +34,38 @@ fn event_fits<'i, S: Sheet<'i>>(desk: &Desk<'i, S, KeepAll>, event: &Event) -> b
     event.fits(desk.instance(), desk.planners())
 }
 
-/// Tells what a desk answers to an event, and whether it is told: want of memory is not.
-fn tells_step<'i, S: Sheet<'i>>(
-    story: &mut Story,
-    desk: &mut Desk<'i, S, KeepAll>,
-    event: &Event,
-) -> bool {
+/// What a desk answers to an event of it.
+fn step_once<'i, S: Sheet<'i>>(desk: &mut Desk<'i, S, KeepAll>, event: &Event) -> Answer {
     if !event_fits(desk, event) {
-        return false;
+        return Answer::NoMemory;
     }
-    let small = desk.instance();
-    tells(story, small, &desk.step(*event))
+    desk.step(*event)
 }
 
 /// Tells what a desk answers to an event. Where that is want of memory, it is asked again.
 fn tell_answer<'i, S: Sheet<'i>>(
     story: &mut Story,
+    small: &'i Instance,
     desk: &mut Desk<'i, S, KeepAll>,
     event: &Event,
 ) {
-    if !tells_step(story, desk, event) {
-        story.call_again();
-        if !tells_step(story, desk, event) {
-            story.no_memory();
+    if story.tells(small, &step_once(desk, event)) {
+        return;
+    }
+    story.call_again();
+    story.answer(small, &step_once(desk, event));
+}
+
+/// Answers a script line by line.
+fn answer_lines<'i, S: Sheet<'i>>(
+    story: &mut Story,
+    script: &Script<'i>,
+    desk: &mut Desk<'i, S, KeepAll>,
+) {
+    for line in Lines::new(script.lines.as_bytes()) {
+        match read_line(script.small, line) {
+            Some(event) => tell_answer(story, script.small, desk, &event),
+            None => story.bad_line(line),
         }
     }
 }
@@ -72,17 +82,14 @@ impl OfLine for Event {
     }
 }
 
-/// What the lines of a script ask for. The bad ones are told.
+/// What the lines of a script ask for, with nothing for a bad line.
 fn asked_in<T: OfLine>(story: &mut Story, script: &Script) -> Vec<T> {
     let mut list = Vec::new(story.alloc());
     for line in Lines::new(script.lines.as_bytes()) {
-        match T::of_line(script.small, line) {
-            Some(one) => {
-                if add(&mut list, one).is_err() {
-                    story.no_memory();
-                }
+        if let Some(one) = T::of_line(script.small, line) {
+            if add(&mut list, one).is_err() {
+                story.no_memory();
             }
-            None => tell_bad_line(story, line),
         }
     }
     list
@@ -105,36 +112,36 @@ fn events_fit<'i, S: Sheet<'i>>(desk: &Desk<'i, S, KeepAll>, events: &[Event]) -
 
 /// Tells what a desk answers to events at once. Where an event wants memory those behind it meet another desk than they
 /// should: then the case is played again.
-fn tell_run<'i, S: Sheet<'i>>(
+fn tell_answers<'i, S: Sheet<'i>>(
     story: &mut Story,
+    small: &'i Instance,
     desk: &mut Desk<'i, S, KeepAll>,
     events: &[Event],
 ) {
     if !events_fit(desk, events) {
         return story.say("unfit");
     }
-    let small = desk.instance();
     match desk.run(events) {
-        Ok(answers) => tell_all(story, small, &answers),
+        Ok(answers) => story.answers(small, &answers),
         Err(NoMemory) => story.no_memory(),
     }
 }
 
-/// Plays a script on a desk event by event, or at once, and tells what the desk then has. The place where its answers end in what is
-/// told is marked.
+/// Plays a script on a desk event by event, or at once, and tells what the desk then has. The place where its answers end in
+/// what is told is marked.
 fn play_at<'i, S: Sheet<'i>>(
     story: &mut Story,
     on: &On,
     script: &Script<'i>,
     desk: &mut Desk<'i, S, KeepAll>,
-) {
-    let events = asked_in::<Event>(story, script);
+)
+    requires { IsTimetable script.now.small.now script.now.opening.now }
+{
     if matches!(on, On::Run) {
-        tell_run(story, desk, &events);
+        let events = asked_in::<Event>(story, script);
+        tell_answers(story, script.small, desk, &events);
     } else {
-        for event in &events {
-            tell_answer(story, desk, event);
-        }
+        answer_lines(story, script, desk);
     }
     story.marked = story.len();
     tell_desk(story, script, desk);
@@ -149,7 +156,7 @@ pub(crate) fn play<'i, S: Sheet<'i>>(story: &mut Story, on: &On, script: &Script
             play_at(story, on, script, &mut desk);
             let_go(desk);
         }
-        Err(DeskFault::Unlawful(at, fault)) => tell_unlawful(story, script.small, at, fault),
+        Err(DeskFault::Unlawful(at, fault)) => story.unlawful(script.small, at, fault),
         Err(DeskFault::NoMemory) => story.no_memory(),
     }
 }

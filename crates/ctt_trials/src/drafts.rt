@@ -1,17 +1,31 @@
-//! A draft by itself: its calls, on which sheets it is stale, what it would change, and what it leaves.
+//! Drafts by themselves.
 
-ghost use Rattle.std.specs.Prelude.{◌≡◌, ◌↔◌, IsTrue};
+ghost use Rattle.std.specs.Prelude.{◌≡◌, ◌↔◌, IsTrue, IfOk};
 ghost use Rattle.ctt_edits.specs.Calls.{CallFits};
 
-use crate::answers::{tell, tell_bad_line, tell_reply};
+use crate::cases::On;
 use crate::sheets::{call_of, tell_cells, tell_sheet};
+use crate::story::Story;
 use ctt_board::{Cell, Change, Sheet, Timetable};
 use ctt_core::Answer;
 use ctt_draft::{Draft, KeepAll, replay};
-use ctt_edits::Call;
-use ctt_script::Lines;
-use ctt_story::Story;
+use ctt_edits::{Call, Reply};
 use ctt_text::{CourseNo, Instance, NoMemory, RoomNo, SlotNo, let_go};
+use std::alloc::Global;
+
+/// An empty sheet.
+fn empty_sheet<'i, S: Sheet<'i>>(alloc: Global, small: &'i Instance) -> Result<S, NoMemory>
+    ensures { IfOk result (λ sheet. S.problem sheet ≡ small.now) }
+{
+    S::empty(alloc, small)
+}
+
+/// Opens a draft on a sheet.
+fn open<'i, S: Sheet<'i>>(alloc: Global, sheet: &S) -> Result<Draft<'i, S, KeepAll>, NoMemory>
+    ensures { IfOk result (λ draft. draft.problem ≡ S.problem sheet.now) }
+{
+    Draft::open(alloc, sheet)
+}
 
 /// Whether a call has numbers of a draft's instance.
 fn call_fits<'i, S: Sheet<'i>>(draft: &Draft<'i, S, KeepAll>, call: &Call) -> bool
@@ -20,66 +34,77 @@ fn call_fits<'i, S: Sheet<'i>>(draft: &Draft<'i, S, KeepAll>, call: &Call) -> bo
     call.fits(draft.instance())
 }
 
-/// Tells what a draft answers to a call, and answers whether it is told: want of memory is not.
-fn tells_asked<'i, S: Sheet<'i>>(
-    story: &mut Story,
+/// What a draft answers to a call of its instance.
+fn ask_once<'i, S: Sheet<'i>>(
     draft: &mut Draft<'i, S, KeepAll>,
     call: &Call,
-) -> bool
+) -> Result<Reply, NoMemory>
     ensures { draft.new.problem ≡ draft.old.problem }
 {
     if !call_fits(draft, call) {
-        return false;
+        return Err(NoMemory);
     }
-    let small = draft.instance();
-    match draft.call(*call) {
-        Ok(reply) => {
-            tell_reply(story, small, reply);
-            true
-        }
-        Err(NoMemory) => false,
-    }
+    draft.call(*call)
 }
 
-/// Asks a draft what a line says, and once more where memory is wanted.
-fn ask<'i, S: Sheet<'i>>(story: &mut Story, draft: &mut Draft<'i, S, KeepAll>, line: &[u8])
-    ensures { draft.new.problem ≡ draft.old.problem }
-{
-    match call_of(draft.instance(), line) {
-        Some(call) => {
-            if !tells_asked(story, draft, &call) {
-                story.call_again();
-                if !tells_asked(story, draft, &call) {
-                    story.no_memory();
-                }
-            }
-        }
-        None => tell_bad_line(story, line),
-    }
-}
-
-/// Asks a draft what lines say.
-fn ask_lines<'i, S: Sheet<'i>>(story: &mut Story, draft: &mut Draft<'i, S, KeepAll>, lines: &str)
-    ensures { draft.new.problem ≡ draft.old.problem }
-{
-    for line in Lines::new(lines.as_bytes()) {
-        ask(story, draft, line);
-    }
-}
-
-/// Asks a draft so often what lines say. The answers are told that it gives at last.
-fn ask_often<'i, S: Sheet<'i>>(
+/// What a draft answers to a call. Where that is want of memory, it is asked again.
+fn ask<'i, S: Sheet<'i>>(
     story: &mut Story,
     draft: &mut Draft<'i, S, KeepAll>,
-    lines: &str,
-    times: u64,
-)
+    call: &Call,
+) -> Option<Reply>
     ensures { draft.new.problem ≡ draft.old.problem }
 {
-    let here = story.len();
-    for turn in 0..times {
-        story.untell(here);
-        ask_lines(story, draft, lines);
+    match ask_once(draft, call) {
+        Ok(reply) => Some(reply),
+        Err(NoMemory) => {
+            story.call_again();
+            ask_once(draft, call).ok()
+        }
+    }
+}
+
+/// What a draft answers to the call of a line, unless the case is to be played again.
+fn ask_line<'i, S: Sheet<'i>>(
+    story: &mut Story,
+    draft: &mut Draft<'i, S, KeepAll>,
+    line: &str,
+) -> Option<Reply>
+    ensures { draft.new.problem ≡ draft.old.problem }
+{
+    match call_of(draft.instance(), line.as_bytes()) {
+        Some(call) => ask(story, draft, &call),
+        None => None,
+    }
+}
+
+/// Asks a draft what a line says, and tells the answer.
+fn tell_asked<'i, S: Sheet<'i>>(story: &mut Story, draft: &mut Draft<'i, S, KeepAll>, line: &str)
+    ensures { draft.new.problem ≡ draft.old.problem }
+{
+    let small = draft.instance();
+    match ask_line(story, draft, line) {
+        Some(reply) => story.answer(small, &Answer::Replied(reply)),
+        None => story.no_memory(),
+    }
+}
+
+/// Asks a draft what a line says: an edit, whose answer is not told.
+fn make<'i, S: Sheet<'i>>(story: &mut Story, draft: &mut Draft<'i, S, KeepAll>, line: &str)
+    ensures { draft.new.problem ≡ draft.old.problem }
+{
+    if !matches!(ask_line(story, draft, line), Some(Reply::Done)) {
+        story.no_memory();
+    }
+}
+
+/// Asks a draft a thousand times, by turns to place geo and to drop it again.
+fn ask_often<'i, S: Sheet<'i>>(story: &mut Story, draft: &mut Draft<'i, S, KeepAll>)
+    ensures { draft.new.problem ≡ draft.old.problem }
+{
+    for turn in 0..500u64 {
+        make(story, draft, "place geo A 0 1");
+        make(story, draft, "drop geo 0 1");
     }
 }
 
@@ -88,17 +113,25 @@ fn tell_stale<'i, S: Sheet<'i>>(story: &mut Story, draft: &Draft<'i, S, KeepAll>
     requires { S.problem sheet.now ≡ draft.now.problem }
 {
     match draft.stale(sheet) {
-        Ok(Some(row)) => tell(story, draft.instance(), &Answer::Stale(row)),
+        Ok(Some(row)) => story.answer(sheet.instance(), &Answer::Stale(row)),
         Ok(None) => story.say("not stale"),
         Err(NoMemory) => story.no_memory(),
     }
 }
 
-/// Tells what the changes of a draft leave on another sheet, the cells that it would put back, and how many changes and calls it
-/// has.
-fn tell_work<'i, S: Sheet<'i>>(story: &mut Story, draft: &Draft<'i, S, KeepAll>, other: &mut S) {
-    story.count("replayed", u64::from(replay(draft.changes(), other)));
-    tell_sheet(story, other);
+/// Makes the changes of a draft again on a copy of a sheet.
+fn tell_replayed<'i, S: Sheet<'i>>(story: &mut Story, draft: &Draft<'i, S, KeepAll>, sheet: &S) {
+    match sheet.copy() {
+        Ok(mut copy) => {
+            story.count("replayed", u64::from(replay(draft.changes(), &mut copy)));
+            tell_sheet(story, &copy);
+        }
+        Err(NoMemory) => story.no_memory(),
+    }
+}
+
+/// Tells the cells that a draft would put back, and how many changes and calls it has.
+fn tell_work<'i, S: Sheet<'i>>(story: &mut Story, draft: &Draft<'i, S, KeepAll>) {
     tell_cells(story, draft.undo());
     story.count("changes", draft.changes().len() as u64);
     story.count("calls", draft.asked().len() as u64);
@@ -124,6 +157,32 @@ fn settle<'i, S: Sheet<'i>>(story: &mut Story, draft: Draft<'i, S, KeepAll>, she
     }
 }
 
+/// A draft on an empty sheet that looks at a slot and places geo. Another sheet has top in that slot.
+fn one_draft<'i, S: Sheet<'i>>(story: &mut Story, sheet: &mut S, other: &S)
+    requires { S.problem other.now ≡ S.problem sheet.old }
+{
+    let Ok(mut draft) = open(story.alloc(), sheet) else {
+        return story.no_memory();
+    };
+    tell_asked(story, &mut draft, "slot 0 2");
+    tell_asked(story, &mut draft, "place geo A 0 1");
+    tell_stale(story, &draft, sheet);
+    tell_stale(story, &draft, other);
+    tell_replayed(story, &draft, other);
+    tell_work(story, &draft);
+    settle(story, draft, sheet);
+}
+
+/// A draft of a thousand calls.
+fn long_draft<'i, S: Sheet<'i>>(story: &mut Story, sheet: &mut S) {
+    let Ok(mut draft) = open(story.alloc(), sheet) else {
+        return story.no_memory();
+    };
+    ask_often(story, &mut draft);
+    tell_work(story, &draft);
+    settle(story, draft, sheet);
+}
+
 /// Places top in the third period of the first day, in room B, by a change.
 fn place_top<S: Timetable>(sheet: &mut S)
     ensures { S.problem sheet.new ≡ S.problem sheet.old }
@@ -138,41 +197,18 @@ fn place_top<S: Timetable>(sheet: &mut S)
     }
 }
 
-/// A draft on a sheet is asked so often what lines say, beside another sheet, on which top is placed.
-fn draft_on<'i, S: Sheet<'i>>(
-    story: &mut Story,
-    lines: &str,
-    times: u64,
-    sheet: &mut S,
-    other: &mut S,
-)
-    requires { S.problem other.old ≡ S.problem sheet.old }
-{
-    place_top(other);
-    match Draft::open(story.alloc(), sheet) {
-        Ok(mut draft) => {
-            ask_often(story, &mut draft, lines, times);
-            tell_stale(story, &draft, sheet);
-            tell_stale(story, &draft, other);
-            tell_work(story, &draft, other);
-            settle(story, draft, sheet);
-        }
-        Err(NoMemory) => story.no_memory(),
-    }
-}
-
-/// Asks a draft on an empty sheet so often what lines say, beside another sheet.
-pub(crate) fn play<'i, S: Sheet<'i>>(
-    story: &mut Story,
-    small: &'i Instance,
-    lines: &str,
-    times: u64,
-) {
-    let Ok(mut sheet) = S::empty(story.alloc(), small) else {
+/// A draft on an empty sheet, beside another sheet, or a long one.
+pub(crate) fn play<'i, S: Sheet<'i>>(story: &mut Story, on: &On, small: &'i Instance) {
+    let alloc = story.alloc();
+    let Ok(mut sheet) = empty_sheet::<S>(alloc, small) else {
         return story.no_memory();
     };
-    match sheet.copy() {
-        Ok(mut other) => draft_on(story, lines, times, &mut sheet, &mut other),
-        Err(NoMemory) => story.no_memory(),
+    if matches!(on, On::LongDraft) {
+        return long_draft(story, &mut sheet);
     }
+    let Ok(mut other) = empty_sheet::<S>(alloc, small) else {
+        return story.no_memory();
+    };
+    place_top(&mut other);
+    one_draft(story, &mut sheet, &other);
 }

@@ -7,14 +7,13 @@ ghost use Rattle.ctt_edits.specs.Fitting.{IsShortReply};
 ghost use Rattle.ctt_core.specs.Entries.{EntryFits};
 ghost use Rattle.ctt_script.specs.Entries.{IsEntry, IsShort};
 
-use crate::answers::{tell_lectures, tell_unlawful};
 use crate::cases::{On, Script};
+use crate::story::Story;
 use ctt_board::Sheet;
 use ctt_core::{JournalEntry, NoList, Verdict, audit, list_after};
 use ctt_edits::Reply;
-use ctt_script::{JournalFault, read_journal, write_journal};
-use ctt_story::{JOURNAL, Story, front};
-use ctt_text::{Instance, NoMemory, is_timetable};
+use ctt_script::{read_journal, write_journal};
+use ctt_text::{Instance, NoMemory};
 
 /// Whether a reply can be written.
 fn is_short_reply(reply: &Reply) -> bool
@@ -51,7 +50,7 @@ fn tell_found(story: &mut Story, small: &Instance, found: Verdict) {
             story.pair("differs", entry);
             story.count("", call);
         }
-        Verdict::BadOpening(at, fault) => tell_unlawful(story, small, at, fault),
+        Verdict::BadOpening(at, fault) => story.unlawful(small, at, fault),
     }
 }
 
@@ -67,7 +66,7 @@ fn tell_entries<'i, S: Sheet<'i>>(
 {
     if matches!(on, On::Left) {
         match list_after::<S>(story.alloc(), script.small, script.opening, entries) {
-            Ok(list) => tell_lectures(story, script.small, Ok(list)),
+            Ok(list) => story.lectures(script.small, Ok(list)),
             Err(NoList::Found(found)) => tell_found(story, script.small, found),
             Err(NoList::NoMemory) => story.no_memory(),
         }
@@ -94,16 +93,15 @@ pub(crate) fn read_text<'i, S: Sheet<'i>>(
     }
 }
 
-/// Tells the journal of entries, and what an audit finds of its text.
+/// Tells the journal of entries, and what is found of it.
 pub(crate) fn tell_journal<'i, S: Sheet<'i>>(
     story: &mut Story,
     script: &Script<'i>,
     entries: &[JournalEntry],
-) {
-    if !is_timetable(script.small, script.opening)
-        || !are_entries(script.small, entries)
-        || entries.len() > 999_999_999
-    {
+)
+    requires { IsTimetable script.now.small.now script.now.opening.now }
+{
+    if !are_entries(script.small, entries) || entries.len() > 999_999_999 {
         return story.say("unfit");
     }
     match write_journal(story.alloc(), script.small, entries) {
@@ -113,32 +111,4 @@ pub(crate) fn tell_journal<'i, S: Sheet<'i>>(
         }
         Err(NoMemory) => story.no_memory(),
     }
-}
-
-/// Reads the text of a journal, and tells how that ends.
-fn tell_read(
-    story: &mut Story,
-    small: &Instance,
-    text: &[u8],
-    fit: JournalFault,
-    words: &str,
-    at: u64,
-) {
-    story.bytes(b" ");
-    let fault = read_journal(story.alloc(), small, text).err();
-    story.read(&fault, &JournalFault::NoMemory, &fit, words, at);
-}
-
-/// A journal that is cut behind each of its words, and one that counts falsely.
-pub(crate) fn play_cut(story: &mut Story, small: &Instance) {
-    story.bytes(b"journal");
-    for at in 1..=15 {
-        let text = front(JOURNAL.as_bytes(), at - 1);
-        tell_read(story, small, text, JournalFault::Missing(at), "missing", at);
-    }
-    story.say("\ncounted falsely");
-    story.bytes(b"journal");
-    let fit = JournalFault::BadWord(3);
-    tell_read(story, small, b"journal 999999999 END.", fit, "bad word", 3);
-    story.say("");
 }

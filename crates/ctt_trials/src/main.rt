@@ -1,35 +1,45 @@
-//! Trials: the worked cases of desks, and of what they stand on, played through the calls of the crates below. What each call
-//! answers is printed, and at the end how many calls wanted memory and were made again: what is printed before is the same,
-//! whichever one request for memory is refused.
+//! Trials: the worked cases, played through the calls of the crates below. What each call answers is printed, and at the
+//! end how many calls wanted memory and were made again: what is printed before is the same, whichever one request for
+//! memory is refused.
 #![tactic(auto)]
 
-mod answers;
 mod barred;
 mod cases;
 mod crews;
+mod cuts;
 mod desks;
+mod devices;
 mod drafts;
 mod journals;
 mod lists;
 mod scripts;
 mod shared;
 mod sheets;
+mod shown;
+mod story;
 mod tables;
+mod texts;
+mod transfers;
 mod turns;
 mod worked;
 
+use cases::play_cases;
 use ctt_devices::Device;
-use ctt_story::{SMALL, Story, begin};
 use ctt_text::{let_go, read_instance};
+use std::alloc::Global;
 use std::marker::Sync;
 use std::process::ExitCode;
 use std::sync::Wait;
 use std::thread::Threads;
+use story::Story;
+use tables::CASES;
+use texts::SMALL;
 
 /// All that is played.
 fn play<R: Threads + Wait + Sync>(story: &mut Story, rt: &R) {
     match read_instance(story.alloc(), SMALL.as_bytes()) {
         Ok(mut small) => {
+            play_cases(story, rt, &small, CASES);
             barred::play(story, rt, &mut small);
             let_go(small);
         }
@@ -37,8 +47,20 @@ fn play<R: Threads + Wait + Sync>(story: &mut Story, rt: &R) {
     }
 }
 
+/// What is told, with room for it.
+fn new_story(alloc: Global) -> Option<Story> {
+    match Story::new(alloc) {
+        Some(story) => Some(story),
+        None => {
+            let mut story = Story::new(alloc)?;
+            story.call_again();
+            Some(story)
+        }
+    }
+}
+
 fn main(rt: HostRuntime) -> ExitCode {
-    let Some(mut story) = begin(rt.alloc()) else {
+    let Some(mut story) = new_story(rt.alloc()) else {
         return ExitCode::from(3);
     };
     play(&mut story, &rt);

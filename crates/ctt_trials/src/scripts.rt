@@ -3,14 +3,14 @@
 ghost use Rattle.std.specs.Prelude.{◌≡◌, false};
 ghost use Rattle.ctt_text.specs.Timetable.{IsTimetable};
 
-use crate::answers::tell_unlawful;
 use crate::cases::Script;
 use crate::desks::tell_desk;
+use crate::devices::{Failing, Memory, Shelf};
+use crate::story::Story;
 use crate::worked::PHANTOM_ANSWERS;
 use ctt_board::Sheet;
 use ctt_draft::KeepAll;
 use ctt_script::{ScriptFault, run_script};
-use ctt_story::{Failing, Memory, Shelf, Story};
 use ctt_text::let_go;
 use std::alloc::Global;
 
@@ -33,7 +33,7 @@ pub(crate) fn play_script<'i, S: Sheet<'i>>(story: &mut Story, script: &Script<'
             tell_desk(story, script, &desk);
             let_go(desk);
         }
-        Err(ScriptFault::Unlawful(at, fault)) => tell_unlawful(story, script.small, at, fault),
+        Err(ScriptFault::Unlawful(at, fault)) => story.unlawful(script.small, at, fault),
         Err(_fault) => story.no_memory(),
     }
 }
@@ -84,25 +84,21 @@ fn fails<'i, S: Sheet<'i>>(
     is_failed && shelf.holds(taken)
 }
 
-/// Tells behind how many bytes a writer may fail so that the script has a failed write, and these bytes were written.
-fn tell_writers<'i, S: Sheet<'i>>(story: &mut Story, script: &Script<'i>, answers: &[u8])
-    requires { IsTimetable script.now.small.now script.now.opening.now }
-{
-    let mut failed = 0u64;
-    for taken in 0..answers.len() {
-        let mut shelf = Shelf::new(answers, Failing::Behind(taken));
-        let is_failed = fails::<S>(story, script, script.lines.as_bytes(), 0, &mut shelf, taken);
-        failed = failed.saturating_add(u64::from(is_failed));
-    }
-    story.count("writers that fail behind some bytes", failed);
-}
-
-/// Tells behind how many bytes a reader may fail so that the script has a failed read, and nothing was written.
-fn tell_readers<'i, S: Sheet<'i>>(story: &mut Story, script: &Script<'i>, answers: &[u8])
+/// Tells behind how many bytes a writer may fail so that the script has a failed write, and these bytes were written, and
+/// behind how many a reader, so that it has a failed read, and nothing was written.
+fn tell_all_failing<'i, S: Sheet<'i>>(story: &mut Story, script: &Script<'i>)
     requires { IsTimetable script.now.small.now script.now.opening.now }
 {
     let lines = script.lines.as_bytes();
+    let answers = PHANTOM_ANSWERS.as_bytes();
     let mut failed = 0u64;
+    for taken in 0..answers.len() {
+        let mut shelf = Shelf::new(answers, Failing::Behind(taken));
+        let is_failed = fails::<S>(story, script, lines, 0, &mut shelf, taken);
+        failed = failed.saturating_add(u64::from(is_failed));
+    }
+    story.count("writers that fail behind some bytes", failed);
+    failed = 0;
     for behind in 0..=lines.len() as u64 {
         let mut shelf = Shelf::new(answers, Failing::Flush);
         let is_failed = fails::<S>(
@@ -140,8 +136,7 @@ fn tell_failing<'i, S: Sheet<'i>>(
 pub(crate) fn play_devices<'i, S: Sheet<'i>>(story: &mut Story, script: &Script<'i>)
     requires { IsTimetable script.now.small.now script.now.opening.now }
 {
-    tell_writers::<S>(story, script, PHANTOM_ANSWERS.as_bytes());
-    tell_readers::<S>(story, script, PHANTOM_ANSWERS.as_bytes());
+    tell_all_failing::<S>(story, script);
     let lines = script.lines;
     let whole = PHANTOM_ANSWERS.len();
     story.say("a writer that takes nothing");

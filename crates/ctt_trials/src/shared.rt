@@ -3,13 +3,12 @@
 ghost use Rattle.std.specs.Prelude.{◌≡◌, IfOk};
 ghost use Rattle.ctt_desk.specs.Names.{IsNamed};
 
-use crate::answers::{tell_timetable, tell_unlawful};
 use crate::cases::Script;
 use crate::journals::tell_journal;
+use crate::story::Story;
 use crate::turns::{Here, LOOKS, Part, VIEWER, answer_lines, leave, sit};
 use ctt_board::{GridSheet, ListSheet, Sheet, Timetable};
 use ctt_desk::{Named, Naming, Opened, Planner, SharedDesk, SharedFault};
-use ctt_story::Story;
 use ctt_text::{is_timetable, let_go};
 use std::alloc::Global;
 use std::marker::{Brand, PhantomData};
@@ -42,6 +41,7 @@ fn play_at<'i, S: Sheet<'i>, J: Naming, R: Wait>(
     let part = Part {
         lines: script.lines,
         viewer: VIEWER,
+        drops: script.drops,
     };
     answer_lines(story, rt, desk, here, &mut seats, &part);
     story.compare(story.answers, story.end, from, "on a shared desk");
@@ -64,14 +64,17 @@ fn close<'i, S: Sheet<'i>, J: Naming, R: Wait>(
     story: &mut Story,
     rt: &R,
     desk: SharedDesk<S, J>,
+    here: &Here<'i, J>,
     planners: &mut [Planner<S, J>],
     script: &Script<'i>,
 ) {
     let from = story.len();
     match desk.close(rt, planners) {
         Ok(closed) => {
-            tell_timetable(story, script.small, closed.list(), closed.cost());
-            tell_journal::<S>(story, script, closed.journal());
+            story.timetable(here.small, closed.list(), closed.cost());
+            if is_timetable(script.small, script.opening) {
+                tell_journal::<S>(story, script, closed.journal());
+            }
             let_go(closed);
         }
         Err(closed) => let_go(closed),
@@ -91,7 +94,7 @@ fn play_named<'i, S: Sheet<'i>, J: Naming, R: Wait>(
     match SharedDesk::<S, J>::new(rt, named) {
         Ok((desk, all)) => {
             let mut planners = play_at(story, rt, &desk, here, all, script);
-            close(story, rt, desk, planners.as_mut_slice(), script);
+            close(story, rt, desk, here, planners.as_mut_slice(), script);
             let_go(planners);
         }
         Err(_fault) => story.no_memory(),
@@ -167,7 +170,7 @@ pub(crate) fn tell_opening<'i, S: Sheet<'i>>(story: &mut Story, script: &Script<
             story.say("opened");
             let_go(opened);
         }
-        Err(SharedFault::Unlawful(at, fault)) => tell_unlawful(story, script.small, at, fault),
+        Err(SharedFault::Unlawful(at, fault)) => story.unlawful(script.small, at, fault),
         Err(_fault) => story.no_memory(),
     }
 }

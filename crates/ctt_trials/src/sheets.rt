@@ -5,13 +5,12 @@ ghost use Rattle.ctt_text.specs.Timetable.{Fits, IsTimetable};
 ghost use Rattle.ctt_edits.specs.Edits.{EditFits};
 ghost use Rattle.ctt_edits.specs.Looks.{LookFits};
 
-use crate::answers::{tell_bad_line, tell_lectures, tell_refused, tell_reply, tell_timetable};
 use crate::cases::{On, Script};
+use crate::story::Story;
 use ctt_board::{Cell, Change, Sheet};
 use ctt_core::{Event, PlannerNo, placed};
 use ctt_edits::{Call, Edit, Look, Row, check, look, reads};
 use ctt_script::{Lines, read_own_line};
-use ctt_story::Story;
 use ctt_text::{CourseNo, Instance, NoMemory, Placed, RoomNo, SlotNo};
 
 /// The call that a line asks for.
@@ -70,7 +69,7 @@ fn make<'i, S: Sheet<'i>>(story: &mut Story, sheet: &mut S, edit: &Edit, in_full
             }
             sheet.apply(&change);
         }
-        Err(fault) => tell_refused(story, sheet.instance(), fault),
+        Err(fault) => story.refused(sheet.instance(), fault),
     }
 }
 
@@ -79,15 +78,12 @@ fn show<'i, S: Sheet<'i>>(story: &mut Story, sheet: &S, asked: &Look) {
     if !look_fits(sheet, asked) {
         return story.say("unfit");
     }
-    match look(story.alloc(), sheet, asked) {
-        Ok(reply) => tell_reply(story, sheet.instance(), reply),
-        Err(NoMemory) => story.no_memory(),
-    }
+    story.reply(sheet.instance(), look(story.alloc(), sheet, asked));
 }
 
 /// Tells the lectures and the cost of a sheet.
 pub(crate) fn tell_sheet<'i, S: Sheet<'i>>(story: &mut Story, sheet: &S) {
-    tell_timetable(story, sheet.instance(), sheet.list(), sheet.cost());
+    story.timetable(sheet.instance(), sheet.list(), sheet.cost());
 }
 
 /// Makes a call on a sheet, and tells the reply.
@@ -103,7 +99,7 @@ fn answer_lines<'i, S: Sheet<'i>>(story: &mut Story, script: &Script<'i>, sheet:
     for line in Lines::new(script.lines.as_bytes()) {
         match call_of(script.small, line) {
             Some(call) => answer(story, sheet, &call),
-            None => tell_bad_line(story, line),
+            None => story.bad_line(line),
         }
     }
     tell_sheet(story, sheet);
@@ -122,9 +118,8 @@ fn tell_lecture<'i, S: Sheet<'i>>(story: &mut Story, sheet: &S, lecture: &Placed
         "lectures of the course",
         u64::from(sheet.count(lecture.course)),
     );
-    let small = sheet.instance();
-    tell_lectures(story, small, sheet.course_row(lecture.course));
-    tell_lectures(story, small, sheet.slot_row(lecture.slot));
+    story.lectures(sheet.instance(), sheet.course_row(lecture.course));
+    story.lectures(sheet.instance(), sheet.slot_row(lecture.slot));
     tell_sheet(story, sheet);
 }
 

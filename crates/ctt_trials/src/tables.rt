@@ -1,8 +1,8 @@
 //! The tables of all cases.
 
-use crate::cases::{Case, On, Plain, Play, Way, Ways};
+use crate::cases::{Case, On, Plain, Play, Way};
+use crate::texts::{CLASH, JOURNAL, NOTHING, SMALL, SOLUTION, WITHOUT_TOP};
 use crate::worked::*;
-use ctt_story::{CLASH, CREW, JOURNAL, NOTHING, SOLUTION, WITHOUT_TOP};
 
 /// Ways in which a case is played, and how each is called.
 macro_rules! plays {
@@ -16,15 +16,28 @@ macro_rules! plays {
 
 /// A case: its name, what stands at first, its lines, and its ways.
 macro_rules! case {
-    ($name:literal, $opening:ident, $lines:expr, $ways:ident) => {
+    ($name:literal, $opening:ident, $lines:expr, $plays:expr) => {
         Case {
             name: $name,
             opening: $opening,
             lines: $lines,
-            ways: Ways::$ways,
+            plays: $plays,
+            drops: false,
         }
     };
 }
+
+/// The reports, and the opening written and read again.
+const REPORTS: &[Play] = plays![
+    Way::Plain(Plain::Reports) => "",
+    Way::Plain(Plain::Written) => "",
+];
+
+/// The reports alone.
+const REPORTS_ALONE: &[Play] = plays![Way::Plain(Plain::Reports) => ""];
+
+/// What is found of a timetable, and how it looks.
+const FINDINGS: &[Play] = plays![Way::Plain(Plain::Findings) => ""];
 
 /// Lines on both kinds of sheets.
 const LINES: &[Play] = plays![
@@ -49,14 +62,14 @@ const ROWS: &[Play] = plays![Way::Plain(Plain::Rows) => ""];
 
 /// A draft on both kinds of sheets.
 const DRAFT: &[Play] = plays![
-    Way::List(On::Draft(1)) => "",
-    Way::Grid(On::Draft(1)) => "on the grid sheet",
+    Way::List(On::Draft) => "",
+    Way::Grid(On::Draft) => "on the grid sheet",
 ];
 
 /// A long draft on both kinds of sheets.
 const LONG_DRAFT: &[Play] = plays![
-    Way::List(On::Draft(500)) => "",
-    Way::Grid(On::Draft(500)) => "on the grid sheet",
+    Way::List(On::LongDraft) => "",
+    Way::Grid(On::LongDraft) => "on the grid sheet",
 ];
 
 /// A script by step, at once and as a text, on desks of both kinds of sheets, and on shared desks of both.
@@ -97,109 +110,106 @@ const UNLAWFUL: &[Play] = plays![
 /// A crew of one.
 const A_CREW: &[Play] = plays![Way::Plain(Plain::Crew) => ""];
 
-/// A journal that is cut, and one that counts falsely.
+/// Texts that are cut, and texts that count falsely.
 const CUT: &[Play] = plays![Way::Plain(Plain::Cut) => ""];
 
 /// A script on devices that fail.
 const DEVICES: &[Play] = plays![Way::Grid(On::Devices) => ""];
 
-/// The ways in which a case is played.
-pub(crate) fn plays_of(ways: &Ways) -> &'static [Play] {
-    match ways {
-        Ways::Lines => LINES,
-        Ways::Placement => PLACEMENT,
-        Ways::Accepted => ACCEPTED,
-        Ways::Rows => ROWS,
-        Ways::Draft => DRAFT,
-        Ways::LongDraft => LONG_DRAFT,
-        Ways::Desk => DESK,
-        Ways::Bad => BAD,
-        Ways::Audit => AUDIT,
-        Ways::Left => LEFT,
-        Ways::Unlawful => UNLAWFUL,
-        Ways::Crew => A_CREW,
-        Ways::Cut => CUT,
-        Ways::Devices => DEVICES,
-    }
-}
+/// A text that is read from devices that fail.
+const READS: &[Play] = plays![Way::Plain(Plain::Reads) => ""];
+
+/// A text that is written to devices that fail.
+const WRITES: &[Play] = plays![Way::Plain(Plain::Writes) => ""];
 
 /// What is played without barred rooms.
-const CASES: &[Case] = &[
-    case!("on the empty sheet", NOTHING, EMPTY_SHEET, Lines),
-    case!("a swap of rooms", NOTHING, SWAP_OF_ROOMS, Lines),
-    case!("the border of two days", NOTHING, BORDER, Lines),
-    case!("prices and looks on the solution", SOLUTION, PRICES, Lines),
+pub(crate) const CASES: &[Case] = &[
+    case!("reports", SOLUTION, "", REPORTS),
+    case!("on the empty sheet", NOTHING, EMPTY_SHEET, LINES),
+    case!("a swap of rooms", NOTHING, SWAP_OF_ROOMS, LINES),
+    case!("the border of two days", NOTHING, BORDER, LINES),
+    case!("prices and looks on the solution", SOLUTION, PRICES, LINES),
     case!(
         "edits that are refused on the solution",
         SOLUTION,
         REFUSED_EDITS,
-        Lines
+        LINES
     ),
-    case!("a swap", SOLUTION, SWAP, Lines),
-    case!("a drop", SOLUTION, DROP, Lines),
-    case!("a room that is taken", WITHOUT_TOP, ROOM_TAKEN, Lines),
-    case!("one placement", NOTHING, "", Placement),
-    case!("accepted changes", SOLUTION, "", Accepted),
-    case!("price place alg B 0 0", NOTHING, PRICE, Rows),
-    case!("swap geo 0 1 top 0 2", NOTHING, SWAP, Rows),
-    case!("drafts", NOTHING, LOOK_AND_PLACE, Draft),
-    case!(
-        "a draft of a thousand calls",
-        NOTHING,
-        TO_AND_FRO,
-        LongDraft
-    ),
-    case!("phantom", NOTHING, PHANTOM, Desk),
-    case!("changed and changed back", NOTHING, CHANGED_BACK, Desk),
-    case!("out of turn", NOTHING, OUT_OF_TURN, Desk),
-    case!("a price that changed", NOTHING, STALE_PRICE, Desk),
-    case!("abandoned", NOTHING, ABANDONED, Desk),
-    case!("refreshed", NOTHING, REFRESHED, Desk),
-    case!("not refreshed", NOTHING, NOT_REFRESHED, Desk),
-    case!("stale at a refresh", NOTHING, STALE_REFRESH, Desk),
-    case!("left open, or dropped", NOTHING, LEFT_OPEN, Desk),
-    case!("refreshed with nothing new", NOTHING, NOTHING_NEW, Desk),
-    case!("stale behind a refresh", NOTHING, STALE_AGAIN, Desk),
+    case!("a swap", SOLUTION, SWAP, LINES),
+    case!("a drop", SOLUTION, DROP, LINES),
+    case!("a room that is taken", WITHOUT_TOP, ROOM_TAKEN, LINES),
+    case!("one placement", NOTHING, "", PLACEMENT),
+    case!("accepted changes", SOLUTION, "", ACCEPTED),
+    case!("price place alg B 0 0", NOTHING, PRICE, ROWS),
+    case!("swap geo 0 1 top 0 2", NOTHING, SWAP, ROWS),
+    case!("drafts", NOTHING, "", DRAFT),
+    case!("a draft of a thousand calls", NOTHING, "", LONG_DRAFT),
+    case!("phantom", NOTHING, PHANTOM, DESK),
+    case!("changed and changed back", NOTHING, CHANGED_BACK, DESK),
+    case!("out of turn", NOTHING, OUT_OF_TURN, DESK),
+    case!("a price that changed", NOTHING, STALE_PRICE, DESK),
+    case!("abandoned", NOTHING, ABANDONED, DESK),
+    case!("refreshed", NOTHING, REFRESHED, DESK),
+    case!("not refreshed", NOTHING, NOT_REFRESHED, DESK),
+    case!("stale at a refresh", NOTHING, STALE_REFRESH, DESK),
+    Case {
+        drops: true,
+        ..case!("left open, or dropped", NOTHING, LEFT_OPEN, DESK)
+    },
+    case!("refreshed with nothing new", NOTHING, NOTHING_NEW, DESK),
+    case!("stale behind a refresh", NOTHING, STALE_AGAIN, DESK),
     case!(
         "changed back before a refresh",
         NOTHING,
         BACK_REFRESHED,
-        Desk
+        DESK
     ),
-    case!("bad lines", NOTHING, BAD_LINES, Bad),
+    case!("bad lines", NOTHING, BAD_LINES, BAD),
     case!(
         "a drop and a placement in one slot",
         WITHOUT_TOP,
         DROP_AND_PLACE,
-        Desk
+        DESK
     ),
-    case!("the drop first", WITHOUT_TOP, DROP_FIRST, Desk),
-    case!("a refused edit", WITHOUT_TOP, REFUSED, Desk),
-    case!("another reply", WITHOUT_TOP, OTHER_JOURNAL, Audit),
-    case!("what a journal leaves", WITHOUT_TOP, TOP_JOURNAL, Left),
+    case!("the drop first", WITHOUT_TOP, DROP_FIRST, DESK),
+    case!("a refused edit", WITHOUT_TOP, REFUSED, DESK),
+    case!("another reply", WITHOUT_TOP, OTHER_JOURNAL, AUDIT),
+    case!("what a journal leaves", WITHOUT_TOP, TOP_JOURNAL, LEFT),
     case!(
         "what another reply leaves",
         WITHOUT_TOP,
         OTHER_JOURNAL,
-        Left
+        LEFT
     ),
-    case!("an unlawful opening", CLASH, JOURNAL, Unlawful),
-    case!("what an unlawful opening leaves", CLASH, JOURNAL, Left),
-    case!("a crew of one", NOTHING, CREW, Crew),
-    case!("a crew whose draft is left open", NOTHING, CREW_LEFT, Crew),
-    case!("cut", NOTHING, "", Cut),
-    case!("a script on devices that fail", NOTHING, PHANTOM, Devices),
-    case!("", NOTHING, OTHER_JOURNAL, Audit),
+    case!("an unlawful opening", CLASH, JOURNAL, UNLAWFUL),
+    case!("what an unlawful opening leaves", CLASH, JOURNAL, LEFT),
+    case!("what is found of the solution", SOLUTION, "", FINDINGS),
+    case!("what is found of a clash", CLASH, "", FINDINGS),
+    case!("a crew of one", NOTHING, CREW, A_CREW),
+    case!(
+        "a crew whose draft is left open",
+        NOTHING,
+        CREW_LEFT,
+        A_CREW
+    ),
+    case!("cut", NOTHING, "", CUT),
+    case!("a script on devices that fail", NOTHING, PHANTOM, DEVICES),
+    case!("texts on devices that fail", NOTHING, SMALL, READS),
+    case!("", NOTHING, SOLUTION, READS),
+    case!("", NOTHING, JOURNAL, READS),
+    case!("", NOTHING, CREW, READS),
+    case!("", NOTHING, REPORT, WRITES),
+    case!("", NOTHING, VERDICT, WRITES),
+    case!("", NOTHING, CREW_ANSWERS, WRITES),
+    case!("", NOTHING, OTHER_JOURNAL, AUDIT),
 ];
 
 /// What is played where room A is barred for top: an old journal, and a swap and a script that meet that room.
 pub(crate) const BARRED: &[Case] = &[
-    case!("an old journal", NOTHING, OTHER_JOURNAL, Audit),
-    case!("a swap into a barred room", SOLUTION, SWAP, Lines),
-    case!("a barred room", WITHOUT_TOP, BARRED_ROOM, Desk),
+    case!("an old journal", NOTHING, OTHER_JOURNAL, AUDIT),
+    case!("a swap into a barred room", SOLUTION, SWAP, LINES),
+    case!("a barred room", WITHOUT_TOP, BARRED_ROOM, DESK),
 ];
 
-/// What is played without barred rooms. The long table is named here alone, since each goal of what names it has it whole.
-pub(crate) fn cases() -> &'static [Case] {
-    CASES
-}
+/// What is played where room A is barred for alg.
+pub(crate) const OTHER_BARRED: &[Case] = &[case!("", SOLUTION, "", REPORTS_ALONE)];

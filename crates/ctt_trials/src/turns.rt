@@ -3,15 +3,14 @@
 ghost use Rattle.std.specs.Prelude.{◌≡◌, ◌↔◌, IsTrue};
 ghost use Rattle.ctt_core.specs.Runs.{EventFits};
 
-use crate::answers::tells;
 use crate::lists::{add, put_at, take_at};
+use crate::story::Story;
 use ctt_board::{Sheet, Timetable};
 use ctt_core::{Answer, Event};
 use ctt_crew::{Seat, Told};
 use ctt_desk::{Naming, Planner, Receipt, SharedDesk};
 use ctt_script::{Lines, PLANNERS, read_line};
-use ctt_story::Story;
-use ctt_text::{Instance, let_go};
+use ctt_text::Instance;
 use std::marker::PhantomData;
 use std::sync::Wait;
 
@@ -35,6 +34,8 @@ pub(crate) struct Part<'a> {
     pub(crate) lines: &'a str,
     /// The place of the planner who is asked to show the timetable.
     pub(crate) viewer: u16,
+    /// Whether the first planner is dropped when another one begins, with the draft that he may have open.
+    pub(crate) drops: bool,
 }
 
 /// How two of them look at the timetable, and at that of a draft.
@@ -42,10 +43,12 @@ pub(crate) const LOOKS: &[Part] = &[
     Part {
         lines: "show cost\n2 open\n2 cost\n2 abandon\n",
         viewer: LEARNER,
+        drops: false,
     },
     Part {
         lines: "show cost\n3 open\n3 cost\n3 abandon\n",
         viewer: VIEWER,
+        drops: false,
     },
 ];
 
@@ -75,25 +78,20 @@ pub(crate) fn sit<'i, S: Timetable, J: Naming>(
     seats
 }
 
-/// The planner of a seat. A draft of his is given up.
-fn planner_of<'i, S: Sheet<'i>, J: Naming>(seat: Seat<'i, S, J>) -> Planner<S, J> {
-    match seat {
-        Seat::Free(planner) => planner,
-        Seat::Drafting(drafting) => drafting.abandon(),
-    }
-}
-
-/// The planners leave their seats.
+/// The planners leave their seats. A draft of theirs is given up.
 pub(crate) fn leave<'i, S: Sheet<'i>, J: Naming>(
     story: &mut Story,
     seats: Vec<Option<Seat<'i, S, J>>>,
 ) -> Vec<Planner<S, J>> {
     let mut planners = Vec::new(story.alloc());
     for seat in seats {
-        if let Some(seat) = seat {
-            if add(&mut planners, planner_of(seat)).is_err() {
-                story.no_memory();
-            }
+        let planner = match seat {
+            Some(Seat::Free(planner)) => planner,
+            Some(Seat::Drafting(drafting)) => drafting.abandon(),
+            None => continue,
+        };
+        if add(&mut planners, planner).is_err() {
+            story.no_memory();
         }
     }
     planners
@@ -106,6 +104,24 @@ fn event_fits<'i, J: Naming>(here: &Here<'i, J>, event: &Event) -> bool
     event.fits(here.small, PLANNERS)
 }
 
+/// A planner does what an event says, and has a receipt, or is told something else.
+fn take<'i, S: Sheet<'i>, J: Naming, R: Wait>(
+    rt: &R,
+    desk: &SharedDesk<S, J>,
+    here: &Here<'i, J>,
+    seat: Seat<'i, S, J>,
+    event: &Event,
+) -> (Seat<'i, S, J>, Result<Receipt<J>, Told>) {
+    if matches!(event, Event::Commit(_)) {
+        return seat.commit(rt, desk);
+    }
+    if !event_fits(here, event) {
+        return (seat, Err(Told::NotYours(0)));
+    }
+    let (seat, told) = seat.take(rt, desk, *event);
+    (seat, Err(told))
+}
+
 /// One of the planners learns a receipt, if he has no draft open.
 fn learn<'i, S: Sheet<'i>, J: Naming>(seats: &mut [Option<Seat<'i, S, J>>], receipt: &Receipt<J>) {
     if let Some(Some(Seat::Free(planner))) = seats.get_mut(usize::from(LEARNER)) {
@@ -113,72 +129,23 @@ fn learn<'i, S: Sheet<'i>, J: Naming>(seats: &mut [Option<Seat<'i, S, J>>], rece
     }
 }
 
-/// A planner commits his draft. His receipt is learnt where he has one.
-fn commit<'i, S: Sheet<'i>, J: Naming, R: Wait>(
-    rt: &R,
-    desk: &SharedDesk<S, J>,
-    seats: &mut [Option<Seat<'i, S, J>>],
-    seat: Seat<'i, S, J>,
-) -> (Seat<'i, S, J>, Told) {
-    let (seat, outcome) = seat.commit(rt, desk);
-    match outcome {
-        Ok(receipt) => {
-            learn(seats, &receipt);
-            (seat, Told::Answer(Answer::Committed(receipt.number())))
-        }
-        Err(told) => (seat, told),
-    }
-}
-
-/// A planner does what an event says.
-fn take<'i, S: Sheet<'i>, J: Naming, R: Wait>(
-    rt: &R,
-    desk: &SharedDesk<S, J>,
-    here: &Here<'i, J>,
-    seats: &mut [Option<Seat<'i, S, J>>],
-    seat: Seat<'i, S, J>,
-    event: &Event,
-) -> (Seat<'i, S, J>, Told) {
-    if matches!(event, Event::Commit(_)) {
-        return commit(rt, desk, seats, seat);
-    }
-    if !event_fits(here, event) {
-        return (seat, Told::NotYours(0));
-    }
-    seat.take(rt, desk, *event)
-}
-
-/// Tells what a planner is told, and answers whether it was told: want of memory is not, and no more a place that was refused,
-/// since this comes of nothing else here.
-fn tell(story: &mut Story, small: &Instance, told: &Told) -> bool {
-    match told {
-        Told::Answer(answer) => tells(story, small, answer),
-        Told::NoPlace => false,
-        Told::NotYours(_) => {
-            story.say("not yours");
-            true
-        }
-    }
-}
-
-/// The planner of a place does what an event says. Answers whether he was told something, and not that memory is wanted.
-fn tells_place<'i, S: Sheet<'i>, J: Naming, R: Wait>(
+/// Tells what a planner is answered, whose receipt is learnt where he has one, and answers whether it was told: want of memory
+/// is not, and no more a place that was refused, since this comes of nothing else here.
+fn tells<'i, S: Sheet<'i>, J: Naming>(
     story: &mut Story,
-    rt: &R,
-    desk: &SharedDesk<S, J>,
     here: &Here<'i, J>,
     seats: &mut [Option<Seat<'i, S, J>>],
-    place: usize,
-    event: &Event,
+    told: &Result<Receipt<J>, Told>,
 ) -> bool {
-    match take_at(seats, place) {
-        Some(seat) => {
-            let (seat, told) = take(rt, desk, here, seats, seat, event);
-            put_at(seats, place, seat);
-            tell(story, here.small, &told)
+    match told {
+        Ok(receipt) => {
+            learn(seats, receipt);
+            story.tells(here.small, &Answer::Committed(receipt.number()))
         }
-        None => {
-            story.say("no planner");
+        Err(Told::Answer(answer)) => story.tells(here.small, answer),
+        Err(Told::NoPlace) => false,
+        Err(Told::NotYours(_)) => {
+            story.say("not yours");
             true
         }
     }
@@ -194,8 +161,13 @@ fn answer<'i, S: Sheet<'i>, J: Naming, R: Wait>(
     place: usize,
     event: &Event,
 ) {
-    for turn in 0..2 {
-        if tells_place(story, rt, desk, here, seats, place, event) {
+    for _ in 0..2 {
+        let Some(seat) = take_at(seats, place) else {
+            return story.say("no planner");
+        };
+        let (seat, told) = take(rt, desk, here, seat, event);
+        put_at(seats, place, seat);
+        if tells(story, here, seats, &told) {
             return;
         }
         story.call_again();
@@ -203,14 +175,7 @@ fn answer<'i, S: Sheet<'i>, J: Naming, R: Wait>(
     story.no_memory();
 }
 
-/// At a blank line, which is no empty one, the first planner is dropped, with the draft that he may have open.
-fn drop_first<'i, S: Sheet<'i>, J: Naming>(seats: &mut [Option<Seat<'i, S, J>>], line: &[u8]) {
-    if !line.is_empty() {
-        let_go(take_at(seats, 0));
-    }
-}
-
-/// The lines of a part. At a blank one the first planner is dropped, with the draft that he may have open.
+/// The lines of a part.
 pub(crate) fn answer_lines<'i, S: Sheet<'i>, J: Naming, R: Wait>(
     story: &mut Story,
     rt: &R,
@@ -223,9 +188,12 @@ pub(crate) fn answer_lines<'i, S: Sheet<'i>, J: Naming, R: Wait>(
         match read_line(here.small, line) {
             Some(event) => {
                 let place = place_of(&event, part.viewer);
+                if part.drops && place > 0 {
+                    drop(take_at(seats, 0));
+                }
                 answer(story, rt, desk, here, seats, place, &event);
             }
-            None => drop_first(seats, line),
+            None => story.bad_line(line),
         }
     }
 }

@@ -159,10 +159,9 @@ pub(crate) const BACK_REFRESHED: &str = "0 open
 show cost
 ";
 
-/// A draft that is left open changes nothing, and no more one that is dropped, as it is on a shared desk at the blank line.
+/// A draft that is left open changes nothing.
 pub(crate) const LEFT_OPEN: &str = "0 open
 0 place geo A 0 1
-\t
 1 open
 1 place top B 0 2
 1 commit
@@ -239,20 +238,16 @@ pub(crate) const BORDER: &str = "place alg A 0 2
 place geo A 1 0
 ";
 
-/// A draft looks at a slot, and places geo.
-pub(crate) const LOOK_AND_PLACE: &str = "slot 0 2
-place geo A 0 1
-";
-
-/// It places geo and drops it again.
-pub(crate) const TO_AND_FRO: &str = "place geo A 0 1
-drop geo 0 1
-";
-
 /// What reads two courses and a slot.
 pub(crate) const PRICE: &str = "price place alg B 0 0";
 
-/// A planner of a crew places geo, and leaves his draft open.
+/// A planner of a crew places geo.
+pub(crate) const CREW: &str = "open
+place geo A 0 1
+commit
+";
+
+/// He places it, and leaves his draft open.
 pub(crate) const CREW_LEFT: &str = "open
 place geo A 0 1
 ";
@@ -262,3 +257,30 @@ pub(crate) const OTHER_JOURNAL: &str = "journal 1 entry 0 1 place top A 0 1 done
 
 /// A journal of a draft in which top was placed in room B.
 pub(crate) const TOP_JOURNAL: &str = "journal 1 entry 0 1 place top B 0 2 done END.";
+
+/// The report on the solution.
+pub(crate) const REPORT: &str = "instance Small
+lectures 0
+conflicts 0
+availability 0
+occupancy 0
+capacity 15
+days 0
+compactness 4
+stability 1
+total 20
+lawful yes
+complete yes
+";
+
+/// What an audit finds.
+pub(crate) const VERDICT: &str = "differs 1 1\n";
+
+/// What a crew of one planner writes.
+pub(crate) const CREW_ANSWERS: &str = "planner 0
+opened
+done
+committed 1
+journal 1
+costs 0 15 2 0
+";

@@ -2,8 +2,8 @@ use Rattle.std.proofs.Common.{rules, ℕ}
 use Rattle.ctt_core.specs.Runs.{EventFits}
 use Rattle.ctt_trials.proofs.turns.take.Goals as goal
 
-pub take-requires : goal.take-requires
-take-requires g c κs =
+pub take-seat-requires : goal.take-seat-requires
+take-seat-requires g c κs =
     let here : EventFits g.J.Naming.problem 64 c.args.event.now = search rules in
     let fits : (n : ℕ) × EventFits g.J.Naming.problem n c.args.event.now = (64, here) in
     search rules

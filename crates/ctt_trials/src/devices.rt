@@ -1,12 +1,57 @@
-//! A writer that compares what it takes with a text, and fails where it is told to.
+//! Readers and writers over memory that give and take a little at a time, and fail where they are told to.
 
-ghost use Rattle.std.specs.Prelude.{None};
+ghost use Rattle.std.specs.Prelude.{◌≡◌, false, None, Some};
 
-use ctt_devices::{Failed, Sink};
+use ctt_devices::{Failed, Sink, Source};
+
+/// A reader over memory that tells its bytes. It gives them one by one, and its read of the number `fails_at`, counted from
+/// 1, fails; those behind it do not.
+#[derive(Drop)]
+pub(crate) struct Memory<'a> {
+    bytes: &'a [u8],
+    fails_at: u64,
+    failed: bool,
+    /// How many reads were tried.
+    pub(crate) pulls: u64,
+}
+
+impl<'a> Memory<'a> {
+    /// A reader that gives `bytes`. No read of it fails where `fails_at` is 0.
+    pub(crate) fn new(bytes: &'a [u8], fails_at: u64) -> Self
+        ensures { result.failed ≡ false }
+    {
+        Memory {
+            bytes,
+            fails_at,
+            failed: false,
+            pulls: 0,
+        }
+    }
+}
+
+impl<'a> Source for Memory<'a> {
+    ghost has_failed = { λ memory. memory.failed };
+
+    ghost pulls = { λ memory. memory.pulls };
+
+    ghost left = { λ memory. Some memory.bytes.now };
+
+    fn pull(&mut self, buffer: &mut [u8]) -> Result<usize, Failed> {
+        self.pulls = self.pulls.saturating_add(1);
+        if self.pulls == self.fails_at {
+            self.failed = true;
+            return Err(Failed);
+        }
+        let n = self.bytes.len().min(buffer.len()).min(1);
+        buffer[..n].copy_from_slice(&self.bytes[..n]);
+        self.bytes = &self.bytes[n..];
+        Ok(n)
+    }
+}
 
 /// How a writer fails.
 #[derive(Clone, Copy)]
-pub enum Failing {
+pub(crate) enum Failing {
     /// A write is refused when it has taken so many bytes.
     Behind(usize),
     /// Each write is answered, but takes nothing.
@@ -17,21 +62,21 @@ pub enum Failing {
 
 /// A writer that compares what it takes with the front of a text.
 #[derive(Drop)]
-pub struct Shelf<'a> {
+pub(crate) struct Shelf<'a> {
     text: &'a [u8],
     failing: Failing,
     failed: bool,
     /// How many bytes it took that are those of the text.
-    pub taken: usize,
+    pub(crate) taken: usize,
     /// Whether it took others.
     is_other: bool,
     /// How often it was flushed.
-    pub flushes: u64,
+    pub(crate) flushes: u64,
 }
 
 impl<'a> Shelf<'a> {
     /// A writer that wants a text, and fails in this way.
-    pub fn new(text: &'a [u8], failing: Failing) -> Self {
+    pub(crate) fn new(text: &'a [u8], failing: Failing) -> Self {
         Shelf {
             text,
             failing,
@@ -43,7 +88,7 @@ impl<'a> Shelf<'a> {
     }
 
     /// Whether it took so many bytes of the text, and no others.
-    pub fn holds(&self, taken: usize) -> bool {
+    pub(crate) fn holds(&self, taken: usize) -> bool {
         self.taken == taken && !self.is_other
     }
 

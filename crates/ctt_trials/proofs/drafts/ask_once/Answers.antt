@@ -1,6 +1,6 @@
 use Rattle.std.proofs.Common.{rules}
 use Rattle.ctt_edits.specs.Calls.{CallFits}
-use Rattle.ctt_trials.proofs.drafts.tells_asked.Goals as goal
+use Rattle.ctt_trials.proofs.drafts.ask_once.Goals as goal
 
 pub call-requires : goal.call-requires
 call-requires g c κs =

@@ -1,7 +1,8 @@
 //! Texts that are read from devices that fail, and written to such.
 
+use crate::devices::{Failing, Memory, Shelf};
+use crate::story::Story;
 use ctt_devices::{Failed, InputFault, put_whole, read_all};
-use ctt_story::{Failing, Memory, Shelf, Story};
 
 /// How many bytes an input has at most.
 const LIMIT: usize = 4_096;

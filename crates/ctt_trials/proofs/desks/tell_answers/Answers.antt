@@ -1,7 +1,7 @@
 use Rattle.std.proofs.Common.{rules, length}
 use Rattle.std.specs.List.{AllByRecursion as Each}
 use Rattle.ctt_core.specs.Runs.{EventFits}
-use Rattle.ctt_trials.proofs.desks.tell_run.Goals as goal
+use Rattle.ctt_trials.proofs.desks.tell_answers.Goals as goal
 
 pub run-requires : goal.run-requires
 run-requires g c κs =

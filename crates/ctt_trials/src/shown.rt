@@ -2,28 +2,30 @@
 
 ghost use Rattle.ctt_text.specs.Timetable.{IsTimetable};
 
+use crate::cases::Script;
+use crate::story::Story;
 use ctt_findings::{
     Finding, Listener, Untold, push_item, push_line, report_json, report_text, tell_findings,
 };
 use ctt_page::page_text;
-use ctt_story::Story;
-use ctt_text::{CourseNo, Instance, Placed, read_solution, write_solution};
+use ctt_script::Lines;
+use ctt_text::{CourseNo, Instance, read_solution, write_solution};
 use ctt_week::{Selection, week_text};
 use std::alloc::Global;
 
 /// Both reports on a timetable.
-pub(crate) fn play_reports(story: &mut Story, small: &Instance, timetable: &[Placed])
-    requires { IsTimetable small.now timetable.now }
+pub(crate) fn play_reports(story: &mut Story, script: &Script)
+    requires { IsTimetable script.now.small.now script.now.opening.now }
 {
-    story.text(report_text(story.alloc(), small, timetable).ok());
-    story.text(report_json(story.alloc(), small, timetable).ok());
+    story.text(report_text(story.alloc(), script.small, script.opening));
+    story.text(report_json(story.alloc(), script.small, script.opening));
 }
 
 /// Tells whether a text is read as the timetable.
-fn tell_read(story: &mut Story, small: &Instance, timetable: &[Placed], text: &[u8]) {
-    match read_solution(story.alloc(), small, text) {
+fn tell_read(story: &mut Story, script: &Script, text: &[u8]) {
+    match read_solution(story.alloc(), script.small, text) {
         Ok(read) => {
-            if read.as_slice() == timetable {
+            if read.as_slice() == script.opening {
                 story.say("read again: the same");
             }
         }
@@ -32,13 +34,13 @@ fn tell_read(story: &mut Story, small: &Instance, timetable: &[Placed], text: &[
 }
 
 /// A timetable, written and read again.
-pub(crate) fn play_written(story: &mut Story, small: &Instance, timetable: &[Placed])
-    requires { IsTimetable small.now timetable.now }
+pub(crate) fn play_written(story: &mut Story, script: &Script)
+    requires { IsTimetable script.now.small.now script.now.opening.now }
 {
-    match write_solution(story.alloc(), small, timetable) {
+    match write_solution(story.alloc(), script.small, script.opening) {
         Ok(text) => {
             story.bytes(&text);
-            tell_read(story, small, timetable, &text);
+            tell_read(story, script, &text);
         }
         Err(_no_memory) => story.no_memory(),
     }
@@ -66,8 +68,8 @@ impl Listener for Pen {
 }
 
 /// The findings of a timetable.
-fn tell_found(story: &mut Story, small: &Instance, timetable: &[Placed])
-    requires { IsTimetable small.now timetable.now }
+fn tell_found(story: &mut Story, script: &Script)
+    requires { IsTimetable script.now.small.now script.now.opening.now }
 {
     let alloc = story.alloc();
     let mut pen = Pen {
@@ -75,7 +77,7 @@ fn tell_found(story: &mut Story, small: &Instance, timetable: &[Placed])
         lines: String::new(alloc),
         items: String::new(alloc),
     };
-    match tell_findings(alloc, &mut pen, small, timetable) {
+    match tell_findings(alloc, &mut pen, script.small, script.opening) {
         Ok(()) => {
             story.bytes(pen.lines.as_bytes());
             story.say(pen.items.as_str());
@@ -85,14 +87,14 @@ fn tell_found(story: &mut Story, small: &Instance, timetable: &[Placed])
 }
 
 /// The week of a timetable, of the rooms or of a course.
-fn tell_week(story: &mut Story, small: &Instance, timetable: &[Placed], course: Option<CourseNo>)
-    requires { IsTimetable small.now timetable.now }
+fn tell_week(story: &mut Story, script: &Script, course: Option<CourseNo>)
+    requires { IsTimetable script.now.small.now script.now.opening.now }
 {
     let selection = match course {
-        Some(course) if course.fits(small) => Some(Selection::Course(course)),
+        Some(course) if course.fits(script.small) => Some(Selection::Course(course)),
         _ => None,
     };
-    match week_text(story.alloc(), small, selection, timetable) {
+    match week_text(story.alloc(), script.small, selection, script.opening) {
         Ok(text) => story.bytes(text.as_bytes()),
         Err(_no_memory) => story.no_memory(),
     }
@@ -100,28 +102,22 @@ fn tell_week(story: &mut Story, small: &Instance, timetable: &[Placed], course: 
 
 /// Tells the lines of a page that begin with a mark, but for its title, behind which the style begins.
 fn tell_lines(story: &mut Story, page: &[u8]) {
-    let mut is_first = true;
-    let mut is_told = false;
-    for at in 0..page.len() {
-        let rest = &page[at..];
-        if is_first {
-            is_told = rest.starts_with(b"<") && !rest.starts_with(b"<title>");
+    for line in Lines::new(page) {
+        if line.starts_with(b"<") && !line.starts_with(b"<title>") {
+            story.bytes(line);
+            story.bytes(b"\n");
         }
-        if is_told {
-            story.bytes(&rest[..1]);
-        }
-        is_first = page[at] == b'\n';
     }
 }
 
 /// What is found of a timetable, the weeks of its rooms and of geo, and its page.
-pub(crate) fn play_findings(story: &mut Story, small: &Instance, timetable: &[Placed])
-    requires { IsTimetable small.now timetable.now }
+pub(crate) fn play_findings(story: &mut Story, script: &Script)
+    requires { IsTimetable script.now.small.now script.now.opening.now }
 {
-    tell_found(story, small, timetable);
-    tell_week(story, small, timetable, None);
-    tell_week(story, small, timetable, Some(CourseNo::new(1)));
-    match page_text(story.alloc(), small, timetable) {
+    tell_found(story, script);
+    tell_week(story, script, None);
+    tell_week(story, script, Some(CourseNo::new(1)));
+    match page_text(story.alloc(), script.small, script.opening) {
         Ok(page) => tell_lines(story, page.as_bytes()),
         Err(_no_memory) => story.no_memory(),
     }

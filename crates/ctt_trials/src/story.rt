@@ -1,0 +1,278 @@
+//! What is told of the trials, and how many calls were made again.
+
+ghost use Rattle.std.specs.Prelude.{◌↔◌, IsTrue, None, false};
+ghost use Rattle.ctt_script.specs.Entries.{AnswerFits};
+
+use ctt_core::Answer;
+use ctt_devices::{Failed, Sink, put_all};
+use ctt_edits::{EditFault, Lectures, Reply, Row};
+use ctt_rules::Cost;
+use ctt_script::write_answer;
+use ctt_text::{Instance, NoMemory, Placed};
+use std::alloc::Global;
+
+/// How many bytes are told at most.
+const ROOM: usize = 65_536;
+
+/// How many bytes a line has at most.
+const LINE: usize = 4_096;
+
+/// A text, with room for all that is told, so that telling takes no memory.
+#[derive(Drop)]
+pub(crate) struct Story {
+    text: Vec<u8>,
+    line: String,
+    /// Where the answers of a script end that were told last by a desk for one thread; 0 where there are none.
+    pub(crate) marked: usize,
+    /// Where the answers of the case begin and end in what was told of it first, and where what the desk left ends.
+    pub(crate) answers: usize,
+    pub(crate) end: usize,
+    pub(crate) all: usize,
+    again: u64,
+    is_wanting: bool,
+    is_lost: bool,
+}
+
+/// Whether an answer can be written.
+fn answer_fits(instance: &Instance, answer: &Answer) -> bool
+    ensures { IsTrue result ↔ AnswerFits instance.now answer.now }
+{
+    match answer {
+        Answer::Replied(reply) => reply.fits(instance),
+        Answer::Stale(Row::Course(course)) => course.fits(instance),
+        Answer::Stale(Row::Slot(slot)) => slot.fits(instance),
+        Answer::Opened
+        | Answer::AlreadyOpen
+        | Answer::NoDraft
+        | Answer::Committed(_)
+        | Answer::Refreshed
+        | Answer::Abandoned
+        | Answer::NoMemory => true,
+    }
+}
+
+impl Story {
+    /// A text in which nothing is told yet, if there is memory.
+    pub(crate) fn new(alloc: Global) -> Option<Story> {
+        let text = Vec::with_capacity(alloc, ROOM).ok()?;
+        let line = String::with_capacity(alloc, LINE).ok()?;
+        Some(Story {
+            text,
+            line,
+            marked: 0,
+            answers: 0,
+            end: 0,
+            all: 0,
+            again: 0,
+            is_wanting: false,
+            is_lost: false,
+        })
+    }
+
+    pub(crate) fn alloc(&self) -> Global {
+        *self.text.allocator()
+    }
+
+    /// How many bytes are told.
+    pub(crate) fn len(&self) -> usize {
+        self.text.len()
+    }
+
+    /// Notes what was told of a script from a place on, if a desk for one thread answered it there.
+    pub(crate) fn note(&mut self, from: usize) {
+        if self.marked > 0 {
+            self.answers = from;
+            self.end = self.marked;
+            self.all = self.text.len();
+        }
+    }
+
+    /// Notes that a call is made again.
+    pub(crate) fn call_again(&mut self) {
+        self.again = self.again.saturating_add(1);
+    }
+
+    /// Notes that a call wanted memory, for which the case is to be played again.
+    pub(crate) fn no_memory(&mut self) {
+        self.is_wanting = true;
+    }
+
+    /// Whether a call wanted memory. Then what was told from a place on is taken back.
+    pub(crate) fn takes_back(&mut self, from: usize) -> bool {
+        if !self.is_wanting {
+            return false;
+        }
+        self.is_wanting = false;
+        self.text.truncate(from);
+        self.call_again();
+        true
+    }
+
+    /// Tells bytes.
+    pub(crate) fn bytes(&mut self, bytes: &[u8]) {
+        if self.text.extend_from_slice(bytes).is_err() {
+            self.is_lost = true;
+        }
+    }
+
+    /// Tells a line.
+    pub(crate) fn say(&mut self, words: &str) {
+        self.bytes(words.as_bytes());
+        self.bytes(b"\n");
+    }
+
+    /// Tells that a line is no right one, unless it is empty.
+    pub(crate) fn bad_line(&mut self, line: &[u8]) {
+        if !line.is_empty() {
+            self.say("bad line");
+        }
+    }
+
+    /// Tells the line that was written, if it was.
+    fn end_line(&mut self, is_written: bool) {
+        if !is_written || self.text.extend_from_slice(self.line.as_bytes()).is_err() {
+            self.is_lost = true;
+        }
+        self.line.clear();
+    }
+
+    /// Tells a word with a number, without ending the line.
+    pub(crate) fn pair(&mut self, word: &str, number: u64) {
+        let is_written = write!(self.line, "{word} {number}").is_ok();
+        self.end_line(is_written);
+    }
+
+    /// Tells a line of a word and a number.
+    pub(crate) fn count(&mut self, word: &str, number: u64) {
+        self.pair(word, number);
+        self.bytes(b"\n");
+    }
+
+    /// Tells at which lecture an opening is refused.
+    pub(crate) fn unlawful(&mut self, instance: &Instance, at: u64, fault: EditFault) {
+        self.pair("opening", at);
+        self.bytes(b" ");
+        self.refused(instance, fault);
+    }
+
+    /// Tells an answer, unless that is want of memory, and answers whether it was told.
+    pub(crate) fn tells(&mut self, instance: &Instance, answer: &Answer) -> bool {
+        if matches!(answer, Answer::NoMemory) {
+            return false;
+        }
+        let is_written = answer_fits(instance, answer)
+            && write_answer(&mut self.line, instance, answer).is_ok();
+        self.end_line(is_written);
+        true
+    }
+
+    /// Tells an answer. Want of memory is none: then the case is to be played again.
+    pub(crate) fn answer(&mut self, instance: &Instance, answer: &Answer) {
+        if !self.tells(instance, answer) {
+            self.no_memory();
+        }
+    }
+
+    /// Tells answers.
+    pub(crate) fn answers(&mut self, instance: &Instance, answers: &[Answer]) {
+        for answer in answers {
+            self.answer(instance, answer);
+        }
+    }
+
+    /// Tells a fault.
+    pub(crate) fn refused(&mut self, instance: &Instance, fault: EditFault) {
+        self.answer(instance, &Answer::Replied(Reply::Refused(fault)));
+    }
+
+    /// Tells what a call answers that gives a reply.
+    pub(crate) fn reply(&mut self, instance: &Instance, told: Result<Reply, NoMemory>) {
+        match told {
+            Ok(reply) => self.answer(instance, &Answer::Replied(reply)),
+            Err(NoMemory) => self.no_memory(),
+        }
+    }
+
+    /// Tells what a call answers that gives lectures.
+    pub(crate) fn lectures(&mut self, instance: &Instance, told: Result<Vec<Placed>, NoMemory>) {
+        match told {
+            Ok(list) => {
+                let list = Reply::Lectures(Lectures::new(list));
+                self.answer(instance, &Answer::Replied(list));
+            }
+            Err(NoMemory) => self.no_memory(),
+        }
+    }
+
+    /// Tells the lectures of a timetable, and what it costs.
+    pub(crate) fn timetable(
+        &mut self,
+        instance: &Instance,
+        told: Result<Vec<Placed>, NoMemory>,
+        cost: Cost,
+    ) {
+        self.lectures(instance, told);
+        self.answer(instance, &Answer::Replied(Reply::Costs(cost)));
+    }
+
+    /// Tells what a call answers that gives a text.
+    pub(crate) fn text(&mut self, told: Result<Vec<u8>, NoMemory>) {
+        match told {
+            Ok(text) => self.bytes(&text),
+            Err(NoMemory) => self.no_memory(),
+        }
+    }
+
+    /// Tells how a text was read: that it was, or by its words and its place the fault that it has to have. Of another
+    /// fault nothing is told.
+    pub(crate) fn read<F: PartialEq>(
+        &mut self,
+        fault: &Option<F>,
+        no_memory: &F,
+        fit: &F,
+        words: &str,
+        at: u64,
+    ) {
+        match fault {
+            None => self.bytes(b"read"),
+            Some(fault) if fault == no_memory => self.no_memory(),
+            Some(fault) if fault == fit => self.pair(words, at),
+            Some(_) => {}
+        }
+    }
+
+    /// Compares what was told from the third place on with what was told from the first to the second: where it is the
+    /// same, that is told in its place.
+    pub(crate) fn compare(&mut self, from: usize, to: usize, here: usize, way: &str) {
+        let is_same = match self.text.get(from..to) {
+            Some(before) => self.text.get(here..) == Some(before),
+            None => false,
+        };
+        if is_same {
+            self.text.truncate(here);
+            self.bytes(way.as_bytes());
+            self.say(": the same");
+        }
+    }
+
+    /// Writes all that was told, and how many calls were made again, and answers whether nothing was lost.
+    pub(crate) fn write<W: Sink>(&mut self, writer: &mut W) -> bool {
+        self.count("again", self.again);
+        !self.is_lost && put_all(writer, &self.text).is_ok() && writer.flush().is_ok()
+    }
+}
+
+impl Sink for Story {
+    ghost has_failed = { λ story. false };
+
+    ghost taken = { λ story. None };
+
+    fn put(&mut self, bytes: &[u8]) -> Result<usize, Failed> {
+        self.bytes(bytes);
+        Ok(bytes.len())
+    }
+
+    fn flush(&mut self) -> Result<(), Failed> {
+        Ok(())
+    }
+}
