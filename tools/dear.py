@@ -1,0 +1,33 @@
+#!/usr/bin/env python3
+"""Says which functions of a crate are dear to prove, by the times of the files that `rt check --jobs 1` kept.
+
+    tools/dear.py crates/NAME [HOW MANY]
+
+Each file is written when its module is checked, so the time since the file before is what the module took. The check
+has to be one of the whole crate, from nothing: remove `crates/NAME/out` first. Other work on the machine counts too.
+"""
+import collections
+import os
+import sys
+
+if len(sys.argv) not in (2, 3) or sys.argv[1].startswith("-"):
+    sys.exit(__doc__)
+kept = []
+for folder, _, names in os.walk(os.path.join(sys.argv[1], "out", "incremental")):
+    for name in names:
+        if name.endswith(".oantt"):
+            kept.append((os.stat(os.path.join(folder, name)).st_mtime, name))
+if not kept:
+    sys.exit(f"{sys.argv[1]} has no kept files: run `rt check --jobs 1` in it")
+kept.sort()
+took = collections.Counter()
+for (before, _), (now, name) in zip(kept, kept[1:]):
+    # Rattle-CRATE-proofs.MODULES.FUNCTION.PART.decls.oantt: parts and types begin with a capital, a function does not
+    parts = name.split("-proofs.")[-1].removesuffix(".oantt").removesuffix(".decls").split(".")
+    while parts and parts[-1][0].isupper():
+        parts.pop()
+    took[".".join(parts) or "all else"] += now - before
+whole = kept[-1][0] - kept[0][0]
+print(f"{whole:.0f} s in all")
+for function, seconds in took.most_common(int(sys.argv[2]) if len(sys.argv) == 3 else 20):
+    print(f"{seconds:7.1f} s {100 * seconds / whole:5.1f} in 100  {function}")
