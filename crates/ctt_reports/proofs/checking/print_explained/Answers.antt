@@ -2,7 +2,7 @@ use Rattle.std.proofs.Common.{◌++◌, ℕ, List, false, append_assoc, inr, sub
 use Rattle.std.specs.Io.KnownBytes.{Appends}
 use Rattle.std.proofs.KnownBytes.{Appends-trans}
 use Rattle.ctt_devices.specs.Output.{AppendsFront}
-use Rattle.ctt_files.proofs.Plain.{passed_on}
+use Rattle.ctt_files.proofs.Plain.{on_ok_weaker, passed_on}
 use Rattle.ctt_findings.specs.Findings.{findings}
 use Rattle.ctt_reports.specs.Checks.{found_texts}
 use Rattle.ctt_reports.proofs.WritingLemmas.{cut, front_behind, front_more, on_err_weaker}
@@ -34,3 +34,18 @@ returns-clause-part g c =
       c.in_ok-front.ensures,
       subst (AppendsFront (taken c.args.out.now) (taken c.print-2.new.out)) (append_assoc front found rest) (front_behind _ _ _ (front ++ found) rest told (subst (AppendsFront (taken c.tell.new.out) (taken c.print-2.new.out)) c.deref-2.ensures.value last)),
     )) c.print-2.ensures.front)
+
+pub returns-clause-prints : goal.returns-clause-prints
+returns-clause-prints g c =
+    let i = c.args.instance.now in
+    let taken = g.W.Sink.taken in
+    let front : List ℕ = c.in_ok-front.front.items in
+    let rest : List ℕ = c.in_ok-front.rest.items in
+    let found : List ℕ = found_texts c.args.json i false (findings i c.args.timetable.now) in
+    let before : Appends (taken c.args.out.now) (taken c.print.new.out) front = subst (Appends (taken c.args.out.now) (taken c.print.new.out)) c.deref.ensures.value c.in_ok-print.ensures.printed in
+    let told : Appends (taken c.args.out.now) (taken c.tell.new.out) (front ++ found) = Appends-trans _ _ _ front found before c.in_ok-tell.ensures.told in
+    on_ok_weaker c.print-2.result _ _ (λ last. (
+      front ++ (found ++ rest),
+      c.in_ok-front.ensures,
+      subst (Appends (taken c.args.out.now) (taken c.print-2.new.out)) (append_assoc front found rest) (Appends-trans _ _ _ (front ++ found) rest told (subst (Appends (taken c.tell.new.out) (taken c.print-2.new.out)) c.deref-2.ensures.value last)),
+    )) c.print-2.ensures.printed
