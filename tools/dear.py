@@ -4,7 +4,9 @@
     tools/dear.py crates/NAME [HOW MANY]
 
 Each file is written when its module is checked, so the time since the file before is what the module took. The check
-has to be one of the whole crate, from nothing: remove `crates/NAME/out` first. Other work on the machine counts too.
+has to be one of the whole crate, from nothing: remove `crates/NAME/out` first. Other work
+on the machine makes these times longer, up to four times, and what `rt` took over from another checkout takes none: a
+saving is shown by the processor's seconds of pairs of runs, and not by this.
 """
 import collections
 import os
