@@ -1,5 +1,5 @@
 -- Sheets that are kept follow the changes that are accepted.
-use Rattle.std.proofs.Common.{◌≡◌, ◌==◌, ◌≤◌, ◌<◌, ◌-◌, ℕ, zero, suc, true, false, List, [], ◌∷◌, ◌++◌, drop, take, replicate, set, get_or, length, Option, Some, None, Bool, cond, IfSome, refl, ◌∙◌, sym, ap, ap₂, subst, arith, length-append, inl, inr}
+use Rattle.std.proofs.Common.{◌≡◌, ◌==◌, ◌≤◌, ◌<◌, ◌-◌, ℕ, zero, suc, true, false, List, [], ◌∷◌, ◌++◌, drop, take, replicate, set, get_or, length, Option, Some, None, Bool, cond, IfSome, refl, ◌∙◌, sym, ap, ap₂, subst, arith, length-append, length-set, inl, inr}
 use Rattle.std.specs.List.{AllByRecursion as Each}
 use Rattle.std.specs.Option.{option_eq}
 use Rattle.std.proofs.lemmas.Bool.{eqb-true, cases_eq}
@@ -16,7 +16,7 @@ use Rattle.ctt_draft.specs.Endings.{RemainsValue}
 use Rattle.ctt_rules.specs.Penalty.{penalty}
 use Rattle.ctt_rules.specs.declared.cost.Cost.{Cost}
 use Rattle.ctt_draft.proofs.CallRuns.{ChangesFit-append, apply_all-append, whole_is}
-use Rattle.ctt_core.specs.Desks.{DeskValue, draft_at, IsFresh}
+use Rattle.ctt_core.specs.Desks.{DeskValue, draft_at, IsDesk, IsFresh}
 use Rattle.ctt_core.specs.Stocks.{StockValue, LeadsFrom, SpareValue, IsSpare, IsStock, changed, seen_at, HasSeen}
 
 -- all changes are made on a timetable exactly where it is the present one
@@ -173,3 +173,24 @@ module _ (v : StockValue) (all left : List SpareValue) (s t : SpareValue) (log :
 
   pub followed : (b : Board) → b ≡ record { problem = t.idle.problem; list = apply_all (take (length log - t.seen) (drop t.seen log)) t.idle.list } → b ≡ record { problem = v.problem; list = v.list }
   followed b made = made ∙ ap₂ (λ i ps. record { problem = i; list = ps }) taken.same (ap (λ xs. apply_all xs t.idle.list) lacking ∙ taken.leads.ends)
+
+-- a desk with a draft on its timetable, of a planner who has seen all changes
+pub desk_with : (i : Problem) (v w : StockValue) (opening : List Placed) (drafts : List (Option DraftValue)) (seen : List (Option ℕ)) (planners p n : ℕ) (d : DraftValue) → IsDesk i v opening drafts seen planners → p < length drafts →
+    w ≡ v → d.problem ≡ v.problem → d.base ≡ v.list → n ≡ length v.log → IsDesk i w opening (set drafts p (Some d)) (set seen p (Some n)) planners
+desk_with i v w opening drafts seen planners p n d h lt is of on count = subst (λ x. IsDesk i x opening (set drafts p (Some d)) (set seen p (Some n)) planners) (sym is) (record {
+  same = h.same;
+  opening_lawful = h.opening_lawful;
+  counted = length-set drafts p (Some d) ∙ h.counted;
+  drafts_of = λ q. elim (cases_eq q p) [
+    | inl e ↦ subst (λ k. IfSome (draft_at (set drafts p (Some d)) k) (λ x. x.problem ≡ i)) (sym e) (subst (λ o. IfSome o (λ x. x.problem ≡ i)) (sym (get_or-set_same drafts p (Some d) None lt)) (of ∙ h.same))
+    | inr e ↦ subst (λ o. IfSome o (λ x. x.problem ≡ i)) (sym (get_or-set_other drafts p q (Some d) None e)) (h.drafts_of q)
+  ];
+  seen_counted = length-set seen p (Some n) ∙ h.seen_counted;
+  has_seen = λ q. elim (cases_eq q p) [
+    | inl e ↦ subst (λ k. HasSeen v (draft_at (set drafts p (Some d)) k) (seen_at (set seen p (Some n)) k)) (sym e)
+        (subst (λ o. HasSeen v o (seen_at (set seen p (Some n)) p)) (sym (get_or-set_same drafts p (Some d) None lt))
+        (subst (HasSeen v (Some d)) (sym (get_or-set_same seen p (Some n) None (omega (arith, lt, h.counted, h.seen_counted)))) (leads_now v n d.base count on)))
+    | inr e ↦ subst (λ o. HasSeen v o (seen_at (set seen p (Some n)) q)) (sym (get_or-set_other drafts p q (Some d) None e))
+        (subst (HasSeen v (draft_at drafts q)) (sym (get_or-set_other seen p q (Some n) None e)) (h.has_seen q))
+  ];
+})
