@@ -194,3 +194,38 @@ desk_with i v w opening drafts seen planners p n d h lt is of on count = subst (
         (subst (HasSeen v (draft_at drafts q)) (sym (get_or-set_other seen p q (Some n) None e)) (h.has_seen q))
   ];
 })
+
+-- a desk with no draft of a planner
+pub desk_without : (i : Problem) (v w : StockValue) (opening : List Placed) (drafts : List (Option DraftValue)) (seen : List (Option ℕ)) (planners p : ℕ) (new : Option DraftValue) → IsDesk i v opening drafts seen planners → p < length drafts →
+    w ≡ v → new ≡ None → IsDesk i w opening (set drafts p new) seen planners
+desk_without i v w opening drafts seen planners p new h lt is none = subst (λ x. IsDesk i x opening (set drafts p new) seen planners) (sym is) (record {
+  same = h.same;
+  opening_lawful = h.opening_lawful;
+  counted = length-set drafts p new ∙ h.counted;
+  drafts_of = drafts_ended (λ d. d.problem ≡ i) drafts p new lt none h.drafts_of;
+  seen_counted = h.seen_counted;
+  has_seen = seen_draft v drafts seen p h.has_seen new lt (subst (λ o. HasSeen v o (seen_at seen p)) (sym none) tt);
+})
+
+-- a draft with the base that it had
+same_base : (v : StockValue) (d new : DraftValue) (count : Option ℕ) → new.base ≡ d.base → HasSeen v (Some d) count → HasSeen v (Some new) count
+same_base v d new None e h = tt
+same_base v d new (Some n) e h = subst (LeadsFrom v n) (sym e) h
+
+-- a desk whose draft of a planner has asked more
+pub desk_asked : (i : Problem) (v : StockValue) (opening : List Placed) (drafts : List (Option DraftValue)) (seen : List (Option ℕ)) (planners p : ℕ) (got : Option DraftValue) (d new : DraftValue) → IsDesk i v opening drafts seen planners → p < length drafts →
+    got ≡ get_or drafts p got → got ≡ Some d → (new.problem ≡ d.problem) × (new.base ≡ d.base) → IsDesk i v opening (set drafts p (Some new)) seen planners
+desk_asked i v opening drafts seen planners p got d new h lt is some same =
+    let its : draft_at drafts p ≡ Some d = sym (get_or_default drafts p got None lt) ∙ sym is ∙ some in
+    record {
+      same = h.same;
+      opening_lawful = h.opening_lawful;
+      counted = length-set drafts p (Some new) ∙ h.counted;
+      drafts_of = λ q. elim (cases_eq q p) [
+        | inl e ↦ subst (λ k. IfSome (draft_at (set drafts p (Some new)) k) (λ x. x.problem ≡ i)) (sym e)
+            (subst (λ o. IfSome o (λ x. x.problem ≡ i)) (sym (get_or-set_same drafts p (Some new) None lt)) (same.0 ∙ subst (λ o. IfSome o (λ x. x.problem ≡ i)) its (h.drafts_of p)))
+        | inr e ↦ subst (λ o. IfSome o (λ x. x.problem ≡ i)) (sym (get_or-set_other drafts p q (Some new) None e)) (h.drafts_of q)
+      ];
+      seen_counted = h.seen_counted;
+      has_seen = seen_draft v drafts seen p h.has_seen (Some new) lt (same_base v d new (seen_at seen p) same.1 (subst (λ o. HasSeen v o (seen_at seen p)) its (h.has_seen p)));
+    }
