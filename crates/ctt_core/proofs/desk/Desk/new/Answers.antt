@@ -12,3 +12,14 @@ invariant_of-result g c = record {
   seen_counted = search rules;
   has_seen = λ p. subst (λ o. HasSeen c.in_ok-stock.stock o (seen_at c.resize.new.self.items p)) (sym (c.in_ok-drafts.ensures.none p)) tt;
 }
+
+pub returns-clause-stands : goal.returns-clause-stands
+returns-clause-stands g c = record {
+  fit = tt;
+  right = tt;
+  at = record {
+    list = ap (λ (v : StockValue). v.list) c.in_ok-stock.ensures ∙ sym c.in_ok-opening.ensures;
+    journal = c.new-2.ensures;
+    drafts = c.in_ok-drafts.ensures.none;
+  };
+}
