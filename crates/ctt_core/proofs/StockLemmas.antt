@@ -8,7 +8,7 @@ use Rattle.ctt_text.proofs.TimetableLemmas.{Each-map}
 use Rattle.ctt_text.specs.Problem.{Problem}
 use Rattle.ctt_text.specs.declared.placed.Placed.{Placed}
 use Rattle.ctt_board.specs.declared.cell.Cell.{Cell}
-use Rattle.ctt_draft.specs.Drafts.{calls_of, changes}
+use Rattle.ctt_draft.specs.Drafts.{calls_of, changes, whole}
 use Rattle.ctt_board.specs.Boards.{Board}
 use Rattle.ctt_board.specs.Changes.{apply_all, ChangesFit}
 use Rattle.ctt_draft.specs.DraftValues.{DraftValue, present, Settles}
@@ -16,7 +16,7 @@ use Rattle.ctt_draft.specs.Endings.{RemainsValue}
 use Rattle.ctt_rules.specs.Penalty.{penalty}
 use Rattle.ctt_rules.specs.declared.cost.Cost.{Cost}
 use Rattle.ctt_draft.proofs.CallRuns.{ChangesFit-append, apply_all-append, whole_is}
-use Rattle.ctt_core.specs.Desks.{DeskValue, draft_at, IsDesk, IsFresh}
+use Rattle.ctt_core.specs.Desks.{DeskValue, draft_at, settled, IsDesk, IsFresh}
 use Rattle.ctt_core.specs.Stocks.{StockValue, LeadsFrom, SpareValue, IsSpare, IsStock, changed, seen_at, HasSeen}
 
 -- all changes are made on a timetable exactly where it is the present one
@@ -229,3 +229,13 @@ desk_asked i v opening drafts seen planners p got d new h lt is some same =
       seen_counted = h.seen_counted;
       has_seen = seen_draft v drafts seen p h.has_seen (Some new) lt (same_base v d new (seen_at seen p) same.1 (subst (λ o. HasSeen v o (seen_at seen p)) its (h.has_seen p)));
     }
+
+-- a desk that has settled a draft
+pub settled_is : (v w : DeskValue) (p : ℕ) (o : Option DraftValue) (d : DraftValue) → IsFresh v o → o ≡ Some d → w.problem ≡ v.problem → w.opening ≡ v.opening → w.list ≡ apply_all (changes d.problem d.base (calls_of d.asked)) v.list →
+    w.journal ≡ v.journal ++ record { planner = p; asked = d.asked } ∷ [] → w.drafts ≡ set v.drafts p None → w ≡ settled p v o
+settled_is v w p o d h e problem opening list journal drafts =
+    let settles : Settles d v.list = subst (IsFresh v) e h in
+    subst (λ x. w ≡ settled p v x) (sym e)
+    (ap₂ (λ i t. record { problem = i; opening = t; list = w.list; journal = w.journal; drafts = w.drafts }) problem opening
+    ∙ ap₂ (λ t j. record { problem = v.problem; opening = v.opening; list = t; journal = j; drafts = w.drafts }) (list ∙ sym settles.same.left) journal
+    ∙ ap (λ ds. record { problem = v.problem; opening = v.opening; list = whole d.problem v.list (calls_of d.asked); journal = v.journal ++ record { planner = p; asked = d.asked } ∷ []; drafts = ds }) drafts)

@@ -1,10 +1,13 @@
-use Rattle.std.proofs.Common.{rules, ◌≡◌, ◌<◌, ◌∙◌, Some, ℕ, set, sym, ap, subst, length, length-set, arith}
+use Rattle.std.proofs.Common.{rules, ◌≡◌, ◌<◌, ◌∙◌, ◌++◌, ◌∷◌, [], List, Option, Some, None, ℕ, set, sym, ap, ap₂, subst, length, length-set, arith}
 use Rattle.ctt_draft.specs.Drafts.{calls_of, changes}
-use Rattle.ctt_board.specs.Changes.{ChangesFit}
+use Rattle.ctt_draft.specs.DraftValues.{DraftValue}
+use Rattle.ctt_board.specs.Changes.{apply_all, ChangesFit}
+use Rattle.ctt_draft.specs.declared.asked.Asked.{Asked}
+use Rattle.ctt_core.specs.declared.journal.JournalEntry.{JournalEntry}
 use Rattle.ctt_core.specs.Stocks.{StockValue, HasSeen, seen_at}
 use Rattle.ctt_core.specs.Desks.{DeskValue, draft_at}
 use Rattle.ctt_core.proofs.StepLemmas.{draft_fits, draft_read}
-use Rattle.ctt_core.proofs.StockLemmas.{seen_read, settling, seen_after, drafts_ended}
+use Rattle.ctt_core.proofs.StockLemmas.{seen_read, settling, seen_after, drafts_ended, settled_is}
 use Rattle.ctt_core.proofs.desk.Desk.accept.Goals as goal
 
 pub settle-asked-requires : goal.settle-asked-requires
@@ -45,3 +48,13 @@ invariant_of-self-2 g c =
           (seen_after c.self.inside.stock c.settle-asked.new.self (changes c.unwrap-draft.result.problem c.unwrap-draft.result.base (calls_of c.unwrap-draft.result.asked)) c.settle-asked.result.1 c.self.inside.drafts.items c.self.inside.seen.items c.forget_unless.new.seen.items c.get-place.result
           c.settle-asked.ensures.changes fit within c.self.invariant.has_seen c.forget_unless.ensures.kept c.forget_unless.ensures.none);
     }
+
+pub returns-clause-goes_on : goal.returns-clause-goes_on
+returns-clause-goes_on g c =
+    let some = sym c.take.ensures.value ∙ c.unwrap-draft.ensures in
+    let drafts = ap (λ (v : DeskValue). v.drafts) c.self.view_is in
+    let own : draft_at c.args.self.now.drafts c.args.planner ≡ Some c.unwrap-draft.result = sym (ap (λ ds. draft_at ds c.args.planner) drafts) ∙ sym (draft_read _ c.args.self.now c.args.planner _ _ drafts c.requires.planner c.get-place.ensures c.index_mut.ensures.value) ∙ some in
+    settled_is c.args.self.now _ c.args.planner _ c.unwrap-draft.result c.requires.fresh own (ap (λ (v : DeskValue). v.problem) c.self.view_is) (ap (λ (v : DeskValue). v.opening) c.self.view_is)
+    (ap (λ (v : StockValue). v.list) c.settle-asked.ensures.changes ∙ ap (λ (v : DeskValue). apply_all (changes c.unwrap-draft.result.problem c.unwrap-draft.result.base (calls_of c.unwrap-draft.result.asked)) v.list) c.self.view_is)
+    (c.enter.ensures ∙ ap₂ (λ (j : List JournalEntry) (xs : List Asked). j ++ record { planner = c.args.planner; asked = xs } ∷ []) (c.reserve.ensures.list ∙ ap (λ (v : DeskValue). v.journal) c.self.view_is) c.settle-asked.ensures.asked)
+    (ap₂ (λ n (o : Option DraftValue). set c.self.inside.drafts.items n o) c.get-place.ensures c.take.ensures.after ∙ ap (λ ds. set ds c.args.planner None) drafts)
