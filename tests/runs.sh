@@ -1262,7 +1262,7 @@ if [ -e unwritten ]; then
     echo 'FAILED: a journal was stored although the script was not answered'
 fi
 
-# a standard error that fails, that is not there, or that fails half way, changes no status
+# a standard error that fails, that is not there, or that fails half way, changes no status of a fault
 for words in '1 check cut.ctt s.sol' '2 frobnicate' '3 check nowhere s.sol'; do
     read -r wanted words <<<"$words"
     read -ra words <<<"$words"
