@@ -1,13 +1,12 @@
 //! The lectures of a timetable, slot by slot.
 
-ghost use Rattle.std.specs.Prelude.{◌≡◌, ◌<◌, ◌==◌, ℕ, [], length, map, get_or, IfOk, OnOk};
+ghost use Rattle.std.specs.Prelude.{◌≡◌, ◌<◌, ℕ, [], length, map, get_or, IfOk, OnOk};
 ghost use Rattle.std.specs.List.{AllByRecursion as Each};
-ghost use Rattle.ctt_text.specs.NumberLists.{AddsNumber};
 ghost use Rattle.ctt_text.specs.Problem.{slot_count};
 ghost use Rattle.ctt_text.specs.Timetable.{Fits, IsTimetable, slot_row};
 ghost use Rattle.ctt_page.specs.Weeks.{WeekFits, by_slot, lectures_in};
 
-use ctt_text::{Instance, Placed, SlotNo};
+use ctt_text::{Instance, Placed, SlotNo, add_to, empty_lists};
 use std::alloc::{AllocError, Global};
 use std::marker::Model;
 
@@ -26,29 +25,6 @@ impl Model for Week {
     ghost view = { λ w. map (λ v. v.items) w.slots.items };
 }
 
-/// In each of so many slots, no lecture.
-fn no_lectures(alloc: Global, count: u16) -> Result<Vec<Vec<Placed>>, AllocError>
-    ensures size { IfOk result (λ v. length v.items ≡ count) }
-    ensures none { IfOk result (λ v. (s : ℕ) → get_or (map (λ v. v.items) v.items) s [] ≡ []) }
-{
-    let mut slots = Vec::new(alloc);
-    for _ in 0..count {
-        slots.push(Vec::new(alloc))?;
-    }
-    Ok(slots)
-}
-
-/// Adds a lecture to those of a slot.
-fn add_lecture(slots: &mut [Vec<Placed>], place: usize, lecture: &Placed) -> Result<(), AllocError>
-    requires { place < length slots.old }
-    ensures { OnOk result
-        (AddsNumber (map (λ v. v.items) slots.old) (map (λ v. v.items) slots.new) lecture.now
-        (λ s. place == s)) }
-{
-    slots[place].push(*lecture)?;
-    Ok(())
-}
-
 /// Adds each lecture to those of its slot.
 fn add_lectures(slots: &mut [Vec<Placed>], timetable: &[Placed]) -> Result<(), AllocError>
     requires within { Each (λ l. l.slot < length slots.old) timetable.now }
@@ -60,7 +36,7 @@ fn add_lectures(slots: &mut [Vec<Placed>], timetable: &[Placed]) -> Result<(), A
         → get_or (map (λ v. v.items) slots.new) s [] ≡ slot_row s timetable.now) }
 {
     for lecture in timetable {
-        add_lecture(slots, lecture.slot.get() as usize, lecture)?;
+        add_to(slots, lecture.slot.get() as usize, *lecture)?;
     }
     Ok(())
 }
@@ -78,7 +54,7 @@ fn lectures_by_slot(
         → s < count
         → get_or (map (λ v. v.items) v.items) s [] ≡ slot_row s timetable.now) }
 {
-    let mut slots = no_lectures(alloc, count)?;
+    let mut slots = empty_lists(alloc, usize::from(count))?;
     add_lectures(&mut slots, timetable)?;
     Ok(slots)
 }

@@ -17,7 +17,6 @@ mod curricula;
 mod header;
 mod members;
 mod naming;
-mod number_lists;
 mod pair_marks;
 mod places;
 mod read;

@@ -14,6 +14,7 @@ mod letting;
 mod marks;
 mod names;
 mod no_memory;
+mod number_lists;
 mod numbers;
 mod pieces;
 mod placed;
@@ -33,6 +34,7 @@ pub use label::Label;
 pub use letting::let_go;
 pub use marks::Marks;
 pub use no_memory::NoMemory;
+pub use number_lists::{add_to, empty_lists};
 pub use numbers::number;
 pub use pieces::{
     end_with_count, end_with_slot, end_with_word, push_count, push_number, push_slot, push_word,

@@ -7,7 +7,7 @@ ghost use Rattle.ctt_text.specs.NumberLists.{AddsNumber};
 
 use crate::course_facts::CourseFacts;
 use crate::ids::{CourseNo, CurriculumNo};
-use crate::instance::number_lists::{add_to, empty_lists};
+use crate::number_lists::{add_to, empty_lists};
 use std::alloc::{AllocError, Global};
 
 /// Adds a curriculum to the lists of its members.

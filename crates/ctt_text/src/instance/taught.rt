@@ -7,7 +7,7 @@ ghost use Rattle.ctt_text.specs.Tables.{teacher_at};
 
 use crate::course_facts::CourseFacts;
 use crate::ids::CourseNo;
-use crate::instance::number_lists::{add_to, empty_lists};
+use crate::number_lists::{add_to, empty_lists};
 use std::alloc::{AllocError, Global};
 
 /// Adds each course to the list of its teacher.

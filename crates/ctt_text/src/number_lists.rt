@@ -1,4 +1,4 @@
-//! Lists of numbers, one in each place, to which numbers are added.
+//! Lists of numbers, or of lectures, one in each place, to which more are added.
 
 ghost use Rattle.std.specs.Prelude.{◌≡◌, ℕ, ◌<◌, ◌==◌, [], length, map, get_or, IfOk, OnOk};
 ghost use Rattle.ctt_text.specs.NumberLists.{AddsNumber};
@@ -6,7 +6,7 @@ ghost use Rattle.ctt_text.specs.NumberLists.{AddsNumber};
 use std::alloc::{AllocError, Global};
 
 /// Adds a number to the list in a place.
-pub(crate) fn add_to<N: Drop>(
+pub fn add_to<N: Drop>(
     lists: &mut [Vec<N>],
     place: usize,
     number: N,
@@ -22,7 +22,7 @@ pub(crate) fn add_to<N: Drop>(
 
 /// In each of so many places, no number.
 #[tactic(auto, using(crate::proofs::NumberListLemmas::none_more))]
-pub(crate) fn empty_lists<N: Drop>(alloc: Global, count: usize) -> Result<Vec<Vec<N>>, AllocError>
+pub fn empty_lists<N: Drop>(alloc: Global, count: usize) -> Result<Vec<Vec<N>>, AllocError>
     ensures size { IfOk result (λ v. length v.items ≡ count) }
     ensures empty { IfOk result (λ v. (p : ℕ) → get_or (map (λ v. v.items) v.items) p [] ≡ []) }
 {

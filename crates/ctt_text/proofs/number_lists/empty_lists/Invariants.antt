@@ -1,5 +1,5 @@
 use Rattle.std.proofs.Common.{◌≡◌, ℕ, [], map, get_or, length}
-use Rattle.ctt_text.proofs.instance.number_lists.empty_lists.Given as goal
+use Rattle.ctt_text.proofs.number_lists.empty_lists.Given as goal
 
 abbrev pub invariant-loop : goal.invariant-loop
 invariant-loop g l = record {
