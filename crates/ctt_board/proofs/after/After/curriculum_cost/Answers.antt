@@ -1,7 +1,8 @@
-use Rattle.std.proofs.Common.{◌≡◌, ◌*◌, ◌≤◌, ◌∙◌, ℕ, Bool, not, sym, ap, ap₂, arith, count_by, sum_by, get_or, List}
+use Rattle.std.proofs.Common.{◌≡◌, ◌*◌, ◌≤◌, ◌∙◌, ◌||◌, ℕ, Bool, not, sym, ap, ap₂, arith, count_by, sum_by, get_or, List}
 use Rattle.std.specs.List.{list_any}
 use Rattle.std.proofs.lemmas.List.{take_all}
-use Rattle.std.proofs.lemmas.List.Sums.{sum_by_more_le}
+use Rattle.std.proofs.lemmas.List.Folds.{list_any_more}
+use Rattle.std.proofs.lemmas.List.Sums.{sum_by_more, sum_by_more_le}
 use Rattle.ctt_text.specs.Lists.{has}
 use Rattle.ctt_text.specs.Marks.{is_marked}
 use Rattle.ctt_text.specs.Problem.{Problem, IsProblem}
@@ -21,19 +22,35 @@ mark_slots-requires g c = rw (c.instance-instance.ensures, c.as_slice.ensures.va
 pub count_alone-count-requires : goal.count_alone-count-requires
 count_alone-count-requires g c = rw (c.instance-instance.ensures, c.as_slice-in-loop-member-2.ensures.value, c.row-row-in-loop-member-2.ensures) (row_fits c.args.self.now.problem c.args.self.now.list c.member-item-in-loop-member-2.result c.lawful.ensures.timetable)
 
+pub loop-member-preserved : goal.loop-member-preserved
+loop-member-preserved g c s =
+    let marks : ℕ → Bool = λ m. busy (course_row m c.args.self.now.list) s in
+    c.mark_slots.ensures s ∙ ap₂ (λ a b. a || b) (c.loop-member.invariant s) (ap (λ ls. busy ls s) (c.as_slice.ensures.value ∙ c.row-row.ensures) ∙ ap marks c.member-item.is)
+    ∙ sym (list_any_more marks c.args.members.now c.loop-member.member-index c.member-item.result c.loop-member-test.true)
+
+-- the lectures of a member that stand alone
+module _ (g : _) (c : goal.After-count_alone-count g) where
+  abbrev lone : Placed → Bool
+  lone x = not (is_beside c.args.self.now.problem (is_marked c.loop-member.slots) x.slot)
+
+  abbrev of_member : ℕ → ℕ
+  of_member m = count_by lone (course_row m c.args.self.now.list)
+
+  here : c.count_alone-count.result ≡ of_member (get_or c.args.members.now c.loop-member-2.member-index c.member-item-in-loop-member-2.result)
+  here = c.count_alone-count.ensures.count
+      ∙ ap₂ (λ j ls. count_by (λ x. not (is_beside j (is_marked c.loop-member.slots) x.slot)) ls) c.instance-instance.ensures (c.as_slice-in-loop-member-2.ensures.value ∙ c.row-row-in-loop-member-2.ensures) ∙ ap of_member c.member-item-in-loop-member-2.is
+
 pub overflow_add-count : goal.overflow_add-count
 overflow_add-count g c =
     let i : Problem = c.args.self.now.problem in
     let t : List Placed = c.args.self.now.list in
     let q = c.args.members.now in
-    let m = c.member-item-in-loop-member-2.result in
-    let p : Placed → Bool = λ x. not (is_beside i (is_marked c.loop-member.slots) x.slot) in
-    let f : ℕ → ℕ = λ m. count_by p (course_row m t) in
-    let here : c.count_alone-count.result ≡ f (get_or q c.loop-member-2.member-index m) = c.count_alone-count.ensures.count
-    ∙ ap₂ (λ j ls. count_by (λ x. not (is_beside j (is_marked c.loop-member.slots) x.slot)) ls) c.instance-instance.ensures (c.as_slice-in-loop-member-2.ensures.value ∙ c.row-row-in-loop-member-2.ensures) ∙ ap f c.member-item-in-loop-member-2.is in
-    let within = sum_by_more_le f q c.loop-member-2.member-index m c.loop-member-2-test.true in
+    let within = sum_by_more_le (of_member g c) q c.loop-member-2.member-index c.member-item-in-loop-member-2.result c.loop-member-2-test.true in
     let is : IsProblem i = rw c.instance-instance.ensures at c.limits_hold.ensures in
-    omega (arith, c.loop-member-2.invariant, here, within, count_lectures p q t c.requires.1, count_lectures_le p q t, few_lectures i t c.lawful.ensures.timetable is)
+    omega (arith, c.loop-member-2.invariant, here g c, within, count_lectures (lone g c) q t c.requires.1, count_lectures_le (lone g c) q t, few_lectures i t c.lawful.ensures.timetable is)
+
+pub loop-member-2-preserved : goal.loop-member-2-preserved
+loop-member-2-preserved g c = omega (arith, c.loop-member-2.invariant, here g c, sum_by_more (of_member g c) c.args.members.now c.loop-member-2.member-index c.member-item-in-loop-member-2.result c.loop-member-2-test.true)
 
 -- the members' lectures that stand alone, at the end of the loop
 module _ (g : _) (c : goal.After-loop-member-2 g) where
