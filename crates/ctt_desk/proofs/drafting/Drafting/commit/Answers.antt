@@ -1,13 +1,14 @@
-use Rattle.std.proofs.Common.{rules, ◌≡◌, ◌∙◌, ◌+◌, ◌++◌, ◌∷◌, [], List, length, refl, sym, ap, subst}
+use Rattle.std.proofs.Common.{rules, ◌≡◌, ◌∙◌, ◌+◌, ◌++◌, ◌∷◌, [], List, length, Some, refl, sym, ap, ap₂, subst}
 use mathlib.Core.List.{IsPrefix}
+use Rattle.ctt_draft.specs.Drafts.{calls_of, stale}
 use Rattle.ctt_draft.specs.DraftValues.{DraftValue}
 use Rattle.ctt_core.specs.declared.journal.JournalEntry.{JournalEntry}
 use Rattle.ctt_core.specs.Runs.{after, Legal}
-use Rattle.ctt_desk.specs.Histories.{own, entry_of, IsNotHis}
+use Rattle.ctt_desk.specs.Histories.{own, entry_of, IsFreshAt, IsHis, IsNotHis, IsSeen}
 use Rattle.ctt_desk.specs.Published.{IsAfter}
 use Rattle.ctt_desk.proofs.CommitLemmas.{left_present}
 use Rattle.ctt_desk.specs.Planners.{PlannerValue, DraftingValue}
-use Rattle.ctt_desk.proofs.OwnLemmas.{accepted, counted_now, foreign, seen_up_to}
+use Rattle.ctt_desk.proofs.OwnLemmas.{accepted, counted_now, foreign, outdated, seen_up_to}
 use Rattle.ctt_desk.proofs.drafting.Drafting.commit.Goals as goal
 
 pub commit-outcome-requires : goal.commit-outcome-requires
@@ -76,3 +77,24 @@ of_base-kept-requires g c κs =
     }
     in
     search rules
+
+pub returns-in-Stale-clause-err : goal.returns-in-Stale-clause-err
+returns-in-Stale-clause-err g c =
+    let i = g.J.Naming.problem in
+    let t0 = g.J.Naming.opening in
+    let p = c.planner.inside in
+    let d = c.self.inside.draft.value in
+    let j = c.deref_mut.result.now in
+    let v : DraftingValue = record { planner = record { number = p.number; committed = p.committed; front = p.front }; base = d.base; asked = d.asked } in
+    let same : v ≡ c.args.self = ap (λ (x : PlannerValue). record { planner = x; base = d.base; asked = d.asked }) c.planner.view_is ∙ c.self.view_is in
+    let cause : IsSeen j p.front c.commit-outcome.new.front × IsHis j p.number p.committed × (stale i d.base (after i t0 j) (calls_of d.asked) ≡ Some c.in-Stale.row) = search rules in
+    outdated i t0 v c.args.self c.keeping.result j c.commit-outcome.new.front c.in-Stale.row same cause.0 cause.1 cause.2 c.keeping.ensures c.in-Err.ensures.seen
+
+pub returns-in-NoMemory-clause-err : goal.returns-in-NoMemory-clause-err
+returns-in-NoMemory-clause-err g c =
+    let p = c.planner.inside in
+    let d = c.self.inside.draft.value in
+    let v : List JournalEntry → DraftValue → DraftingValue = λ l x. record { planner = record { number = p.number; committed = p.committed; front = l }; base = x.base; asked = x.asked } in
+    let same : v p.front d ≡ c.args.self = ap (λ (x : PlannerValue). record { planner = x; base = d.base; asked = d.asked }) c.planner.view_is ∙ c.self.view_is in
+    let cause : (c.commit-outcome.new.front ≡ p.front) × IsFreshAt g.J.Naming.problem g.J.Naming.opening c.deref_mut.result.now p.number p.committed d = search rules in
+    ap₂ v cause.0 c.in-Err.ensures.err.1 ∙ same
