@@ -254,6 +254,15 @@ module _ (v0 v : AuditorValue) (asked items : List Asked) (k : ℕ) (r : Running
   pub running_fits : (x : Asked) → k < length items → x ≡ get_or items k x → CallFits v.problem x.call
   running_fits x lt is = (subst (Each (AskedFits v.problem)) (left_at items k x lt is) r.fit).0.0
 
+  pub running_more : (x : Asked) (w : AuditorValue) → k < length items → x ≡ get_or items k x → w ≡ record v { asked = v.asked ++ x ∷ [] } → Running v0 w asked (drop (k + 1) items)
+  running_more x w lt is next =
+      let there : drop k items ≡ x ∷ drop (k + 1) items = left_at items k x lt is in
+      record {
+        goes_on = ap (ran (drop (k + 1) items)) next ∙ ap (λ xs. ran xs v) (sym there) ∙ r.goes_on;
+        fit = subst (λ (u : AuditorValue). Each (AskedFits u.problem) (drop (k + 1) items)) (sym next) (subst (Each (AskedFits v.problem)) there r.fit).1;
+        ready = ap (λ (u : AuditorValue). u.made) next ∙ r.ready;
+      }
+
   running_done : length items ≤ k → v ≡ record v0 { asked = v0.asked ++ asked }
   running_done le = ap (λ xs. ran xs v) (sym (none_left items k le)) ∙ r.goes_on ∙ ran_is asked v0
 
@@ -276,6 +285,16 @@ pub record Hearing (v0 v : AuditorValue) (entries left : List JournalEntry) : Ty
 module _ (v0 v : AuditorValue) (entries : List JournalEntry) (k : ℕ) (r : Hearing v0 v entries (drop k entries)) where
   pub hearing_fits : (e : JournalEntry) → k < length entries → e ≡ get_or entries k e → EntryFits v.problem e
   hearing_fits e lt is = (subst (Each (EntryFits v.problem)) (left_at entries k e lt is) r.fit).0
+
+  pub hearing_more : (e : JournalEntry) (w : AuditorValue) → k < length entries → e ≡ get_or entries k e → w ≡ record v { entries = v.entries ++ e ∷ [] } → Hearing v0 w entries (drop (k + 1) entries)
+  hearing_more e w lt is next =
+      let there : drop k entries ≡ e ∷ drop (k + 1) entries = left_at entries k e lt is in
+      record {
+        goes_on = ap (ran_entries (drop (k + 1) entries)) next ∙ ap (λ xs. ran_entries xs v) (sym there) ∙ r.goes_on;
+        fit = subst (λ (u : AuditorValue). Each (EntryFits u.problem) (drop (k + 1) entries)) (sym next) (subst (Each (EntryFits v.problem)) there r.fit).1;
+        begun = ap (λ (u : AuditorValue). u.asked) next ∙ r.begun;
+        ready = ap (λ (u : AuditorValue). u.made) next ∙ r.ready;
+      }
 
   pub hearing_done : length entries ≤ k → v ≡ record v0 { entries = v0.entries ++ entries }
   hearing_done le = ap (λ xs. ran_entries xs v) (sym (none_left entries k le)) ∙ r.goes_on ∙ ran_entries_is entries v0

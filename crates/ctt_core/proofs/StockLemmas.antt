@@ -3,12 +3,13 @@ use Rattle.std.proofs.Common.{◌≡◌, ◌==◌, ◌≤◌, ◌<◌, ◌-◌, 
 use Rattle.std.specs.List.{AllByRecursion as Each}
 use Rattle.std.specs.Option.{option_eq}
 use Rattle.std.proofs.lemmas.Bool.{eqb-true, cases_eq}
-use Rattle.std.proofs.lemmas.List.{drop_all, drop-append-le, get_or-set_same, get_or-set_other, get_or_default, get_or-replicate, length-replicate}
+use Rattle.std.proofs.lemmas.List.{drop_all, drop-append-le, get_or-set_same, get_or-set_other, get_or_default, get_or-replicate, length-replicate, take_rest}
 use Rattle.ctt_text.proofs.TimetableLemmas.{Each-map}
 use Rattle.ctt_text.specs.Problem.{Problem}
 use Rattle.ctt_text.specs.declared.placed.Placed.{Placed}
 use Rattle.ctt_board.specs.declared.cell.Cell.{Cell}
 use Rattle.ctt_draft.specs.Drafts.{calls_of, changes}
+use Rattle.ctt_board.specs.Boards.{Board}
 use Rattle.ctt_board.specs.Changes.{apply_all, ChangesFit}
 use Rattle.ctt_draft.specs.DraftValues.{DraftValue, present, Settles}
 use Rattle.ctt_draft.specs.Endings.{RemainsValue}
@@ -147,3 +148,28 @@ drafts_ended P drafts p new lt e all q = elim (cases_eq q p) [
   | inl same ↦ subst (λ k. IfSome (draft_at (set drafts p new) k) P) (sym same) (subst (λ o. IfSome o P) (sym (get_or-set_same drafts p new None lt ∙ e)) tt)
   | inr apart ↦ subst (λ o. IfSome o P) (sym (get_or-set_other drafts p q new None apart)) (all q)
 ]
+
+-- the sheets that are left
+pub spares_left : (v : StockValue) (all left more : List SpareValue) → all ≡ left ++ more → Each (IsSpare v) all → Each (IsSpare v) left
+spares_left v all left more e h = front left (subst (Each (IsSpare v)) e h) where
+  front : (xs : List SpareValue) → Each (IsSpare v) (xs ++ more) → Each (IsSpare v) xs
+  front [] h = tt
+  front (x ∷ xs) h = (h.0, front xs h.1)
+
+-- a sheet that is taken from those that are kept, and follows the changes that it lacks
+module _ (v : StockValue) (all left : List SpareValue) (s t : SpareValue) (log : List (List Cell)) (h : Each (IsSpare v) all) (e : all ≡ left ++ s ∷ []) (is : t ≡ s) (l : log ≡ v.log) where
+  taken : IsSpare v t
+  taken = subst (IsSpare v) (sym is) (Each-less (IsSpare v) left s (subst (Each (IsSpare v)) e h)).1
+
+  lacking : take (length log - t.seen) (drop t.seen log) ≡ drop t.seen v.log
+  lacking = take_rest log t.seen ∙ ap (drop t.seen) l
+
+  pub can_follow : (cost : Cost) → cost ≡ penalty v.problem v.list →
+      ChangesFit t.idle.problem (take (length log - t.seen) (drop t.seen log)) t.idle.list × (cost ≡ penalty t.idle.problem (apply_all (take (length log - t.seen) (drop t.seen log)) t.idle.list))
+  can_follow cost told = (
+    subst (λ xs. ChangesFit t.idle.problem xs t.idle.list) (sym lacking) (subst (λ i. ChangesFit i (drop t.seen v.log) t.idle.list) (sym taken.same) taken.leads.fit),
+    told ∙ ap₂ penalty (sym taken.same) (sym (ap (λ xs. apply_all xs t.idle.list) lacking ∙ taken.leads.ends)),
+  )
+
+  pub followed : (b : Board) → b ≡ record { problem = t.idle.problem; list = apply_all (take (length log - t.seen) (drop t.seen log)) t.idle.list } → b ≡ record { problem = v.problem; list = v.list }
+  followed b made = made ∙ ap₂ (λ i ps. record { problem = i; list = ps }) taken.same (ap (λ xs. apply_all xs t.idle.list) lacking ∙ taken.leads.ends)

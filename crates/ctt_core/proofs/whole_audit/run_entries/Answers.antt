@@ -1,6 +1,6 @@
 use Rattle.std.proofs.Common.{rules}
 use Rattle.ctt_core.specs.Entries.{EntryFits}
-use Rattle.ctt_core.proofs.AuditLemmas.{hearing_fits, hearing_done}
+use Rattle.ctt_core.proofs.AuditLemmas.{hearing_fits, hearing_more, hearing_done}
 use Rattle.ctt_core.proofs.whole_audit.run_entries.Goals as goal
 
 pub run_entry-requires : goal.run_entry-requires
@@ -13,3 +13,6 @@ run_entry-requires g c κs =
 
 pub returns : goal.returns
 returns g c = hearing_done c.args.auditor.now c.loop-entry.auditor c.args.entries.now c.loop-entry.entry-index c.loop-entry.invariant c.loop-entry-test.false
+
+pub loop-entry-preserved : goal.loop-entry-preserved
+loop-entry-preserved g c = hearing_more c.args.auditor.now c.loop-entry.auditor c.args.entries.now c.loop-entry.entry-index c.loop-entry.invariant c.entry-item.result c.run_entry.new.auditor c.loop-entry-test.true c.entry-item.is c.in_ok-run_entry.ensures
