@@ -22,7 +22,7 @@ use Rattle.ctt_edits.specs.declared.fault.EditFault.{EditFault}
 use Rattle.ctt_draft.specs.Drafts.{calls_of, after_call, made, changes, all_read_course, stale}
 use Rattle.ctt_draft.specs.DraftValues.{DraftValue, IsDraft, refreshed}
 use Rattle.ctt_draft.specs.Laws.{SameOn}
-use Rattle.ctt_draft.specs.Undo.{is_of, first_named, found_in, recorded, all_cells, undo_of, put_back, UndoValue}
+use Rattle.ctt_draft.specs.Undo.{is_of, first_named, found_in, all_cells, undo_of, put_back, UndoValue}
 use Rattle.ctt_draft.specs.declared.asked.Asked.{Asked}
 use Rattle.ctt_draft.proofs.DraftSteps.{back_to, rebased}
 use Rattle.ctt_draft.proofs.FrameLemmas.{agree_read, draft_frame, settling_fits}

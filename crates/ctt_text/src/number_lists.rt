@@ -6,11 +6,7 @@ ghost use Rattle.ctt_text.specs.NumberLists.{AddsNumber};
 use std::alloc::{AllocError, Global};
 
 /// Adds a number to the list in a place.
-pub fn add_to<N: Drop>(
-    lists: &mut [Vec<N>],
-    place: usize,
-    number: N,
-) -> Result<(), AllocError>
+pub fn add_to<N: Drop>(lists: &mut [Vec<N>], place: usize, number: N) -> Result<(), AllocError>
     requires { place < length lists.old }
     ensures { OnOk result
         (AddsNumber (map (λ v. v.items) lists.old) (map (λ v. v.items) lists.new) number
