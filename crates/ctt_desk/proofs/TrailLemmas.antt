@@ -1,13 +1,13 @@
 -- The changes that were accepted lately lead from one history to another.
-use Rattle.std.proofs.Common.{◌≡◌, ◌<◌, ℕ, List, [], ◌∷◌, ◌++◌, drop, get_or, length, refl, sym, subst, arith}
-use Rattle.ctt_text.proofs.TimetableLemmas.{Each-map, Each-at}
+use Rattle.std.proofs.Common.{ℕ, List, ◌++◌, subst}
+use Rattle.ctt_text.proofs.TimetableLemmas.{Each-map}
 use Rattle.ctt_text.specs.Problem.{Problem}
 use Rattle.ctt_text.specs.declared.placed.Placed.{Placed}
 use Rattle.ctt_board.specs.declared.cell.Cell.{Cell}
 use Rattle.ctt_core.specs.Runs.{after}
 use Rattle.ctt_core.specs.Stocks.{LeadsFrom}
 use Rattle.ctt_core.specs.declared.journal.JournalEntry.{JournalEntry}
-use Rattle.ctt_core.proofs.StockLemmas.{leads_now, leads_more, Each-more}
+use Rattle.ctt_core.proofs.StockLemmas.{leads_more}
 use Rattle.ctt_desk.specs.Trails.{led, LeadsOn, MilestoneValue, AreMilestones}
 
 module _ (i : Problem) (t0 : List Placed) where
