@@ -15,20 +15,38 @@ use crate::shared_desk::SharedDesk;
 use ctt_board::{Sheet, Timetable};
 use ctt_draft::Keeping;
 use ctt_text::let_go;
+use std::sync::atomic::AtomicU64;
 use std::sync::{Mutex, MutexGuard, Wait};
 use std::thread::yield_now;
+use std::time::Duration;
 
-/// How often a thread tries to have the lock before it sleeps.
-const TRIES: u32 = 100;
+/// How often a thread lets others run between two tries to have the lock, before it sleeps between them.
+const YIELDS: u32 = 4;
 
-/// What lies under the lock. It is held for some microseconds: a thread that lets others run
-/// meanwhile has it sooner than one that sleeps and has to be woken.
+/// How often a thread tries to have the lock, before it waits for it in its turn.
+const TRIES: u32 = 32;
+
+/// How long a thread sleeps first, and at most, in microseconds.
+const SHORTEST: u64 = 300;
+
+const LONGEST: u64 = 3_200;
+
+/// What lies under the lock. It is held for some microseconds, so others soon let go of it. Where many
+/// want it they are sent to sleep, each time twice as long: a thread that commits many drafts in a row
+/// has what it needs in its processor's memory, and one that is woken for each of them has not.
 fn held<'l, T, R: Wait>(rt: &R, lock: &'l Mutex<T>) -> MutexGuard<'l, T> {
-    for _ in 0..TRIES {
+    let never = AtomicU64::new(0);
+    let mut micros = SHORTEST;
+    for tries in 0..TRIES {
         if let Some(guard) = lock.try_lock() {
             return guard;
         }
-        yield_now();
+        if tries < YIELDS {
+            yield_now();
+        } else {
+            never.park_timeout(rt, 0, Duration::from_micros(micros));
+            micros = micros.saturating_mul(2).min(LONGEST);
+        }
     }
     lock.lock(rt)
 }
