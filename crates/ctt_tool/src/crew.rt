@@ -10,7 +10,7 @@ ghost use Rattle.ctt_tool.specs.Crews.{IsOfCrewOn, PrintsCrew};
 ghost use Rattle.ctt_tool.specs.Faults.{fault_of_crew};
 ghost use Rattle.ctt_tool.specs.Refusals.{IsOfCrew, IsOfScripts, IsOfWork};
 
-use crate::printed::print_all;
+use crate::printed::print_last;
 use ctt_crew::{CrewFault, NoGate};
 use ctt_devices::Sink;
 use ctt_files::{Fault, Files, Outcome, fetch_instance, read_files};
@@ -126,5 +126,5 @@ pub fn crew<R: Threads + Wait + Sync, F: Files, W: Sink>(
         return Err(Fault::TooManyScripts);
     }
     let report = report(rt, alloc, files, instance, barred, scripts)?;
-    print_all(out, &report)
+    print_last(out, &report)
 }

@@ -12,7 +12,7 @@ ghost use Rattle.ctt_tool.specs.Refusals.{IsOfDesk, IsOfOldMinutes, IsOfOpening,
 ghost use Rattle.ctt_tool.specs.Seats.{has_seat, has_twice};
 
 use crate::office::{Office, STANDARD};
-use crate::printed::print_all;
+use crate::printed::print_last;
 use crate::refused::refused_opening;
 use ctt_board::{GridSheet, Sheet};
 use ctt_desk::{Opened, SharedFault};
@@ -232,8 +232,8 @@ pub fn desk<R: Threads + Wait + Sync, F: Files, O: Office, W: Sink, V: Sink>(
         rt, alloc, files, office, instance, barred, &seats, start, minutes,
     )?;
     if has_seat(&seats, STANDARD) {
-        print_all(err, &report)
+        print_last(err, &report)
     } else {
-        print_all(out, &report)
+        print_last(out, &report)
     }
 }

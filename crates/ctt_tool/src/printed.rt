@@ -9,7 +9,7 @@ use ctt_devices::Sink;
 use ctt_files::{Fault, Outcome, print};
 
 /// Prints a whole text, with which a job is done.
-pub fn print_all<W: Sink>(out: &mut W, text: &[u8]) -> Result<Outcome, Fault>
+pub fn print_last<W: Sink>(out: &mut W, text: &[u8]) -> Result<Outcome, Fault>
     ensures done { IfOk result (λ outcome. outcome ≡ Done) }
     ensures printed { OnOk result (Appends (W.taken out.old) (W.taken out.new) text.now) }
     ensures unmarked { OnOk result (W.has_failed out.new ≡ W.has_failed out.old) }

@@ -15,7 +15,7 @@ use crate::desk::desk;
 use crate::journal::journal;
 use crate::list::list;
 use crate::office::Office;
-use crate::printed::print_all;
+use crate::printed::print_last;
 use crate::run::run;
 use ctt_devices::Sink;
 use ctt_files::{Fault, Files, NO_MEMORY, Outcome, complain};
@@ -94,7 +94,7 @@ fn answer_words<W: Sink>(out: &mut W, fault: WordsFault) -> Result<Outcome, Faul
     ensures unwritten { IfErr result (λ told. MayHaveWritten told ⊎ (out.new ≡ out.old)) }
 {
     match fault {
-        WordsFault::Help(text) => print_all(out, text.as_bytes()),
+        WordsFault::Help(text) => print_last(out, text.as_bytes()),
         WordsFault::Refused(text) => Err(Fault::Words(text)),
         WordsFault::NoMemory => Err(Fault::NoMemory),
     }

@@ -1,18 +1,36 @@
 //! A crew of one planner, on a thread.
 
+ghost use Rattle.std.specs.Prelude.{◌≤◌, length};
+
 use crate::cases::Script;
 use crate::story::Story;
-use ctt_crew::{NoGate, crew};
+use ctt_crew::{Gate, NoGate, crew};
 use ctt_script::Lines;
+use ctt_text::Instance;
+use std::alloc::Global;
 use std::marker::Sync;
 use std::sync::Wait;
 use std::thread::Threads;
+
+/// What a crew writes that follows these scripts, if it is given memory, a place and a thread.
+fn written<R: Threads + Wait + Sync, G: Gate>(
+    rt: &R,
+    alloc: Global,
+    small: &Instance,
+    scripts: &[&[u8]],
+    gate: &G,
+) -> Option<Vec<u8>>
+    requires some { 1 ≤ length scripts.now }
+    requires few { length scripts.now ≤ 64 }
+{
+    crew(rt, alloc, small, scripts, gate).ok()
+}
 
 /// A crew that follows one script. A place or a thread that is refused is told as want of memory, and so is a line of its
 /// answers that says `no memory` or `no place`.
 pub(crate) fn play<R: Threads + Wait + Sync>(story: &mut Story, rt: &R, script: &Script) {
     let scripts = [script.lines.as_bytes()];
-    let Ok(text) = crew(rt, story.alloc(), script.small, &scripts, &NoGate) else {
+    let Some(text) = written(rt, story.alloc(), script.small, &scripts, &NoGate) else {
         return story.no_memory();
     };
     for line in Lines::new(&text) {

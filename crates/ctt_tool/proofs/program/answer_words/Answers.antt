@@ -6,10 +6,10 @@ use Rattle.ctt_tool.proofs.Ends.{failed_so}
 use Rattle.ctt_tool.proofs.program.answer_words.Goals as goal
 
 pub returns-in-Help-clause-marked : goal.returns-in-Help-clause-marked
-returns-in-Help-clause-marked g c = IfErr-weaker c.print_all.result _ _ (λ told is. inl (ap status_of is)) c.print_all.ensures.fault
+returns-in-Help-clause-marked g c = IfErr-weaker c.print_last.result _ _ (λ told is. inl (ap status_of is)) c.print_last.ensures.fault
 
 pub returns-in-Help-clause-unwritten : goal.returns-in-Help-clause-unwritten
-returns-in-Help-clause-unwritten g c = IfErr-weaker c.print_all.result _ _ (λ told is. inl (subst MayHaveWritten (sym is) tt)) c.print_all.ensures.fault
+returns-in-Help-clause-unwritten g c = IfErr-weaker c.print_last.result _ _ (λ told is. inl (subst MayHaveWritten (sym is) tt)) c.print_last.ensures.fault
 
 pub returns-in-Help-clause-cause : goal.returns-in-Help-clause-cause
-returns-in-Help-clause-cause g c = failed_so c.print_all.result _ _ _ c.print_all.ensures.fault c.print_all.ensures.marked (λ told is failed. subst (λ fault. IsOfHelp fault (g.W.Sink.has_failed c.print_all.new.out) told) (sym c.in-Help.is) (is, failed))
+returns-in-Help-clause-cause g c = failed_so c.print_last.result _ _ _ c.print_last.ensures.fault c.print_last.ensures.marked (λ told is failed. subst (λ fault. IsOfHelp fault (g.W.Sink.has_failed c.print_last.new.out) told) (sym c.in-Help.is) (is, failed))
