@@ -32,14 +32,18 @@ use std::process::ExitCode;
 use std::sync::Wait;
 use std::thread::Threads;
 use story::Story;
-use tables::CASES;
+use tables::{of_texts, on_desks, on_sheets, refreshed_desks, refusing_desks};
 use texts::SMALL;
 
 /// All that is played.
 fn play<R: Threads + Wait + Sync>(story: &mut Story, rt: &R) {
     match read_instance(story.alloc(), SMALL.as_bytes()) {
         Ok(mut small) => {
-            play_cases(story, rt, &small, CASES);
+            play_cases(story, rt, &small, on_sheets());
+            play_cases(story, rt, &small, on_desks());
+            play_cases(story, rt, &small, refreshed_desks());
+            play_cases(story, rt, &small, refusing_desks());
+            play_cases(story, rt, &small, of_texts());
             barred::play(story, rt, &mut small);
             let_go(small);
         }

@@ -122,8 +122,8 @@ const READS: &[Play] = plays![Way::Plain(Plain::Reads) => ""];
 /// A text that is written to devices that fail.
 const WRITES: &[Play] = plays![Way::Plain(Plain::Writes) => ""];
 
-/// What is played without barred rooms.
-pub(crate) const CASES: &[Case] = &[
+/// Reports, lines on one sheet, and drafts by themselves.
+const ON_SHEETS: &[Case] = &[
     case!("reports", SOLUTION, "", REPORTS),
     case!("on the empty sheet", NOTHING, EMPTY_SHEET, LINES),
     case!("a swap of rooms", NOTHING, SWAP_OF_ROOMS, LINES),
@@ -144,11 +144,19 @@ pub(crate) const CASES: &[Case] = &[
     case!("swap geo 0 1 top 0 2", NOTHING, SWAP, ROWS),
     case!("drafts", NOTHING, "", DRAFT),
     case!("a draft of a thousand calls", NOTHING, "", LONG_DRAFT),
+];
+
+/// Desks on which drafts are accepted, stale and abandoned.
+const ON_DESKS: &[Case] = &[
     case!("phantom", NOTHING, PHANTOM, DESK),
     case!("changed and changed back", NOTHING, CHANGED_BACK, DESK),
     case!("out of turn", NOTHING, OUT_OF_TURN, DESK),
     case!("a price that changed", NOTHING, STALE_PRICE, DESK),
     case!("abandoned", NOTHING, ABANDONED, DESK),
+];
+
+/// Desks whose drafts are brought up to date, or left open.
+const REFRESHED_DESKS: &[Case] = &[
     case!("refreshed", NOTHING, REFRESHED, DESK),
     case!("not refreshed", NOTHING, NOT_REFRESHED, DESK),
     case!("stale at a refresh", NOTHING, STALE_REFRESH, DESK),
@@ -164,6 +172,10 @@ pub(crate) const CASES: &[Case] = &[
         BACK_REFRESHED,
         DESK
     ),
+];
+
+/// Lines that are no events, and desks that meet what stands in a slot.
+const REFUSING_DESKS: &[Case] = &[
     case!("bad lines", NOTHING, BAD_LINES, BAD),
     case!(
         "a drop and a placement in one slot",
@@ -173,6 +185,10 @@ pub(crate) const CASES: &[Case] = &[
     ),
     case!("the drop first", WITHOUT_TOP, DROP_FIRST, DESK),
     case!("a refused edit", WITHOUT_TOP, REFUSED, DESK),
+];
+
+/// Journals, findings, crews, cut texts, and devices that fail.
+const TEXTS: &[Case] = &[
     case!("another reply", WITHOUT_TOP, OTHER_JOURNAL, AUDIT),
     case!("what a journal leaves", WITHOUT_TOP, TOP_JOURNAL, LEFT),
     case!(
@@ -213,3 +229,30 @@ pub(crate) const BARRED: &[Case] = &[
 
 /// What is played where room A is barred for alg.
 pub(crate) const OTHER_BARRED: &[Case] = &[case!("", SOLUTION, "", REPORTS_ALONE)];
+
+// A constant is costly where it is named, and the more so the longer it is: so each table has a function that names it alone.
+
+/// Reports, lines on one sheet, and drafts by themselves.
+pub(crate) fn on_sheets() -> &'static [Case] {
+    ON_SHEETS
+}
+
+/// Desks on which drafts are accepted, stale and abandoned.
+pub(crate) fn on_desks() -> &'static [Case] {
+    ON_DESKS
+}
+
+/// Desks whose drafts are brought up to date, or left open.
+pub(crate) fn refreshed_desks() -> &'static [Case] {
+    REFRESHED_DESKS
+}
+
+/// Lines that are no events, and desks that meet what stands in a slot.
+pub(crate) fn refusing_desks() -> &'static [Case] {
+    REFUSING_DESKS
+}
+
+/// Journals, findings, crews, cut texts, and devices that fail.
+pub(crate) fn of_texts() -> &'static [Case] {
+    TEXTS
+}
