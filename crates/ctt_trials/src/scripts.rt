@@ -9,10 +9,32 @@ use crate::devices::{Failing, Memory, Shelf};
 use crate::story::Story;
 use crate::worked::PHANTOM_ANSWERS;
 use ctt_board::Sheet;
+use ctt_core::Desk;
+use ctt_devices::Sink;
 use ctt_draft::KeepAll;
 use ctt_script::{ScriptFault, run_script};
 use ctt_text::let_go;
 use std::alloc::Global;
+
+/// Runs the lines that a reader gives, whose answers a writer takes.
+fn ran<'i, S: Sheet<'i>, W: Sink>(
+    alloc: Global,
+    script: &Script<'i>,
+    reader: &mut Memory,
+    writer: &mut W,
+) -> Result<Desk<'i, S, KeepAll>, ScriptFault>
+    requires timetable { IsTimetable script.now.small.now script.now.opening.now }
+    requires unmarked { reader.old.failed ≡ false }
+{
+    run_script::<S, KeepAll, Memory, W>(
+        alloc,
+        script.small,
+        script.opening,
+        reader,
+        writer,
+        &mut None,
+    )
+}
 
 /// Plays a script that is read from a device, and whose answers are told as they are written.
 pub(crate) fn play_script<'i, S: Sheet<'i>>(story: &mut Story, script: &Script<'i>)
@@ -20,15 +42,7 @@ pub(crate) fn play_script<'i, S: Sheet<'i>>(story: &mut Story, script: &Script<'
 {
     let alloc = story.alloc();
     let mut reader = Memory::new(script.lines.as_bytes(), 0);
-    let ran = run_script::<S, KeepAll, Memory, Story>(
-        alloc,
-        script.small,
-        script.opening,
-        &mut reader,
-        story,
-        &mut None,
-    );
-    match ran {
+    match ran::<S, Story>(alloc, script, &mut reader, story) {
         Ok(desk) => {
             tell_desk(story, script, &desk);
             let_go(desk);
@@ -36,27 +50,6 @@ pub(crate) fn play_script<'i, S: Sheet<'i>>(story: &mut Story, script: &Script<'
         Err(ScriptFault::Unlawful(at, fault)) => story.unlawful(script.small, at, fault),
         Err(_fault) => story.no_memory(),
     }
-}
-
-/// Runs the lines that a reader gives, whose answers a writer takes, and answers why they could not be run.
-fn fault_of<'i, S: Sheet<'i>>(
-    alloc: Global,
-    script: &Script<'i>,
-    reader: &mut Memory,
-    shelf: &mut Shelf,
-) -> Option<ScriptFault>
-    requires timetable { IsTimetable script.now.small.now script.now.opening.now }
-    requires unmarked { reader.old.failed ≡ false }
-{
-    run_script::<S, KeepAll, Memory, Shelf>(
-        alloc,
-        script.small,
-        script.opening,
-        reader,
-        shelf,
-        &mut None,
-    )
-    .err()
 }
 
 /// Runs lines on a reader whose read with this number fails, or where it is 0 on a writer that fails. Answers whether that is
@@ -72,7 +65,7 @@ fn fails<'i, S: Sheet<'i>>(
     requires { IsTimetable script.now.small.now script.now.opening.now }
 {
     let mut reader = Memory::new(lines, fails_at);
-    let fault = fault_of::<S>(story.alloc(), script, &mut reader, shelf);
+    let fault = ran::<S, Shelf>(story.alloc(), script, &mut reader, shelf).err();
     if fault == Some(ScriptFault::NoMemory) {
         story.no_memory();
     }

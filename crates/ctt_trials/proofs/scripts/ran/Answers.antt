@@ -1,7 +1,7 @@
 use Rattle.std.proofs.Common.{rules, ◌≡◌, false}
 use Rattle.std.specs.List.{AllByRecursion as Each}
 use Rattle.ctt_text.specs.Timetable.{Fits}
-use Rattle.ctt_trials.proofs.scripts.fault_of.Goals as goal
+use Rattle.ctt_trials.proofs.scripts.ran.Goals as goal
 
 pub run_script-requires : goal.run_script-requires
 run_script-requires g c κs =
