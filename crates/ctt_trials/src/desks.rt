@@ -10,7 +10,7 @@ use crate::journals::tell_journal;
 use crate::lists::add;
 use crate::story::Story;
 use ctt_board::Sheet;
-use ctt_core::{Answer, Desk, DeskFault, Event};
+use ctt_core::{Desk, DeskFault, Event};
 use ctt_draft::KeepAll;
 use ctt_script::{Lines, PLANNERS, read_line};
 use ctt_text::{Instance, NoMemory, let_go};
@@ -34,38 +34,29 @@ fn event_fits<'i, S: Sheet<'i>>(desk: &Desk<'i, S, KeepAll>, event: &Event) -> b
     event.fits(desk.instance(), desk.planners())
 }
 
-/// What a desk answers to an event of it.
-fn step_once<'i, S: Sheet<'i>>(desk: &mut Desk<'i, S, KeepAll>, event: &Event) -> Answer {
+/// Tells what a desk answers to an event, and answers whether it was told: want of memory is not.
+fn tells_step<'i, S: Sheet<'i>>(
+    story: &mut Story,
+    desk: &mut Desk<'i, S, KeepAll>,
+    event: &Event,
+) -> bool {
     if !event_fits(desk, event) {
-        return Answer::NoMemory;
+        return false;
     }
-    desk.step(*event)
+    let small = desk.instance();
+    story.tells(small, &desk.step(*event))
 }
 
 /// Tells what a desk answers to an event. Where that is want of memory, it is asked again.
 fn tell_answer<'i, S: Sheet<'i>>(
     story: &mut Story,
-    small: &'i Instance,
     desk: &mut Desk<'i, S, KeepAll>,
     event: &Event,
 ) {
-    if story.tells(small, &step_once(desk, event)) {
-        return;
-    }
-    story.call_again();
-    story.answer(small, &step_once(desk, event));
-}
-
-/// Answers a script line by line.
-fn answer_lines<'i, S: Sheet<'i>>(
-    story: &mut Story,
-    script: &Script<'i>,
-    desk: &mut Desk<'i, S, KeepAll>,
-) {
-    for line in Lines::new(script.lines.as_bytes()) {
-        match read_line(script.small, line) {
-            Some(event) => tell_answer(story, script.small, desk, &event),
-            None => story.bad_line(line),
+    if !tells_step(story, desk, event) {
+        story.call_again();
+        if !tells_step(story, desk, event) {
+            story.no_memory();
         }
     }
 }
@@ -82,14 +73,17 @@ impl OfLine for Event {
     }
 }
 
-/// What the lines of a script ask for, with nothing for a bad line.
+/// What the lines of a script ask for. The bad ones are told.
 fn asked_in<T: OfLine>(story: &mut Story, script: &Script) -> Vec<T> {
     let mut list = Vec::new(story.alloc());
     for line in Lines::new(script.lines.as_bytes()) {
-        if let Some(one) = T::of_line(script.small, line) {
-            if add(&mut list, one).is_err() {
-                story.no_memory();
+        match T::of_line(script.small, line) {
+            Some(one) => {
+                if add(&mut list, one).is_err() {
+                    story.no_memory();
+                }
             }
+            None => story.bad_line(line),
         }
     }
     list
@@ -114,13 +108,13 @@ fn events_fit<'i, S: Sheet<'i>>(desk: &Desk<'i, S, KeepAll>, events: &[Event]) -
 /// should: then the case is played again.
 fn tell_answers<'i, S: Sheet<'i>>(
     story: &mut Story,
-    small: &'i Instance,
     desk: &mut Desk<'i, S, KeepAll>,
     events: &[Event],
 ) {
     if !events_fit(desk, events) {
         return story.say("unfit");
     }
+    let small = desk.instance();
     match desk.run(events) {
         Ok(answers) => story.answers(small, &answers),
         Err(NoMemory) => story.no_memory(),
@@ -137,11 +131,13 @@ fn play_at<'i, S: Sheet<'i>>(
 )
     requires { IsTimetable script.now.small.now script.now.opening.now }
 {
+    let events = asked_in::<Event>(story, script);
     if matches!(on, On::Run) {
-        let events = asked_in::<Event>(story, script);
-        tell_answers(story, script.small, desk, &events);
+        tell_answers(story, desk, &events);
     } else {
-        answer_lines(story, script, desk);
+        for event in &events {
+            tell_answer(story, desk, event);
+        }
     }
     story.marked = story.len();
     tell_desk(story, script, desk);

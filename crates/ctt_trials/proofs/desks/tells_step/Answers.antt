@@ -1,6 +1,6 @@
 use Rattle.std.proofs.Common.{rules, length}
 use Rattle.ctt_core.specs.Runs.{EventFits}
-use Rattle.ctt_trials.proofs.desks.step_once.Goals as goal
+use Rattle.ctt_trials.proofs.desks.tells_step.Goals as goal
 
 pub step-requires : goal.step-requires
 step-requires g c κs =
