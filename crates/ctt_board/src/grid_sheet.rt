@@ -30,12 +30,23 @@ mod rows;
 
 /// A sheet whose lectures lie in a table by course and slot, beside which lie the counts of which
 /// its costs are made, and the costs themselves. No change takes memory.
-#[derive(Drop)]
 pub struct GridSheet<'i> {
     instance: &'i Instance,
     tables: Tables,
     cost: Cost,
     alloc: Global,
+}
+
+// A derived `Drop` is proved anew in each crate above.
+impl<'i> Drop for GridSheet<'i> {
+    fn drop(self) {
+        let GridSheet {
+            instance: _,
+            tables: _,
+            cost: _,
+            alloc: _,
+        } = self;
+    }
 }
 
 impl<'i> Model for GridSheet<'i> {

@@ -21,10 +21,19 @@ use std::marker::Model;
 
 /// A sheet whose lectures lie in a vector with room for each lawful timetable, so that no change
 /// takes memory. Its costs are computed anew whenever they are asked for.
-#[derive(Drop)]
 pub struct ListSheet<'i> {
     instance: &'i Instance,
     lectures: Vec<Placed>,
+}
+
+// A derived `Drop` is proved anew in each crate above.
+impl<'i> Drop for ListSheet<'i> {
+    fn drop(self) {
+        let ListSheet {
+            instance: _,
+            lectures: _,
+        } = self;
+    }
 }
 
 impl<'i> Model for ListSheet<'i> {

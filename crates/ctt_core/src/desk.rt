@@ -30,7 +30,6 @@ use std::marker::Model;
 mod turns;
 
 /// A timetable on which planners have drafts, and the drafts that were accepted since its opening.
-#[derive(Drop)]
 pub struct Desk<'i, S: Timetable, K: Keeping> {
     instance: &'i Instance,
     opening: Vec<Placed>,
@@ -43,6 +42,22 @@ pub struct Desk<'i, S: Timetable, K: Keeping> {
     planners: u16,
     /// A list of no meaning, in whose memory lectures are listed that are told.
     spare: Vec<Placed>,
+}
+
+// A derived `Drop` is proved anew in each crate above.
+impl<'i, S: Timetable, K: Keeping> Drop for Desk<'i, S, K> {
+    fn drop(self) {
+        let Desk {
+            instance: _,
+            opening: _,
+            stock: _,
+            journal: _,
+            drafts: _,
+            seen: _,
+            planners: _,
+            spare: _,
+        } = self;
+    }
 }
 
 impl<'i, S: Timetable, K: Keeping> Model for Desk<'i, S, K> {

@@ -15,12 +15,22 @@ use ctt_text::{NoMemory, Placed};
 use std::marker::Model;
 
 /// What a desk left: its journal, which is kept or not, and its timetable. Contracts see the journal.
-#[derive(Drop)]
 pub struct Closed<S: Timetable, J: Naming, K: Keeping = KeepAll> {
     pub(crate) journal: Log<JournalEntry, K>,
     pub(crate) sheet: S,
     /// The journal, as what was seen.
     pub(crate) front: Front<J>,
+}
+
+// A derived `Drop` is proved anew in each crate above.
+impl<S: Timetable, J: Naming, K: Keeping> Drop for Closed<S, J, K> {
+    fn drop(self) {
+        let Closed {
+            journal: _,
+            sheet: _,
+            front: _,
+        } = self;
+    }
 }
 
 impl<S: Timetable, J: Naming, K: Keeping> Model for Closed<S, J, K> {

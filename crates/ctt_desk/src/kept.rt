@@ -18,10 +18,16 @@ use std::marker::Model;
 
 /// The sheet of a planner's last draft, and the history after which it is the opening. Contracts
 /// see the history.
-#[derive(Drop)]
 pub(crate) struct Kept<S: Timetable, J: Naming> {
     idle: Idle<S>,
     front: Front<J>,
+}
+
+// A derived `Drop` is proved anew in each crate above.
+impl<S: Timetable, J: Naming> Drop for Kept<S, J> {
+    fn drop(self) {
+        let Kept { idle: _, front: _ } = self;
+    }
 }
 
 impl<S: Timetable, J: Naming> Model for Kept<S, J> {

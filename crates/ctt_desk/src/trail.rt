@@ -29,11 +29,21 @@ impl<J: Naming> Model for Milestone<J> {
 /// The changes of the commits that were accepted lately, with the history after each: a sheet that
 /// is the opening after one of these histories becomes the opening after the last one by the
 /// changes since. Contracts see the last history and the changes.
-#[derive(Drop)]
 pub(crate) struct Trail<J: Naming> {
     milestones: Vec<Milestone<J>>,
     changes: Vec<Change>,
     front: Front<J>,
+}
+
+// A derived `Drop` is proved anew in each crate above.
+impl<J: Naming> Drop for Trail<J> {
+    fn drop(self) {
+        let Trail {
+            milestones: _,
+            changes: _,
+            front: _,
+        } = self;
+    }
 }
 
 impl<J: Naming> Model for Trail<J> {

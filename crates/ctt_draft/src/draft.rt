@@ -32,7 +32,6 @@ mod staleness;
 /// The base, which is the timetable at the opening or at the last refresh, the calls since the opening with
 /// their replies, and the timetable as these leave it. Nobody else's later work is seen in it. Only the last
 /// of these timetables is kept; the undo record leads from it back to the base.
-#[derive(Drop)]
 pub struct Draft<'i, S: Timetable, K: Keeping> {
     instance: &'i Instance,
     present: Box<S>,
@@ -40,6 +39,20 @@ pub struct Draft<'i, S: Timetable, K: Keeping> {
     asked: Log<Asked, K>,
     changes: Vec<Change>,
     rows: Box<RowsRead>,
+}
+
+// A derived `Drop` is proved anew in each crate above.
+impl<'i, S: Timetable, K: Keeping> Drop for Draft<'i, S, K> {
+    fn drop(self) {
+        let Draft {
+            instance: _,
+            present: _,
+            undo: _,
+            asked: _,
+            changes: _,
+            rows: _,
+        } = self;
+    }
 }
 
 impl<'i, S: Timetable, K: Keeping> Model for Draft<'i, S, K> {
@@ -275,14 +288,19 @@ impl<'i, S: Sheet<'i>, K: Keeping> Draft<'i, S, K> {
           present = present self.entry;
         } }
     {
-        let work = Work {
-            asked: self.asked,
-            changes: self.changes,
-        };
+        let Draft {
+            instance: _,
+            present,
+            undo,
+            asked,
+            changes,
+            rows,
+        } = self;
+        let work = Work { asked, changes };
         let remains = Remains {
-            present: self.present,
-            undo: self.undo,
-            rows: self.rows,
+            present,
+            undo,
+            rows,
         };
         (work, remains)
     }

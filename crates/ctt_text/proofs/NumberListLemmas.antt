@@ -1,7 +1,7 @@
 -- Lists of numbers, one in each place, to which a number is added.
 use Rattle.std.proofs.Common.{◌≡◌, ℕ, zero, suc, ◌+◌, ◌<◌, ◌≤◌, Bool, true, false, cond, ◌==◌, List, [], ◌∷◌, ◌++◌, length, map, get_or, append-nil, add-one, refl, ◌∙◌, sym, ap, ap₂, arith, inl, inr}
 use Rattle.std.specs.List.{slice_set, AllByRecursion as Each}
-use Rattle.std.proofs.lemmas.List.{get_or-set_other, length-set, get_or-map, map-set, length-map, length-append}
+use Rattle.std.proofs.lemmas.List.{get_or-set_other, length-set, set-get_or, get_or-map, map-set, length-map, length-append}
 use Rattle.std.proofs.lemmas.Grind.{get_or-set_at}
 use Rattle.std.proofs.lemmas.Bool.{cases_eq, eq-eqb, ne_eqb}
 use Rattle.ctt_text.specs.Lists.{below}
@@ -28,6 +28,12 @@ set_added items lists k q x v lt e =
     let here : get_or (map items lists) k [] ≡ items (get_or lists k x) = get_or-map items lists k x [] lt in
     let set : map items (slice_set lists k v) ≡ slice_set (map items lists) k (get_or (map items lists) k [] ++ q ∷ []) = map-set items lists k v ∙ ap (slice_set (map items lists) k) (e ∙ ap (λ xs. xs ++ q ∷ []) (sym here)) in
     rw set (one_added (map items lists) k q (omega (arith, lt, length-map lists items)))
+
+-- the same list anew in a place
+pub set_kept : {N V : Type 0} (items : V → List N) (lists : List V) (k : ℕ) (x v : V) → k < length lists → items v ≡ items (get_or lists k x) → map items (slice_set lists k v) ≡ map items lists
+set_kept items lists k x v lt e =
+    let here : get_or (map items lists) k [] ≡ items v = get_or-map items lists k x [] lt ∙ sym e in
+    map-set items lists k v ∙ ap (slice_set (map items lists) k) (sym here) ∙ set-get_or (map items lists) k []
 
 -- one number more that passes or not
 pub below_more : (p : ℕ → Bool) (n : ℕ) → below p (n + 1) ≡ below p n ++ cond (p n) (n ∷ []) []

@@ -38,7 +38,6 @@ use std::marker::Model;
 /// that [`read_barred`] read since.
 ///
 /// There are at most 2,000 courses, 1,000 rooms, 2,000 teachers, 20,000 curricula and 2,000 slots.
-#[derive(Drop)]
 pub struct Instance {
     name: String,
     course_names: Names,
@@ -65,6 +64,32 @@ pub struct Instance {
     room_labels: Vec<Option<Label>>,
     /// The day and the period of each slot, ready to be copied.
     slot_labels: Vec<Option<Label>>,
+}
+
+// A derived `Drop` is proved anew in each crate above.
+impl Drop for Instance {
+    fn drop(self) {
+        let Instance {
+            name: _,
+            course_names: _,
+            courses: _,
+            teacher_names: _,
+            room_names: _,
+            capacities: _,
+            curriculum_names: _,
+            curricula: _,
+            days: _,
+            periods: _,
+            unavailable: _,
+            barred: _,
+            clashes: _,
+            belonging: _,
+            taught: _,
+            course_labels: _,
+            room_labels: _,
+            slot_labels: _,
+        } = self;
+    }
 }
 
 impl Model for Instance {

@@ -1,16 +1,17 @@
 //! Lists of numbers, or of lectures, one in each place, to which more are added.
 
-ghost use Rattle.std.specs.Prelude.{◌≡◌, ℕ, ◌<◌, ◌==◌, [], length, map, get_or, IfOk, OnOk};
+ghost use Rattle.std.specs.Prelude.{◌≡◌, ℕ, ◌<◌, ◌==◌, [], length, map, get_or, IfOk, OnOk, OnErr};
 ghost use Rattle.ctt_text.specs.NumberLists.{AddsNumber};
 
 use std::alloc::{AllocError, Global};
 
-/// Adds a number to the list in a place.
+/// Adds a number to the list in a place. After want of memory the lists are as they were.
 pub fn add_to<N: Drop>(lists: &mut [Vec<N>], place: usize, number: N) -> Result<(), AllocError>
     requires { place < length lists.old }
-    ensures { OnOk result
+    ensures added { OnOk result
         (AddsNumber (map (λ v. v.items) lists.old) (map (λ v. v.items) lists.new) number
         (λ p. place == p)) }
+    ensures kept { OnErr result (map (λ v. v.items) lists.new ≡ map (λ v. v.items) lists.old) }
 {
     lists[place].push(number)?;
     Ok(())
