@@ -21,18 +21,22 @@ use std::thread::yield_now;
 use std::time::Duration;
 
 /// How often a thread lets others run between two tries to have the lock, before it sleeps between them.
-const YIELDS: u32 = 4;
+const YIELDS: u32 = 5;
 
 /// How often a thread tries to have the lock, before it waits for it in its turn.
 const TRIES: u32 = 32;
 
-/// How long a thread sleeps first, and at most, in microseconds.
-const SHORTEST: u64 = 300;
+/// How long a thread sleeps first, in microseconds.
+const SHORTEST: u64 = 50;
 
+/// How many times as long it sleeps next.
+const LONGER: u64 = 8;
+
+/// How long it sleeps at most, in microseconds.
 const LONGEST: u64 = 3_200;
 
 /// What lies under the lock. It is held for some microseconds, so others soon let go of it. Where many
-/// want it they are sent to sleep, each time twice as long: a thread that commits many drafts in a row
+/// want it they are sent to sleep, each time for longer: a thread that commits many drafts in a row
 /// has what it needs in its processor's memory, and one that is woken for each of them has not.
 fn held<'l, T, R: Wait>(rt: &R, lock: &'l Mutex<T>) -> MutexGuard<'l, T> {
     let never = AtomicU64::new(0);
@@ -45,7 +49,7 @@ fn held<'l, T, R: Wait>(rt: &R, lock: &'l Mutex<T>) -> MutexGuard<'l, T> {
             yield_now();
         } else {
             never.park_timeout(rt, 0, Duration::from_micros(micros));
-            micros = micros.saturating_mul(2).min(LONGEST);
+            micros = micros.saturating_mul(LONGER).min(LONGEST);
         }
     }
     lock.lock(rt)
