@@ -1,1 +1,2 @@
+pub mod AttendLemmas
 pub mod CrewLemmas

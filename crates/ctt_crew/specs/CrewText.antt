@@ -1,5 +1,5 @@
 -- What a crew is answered, and what is written of it.
-use Rattle.std.specs.Prelude.{ℕ, ◌≡◌, ◌+◌, ◌<◌, List, [], ◌∷◌, ◌++◌, codes, length, Option, Some, None}
+use Rattle.std.specs.Prelude.{ℕ, ◌≡◌, ◌+◌, ◌<◌, List, [], ◌∷◌, ◌++◌, codes, length, Option, Some, None, Result, Ok, Err}
 use Rattle.std.specs.Fmt.{decimal}
 use Rattle.ctt_text.specs.Problem.{Problem}
 use Rattle.ctt_text.specs.declared.placed.Placed.{Placed}
@@ -58,13 +58,17 @@ planners_text p (answers ∷ more) = line (codes "planner" ∷ decimal p ∷ [])
 abbrev pub crew_text : List (List ℕ) → ℕ → Cost → List ℕ
 crew_text answers entries cost = planners_text 0 answers ++ (line (codes "journal" ∷ decimal entries ∷ []) ++ line (cost_words cost))
 
--- such a text, of some answers of each of so many planners, of as many drafts as some legal history on the opening has, and of what the timetable costs after it
+-- such a text of a desk with this opening, whose history is this
+abbrev pub closing_text : Problem → List Placed → List (List ℕ) → List JournalEntry → List ℕ
+closing_text problem opening answers history = crew_text answers (length history) (penalty problem (after problem opening history))
+
+-- such a text, of some answers of each of so many planners, and of some legal history on the opening
 pub record IsCrewText (problem : Problem) (opening : List Placed) (planners : ℕ) (text : List ℕ) : Type 0 where
   pub answers : List (List ℕ)
   pub each : length answers ≡ planners
   pub history : List JournalEntry
   pub legal : Legal problem opening history
-  pub is : text ≡ crew_text answers (length history) (penalty problem (after problem opening history))
+  pub is : text ≡ closing_text problem opening answers history
 
 -- the fault of a desk that opens empty, as a crew's
 abbrev pub of_shared : SharedFault → CrewFault
@@ -77,3 +81,13 @@ abbrev pub IsCrewFault : ℕ → CrewFault → Type 0
 IsCrewFault planners (crew_fault.NoThread p) = p < planners
 IsCrewFault planners crew_fault.NoPlace = Unit {0}
 IsCrewFault planners crew_fault.NoMemory = Unit {0}
+
+-- why a planner's thread is not added, by whether it was started
+abbrev pub added_fault : {T E : Type 0} → ℕ → Result T E → CrewFault
+added_fault planner (Ok thread) = crew_fault.NoMemory
+added_fault planner (Err refused) = crew_fault.NoThread planner
+
+-- why there is no report of these answers
+abbrev pub report_fault : {A : Type 0} → Result A CrewFault → CrewFault
+report_fault (Ok answers) = crew_fault.NoMemory
+report_fault (Err fault) = fault

@@ -1,5 +1,5 @@
 -- A planner of a crew: what he is told, and how that leaves him.
-use Rattle.std.specs.Prelude.{◌≡◌, ◌⊎◌, ◌++◌, ℕ, List, [], length, Option, Some, None, Result, Ok, Err}
+use Rattle.std.specs.Prelude.{◌≡◌, ◌⊎◌, ◌++◌, ◌∷◌, ℕ, List, [], filter, length, map, Option, Some, None, Result, Ok, Err}
 use Rattle.ctt_text.specs.Problem.{Problem}
 use Rattle.ctt_text.specs.declared.placed.Placed.{Placed}
 use Rattle.ctt_edits.specs.Calls.{reply}
@@ -20,6 +20,7 @@ use Rattle.ctt_desk.specs.declared.refusal.RefreshRefusal.TheVariants as unrefre
 use Rattle.ctt_desk.specs.declared.shared_fault.SharedFault.{SharedFault}
 use Rattle.ctt_script.specs.AnswerText.{bad_line}
 use Rattle.ctt_crew.specs.CrewText.{told_unread, told_words}
+use Rattle.ctt_script.specs.ScriptText.{has_words, lines_of, own_item}
 use Rattle.ctt_script.specs.WrittenText.{entry_text, line}
 use Rattle.ctt_crew.specs.declared.seat.Seat.{Seat}
 use Rattle.ctt_crew.specs.declared.seat.Seat.TheVariants.{Free, Drafting}
@@ -122,3 +123,25 @@ draft_text i d = entry_text i (entry_of d.planner.number d.asked)
 abbrev pub open_entry : {X Y Z : Type 0} → Problem → Seat X Y Z → List ℕ
 open_entry i (Free p) = []
 open_entry i (Drafting d) = draft_text i d
+
+-- what the lines of a planner's own script ask for: an item for each line that has words
+abbrev pub own_items : Problem → ℕ → List (List ℕ) → List (Option Event)
+own_items i p lines = map (own_item i p) (filter has_words lines)
+
+-- items are answered one behind another, each at the seat as the one before it left it
+abbrev pub AnswersItems : {X Y Z : Type 0} → Problem → List Placed → List (Option Event) → Seat X Y Z → Seat X Y Z → List ℕ → List ℕ → Type 0
+AnswersItems i t0 [] before after old new = (after ≡ before) × (new ≡ old)
+AnswersItems {X} {Y} {Z} i t0 (item ∷ items) before after old new = (next : Seat X Y Z) × (text : List ℕ) × AnswersLine i t0 item before next old text × AnswersItems i t0 items next after text new
+
+-- who leaves a seat; an open draft is given up
+abbrev pub leaver : {X Y Z : Type 0} → Seat X Y Z → PlannerValue
+leaver (Free p) = p
+leaver (Drafting d) = d.planner
+
+-- a planner follows his script: his answers are this text, and then he leaves
+abbrev pub Attends : {X Y Z : Type 0} → Problem → List Placed → List ℕ → Seat X Y Z → PlannerValue → List ℕ → Type 0
+Attends {X} {Y} {Z} i t0 script before q text = (after : Seat X Y Z) × AnswersItems i t0 (own_items i (leaver before).number (lines_of script)) before after [] text × (q ≡ leaver after)
+
+-- so far: what answers the lines that are left from here answers all lines from the first seat
+abbrev pub IsAttending : {X Y Z : Type 0} → Problem → List Placed → ℕ → List (List ℕ) → List (List ℕ) → Seat X Y Z → Seat X Y Z → List ℕ → Type 0
+IsAttending {X} {Y} {Z} i t0 p all left before seat text = (after : Seat X Y Z) (new : List ℕ) → AnswersItems i t0 (own_items i p left) seat after text new → AnswersItems i t0 (own_items i p all) before after [] new

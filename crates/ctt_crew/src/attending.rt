@@ -4,7 +4,7 @@ ghost use Rattle.std.specs.Prelude.{◌≡◌, ◌<◌, ℕ, IfOk, IfSome, IsOk,
 ghost use Rattle.ctt_edits.specs.Calls.{CallFits};
 ghost use Rattle.ctt_core.specs.Runs.{EventFits};
 ghost use Rattle.ctt_crew.specs.CrewText.{call_in, ToldFits, told_words};
-ghost use Rattle.ctt_crew.specs.Seats.{AnswersCall, AnswersLine};
+ghost use Rattle.ctt_crew.specs.Seats.{AnswersCall, AnswersLine, Attends, leaver};
 ghost use Rattle.ctt_script.specs.WrittenText.{line};
 
 use crate::gate::Gate;
@@ -108,13 +108,18 @@ pub(crate) struct Attendance<'i, 'x, J: Naming, G: Gate> {
     ghost same: { J.problem ≡ instance.now },
 }
 
-/// Answers the lines of a planner's script, and gives the lines of the answers.
+/// Answers the lines of a planner's script, and gives the lines of the answers with the planner, who leaves his seat.
 fn attend<'i, 'x, S: Sheet<'i>, J: Naming, R: Wait, G: Gate>(
     attendance: Attendance<'i, 'x, J, G>,
     rt: &R,
     desk: &SharedDesk<S, J, KeepNone>,
-    planner: Planner<S, J>,
-) -> Result<String, NoMemory> {
+    number: PlannerNo,
+    seat: Seat<'i, S, J, KeepNone>,
+) -> Result<(Planner<S, J>, String), NoMemory>
+    requires { number ≡ (leaver seat).number }
+    ensures { IfOk result (λ done. Attends J.problem J.opening attendance.entry.script.now
+        seat.entry done.0 (string_bytes done.1)) }
+{
     let Attendance {
         alloc,
         instance,
@@ -124,11 +129,10 @@ fn attend<'i, 'x, S: Sheet<'i>, J: Naming, R: Wait, G: Gate>(
     } = attendance;
     // The answers seldom have more than twice the bytes of the script. Room that they leave is never written, and so costs nothing.
     let Ok(mut text) = String::with_capacity(alloc, script.len().saturating_mul(2)) else {
-        let_go(planner);
+        let_go(seat);
         return Err(NoMemory);
     };
-    let number = planner.number();
-    let mut seat = Seat::Free(planner);
+    let mut seat = seat;
     let is_text = str::from_utf8(script).is_ok();
     let mut at = 0u64;
     for line in Lines::new(script) {
@@ -154,8 +158,7 @@ fn attend<'i, 'x, S: Sheet<'i>, J: Naming, R: Wait, G: Gate>(
             gate.after(number, at);
         }
     }
-    let_go(seat);
-    Ok(text)
+    Ok((seat.leave(), text))
 }
 
 /// A planner at the desk that he shares, over a grid sheet. It names the instance's lifetime once, as what goes to a
@@ -177,5 +180,9 @@ pub(crate) fn attend_on_grid<'i, 'x, J: Naming, R: Wait, G: Gate>(
         planner,
         attendance,
     } = work;
-    attend::<GridSheet<'i>, J, R, G>(attendance, rt, desk, planner)
+    let number = planner.number();
+    let seat = Seat::Free(planner);
+    let (planner, answers) = attend::<GridSheet<'i>, J, R, G>(attendance, rt, desk, number, seat)?;
+    let_go(planner);
+    Ok(answers)
 }

@@ -1,9 +1,12 @@
 //! A crew: planners on threads, each with a script of his own.
 
-ghost use Rattle.std.specs.Prelude.{◌≡◌, ◌⊎◌, ◌≤◌, ◌<◌, ◌+◌, [], length, IfErr, IfOk, IsErrAnd, IsOkAnd, OnOk, map, string_bytes};
+ghost use Rattle.std.specs.Prelude.{◌≡◌, ◌≤◌, ◌<◌, ◌+◌, List, [], length, IfErr, IfOk, IsOk, IsOkAnd, OnOk, map, string_bytes};
 ghost use Rattle.ctt_rules.specs.declared.cost.Cost.{Cost};
+ghost use Rattle.ctt_core.specs.Runs.{Legal};
+ghost use Rattle.ctt_core.specs.declared.journal.JournalEntry.{JournalEntry};
 ghost use Rattle.ctt_desk.specs.Names.{IsNamed};
-ghost use Rattle.ctt_crew.specs.CrewText.{IsCrewFault, IsCrewText, crew_text};
+ghost use Rattle.ctt_desk.specs.Planners.{new_planners};
+ghost use Rattle.ctt_crew.specs.CrewText.{IsCrewFault, IsCrewText, added_fault, closing_text, crew_text, report_fault};
 ghost use Rattle.ctt_crew.specs.declared.crew_fault.CrewFault.TheVariants as crew_fault;
 
 use crate::attending::{Attendance, GridAttendance, attend_on_grid};
@@ -46,8 +49,8 @@ fn added<T: Drop, E: Drop>(
     planner: PlannerNo,
 ) -> Result<(), CrewFault>
     ensures added { OnOk result (length threads.new.items ≡ length threads.old.items + 1) }
-    ensures fault { IfErr result (λ fault. (fault ≡ crew_fault.NoThread planner)
-        ⊎ (fault ≡ crew_fault.NoMemory)) }
+    ensures started { OnOk result (IsOk started) }
+    ensures fault { IfErr result (λ fault. fault ≡ added_fault planner started) }
 {
     match started {
         Ok(thread) => Ok(threads.push(thread)?),
@@ -102,7 +105,9 @@ fn attendances<'i, 'x, P: Drop, J: Naming, G: Gate>(
 ) -> Result<Vec<(P, Attendance<'i, 'x, J, G>)>, CrewFault>
     requires problem { J.problem ≡ instance.now }
     requires counted { length planners.items ≡ length scripts.now }
-    ensures each { IfOk result (λ works. length works.items ≡ length scripts.now) }
+    ensures planners { IfOk result (λ works. map (λ w. w.0) works.items ≡ planners.items) }
+    ensures scripts { IfOk result (λ works.
+        map (λ w. w.1.script.now) works.items ≡ map (λ s. s.now) scripts.now) }
     ensures fault { IfErr result (λ fault. fault ≡ crew_fault.NoMemory) }
 {
     let mut works = Vec::with_capacity(alloc, scripts.len())?;
@@ -162,8 +167,9 @@ pub fn closing_report<S: Timetable, J: Naming, K: Keeping>(
     closed: &Closed<S, J, K>,
     answers: Vec<String>,
 ) -> Result<Vec<u8>, NoMemory>
-    ensures { IfOk result (λ text.
-        IsCrewText J.problem J.opening (length answers.items) text.items) }
+    ensures text { IfOk result (λ text. text.items
+        ≡ closing_text J.problem J.opening (map string_bytes answers.items) closed.now) }
+    ensures legal { Legal J.problem J.opening closed.now }
 {
     let entries = closed.accepted();
     let cost = closed.cost();
@@ -175,7 +181,7 @@ fn desk_named<S: Timetable, J: Naming, R: Wait>(
     rt: &R,
     named: Named<S, J>,
 ) -> Result<(SharedDesk<S, J, KeepNone>, Vec<Planner<S, J>>), CrewFault>
-    ensures each { IfOk result (λ made. length made.1.items ≡ named.count) }
+    ensures planners { IfOk result (λ made. made.1.items ≡ new_planners named.count) }
     ensures fault { IfErr result (IsCrewFault J.planners) }
 {
     Ok(SharedDesk::new(rt, named)?)
@@ -199,11 +205,10 @@ fn report_if_answered<S: Timetable, J: Naming>(
     closed: &Closed<S, J, KeepNone>,
     answers: Result<Vec<String>, CrewFault>,
 ) -> Result<Vec<u8>, CrewFault>
-    ensures text { IfOk result (λ text.
-        IsOkAnd answers (λ answers. IsCrewText J.problem J.opening
-        (length answers.items) text.items)) }
-    ensures fault { IfErr result (λ fault. (fault ≡ crew_fault.NoMemory)
-        ⊎ IsErrAnd answers (λ told. fault ≡ told)) }
+    ensures text { IfOk result (λ text. IsOkAnd answers (λ answers. text.items
+        ≡ closing_text J.problem J.opening (map string_bytes answers.items) closed.now)) }
+    ensures legal { OnOk result (Legal J.problem J.opening closed.now) }
+    ensures fault { IfErr result (λ fault. fault ≡ report_fault answers) }
 {
     let answers = answers?;
     Ok(closing_report(alloc, closed, answers)?)
@@ -216,11 +221,10 @@ fn last_report<S: Timetable, J: Naming, R: Wait>(
     desk: SharedDesk<S, J, KeepNone>,
     answers: Result<Vec<String>, CrewFault>,
 ) -> Result<Vec<u8>, CrewFault>
-    ensures text { IfOk result (λ text.
-        IsOkAnd answers (λ answers. IsCrewText J.problem J.opening
-        (length answers.items) text.items)) }
-    ensures fault { IfErr result (λ fault. (fault ≡ crew_fault.NoMemory)
-        ⊎ IsErrAnd answers (λ told. fault ≡ told)) }
+    ensures text { IfOk result (λ text. IsOkAnd answers (λ answers.
+        (history : List JournalEntry) × Legal J.problem J.opening history
+        × (text.items ≡ closing_text J.problem J.opening (map string_bytes answers.items) history))) }
+    ensures fault { IfErr result (λ fault. fault ≡ report_fault answers) }
 {
     let closed = end_desk(rt, alloc, desk);
     let report = report_if_answered(alloc, &closed, answers);

@@ -5,7 +5,7 @@ ghost use Rattle.ctt_edits.specs.Calls.{CallFits};
 ghost use Rattle.ctt_edits.specs.Looks.{LookFits};
 ghost use Rattle.ctt_core.specs.Runs.{EventFits};
 ghost use Rattle.ctt_crew.specs.CrewText.{ToldFits, told_unread};
-ghost use Rattle.ctt_crew.specs.Seats.{Abandons, Asks, Commits, Opens, Refreshes, Shows, Takes, draft_text, open_entry, told_of};
+ghost use Rattle.ctt_crew.specs.Seats.{Abandons, Asks, Commits, Opens, Refreshes, Shows, Takes, draft_text, leaver, open_entry, told_of};
 
 use ctt_board::{Sheet, Timetable};
 use ctt_core::{Answer, Event};
@@ -215,6 +215,16 @@ impl<'i, S: Sheet<'i>, J: Naming, K: Keeping> Seat<'i, S, J, K> {
             Event::Refresh(_) => self.refresh(),
             Event::Abandon(_) => self.abandon(),
             Event::Show(look) => self.show(&look),
+        }
+    }
+
+    /// The planner, who leaves his seat. An open draft is given up. It takes no memory.
+    pub fn leave(self) -> Planner<S, J>
+        ensures { result ≡ leaver self.entry }
+    {
+        match self {
+            Seat::Free(planner) => planner,
+            Seat::Drafting(drafting) => drafting.abandon(),
         }
     }
 }

@@ -61,6 +61,11 @@ pub read_short : (left : Option (List ℕ)) (read : List ℕ) (limit : ℕ) → 
 read_short None read limit known short = tt
 read_short (Some bytes) read limit known short = omega (arith, ap length known, short)
 
+-- of a reader that was not read as much is left as before
+pub not_read : (left : Option (List ℕ)) (pulls : ℕ) → IfSome left (λ old. IfSome left (λ new. pulls + length new ≤ pulls + length old + 1))
+not_read None pulls = tt
+not_read (Some bytes) pulls = omega arith
+
 -- the desk stands at the events of the script
 pub script_done : (v w : DeskValue) (i : Problem) (left : Option (List ℕ)) (read text : List ℕ) (before after : Option (List ℕ)) → v.problem ≡ i → Stands v [] → text ≡ read → IfSome left (λ bytes. read ≡ bytes) → Wrote v w (script i text) before after
     → IfSome left (λ bytes. Stands w (script_run i w.opening bytes))

@@ -1,6 +1,6 @@
 //! Running a script.
 
-ghost use Rattle.std.specs.Prelude.{◌≡◌, ◌⊎◌, ◌↔◌, ℕ, ◌++◌, ◌∷◌, [], ◌<◌, ◌≤◌, List, length, true, false, Ok, Err, IfOk, IfErr, OnOk, OnErr, IfSome, Some, is_some, string_bytes};
+ghost use Rattle.std.specs.Prelude.{◌≡◌, ◌⊎◌, ◌↔◌, ℕ, ◌+◌, ◌++◌, ◌∷◌, [], ◌<◌, ◌≤◌, List, length, true, false, Ok, Err, IfOk, IfErr, OnOk, OnErr, IfSome, Some, is_some, string_bytes};
 ghost use Rattle.std.specs.List.{AllByRecursion as Each};
 ghost use Rattle.std.specs.Option.{option_map};
 ghost use Rattle.std.specs.Io.KnownBytes.{Appends};
@@ -180,6 +180,7 @@ fn answer_lines<'i, S: Sheet<'i>, K: Keeping, W: Sink>(
 /// The script is read whole before anything is written, and it is not read where the opening is
 /// refused. A flush that fails is a failed write. Where a write fails, or memory is wanted, a front of the
 /// answers may have been written, and the minutes are not to be used.
+#[tactic(auto, using(crate::proofs::ScriptRuns::not_read))]
 pub fn run_script<'i, S: Sheet<'i>, K: Keeping, R: Source, W: Sink>(
     alloc: Global,
     instance: &'i Instance,
@@ -213,6 +214,9 @@ pub fn run_script<'i, S: Sheet<'i>, K: Keeping, R: Source, W: Sink>(
         → opening instance.now lectures.now ≡ Err (at, fault)
         → (reader.new ≡ reader.old) × (writer.new ≡ writer.old) }
     ensures read { (result ≡ Err script_fault.Read) ↔ (R.has_failed reader.new ≡ true) }
+    ensures end { OnOk result (IfSome (R.left reader.old) (λ _. R.left reader.new ≡ Some [])) }
+    ensures fewer { IfSome (R.left reader.old) (λ old. IfSome (R.left reader.new) (λ new.
+        R.pulls reader.new + length new ≤ R.pulls reader.old + length old + 1)) }
     ensures unwritten { IfErr result (λ fault. MayHaveWritten fault ⊎ (writer.new ≡ writer.old)) }
     ensures failed { (result ≡ Err script_fault.Write) → W.has_failed writer.new ≡ true }
     ensures unmarked { (result ≡ Err script_fault.Write)

@@ -85,12 +85,10 @@ pub(crate) fn leave<'i, S: Sheet<'i>, J: Naming>(
 ) -> Vec<Planner<S, J>> {
     let mut planners = Vec::new(story.alloc());
     for seat in seats {
-        let planner = match seat {
-            Some(Seat::Free(planner)) => planner,
-            Some(Seat::Drafting(drafting)) => drafting.abandon(),
-            None => continue,
+        let Some(seat) = seat else {
+            continue;
         };
-        if add(&mut planners, planner).is_err() {
+        if add(&mut planners, seat.leave()).is_err() {
             story.no_memory();
         }
     }
