@@ -1,13 +1,14 @@
 -- A planner of a crew, item by item.
-use Rattle.std.proofs.Common.{◌≡◌, true, false, cond, ℕ, List, [], ◌∷◌, filter, map, Option, Some, None, sym, subst}
+use Rattle.std.proofs.Common.{◌≡◌, ◌++◌, append-nil, append_assoc, true, false, cond, ℕ, List, [], ◌∷◌, filter, map, Option, Some, None, sym, subst}
 use Rattle.ctt_text.specs.Problem.{Problem}
 use Rattle.ctt_text.specs.declared.placed.Placed.{Placed}
 use Rattle.ctt_edits.specs.declared.call.Call.{Call}
 use Rattle.ctt_core.specs.declared.event.Event.{Event}
 use Rattle.ctt_core.specs.declared.event.Event.TheVariants.{Open, Ask, Commit, Refresh, Abandon, Show}
+use Rattle.ctt_desk.specs.Planners.{PlannerValue}
 use Rattle.ctt_script.specs.ScriptText.{has_words, own_item}
 use Rattle.ctt_crew.specs.CrewText.{call_in}
-use Rattle.ctt_crew.specs.Seats.{AnswersCall, AnswersItems, AnswersLine, IsAttending, own_items}
+use Rattle.ctt_crew.specs.Seats.{AnswersCall, AnswersItems, AnswersLine, AreAttended, AreAttending, IsAttended, IsAttending, own_items}
 use Rattle.ctt_crew.specs.declared.seat.Seat.{Seat}
 
 module _ {X Y Z : Type 0} (i : Problem) (t0 : List Placed) (p : ℕ) (all : List (List ℕ)) (before : Seat X Y Z) where
@@ -37,3 +38,12 @@ call_answered i t0 (Some (Commit q)) call seat next old new e h = cc
 call_answered i t0 (Some (Refresh q)) call seat next old new e h = cc
 call_answered i t0 (Some (Abandon q)) call seat next old new e h = cc
 call_answered i t0 (Some (Show look)) call seat next old new e h = cc
+
+module _ (i : Problem) (t0 : List Placed) (all : List (PlannerValue × List ℕ)) where
+  -- the answers of one planner more
+  pub one_attended : (who : PlannerValue × List ℕ) (left : List (PlannerValue × List ℕ)) (texts : List (List ℕ)) (text : List ℕ) → AreAttending i t0 all (who ∷ left) texts → IsAttended i t0 who text → AreAttending i t0 all left (texts ++ text ∷ [])
+  one_attended who left texts text h is = λ more are. subst (AreAttended i t0 all) (sym (append_assoc texts (text ∷ []) more)) (h (text ∷ more) (is, are))
+
+  -- no planner is left
+  pub all_attended : (texts : List (List ℕ)) → AreAttending i t0 all [] texts → AreAttended i t0 all texts
+  all_attended texts h = subst (AreAttended i t0 all) (append-nil texts) (h [] tt)

@@ -1,12 +1,13 @@
 -- The planners of a crew.
-use Rattle.std.proofs.Common.{◌≡◌, ◌∙◌, ◌+◌, ◌<◌, ◌++◌, ◌∷◌, List, [], ℕ, zero, suc, append-nil, length, map, refl, ap, arith, sym, subst, Result, Ok, Err}
+use Rattle.std.proofs.Common.{◌≡◌, ◌∙◌, ◌+◌, ◌<◌, ◌++◌, ◌∷◌, List, [], ℕ, zero, suc, append-nil, length, map, zip, refl, ap, arith, sym, subst, Result, Ok, Err}
 use Rattle.std.specs.Prelude.{IfErr, IfOk, IsOkAnd}
-use Rattle.std.proofs.lemmas.List.{length-append}
+use Rattle.std.proofs.lemmas.List.{length-append, map-append}
 use Rattle.ctt_text.specs.Problem.{Problem}
 use Rattle.ctt_text.specs.declared.placed.Placed.{Placed}
 use Rattle.ctt_core.specs.Runs.{Legal}
 use Rattle.ctt_core.specs.declared.journal.JournalEntry.{JournalEntry}
 use Rattle.ctt_desk.specs.Planners.{new_planner, new_planners}
+use Rattle.ctt_crew.specs.Seats.{AreAttended, IsAttendedCrew}
 use Rattle.ctt_crew.specs.CrewText.{IsCrewFault, IsCrewText, added_fault, closing_text, report_fault}
 use Rattle.ctt_crew.specs.declared.crew_fault.CrewFault.{CrewFault}
 
@@ -18,6 +19,20 @@ planners_many (suc n) = length-append (new_planners n) (new_planner n ∷ []) �
 pub all_taken : {X Y : Type 0} (f : X → Y) (taken : List Y) (left : List X) (all : List Y) → length left ≡ 0 → taken ++ map f left ≡ all → taken ≡ all
 all_taken f taken [] all none same = sym (append-nil taken) ∙ same
 all_taken f taken (x ∷ xs) all none same = cc
+
+-- one thread more, and what it promises
+pub promised_also : {T E W : Type 0} (f : T → W) (started : Result T E) (old new : List T) (w : W) → IsOkAnd started (λ t. new ≡ old ++ t ∷ []) → IfOk started (λ t. f t ≡ w) → map f new ≡ map f old ++ w ∷ []
+promised_also f (Ok t) old new w is same = ap (map f) is ∙ map-append f old (t ∷ []) ∙ ap (λ x. map f old ++ x ∷ []) same
+promised_also f (Err e) old new w is same = absurd is
+
+pub added_many : {T E : Type 0} (started : Result T E) (old new : List T) → IsOkAnd started (λ t. new ≡ old ++ t ∷ []) → length new ≡ length old + 1
+added_many (Ok t) old new is = ap length is ∙ length-append old (t ∷ [])
+added_many (Err e) old new is = absurd is
+
+-- planners and scripts, one for each
+pub zipped : {W P S : Type 0} (f : W → P) (h : W → S) (works : List W) → map (λ w. (f w, h w)) works ≡ zip (map f works) (map h works)
+zipped f h [] = refl
+zipped f h (w ∷ works) = ap (λ ws. (f w, h w) ∷ ws) (zipped f h works)
 
 -- the report of some answers, by how many they are
 pub is_crew_text : {A E : Type 0} (answers : Result A E) (texts : A → List (List ℕ)) (problem : Problem) (opening : List Placed) (n : ℕ) (text : List ℕ) → IfOk answers (λ a. length (texts a) ≡ n)
@@ -34,3 +49,10 @@ added_fits (Err refused) planner n fault within is = subst (IsCrewFault n) (sym 
 pub report_fits : {A : Type 0} (answers : Result A CrewFault) (n : ℕ) (fault : CrewFault) → IfErr answers (IsCrewFault n) → fault ≡ report_fault answers → IsCrewFault n fault
 report_fits (Ok a) n fault fits is = subst (IsCrewFault n) (sym is) tt
 report_fits (Err told) n fault fits is = subst (IsCrewFault n) (sym is) fits
+
+-- the report of the answers to some scripts
+pub is_attended_crew : {A E : Type 0} (answers : Result A E) (texts : A → List (List ℕ)) (problem : Problem) (opening : List Placed) (scripts : List (List ℕ)) (text : List ℕ)
+    → IfOk answers (λ a. AreAttended problem opening (zip (new_planners (length scripts)) scripts) (texts a))
+    → IsOkAnd answers (λ a. (history : List JournalEntry) × Legal problem opening history × (text ≡ closing_text problem opening (texts a) history)) → IsAttendedCrew problem opening scripts text
+is_attended_crew (Ok a) texts problem opening scripts text attended told = record { answers = texts a; attended = attended; history = told.0; legal = told.1; is = told.2 }
+is_attended_crew (Err e) texts problem opening scripts text attended told = absurd told

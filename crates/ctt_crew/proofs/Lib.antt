@@ -1,2 +1,3 @@
 pub mod AttendLemmas
 pub mod CrewLemmas
+pub mod PlainLemmas

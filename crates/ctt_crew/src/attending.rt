@@ -4,7 +4,7 @@ ghost use Rattle.std.specs.Prelude.{◌≡◌, ◌<◌, ℕ, IfOk, IfSome, IsOk,
 ghost use Rattle.ctt_edits.specs.Calls.{CallFits};
 ghost use Rattle.ctt_core.specs.Runs.{EventFits};
 ghost use Rattle.ctt_crew.specs.CrewText.{call_in, ToldFits, told_words};
-ghost use Rattle.ctt_crew.specs.Seats.{AnswersCall, AnswersLine, Attends, leaver};
+ghost use Rattle.ctt_crew.specs.Seats.{AnswersCall, AnswersLine, Attends, IsAttended, leaver};
 ghost use Rattle.ctt_script.specs.WrittenText.{line};
 
 use crate::gate::Gate;
@@ -18,8 +18,10 @@ use ctt_script::{Lines, has_words, read_own_line_of, write_answer, write_bad_lin
 use ctt_text::{Instance, NoMemory, let_go};
 use std::alloc::{AllocError, Global};
 use std::fmt::Write;
-use std::marker::PhantomData;
+use std::marker::{Model, PhantomData};
+use std::snapshot::Snapshot;
 use std::sync::Wait;
+use std::thread::Promise;
 
 /// Adds the line of what a planner of a crew is answered.
 pub fn write_told(text: &mut String, instance: &Instance, told: &Told) -> Result<(), AllocError>
@@ -170,11 +172,46 @@ pub(crate) struct GridAttendance<'i, 'x, J: Naming, G: Gate> {
     pub(crate) attendance: Attendance<'i, 'x, J, G>,
 }
 
+/// That a thread's answers are those of this planner to this script.
+#[derive(Drop)]
+pub(crate) struct Promised<'i, 'x, J: Naming> {
+    planner: Snapshot<Planner<GridSheet<'i>, J>>,
+    script: &'x [u8],
+}
+
+impl<'i, 'x, J: Naming> Model for Promised<'i, 'x, J> {
+    ghost use Rattle.std.specs.Prelude.{ℕ, List};
+    ghost use Rattle.ctt_desk.specs.Planners.{PlannerValue};
+
+    ghost Value = { PlannerValue × List ℕ };
+
+    ghost view = { λ p. (p.planner.value, p.script.now) };
+}
+
+impl<'i, 'x, J: Naming> Promised<'i, 'x, J> {
+    /// Of this planner, and this script.
+    pub(crate) fn of(planner: &Planner<GridSheet<'i>, J>, script: &'x [u8]) -> Self
+        ensures { result ≡ (planner.now, script.now) }
+    {
+        Promised {
+            planner: Snapshot::of(planner),
+            script,
+        }
+    }
+}
+
+impl<'i, 'x, J: Naming> Promise<Result<String, NoMemory>> for Promised<'i, 'x, J> {
+    ghost kept_by = { λ p r. IfOk r (λ text. IsAttended J.problem J.opening p (string_bytes text)) };
+}
+
 /// Answers the lines of the script of a planner over a grid sheet.
 pub(crate) fn attend_on_grid<'i, 'x, J: Naming, R: Wait, G: Gate>(
     work: GridAttendance<'i, 'x, J, G>,
     rt: &R,
-) -> Result<String, NoMemory> {
+) -> Result<String, NoMemory>
+    ensures { IfOk result (λ text. IsAttended J.problem J.opening
+        (work.entry.planner, work.entry.attendance.script.now) (string_bytes text)) }
+{
     let GridAttendance {
         desk,
         planner,

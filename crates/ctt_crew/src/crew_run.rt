@@ -1,15 +1,16 @@
 //! A crew: planners on threads, each with a script of his own.
 
-ghost use Rattle.std.specs.Prelude.{◌≡◌, ◌≤◌, ◌<◌, ◌+◌, List, [], length, IfErr, IfOk, IsOk, IsOkAnd, OnOk, map, string_bytes};
+ghost use Rattle.std.specs.Prelude.{◌≡◌, ◌≤◌, ◌<◌, ◌++◌, ◌∷◌, List, [], length, IfErr, IfOk, IsOkAnd, OnOk, map, zip, string_bytes};
 ghost use Rattle.ctt_rules.specs.declared.cost.Cost.{Cost};
 ghost use Rattle.ctt_core.specs.Runs.{Legal};
 ghost use Rattle.ctt_core.specs.declared.journal.JournalEntry.{JournalEntry};
 ghost use Rattle.ctt_desk.specs.Names.{IsNamed};
 ghost use Rattle.ctt_desk.specs.Planners.{new_planners};
 ghost use Rattle.ctt_crew.specs.CrewText.{IsCrewFault, IsCrewText, added_fault, closing_text, crew_text, report_fault};
+ghost use Rattle.ctt_crew.specs.Seats.{AreAttended, IsAttended, IsAttendedCrew};
 ghost use Rattle.ctt_crew.specs.declared.crew_fault.CrewFault.TheVariants as crew_fault;
 
-use crate::attending::{Attendance, GridAttendance, attend_on_grid};
+use crate::attending::{Attendance, GridAttendance, Promised, attend_on_grid};
 use crate::crew_fault::CrewFault;
 use crate::gate::Gate;
 use ctt_board::{GridSheet, Sheet, Timetable};
@@ -24,15 +25,17 @@ use std::fmt::Write;
 use std::marker::{Brand, PhantomData, Send, Sync};
 use std::sync::Wait;
 use std::thread;
-use std::thread::{JoinHandle, Threads};
+use std::thread::{PromisedHandle, Threads};
 
 /// What the threads were answered, in their order, when all of them have ended.
-fn joined<R: Threads>(
+fn joined<'i, 'x, J: Naming, R: Threads>(
     rt: &R,
     alloc: Global,
-    threads: Vec<JoinHandle<Result<String, NoMemory>>>,
+    threads: Vec<PromisedHandle<Result<String, NoMemory>, Promised<'i, 'x, J>>>,
 ) -> Result<Vec<String>, CrewFault>
-    ensures each { IfOk result (λ answers. length answers.items ≡ length threads.items) }
+    ensures each { IfOk result (λ answers. length answers.items ≡ length threads.entry.items) }
+    ensures attended { IfOk result (λ answers. AreAttended J.problem J.opening
+        (map (λ h. h.promise) threads.entry.items) (map string_bytes answers.items)) }
     ensures fault { IfErr result (λ fault. fault ≡ crew_fault.NoMemory) }
 {
     let mut answers = Vec::with_capacity(alloc, threads.len())?;
@@ -48,8 +51,8 @@ fn added<T: Drop, E: Drop>(
     started: Result<T, E>,
     planner: PlannerNo,
 ) -> Result<(), CrewFault>
-    ensures added { OnOk result (length threads.new.items ≡ length threads.old.items + 1) }
-    ensures started { OnOk result (IsOk started) }
+    ensures added { OnOk result (IsOkAnd started (λ thread.
+        threads.new.items ≡ threads.old.items ++ thread ∷ [])) }
     ensures fault { IfErr result (λ fault. fault ≡ added_fault planner started) }
 {
     match started {
@@ -59,6 +62,7 @@ fn added<T: Drop, E: Drop>(
 }
 
 /// What each planner was answered, when all of them have come to the end of their scripts.
+#[tactic(auto, using(crate::proofs::CrewLemmas::added_fits))]
 fn work_at_once<'i, 'x, J: Naming + Send + Sync, R: Threads + Wait + Sync, G: Gate>(
     rt: &R,
     alloc: Global,
@@ -66,6 +70,8 @@ fn work_at_once<'i, 'x, J: Naming + Send + Sync, R: Threads + Wait + Sync, G: Ga
     works: Vec<(Planner<GridSheet<'i>, J>, Attendance<'i, 'x, J, G>)>,
 ) -> Result<Vec<String>, CrewFault>
     ensures each { IfOk result (λ answers. length answers.items ≡ length works.entry.items) }
+    ensures attended { IfOk result (λ answers. AreAttended J.problem J.opening
+        (map (λ w. (w.0, w.1.script.now)) works.entry.items) (map string_bytes answers.items)) }
     ensures fault { IfErr result (IsCrewFault J.planners) }
 {
     thread::scope(
@@ -74,18 +80,27 @@ fn work_at_once<'i, 'x, J: Naming + Send + Sync, R: Threads + Wait + Sync, G: Ga
         |scope| -> Result<Vec<String>, CrewFault>
             ensures each { IfOk result (λ answers. length answers.items
                 ≡ length works.entry.items) }
+            ensures attended { IfOk result (λ answers. AreAttended J.problem J.opening
+                (map (λ w. (w.0, w.1.script.now)) works.entry.items)
+                (map string_bytes answers.items)) }
             ensures fault { IfErr result (IsCrewFault J.planners) }
         {
             let mut threads = Vec::new(alloc);
             for (planner, attendance) in works {
                 let number = planner.number();
+                let promise = Promised::of(&planner, attendance.script);
                 let work = GridAttendance {
                     desk,
                     planner,
                     attendance,
                 };
-                let attending = move || attend_on_grid(work, rt);
-                if let Err(fault) = added(&mut threads, scope.spawn(attending), number) {
+                let attending = move || -> Result<String, NoMemory>
+                    ensures { IfOk result (λ text. IsAttended J.problem J.opening
+                        (work.entry.planner, work.entry.attendance.script.now)
+                        (string_bytes text)) }
+                { attend_on_grid(work, rt) };
+                let started = scope.spawn_with(promise, attending);
+                if let Err(fault) = added(&mut threads, started, number) {
                     let_go(threads);
                     return Err(fault);
                 }
@@ -245,6 +260,8 @@ fn answers_at<'i, J: Naming + Send + Sync, R: Threads + Wait + Sync, G: Gate>(
     requires problem { J.problem ≡ instance.now }
     requires counted { length planners.items ≡ length scripts.now }
     ensures each { IfOk result (λ answers. length answers.items ≡ length scripts.now) }
+    ensures attended { IfOk result (λ answers. AreAttended J.problem J.opening
+        (zip planners.entry.items (map (λ s. s.now) scripts.now)) (map string_bytes answers.items)) }
     ensures fault { IfErr result (IsCrewFault J.planners) }
 {
     let works = attendances(alloc, instance, planners, scripts, gate)?;
@@ -265,6 +282,8 @@ fn crew_named<'i, J: Naming + Send + Sync, R: Threads + Wait + Sync, G: Gate>(
     requires problem { opened.problem ≡ instance.now }
     requires counted { length scripts.now ≡ count }
     ensures text { IfOk result (λ text. IsCrewText J.problem J.opening J.planners text.items) }
+    ensures attended { IfOk result (λ text.
+        IsAttendedCrew J.problem J.opening (map (λ s. s.now) scripts.now) text.items) }
     ensures fault { IfErr result (IsCrewFault J.planners) }
 {
     let named = Named {
@@ -303,6 +322,8 @@ pub fn crew<'i, R: Threads + Wait + Sync, G: Gate>(
     requires few { length scripts.now ≤ 64 }
     ensures text { IfOk result (λ text.
         IsCrewText instance.now [] (length scripts.now) text.items) }
+    ensures attended { IfOk result (λ text.
+        IsAttendedCrew instance.now [] (map (λ s. s.now) scripts.now) text.items) }
     ensures fault { IfErr result (IsCrewFault (length scripts.now)) }
 {
     let opened = empty_opening::<GridSheet<'i>>(alloc, instance)?;

@@ -1,7 +1,10 @@
-use Rattle.std.proofs.Common.{◌≡◌, ◌+◌, length}
+use Rattle.std.proofs.Common.{◌≡◌, ◌+◌, ◌++◌, length, map}
 use Rattle.std.specs.Vec.Iter.{into_iter_items}
 use Rattle.ctt_crew.proofs.crew_run.fn.work_at_once.scope.Given as goal
 
--- each planner is at work on a thread, or is still to be
+-- each planner is at work on a thread that promises his answers, or is still to be
 abbrev pub invariant-loop-planner : goal.invariant-loop-planner
-invariant-loop-planner g l = length l.threads.items + length (into_iter_items l.planner-iterator) ≡ length (into_iter_items l.initial.planner-iterator)
+invariant-loop-planner g l = record {
+  each : length l.threads.items + length (into_iter_items l.planner-iterator) ≡ length (into_iter_items l.initial.planner-iterator);
+  promised : map (λ h. h.promise) l.threads.items ++ map (λ w. (w.0, w.1.script.now)) (into_iter_items l.planner-iterator) ≡ map (λ w. (w.0, w.1.script.now)) (into_iter_items l.initial.planner-iterator);
+}
