@@ -8,7 +8,8 @@ use Rattle.ctt_core.specs.declared.event.Event.TheVariants.{Open, Ask, Commit, R
 use Rattle.ctt_desk.specs.Planners.{PlannerValue}
 use Rattle.ctt_script.specs.ScriptText.{has_words, own_item}
 use Rattle.ctt_crew.specs.CrewText.{call_in}
-use Rattle.ctt_crew.specs.Seats.{AnswersCall, AnswersItems, AnswersLine, AreAttended, AreAttending, IsAttended, IsAttending, own_items}
+use Rattle.ctt_crew.specs.Attended.{AnswersItems, AreAttended, AreAttending, IsAttended, IsAttending, own_items}
+use Rattle.ctt_crew.specs.Seats.{AnswersCall, AnswersLine}
 use Rattle.ctt_crew.specs.declared.seat.Seat.{Seat}
 
 module _ {X Y Z : Type 0} (i : Problem) (t0 : List Placed) (p : ℕ) (all : List (List ℕ)) (before : Seat X Y Z) where

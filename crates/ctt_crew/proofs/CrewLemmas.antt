@@ -7,8 +7,8 @@ use Rattle.ctt_text.specs.declared.placed.Placed.{Placed}
 use Rattle.ctt_core.specs.Runs.{Legal}
 use Rattle.ctt_core.specs.declared.journal.JournalEntry.{JournalEntry}
 use Rattle.ctt_desk.specs.Planners.{new_planner, new_planners}
-use Rattle.ctt_crew.specs.Seats.{AreAttended, IsAttendedCrew}
-use Rattle.ctt_crew.specs.CrewText.{IsCrewFault, IsCrewText, added_fault, closing_text, report_fault}
+use Rattle.ctt_crew.specs.Attended.{AreAttended, IsCrewText}
+use Rattle.ctt_crew.specs.CrewText.{IsCrewFault, added_fault, closing_text, report_fault}
 use Rattle.ctt_crew.specs.declared.crew_fault.CrewFault.{CrewFault}
 
 pub planners_many : (n : ℕ) → length (new_planners n) ≡ n
@@ -25,20 +25,10 @@ pub promised_also : {T E W : Type 0} (f : T → W) (started : Result T E) (old n
 promised_also f (Ok t) old new w is same = ap (map f) is ∙ map-append f old (t ∷ []) ∙ ap (λ x. map f old ++ x ∷ []) same
 promised_also f (Err e) old new w is same = absurd is
 
-pub added_many : {T E : Type 0} (started : Result T E) (old new : List T) → IsOkAnd started (λ t. new ≡ old ++ t ∷ []) → length new ≡ length old + 1
-added_many (Ok t) old new is = ap length is ∙ length-append old (t ∷ [])
-added_many (Err e) old new is = absurd is
-
 -- planners and scripts, one for each
 pub zipped : {W P S : Type 0} (f : W → P) (h : W → S) (works : List W) → map (λ w. (f w, h w)) works ≡ zip (map f works) (map h works)
 zipped f h [] = refl
 zipped f h (w ∷ works) = ap (λ ws. (f w, h w) ∷ ws) (zipped f h works)
-
--- the report of some answers, by how many they are
-pub is_crew_text : {A E : Type 0} (answers : Result A E) (texts : A → List (List ℕ)) (problem : Problem) (opening : List Placed) (n : ℕ) (text : List ℕ) → IfOk answers (λ a. length (texts a) ≡ n)
-    → IsOkAnd answers (λ a. (history : List JournalEntry) × Legal problem opening history × (text ≡ closing_text problem opening (texts a) history)) → IsCrewText problem opening n text
-is_crew_text (Ok a) texts problem opening n text many told = record { answers = texts a; each = many; history = told.0; legal = told.1; is = told.2 }
-is_crew_text (Err e) texts problem opening n text many told = absurd told
 
 -- a fault of one of these planners is one of the crew
 pub added_fits : {T E : Type 0} (started : Result T E) (planner n : ℕ) (fault : CrewFault) → planner < n → fault ≡ added_fault planner started → IsCrewFault n fault
@@ -51,8 +41,12 @@ report_fits (Ok a) n fault fits is = subst (IsCrewFault n) (sym is) tt
 report_fits (Err told) n fault fits is = subst (IsCrewFault n) (sym is) fits
 
 -- the report of the answers to some scripts
-pub is_attended_crew : {A E : Type 0} (answers : Result A E) (texts : A → List (List ℕ)) (problem : Problem) (opening : List Placed) (scripts : List (List ℕ)) (text : List ℕ)
+pub is_crew_text : {A E : Type 0} (answers : Result A E) (texts : A → List (List ℕ)) (problem : Problem) (opening : List Placed) (scripts : List (List ℕ)) (text : List ℕ)
     → IfOk answers (λ a. AreAttended problem opening (zip (new_planners (length scripts)) scripts) (texts a))
-    → IsOkAnd answers (λ a. (history : List JournalEntry) × Legal problem opening history × (text ≡ closing_text problem opening (texts a) history)) → IsAttendedCrew problem opening scripts text
-is_attended_crew (Ok a) texts problem opening scripts text attended told = record { answers = texts a; attended = attended; history = told.0; legal = told.1; is = told.2 }
-is_attended_crew (Err e) texts problem opening scripts text attended told = absurd told
+    → IsOkAnd answers (λ a. (history : List JournalEntry) × Legal problem opening history × (text ≡ closing_text problem opening (texts a) history)) → IsCrewText problem opening scripts text
+is_crew_text (Ok a) texts problem opening scripts text attended told = record { answers = texts a; attended = attended; history = told.0; legal = told.1; is = told.2 }
+is_crew_text (Err e) texts problem opening scripts text attended told = absurd told
+
+-- that of nobody
+pub is_closing_text : (problem : Problem) (opening : List Placed) (history : List JournalEntry) (text : List ℕ) → Legal problem opening history → text ≡ closing_text problem opening [] history → IsCrewText problem opening [] text
+is_closing_text problem opening history text legal is = record { answers = []; attended = tt; history = history; legal = legal; is = is }

@@ -14,7 +14,8 @@ use Rattle.ctt_desk.specs.declared.refusal.Refusal.{Refusal}
 use Rattle.ctt_desk.specs.declared.refusal.Refusal.TheVariants as refusal
 use Rattle.ctt_desk.specs.declared.refusal.RefreshRefusal.{RefreshRefusal}
 use Rattle.ctt_desk.specs.declared.refusal.RefreshRefusal.TheVariants as unrefreshed
-use Rattle.ctt_crew.specs.Seats.{Abandons, AnswersItems, AnswersLine, Asks, Attends, Commits, IsAttended, IsTold, Opens, Refreshes, Shows, Takes, leaver, seat_refused, seat_unrefreshed, told_refused, told_unrefreshed}
+use Rattle.ctt_crew.specs.Attended.{AnswersItems, Attends, IsAttended, leaver}
+use Rattle.ctt_crew.specs.Seats.{Abandons, AnswersLine, Asks, Commits, IsTold, Opens, Refreshes, Shows, Takes, seat_refused, seat_unrefreshed, told_refused, told_unrefreshed}
 use Rattle.ctt_crew.specs.declared.seat.Seat.{Seat}
 use Rattle.ctt_crew.specs.declared.seat.Seat.TheVariants.{Free, Drafting}
 use Rattle.ctt_crew.specs.declared.seat.Told.{Told}

@@ -1,11 +1,11 @@
 -- What a crew is answered, and what is written of it.
-use Rattle.std.specs.Prelude.{ℕ, ◌≡◌, ◌+◌, ◌<◌, List, [], ◌∷◌, ◌++◌, codes, length, Option, Some, None, Result, Ok, Err}
+use Rattle.std.specs.Prelude.{ℕ, ◌+◌, ◌<◌, List, [], ◌∷◌, ◌++◌, codes, length, Option, Some, None, Result, Ok, Err}
 use Rattle.std.specs.Fmt.{decimal}
 use Rattle.ctt_text.specs.Problem.{Problem}
 use Rattle.ctt_text.specs.declared.placed.Placed.{Placed}
 use Rattle.ctt_rules.specs.Penalty.{penalty}
 use Rattle.ctt_rules.specs.declared.cost.Cost.{Cost}
-use Rattle.ctt_core.specs.Runs.{Legal, after}
+use Rattle.ctt_core.specs.Runs.{after}
 use Rattle.ctt_core.specs.declared.event.Event.{Event}
 use Rattle.ctt_core.specs.declared.event.Event.TheVariants.{Open, Ask, Commit, Refresh, Abandon, Show}
 use Rattle.ctt_core.specs.declared.journal.JournalEntry.{JournalEntry}
@@ -58,17 +58,9 @@ planners_text p (answers ∷ more) = line (codes "planner" ∷ decimal p ∷ [])
 abbrev pub crew_text : List (List ℕ) → ℕ → Cost → List ℕ
 crew_text answers entries cost = planners_text 0 answers ++ (line (codes "journal" ∷ decimal entries ∷ []) ++ line (cost_words cost))
 
--- such a text of a desk with this opening, whose history is this
+-- such a text of a desk with this opening and this history
 abbrev pub closing_text : Problem → List Placed → List (List ℕ) → List JournalEntry → List ℕ
 closing_text problem opening answers history = crew_text answers (length history) (penalty problem (after problem opening history))
-
--- such a text, of some answers of each of so many planners, and of some legal history on the opening
-pub record IsCrewText (problem : Problem) (opening : List Placed) (planners : ℕ) (text : List ℕ) : Type 0 where
-  pub answers : List (List ℕ)
-  pub each : length answers ≡ planners
-  pub history : List JournalEntry
-  pub legal : Legal problem opening history
-  pub is : text ≡ closing_text problem opening answers history
 
 -- the fault of a desk that opens empty, as a crew's
 abbrev pub of_shared : SharedFault → CrewFault

@@ -1,18 +1,17 @@
 -- A planner of a crew: what he is told, and how that leaves him.
-use Rattle.std.specs.Prelude.{◌≡◌, ◌⊎◌, ◌++◌, ◌∷◌, ℕ, List, [], filter, length, map, zip, Option, Some, None, Result, Ok, Err}
+use Rattle.std.specs.Prelude.{◌≡◌, ◌⊎◌, ◌++◌, ℕ, List, [], length, Option, Some, None, Result, Ok, Err}
 use Rattle.ctt_text.specs.Problem.{Problem}
 use Rattle.ctt_text.specs.declared.placed.Placed.{Placed}
 use Rattle.ctt_edits.specs.Calls.{reply}
 use Rattle.ctt_edits.specs.declared.call.Call.{Call}
 use Rattle.ctt_edits.specs.declared.looks.Look.{Look}
 use Rattle.ctt_edits.specs.declared.reply.Reply.{Reply}
-use Rattle.ctt_core.specs.Runs.{Legal}
 use Rattle.ctt_core.specs.declared.answer.Answer.TheVariants as answer
 use Rattle.ctt_core.specs.declared.event.Event.{Event}
 use Rattle.ctt_core.specs.declared.event.Event.TheVariants.{Open, Ask, Commit, Refresh, Abandon, Show}
 use Rattle.ctt_core.specs.declared.journal.JournalEntry.{JournalEntry}
 use Rattle.ctt_desk.specs.Histories.{entry_of}
-use Rattle.ctt_desk.specs.Planners.{PlannerValue, DraftingValue, IsAccepted, IsOpen, IsRefreshed, IsViewed, asked_also, new_planners, present_of}
+use Rattle.ctt_desk.specs.Planners.{PlannerValue, DraftingValue, IsAccepted, IsOpen, IsRefreshed, IsViewed, asked_also, present_of}
 use Rattle.ctt_desk.specs.Refusals.{IsNotRefreshed, IsRefused, IsUnread}
 use Rattle.ctt_desk.specs.declared.refusal.Refusal.{Refusal}
 use Rattle.ctt_desk.specs.declared.refusal.Refusal.TheVariants as refusal
@@ -20,8 +19,7 @@ use Rattle.ctt_desk.specs.declared.refusal.RefreshRefusal.{RefreshRefusal}
 use Rattle.ctt_desk.specs.declared.refusal.RefreshRefusal.TheVariants as unrefreshed
 use Rattle.ctt_desk.specs.declared.shared_fault.SharedFault.{SharedFault}
 use Rattle.ctt_script.specs.AnswerText.{bad_line}
-use Rattle.ctt_crew.specs.CrewText.{closing_text, told_unread, told_words}
-use Rattle.ctt_script.specs.ScriptText.{has_words, lines_of, own_item}
+use Rattle.ctt_crew.specs.CrewText.{told_unread, told_words}
 use Rattle.ctt_script.specs.WrittenText.{entry_text, line}
 use Rattle.ctt_crew.specs.declared.seat.Seat.{Seat}
 use Rattle.ctt_crew.specs.declared.seat.Seat.TheVariants.{Free, Drafting}
@@ -124,48 +122,3 @@ draft_text i d = entry_text i (entry_of d.planner.number d.asked)
 abbrev pub open_entry : {X Y Z : Type 0} → Problem → Seat X Y Z → List ℕ
 open_entry i (Free p) = []
 open_entry i (Drafting d) = draft_text i d
-
--- what the lines of a planner's own script ask for: an item for each line that has words
-abbrev pub own_items : Problem → ℕ → List (List ℕ) → List (Option Event)
-own_items i p lines = map (own_item i p) (filter has_words lines)
-
--- items are answered one behind another, each at the seat as the one before it left it
-abbrev pub AnswersItems : {X Y Z : Type 0} → Problem → List Placed → List (Option Event) → Seat X Y Z → Seat X Y Z → List ℕ → List ℕ → Type 0
-AnswersItems i t0 [] before after old new = (after ≡ before) × (new ≡ old)
-AnswersItems {X} {Y} {Z} i t0 (item ∷ items) before after old new = (next : Seat X Y Z) × (text : List ℕ) × AnswersLine i t0 item before next old text × AnswersItems i t0 items next after text new
-
--- who leaves a seat; an open draft is given up
-abbrev pub leaver : {X Y Z : Type 0} → Seat X Y Z → PlannerValue
-leaver (Free p) = p
-leaver (Drafting d) = d.planner
-
--- a planner follows his script: his answers are this text, and then he leaves
-abbrev pub Attends : {X Y Z : Type 0} → Problem → List Placed → List ℕ → Seat X Y Z → PlannerValue → List ℕ → Type 0
-Attends {X} {Y} {Z} i t0 script before q text = (after : Seat X Y Z) × AnswersItems i t0 (own_items i (leaver before).number (lines_of script)) before after [] text × (q ≡ leaver after)
-
--- so far: what answers the lines that are left from here answers all lines from the first seat
-abbrev pub IsAttending : {X Y Z : Type 0} → Problem → List Placed → ℕ → List (List ℕ) → List (List ℕ) → Seat X Y Z → Seat X Y Z → List ℕ → Type 0
-IsAttending {X} {Y} {Z} i t0 p all left before seat text = (after : Seat X Y Z) (new : List ℕ) → AnswersItems i t0 (own_items i p left) seat after text new → AnswersItems i t0 (own_items i p all) before after [] new
-
--- the planner p follows his script, beginning without a draft, and his answers are this text
-abbrev pub IsAttended : Problem → List Placed → PlannerValue × List ℕ → List ℕ → Type 0
-IsAttended i t0 who text = (q : PlannerValue) × Attends {X = Unit {0}} {Y = Unit {0}} {Z = Unit {0}} i t0 who.1 (Free who.0) q text
-
--- of each of these planners, with their scripts, these are the answers
-abbrev pub AreAttended : Problem → List Placed → List (PlannerValue × List ℕ) → List (List ℕ) → Type 0
-AreAttended i t0 [] [] = Unit {0}
-AreAttended i t0 [] (text ∷ texts) = ⊥
-AreAttended i t0 (who ∷ more) [] = ⊥
-AreAttended i t0 (who ∷ more) (text ∷ texts) = IsAttended i t0 who text × AreAttended i t0 more texts
-
--- so far: answers of those who are left, behind these, are the answers of all
-abbrev pub AreAttending : Problem → List Placed → List (PlannerValue × List ℕ) → List (PlannerValue × List ℕ) → List (List ℕ) → Type 0
-AreAttending i t0 all left texts = (more : List (List ℕ)) → AreAttended i t0 left more → AreAttended i t0 all (texts ++ more)
-
--- what a crew writes that follows these scripts, each by the planner of its number
-pub record IsAttendedCrew (problem : Problem) (opening : List Placed) (scripts : List (List ℕ)) (text : List ℕ) : Type 0 where
-  pub answers : List (List ℕ)
-  pub attended : AreAttended problem opening (zip (new_planners (length scripts)) scripts) answers
-  pub history : List JournalEntry
-  pub legal : Legal problem opening history
-  pub is : text ≡ closing_text problem opening answers history

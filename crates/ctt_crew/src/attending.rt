@@ -4,7 +4,8 @@ ghost use Rattle.std.specs.Prelude.{◌≡◌, ◌<◌, ℕ, IfOk, IfSome, IsOk,
 ghost use Rattle.ctt_edits.specs.Calls.{CallFits};
 ghost use Rattle.ctt_core.specs.Runs.{EventFits};
 ghost use Rattle.ctt_crew.specs.CrewText.{call_in, ToldFits, told_words};
-ghost use Rattle.ctt_crew.specs.Seats.{AnswersCall, AnswersLine, Attends, IsAttended, leaver};
+ghost use Rattle.ctt_crew.specs.Attended.{Attends, IsAttended, leaver};
+ghost use Rattle.ctt_crew.specs.Seats.{AnswersCall, AnswersLine};
 ghost use Rattle.ctt_script.specs.WrittenText.{line};
 
 use crate::gate::Gate;

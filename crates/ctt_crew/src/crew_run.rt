@@ -6,8 +6,8 @@ ghost use Rattle.ctt_core.specs.Runs.{Legal};
 ghost use Rattle.ctt_core.specs.declared.journal.JournalEntry.{JournalEntry};
 ghost use Rattle.ctt_desk.specs.Names.{IsNamed};
 ghost use Rattle.ctt_desk.specs.Planners.{new_planners};
-ghost use Rattle.ctt_crew.specs.CrewText.{IsCrewFault, IsCrewText, added_fault, closing_text, crew_text, report_fault};
-ghost use Rattle.ctt_crew.specs.Seats.{AreAttended, IsAttended, IsAttendedCrew};
+ghost use Rattle.ctt_crew.specs.CrewText.{IsCrewFault, added_fault, closing_text, crew_text, report_fault};
+ghost use Rattle.ctt_crew.specs.Attended.{AreAttended, IsAttended, IsCrewText};
 ghost use Rattle.ctt_crew.specs.declared.crew_fault.CrewFault.TheVariants as crew_fault;
 
 use crate::attending::{Attendance, GridAttendance, Promised, attend_on_grid};
@@ -33,7 +33,6 @@ fn joined<'i, 'x, J: Naming, R: Threads>(
     alloc: Global,
     threads: Vec<PromisedHandle<Result<String, NoMemory>, Promised<'i, 'x, J>>>,
 ) -> Result<Vec<String>, CrewFault>
-    ensures each { IfOk result (λ answers. length answers.items ≡ length threads.entry.items) }
     ensures attended { IfOk result (λ answers. AreAttended J.problem J.opening
         (map (λ h. h.promise) threads.entry.items) (map string_bytes answers.items)) }
     ensures fault { IfErr result (λ fault. fault ≡ crew_fault.NoMemory) }
@@ -69,7 +68,6 @@ fn work_at_once<'i, 'x, J: Naming + Send + Sync, R: Threads + Wait + Sync, G: Ga
     desk: &'x SharedDesk<GridSheet<'i>, J, KeepNone>,
     works: Vec<(Planner<GridSheet<'i>, J>, Attendance<'i, 'x, J, G>)>,
 ) -> Result<Vec<String>, CrewFault>
-    ensures each { IfOk result (λ answers. length answers.items ≡ length works.entry.items) }
     ensures attended { IfOk result (λ answers. AreAttended J.problem J.opening
         (map (λ w. (w.0, w.1.script.now)) works.entry.items) (map string_bytes answers.items)) }
     ensures fault { IfErr result (IsCrewFault J.planners) }
@@ -78,8 +76,6 @@ fn work_at_once<'i, 'x, J: Naming + Send + Sync, R: Threads + Wait + Sync, G: Ga
         thread::scope_env(),
         rt,
         |scope| -> Result<Vec<String>, CrewFault>
-            ensures each { IfOk result (λ answers. length answers.items
-                ≡ length works.entry.items) }
             ensures attended { IfOk result (λ answers. AreAttended J.problem J.opening
                 (map (λ w. (w.0, w.1.script.now)) works.entry.items)
                 (map string_bytes answers.items)) }
@@ -259,7 +255,6 @@ fn answers_at<'i, J: Naming + Send + Sync, R: Threads + Wait + Sync, G: Gate>(
 ) -> Result<Vec<String>, CrewFault>
     requires problem { J.problem ≡ instance.now }
     requires counted { length planners.items ≡ length scripts.now }
-    ensures each { IfOk result (λ answers. length answers.items ≡ length scripts.now) }
     ensures attended { IfOk result (λ answers. AreAttended J.problem J.opening
         (zip planners.entry.items (map (λ s. s.now) scripts.now)) (map string_bytes answers.items)) }
     ensures fault { IfErr result (IsCrewFault J.planners) }
@@ -281,9 +276,8 @@ fn crew_named<'i, J: Naming + Send + Sync, R: Threads + Wait + Sync, G: Gate>(
     requires named { IsNamed J.problem J.opening J.planners J.book opened count }
     requires problem { opened.problem ≡ instance.now }
     requires counted { length scripts.now ≡ count }
-    ensures text { IfOk result (λ text. IsCrewText J.problem J.opening J.planners text.items) }
-    ensures attended { IfOk result (λ text.
-        IsAttendedCrew J.problem J.opening (map (λ s. s.now) scripts.now) text.items) }
+    ensures text { IfOk result (λ text.
+        IsCrewText J.problem J.opening (map (λ s. s.now) scripts.now) text.items) }
     ensures fault { IfErr result (IsCrewFault J.planners) }
 {
     let named = Named {
@@ -321,9 +315,7 @@ pub fn crew<'i, R: Threads + Wait + Sync, G: Gate>(
     requires some { 1 ≤ length scripts.now }
     requires few { length scripts.now ≤ 64 }
     ensures text { IfOk result (λ text.
-        IsCrewText instance.now [] (length scripts.now) text.items) }
-    ensures attended { IfOk result (λ text.
-        IsAttendedCrew instance.now [] (map (λ s. s.now) scripts.now) text.items) }
+        IsCrewText instance.now [] (map (λ s. s.now) scripts.now) text.items) }
     ensures fault { IfErr result (IsCrewFault (length scripts.now)) }
 {
     let opened = empty_opening::<GridSheet<'i>>(alloc, instance)?;

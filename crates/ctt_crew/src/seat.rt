@@ -5,7 +5,8 @@ ghost use Rattle.ctt_edits.specs.Calls.{CallFits};
 ghost use Rattle.ctt_edits.specs.Looks.{LookFits};
 ghost use Rattle.ctt_core.specs.Runs.{EventFits};
 ghost use Rattle.ctt_crew.specs.CrewText.{ToldFits, told_unread};
-ghost use Rattle.ctt_crew.specs.Seats.{Abandons, Asks, Commits, Opens, Refreshes, Shows, Takes, draft_text, leaver, open_entry, told_of};
+ghost use Rattle.ctt_crew.specs.Attended.{leaver};
+ghost use Rattle.ctt_crew.specs.Seats.{Abandons, Asks, Commits, Opens, Refreshes, Shows, Takes, draft_text, open_entry, told_of};
 
 use ctt_board::{Sheet, Timetable};
 use ctt_core::{Answer, Event};

@@ -1,6 +1,6 @@
 //! Files by name.
 
-ghost use Rattle.std.specs.Prelude.{◌≡◌, ◌≤◌, length, map, false, Some, None, OnOk, IfOk, IfErr, IfSome, vec_len};
+ghost use Rattle.std.specs.Prelude.{◌≡◌, ◌≢◌, ◌≤◌, length, map, false, Some, None, OnOk, IfOk, IfErr, IfSome, vec_len};
 ghost use Rattle.std.specs.String.{string_bytes};
 ghost use Rattle.ctt_files.specs.Refusals.{IsOfFile, IsOfFiles};
 ghost use Rattle.ctt_files.specs.Texts.{HoldInTurn};
@@ -27,10 +27,12 @@ pub trait Files {
             IfSome (held self.old name.now) (λ bytes. Self.Input.left input ≡ Some bytes)) }
         ensures kept { held self.new ≡ held self.old };
 
-    /// Writes a whole file in place of what it held.
+    /// Writes a whole file in place of what it held. The files of other names stay, also where it fails.
     fn store(&mut self, name: &str, bytes: &[u8]) -> Result<(), Failed>
         ensures stored { OnOk result
-            (IfSome (held self.new name.now) (λ stored. stored ≡ bytes.now)) };
+            (IfSome (held self.new name.now) (λ stored. stored ≡ bytes.now)) }
+        ensures others { (other : List ℕ) → other ≢ name.now
+            → held self.new other ≡ held self.old other };
 }
 
 /// The files of the system.

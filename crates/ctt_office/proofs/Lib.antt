@@ -7,5 +7,6 @@ mod PagesLemmas
 mod PartLemmas
 mod PassLemmas
 mod RecoveryLemmas
+mod SeatLemmas
 mod SharingLemmas
 mod SittingLemmas

@@ -1,13 +1,15 @@
 -- Minutes that grow by an entry.
-use Rattle.std.proofs.Common.{◌≡◌, ◌∙◌, ◌+◌, ◌++◌, ◌∷◌, [], ℕ, List, Option, length, drop, flat_map, refl, sym, ap, subst, arith, append-nil}
-use Rattle.std.proofs.KnownBytes.{Appends-trans}
+use Rattle.std.proofs.Common.{◌≡◌, ◌∙◌, ◌+◌, ◌++◌, ◌∷◌, [], ℕ, List, OnErr, Option, Result, length, drop, flat_map, refl, sym, ap, subst, arith, append-nil}
+use Rattle.std.proofs.KnownBytes.{Appends-kept, Appends-nil, Appends-trans}
 use Rattle.std.proofs.lemmas.List.{length-append}
 use Rattle.std.proofs.lemmas.List.Concat.{flat_map-append}
-use Rattle.std.specs.Io.KnownBytes.{Appends}
+use Rattle.std.specs.Io.KnownBytes.{Appends, Keeps}
 use mathlib.Core.List.{IsPrefix}
 use Rattle.ctt_text.specs.Problem.{Problem}
 use Rattle.ctt_core.specs.declared.journal.JournalEntry.{JournalEntry}
 use Rattle.ctt_script.specs.WrittenText.{entry_text}
+use Rattle.ctt_devices.specs.Output.{AppendsFront}
+use Rattle.ctt_devices.proofs.OutputLemmas.{on_err, whole_front}
 use Rattle.ctt_office.specs.Pages.{AreMinutesOf, EndsWith}
 
 behind : {X : Type 0} (xs ys : List X) → drop (length xs) (xs ++ ys) ≡ ys
@@ -31,3 +33,11 @@ minutes_grow i start old new before history entry minutes adds prefix long ends 
     let text : flat_map (entry_text i) before ++ entry ≡ flat_map (entry_text i) (before ++ last ∷ []) =
     ap (λ e. flat_map (entry_text i) before ++ e) (ends.3 ∙ sym (append-nil (entry_text i last))) ∙ sym (flat_map-append (entry_text i) before (last ∷ [])) in
     subst (λ h. Appends start new (flat_map (entry_text i) h)) is (subst (Appends start new) text (Appends-trans start old new (flat_map (entry_text i) before) entry minutes adds))
+
+-- nothing is a front of any text
+pub nothing_of : (known : Option (List ℕ)) (bs : List ℕ) → AppendsFront known known bs
+nothing_of known bs = (0, Appends-nil known)
+
+-- where all was taken and is kept, a front was
+pub all_kept : {T E : Type 0} (synced : Result T E) (old mid new : Option (List ℕ)) (bs : List ℕ) → Appends old mid bs → Keeps mid new → OnErr synced (AppendsFront old new bs)
+all_kept synced old mid new bs all keeps = on_err synced (whole_front old new bs (Appends-kept old mid new bs all keeps))

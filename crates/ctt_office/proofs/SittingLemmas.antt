@@ -1,10 +1,11 @@
 -- A planner at a seat, line by line.
-use Rattle.std.proofs.Common.{◌≡◌, ◌≢◌, ◌∙◌, ◌⊎◌, inl, inr, Bool, true, ℕ, List, [], ◌∷◌, ◌++◌, Option, Some, None, refl, sym, ap, subst, append_assoc, append-nil}
-use Rattle.std.proofs.KnownBytes.{Appends-nil, Appends-trans}
-use Rattle.std.specs.Io.KnownBytes.{IsAtEnd}
+use Rattle.std.proofs.Common.{◌≡◌, ◌≢◌, ◌∙◌, ◌⊎◌, inl, inr, Bool, true, ℕ, List, [], ◌∷◌, ◌++◌, take, Option, Some, None, refl, sym, ap, subst, append_assoc, append-nil}
+use Rattle.std.proofs.KnownBytes.{Appends-kept, Appends-nil, Appends-trans}
+use Rattle.std.specs.Io.KnownBytes.{Appends, IsAtEnd}
+use Rattle.ctt_devices.specs.Output.{AppendsFront}
 use Rattle.ctt_office.specs.Lines.{Gives, IsFirstLine}
 use Rattle.ctt_office.specs.SeatAnswers.{Tells}
-use Rattle.ctt_office.specs.Sittings.{AreAnswered, EndsAt, GoOn, IsBroken, IsSat, IsSitting}
+use Rattle.ctt_office.specs.Sittings.{AreAnswered, EndsAt, GoOn, IsBroken, IsCut, IsCutShort, IsSat, IsSitting}
 use Rattle.ctt_office.specs.declared.seat_line.SeatLine.{SeatLine}
 use Rattle.ctt_office.specs.declared.seat_line.SeatLine.TheVariants.{Leave}
 use Rattle.ctt_office.specs.declared.sitting.Ending.{Ending}
@@ -103,19 +104,50 @@ module _ {T : Type 0} (asked : List ℕ → SeatLine) (Is : SeatLine → T → T
       let so_far = sits.served in
       record { answers = sits.answers; told = sits.told; served = (so_far.0, so_far.1, seat, so_far.3, (so_far.4, at_end so_far.1 still so_far.2 end)) }
 
+  -- the lines so far are answered, and nothing behind them
+  stops : (before seat : T) (left old now still : Option (List ℕ)) → IsSitting asked Is before left old now still seat → IsCutShort asked Is before left old now
+  stops before seat None old now still sits = record { answers = sits.answers; part = []; told = subst (Appends old now) (sym (append-nil sits.answers)) sits.told; served = tt }
+  stops before seat (Some bytes) old now still sits =
+      let so_far = sits.served in
+      record { answers = sits.answers; part = []; told = subst (Appends old now) (sym (append-nil sits.answers)) sits.told; served = (so_far.0, so_far.1, seat, so_far.3, so_far.4, inl refl) }
+
+  -- the same where memory is wanted
+  halts : (before seat : T) (left old now still : Option (List ℕ)) → IsSitting asked Is before left old now still seat → IsSat asked Is before left old now NoMemory
+  halts before seat None old now still sits = record { answers = sits.answers; told = sits.told; served = tt }
+  halts before seat (Some bytes) old now still sits =
+      let so_far = sits.served in
+      record { answers = sits.answers; told = sits.told; served = (so_far.0, so_far.1, seat, so_far.3, so_far.4) }
+
   -- no line comes any more
   pub ends_by : (before seat : T) (left old now still : Option (List ℕ)) (failed : Bool) (why : Ending) → IsSitting asked Is before left old now still seat → EndsAt still failed why → IsSat asked Is before left old now why
   ends_by before seat left old now still failed Left sits end = absurd end
   ends_by before seat left old now still failed Ended sits end = ended before seat left old now still sits end
-  ends_by before seat left old now still failed Broken sits end = tt
-  ends_by before seat left old now still failed NoMemory sits end = tt
+  ends_by before seat left old now still failed Broken sits end = stops before seat left old now still sits
+  ends_by before seat left old now still failed NoMemory sits end = halts before seat left old now still sits
+
+  -- a front of the answer to a line more is written
+  cut_off : (before seat next : T) (left old mid new still later : Option (List ℕ)) (line : SeatLine) → IsSitting asked Is before left old mid still seat → Gives (λ bytes. line ≡ asked bytes) still later
+      → (answer : List ℕ) → Is line seat next answer → AppendsFront mid new answer → IsCutShort asked Is before left old new
+  cut_off before seat next None old mid new still later line sits gives answer is front =
+      record { answers = sits.answers; part = take front.0 answer; told = Appends-trans old mid new sits.answers (take front.0 answer) sits.told front.1; served = tt }
+  cut_off before seat next (Some bytes) old mid new still later line sits gives answer is front =
+      let so_far = sits.served in
+      let got = given line so_far.1 still later so_far.2 gives in
+      record {
+        answers = sits.answers;
+        part = take front.0 answer;
+        told = Appends-trans old mid new sits.answers (take front.0 answer) sits.told front.1;
+        served = (so_far.0, so_far.1, seat, so_far.3, so_far.4, inr (got.0, got.1, next, answer, front.0, got.4, subst (λ l. Is l seat next answer) got.3 is, refl));
+      }
 
   -- an answer could not be written
-  pub breaks_off : (before : T) (left old now : Option (List ℕ)) (failed : Bool) (why : Ending) → IsBroken failed why → IsSat asked Is before left old now why
-  breaks_off before left old now failed Left is = absurd is
-  breaks_off before left old now failed Ended is = absurd is
-  breaks_off before left old now failed Broken is = tt
-  breaks_off before left old now failed NoMemory is = tt
+  pub breaks_off : (before seat next : T) (left old mid new still later : Option (List ℕ)) (line : SeatLine) (why : Ending) → IsSitting asked Is before left old mid still seat → Gives (λ bytes. line ≡ asked bytes) still later
+      → IsCut (Is line seat next) mid new why → IsSat asked Is before left old new why
+  breaks_off before seat next left old mid new still later line Left sits gives cut = absurd cut
+  breaks_off before seat next left old mid new still later line Ended sits gives cut = absurd cut
+  breaks_off before seat next left old mid new still later line Broken sits gives cut = cut_off before seat next left old mid new still later line sits gives cut.0 cut.1 cut.2
+  breaks_off before seat next left old mid new still later line NoMemory sits gives kept =
+      halts before seat left old new still (record { answers = sits.answers; told = Appends-kept old mid new sits.answers sits.told kept; served = sits.served })
 
 -- where a device is the cause it has failed
 pub read_failed : (known : Option (List ℕ)) (failed : Bool) (why : Ending) (Q : Type 0) → EndsAt known failed why → why ≡ Broken → (failed ≡ true) ⊎ Q

@@ -1,5 +1,5 @@
 -- Why a desk is not kept to its end.
-use Rattle.std.specs.Prelude.{ℕ, ◌<◌}
+use Rattle.std.specs.Prelude.{ℕ, ◌<◌, Result, Ok, Err}
 use Rattle.ctt_desk.specs.declared.shared_fault.SharedFault.{SharedFault}
 use Rattle.ctt_desk.specs.declared.shared_fault.SharedFault.TheVariants as shared
 use Rattle.ctt_office.specs.declared.office_fault.OfficeFault.{OfficeFault}
@@ -27,3 +27,9 @@ abbrev pub at_seat : ℕ → SeatFault → OfficeFault
 at_seat place seat.CannotRead = CannotRead place
 at_seat place seat.CannotWrite = CannotWrite
 at_seat place seat.NoMemory = NoMemory
+
+-- how the first seats ended, with the seat at this place more: the first fault of all stays
+abbrev pub first_fault : Result (Unit {0}) OfficeFault → ℕ → Result (Unit {0}) SeatFault → Result (Unit {0}) OfficeFault
+first_fault (Err fault) place seat = Err fault
+first_fault (Ok done) place (Ok same) = Ok same
+first_fault (Ok done) place (Err fault) = Err (at_seat place fault)

@@ -29,11 +29,6 @@ not_written = line (codes "not" ∷ codes "written" ∷ [])
 abbrev pub left_line : List ℕ
 left_line = line (codes "left" ∷ [])
 
--- where a book is kept this holds of the history
-abbrev pub IfBook : {B H : Type 0} → Option B → (H → Type 0) → H → Type 0
-IfBook None IsKept history = Unit {0}
-IfBook (Some book) IsKept history = IsKept history
-
 -- a commit that came to this is answered: an accepted draft by its number only where it is kept, or else as not written; a refused one by why
 abbrev pub IsOutcomeAnswer : (List JournalEntry → Type 0) → Problem → Result (List JournalEntry) Told → List ℕ → Type 0
 IsOutcomeAnswer IsKept i (Ok history) answer = (IsKept history × (answer ≡ told_line i (told_of (Ok history)))) ⊎ (answer ≡ not_written)
@@ -53,21 +48,26 @@ IsCommitAnswer IsKept i t0 before after answer =
 abbrev pub IsCrewAnswer : {X Y Z : Type 0} → Problem → List Placed → Event → Seat X Y Z → Seat X Y Z → List ℕ → Type 0
 IsCrewAnswer i t0 event before after answer = (told : Told) × Takes i t0 event before after told × (answer ≡ told_line i told)
 
+-- a commit of planner p is answered: where no book is kept as in a crew
+abbrev pub IsAnsweredBy : {B X Y Z : Type 0} → Option B → (List JournalEntry → Type 0) → Problem → List Placed → ℕ → Seat X Y Z → Seat X Y Z → List ℕ → Type 0
+IsAnsweredBy None IsKept i t0 p before after answer = IsCrewAnswer i t0 (Commit p) before after answer
+IsAnsweredBy (Some book) IsKept i t0 p before after answer = IsCommitAnswer IsKept i t0 before after answer
+
 -- a step is answered: all but commits as in a crew
-abbrev pub IsStepAnswer : {X Y Z : Type 0} → (List JournalEntry → Type 0) → Problem → List Placed → Event → Seat X Y Z → Seat X Y Z → List ℕ → Type 0
-IsStepAnswer IsKept i t0 (Open p) before after answer = IsCrewAnswer i t0 (Open p) before after answer
-IsStepAnswer IsKept i t0 (Ask p call) before after answer = IsCrewAnswer i t0 (Ask p call) before after answer
-IsStepAnswer IsKept i t0 (Commit p) before after answer = IsCommitAnswer IsKept i t0 before after answer
-IsStepAnswer IsKept i t0 (Refresh p) before after answer = IsCrewAnswer i t0 (Refresh p) before after answer
-IsStepAnswer IsKept i t0 (Abandon p) before after answer = IsCrewAnswer i t0 (Abandon p) before after answer
-IsStepAnswer IsKept i t0 (Show look) before after answer = IsCrewAnswer i t0 (Show look) before after answer
+abbrev pub IsStepAnswer : {B X Y Z : Type 0} → Option B → (List JournalEntry → Type 0) → Problem → List Placed → Event → Seat X Y Z → Seat X Y Z → List ℕ → Type 0
+IsStepAnswer book IsKept i t0 (Open p) before after answer = IsCrewAnswer i t0 (Open p) before after answer
+IsStepAnswer book IsKept i t0 (Ask p call) before after answer = IsCrewAnswer i t0 (Ask p call) before after answer
+IsStepAnswer book IsKept i t0 (Commit p) before after answer = IsAnsweredBy book IsKept i t0 p before after answer
+IsStepAnswer book IsKept i t0 (Refresh p) before after answer = IsCrewAnswer i t0 (Refresh p) before after answer
+IsStepAnswer book IsKept i t0 (Abandon p) before after answer = IsCrewAnswer i t0 (Abandon p) before after answer
+IsStepAnswer book IsKept i t0 (Show look) before after answer = IsCrewAnswer i t0 (Show look) before after answer
 
 -- a line is answered: by one line where it has words
-abbrev pub IsAnswer : {X Y Z : Type 0} → (List JournalEntry → Type 0) → Problem → List Placed → SeatLine → Seat X Y Z → Seat X Y Z → List ℕ → Type 0
-IsAnswer IsKept i t0 Blank before after answer = (after ≡ before) × (answer ≡ [])
-IsAnswer IsKept i t0 Leave before after answer = (after ≡ before) × (answer ≡ left_line)
-IsAnswer IsKept i t0 Bad before after answer = (after ≡ before) × (answer ≡ bad_line)
-IsAnswer IsKept i t0 (Step event) before after answer = IsStepAnswer IsKept i t0 event before after answer
+abbrev pub IsAnswer : {B X Y Z : Type 0} → Option B → (List JournalEntry → Type 0) → Problem → List Placed → SeatLine → Seat X Y Z → Seat X Y Z → List ℕ → Type 0
+IsAnswer book IsKept i t0 Blank before after answer = (after ≡ before) × (answer ≡ [])
+IsAnswer book IsKept i t0 Leave before after answer = (after ≡ before) × (answer ≡ left_line)
+IsAnswer book IsKept i t0 Bad before after answer = (after ≡ before) × (answer ≡ bad_line)
+IsAnswer book IsKept i t0 (Step event) before after answer = IsStepAnswer book IsKept i t0 event before after answer
 
 -- a text grows by such an answer
 abbrev pub Adds : (List ℕ → Type 0) → List ℕ → List ℕ → Type 0

@@ -1,7 +1,8 @@
 -- A planner at a seat: which lines are answered, and how he ends.
-use Rattle.std.specs.Prelude.{ℕ, ◌≡◌, ◌≢◌, Bool, true, List, [], ◌∷◌, ◌++◌, Option, Some, IfSome}
+use Rattle.std.specs.Prelude.{ℕ, ◌≡◌, ◌≢◌, ◌⊎◌, Bool, true, List, [], ◌∷◌, ◌++◌, take, Option, Some, IfSome}
 use Rattle.std.specs.List.{AllByRecursion as Each}
-use Rattle.std.specs.Io.KnownBytes.{Appends, IsAtEnd}
+use Rattle.std.specs.Io.KnownBytes.{Appends, IsAtEnd, Keeps}
+use Rattle.ctt_devices.specs.Output.{AppendsFront}
 use Rattle.ctt_office.specs.Lines.{IsFirstLine}
 use Rattle.ctt_office.specs.declared.seat_line.SeatLine.{SeatLine}
 use Rattle.ctt_office.specs.declared.seat_line.SeatLine.TheVariants.{Leave}
@@ -18,25 +19,37 @@ AreAnswered {T} asked Is bytes before (line ∷ lines) answers rest after = (mid
 abbrev pub GoOn : (List ℕ → SeatLine) → List (List ℕ) → Type 0
 GoOn asked lines = Each (λ line. asked line ≢ Leave) lines
 
--- so he ends, with these lines answered and this left: by the last of them he leaves, or nothing is left
+-- so he ends, with these lines answered and this left: by the last of them he leaves, or by none of them; where his lines end nothing is left
 abbrev pub EndsBy : (List ℕ → SeatLine) → Ending → List (List ℕ) → List ℕ → Type 0
 EndsBy asked Left lines rest = (front : List (List ℕ)) × (last : List ℕ) × (lines ≡ front ++ last ∷ []) × GoOn asked front × (asked last ≡ Leave)
 EndsBy asked Ended lines rest = GoOn asked lines × (rest ≡ [])
-EndsBy asked Broken lines rest = Unit {0}
-EndsBy asked NoMemory lines rest = Unit {0}
+EndsBy asked Broken lines rest = GoOn asked lines
+EndsBy asked NoMemory lines rest = GoOn asked lines
 
--- the lines that were left to be read are answered, up to the one by which the planner leaves, or to the last
+-- the lines that were left to be read are answered, up to the one by which the planner leaves, or to the last, or to the one before which memory is wanted, and nothing is written behind their answers
 pub record IsAnswered {T : Type 0} (asked : List ℕ → SeatLine) (Is : SeatLine → T → T → List ℕ → Type 0) (before : T) (left old new : Option (List ℕ)) (ending : Ending) : Type 0 where
   pub answers : List ℕ
   pub told : Appends old new answers
   pub served : IfSome left (λ bytes. (lines : List (List ℕ)) × (rest : List ℕ) × (after : T) × AreAnswered asked Is bytes before lines answers rest after × EndsBy asked ending lines rest)
 
--- the same, unless a device fails or memory is wanted
+-- nothing, or a front of the answer to the line with which the bytes begin
+abbrev pub IsPartOfNext : {T : Type 0} → (List ℕ → SeatLine) → (SeatLine → T → T → List ℕ → Type 0) → List ℕ → T → List ℕ → Type 0
+IsPartOfNext {T} asked Is bytes before part = (part ≡ [])
+    ⊎ ((line : List ℕ) × (rest : List ℕ) × (after : T) × (answer : List ℕ) × (k : ℕ) × IsFirstLine line rest bytes × Is (asked line) before after answer × (part ≡ take k answer))
+
+-- lines are answered, by none of which he leaves, and the answer to the next one is cut
+pub record IsCutShort {T : Type 0} (asked : List ℕ → SeatLine) (Is : SeatLine → T → T → List ℕ → Type 0) (before : T) (left old new : Option (List ℕ)) : Type 0 where
+  pub answers : List ℕ
+  pub part : List ℕ
+  pub told : Appends old new (answers ++ part)
+  pub served : IfSome left (λ bytes. (lines : List (List ℕ)) × (rest : List ℕ) × (after : T) × AreAnswered asked Is bytes before lines answers rest after × GoOn asked lines × IsPartOfNext asked Is rest after part)
+
+-- so he sat, and so it ended
 abbrev pub IsSat : {T : Type 0} → (List ℕ → SeatLine) → (SeatLine → T → T → List ℕ → Type 0) → T → Option (List ℕ) → Option (List ℕ) → Option (List ℕ) → Ending → Type 0
 IsSat asked Is before left old new Left = IsAnswered asked Is before left old new Left
 IsSat asked Is before left old new Ended = IsAnswered asked Is before left old new Ended
-IsSat asked Is before left old new Broken = Unit {0}
-IsSat asked Is before left old new NoMemory = Unit {0}
+IsSat asked Is before left old new Broken = IsCutShort asked Is before left old new
+IsSat asked Is before left old new NoMemory = IsAnswered asked Is before left old new NoMemory
 
 -- no line comes any more: none is left, or the reader has failed, or memory is wanted
 abbrev pub EndsAt : Option (List ℕ) → Bool → Ending → Type 0
@@ -51,6 +64,13 @@ IsBroken failed Left = ⊥
 IsBroken failed Ended = ⊥
 IsBroken failed Broken = failed ≡ true
 IsBroken failed NoMemory = Unit {0}
+
+-- so much is written of such an answer: a front where the writer has failed, and nothing where memory is wanted
+abbrev pub IsCut : (List ℕ → Type 0) → Option (List ℕ) → Option (List ℕ) → Ending → Type 0
+IsCut P old new Left = ⊥
+IsCut P old new Ended = ⊥
+IsCut P old new Broken = (answer : List ℕ) × P answer × AppendsFront old new answer
+IsCut P old new NoMemory = Keeps old new
 
 -- so far: the lines that were read are answered, which leaves the seat so, by none of them he leaves, and these bytes are still to come
 pub record IsSitting {T : Type 0} (asked : List ℕ → SeatLine) (Is : SeatLine → T → T → List ℕ → Type 0) (before : T) (left old now still : Option (List ℕ)) (after : T) : Type 0 where

@@ -4,7 +4,7 @@ ghost use Rattle.std.specs.Prelude.{◌≡◌, ◌++◌, ℕ, IfOk, Ok, OnOk, st
 ghost use Rattle.ctt_core.specs.Runs.{EventFits};
 ghost use Rattle.ctt_crew.specs.Seats.{open_entry};
 ghost use Rattle.ctt_office.specs.Pages.{EndsWith, IsInMinutes};
-ghost use Rattle.ctt_office.specs.SeatAnswers.{Adds, IfBook, IsAnswer, IsCommitAnswer, IsCrewAnswer, IsOutcomeAnswer, IsStepAnswer, left_line, not_written};
+ghost use Rattle.ctt_office.specs.SeatAnswers.{Adds, IsAnswer, IsCommitAnswer, IsCrewAnswer, IsOutcomeAnswer, IsStepAnswer, left_line, not_written};
 ghost use Rattle.ctt_office.specs.SeatText.{LineFits};
 
 use crate::book::Book;
@@ -146,7 +146,7 @@ fn step<'i, S: Sheet<'i>, J: Naming, W: Durable, R: Wait>(
     requires same { J.problem ≡ instance.now }
     requires fits { (n : ℕ) × EventFits J.problem n event }
     ensures { OnOk result.1
-        (Adds (IsStepAnswer (IfBook book.entry (IsInMinutes W.Sink.taken W.kept J.problem))
+        (Adds (IsStepAnswer book.entry (IsInMinutes W.Sink.taken W.kept J.problem)
         instance.now J.opening event seat.entry result.0) (string_bytes text.old) (string_bytes text.new)) }
 {
     match event {
@@ -172,7 +172,7 @@ pub(crate) fn answer<'i, S: Sheet<'i>, J: Naming, W: Durable, R: Wait>(
     requires same { J.problem ≡ instance.now }
     requires fits { (p : ℕ) × LineFits instance.now p line }
     ensures { OnOk result.1
-        (Adds (IsAnswer (IfBook book.entry (IsInMinutes W.Sink.taken W.kept J.problem)) instance.now
+        (Adds (IsAnswer book.entry (IsInMinutes W.Sink.taken W.kept J.problem) instance.now
         J.opening line seat.entry result.0) (string_bytes text.old) (string_bytes text.new)) }
 {
     match line {

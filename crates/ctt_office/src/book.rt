@@ -1,14 +1,15 @@
 //! The book of minutes: the accepted drafts, in the order of their commits, on a writer whose bytes stay.
 
-ghost use Rattle.std.specs.Prelude.{◌≡◌, ◌+◌, ◌<◌, [], length, true, false, IsTrue, OnOk};
+ghost use Rattle.std.specs.Prelude.{◌≡◌, ◌+◌, ◌<◌, [], length, true, false, IsTrue, OnErr, OnOk};
 ghost use Rattle.std.specs.Io.KnownBytes.{Appends};
+ghost use Rattle.ctt_devices.specs.Output.{AppendsFront};
 ghost use mathlib.Core.List.{IsPrefix};
 ghost use Rattle.ctt_office.specs.Pages.{AreTaken, EndsWith, IsEntered, IsInMinutes, Stays, seen};
 ghost use Rattle.ctt_office.specs.declared.book.Attempt.TheVariants.{Entered, Failed as NotEntered, NotYet};
 
 use crate::durable::Durable;
 use ctt_desk::{Naming, Receipt};
-use ctt_devices::{Failed, put_all};
+use ctt_devices::{Failed, put_whole};
 use std::marker::Model;
 use std::sync::{Condvar, Mutex, MutexGuard, Wait};
 
@@ -50,13 +51,15 @@ impl<W: Durable, J: Naming> Model for Pages<W, J> {
 }
 
 /// Writes an entry, so that it stays.
+#[tactic(auto, using(crate::proofs::PagesLemmas::all_kept))]
 fn write<W: Durable>(writer: &mut W, entry: &[u8]) -> Result<(), Failed>
     ensures taken { OnOk result
         (Appends (W.Sink.taken writer.old) (W.Sink.taken writer.new) entry.now) }
+    ensures front { OnErr result
+        (AppendsFront (W.Sink.taken writer.old) (W.Sink.taken writer.new) entry.now) }
     ensures kept { OnOk result (Stays (W.kept writer.new) (W.Sink.taken writer.new)) }
 {
-    put_all(writer, entry)?;
-    writer.flush()?;
+    put_whole(writer, entry)?;
     writer.sync()
 }
 
@@ -107,6 +110,7 @@ impl<W: Durable, J: Naming> Pages<W, J> {
     }
 
     /// Writes the entry of the draft that was accepted last before the receipt was given, where it is the next one.
+    #[tactic(auto, using(crate::proofs::PagesLemmas::nothing_of))]
     pub fn enter(&mut self, receipt: &Receipt<J>, entry: &[u8]) -> Attempt
         requires { EndsWith J.problem receipt.now entry.now }
         ensures entered { result ≡ Entered → IsEntered receipt.now entry.now self.old self.new }
@@ -115,6 +119,9 @@ impl<W: Durable, J: Naming> Pages<W, J> {
         ensures kept { result ≡ Entered
             → IsInMinutes W.Sink.taken W.kept J.problem receipt.now }
         ensures failed { result ≡ NotEntered → self.new.failed ≡ true }
+        ensures front { result ≡ NotEntered
+            → AppendsFront self.old.taken self.new.taken entry.now }
+        ensures shut { self.old.failed ≡ true → (result ≡ NotEntered) × (self.new ≡ self.old) }
     {
         let (written, number) = (count(&self.last), receipt.number());
         if self.failed || number <= written || !begins(&self.last, receipt) {

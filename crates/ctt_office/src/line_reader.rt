@@ -107,8 +107,10 @@ impl<R: Source> LineReader<R> {
         &self.held[self.start..self.end]
     }
 
-    /// Reads some bytes more behind those that are held, and answers whether there were any.
+    /// Reads some bytes more behind those that are held, and answers whether there were any. Only where no whole line is
+    /// held.
     fn pull(&mut self) -> Result<bool, InputFault>
+        requires open { IsOpen self.old.held }
         ensures coming { OnOk result (Keeps (coming self.old) (coming self.new)) }
         ensures line { self.old.line ≡ [] → self.new.line ≡ [] }
         ensures end { result ≡ Ok false

@@ -1,9 +1,10 @@
 //! A desk with its seats, from its opening until all have left.
 
-ghost use Rattle.std.specs.Prelude.{◌≡◌, ◌≤◌, ◌<◌, ◌+◌, ℕ, length, IfErr, IfOk, OnOk};
+ghost use Rattle.std.specs.Prelude.{◌≡◌, ◌≤◌, ◌<◌, ◌+◌, ℕ, Ok, length, map, IfErr, IfOk, OnOk, string_bytes};
 ghost use Rattle.ctt_desk.specs.Names.{IsNamed};
+ghost use Rattle.ctt_desk.specs.Planners.{new_planners};
 ghost use Rattle.ctt_crew.specs.CrewText.{IsCrewText};
-ghost use Rattle.ctt_office.specs.OfficeFaults.{IsOfficeFault};
+ghost use Rattle.ctt_office.specs.OfficeFaults.{IsOfficeFault, first_fault};
 ghost use Rattle.ctt_office.specs.declared.office_fault.OfficeFault.TheVariants.{NoMemory as OutOfMemory};
 
 use crate::book::Book;
@@ -27,7 +28,8 @@ fn ended_also(
     place: usize,
     seat: Result<(), SeatFault>,
 ) -> Result<(), OfficeFault>
-    ensures { (seats : ℕ) → place < seats → IfErr ended (IsOfficeFault seats)
+    ensures first { result ≡ first_fault ended place seat }
+    ensures fault { (seats : ℕ) → place < seats → IfErr ended (IsOfficeFault seats)
         → IfErr result (IsOfficeFault seats) }
 {
     ended?;
@@ -114,6 +116,11 @@ fn stations<'i, 'x, P: Drop, J: Naming, D: Doors, W: Durable>(
     requires problem { J.problem ≡ instance.now }
     requires counted { length planners.items ≡ length names.now }
     ensures each { IfOk result (λ seats. length seats.items ≡ length names.now) }
+    ensures planners { IfOk result (λ seats. map (λ s. s.0) seats.items ≡ planners.items) }
+    ensures names { IfOk result (λ seats.
+        map (λ s. s.1.name.now) seats.items ≡ map string_bytes names.now) }
+    ensures book { IfOk result (λ seats.
+        map (λ s. s.1.book) seats.items ≡ map (λ _. book.entry) seats.items) }
     ensures fault { IfErr result (λ fault. fault ≡ OutOfMemory) }
 {
     let mut seats = Vec::with_capacity(alloc, names.len())?;
@@ -160,6 +167,7 @@ fn desk_named<S: Timetable, J: Naming, R: Wait>(
     named: Named<S, J>,
 ) -> Result<(SharedDesk<S, J>, Vec<Planner<S, J>>), OfficeFault>
     ensures each { IfOk result (λ made. length made.1.items ≡ named.count) }
+    ensures planners { IfOk result (λ made. made.1.items ≡ new_planners named.count) }
     ensures fault { (seats : ℕ) → IfErr result (IsOfficeFault seats) }
 {
     Ok(SharedDesk::new(rt, named)?)
@@ -172,6 +180,7 @@ fn last_lines<S: Timetable, J: Naming>(
     ended: Result<(), OfficeFault>,
 ) -> Result<Vec<u8>, OfficeFault>
     ensures text { IfOk result (λ text. IsCrewText J.problem J.opening 0 text.items) }
+    ensures well { OnOk result (ended ≡ Ok tt) }
     ensures fault { (seats : ℕ) → IfErr ended (IsOfficeFault seats)
         → IfErr result (IsOfficeFault seats) }
 {
@@ -187,6 +196,7 @@ fn close<S: Timetable, J: Naming, R: Wait>(
     ended: Result<(), OfficeFault>,
 ) -> Result<Vec<u8>, OfficeFault>
     ensures text { IfOk result (λ text. IsCrewText J.problem J.opening 0 text.items) }
+    ensures well { OnOk result (ended ≡ Ok tt) }
     ensures fault { (seats : ℕ) → IfErr ended (IsOfficeFault seats)
         → IfErr result (IsOfficeFault seats) }
 {
@@ -202,7 +212,8 @@ fn checked<J: Naming, W: Durable, R: Wait>(
     book: Option<&Book<W, J>>,
     ended: Result<(), OfficeFault>,
 ) -> Result<(), OfficeFault>
-    ensures { (seats : ℕ) → IfErr ended (IsOfficeFault seats)
+    ensures well { OnOk result (ended ≡ Ok tt) }
+    ensures fault { (seats : ℕ) → IfErr ended (IsOfficeFault seats)
         → IfErr result (IsOfficeFault seats) }
 {
     ended?;

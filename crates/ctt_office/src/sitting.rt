@@ -2,11 +2,12 @@
 
 ghost use Rattle.std.specs.Prelude.{◌≡◌, ◌≢◌, ◌⊎◌, ℕ, true, false, IfErr, IfOk, OnErr, OnOk};
 ghost use Rattle.std.specs.Io.KnownBytes.{Appends};
+ghost use Rattle.ctt_devices.specs.Output.{AppendsFront};
 ghost use Rattle.ctt_office.specs.Lines.{Gives, coming};
 ghost use Rattle.ctt_office.specs.Pages.{IsInMinutes};
-ghost use Rattle.ctt_office.specs.SeatAnswers.{IfBook, IsAnswer, Tells};
+ghost use Rattle.ctt_office.specs.SeatAnswers.{IsAnswer, Tells};
 ghost use Rattle.ctt_office.specs.SeatText.{LineFits, asked_by};
-ghost use Rattle.ctt_office.specs.Sittings.{EndsAt, IsBroken, IsSat};
+ghost use Rattle.ctt_office.specs.Sittings.{EndsAt, IsBroken, IsCut, IsSat};
 ghost use Rattle.ctt_office.specs.declared.seat_line.SeatLine.TheVariants.{Leave};
 ghost use Rattle.ctt_office.specs.declared.sitting.Ending.TheVariants.{Broken};
 
@@ -21,7 +22,7 @@ use ctt_board::{GridSheet, Sheet, Timetable};
 use ctt_core::PlannerNo;
 use ctt_crew::Seat;
 use ctt_desk::{Naming, Planner, SharedDesk};
-use ctt_devices::{Failed, InputFault, Sink, Source, put_all};
+use ctt_devices::{Failed, InputFault, Sink, Source, put_whole};
 use ctt_text::{Instance, NoMemory, let_go};
 use std::alloc::Global;
 use std::marker::PhantomData;
@@ -43,13 +44,13 @@ pub(crate) enum Ending {
 /// Writes an answer, if there is one, and passes it on.
 fn say<O: Sink>(out: &mut O, answer: &[u8]) -> Result<(), Failed>
     ensures all { OnOk result (Appends (O.taken out.old) (O.taken out.new) answer.now) }
+    ensures front { OnErr result (AppendsFront (O.taken out.old) (O.taken out.new) answer.now) }
     ensures marked { OnErr result (O.has_failed out.new ≡ true) }
 {
     if answer.is_empty() {
         return Ok(());
     }
-    put_all(out, answer)?;
-    out.flush()
+    put_whole(out, answer)
 }
 
 /// A seat of a desk of the instance, of which nothing is open yet.
@@ -101,7 +102,10 @@ fn serve<'i, S: Sheet<'i>, J: Naming, W: Durable, O: Sink, R: Wait>(
     requires same { J.problem ≡ instance.now }
     requires fits { (p : ℕ) × LineFits instance.now p line.now }
     ensures told { OnOk result.1
-        (Tells (IsAnswer (IfBook book.entry (IsInMinutes W.Sink.taken W.kept J.problem))
+        (Tells (IsAnswer book.entry (IsInMinutes W.Sink.taken W.kept J.problem)
+        instance.now J.opening line.now seat.entry result.0) (O.taken out.old) (O.taken out.new)) }
+    ensures cut { IfErr result.1
+        (IsCut (IsAnswer book.entry (IsInMinutes W.Sink.taken W.kept J.problem)
         instance.now J.opening line.now seat.entry result.0) (O.taken out.old) (O.taken out.new)) }
     ensures broken { IfErr result.1 (IsBroken (O.has_failed out.new)) }
 {
@@ -129,7 +133,7 @@ fn is_last(line: &SeatLine) -> bool
 
 /// Answers the lines of a planner at his seat until he leaves, or they end, or one of his devices fails. An open draft is
 /// then given up.
-#[tactic(auto, using(crate::proofs::SittingLemmas::ends_by, crate::proofs::SittingLemmas::breaks_off, crate::proofs::SittingLemmas::read_failed, crate::proofs::SittingLemmas::write_failed))]
+#[tactic(auto, using(crate::proofs::SittingLemmas::read_failed, crate::proofs::SittingLemmas::write_failed))]
 fn sit<'i, S: Sheet<'i>, J: Naming, W: Durable, I: Source, O: Sink, R: Wait>(
     rt: &R,
     alloc: Global,
@@ -143,7 +147,7 @@ fn sit<'i, S: Sheet<'i>, J: Naming, W: Durable, I: Source, O: Sink, R: Wait>(
 ) -> Ending
     requires { J.problem ≡ instance.now }
     ensures sat { IsSat (asked_by instance.now number)
-        (IsAnswer (IfBook book.entry (IsInMinutes W.Sink.taken W.kept J.problem)) instance.now
+        (IsAnswer book.entry (IsInMinutes W.Sink.taken W.kept J.problem) instance.now
         J.opening)
         seat.entry (coming lines.old) (O.taken out.old) (O.taken out.new) result }
     ensures broken { result ≡ Broken

@@ -28,7 +28,7 @@ use Rattle.ctt_files.proofs.Plain.{plain_written}
 use Rattle.ctt_tool.specs.Audits.{VerdictFits}
 use Rattle.ctt_tool.specs.Faults.{IsRunFault, RunFaultFits}
 use Rattle.ctt_tool.specs.Refusals.{IsAnswerFault, IsOfScript}
-use Rattle.ctt_tool.specs.Runs.{Stores}
+use Rattle.ctt_tool.specs.Runs.{KeepOthers, Stores}
 use Rattle.ctt_tool.proofs.Plain.{refused_plain}
 
 -- the fault of an opening names a course of the instance, if it names one
@@ -99,14 +99,23 @@ journal_told : (told : Option (List ℕ)) (i : Problem) (entries kept : List Jou
 journal_told None i entries kept accepted bytes same known is = tt
 journal_told (Some text) i entries kept accepted bytes same known is = is ∙ ap (journal_text i) (same ∙ known)
 
+-- the files hold what they held before the last that was done, which kept all others
+pub others_kept : (stored : Option (String Global)) (before later after : Held) → later ≡ before → KeepOthers stored later after → KeepOthers stored before after
+others_kept stored before later after same keep = subst (λ (held : Held). KeepOthers stored held after) same keep
+
+-- files that are as they were are so but for any one
+pub all_kept : (stored : Option (String Global)) (before after : Held) → after ≡ before → KeepOthers stored before after
+all_kept stored before after same = λ other is. ap (λ (held : Held). held other) same
+
 -- the journal that is stored is that of the drafts that the script has accepted
 pub journal_stored : (journal : Option (String Global)) (before later after : Held) (told : Option (List ℕ)) (i : Problem) (entries kept : List JournalEntry) (accepted : List ℕ → List JournalEntry)
     → later ≡ before → entries ≡ kept → IfSome told (λ text. kept ≡ accepted text) → Stores journal later after (λ bytes. bytes ≡ journal_text i entries)
     → Stores journal before after (λ bytes. IfSome told (λ text. bytes ≡ journal_text i (accepted text)))
 journal_stored None before later after told i entries kept accepted same_files same known h = h ∙ same_files
 journal_stored (Some name) before later after told i entries kept accepted same_files same known h =
-    some_weaker (after (string_bytes name)) (λ bytes. bytes ≡ journal_text i entries) (λ bytes. IfSome told (λ text. bytes ≡ journal_text i (accepted text))) h
-    (λ bytes is. journal_told told i entries kept accepted bytes same known is)
+    let holds = some_weaker (after (string_bytes name)) (λ bytes. bytes ≡ journal_text i entries) (λ bytes. IfSome told (λ text. bytes ≡ journal_text i (accepted text))) h.0
+    (λ bytes is. journal_told told i entries kept accepted bytes same known is) in
+    (holds, others_kept (Some name) before later after same_files h.1)
 
 is_other : false ≡ true → ⊥
 is_other e = let no : ◌≡◌ {A = ℕ} 0 1 = ap (λ b. cond b 1 0) e in omega (arith, no)
@@ -118,4 +127,4 @@ minutes_stored None later after minutes i v given are stores = stores
 minutes_stored (Some name) later after None i v given are stores = absurd (is_other given)
 minutes_stored (Some name) later after (Some m) i v given are stores =
     let text : minutes_text m ≡ journal_text i v.journal = ap₂ (λ n bytes. line (codes "journal" ∷ decimal n ∷ []) ++ (bytes ++ line (codes "END." ∷ []))) are.count are.entries in
-    some_weaker (after (string_bytes name)) (λ bytes. bytes ≡ minutes_text m) (λ bytes. bytes ≡ journal_text i v.journal) stores (λ bytes is. is ∙ text)
+    (some_weaker (after (string_bytes name)) (λ bytes. bytes ≡ minutes_text m) (λ bytes. bytes ≡ journal_text i v.journal) stores.0 (λ bytes is. is ∙ text), stores.1)

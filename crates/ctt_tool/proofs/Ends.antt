@@ -91,6 +91,11 @@ pub done_so : {E : Type 0} (r : Result Outcome E) (P : Type 0) (Q : Outcome → 
 done_so (Ok outcome) P Q done does gives = gives outcome done does
 done_so (Err fault) P Q done does gives = tt
 
+-- and what holds however it ends holds where it ends well
+pub on_ok_too : {T E : Type 0} (r : Result T E) (P : Type 0) → P → OnOk r P
+on_ok_too (Ok value) P holds = holds
+on_ok_too (Err fault) P holds = tt
+
 -- and what fails in one way alone has its cause
 pub failed_so : {T : Type 0} (r : Result T Fault) (F : Fault → Type 0) (P : Type 0) (Q : Fault → Type 0) → IfErr r F → OnErr r P → ((fault : Fault) → F fault → P → Q fault) → IfErr r Q
 failed_so (Ok value) F P Q is holds gives = tt

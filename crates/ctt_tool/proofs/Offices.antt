@@ -11,14 +11,19 @@ use Rattle.ctt_files.specs.Texts.{Held, Holds, IsStart}
 use Rattle.ctt_files.specs.declared.fault.Fault.{Fault}
 use Rattle.ctt_files.specs.declared.fault.Fault.TheVariants.{NoMemory}
 use Rattle.ctt_files.proofs.Plain.{IsPlain, plain_written}
-use Rattle.ctt_tool.specs.Desks.{PrintsLast, TellsLast}
-use Rattle.ctt_tool.specs.Refusals.{IsLeftFault, IsNoMinutes, IsOfAudited, IsOfMinutes, IsOfWork, IsUnread, IsUnreadAt}
+use Rattle.ctt_tool.specs.Desks.{PrintsLast, SaysLast, TellsLast}
+use Rattle.ctt_tool.specs.Refusals.{IsLeftFault, IsNoMinutes, IsOfAudited, IsOfMinutes, IsOfWork, IsUnread, IsUnreadAt, IsUnreadOf}
 use Rattle.ctt_tool.specs.Texts.{IsJournalText}
 
 -- where the last lines are told, they are printed, or nothing is
 pub last_printed : (instance : String Global) (barred : Option (String Global)) (seats : List (String Global)) (start : Option (String Global)) (held : Held) (old new said_old said_new : Option (List ℕ))
     → TellsLast instance barred seats start held old new said_old said_new → PrintsLast instance barred seats start held old new
-last_printed instance barred seats start held old new said_old said_new told = ⊎_elim (λ printed. inl (printed.0, (told.0, told.1, printed.1))) (λ said. inr (said.0, said.1.1)) told.2
+last_printed instance barred seats start held old new said_old said_new told = ⊎_elim (λ printed. inl (printed.0, (told.0, told.1, printed.1.0))) (λ said. inr (said.0, said.1.1)) told.2
+
+-- and so is what is said
+pub last_said : (instance : String Global) (barred : Option (String Global)) (seats : List (String Global)) (start : Option (String Global)) (held : Held) (old new said_old said_new : Option (List ℕ))
+    → TellsLast instance barred seats start held old new said_old said_new → SaysLast instance barred seats start held said_old said_new
+last_said instance barred seats start held old new said_old said_new told = ⊎_elim (λ printed. inl (printed.0, printed.1.1)) (λ said. inr (said.0, (told.0, told.1, said.1.0))) told.2
 
 -- why the timetable is not printed that entries leave, by the files
 pub left_in : (problem : Problem) (journal : String Global) (start : Option (String Global)) (held : Held) (entries : List JournalEntry) (lectures : List Placed) (fault : Fault) → Holds held journal (λ text. IsJournalText problem text entries)
@@ -38,6 +43,12 @@ pub unread_in : (seats : List (String Global)) (at : ℕ) (seat : String Global)
 unread_in [] at seat fault lt there is = absurd (omega (arith, lt))
 unread_in (first ∷ seats) zero seat fault lt there is = inl (subst (λ (s : String Global). IsUnreadAt (string_bytes s) fault) there is)
 unread_in (first ∷ seats) (suc at) seat fault lt there is = inr (unread_in seats at seat fault (omega (arith, lt)) there is)
+
+-- and it is the seat at that place
+pub unread_of : (seats : List (String Global)) (at : ℕ) (seat : String Global) (fault : Fault) → at < length seats → seat ≡ get_or seats at seat → IsUnreadAt (string_bytes seat) fault → IsUnreadOf seats at fault
+unread_of [] at seat fault lt there is = absurd (omega (arith, lt))
+unread_of (first ∷ seats) zero seat fault lt there is = subst (λ (s : String Global). IsUnreadAt (string_bytes s) fault) there is
+unread_of (first ∷ seats) (suc at) seat fault lt there is = unread_of seats at seat fault (omega (arith, lt)) there is
 
 -- that its lines cannot be read is a fault of the desk
 pub of_unread : (seats : List (String Global)) (fault : Fault) (seat : List ℕ) → (IsUnreadAt seat fault → IsUnread seats fault) → IsUnreadAt seat fault ⊎ (fault ≡ NoMemory)

@@ -33,7 +33,12 @@ abbrev pub PrintsLast : String Global → Option (String Global) → List (Strin
 PrintsLast instance barred seats start held old new =
     ((has_standard seats ≡ false) × ((bytes : List ℕ) × IsOfDeskOn instance barred start held bytes × Appends old new bytes)) ⊎ ((has_standard seats ≡ true) × (new ≡ old))
 
--- such lines are printed; where standard output is a seat they are said on standard error, and nothing is printed
+-- such lines are said on standard error where standard output is a seat, and else nothing is
+abbrev pub SaysLast : String Global → Option (String Global) → List (String Global) → Option (String Global) → Held → Option (List ℕ) → Option (List ℕ) → Type 0
+SaysLast instance barred seats start held old new =
+    ((has_standard seats ≡ false) × (new ≡ old)) ⊎ ((has_standard seats ≡ true) × ((bytes : List ℕ) × IsOfDeskOn instance barred start held bytes × Appends old new bytes))
+
+-- such lines are printed, and nothing is said on standard error; where standard output is a seat they are said there, and nothing is printed
 abbrev pub TellsLast : String Global → Option (String Global) → List (String Global) → Option (String Global) → Held → Option (List ℕ) → Option (List ℕ) → Option (List ℕ) → Option (List ℕ) → Type 0
 TellsLast instance barred seats start held old new said_old said_new = (bytes : List ℕ) × IsOfDeskOn instance barred start held bytes
-    × (((has_standard seats ≡ false) × Appends old new bytes) ⊎ ((has_standard seats ≡ true) × (Appends said_old said_new bytes × (new ≡ old))))
+    × (((has_standard seats ≡ false) × (Appends old new bytes × (said_new ≡ said_old))) ⊎ ((has_standard seats ≡ true) × (Appends said_old said_new bytes × (new ≡ old))))

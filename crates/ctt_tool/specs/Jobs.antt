@@ -27,6 +27,11 @@ Storing (Run script start journal) = IsGiven journal
 Storing (Desk seats start minutes) = Unit {0}
 Storing task = ⊥
 
+-- the file that the task stores, if it is given one
+abbrev pub stored_by : Task → Option (String Global)
+stored_by (Run script start journal) = journal
+stored_by task = None
+
 -- the task may say something on standard error where it is done: a desk whose standard output is a seat, and a torn entry of minutes
 abbrev pub Saying : Task → Type 0
 Saying (Desk seats start minutes) = Unit {0}

@@ -1,5 +1,6 @@
 -- What the commands `journal` and `list` print, and which texts they refuse.
-use Rattle.std.specs.Prelude.{◌≡◌, ◌≢◌, ◌⊎◌, ℕ, Bool, List, Option}
+use Rattle.std.specs.Prelude.{◌≡◌, ◌≢◌, ◌⊎◌, ◌++◌, ℕ, Bool, List, [], Option, Some, None, IfSome, codes, flat_map, is_some, length}
+use Rattle.std.specs.Fmt.{decimal}
 use Rattle.std.specs.Global.{Global}
 use Rattle.std.specs.Io.KnownBytes.{Appends}
 use Rattle.std.specs.declared.string.String.{String}
@@ -10,7 +11,7 @@ use Rattle.ctt_core.specs.Audits.{IsVerdict, LeavesList}
 use Rattle.ctt_core.specs.declared.auditing.Verdict.{Verdict}
 use Rattle.ctt_core.specs.declared.auditing.Verdict.TheVariants.{Agrees}
 use Rattle.ctt_core.specs.declared.journal.JournalEntry.{JournalEntry}
-use Rattle.ctt_script.specs.WrittenText.{journal_text}
+use Rattle.ctt_script.specs.WrittenText.{entry_text, journal_text}
 use Rattle.ctt_office.specs.Recovery.{IsRecovered}
 use Rattle.ctt_files.specs.Texts.{Held, Holds, IsInstanceIn, IsStart}
 use Rattle.ctt_files.specs.declared.outcome.Outcome.{Outcome}
@@ -18,10 +19,15 @@ use Rattle.ctt_files.specs.declared.outcome.Outcome.TheVariants.{Done}
 use Rattle.ctt_tool.specs.Audits.{PrintsVerdict}
 use Rattle.ctt_tool.specs.Texts.{IsJournalText}
 
--- the bytes are the journal of the whole entries at the beginning of minutes
-pub record IsRecoveredJournal (problem : Problem) (text : List ℕ) (torn : Bool) (bytes : List ℕ) : Type 0 where
+-- behind so many bytes, which these entries have, one begins that is not whole
+abbrev pub IsTornBehind : Problem → List JournalEntry → Option ℕ → Type 0
+IsTornBehind problem entries torn = IfSome torn (λ at. at ≡ length (flat_map (entry_text problem) entries))
+
+-- the bytes are the journal of the whole entries at the beginning of minutes, behind which one may be torn
+pub record IsRecoveredJournal (problem : Problem) (text : List ℕ) (torn : Option ℕ) (bytes : List ℕ) : Type 0 where
   pub entries : List JournalEntry
-  pub is_recovered : IsRecovered problem text entries torn
+  pub is_recovered : IsRecovered problem text entries (is_some torn)
+  pub is_behind : IsTornBehind problem entries torn
   pub is : bytes ≡ journal_text problem entries
 
 -- of an instance, the whole entries at the beginning of the minutes in a file are printed as a journal
@@ -36,6 +42,25 @@ pub record PrintsJournal (instance : String Global) (barred : Option (String Glo
   pub problem : Problem
   pub is_instance : IsInstanceIn held instance barred problem
   pub prints : PrintsEntries problem minutes held old new
+
+-- what is said of the byte at which an entry begins that is not whole; nothing where all are whole
+abbrev pub torn_text : Option ℕ → List ℕ
+torn_text None = []
+torn_text (Some at) = codes "timedesk: torn at byte " ++ (decimal at ++ codes "\n")
+
+-- of an instance, the byte is said behind which an entry is torn in the minutes in a file, if one is
+pub record SaysTorn (problem : Problem) (minutes : String Global) (held : Held) (old new : Option (List ℕ)) : Type 0 where
+  pub entries : List JournalEntry
+  pub torn : Option ℕ
+  pub is_recovered : Holds held minutes (λ text. IsRecovered problem text entries (is_some torn))
+  pub is_behind : IsTornBehind problem entries torn
+  pub says : Appends old new (torn_text torn)
+
+-- the same, of the instance in a file
+pub record SaysTornOf (instance : String Global) (barred : Option (String Global)) (minutes : String Global) (held : Held) (old new : Option (List ℕ)) : Type 0 where
+  pub problem : Problem
+  pub is_instance : IsInstanceIn held instance barred problem
+  pub says : SaysTorn problem minutes held old new
 
 -- the timetable that is left is printed as a solution; or what an audit finds, where it finds something else than that the journal agrees
 abbrev pub PrintsLeft : Problem → List Placed → List JournalEntry → Outcome → Option (List ℕ) → Option (List ℕ) → Type 0

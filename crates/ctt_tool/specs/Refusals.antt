@@ -1,5 +1,5 @@
 -- Why a job is not done: the file in which the fault lies, and what stands in its text.
-use Rattle.std.specs.Prelude.{◌≡◌, ◌⊎◌, ◌<◌, ◌++◌, ℕ, List, [], ◌∷◌, Option, Some, IfSome, codes, length, Ok, Err}
+use Rattle.std.specs.Prelude.{◌≡◌, ◌⊎◌, ◌<◌, ◌++◌, ℕ, List, [], ◌∷◌, Option, Some, IfSome, codes, length, Ok, Err, zero, suc}
 use Rattle.std.specs.Global.{Global}
 use Rattle.std.specs.String.{string_bytes}
 use Rattle.std.specs.declared.string.String.{String}
@@ -10,10 +10,12 @@ use Rattle.ctt_edits.specs.declared.fault.EditFault.{EditFault}
 use Rattle.ctt_core.specs.declared.journal.JournalEntry.{JournalEntry}
 use Rattle.ctt_script.specs.JournalText.{IsJournalCauseOf}
 use Rattle.ctt_office.specs.Recovery.{IsMinutesFault}
+use Rattle.ctt_office.specs.declared.office_fault.OfficeFault.{OfficeFault}
+use Rattle.ctt_office.specs.declared.office_fault.OfficeFault.TheVariants as office
 use Rattle.ctt_files.specs.Refusals.{IsNoText, IsOfFiles, IsOfInstanceOr, IsOfStart, IsOfText, IsTooLong}
 use Rattle.ctt_files.specs.Texts.{Held, Holds, IsStart}
 use Rattle.ctt_files.specs.declared.fault.Fault.{Fault}
-use Rattle.ctt_files.specs.declared.fault.Fault.TheVariants.{BadSeats, CannotRead, MinutesExist, NoMemory, NoPlace, NoThread, TooLong, TooManyScripts}
+use Rattle.ctt_files.specs.declared.fault.Fault.TheVariants.{BadSeats, CannotRead, CannotWrite, MinutesExist, NoMemory, NoPlace, NoThread, TooLong, TooManyScripts}
 use Rattle.ctt_tool.specs.Faults.{IsOpeningFault, fault_of_journal}
 use Rattle.ctt_tool.specs.Seats.{AreBadSeats}
 use Rattle.ctt_tool.specs.Texts.{IsJournalText, IsNoJournal, IsUnlawfulStart}
@@ -82,6 +84,21 @@ IsUnreadAt seat fault = (name : String Global) × (fault ≡ CannotRead name) ×
 abbrev pub IsUnread : List (String Global) → Fault → Type 0
 IsUnread [] fault = ⊥
 IsUnread (seat ∷ seats) fault = IsUnreadAt (string_bytes seat) fault ⊎ IsUnread seats fault
+
+-- that of the seat at this place
+abbrev pub IsUnreadOf : List (String Global) → ℕ → Fault → Type 0
+IsUnreadOf [] place fault = ⊥
+IsUnreadOf (seat ∷ seats) zero fault = IsUnreadAt (string_bytes seat) fault
+IsUnreadOf (seat ∷ seats) (suc place) fault = IsUnreadOf seats place fault
+
+-- what is told of the fault of a desk with these seats: its cause, or that memory was wanted for the name of a file
+abbrev pub IsToldOf : List (String Global) → OfficeFault → Fault → Type 0
+IsToldOf seats office.NoPlace told = told ≡ NoPlace
+IsToldOf seats office.NoThread told = told ≡ NoThread
+IsToldOf seats (office.CannotRead place) told = IsUnreadOf seats place told ⊎ (told ≡ NoMemory)
+IsToldOf seats office.CannotWrite told = told ≡ CannotWrite
+IsToldOf seats office.NotWritten told = told ≡ CannotWrite
+IsToldOf seats office.NoMemory told = told ≡ NoMemory
 
 -- the fault lies in the start, or in the work of the planners, or in the lines of a seat
 abbrev pub IsOfSeats : List (String Global) → Option (String Global) → Held → Problem → Fault → Type 0

@@ -1,7 +1,8 @@
 -- What the command `run` prints and stores.
-use Rattle.std.specs.Prelude.{◌≡◌, ◌≤◌, ℕ, List, Option, Some, None, Ok, length}
+use Rattle.std.specs.Prelude.{◌≡◌, ◌≢◌, ◌≤◌, ℕ, List, Option, Some, None, Ok, length}
 use Rattle.std.specs.Global.{Global}
 use Rattle.std.specs.Io.KnownBytes.{Appends}
+use Rattle.std.specs.String.{string_bytes}
 use Rattle.std.specs.declared.string.String.{String}
 use Rattle.ctt_text.specs.Problem.{Problem}
 use Rattle.ctt_text.specs.declared.placed.Placed.{Placed}
@@ -11,10 +12,19 @@ use Rattle.ctt_script.specs.AnswerText.{answer_text, script_run}
 use Rattle.ctt_script.specs.WrittenText.{journal_text}
 use Rattle.ctt_files.specs.Texts.{Held, Holds, IsInstanceIn, IsStart}
 
--- where a file is given, it holds what it should; where none is, no file has changed
+-- the name is not that of this file, if one is given
+abbrev pub IsOther : Option (String Global) → List ℕ → Type 0
+IsOther None other = Unit {0}
+IsOther (Some name) other = other ≢ string_bytes name
+
+-- the files hold what they held, but for this one, if one is given
+abbrev pub KeepOthers : Option (String Global) → Held → Held → Type 0
+KeepOthers stored before after = (other : List ℕ) → IsOther stored other → after other ≡ before other
+
+-- where a file is given, it holds what it should, and the others hold what they held; where none is, no file has changed
 abbrev pub Stores : Option (String Global) → Held → Held → (List ℕ → Type 0) → Type 0
 Stores None before after P = after ≡ before
-Stores (Some name) before after P = Holds after name P
+Stores (Some name) before after P = Holds after name P × KeepOthers (Some name) before after
 
 -- of an instance, the script, which is within the limit, is run on a desk that opens with the start: its answers are printed, and the accepted drafts are stored as a journal where a file is given
 pub record RunsOn (problem : Problem) (script : String Global) (start journal : Option (String Global)) (before after : Held) (old new : Option (List ℕ)) : Type 0 where

@@ -2,6 +2,8 @@
 use Rattle.std.specs.Prelude.{◌≡◌, ◌⊎◌, ◌<◌, ℕ, Bool, true, List, [], Option, length, map}
 use Rattle.std.specs.Borrow.{Bor}
 use Rattle.std.specs.Global.{Global}
+use Rattle.std.specs.Io.KnownBytes.{Appends}
+use Rattle.std.specs.String.{string_bytes}
 use Rattle.std.specs.declared.string.String.{String}
 use Rattle.ctt_words.specs.Jobs.{AreRefused, IsFaultOf, IsJobOf, IsRequest, faults_of}
 use Rattle.ctt_words.specs.declared.job.WordsFault.{WordsFault}
@@ -20,11 +22,11 @@ use Rattle.ctt_files.specs.declared.outcome.Outcome.{Outcome}
 use Rattle.ctt_files.specs.declared.outcome.Outcome.TheVariants.{Done}
 use Rattle.ctt_tool.specs.Audits.{AuditsJournal}
 use Rattle.ctt_tool.specs.Crews.{PrintsCrew}
-use Rattle.ctt_tool.specs.Desks.{PrintsLast}
-use Rattle.ctt_tool.specs.Jobs.{HasBadSeats, Saying, Storing, scripts_of}
-use Rattle.ctt_tool.specs.Lists.{ListsJournal, PrintsJournal}
+use Rattle.ctt_tool.specs.Desks.{PrintsLast, SaysLast}
+use Rattle.ctt_tool.specs.Jobs.{HasBadSeats, Saying, Storing, scripts_of, stored_by}
+use Rattle.ctt_tool.specs.Lists.{ListsJournal, PrintsJournal, SaysTornOf}
 use Rattle.ctt_tool.specs.Refusals.{IsOfAudit, IsOfCrew, IsOfDesk, IsOfRecovery, IsOfRun}
-use Rattle.ctt_tool.specs.Runs.{RunsScript}
+use Rattle.ctt_tool.specs.Runs.{KeepOthers, RunsScript}
 
 -- the task is done with this instance over these files, where they tell their bytes; its answer is printed, and the program ends as it says
 abbrev pub DoesTask : String Global → Option (String Global) → Task → Outcome → Held → Held → Option (List ℕ) → Option (List ℕ) → Type 0
@@ -46,6 +48,12 @@ DoesTask instance barred (Listing journal start) outcome before after old new = 
 -- and so is the job
 abbrev pub DoesJob : Job → Outcome → Held → Held → Option (List ℕ) → Option (List ℕ) → Type 0
 DoesJob job outcome before after old new = DoesTask job.instance job.barred job.task outcome before after old new
+
+-- what is said on standard error where the task is done: the last lines of a desk, or where an entry is torn, and else nothing
+abbrev pub SaysOfTask : String Global → Option (String Global) → Task → Held → Option (List ℕ) → Option (List ℕ) → Type 0
+SaysOfTask instance barred (Desk seats start minutes) held old new = SaysLast instance barred seats.items start held old new
+SaysOfTask instance barred (Journal minutes) held old new = SaysTornOf instance barred minutes held old new
+SaysOfTask instance barred task held old new = new ≡ old
 
 -- the texts of words that are lent
 abbrev pub texts : List (Bor (List ℕ)) → List (List ℕ)
@@ -86,6 +94,10 @@ AsksForRefusedText words held = (fault : Fault) × (status_of fault ≡ 1) × As
 abbrev pub AsksToStore : List (List ℕ) → Type 0
 AsksToStore words = (job : Job) × IsJobOf words job × Storing job.task
 
+-- the files hold what they held, but for the one that the words ask to store, if they do
+abbrev pub KeepAsAsked : List (List ℕ) → Held → Held → Type 0
+KeepAsAsked words before after = (after ≡ before) ⊎ ((job : Job) × IsJobOf words job × KeepOthers (stored_by job.task) before after)
+
 -- the words ask for a crew of more than 64 scripts
 abbrev pub AsksForTooMany : List (List ℕ) → Type 0
 AsksForTooMany words = (job : Job) × IsJobOf words job × (64 < length (scripts_of job.task))
@@ -102,10 +114,19 @@ AreTurnedDown words = AreRefused words ⊎ (AsksForTooMany words ⊎ AsksForBadS
 abbrev pub AsksToSay : List (List ℕ) → Type 0
 AsksToSay words = (job : Job) × IsJobOf words job × Saying job.task
 
+-- nothing is said, or what the job says for which the words ask
+abbrev pub SaysAsAsked : List (List ℕ) → Held → Option (List ℕ) → Option (List ℕ) → Type 0
+SaysAsAsked words held old new = (new ≡ old) ⊎ ((job : Job) × IsJobOf words job × SaysOfTask job.instance job.barred job.task held old new)
+
 -- help is given, or the version
 abbrev pub GivesHelp : WordsFault → Type 0
 GivesHelp (Help text) = Unit {0}
 GivesHelp _ = ⊥
+
+-- its text is printed
+abbrev pub PrintsHelp : WordsFault → Option (List ℕ) → Option (List ℕ) → Type 0
+PrintsHelp (Help text) old new = Appends old new (string_bytes text)
+PrintsHelp _ old new = ⊥
 
 -- what is told where it is not: the words are refused, there was no memory for that, or standard output failed
 abbrev pub IsOfHelp : WordsFault → Bool → Fault → Type 0

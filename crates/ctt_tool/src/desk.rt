@@ -1,6 +1,6 @@
 //! The command `desk`.
 
-ghost use Rattle.std.specs.Prelude.{◌≡◌, ◌⊎◌, ◌≤◌, ◌<◌, ◌++◌, Err, true, length, codes, OnOk, OnErr, IfOk, IfErr};
+ghost use Rattle.std.specs.Prelude.{◌≡◌, ◌⊎◌, ◌≤◌, ◌<◌, ◌++◌, Err, true, is_some, length, codes, OnOk, OnErr, IfOk, IfErr};
 ghost use Rattle.std.specs.String.{string_bytes};
 ghost use Rattle.ctt_office.specs.OfficeFaults.{IsOfficeFault};
 ghost use Rattle.ctt_files.specs.Faults.{IfUnwritten, MayHaveWritten};
@@ -8,7 +8,7 @@ ghost use Rattle.ctt_files.specs.Refusals.{IsOfInstanceOr};
 ghost use Rattle.ctt_files.specs.declared.fault.Fault.TheVariants.{BadSeats, CannotWrite, NoMemory};
 ghost use Rattle.ctt_files.specs.declared.outcome.Outcome.TheVariants.{Done};
 ghost use Rattle.ctt_tool.specs.Desks.{IsOfDeskFrom, IsOfDeskOn, IsOpenOn, TellsLast};
-ghost use Rattle.ctt_tool.specs.Refusals.{IsOfDesk, IsOfOldMinutes, IsOfOpening, IsOfSeats, IsOfWork, IsUnread, IsUnreadAt};
+ghost use Rattle.ctt_tool.specs.Refusals.{IsOfDesk, IsOfOldMinutes, IsOfOpening, IsOfSeats, IsOfWork, IsToldOf, IsUnread, IsUnreadAt};
 ghost use Rattle.ctt_tool.specs.Seats.{has_seat, has_twice};
 
 use crate::office::{Office, STANDARD};
@@ -70,7 +70,8 @@ fn unread(alloc: Global, seat: &str) -> Fault
 /// The fault of a desk with these seats.
 fn fault_of_office(alloc: Global, seats: &[String], fault: OfficeFault) -> Fault
     requires { IsOfficeFault (length seats.now) fault }
-    ensures { IfUnwritten result (Unit {0}) (IsOfWork result ⊎ IsUnread seats.now result) }
+    ensures cause { IfUnwritten result (Unit {0}) (IsOfWork result ⊎ IsUnread seats.now result) }
+    ensures told { IsToldOf seats.now fault result }
 {
     match fault {
         OfficeFault::NoPlace => Fault::NoPlace,
@@ -93,7 +94,7 @@ fn open_on<'i, S: Sheet<'i>, F: Files>(
         IsOpenOn instance.now start (F.held files.old) opened.list) }
     ensures kept { F.held files.new ≡ F.held files.old }
     ensures cause { IfErr result (λ fault.
-        IsOfOpening start (F.held files.old) instance.now fault ⊎ IsOfWork fault) }
+        IsOfOpening start (F.held files.old) instance.now fault ⊎ (fault ≡ NoMemory)) }
 {
     let lectures = fetch_start(alloc, files, instance, start)?;
     match Opened::<S>::new(alloc, instance, &lectures) {
@@ -108,7 +109,8 @@ fn open_on<'i, S: Sheet<'i>, F: Files>(
 
 /// The file for minutes, if one is given, unless it has bytes.
 fn unused<O: Office>(office: &O, minutes: Option<String>) -> Result<Option<String>, Fault>
-    ensures { IfErr result (IsOfOldMinutes minutes) }
+    ensures same { IfOk result (λ given. given ≡ minutes) }
+    ensures cause { IfErr result (IsOfOldMinutes minutes) }
 {
     let Some(name) = minutes else {
         return Ok(None);
@@ -121,7 +123,8 @@ fn unused<O: Office>(office: &O, minutes: Option<String>) -> Result<Option<Strin
 
 /// Where minutes are written, where a file is given for them.
 fn minutes_in<O: Office>(office: &O, minutes: Option<String>) -> Result<Option<O::Minutes>, Fault>
-    ensures { IfErr result (λ fault. fault ≡ CannotWrite) }
+    ensures given { IfOk result (λ writer. is_some writer ≡ is_some minutes) }
+    ensures cause { IfErr result (λ fault. fault ≡ CannotWrite) }
 {
     let Some(name) = minutes else {
         return Ok(None);

@@ -1,10 +1,11 @@
 //! The command `journal`.
 
-ghost use Rattle.std.specs.Prelude.{◌≡◌, ◌⊎◌, true, is_some, OnOk, OnErr, IfOk, IfErr};
+ghost use Rattle.std.specs.Prelude.{◌≡◌, ◌⊎◌, true, OnOk, OnErr, IfOk, IfErr};
+ghost use Rattle.std.specs.String.{string_bytes};
 ghost use Rattle.ctt_files.specs.Faults.{IfUnwritten};
 ghost use Rattle.ctt_files.specs.declared.fault.Fault.TheVariants.{NoMemory};
 ghost use Rattle.ctt_files.specs.declared.outcome.Outcome.TheVariants.{Done};
-ghost use Rattle.ctt_tool.specs.Lists.{IsRecoveredJournal, PrintsEntries, PrintsJournal};
+ghost use Rattle.ctt_tool.specs.Lists.{IsRecoveredJournal, PrintsEntries, PrintsJournal, SaysTorn, SaysTornOf, torn_text};
 ghost use Rattle.ctt_tool.specs.Refusals.{IsNoMinutes, IsOfMinutes, IsOfRecovery};
 
 use crate::refused::refused_journal;
@@ -17,7 +18,8 @@ use std::alloc::Global;
 
 /// The line of an entry that is not whole, by the byte at which it begins; nothing where there is none.
 fn torn_line(alloc: Global, torn: Option<usize>) -> Result<String, Fault>
-    ensures { IfErr result (λ fault. fault ≡ NoMemory) }
+    ensures text { IfOk result (λ line. string_bytes line ≡ torn_text torn) }
+    ensures fault { IfErr result (λ fault. fault ≡ NoMemory) }
 {
     match torn {
         Some(at) => Ok(format!(in alloc; "timedesk: torn at byte {at}\n")?),
@@ -32,7 +34,7 @@ fn recovered(
     minutes: &[u8],
 ) -> Result<(Vec<u8>, Option<usize>), Fault>
     ensures journal { IfOk result (λ r.
-        IsRecoveredJournal instance.now minutes.now (is_some r.1) r.0.items) }
+        IsRecoveredJournal instance.now minutes.now r.1 r.0.items) }
     ensures cause { IfErr result (λ fault.
         IsNoMinutes instance.now minutes.now fault ⊎ (fault ≡ NoMemory)) }
 {
@@ -58,6 +60,8 @@ fn print_journal<F: Files, W: Sink, V: Sink>(
 ) -> Result<Outcome, Fault>
     ensures prints { OnOk result (PrintsEntries instance.now minutes (F.held files.old)
         (W.taken out.old) (W.taken out.new)) }
+    ensures says { OnOk result ((V.has_failed err.new ≡ true)
+        ⊎ SaysTorn instance.now minutes (F.held files.old) (V.taken err.old) (V.taken err.new)) }
     ensures done { IfOk result (λ outcome. outcome ≡ Done) }
     ensures unmarked { OnOk result (W.has_failed out.new ≡ W.has_failed out.old) }
     ensures kept { F.held files.new ≡ F.held files.old }
@@ -87,6 +91,8 @@ pub fn journal<F: Files, W: Sink, V: Sink>(
 ) -> Result<Outcome, Fault>
     ensures prints { OnOk result (PrintsJournal instance barred minutes (F.held files.old)
         (W.taken out.old) (W.taken out.new)) }
+    ensures says { OnOk result ((V.has_failed err.new ≡ true)
+        ⊎ SaysTornOf instance barred minutes (F.held files.old) (V.taken err.old) (V.taken err.new)) }
     ensures done { IfOk result (λ outcome. outcome ≡ Done) }
     ensures unmarked { OnOk result (W.has_failed out.new ≡ W.has_failed out.old) }
     ensures kept { F.held files.new ≡ F.held files.old }

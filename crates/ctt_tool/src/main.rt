@@ -16,7 +16,7 @@ ghost use Rattle.std.specs.Prelude.{◌≡◌, ◌≢◌, ◌≤◌, ◌⊎◌, 
 ghost use Rattle.ctt_files.specs.declared.fault.Fault.TheVariants.{NoMemory, WordsNotText};
 ghost use Rattle.ctt_files.specs.declared.outcome.Outcome.TheVariants.{Differs, Done, Incomplete, Unlawful};
 ghost use Rattle.ctt_tool.specs.Faults.{SaysFault};
-ghost use Rattle.ctt_tool.specs.Work.{AsksForRefusedText, AsksToSay, DoesAsAsked, EndsAsDone, IsOfWords};
+ghost use Rattle.ctt_tool.specs.Work.{AsksForRefusedText, AsksToSay, DoesAsAsked, EndsAsDone, IsOfWords, KeepAsAsked};
 
 use ctt_devices::{Device, Sink};
 use ctt_files::{Fault, Files, SystemFiles};
@@ -76,6 +76,8 @@ fn serve<R: Env + AllocGlobal + Threads + Wait + Sync, F: Files, O: Office, W: S
         ⊎ ((V.has_failed err.new ≡ true)
         ⊎ SaysFault (IsOfWords (F.held files.old) (W.has_failed out.new)) result
         (V.taken err.old) (V.taken err.new)) }
+    ensures others { (words : List (List ℕ))
+        × KeepAsAsked words (F.held files.old) (F.held files.new) }
 {
     let owned = match owned_words(rt) {
         Ok(owned) => owned,

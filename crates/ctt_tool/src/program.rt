@@ -6,8 +6,9 @@ ghost use Rattle.ctt_files.specs.Faults.{IfUnwritten, MayHaveWritten, status_of}
 ghost use Rattle.ctt_files.specs.declared.fault.Fault.TheVariants.{NoMemory};
 ghost use Rattle.ctt_files.specs.declared.outcome.Outcome.TheVariants.{Differs, Done, Incomplete, Unlawful};
 ghost use Rattle.ctt_tool.specs.Faults.{KeptUnless, SaysFault};
-ghost use Rattle.ctt_tool.specs.Jobs.{Saying, Storing};
-ghost use Rattle.ctt_tool.specs.Work.{AreTurnedDown, AsksForRefusedText, AsksToSay, AsksToStore, DoesAsAsked, DoesJob, EndsAsDone, GivesHelp, HasCause, IsOfHelp, IsOfJob, texts};
+ghost use Rattle.ctt_tool.specs.Jobs.{Saying, Storing, stored_by};
+ghost use Rattle.ctt_tool.specs.Runs.{KeepOthers};
+ghost use Rattle.ctt_tool.specs.Work.{AreTurnedDown, AsksForRefusedText, AsksToSay, AsksToStore, DoesAsAsked, DoesJob, EndsAsDone, GivesHelp, HasCause, IsOfHelp, IsOfJob, KeepAsAsked, PrintsHelp, SaysAsAsked, SaysOfTask, texts};
 
 use crate::audit::audit;
 use crate::crew::crew;
@@ -47,8 +48,12 @@ fn do_job<R: Threads + Wait + Sync, F: Files, O: Office, W: Sink, V: Sink>(
     ensures unstored { IfErr result (λ fault. KeptUnless fault
         ((W.has_failed out.new ≡ W.has_failed out.old) × Storing job.task)
         (F.held files.new ≡ F.held files.old)) }
+    ensures others { KeepOthers (stored_by job.task) (F.held files.old) (F.held files.new) }
     ensures quiet { IfOk result (λ outcome.
         (Saying job.task × (outcome ≡ Done)) ⊎ (err.new ≡ err.old)) }
+    ensures says { OnOk result ((V.has_failed err.new ≡ true)
+        ⊎ SaysOfTask job.instance job.barred job.task (F.held files.old)
+        (V.taken err.old) (V.taken err.new)) }
     ensures unsaid { OnErr result ((err.new ≡ err.old) ⊎ (V.has_failed err.new ≡ true)) }
 {
     let Job {
@@ -87,6 +92,7 @@ fn do_job<R: Threads + Wait + Sync, F: Files, O: Office, W: Sink, V: Sink>(
 fn answer_words<W: Sink>(out: &mut W, fault: WordsFault) -> Result<Outcome, Fault>
     ensures done { IfOk result (λ outcome. outcome ≡ Done) }
     ensures helps { OnOk result (GivesHelp fault) }
+    ensures prints { OnOk result (PrintsHelp fault (W.taken out.old) (W.taken out.new)) }
     ensures unmarked { OnOk result (W.has_failed out.new ≡ W.has_failed out.old) }
     ensures marked { IfErr result (λ told. (status_of told ≡ 3)
         ⊎ (W.has_failed out.new ≡ W.has_failed out.old)) }
@@ -119,9 +125,12 @@ fn do_as_asked<R: Threads + Wait + Sync, F: Files, O: Office, W: Sink, V: Sink>(
     ensures unstored { IfErr result (λ fault. KeptUnless fault
         ((W.has_failed out.new ≡ W.has_failed out.old) × AsksToStore (texts words.now))
         (F.held files.new ≡ F.held files.old)) }
+    ensures others { KeepAsAsked (texts words.now) (F.held files.old) (F.held files.new) }
     ensures taken { IfErr result (λ fault. status_of fault ≡ 1 → faults_of (texts words.now) ≡ []) }
     ensures quiet { IfOk result (λ outcome.
         (AsksToSay (texts words.now) × (outcome ≡ Done)) ⊎ (err.new ≡ err.old)) }
+    ensures says { OnOk result ((V.has_failed err.new ≡ true)
+        ⊎ SaysAsAsked (texts words.now) (F.held files.old) (V.taken err.old) (V.taken err.new)) }
     ensures unsaid { OnErr result ((err.new ≡ err.old) ⊎ (V.has_failed err.new ≡ true)) }
     ensures cause { IfErr result
         (HasCause (texts words.now) (F.held files.old) (W.has_failed out.new)) }
@@ -175,6 +184,8 @@ pub fn program<R: AllocGlobal + Threads + Wait + Sync, F: Files, O: Office, W: S
         (F.held files.old) (F.held files.new) (W.taken out.old) (W.taken out.new) }
     ensures unmarked { result ≡ 0 → W.has_failed out.new ≡ false }
     ensures unsaid { result ≡ 0 → AsksToSay (texts words.now) ⊎ (err.new ≡ err.old) }
+    ensures says { result ≡ 0 → (V.has_failed err.new ≡ true)
+        ⊎ SaysAsAsked (texts words.now) (F.held files.old) (V.taken err.old) (V.taken err.new) }
     ensures one { result ≡ 1
         → (AsksForRefusedText (texts words.now) (F.held files.old) × (out.new ≡ out.old))
         ⊎ (DoesAsAsked (texts words.now) Differs (F.held files.old) (F.held files.new)
@@ -195,6 +206,7 @@ pub fn program<R: AllocGlobal + Threads + Wait + Sync, F: Files, O: Office, W: S
     ensures unstored { result ≢ 0 → (F.held files.new ≡ F.held files.old)
         ⊎ ((result ≡ 3) × ((W.has_failed out.new ≡ W.has_failed out.old)
         × AsksToStore (texts words.now))) }
+    ensures others { KeepAsAsked (texts words.now) (F.held files.old) (F.held files.new) }
 {
     let alloc = rt.alloc();
     match do_as_asked(rt, alloc, words, files, office, out, err) {

@@ -14,7 +14,7 @@ ghost use Rattle.ctt_files.specs.declared.outcome.Outcome.TheVariants.{Done};
 ghost use Rattle.ctt_tool.specs.Faults.{IsRunFault, KeptUnless, RunFaultFits};
 ghost use Rattle.ctt_tool.specs.Jobs.{IsGiven};
 ghost use Rattle.ctt_tool.specs.Refusals.{IsAnswerFault, IsOfRun, IsOfScript};
-ghost use Rattle.ctt_tool.specs.Runs.{RunsOn, RunsScript, Stores};
+ghost use Rattle.ctt_tool.specs.Runs.{KeepOthers, RunsOn, RunsScript, Stores};
 
 use crate::refused::refused_opening;
 use ctt_board::{GridSheet, Sheet};
@@ -89,7 +89,7 @@ fn minutes_for(alloc: Global, journal: &Option<String>) -> Result<Option<Minutes
     }
 }
 
-/// Stores a journal where a file is given for it, with which a run is done.
+/// Stores a journal where a file is given for it, with which a run is done. No other file is written.
 fn store_journal<F: Files>(
     files: &mut F,
     journal: Option<String>,
@@ -102,6 +102,7 @@ fn store_journal<F: Files>(
     ensures fault { IfErr result (λ fault. IfUnwritten fault
         (IsGiven journal)
         ((fault ≡ OutOfMemory) × (F.held files.new ≡ F.held files.old))) }
+    ensures others { KeepOthers journal (F.held files.old) (F.held files.new) }
 {
     let Some(name) = journal else {
         return Ok(Outcome::Done);
@@ -140,6 +141,7 @@ fn run_on<'i, S: Sheet<'i>, F: Files, W: Sink>(
     ensures unstored { IfErr result (λ fault. KeptUnless fault
         ((W.has_failed out.new ≡ W.has_failed out.old) × IsGiven journal)
         (F.held files.new ≡ F.held files.old)) }
+    ensures others { KeepOthers journal (F.held files.old) (F.held files.new) }
 {
     let Ok(mut input) = files.fetch(&script) else {
         return Err(Fault::CannotRead(script));
@@ -183,6 +185,7 @@ pub fn run<F: Files, W: Sink>(
     ensures unstored { IfErr result (λ fault. KeptUnless fault
         ((W.has_failed out.new ≡ W.has_failed out.old) × IsGiven journal)
         (F.held files.new ≡ F.held files.old)) }
+    ensures others { KeepOthers journal (F.held files.old) (F.held files.new) }
 {
     let instance = fetch_instance(alloc, files, instance, barred)?;
     let done = run_on::<GridSheet, F, W>(alloc, files, out, &instance, script, start, journal);

@@ -1,4 +1,4 @@
-use Rattle.std.proofs.Common.{inl, inr, ⊎_elim, arith}
+use Rattle.std.proofs.Common.{[], inl, inr, refl, ⊎_elim, arith}
 use Rattle.ctt_tool.specs.Work.{EndsAsDone}
 use Rattle.ctt_tool.proofs.Ends.{of_no_words, of_some_words}
 use Rattle.ctt_tool.proofs.serve.Goals as goal
@@ -35,3 +35,9 @@ returns-in-Err-clause-five g c = λ five. absurd (omega (arith, c.fail_with.ensu
 
 pub returns-in-Err-clause-said : goal.returns-in-Err-clause-said
 returns-in-Err-clause-said g c = λ some. inr (of_no_words _ _ _ c.in-Err.fault _ _ _ c.in-Err.ensures c.fail_with.ensures.said)
+
+pub returns-clause-others : goal.returns-clause-others
+returns-clause-others g c = (_, c.program.ensures.others)
+
+pub returns-in-Err-clause-others : goal.returns-in-Err-clause-others
+returns-in-Err-clause-others g c = ([], inl refl)

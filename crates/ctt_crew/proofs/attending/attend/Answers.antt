@@ -12,7 +12,8 @@ use Rattle.ctt_core.specs.declared.event.Event.TheVariants.{Open, Ask, Commit, R
 use Rattle.ctt_script.specs.ScriptText.{has_words, lines_of, own_item}
 use Rattle.ctt_script.proofs.ScriptLaws.{lines_are_text}
 use Rattle.ctt_crew.specs.CrewText.{call_in}
-use Rattle.ctt_crew.specs.Seats.{AnswersItems, AnswersLine, IsAttending, own_items}
+use Rattle.ctt_crew.specs.Attended.{AnswersItems, IsAttending, own_items}
+use Rattle.ctt_crew.specs.Seats.{AnswersLine}
 use Rattle.ctt_crew.proofs.AttendLemmas.{begins, call_answered, one_more, passed_over}
 use Rattle.ctt_crew.proofs.attending.attend.Goals as goal
 use Rattle.ctt_crew.proofs.attending.attend.Goals.{in-Some-call_in+else-is_err, in_default-call_in+in-Ok-answer_own_line, then-is_some-via-then-is_some, then-is_some-via-else-is_some+then-has_words}

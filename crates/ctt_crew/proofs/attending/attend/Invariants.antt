@@ -2,7 +2,7 @@ use Rattle.std.proofs.Common.{◌≡◌, true, string_bytes}
 use Rattle.std.specs.List.{AllByRecursion as Each}
 use Rattle.std.specs.Str.{IsUtf8}
 use Rattle.ctt_script.specs.ScriptText.{lines_of}
-use Rattle.ctt_crew.specs.Seats.{IsAttending}
+use Rattle.ctt_crew.specs.Attended.{IsAttending}
 use Rattle.ctt_crew.proofs.attending.attend.Given as goal
 
 -- the lines before those that are left were answered; if the script is text, each that is left is text

@@ -4,30 +4,24 @@ use Rattle.std.proofs.lemmas.Result.{IfErr-weaker, IfOk-weaker}
 use Rattle.ctt_text.specs.Problem.{Problem}
 use Rattle.ctt_text.specs.declared.placed.Placed.{Placed}
 use Rattle.ctt_desk.specs.Planners.{new_planners}
-use Rattle.ctt_crew.specs.Seats.{AreAttended}
-use Rattle.ctt_crew.proofs.CrewLemmas.{is_attended_crew, is_crew_text, planners_many, report_fits}
+use Rattle.ctt_crew.specs.Attended.{AreAttended}
+use Rattle.ctt_crew.proofs.CrewLemmas.{is_crew_text, planners_many, report_fits}
 use Rattle.ctt_crew.proofs.crew_run.crew_named.Goals as goal
 
 pub answers_at-answers-requires-clause-counted : goal.answers_at-answers-requires-clause-counted
 answers_at-answers-requires-clause-counted g c κs within = ap length c.in_ok-desk.ensures.planners ∙ planners_many c.args.count ∙ sym c.requires.counted
 
-pub returns-clause-text : goal.returns-clause-text
-returns-clause-text g c = IfOk-weaker c.last_report.result _ _ (λ text told.
-    is_crew_text c.answers_at-answers.result (λ answers. map string_bytes answers.items) g.J.Naming.problem g.J.Naming.opening g.J.Naming.planners text.items
-    (IfOk-weaker c.answers_at-answers.result _ _ (λ answers many. length-map answers.items string_bytes ∙ many ∙ c.requires.counted ∙ c.requires.named.counted) c.answers_at-answers.ensures.each)
-    told) c.last_report.ensures.text
-
 pub returns-clause-fault : goal.returns-clause-fault
 returns-clause-fault g c = IfErr-weaker c.last_report.result _ _ (λ fault told. report_fits c.answers_at-answers.result g.J.Naming.planners fault c.answers_at-answers.ensures.fault told) c.last_report.ensures.fault
 
-pub returns-clause-attended : goal.returns-clause-attended
-returns-clause-attended g c =
+pub returns-clause-text : goal.returns-clause-text
+returns-clause-text g c =
     let i : Problem = g.J.Naming.problem in
     let t0 : List Placed = g.J.Naming.opening in
     let scripts : List (List ℕ) = map (λ s. s.now) c.args.scripts.now in
     let many : c.args.count ≡ length scripts = sym (length-map c.args.scripts.now (λ s. s.now) ∙ c.requires.counted) in
     let planners : c.in_ok-desk.planners.items ≡ new_planners (length scripts) = c.in_ok-desk.ensures.planners ∙ ap new_planners many in
     IfOk-weaker c.last_report.result _ _ (λ text told.
-    is_attended_crew c.answers_at-answers.result (λ answers. map string_bytes answers.items) i t0 scripts text.items
+    is_crew_text c.answers_at-answers.result (λ answers. map string_bytes answers.items) i t0 scripts text.items
     (IfOk-weaker c.answers_at-answers.result _ _ (λ answers are. subst (λ ps. AreAttended i t0 (zip ps scripts) (map string_bytes answers.items)) planners are) c.answers_at-answers.ensures.attended)
     told) c.last_report.ensures.text

@@ -5,7 +5,7 @@ use Rattle.std.proofs.lemmas.List.{map-append, nil_from_length}
 use Rattle.ctt_text.specs.Problem.{Problem}
 use Rattle.ctt_text.specs.declared.placed.Placed.{Placed}
 use Rattle.ctt_desk.specs.Planners.{PlannerValue}
-use Rattle.ctt_crew.specs.Seats.{AreAttending}
+use Rattle.ctt_crew.specs.Attended.{AreAttending}
 use Rattle.ctt_crew.proofs.AttendLemmas.{all_attended, one_attended}
 use Rattle.ctt_crew.proofs.crew_run.joined.Goals as goal
 
@@ -16,10 +16,7 @@ loop-thread-init g c =
     let all : List (PlannerValue × List ℕ) = map (λ h. h.promise) c.args.threads.items in
     let first : into_iter_items c.into_iter-thread-iterator.result ≡ c.args.threads.items = search rules in
     let none : map string_bytes c.in_ok-answers.answers.items ≡ [] = ap (map string_bytes) c.in_ok-answers.ensures.items in
-    record {
-      each = grind (arith, common_steps);
-      attending = subst (λ ts. AreAttending i t0 all (map (λ h. h.promise) ts) (map string_bytes c.in_ok-answers.answers.items)) (sym first) (subst (AreAttending i t0 all all) (sym none) (λ more are. are));
-    }
+    subst (λ ts. AreAttending i t0 all (map (λ h. h.promise) ts) (map string_bytes c.in_ok-answers.answers.items)) (sym first) (subst (AreAttending i t0 all all) (sym none) (λ more are. are))
 
 pub loop-thread-preserved : goal.loop-thread-preserved
 loop-thread-preserved g c =
@@ -29,12 +26,9 @@ loop-thread-preserved g c =
     let texts : List (List ℕ) = map string_bytes c.loop-thread.answers.items in
     let text : List ℕ = string_bytes c.in_ok-join.field-0 in
     let step : into_iter_items c.loop-thread.thread-iterator ≡ c.in-Some.thread ∷ into_iter_items c.next.new.self = search rules in
-    let so_far = subst (λ ts. AreAttending i t0 all (map (λ h. h.promise) ts) texts) step c.loop-thread.invariant.attending in
+    let so_far = subst (λ ts. AreAttending i t0 all (map (λ h. h.promise) ts) texts) step c.loop-thread.invariant in
     let grown : map string_bytes c.push.new.self.items ≡ texts ++ text ∷ [] = ap (map string_bytes) c.in_ok-push.ensures.items ∙ map-append string_bytes c.loop-thread.answers.items (c.in_ok-join.field-0 ∷ []) in
-    record {
-      each = grind (arith, common_steps);
-      attending = subst (AreAttending i t0 all (map (λ h. h.promise) (into_iter_items c.next.new.self))) (sym grown) (one_attended i t0 all c.in-Some.thread.promise (map (λ h. h.promise) (into_iter_items c.next.new.self)) texts text so_far c.in_ok-join.ensures);
-    }
+    subst (AreAttending i t0 all (map (λ h. h.promise) (into_iter_items c.next.new.self))) (sym grown) (one_attended i t0 all c.in-Some.thread.promise (map (λ h. h.promise) (into_iter_items c.next.new.self)) texts text so_far c.in_ok-join.ensures)
 
 pub returns-clause-attended : goal.returns-clause-attended
 returns-clause-attended g c =
@@ -44,4 +38,4 @@ returns-clause-attended g c =
     let texts : List (List ℕ) = map string_bytes c.loop-thread.answers.items in
     let zero : length (into_iter_items c.loop-thread.thread-iterator) ≡ 0 = grind (arith, common_steps) in
     let none : into_iter_items c.loop-thread.thread-iterator ≡ [] = nil_from_length (into_iter_items c.loop-thread.thread-iterator) zero in
-    all_attended i t0 all texts (subst (λ ts. AreAttending i t0 all (map (λ h. h.promise) ts) texts) none c.loop-thread.invariant.attending)
+    all_attended i t0 all texts (subst (λ ts. AreAttending i t0 all (map (λ h. h.promise) ts) texts) none c.loop-thread.invariant)

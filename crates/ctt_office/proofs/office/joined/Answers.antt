@@ -8,4 +8,4 @@ loop-place-preserved g c =
     let seats = length c.args.threads.items in
     let left : c.next.new.self.count + length (into_iter_items c.next.new.self.iter) ≡ seats = grind (arith, common_steps) in
     let within : c.in-Some.place < seats = grind (arith, common_steps) in
-    (left, c.ended_also-ended.ensures seats within c.loop-place.invariant.1)
+    (left, c.ended_also-ended.ensures.fault seats within c.loop-place.invariant.1)

@@ -11,4 +11,4 @@ returns-in_err-desk-clause-fault g c =
 pub returns-clause-fault : goal.returns-clause-fault
 returns-clause-fault g c =
     let seats = length c.args.names.now in
-    c.close.ensures.fault seats (c.checked-ended.ensures seats c.seated-sat.ensures)
+    c.close.ensures.fault seats (c.checked-ended.ensures.fault seats c.seated-sat.ensures)

@@ -9,7 +9,7 @@ use Rattle.ctt_tool.proofs.desk.desk.Goals as goal
 pub returns-in_err-minutes-clause-cause : goal.returns-in_err-minutes-clause-cause
 returns-in_err-minutes-clause-cause g c =
     let failed = g.W.Sink.has_failed c.args.out.now in
-    let exist = c.in_err-minutes.ensures in
+    let exist = c.in_err-minutes.ensures.cause in
     passed_desk c.from_residual.result c.in_err-minutes.field-0.0 (λ told. IsOfDesk (g.F.Files.held c.args.files.now) c.args.instance c.args.barred c.args.seats.items c.args.start c.args.minutes told × (failed ≡ failed))
     c.from_residual.ensures.1 (subst IsPlain (sym exist.2) tt) (inl (inr exist), refl)
 

@@ -14,3 +14,6 @@ pub refused_opening-requires : goal.refused_opening-requires
 refused_opening-requires g c =
     let fit : Each (Fits c.args.instance.now) c.deref.result.now = subst (Each (Fits c.args.instance.now)) (sym c.deref.ensures.value) c.in_ok-lectures.ensures.fit in
     opening_faults_fit c.args.instance.now c.deref.result.now c.in-Err-Unlawful.at c.in-Err-Unlawful.fault fit (subst (IsUnlawful c.args.instance.now c.deref.result.now) c.in-Err-Unlawful.field-0-is c.in-Err-Unlawful.ensures.fault)
+
+pub returns-in-Err-NoPlace-clause-cause : goal.returns-in-Err-NoPlace-clause-cause
+returns-in-Err-NoPlace-clause-cause g c = absurd (subst (IsUnlawful c.args.instance.now c.deref.result.now) c.in-Err-NoPlace.field-0-is c.in-Err-NoPlace.ensures.fault)

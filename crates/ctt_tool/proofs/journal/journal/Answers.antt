@@ -1,8 +1,8 @@
-use Rattle.std.proofs.Common.{inl, refl, subst}
+use Rattle.std.proofs.Common.{inl, inr, refl, subst, ⊎_elim}
 use Rattle.std.proofs.lemmas.Result.{IfErr-weaker}
 use Rattle.ctt_text.specs.Problem.{Problem}
 use Rattle.ctt_files.proofs.Plain.{behind_instance, instance_in_plain, on_ok_weaker, passed_plain, unwritten_more}
-use Rattle.ctt_tool.specs.Lists.{PrintsEntries}
+use Rattle.ctt_tool.specs.Lists.{PrintsEntries, SaysTorn}
 use Rattle.ctt_tool.specs.Refusals.{IsOfMinutes, IsOfRecovery}
 use Rattle.ctt_tool.proofs.journal.journal.Goals as goal
 
@@ -25,3 +25,12 @@ pub returns-clause-cause : goal.returns-clause-cause
 returns-clause-cause g c =
     IfErr-weaker c.print_journal-printed.result _ _ (λ fault is. unwritten_more fault _ _ _ _ (λ marked. marked)
     (λ why. (behind_instance (IsOfMinutes c.args.minutes) _ _ c.args.instance c.args.barred c.in_ok-instance.instance fault c.in_ok-instance.ensures.spelled c.in_ok-instance.ensures.kept why.0, why.1)) is) c.print_journal-printed.ensures.cause
+
+pub returns-clause-says : goal.returns-clause-says
+returns-clause-says g c =
+    let problem : Problem = c.in_ok-instance.instance in
+    on_ok_weaker c.print_journal-printed.result _ _ (λ says. ⊎_elim inl (λ torn. inr (record {
+      problem = problem;
+      is_instance = c.in_ok-instance.ensures.spelled;
+      says = subst (λ held. SaysTorn problem c.args.minutes held (g.V.Sink.taken c.args.err.now) (g.V.Sink.taken c.print_journal-printed.new.err)) c.in_ok-instance.ensures.kept torn;
+    })) says) c.print_journal-printed.ensures.says

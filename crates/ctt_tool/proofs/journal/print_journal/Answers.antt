@@ -1,4 +1,4 @@
-use Rattle.std.proofs.Common.{◌∙◌, subst}
+use Rattle.std.proofs.Common.{◌∙◌, inl, inr, subst, ⊎_elim}
 use Rattle.std.proofs.lemmas.Option.{IfSome_then}
 use Rattle.std.specs.Io.KnownBytes.{Appends}
 use Rattle.std.specs.Prelude.{is_some}
@@ -14,3 +14,14 @@ returns-clause-prints g c =
       is_recovered = IfSome_then _ c.in_ok-text.ensures.all (λ text same. subst (λ bytes. IsRecovered c.args.instance.now bytes found.entries (is_some c.in_ok-journal.torn)) (c.deref.ensures.value ∙ same) found.is_recovered);
       prints = subst (Appends (g.W.Sink.taken c.args.out.now) (g.W.Sink.taken c.print.new.out)) (c.deref-2.ensures.value ∙ found.is) c.in_ok-print.ensures.printed;
     }
+
+pub returns-clause-says : goal.returns-clause-says
+returns-clause-says g c =
+    let found = c.in_ok-journal.ensures.journal in
+    ⊎_elim inl (λ said. inr (record {
+      entries = found.entries;
+      torn = c.in_ok-journal.torn;
+      is_recovered = IfSome_then _ c.in_ok-text.ensures.all (λ text same. subst (λ bytes. IsRecovered c.args.instance.now bytes found.entries (is_some c.in_ok-journal.torn)) (c.deref.ensures.value ∙ same) found.is_recovered);
+      is_behind = found.is_behind;
+      says = subst (Appends (g.V.Sink.taken c.args.err.now) (g.V.Sink.taken c.complain.new.err)) (c.as_bytes.ensures.value ∙ c.in_ok-line.ensures.text) said.1;
+    })) c.complain.ensures

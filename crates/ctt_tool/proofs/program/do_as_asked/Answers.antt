@@ -2,7 +2,8 @@ use Rattle.std.proofs.Common.{inl, inr, refl, rules, ⊎_elim}
 use Rattle.std.proofs.lemmas.Result.{IfErr-weaker, IfOk-weaker}
 use Rattle.ctt_words.specs.Jobs.{HasScripts}
 use Rattle.ctt_words.proofs.Given.{job_has_scripts}
-use Rattle.ctt_tool.proofs.Ends.{done_so}
+use Rattle.ctt_files.proofs.Plain.{on_ok_weaker}
+use Rattle.ctt_tool.proofs.Ends.{done_so, on_ok_too}
 use Rattle.ctt_tool.proofs.Known.{help_asked, help_caused, help_kept, help_not_one, job_caused, kept_weaker}
 use Rattle.ctt_tool.proofs.program.do_as_asked.Goals as goal
 
@@ -34,3 +35,12 @@ returns-in-Err-clause-taken g c = IfErr-weaker c.answer_words.result _ _ (λ tol
 
 pub returns-in-Err-clause-cause : goal.returns-in-Err-clause-cause
 returns-in-Err-clause-cause g c = IfErr-weaker c.answer_words.result _ _ (λ told of. help_caused _ (g.F.Files.held c.args.files.now) _ c.in-Err.fault told c.in-Err.ensures.fault of) c.answer_words.ensures.cause
+
+pub returns-in-Ok-clause-others : goal.returns-in-Ok-clause-others
+returns-in-Ok-clause-others g c = inr (c.in-Ok.job, c.in-Ok.ensures.job, c.do_job.ensures.others)
+
+pub returns-in-Ok-clause-says : goal.returns-in-Ok-clause-says
+returns-in-Ok-clause-says g c = on_ok_weaker c.do_job.result _ _ (λ says. ⊎_elim inl (λ said. inr (inr (c.in-Ok.job, c.in-Ok.ensures.job, said))) says) c.do_job.ensures.says
+
+pub returns-in-Err-clause-says : goal.returns-in-Err-clause-says
+returns-in-Err-clause-says g c = on_ok_too c.answer_words.result _ (inr (inl refl))

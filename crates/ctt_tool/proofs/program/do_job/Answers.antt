@@ -1,11 +1,14 @@
-use Rattle.std.proofs.Common.{◌≡◌, ◌⊎◌, inl, inr, ap, subst, sym, true, ⊎_elim}
+use Rattle.std.proofs.Common.{◌≡◌, ◌⊎◌, inl, inr, ap, refl, subst, sym, true, ⊎_elim}
 use Rattle.std.proofs.lemmas.Result.{IfErr-weaker, IfOk-weaker}
 use Rattle.ctt_files.specs.Faults.{IfUnwritten}
-use Rattle.ctt_tool.specs.Jobs.{Saying, Storing}
-use Rattle.ctt_tool.specs.Work.{DoesTask, IsOfTask}
-use Rattle.ctt_files.proofs.Plain.{unwritten_more}
-use Rattle.ctt_tool.proofs.Ends.{done_so}
+use Rattle.ctt_tool.specs.Jobs.{Saying, Storing, stored_by}
+use Rattle.ctt_tool.specs.Runs.{KeepOthers}
+use Rattle.ctt_tool.specs.Work.{DoesTask, IsOfTask, SaysOfTask}
+use Rattle.ctt_files.proofs.Plain.{on_ok_weaker, unwritten_more}
+use Rattle.ctt_tool.proofs.Desks.{all_kept}
+use Rattle.ctt_tool.proofs.Ends.{done_so, on_ok_too}
 use Rattle.ctt_tool.proofs.Known.{kept_weaker}
+use Rattle.ctt_tool.proofs.Offices.{last_said}
 use Rattle.ctt_tool.proofs.program.do_job.Goals as goal
 
 pub returns-in-Show-clause-cause : goal.returns-in-Show-clause-cause
@@ -55,7 +58,7 @@ returns-in-Crew-clause-done g c = done_so c.crew.result _ _ c.crew.ensures.done 
 
 pub returns-in-Desk-clause-done : goal.returns-in-Desk-clause-done
 returns-in-Desk-clause-done g c = done_so c.desk.result _ _ c.desk.ensures.done c.desk.ensures.tells
-    (λ outcome done does. subst (λ task. DoesTask c.args.job.instance c.args.job.barred task outcome (g.F.Files.held c.args.files.now) (g.F.Files.held c.desk.new.files) (g.W.Sink.taken c.args.out.now) (g.W.Sink.taken c.desk.new.out)) (sym c.in-Desk.is) (done, c.desk.ensures.kept, ⊎_elim (λ printed. inl (printed.0, (does.0, does.1, printed.1))) (λ seat. inr (seat.0, seat.1.1)) does.2))
+    (λ outcome done does. subst (λ task. DoesTask c.args.job.instance c.args.job.barred task outcome (g.F.Files.held c.args.files.now) (g.F.Files.held c.desk.new.files) (g.W.Sink.taken c.args.out.now) (g.W.Sink.taken c.desk.new.out)) (sym c.in-Desk.is) (done, c.desk.ensures.kept, ⊎_elim (λ printed. inl (printed.0, (does.0, does.1, printed.1.0))) (λ seat. inr (seat.0, seat.1.1)) does.2))
 
 pub returns-in-Journal-clause-done : goal.returns-in-Journal-clause-done
 returns-in-Journal-clause-done g c = done_so c.journal.result _ _ c.journal.ensures.done c.journal.ensures.prints
@@ -69,3 +72,47 @@ returns-in-Journal-clause-quiet g c = IfOk-weaker c.journal.result _ _ (λ outco
 
 pub returns-in-Run-clause-unstored : goal.returns-in-Run-clause-unstored
 returns-in-Run-clause-unstored g c = IfErr-weaker c.run.result _ _ (λ fault kept. kept_weaker fault _ _ _ _ (λ stored. (stored.0, subst Storing (sym c.in-Run.is) stored.1)) (λ same. same) kept) c.run.ensures.unstored
+
+pub returns-in-Show-clause-others : goal.returns-in-Show-clause-others
+returns-in-Show-clause-others g c = all_kept (stored_by c.args.job.task) _ _ c.show.ensures.kept
+
+pub returns-in-Audit-clause-others : goal.returns-in-Audit-clause-others
+returns-in-Audit-clause-others g c = all_kept (stored_by c.args.job.task) _ _ c.audit.ensures.kept
+
+pub returns-in-Crew-clause-others : goal.returns-in-Crew-clause-others
+returns-in-Crew-clause-others g c = all_kept (stored_by c.args.job.task) _ _ c.crew.ensures.kept
+
+pub returns-in-Desk-clause-others : goal.returns-in-Desk-clause-others
+returns-in-Desk-clause-others g c = all_kept (stored_by c.args.job.task) _ _ c.desk.ensures.kept
+
+pub returns-in-Journal-clause-others : goal.returns-in-Journal-clause-others
+returns-in-Journal-clause-others g c = all_kept (stored_by c.args.job.task) _ _ c.journal.ensures.kept
+
+pub returns-in-Listing-clause-others : goal.returns-in-Listing-clause-others
+returns-in-Listing-clause-others g c = all_kept (stored_by c.args.job.task) _ _ c.list.ensures.unstored
+
+pub returns-in-Run-clause-others : goal.returns-in-Run-clause-others
+returns-in-Run-clause-others g c = subst (λ task. KeepOthers (stored_by task) (g.F.Files.held c.args.files.now) (g.F.Files.held c.run.new.files)) (sym c.in-Run.is) c.run.ensures.others
+
+pub returns-in-Show-clause-says : goal.returns-in-Show-clause-says
+returns-in-Show-clause-says g c = on_ok_too c.show.result _ (inr (subst (λ task. SaysOfTask c.args.job.instance c.args.job.barred task (g.F.Files.held c.args.files.now) (g.V.Sink.taken c.args.err.now) (g.V.Sink.taken c.args.err.now)) (sym c.in-Show.is) refl))
+
+pub returns-in-Run-clause-says : goal.returns-in-Run-clause-says
+returns-in-Run-clause-says g c = on_ok_too c.run.result _ (inr (subst (λ task. SaysOfTask c.args.job.instance c.args.job.barred task (g.F.Files.held c.args.files.now) (g.V.Sink.taken c.args.err.now) (g.V.Sink.taken c.args.err.now)) (sym c.in-Run.is) refl))
+
+pub returns-in-Audit-clause-says : goal.returns-in-Audit-clause-says
+returns-in-Audit-clause-says g c = on_ok_too c.audit.result _ (inr (subst (λ task. SaysOfTask c.args.job.instance c.args.job.barred task (g.F.Files.held c.args.files.now) (g.V.Sink.taken c.args.err.now) (g.V.Sink.taken c.args.err.now)) (sym c.in-Audit.is) refl))
+
+pub returns-in-Crew-clause-says : goal.returns-in-Crew-clause-says
+returns-in-Crew-clause-says g c = on_ok_too c.crew.result _ (inr (subst (λ task. SaysOfTask c.args.job.instance c.args.job.barred task (g.F.Files.held c.args.files.now) (g.V.Sink.taken c.args.err.now) (g.V.Sink.taken c.args.err.now)) (sym c.in-Crew.is) refl))
+
+pub returns-in-Listing-clause-says : goal.returns-in-Listing-clause-says
+returns-in-Listing-clause-says g c = on_ok_too c.list.result _ (inr (subst (λ task. SaysOfTask c.args.job.instance c.args.job.barred task (g.F.Files.held c.args.files.now) (g.V.Sink.taken c.args.err.now) (g.V.Sink.taken c.args.err.now)) (sym c.in-Listing.is) refl))
+
+pub returns-in-Desk-clause-says : goal.returns-in-Desk-clause-says
+returns-in-Desk-clause-says g c = on_ok_weaker c.desk.result _ _
+    (λ tells. inr (subst (λ task. SaysOfTask c.args.job.instance c.args.job.barred task (g.F.Files.held c.args.files.now) (g.V.Sink.taken c.args.err.now) (g.V.Sink.taken c.desk.new.err)) (sym c.in-Desk.is) (last_said _ _ c.in-Desk.seats.items _ _ _ _ _ _ tells))) c.desk.ensures.tells
+
+pub returns-in-Journal-clause-says : goal.returns-in-Journal-clause-says
+returns-in-Journal-clause-says g c = on_ok_weaker c.journal.result _ _
+    (λ says. ⊎_elim inl (λ torn. inr (subst (λ task. SaysOfTask c.args.job.instance c.args.job.barred task (g.F.Files.held c.args.files.now) (g.V.Sink.taken c.args.err.now) (g.V.Sink.taken c.journal.new.err)) (sym c.in-Journal.is) torn)) says) c.journal.ensures.says

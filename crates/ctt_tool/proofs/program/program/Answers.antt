@@ -67,3 +67,9 @@ returns-in-Err-clause-taken g c = λ one. c.in-Err.ensures.taken (one_is_of_faul
 
 pub returns-in-Err-clause-unprinted : goal.returns-in-Err-clause-unprinted
 returns-in-Err-clause-unprinted g c = λ two. unprinted_two c.in-Err.fault _ c.in-Err.ensures.unwritten (two_is_of_fault c.in-Err.fault c.fail_with.result c.fail_with.ensures.status two)
+
+pub returns-in-Ok-clause-says : goal.returns-in-Ok-clause-says
+returns-in-Ok-clause-says g c = λ zero. c.in-Ok.ensures.says
+
+pub returns-in-Err-clause-says : goal.returns-in-Err-clause-says
+returns-in-Err-clause-says g c = λ zero. absurd (omega (arith, c.fail_with.ensures.told.0, zero))

@@ -4,6 +4,7 @@ use Rattle.ctt_text.specs.Problem.{Problem}
 use Rattle.ctt_files.proofs.Plain.{behind_instance, instance_in_plain, on_ok_weaker, passed_plain, unwritten_more}
 use Rattle.ctt_tool.specs.Refusals.{IsOfRun, IsOfScript}
 use Rattle.ctt_tool.specs.Runs.{RunsOn}
+use Rattle.ctt_tool.proofs.Desks.{others_kept}
 use Rattle.ctt_tool.proofs.Known.{kept_weaker}
 use Rattle.ctt_tool.proofs.run.run.Goals as goal
 
@@ -30,3 +31,6 @@ pub returns-clause-cause : goal.returns-clause-cause
 returns-clause-cause g c =
     IfErr-weaker c.run_on-done.result _ _ (λ fault is. unwritten_more fault _ _ _ _ (λ marked. marked)
     (λ why. (behind_instance (IsOfScript c.args.script c.args.start) _ _ c.args.instance c.args.barred c.in_ok-instance.instance fault c.in_ok-instance.ensures.spelled c.in_ok-instance.ensures.kept why.0, why.1)) is) c.run_on-done.ensures.cause
+
+pub returns-clause-others : goal.returns-clause-others
+returns-clause-others g c = others_kept c.args.journal _ _ _ c.in_ok-instance.ensures.kept c.run_on-done.ensures.others

@@ -14,7 +14,7 @@ use Rattle.ctt_files.specs.Texts.{Held, Holds, IsStart}
 use Rattle.ctt_files.proofs.Plain.{on_ok_weaker, passed_on, passed_plain, start_plain, unwritten_more}
 use Rattle.ctt_tool.specs.Jobs.{IsGiven}
 use Rattle.ctt_tool.specs.Refusals.{IsOfScript}
-use Rattle.ctt_tool.proofs.Desks.{answer_in, journal_stored, minutes_stored, told_through}
+use Rattle.ctt_tool.proofs.Desks.{answer_in, journal_stored, minutes_stored, others_kept, told_through}
 use Rattle.ctt_tool.proofs.run.run_on.Goals as goal
 
 pub answer-requires : goal.answer-requires
@@ -65,3 +65,6 @@ returns-clause-runs g c =
 pub returns-clause-cause : goal.returns-clause-cause
 returns-clause-cause g c =
     IfErr-weaker c.store_journal.result _ _ (λ fault is. unwritten_more fault _ _ _ _ inr (λ why. (inl (inr why.0), c.in_ok-_desk.ensures.unmarked)) is) c.store_journal.ensures.fault
+
+pub returns-clause-others : goal.returns-clause-others
+returns-clause-others g c = others_kept c.args.journal _ _ _ (c.in_ok-lectures.ensures.kept ∙ c.in-Ok.ensures.kept) c.store_journal.ensures.others

@@ -1,5 +1,4 @@
 use Rattle.std.proofs.Common.{rules, sym, subst}
-use Rattle.ctt_office.specs.Lines.{coming}
 use Rattle.ctt_office.proofs.NextLemmas.{IsPast, all_behind, ends_behind, forgets, none_taken, reads_on}
 use Rattle.ctt_office.proofs.line_reader.LineReader.pass_long.Goals as goal
 

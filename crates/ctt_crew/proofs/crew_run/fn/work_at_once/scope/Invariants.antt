@@ -1,10 +1,8 @@
-use Rattle.std.proofs.Common.{◌≡◌, ◌+◌, ◌++◌, length, map}
+use Rattle.std.proofs.Common.{◌≡◌, ◌++◌, map}
 use Rattle.std.specs.Vec.Iter.{into_iter_items}
 use Rattle.ctt_crew.proofs.crew_run.fn.work_at_once.scope.Given as goal
 
 -- each planner is at work on a thread that promises his answers, or is still to be
 abbrev pub invariant-loop-planner : goal.invariant-loop-planner
-invariant-loop-planner g l = record {
-  each : length l.threads.items + length (into_iter_items l.planner-iterator) ≡ length (into_iter_items l.initial.planner-iterator);
-  promised : map (λ h. h.promise) l.threads.items ++ map (λ w. (w.0, w.1.script.now)) (into_iter_items l.planner-iterator) ≡ map (λ w. (w.0, w.1.script.now)) (into_iter_items l.initial.planner-iterator);
-}
+invariant-loop-planner g l =
+    map (λ h. h.promise) l.threads.items ++ map (λ w. (w.0, w.1.script.now)) (into_iter_items l.planner-iterator) ≡ map (λ w. (w.0, w.1.script.now)) (into_iter_items l.initial.planner-iterator)
