@@ -7,6 +7,5 @@ mod PagesLemmas
 mod PartLemmas
 mod PassLemmas
 mod RecoveryLemmas
-mod SeatLemmas
 mod SharingLemmas
 mod SittingLemmas

@@ -1,9 +1,9 @@
 //! A desk with its seats, from its opening until all have left.
 
-ghost use Rattle.std.specs.Prelude.{◌≡◌, ◌≤◌, ◌<◌, ◌+◌, ℕ, Ok, length, map, IfErr, IfOk, OnOk, string_bytes};
+ghost use Rattle.std.specs.Prelude.{◌≡◌, ◌≤◌, ◌<◌, ◌+◌, ℕ, [], Ok, length, map, IfErr, IfOk, OnOk, string_bytes};
 ghost use Rattle.ctt_desk.specs.Names.{IsNamed};
 ghost use Rattle.ctt_desk.specs.Planners.{new_planners};
-ghost use Rattle.ctt_crew.specs.CrewText.{IsCrewText};
+ghost use Rattle.ctt_crew.specs.Attended.{IsCrewText};
 ghost use Rattle.ctt_office.specs.OfficeFaults.{IsOfficeFault, first_fault};
 ghost use Rattle.ctt_office.specs.declared.office_fault.OfficeFault.TheVariants.{NoMemory as OutOfMemory};
 
@@ -179,7 +179,7 @@ fn last_lines<S: Timetable, J: Naming>(
     closed: &Closed<S, J>,
     ended: Result<(), OfficeFault>,
 ) -> Result<Vec<u8>, OfficeFault>
-    ensures text { IfOk result (λ text. IsCrewText J.problem J.opening 0 text.items) }
+    ensures text { IfOk result (λ text. IsCrewText J.problem J.opening [] text.items) }
     ensures well { OnOk result (ended ≡ Ok tt) }
     ensures fault { (seats : ℕ) → IfErr ended (IsOfficeFault seats)
         → IfErr result (IsOfficeFault seats) }
@@ -195,7 +195,7 @@ fn close<S: Timetable, J: Naming, R: Wait>(
     desk: SharedDesk<S, J>,
     ended: Result<(), OfficeFault>,
 ) -> Result<Vec<u8>, OfficeFault>
-    ensures text { IfOk result (λ text. IsCrewText J.problem J.opening 0 text.items) }
+    ensures text { IfOk result (λ text. IsCrewText J.problem J.opening [] text.items) }
     ensures well { OnOk result (ended ≡ Ok tt) }
     ensures fault { (seats : ℕ) → IfErr ended (IsOfficeFault seats)
         → IfErr result (IsOfficeFault seats) }
@@ -245,7 +245,7 @@ fn keep_named<'i, J: Naming + Send + Sync, D: Doors, W: Durable + Send, R: Threa
     requires named { IsNamed J.problem J.opening J.planners J.book opened count }
     requires problem { opened.problem ≡ instance.now }
     requires counted { length names.now ≡ count }
-    ensures text { IfOk result (λ text. IsCrewText J.problem J.opening 0 text.items) }
+    ensures text { IfOk result (λ text. IsCrewText J.problem J.opening [] text.items) }
     ensures fault { IfErr result (IsOfficeFault (length names.now)) }
 {
     let named = Named {
@@ -276,7 +276,7 @@ pub fn keep_desk<'i, D: Doors, W: Durable + Send, R: Threads + Wait + Sync>(
     requires problem { opened.problem ≡ instance.now }
     requires some { 1 ≤ length names.now }
     requires few { length names.now ≤ 64 }
-    ensures text { IfOk result (λ text. IsCrewText instance.now opened.entry.list 0 text.items) }
+    ensures text { IfOk result (λ text. IsCrewText instance.now opened.entry.list [] text.items) }
     ensures fault { IfErr result (IsOfficeFault (length names.now)) }
 {
     let count = names.len() as u16;

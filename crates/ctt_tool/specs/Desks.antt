@@ -1,12 +1,12 @@
 -- What the command `desk` prints, and which texts it refuses.
-use Rattle.std.specs.Prelude.{◌≡◌, ◌⊎◌, ℕ, false, true, List, Option, Ok}
+use Rattle.std.specs.Prelude.{◌≡◌, ◌⊎◌, ℕ, false, true, List, [], Option, Ok}
 use Rattle.std.specs.Global.{Global}
 use Rattle.std.specs.Io.KnownBytes.{Appends}
 use Rattle.std.specs.declared.string.String.{String}
 use Rattle.ctt_text.specs.Problem.{Problem}
 use Rattle.ctt_text.specs.declared.placed.Placed.{Placed}
 use Rattle.ctt_edits.specs.Openings.{opening}
-use Rattle.ctt_crew.specs.CrewText.{IsCrewText}
+use Rattle.ctt_crew.specs.Attended.{IsCrewText}
 use Rattle.ctt_files.specs.Texts.{Held, IsInstanceIn, IsStart}
 use Rattle.ctt_tool.specs.Seats.{has_standard}
 
@@ -20,7 +20,7 @@ pub record IsOpenOn (problem : Problem) (start : Option (String Global)) (held :
 pub record IsOfDeskFrom (problem : Problem) (start : Option (String Global)) (held : Held) (bytes : List ℕ) : Type 0 where
   pub t0 : List Placed
   pub opens : IsOpenOn problem start held t0
-  pub is_last : IsCrewText problem t0 0 bytes
+  pub is_last : IsCrewText problem t0 [] bytes
 
 -- the same, of the instance in a file
 pub record IsOfDeskOn (instance : String Global) (barred start : Option (String Global)) (held : Held) (bytes : List ℕ) : Type 0 where

@@ -37,7 +37,7 @@ DoesTask instance barred (Run script start journal) outcome before after old new
 DoesTask instance barred (Audit journal start) outcome before after old new = (after ≡ before)
     × AuditsJournal instance barred journal start outcome before old new
 DoesTask instance barred (Crew scripts) outcome before after old new = (outcome ≡ Done)
-    × (after ≡ before) × PrintsCrew instance barred (length scripts.items) before old new
+    × (after ≡ before) × PrintsCrew instance barred scripts.items before old new
 DoesTask instance barred (Desk seats start minutes) outcome before after old new = (outcome ≡ Done)
     × (after ≡ before) × PrintsLast instance barred seats.items start before old new
 DoesTask instance barred (Journal minutes) outcome before after old new = (outcome ≡ Done)

@@ -1,9 +1,10 @@
 //! The command `crew`.
 
-ghost use Rattle.std.specs.Prelude.{◌≡◌, ◌≤◌, ◌<◌, [], Err, length, true, OnOk, IfOk, IfErr};
-ghost use Rattle.ctt_crew.specs.CrewText.{IsCrewText};
+ghost use Rattle.std.specs.Prelude.{◌≡◌, ◌≤◌, ◌<◌, ℕ, List, [], Err, length, map, true, OnOk, IfOk, IfErr};
+ghost use Rattle.ctt_crew.specs.Attended.{IsCrewText};
 ghost use Rattle.ctt_files.specs.Faults.{IfUnwritten};
 ghost use Rattle.ctt_files.specs.Refusals.{IsOfInstanceOr};
+ghost use Rattle.ctt_files.specs.Texts.{HoldInTurn};
 ghost use Rattle.ctt_files.specs.declared.fault.Fault.TheVariants.{TooManyScripts};
 ghost use Rattle.ctt_files.specs.declared.outcome.Outcome.TheVariants.{Done};
 ghost use Rattle.ctt_tool.specs.Crews.{IsOfCrewOn, PrintsCrew};
@@ -42,7 +43,7 @@ fn answers<R: Threads + Wait + Sync>(
     requires some { 1 ≤ length texts.now }
     requires few { length texts.now ≤ 64 }
     ensures crew { IfOk result (λ bytes.
-        IsCrewText instance.now [] (length texts.now) bytes.items) }
+        IsCrewText instance.now [] (map (λ t. t.items) texts.now) bytes.items) }
     ensures cause { IfErr result IsOfWork }
 {
     let mut scripts: Vec<&[u8]> = Vec::with_capacity(alloc, texts.len())?;
@@ -65,8 +66,9 @@ fn answers_on<R: Threads + Wait + Sync, F: Files>(
 ) -> Result<Vec<u8>, Fault>
     requires some { 1 ≤ length scripts.items }
     requires few { length scripts.items ≤ 64 }
-    ensures crew { IfOk result (λ bytes.
-        IsCrewText instance.now [] (length scripts.items) bytes.items) }
+    ensures crew { IfOk result (λ bytes. (texts : List (List ℕ))
+        × HoldInTurn (F.held files.old) scripts.items texts
+        × IsCrewText instance.now [] texts bytes.items) }
     ensures kept { F.held files.new ≡ F.held files.old }
     ensures cause { IfErr result (IsOfScripts scripts.items (F.held files.old) instance.now) }
 {
@@ -87,7 +89,7 @@ fn report<R: Threads + Wait + Sync, F: Files>(
     requires some { 1 ≤ length scripts.items }
     requires few { length scripts.items ≤ 64 }
     ensures crew { IfOk result (λ bytes.
-        IsOfCrewOn instance barred (length scripts.items) (F.held files.old) bytes.items) }
+        IsOfCrewOn instance barred scripts.items (F.held files.old) bytes.items) }
     ensures kept { F.held files.new ≡ F.held files.old }
     ensures cause { IfErr result
         (IsOfInstanceOr (IsOfScripts scripts.items) (F.held files.old) instance barred) }
@@ -112,8 +114,8 @@ pub fn crew<R: Threads + Wait + Sync, F: Files, W: Sink>(
 ) -> Result<Outcome, Fault>
     requires { 1 ≤ length scripts.items }
     ensures prints { OnOk result
-        (PrintsCrew instance barred (length scripts.items) (F.held files.old)
-        (W.taken out.old) (W.taken out.new)) }
+        (PrintsCrew instance barred scripts.items (F.held files.old) (W.taken out.old)
+        (W.taken out.new)) }
     ensures done { IfOk result (λ outcome. outcome ≡ Done) }
     ensures many { 64 < length scripts.items → result ≡ Err TooManyScripts }
     ensures kept { F.held files.new ≡ F.held files.old }

@@ -6,6 +6,6 @@ use Rattle.ctt_office.proofs.office.stations.Given as goal
 -- each planner has a seat, in their order, by the next name and with the book, and as many are left of both
 abbrev pub invariant-loop-planner : goal.invariant-loop-planner
 invariant-loop-planner g l = (length l.seats.items + length (iter_rest l.planner-iterator.b) ≡ length l.names) × (length (into_iter_items l.planner-iterator.a) ≡ length (iter_rest l.planner-iterator.b))
-    × (map (λ s. s.0) l.seats.items ++ into_iter_items l.planner-iterator.a ≡ l.fn.planners.items)
+    × (map (λ s. s.0) l.seats.items ++ map (λ p. p) (into_iter_items l.planner-iterator.a) ≡ l.fn.planners.items)
     × (map (λ s. s.1.name.now) l.seats.items ++ map string_bytes (iter_rest l.planner-iterator.b) ≡ map string_bytes l.names)
     × (map (λ s. s.1.book) l.seats.items ≡ map (λ _. l.book) l.seats.items)

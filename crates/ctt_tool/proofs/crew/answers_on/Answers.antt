@@ -1,6 +1,6 @@
-use Rattle.std.proofs.Common.{◌≤◌, ◌∙◌, [], ap, inl, inr, length, subst, sym, IfOk}
-use Rattle.std.proofs.lemmas.Result.{IfErr-weaker}
-use Rattle.ctt_crew.specs.CrewText.{IsCrewText}
+use Rattle.std.proofs.Common.{◌≤◌, ◌∙◌, [], ap, inl, inr, length, map, subst, sym}
+use Rattle.std.proofs.lemmas.Result.{IfErr-weaker, IfOk-weaker}
+use Rattle.ctt_crew.specs.Attended.{IsCrewText}
 use Rattle.ctt_files.proofs.Plain.{passed_on}
 use Rattle.ctt_tool.specs.Refusals.{IsOfScripts}
 use Rattle.ctt_tool.proofs.crew.answers_on.Goals as goal
@@ -16,8 +16,11 @@ returns-in_err-texts-clause-cause g c =
     passed_on c.from_residual.result c.in_err-texts.field-0.0 (IsOfScripts c.args.scripts.items (g.F.Files.held c.args.files.now) c.args.instance.now) c.from_residual.ensures.1 (inl c.in_err-texts.ensures.cause)
 
 pub returns-clause-crew : goal.returns-clause-crew
-returns-clause-crew g c =
-    subst (λ n. IfOk c.answers.result (λ bytes. IsCrewText c.args.instance.now [] n bytes.items)) (ap length c.deref.ensures.value ∙ c.in_ok-texts.ensures.each) c.answers.ensures.crew
+returns-clause-crew g c = IfOk-weaker c.answers.result _ _ (λ bytes is. (
+  map (λ t. t.items) c.in_ok-texts.texts.items,
+  c.in_ok-texts.ensures.all,
+  subst (λ ts. IsCrewText c.args.instance.now [] (map (λ t. t.items) ts) bytes.items) c.deref.ensures.value is,
+)) c.answers.ensures.crew
 
 pub returns-clause-cause : goal.returns-clause-cause
 returns-clause-cause g c = IfErr-weaker c.answers.result _ _ (λ fault is. inr is) c.answers.ensures.cause

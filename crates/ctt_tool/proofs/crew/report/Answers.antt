@@ -1,6 +1,7 @@
-use Rattle.std.proofs.Common.{inl}
+use Rattle.std.proofs.Common.{inl, subst}
 use Rattle.std.proofs.lemmas.Result.{IfErr-weaker, IfOk-weaker}
 use Rattle.ctt_files.specs.Refusals.{IsOfInstanceOr}
+use Rattle.ctt_files.specs.Texts.{HoldInTurn}
 use Rattle.ctt_files.proofs.Plain.{behind_instance, passed_on}
 use Rattle.ctt_tool.specs.Refusals.{IsOfScripts}
 use Rattle.ctt_tool.proofs.crew.report.Goals as goal
@@ -13,7 +14,9 @@ pub returns-clause-crew : goal.returns-clause-crew
 returns-clause-crew g c = IfOk-weaker c.answers_on-answers.result _ _ (λ bytes is. record {
   problem = c.in_ok-instance.instance;
   is_instance = c.in_ok-instance.ensures.spelled;
-  is_crew = is;
+  texts = is.0;
+  hold = subst (λ held. HoldInTurn held c.args.scripts.items is.0) c.in_ok-instance.ensures.kept is.1;
+  is_crew = is.2;
 }) c.answers_on-answers.ensures.crew
 
 pub returns-clause-cause : goal.returns-clause-cause
