@@ -1,12 +1,13 @@
 -- Marks in rows.
-use Rattle.std.proofs.Common.{◌≡◌, ◌≢◌, ℕ, suc, ◌+◌, ◌-◌, ◌*◌, ◌/◌, ◌%◌, ◌^◌, ◌<◌, ◌≤◌, Bool, true, false, cond, ◌==◌, ◌&&◌, List, length, take, drop, get_or, refl, ◌∙◌, sym, ap, ap₂, arith, w64, inl, inr}
+use Rattle.std.proofs.Common.{◌≡◌, ◌≢◌, ℕ, suc, ◌+◌, ◌-◌, ◌*◌, ◌/◌, ◌%◌, ◌^◌, ◌<◌, ◌≤◌, Bool, true, false, cond, ◌==◌, ◌&&◌, List, length, take, drop, get_or, refl, ◌∙◌, sym, ap, ap₂, subst, arith, w64, inl, inr}
 use Rattle.std.specs.Prelude.{replicate, slice_set, bit_and, bit_or}
 use Rattle.std.specs.Int.{bit_at, bit_not}
 use Rattle.std.proofs.lemmas.Bool.{cases_eq, cases_lt, cases_order, eq-eqb, ne_eqb}
 use Rattle.std.proofs.lemmas.List.{get_or-take, get_or-drop, length-take, length-set}
 use Rattle.std.proofs.Math.Nat.{mul-le-mul_right}
 use Rattle.ctt_text.specs.Marks.{is_marked}
-use Rattle.ctt_text.proofs.MarkLemmas.{none_marked, past_words}
+use Rattle.ctt_text.proofs.TableLemmas.{same_element}
+use Rattle.ctt_text.proofs.MarkLemmas.{none_marked, past_words, read_mark}
 use Rattle.ctt_board.specs.MarkRows.{RowsOfMarks, words_for, words_of, is_marked_in, AreRowsOfMarks, SetsMark}
 use Rattle.ctt_board.proofs.BitLemmas.{marked_set, marked_clear}
 
@@ -87,6 +88,15 @@ module _ (rows numbers row number : ℕ) (words : List ℕ) (less : row < rows) 
 
   low : number % 64 ≡ ((row * words_for numbers) * 64 + number) % 64
   low = omega arith
+
+  -- the word of the number, as it is read with any width of a row and any default
+  pub word_read : (width d w : ℕ) → width ≡ words_for numbers → w ≡ get_or words (row * width + number / 64) d → w ≡ get_or words (row * words_for numbers + number / 64) 0
+  word_read width d w e is = subst (λ k. w ≡ get_or words (row * k + number / 64) 0) e (is ∙ same_element words (row * width + number / 64) d 0 (subst (λ k. row * k + number / 64 < length words) (sym e) there))
+
+  pub mark_is : (w : ℕ) → w ≡ get_or words (row * words_for numbers + number / 64) 0 → (bit_and (w / 2 ^ (number % 64)) 1 == 1) ≡ is_marked_in (rows_of rows numbers words) row number
+  mark_is w is =
+      ap₂ (λ v b. bit_and (v / 2 ^ b) 1 == 1) (is ∙ ap (λ k. get_or words k 0) word) low ∙ read_mark words ((row * words_for numbers) * 64 + number)
+      ∙ sym (in_row (rows_of rows numbers words) row number (omega (arith, lt)))
 
   pub mark_sets : (w : ℕ) → w ≡ get_or words (row * words_for numbers + number / 64) 0 → SetsMark (rows_of rows numbers words) (rows_of rows numbers (slice_set words (row * words_for numbers + number / 64) (bit_or w (1 * 2 ^ (number % 64) % 2 ^ 64)))) row number true
   mark_sets w is = sets true (slice_set words (row * words_for numbers + number / 64) (bit_or w (1 * 2 ^ (number % 64) % 2 ^ 64))) (marked_set words ((row * words_for numbers) * 64 + number) (row * words_for numbers + number / 64) (number % 64) w word low there is)

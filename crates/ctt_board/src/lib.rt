@@ -30,5 +30,5 @@ pub use change::Change;
 pub use clashes::{first_clash, first_clash_without};
 pub use grid_sheet::GridSheet;
 pub use list_sheet::ListSheet;
+pub use mark_rows::MarkRows;
 pub use sheet::{Rooms, Sheet, Timetable};
-pub use table::Table;

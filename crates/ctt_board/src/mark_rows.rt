@@ -11,7 +11,7 @@ use std::marker::Model;
 /// Which of so many numbers are marked, in each row anew. A row has as many words as its numbers need, and
 /// all lie one behind the other.
 #[derive(Drop)]
-pub(crate) struct MarkRows {
+pub struct MarkRows {
     rows: usize,
     /// How many numbers a row has.
     numbers: usize,
@@ -39,7 +39,7 @@ fn words_for(numbers: usize) -> usize
 
 impl MarkRows {
     /// No number is marked.
-    pub(crate) fn new(alloc: Global, rows: usize, numbers: usize) -> Result<Self, AllocError>
+    pub fn new(alloc: Global, rows: usize, numbers: usize) -> Result<Self, AllocError>
         requires rows { rows ≤ 2000 }
         requires numbers { numbers ≤ 2000 }
         ensures size { IfOk result (λ m. (m.rows ≡ rows) × (m.numbers ≡ numbers)) }
@@ -54,7 +54,7 @@ impl MarkRows {
     }
 
     /// Marks a number of a row.
-    pub(crate) fn mark(&mut self, row: usize, number: usize)
+    pub fn mark(&mut self, row: usize, number: usize)
         requires row { row < self.old.rows }
         requires number { number < self.old.numbers }
         ensures { SetsMark self.old self.new row number true }
@@ -63,8 +63,18 @@ impl MarkRows {
         self.words[place] |= 1 << (number % 64);
     }
 
+    /// Whether a number of a row is marked.
+    pub fn has(&self, row: usize, number: usize) -> bool
+        requires row { row < self.now.rows }
+        requires number { number < self.now.numbers }
+        ensures { result ≡ is_marked_in self.now row number }
+    {
+        let place = row * words_for(self.numbers) + number / 64;
+        (self.words[place] >> (number % 64)) & 1 == 1
+    }
+
     /// Takes the mark from a number of a row.
-    pub(crate) fn unmark(&mut self, row: usize, number: usize)
+    pub fn unmark(&mut self, row: usize, number: usize)
         requires row { row < self.old.rows }
         requires number { number < self.old.numbers }
         ensures { SetsMark self.old self.new row number false }

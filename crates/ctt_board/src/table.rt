@@ -7,7 +7,7 @@ use std::marker::Model;
 
 /// A value for each row and column.
 #[derive(Drop)]
-pub struct Table<T> {
+pub(crate) struct Table<T> {
     rows: usize,
     width: usize,
     cells: Vec<T>,
@@ -28,7 +28,12 @@ impl<T> Model for Table<T> {
 
 impl<T: Copy> Table<T> {
     /// The same value everywhere.
-    pub fn new(alloc: Global, rows: usize, width: usize, value: T) -> Result<Self, AllocError>
+    pub(crate) fn new(
+        alloc: Global,
+        rows: usize,
+        width: usize,
+        value: T,
+    ) -> Result<Self, AllocError>
         requires { rows * width ≤ 100000000 }
         ensures rows { IfOk result (λ t. (t.rows ≡ rows) × (t.width ≡ width)) }
         ensures size { IfOk result (λ t. length t.cells ≡ rows * width) }
@@ -41,7 +46,7 @@ impl<T: Copy> Table<T> {
     }
 
     /// What stands in a row and a column.
-    pub fn get(&self, row: usize, column: usize) -> T
+    pub(crate) fn get(&self, row: usize, column: usize) -> T
         requires row { row < self.now.rows }
         requires column { column < self.now.width }
         ensures { (d : T) → result ≡ at self.now row column d }
@@ -51,7 +56,7 @@ impl<T: Copy> Table<T> {
 
     /// What stands in a row, column by column.
     #[tactic(auto, using(crate::proofs::TableLemmas::row_inside))]
-    pub fn row(&self, row: usize) -> &[T]
+    pub(crate) fn row(&self, row: usize) -> &[T]
         requires { row < self.now.rows }
         ensures width { length result.now ≡ self.now.width }
         ensures cells { (column : ℕ) (d : T) → column < self.now.width
@@ -62,7 +67,7 @@ impl<T: Copy> Table<T> {
     }
 
     /// Lets a value stand in a row and a column.
-    pub fn set(&mut self, row: usize, column: usize, value: T)
+    pub(crate) fn set(&mut self, row: usize, column: usize, value: T)
         requires row { row < self.old.rows }
         requires column { column < self.old.width }
         ensures rows { self.new.rows ≡ self.old.rows }
@@ -74,7 +79,7 @@ impl<T: Copy> Table<T> {
     }
 
     /// An equal table.
-    pub fn copy(&self) -> Result<Self, AllocError>
+    pub(crate) fn copy(&self) -> Result<Self, AllocError>
         ensures { IfOk result (λ t. t ≡ self.now) }
     {
         Ok(Table {

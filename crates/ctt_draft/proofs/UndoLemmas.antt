@@ -13,7 +13,7 @@ use Rattle.ctt_text.specs.Timetable.{IsTimetable}
 use Rattle.ctt_text.specs.declared.placed.Placed.{Placed}
 use Rattle.ctt_board.specs.Changes.{room_at, room_by, apply, apply_all, ChangesFit}
 use Rattle.ctt_board.specs.declared.cell.Cell.{Cell}
-use Rattle.ctt_board.specs.Tables.{Grid, at}
+use Rattle.ctt_board.specs.MarkRows.{RowsOfMarks, is_marked_in, SetsMark}
 use Rattle.ctt_board.proofs.CellLemmas.{cell_at}
 use Rattle.ctt_board.proofs.RoomLemmas.{rooms_after}
 use Rattle.ctt_board.proofs.GridLemmas.{timetable_is, rows_same}
@@ -150,18 +150,16 @@ undo_made i changes base (x ∷ xs) h = undo_more i changes base (x ∷ xs) h
 pub undo_puts_back : UndoPutsBack
 undo_puts_back i base changes h fit = put_back_is i base (apply_all changes base) (undo_of base changes) h (undo_records i changes base fit)
 
--- a table from which cells are taken, one by one, still tells of the others
-pub forgotten : (cells : List Cell) (k : ℕ) (x : Cell) (old new : Grid Bool) → k < length cells → x ≡ get_or cells k x → new.rows ≡ old.rows → new.width ≡ old.width →
-    ((c s : ℕ) → s < old.width → at new c s false ≡ cond (c == x.course && s == x.slot) false (at old c s false)) →
-    ((c s : ℕ) → c < old.rows → s < old.width → at old c s false ≡ true → is_named c s (drop k cells) ≡ true) →
-    (c s : ℕ) → c < new.rows → s < new.width → at new c s false ≡ true → is_named c s (drop (k + 1) cells) ≡ true
-forgotten cells k x old new lt is rows width wrote rest c s lc ls e =
-    let le : s < old.width = omega (arith, ls, width) in
+-- marks that are taken from cells, one by one, still tell of the others
+pub forgotten : (cells : List Cell) (k : ℕ) (x : Cell) (old new : RowsOfMarks) → k < length cells → x ≡ get_or cells k x → SetsMark old new x.course x.slot false →
+    ((c s : ℕ) → c < old.rows → s < old.numbers → is_marked_in old c s ≡ true → is_named c s (drop k cells) ≡ true) →
+    (c s : ℕ) → c < new.rows → s < new.numbers → is_marked_in new c s ≡ true → is_named c s (drop (k + 1) cells) ≡ true
+forgotten cells k x old new lt is set rest c s lc ls e =
     elim (cases_Bool (c == x.course && s == x.slot)) [
-      | inl y ↦ absurd (let bad : true ≡ false = sym e ∙ wrote c s le ∙ ap (λ b. cond b false (at old c s false)) y in cc)
+      | inl y ↦ absurd (let bad : true ≡ false = sym e ∙ set.marks c s ∙ ap (λ b. cond b false (is_marked_in old c s)) y in cc)
       | inr n ↦ (
-          let there : at old c s false ≡ true = sym (ap (λ b. cond b false (at old c s false)) n) ∙ sym (wrote c s le) ∙ e in
-          let named : (is_of c s x || is_named c s (drop (k + 1) cells)) ≡ true = subst (λ ys. is_named c s ys ≡ true) (cell_at cells k x lt is) (rest c s (omega (arith, lc, rows)) le there) in
+          let there : is_marked_in old c s ≡ true = sym (ap (λ b. cond b false (is_marked_in old c s)) n) ∙ sym (set.marks c s) ∙ e in
+          let named : (is_of c s x || is_named c s (drop (k + 1) cells)) ≡ true = subst (λ ys. is_named c s ys ≡ true) (cell_at cells k x lt is) (rest c s (omega (arith, lc, set.rows)) (omega (arith, ls, set.numbers)) there) in
           later (is_of c s x) (is_named c s (drop (k + 1) cells)) named (apart c s x n))
     ]
   where
@@ -172,9 +170,9 @@ forgotten cells k x old new lt is rows width wrote rest c s lc ls e =
     apart : (c s : ℕ) (x : Cell) → (c == x.course && s == x.slot) ≡ false → is_of c s x ≡ false
     apart c s x n = grind (arith, nat_tests)
 
--- and then it tells of none
-pub none_left : (t : Grid Bool) → ((c s : ℕ) → c < t.rows → s < t.width → at t c s false ≡ true → false ≡ true) → IsUndo [] t
-none_left t none = record { within = tt; tells = λ c s lc ls. unmarked (at t c s false) (none c s lc ls) }
+-- and then they tell of none
+pub none_left : (m : RowsOfMarks) → ((c s : ℕ) → c < m.rows → s < m.numbers → is_marked_in m c s ≡ true → false ≡ true) → IsUndo [] m
+none_left m none = record { within = tt; tells = λ c s lc ls. unmarked (is_marked_in m c s) (none c s lc ls) }
   where
     unmarked : (b : Bool) → (b ≡ true → false ≡ true) → b ≡ false
     unmarked true h = sym (h refl)

@@ -5,7 +5,7 @@ use Rattle.ctt_text.specs.Problem.{Problem, course_count, slot_count}
 use Rattle.ctt_text.specs.declared.placed.Placed.{Placed}
 use Rattle.ctt_board.specs.Changes.{cell, room_at, room_by}
 use Rattle.ctt_board.specs.Grids.{rows_below}
-use Rattle.ctt_board.specs.Tables.{Grid, at}
+use Rattle.ctt_board.specs.MarkRows.{RowsOfMarks, is_marked_in}
 use Rattle.ctt_board.specs.declared.cell.Cell.{Cell}
 
 -- the cell is the one of a course in a slot
@@ -63,7 +63,7 @@ abbrev pub all_noted : List Placed → List Cell → List Cell → List Cell
 all_noted t [] so_far = so_far
 all_noted t (x ∷ xs) so_far = all_noted t xs (noted t x so_far)
 
--- a table tells of each cell whether it is recorded
-pub record IsUndo (cells : List Cell) (table : Grid Bool) : Type 0 where
-  pub within : AreWithin table.rows table.width cells
-  pub tells : (c s : ℕ) → c < table.rows → s < table.width → at table c s false ≡ is_named c s cells
+-- by course and slot the cells that are recorded are marked, and no other
+pub record IsUndo (cells : List Cell) (marks : RowsOfMarks) : Type 0 where
+  pub within : AreWithin marks.rows marks.numbers cells
+  pub tells : (c s : ℕ) → c < marks.rows → s < marks.numbers → is_marked_in marks c s ≡ is_named c s cells

@@ -3,10 +3,9 @@
 ghost use Rattle.std.specs.Prelude.{ℕ, ◌≡◌, ◌<◌, ◌≤◌, ◌+◌, ◌-◌, ◌==◌, ◌&&◌, false, cond, [], length, IfOk, OnOk, OnErr};
 ghost use Rattle.std.specs.Vec.{vec_len, vec_capacity};
 ghost use Rattle.ctt_text.specs.Problem.{course_count, slot_count};
-ghost use Rattle.ctt_board.specs.Tables.{at};
 ghost use Rattle.ctt_draft.specs.Undo.{is_named, noted, all_noted, AreWithin, IsUndo};
 
-use ctt_board::{Cell, Rooms, Table};
+use ctt_board::{Cell, MarkRows, Rooms};
 use ctt_text::{CourseNo, Instance, NoMemory, SlotNo};
 use std::alloc::Global;
 use std::marker::Model;
@@ -17,7 +16,7 @@ use std::marker::Model;
 pub(crate) struct Undo {
     cells: Vec<Cell>,
     /// By course and slot, whether the cell is recorded.
-    table: Table<bool>,
+    marks: MarkRows,
 }
 
 impl Model for Undo {
@@ -26,12 +25,12 @@ impl Model for Undo {
     ghost Value = { UndoValue };
 
     ghost view = { λ u. record {
-      courses = u.table.rows;
-      slots = u.table.width;
+      courses = u.marks.rows;
+      slots = u.marks.numbers;
       cells = u.cells.items;
     } };
 
-    ghost invariant = { λ u. IsUndo u.cells.items u.table };
+    ghost invariant = { λ u. IsUndo u.cells.items u.marks };
 }
 
 impl Undo {
@@ -49,7 +48,7 @@ impl Undo {
         let slots = instance.slots() as usize;
         Ok(Undo {
             cells: Vec::new(alloc),
-            table: Table::new(alloc, courses, slots, false)?,
+            marks: MarkRows::new(alloc, courses, slots)?,
         })
     }
 
@@ -67,7 +66,7 @@ impl Undo {
         requires slot { slot < self.now.slots }
         ensures { result ≡ is_named course slot self.now.cells }
     {
-        self.table.get(course.get() as usize, slot.get() as usize)
+        self.marks.has(course.get() as usize, slot.get() as usize)
     }
 
     /// Records these cells, of those that are not recorded yet, with the rooms that are there.
@@ -80,7 +79,7 @@ impl Undo {
         ensures err { OnErr result (self.new ≡ self.old) }
     {
         self.cells.reserve(cells.len())?;
-        note_all(&mut self.cells, &mut self.table, rooms, cells);
+        note_all(&mut self.cells, &mut self.marks, rooms, cells);
         Ok(())
     }
 
@@ -88,75 +87,62 @@ impl Undo {
     pub(crate) fn clear(&mut self)
         ensures { self.new ≡ record self.old { cells = [] } }
     {
-        forget_all(&mut self.table, &self.cells);
+        forget_all(&mut self.marks, &self.cells);
         self.cells.clear();
     }
 }
 
-/// Forgets a cell.
-fn forget(table: &mut Table<bool>, cell: &Cell)
-    requires course { cell.now.course < table.old.rows }
-    requires slot { cell.now.slot < table.old.width }
-    ensures rows { table.new.rows ≡ table.old.rows }
-    ensures width { table.new.width ≡ table.old.width }
-    ensures cells { (c s : ℕ) → s < table.old.width
-        → at table.new c s false
-        ≡ cond (c == cell.now.course && s == cell.now.slot) false (at table.old c s false) }
-{
-    table.set(cell.course.get() as usize, cell.slot.get() as usize, false);
-}
-
 /// Forgets cells, which are all that are recorded.
-fn forget_all(table: &mut Table<bool>, cells: &[Cell])
-    requires { IsUndo cells.now table.old }
-    ensures rows { table.new.rows ≡ table.old.rows }
-    ensures width { table.new.width ≡ table.old.width }
-    ensures none { IsUndo [] table.new }
+fn forget_all(marks: &mut MarkRows, cells: &[Cell])
+    requires { IsUndo cells.now marks.old }
+    ensures rows { marks.new.rows ≡ marks.old.rows }
+    ensures slots { marks.new.numbers ≡ marks.old.numbers }
+    ensures none { IsUndo [] marks.new }
 {
     for cell in cells {
-        forget(table, cell);
+        marks.unmark(cell.course.get() as usize, cell.slot.get() as usize);
     }
 }
 
 /// Records a cell, if it is not recorded yet, with the room that is there.
-fn note<R: Rooms>(recorded: &mut Vec<Cell>, table: &mut Table<bool>, rooms: &R, cell: &Cell)
+fn note<R: Rooms>(recorded: &mut Vec<Cell>, marks: &mut MarkRows, rooms: &R, cell: &Cell)
     requires room { vec_len recorded.old < vec_capacity recorded.old }
-    requires undo { IsUndo recorded.old.items table.old }
-    requires courses { table.old.rows ≡ course_count (R.problem rooms.now) }
-    requires slots { table.old.width ≡ slot_count (R.problem rooms.now) }
-    requires course { cell.now.course < table.old.rows }
-    requires slot { cell.now.slot < table.old.width }
+    requires undo { IsUndo recorded.old.items marks.old }
+    requires courses { marks.old.rows ≡ course_count (R.problem rooms.now) }
+    requires slots { marks.old.numbers ≡ slot_count (R.problem rooms.now) }
+    requires course { cell.now.course < marks.old.rows }
+    requires slot { cell.now.slot < marks.old.numbers }
     ensures cells { recorded.new.items ≡ noted (R.list rooms.now) cell.now recorded.old.items }
     ensures len { vec_len recorded.new ≤ vec_len recorded.old + 1 }
     ensures capacity { vec_capacity recorded.old ≤ vec_capacity recorded.new }
-    ensures rows { table.new.rows ≡ table.old.rows }
-    ensures width { table.new.width ≡ table.old.width }
-    ensures undo { IsUndo recorded.new.items table.new }
+    ensures rows { marks.new.rows ≡ marks.old.rows }
+    ensures slots { marks.new.numbers ≡ marks.old.numbers }
+    ensures undo { IsUndo recorded.new.items marks.new }
 {
     let course = cell.course;
     let slot = cell.slot;
     let row = course.get() as usize;
     let column = slot.get() as usize;
-    if !table.get(row, column) {
-        table.set(row, column, true);
+    if !marks.has(row, column) {
+        marks.mark(row, column);
         let room = rooms.room_at(course, slot);
         recorded.push(Cell { course, slot, room }).unwrap();
     }
 }
 
 /// Records cells in turn. There is room for them.
-fn note_all<R: Rooms>(recorded: &mut Vec<Cell>, table: &mut Table<bool>, rooms: &R, cells: &[Cell])
+fn note_all<R: Rooms>(recorded: &mut Vec<Cell>, marks: &mut MarkRows, rooms: &R, cells: &[Cell])
     requires room { vec_len recorded.old + length cells.now ≤ vec_capacity recorded.old }
-    requires undo { IsUndo recorded.old.items table.old }
-    requires courses { table.old.rows ≡ course_count (R.problem rooms.now) }
-    requires slots { table.old.width ≡ slot_count (R.problem rooms.now) }
-    requires within { AreWithin table.old.rows table.old.width cells.now }
+    requires undo { IsUndo recorded.old.items marks.old }
+    requires courses { marks.old.rows ≡ course_count (R.problem rooms.now) }
+    requires slots { marks.old.numbers ≡ slot_count (R.problem rooms.now) }
+    requires within { AreWithin marks.old.rows marks.old.numbers cells.now }
     ensures cells { recorded.new.items ≡ all_noted (R.list rooms.now) cells.now recorded.old.items }
-    ensures rows { table.new.rows ≡ table.old.rows }
-    ensures width { table.new.width ≡ table.old.width }
-    ensures undo { IsUndo recorded.new.items table.new }
+    ensures rows { marks.new.rows ≡ marks.old.rows }
+    ensures slots { marks.new.numbers ≡ marks.old.numbers }
+    ensures undo { IsUndo recorded.new.items marks.new }
 {
     for cell in cells {
-        note(recorded, table, rooms, cell);
+        note(recorded, marks, rooms, cell);
     }
 }

@@ -1,11 +1,11 @@
-use Rattle.std.proofs.Common.{◌≡◌, ◌<◌, ℕ, true, false, drop}
-use Rattle.ctt_board.specs.Tables.{at}
+use Rattle.std.proofs.Common.{◌≡◌, ◌<◌, ℕ, true, drop}
+use Rattle.ctt_board.specs.MarkRows.{is_marked_in}
 use Rattle.ctt_draft.specs.Undo.{is_named}
 use Rattle.ctt_draft.proofs.undo.forget_all.Given as goal
 
 abbrev pub invariant-loop-cell : goal.invariant-loop-cell
 invariant-loop-cell l = record {
-  rows : l.table.rows ≡ l.initial.table.rows;
-  width : l.table.width ≡ l.initial.table.width;
-  rest : (c s : ℕ) → c < l.table.rows → s < l.table.width → at l.table c s false ≡ true → is_named c s (drop l.cell-index l.cells) ≡ true;
+  rows : l.marks.rows ≡ l.initial.marks.rows;
+  slots : l.marks.numbers ≡ l.initial.marks.numbers;
+  rest : (c s : ℕ) → c < l.marks.rows → s < l.marks.numbers → is_marked_in l.marks c s ≡ true → is_named c s (drop l.cell-index l.cells) ≡ true;
 }

@@ -1,7 +1,6 @@
-use Rattle.std.proofs.Common.{◌≡◌, ◌<◌, ◌+◌, ◌*◌, ◌/◌, length, get_or, ◌∙◌, ap, subst, arith}
-use Rattle.ctt_text.proofs.TableLemmas.{same_element}
+use Rattle.std.proofs.Common.{◌≡◌, ◌<◌, ◌+◌, ◌*◌, ◌/◌, get_or, ap, arith}
 use Rattle.ctt_board.specs.MarkRows.{RowsOfMarks, words_for}
-use Rattle.ctt_board.proofs.MarkRowLemmas.{there, mark_sets, mark_are}
+use Rattle.ctt_board.proofs.MarkRowLemmas.{word_read, mark_sets, mark_are}
 use Rattle.ctt_board.proofs.mark_rows.MarkRows.mark.Goals as goal
 
 module _ (c : goal.After-self-1) where
@@ -12,10 +11,7 @@ module _ (c : goal.After-self-1) where
   number = omega (arith, ap (λ (m : RowsOfMarks). m.numbers) c.self.view_is, c.requires.number)
 
   word : c.index_mut.result.now ≡ get_or c.self.inside.words.items (c.args.row * words_for c.self.inside.numbers + c.args.number / 64) 0
-  word =
-      let v = c.self.inside in
-      let within : c.args.row * c.words_for.result + c.args.number / 64 < length v.words.items = rw c.words_for.ensures (there v.rows v.numbers c.args.row c.args.number v.words.items row number c.self.invariant) in
-      subst (λ w. c.index_mut.result.now ≡ get_or v.words.items (c.args.row * w + c.args.number / 64) 0) c.words_for.ensures (c.index_mut.ensures.value ∙ same_element v.words.items (c.args.row * c.words_for.result + c.args.number / 64) _ 0 within)
+  word = word_read c.self.inside.rows c.self.inside.numbers c.args.row c.args.number c.self.inside.words.items row number c.self.invariant c.words_for.result _ c.index_mut.result.now c.words_for.ensures c.index_mut.ensures.value
 
 pub invariant_of-self : goal.invariant_of-self
 invariant_of-self c =
