@@ -25,6 +25,7 @@ use std::sync::Wait;
 use std::thread::Promise;
 
 /// Adds the line of what a planner of a crew is answered.
+#[inline(always)]
 pub fn write_told(text: &mut String, instance: &Instance, told: &Told) -> Result<(), AllocError>
     requires { ToldFits instance.now told.now }
     ensures { OnOk result (string_bytes text.new

@@ -95,6 +95,7 @@ impl<'i, S: Sheet<'i>, J: Naming, K: Keeping> Seat<'i, S, J, K> {
     }
 
     /// Makes the call in the draft. Of all that a line may ask for, this is the most frequent; it moves no seat.
+    #[inline(always)]
     pub fn ask(&mut self, call: Call) -> Told
         requires { CallFits J.problem call }
         ensures fits { ToldFits J.problem result }

@@ -53,6 +53,7 @@ impl<S: Timetable, J: Naming> Kept<S, J> {
 
     /// What is left of a draft that was accepted: the timetable as its calls left it, where the
     /// commit came right behind the history before, and else its base.
+    #[inline(always)]
     pub(crate) fn left_by(remains: Remains<S>, before: Front<J>, seen: Front<J>) -> Self
         requires base { IsAfter J.problem J.opening remains.problem remains.base before }
         requires present { length seen - length before ≡ 1
@@ -67,6 +68,7 @@ impl<S: Timetable, J: Naming> Kept<S, J> {
 
     /// The sheet, when the changes up to another history are made, if they are known, after which
     /// it costs this.
+    #[inline(always)]
     fn followed(self, trail: &Trail<J>, to: &Front<J>, cost: Cost) -> Option<Idle<S>>
         requires { cost ≡ penalty J.problem (after J.problem J.opening to.now) }
         ensures problem { IfSome result (λ idle. idle.problem ≡ J.problem) }

@@ -117,6 +117,7 @@ impl<S: Timetable, J: Naming> Planner<S, J> {
 
     /// The planner with one commit more, which is the last one in his front, and its receipt. He
     /// keeps a sheet.
+    #[inline(always)]
     pub(crate) fn accepted(self, kept: Kept<S, J>) -> (Self, Receipt<J>)
         requires { length (own self.number self.front) ≡ self.committed + 1 }
         ensures planner { result.0 ≡ committed_more self }
