@@ -30,6 +30,7 @@ fn write_stale(text: &mut String, instance: &Instance, row: &Row) -> Result<(), 
 }
 
 /// Adds the line of an answer.
+#[inline(always)]
 pub fn write_answer(
     text: &mut String,
     instance: &Instance,

@@ -134,6 +134,7 @@ pub(crate) fn read_curriculum(
 }
 
 /// A day and a period in the day, as their slot.
+#[inline(always)]
 #[tactic(auto, using(crate::proofs::JournalSteps::read_bind, crate::proofs::JournalSteps::read_done), unfolding(crate::specs::CallPlaces::slot))]
 pub(crate) fn read_slot(reader: &mut Reader, instance: &Instance) -> Result<SlotNo, JournalFault>
     ensures { IsRead (λ slot. (slot, reader.new)) result (reads (slot instance.now) reader.old) }
