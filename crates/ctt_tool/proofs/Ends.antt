@@ -14,8 +14,8 @@ use Rattle.ctt_files.specs.declared.outcome.Outcome.{Outcome}
 use Rattle.ctt_files.specs.declared.outcome.Outcome.TheVariants.{Differs, Done, Incomplete, Unlawful}
 use Rattle.ctt_files.proofs.Causes.{three_is_one}
 use Rattle.ctt_tool.specs.Faults.{KeptUnless, SaysFault}
-use Rattle.ctt_tool.specs.Work.{DoesAsAsked, DoesTask, HasCause, IsOfWords}
-use Rattle.ctt_tool.proofs.Known.{says_caused, says_weaker}
+use Rattle.ctt_tool.specs.Work.{DoesAsAsked, DoesTask}
+use Rattle.ctt_tool.proofs.Known.{says_caused}
 
 -- how a job ended is known by the status
 pub same_outcome : (a b : Outcome) → outcome_status a ≡ outcome_status b → a ≡ b
@@ -169,18 +169,14 @@ status_between (NoTeacher name) = (omega arith, omega arith)
 status_between (NoCourse name) = (omega arith, omega arith)
 status_between (NoRoom name) = (omega arith, omega arith)
 
--- what is so of these words is so of some
-pub of_some_words : (words : List (List ℕ)) (held : Held) (failed : Bool) (D : List (List ℕ) → Type 0) (M : Type 0) (status : ℕ) (old new : Option (List ℕ)) → D words ⊎ (M ⊎ SaysFault (HasCause words held failed) status old new)
-    → ((some : List (List ℕ)) × D some) ⊎ (M ⊎ SaysFault (IsOfWords held failed) status old new)
-of_some_words words held failed D M status old new (inl does) = inl (words, does)
-of_some_words words held failed D M status old new (inr said) = inr (says_weaker M (HasCause words held failed) (IsOfWords held failed) status old new (λ fault has. inr (words, has)) said)
+-- where no words are had, it is said that one is no text, or that memory is wanted
+pub of_no_words : (M : Type 0) (fault : Fault) (status : ℕ) (old new : Option (List ℕ)) → (fault ≡ WordsNotText) ⊎ (fault ≡ NoMemory) → M ⊎ SaysFault (λ told. (told ≡ fault) ⊎ (told ≡ NoMemory)) status old new
+    → M ⊎ SaysFault (λ told. (told ≡ WordsNotText) ⊎ (told ≡ NoMemory)) status old new
+of_no_words M fault status old new is said = says_caused M (λ told. (told ≡ WordsNotText) ⊎ (told ≡ NoMemory)) fault status old new is (inr refl) said
 
--- and a word that is no text needs no more
-pub of_no_words : (held : Held) (failed : Bool) (M : Type 0) (fault : Fault) (status : ℕ) (old new : Option (List ℕ)) → (fault ≡ WordsNotText) ⊎ (fault ≡ NoMemory) → M ⊎ SaysFault (λ told. (told ≡ fault) ⊎ (told ≡ NoMemory)) status old new
-    → M ⊎ SaysFault (IsOfWords held failed) status old new
-of_no_words held failed M fault status old new is said =
-    let memory : IsOfWords held failed NoMemory = inr ([], tt) in
-    says_caused M (IsOfWords held failed) fault status old new (⊎_elim (λ same. inl same) (λ same. subst (IsOfWords held failed) (sym same) memory) is) memory said
+-- and the status is the one of that
+pub ends_no_words : (fault : Fault) (status : ℕ) → (fault ≡ WordsNotText) ⊎ (fault ≡ NoMemory) → (status ≡ status_of fault) ⊎ (status ≡ 3) → (status ≡ 2) ⊎ (status ≡ 3)
+ends_no_words fault status is ends = ⊎_elim (λ same. ⊎_elim (λ word. inl (same ∙ ap status_of word)) (λ memory. inr (same ∙ ap status_of memory)) is) (λ three. inr three) ends
 
 -- a job that ends otherwise than as done says nothing on standard error
 pub unsaid_other : (outcome : Outcome) (A S : Type 0) → (A × (outcome ≡ Done)) ⊎ S → outcome ≢ Done → S

@@ -9,3 +9,4 @@ pub mod Crews
 pub mod Work
 pub mod Desks
 pub mod Lists
+pub mod Served

@@ -141,7 +141,3 @@ HasCause words held failed NoMemory = Unit {0}
 HasCause words held failed (Words text) = IsFaultOf words (Refused text)
 HasCause words held failed WordsNotText = ⊥
 HasCause words held failed fault = AsksFor words held fault
-
--- the cause of a fault by some words, or a word is no text
-abbrev pub IsOfWords : Held → Bool → Fault → Type 0
-IsOfWords held failed fault = (fault ≡ WordsNotText) ⊎ ((words : List (List ℕ)) × HasCause words held failed fault)

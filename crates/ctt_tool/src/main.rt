@@ -12,11 +12,9 @@ mod program;
 mod refused;
 mod run;
 
-ghost use Rattle.std.specs.Prelude.{◌≡◌, ◌≢◌, ◌≤◌, ◌⊎◌, ℕ, List, true, false, IfErr};
+ghost use Rattle.std.specs.Prelude.{◌≡◌, ◌≤◌, ◌⊎◌, ℕ, List, true, false, IfErr};
 ghost use Rattle.ctt_files.specs.declared.fault.Fault.TheVariants.{NoMemory, WordsNotText};
-ghost use Rattle.ctt_files.specs.declared.outcome.Outcome.TheVariants.{Differs, Done, Incomplete, Unlawful};
-ghost use Rattle.ctt_tool.specs.Faults.{SaysFault};
-ghost use Rattle.ctt_tool.specs.Work.{AsksForRefusedText, AsksToSay, DoesAsAsked, EndsAsDone, IsOfWords, KeepAsAsked};
+ghost use Rattle.ctt_tool.specs.Served.{IsServed, IsUnserved};
 
 use ctt_devices::{Device, Sink};
 use ctt_files::{Fault, Files, SystemFiles};
@@ -53,31 +51,14 @@ fn serve<R: Env + AllocGlobal + Threads + Wait + Sync, F: Files, O: Office, W: S
     requires err { V.has_failed err.old ≡ false }
 
     ensures known { result ≤ 5 }
-    ensures done { result ≡ 0 → (words : List (List ℕ)) × DoesAsAsked words Done
-        (F.held files.old) (F.held files.new) (W.taken out.old) (W.taken out.new) }
     ensures unmarked { result ≡ 0 → W.has_failed out.new ≡ false }
-    ensures unsaid { result ≡ 0
-        → ((words : List (List ℕ)) × AsksToSay words) ⊎ (err.new ≡ err.old) }
-    ensures one { result ≡ 1 → (words : List (List ℕ))
-        × ((AsksForRefusedText words (F.held files.old)
-        × (out.new ≡ out.old))
-        ⊎ (DoesAsAsked words Differs (F.held files.old) (F.held files.new)
-        (W.taken out.old) (W.taken out.new) × (err.new ≡ err.old))) }
-    ensures four { result ≡ 4 → (words : List (List ℕ)) × DoesAsAsked words Unlawful
-        (F.held files.old) (F.held files.new) (W.taken out.old) (W.taken out.new)
-        × (err.new ≡ err.old) }
-    ensures five { result ≡ 5 → (words : List (List ℕ)) × DoesAsAsked words Incomplete
-        (F.held files.old) (F.held files.new) (W.taken out.old) (W.taken out.new)
-        × (err.new ≡ err.old) }
     ensures unprinted { result ≡ 2 → out.new ≡ out.old }
     ensures unwritten { W.has_failed out.new ≡ true → result ≡ 3 }
-    ensures said { result ≢ 0 → ((words : List (List ℕ)) × EndsAsDone words result
-        (F.held files.old) (F.held files.new) (W.taken out.old) (W.taken out.new))
-        ⊎ ((V.has_failed err.new ≡ true)
-        ⊎ SaysFault (IsOfWords (F.held files.old) (W.has_failed out.new)) result
-        (V.taken err.old) (V.taken err.new)) }
-    ensures others { (words : List (List ℕ))
-        × KeepAsAsked words (F.held files.old) (F.held files.new) }
+    ensures served { ((words : List (List ℕ))
+        × IsServed W.taken W.has_failed V.taken V.has_failed words result
+        (F.held files.old) (F.held files.new) out.old out.new err.old err.new)
+        ⊎ IsUnserved V.taken V.has_failed result
+        (F.held files.old) (F.held files.new) out.old out.new err.old err.new }
 {
     let owned = match owned_words(rt) {
         Ok(owned) => owned,
