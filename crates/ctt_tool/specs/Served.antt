@@ -1,5 +1,5 @@
 -- What the program does for the words of its command line, and where it has none.
-use Rattle.std.specs.Prelude.{◌≡◌, ◌≢◌, ◌⊎◌, Bool, true, ℕ, List, Option}
+use Rattle.std.specs.Prelude.{◌≡◌, ◌≢◌, ◌⊎◌, Bool, true, ℕ, List, [], Option}
 use Rattle.ctt_files.specs.Texts.{Held}
 use Rattle.ctt_files.specs.declared.fault.Fault.TheVariants.{WordsNotText, NoMemory}
 use Rattle.ctt_files.specs.declared.outcome.Outcome.TheVariants.{Done, Differs, Unlawful, Incomplete}
