@@ -8,8 +8,8 @@ use ctt_text::Marks;
 use std::alloc::{AllocError, Global};
 use std::marker::Model;
 
-/// Which of so many numbers are marked, in each row anew. A row has as many words as its numbers need, and
-/// all lie one behind the other.
+/// Which of so many numbers are marked, in each row anew: at most 2,000 rows of at most 2,000 numbers. A row has
+/// as many words as its numbers need, and all lie one behind the other.
 #[derive(Drop)]
 pub struct MarkRows {
     rows: usize,
@@ -38,7 +38,7 @@ fn words_for(numbers: usize) -> usize
 }
 
 impl MarkRows {
-    /// No number is marked.
+    /// No number is marked. It fails where memory is refused.
     pub fn new(alloc: Global, rows: usize, numbers: usize) -> Result<Self, AllocError>
         requires rows { rows ≤ 2000 }
         requires numbers { numbers ≤ 2000 }

@@ -151,15 +151,15 @@ pub undo_puts_back : UndoPutsBack
 undo_puts_back i base changes h fit = put_back_is i base (apply_all changes base) (undo_of base changes) h (undo_records i changes base fit)
 
 -- marks that are taken from cells, one by one, still tell of the others
-pub forgotten : (cells : List Cell) (k : ℕ) (x : Cell) (old new : RowsOfMarks) → k < length cells → x ≡ get_or cells k x → SetsMark old new x.course x.slot false →
-    ((c s : ℕ) → c < old.rows → s < old.numbers → is_marked_in old c s ≡ true → is_named c s (drop k cells) ≡ true) →
-    (c s : ℕ) → c < new.rows → s < new.numbers → is_marked_in new c s ≡ true → is_named c s (drop (k + 1) cells) ≡ true
+pub forgotten : (cells : List Cell) (k : ℕ) (x : Cell) (old new : RowsOfMarks) → k < length cells → x ≡ get_or cells k x → SetsMark old new x.slot x.course false →
+    ((c s : ℕ) → c < old.numbers → s < old.rows → is_marked_in old s c ≡ true → is_named c s (drop k cells) ≡ true) →
+    (c s : ℕ) → c < new.numbers → s < new.rows → is_marked_in new s c ≡ true → is_named c s (drop (k + 1) cells) ≡ true
 forgotten cells k x old new lt is set rest c s lc ls e =
-    elim (cases_Bool (c == x.course && s == x.slot)) [
-      | inl y ↦ absurd (let bad : true ≡ false = sym e ∙ set.marks c s ∙ ap (λ b. cond b false (is_marked_in old c s)) y in cc)
+    elim (cases_Bool (s == x.slot && c == x.course)) [
+      | inl y ↦ absurd (let bad : true ≡ false = sym e ∙ set.marks s c ∙ ap (λ b. cond b false (is_marked_in old s c)) y in cc)
       | inr n ↦ (
-          let there : is_marked_in old c s ≡ true = sym (ap (λ b. cond b false (is_marked_in old c s)) n) ∙ sym (set.marks c s) ∙ e in
-          let named : (is_of c s x || is_named c s (drop (k + 1) cells)) ≡ true = subst (λ ys. is_named c s ys ≡ true) (cell_at cells k x lt is) (rest c s (omega (arith, lc, set.rows)) (omega (arith, ls, set.numbers)) there) in
+          let there : is_marked_in old s c ≡ true = sym (ap (λ b. cond b false (is_marked_in old s c)) n) ∙ sym (set.marks s c) ∙ e in
+          let named : (is_of c s x || is_named c s (drop (k + 1) cells)) ≡ true = subst (λ ys. is_named c s ys ≡ true) (cell_at cells k x lt is) (rest c s (omega (arith, lc, set.numbers)) (omega (arith, ls, set.rows)) there) in
           later (is_of c s x) (is_named c s (drop (k + 1) cells)) named (apart c s x n))
     ]
   where
@@ -167,12 +167,12 @@ forgotten cells k x old new lt is set rest c s lc ls e =
     later true b h k = cc
     later false b h k = h
 
-    apart : (c s : ℕ) (x : Cell) → (c == x.course && s == x.slot) ≡ false → is_of c s x ≡ false
+    apart : (c s : ℕ) (x : Cell) → (s == x.slot && c == x.course) ≡ false → is_of c s x ≡ false
     apart c s x n = grind (arith, nat_tests)
 
 -- and then they tell of none
-pub none_left : (m : RowsOfMarks) → ((c s : ℕ) → c < m.rows → s < m.numbers → is_marked_in m c s ≡ true → false ≡ true) → IsUndo [] m
-none_left m none = record { within = tt; tells = λ c s lc ls. unmarked (is_marked_in m c s) (none c s lc ls) }
+pub none_left : (m : RowsOfMarks) → ((c s : ℕ) → c < m.numbers → s < m.rows → is_marked_in m s c ≡ true → false ≡ true) → IsUndo [] m
+none_left m none = record { within = tt; tells = λ c s lc ls. unmarked (is_marked_in m s c) (none c s lc ls) }
   where
     unmarked : (b : Bool) → (b ≡ true → false ≡ true) → b ≡ false
     unmarked true h = sym (h refl)

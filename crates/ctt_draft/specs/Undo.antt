@@ -63,7 +63,7 @@ abbrev pub all_noted : List Placed → List Cell → List Cell → List Cell
 all_noted t [] so_far = so_far
 all_noted t (x ∷ xs) so_far = all_noted t xs (noted t x so_far)
 
--- by course and slot the cells that are recorded are marked, and no other
+-- in the rows of the slots the courses of the cells that are recorded are marked, and no other
 pub record IsUndo (cells : List Cell) (marks : RowsOfMarks) : Type 0 where
-  pub within : AreWithin marks.rows marks.numbers cells
-  pub tells : (c s : ℕ) → c < marks.rows → s < marks.numbers → is_marked_in marks c s ≡ is_named c s cells
+  pub within : AreWithin marks.numbers marks.rows cells
+  pub tells : (c s : ℕ) → c < marks.numbers → s < marks.rows → is_marked_in marks s c ≡ is_named c s cells

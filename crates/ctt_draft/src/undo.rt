@@ -1,6 +1,6 @@
 //! What a draft keeps to get back to its base: the cells that it changed, as they were.
 
-ghost use Rattle.std.specs.Prelude.{ℕ, ◌≡◌, ◌<◌, ◌≤◌, ◌+◌, ◌-◌, ◌==◌, ◌&&◌, false, cond, [], length, IfOk, OnOk, OnErr};
+ghost use Rattle.std.specs.Prelude.{◌≡◌, ◌<◌, ◌≤◌, ◌+◌, [], length, IfOk, OnOk, OnErr};
 ghost use Rattle.std.specs.Vec.{vec_len, vec_capacity};
 ghost use Rattle.ctt_text.specs.Problem.{course_count, slot_count};
 ghost use Rattle.ctt_draft.specs.Undo.{is_named, noted, all_noted, AreWithin, IsUndo};
@@ -15,7 +15,7 @@ use std::marker::Model;
 #[derive(Drop)]
 pub(crate) struct Undo {
     cells: Vec<Cell>,
-    /// By course and slot, whether the cell is recorded.
+    /// For each slot, the courses of the cells that are recorded.
     marks: MarkRows,
 }
 
@@ -25,8 +25,8 @@ impl Model for Undo {
     ghost Value = { UndoValue };
 
     ghost view = { λ u. record {
-      courses = u.marks.rows;
-      slots = u.marks.numbers;
+      courses = u.marks.numbers;
+      slots = u.marks.rows;
       cells = u.cells.items;
     } };
 
@@ -48,7 +48,7 @@ impl Undo {
         let slots = instance.slots() as usize;
         Ok(Undo {
             cells: Vec::new(alloc),
-            marks: MarkRows::new(alloc, courses, slots)?,
+            marks: MarkRows::new(alloc, slots, courses)?,
         })
     }
 
@@ -66,7 +66,7 @@ impl Undo {
         requires slot { slot < self.now.slots }
         ensures { result ≡ is_named course slot self.now.cells }
     {
-        self.marks.has(course.get() as usize, slot.get() as usize)
+        self.marks.has(slot.get() as usize, course.get() as usize)
     }
 
     /// Records these cells, of those that are not recorded yet, with the rooms that are there.
@@ -95,12 +95,12 @@ impl Undo {
 /// Forgets cells, which are all that are recorded.
 fn forget_all(marks: &mut MarkRows, cells: &[Cell])
     requires { IsUndo cells.now marks.old }
-    ensures rows { marks.new.rows ≡ marks.old.rows }
-    ensures slots { marks.new.numbers ≡ marks.old.numbers }
+    ensures courses { marks.new.numbers ≡ marks.old.numbers }
+    ensures slots { marks.new.rows ≡ marks.old.rows }
     ensures none { IsUndo [] marks.new }
 {
     for cell in cells {
-        marks.unmark(cell.course.get() as usize, cell.slot.get() as usize);
+        marks.unmark(cell.slot.get() as usize, cell.course.get() as usize);
     }
 }
 
@@ -108,23 +108,23 @@ fn forget_all(marks: &mut MarkRows, cells: &[Cell])
 fn note<R: Rooms>(recorded: &mut Vec<Cell>, marks: &mut MarkRows, rooms: &R, cell: &Cell)
     requires room { vec_len recorded.old < vec_capacity recorded.old }
     requires undo { IsUndo recorded.old.items marks.old }
-    requires courses { marks.old.rows ≡ course_count (R.problem rooms.now) }
-    requires slots { marks.old.numbers ≡ slot_count (R.problem rooms.now) }
-    requires course { cell.now.course < marks.old.rows }
-    requires slot { cell.now.slot < marks.old.numbers }
+    requires courses { marks.old.numbers ≡ course_count (R.problem rooms.now) }
+    requires slots { marks.old.rows ≡ slot_count (R.problem rooms.now) }
+    requires course { cell.now.course < marks.old.numbers }
+    requires slot { cell.now.slot < marks.old.rows }
     ensures cells { recorded.new.items ≡ noted (R.list rooms.now) cell.now recorded.old.items }
     ensures len { vec_len recorded.new ≤ vec_len recorded.old + 1 }
     ensures capacity { vec_capacity recorded.old ≤ vec_capacity recorded.new }
-    ensures rows { marks.new.rows ≡ marks.old.rows }
-    ensures slots { marks.new.numbers ≡ marks.old.numbers }
+    ensures courses { marks.new.numbers ≡ marks.old.numbers }
+    ensures slots { marks.new.rows ≡ marks.old.rows }
     ensures undo { IsUndo recorded.new.items marks.new }
 {
     let course = cell.course;
     let slot = cell.slot;
-    let row = course.get() as usize;
-    let column = slot.get() as usize;
-    if !marks.has(row, column) {
-        marks.mark(row, column);
+    let row = slot.get() as usize;
+    let number = course.get() as usize;
+    if !marks.has(row, number) {
+        marks.mark(row, number);
         let room = rooms.room_at(course, slot);
         recorded.push(Cell { course, slot, room }).unwrap();
     }
@@ -134,12 +134,12 @@ fn note<R: Rooms>(recorded: &mut Vec<Cell>, marks: &mut MarkRows, rooms: &R, cel
 fn note_all<R: Rooms>(recorded: &mut Vec<Cell>, marks: &mut MarkRows, rooms: &R, cells: &[Cell])
     requires room { vec_len recorded.old + length cells.now ≤ vec_capacity recorded.old }
     requires undo { IsUndo recorded.old.items marks.old }
-    requires courses { marks.old.rows ≡ course_count (R.problem rooms.now) }
-    requires slots { marks.old.numbers ≡ slot_count (R.problem rooms.now) }
-    requires within { AreWithin marks.old.rows marks.old.numbers cells.now }
+    requires courses { marks.old.numbers ≡ course_count (R.problem rooms.now) }
+    requires slots { marks.old.rows ≡ slot_count (R.problem rooms.now) }
+    requires within { AreWithin marks.old.numbers marks.old.rows cells.now }
     ensures cells { recorded.new.items ≡ all_noted (R.list rooms.now) cells.now recorded.old.items }
-    ensures rows { marks.new.rows ≡ marks.old.rows }
-    ensures slots { marks.new.numbers ≡ marks.old.numbers }
+    ensures courses { marks.new.numbers ≡ marks.old.numbers }
+    ensures slots { marks.new.rows ≡ marks.old.rows }
     ensures undo { IsUndo recorded.new.items marks.new }
 {
     for cell in cells {

@@ -53,9 +53,10 @@ fn add_answer(
         ≡ option_map (noted instance.now event.now answer.now) minutes.old) }
     ensures given { OnOk result (is_some minutes.new ≡ is_some minutes.old) }
 {
+    let before = answers.len();
     write_answer(answers, instance, answer)?;
     match minutes {
-        Some(minutes) => minutes.note(instance, event, answer),
+        Some(minutes) => minutes.note(instance, event, answer, &answers.as_str()[before..]),
         None => Ok(()),
     }
 }

@@ -1,15 +1,16 @@
 //! The journal of a desk as a text that is written while the desk answers.
 
-ghost use Rattle.std.specs.Prelude.{◌≡◌, ◌<◌, length, OnOk, IfOk, string_bytes};
+ghost use Rattle.std.specs.Prelude.{◌≡◌, ◌<◌, ◌+◌, ◌++◌, length, OnOk, IfOk, string_bytes};
 ghost use Rattle.ctt_edits.specs.Calls.{CallFits};
-ghost use Rattle.ctt_edits.specs.Fitting.{ReplyFits};
 ghost use Rattle.ctt_core.specs.Runs.{EventFits};
-ghost use Rattle.ctt_script.specs.Entries.{AnswerFits};
-ghost use Rattle.ctt_script.specs.Minutes.{blank, minutes_text, no_notes, noted, noted_ask, noted_call, noted_commit, noted_open, notes_at, with_entry};
+ghost use Rattle.ctt_script.specs.AnswerText.{answer_words};
+ghost use Rattle.ctt_script.specs.Minutes.{blank, minutes_text, no_notes, noted, noted_ask, noted_commit, noted_open, notes_at, with_entry};
+ghost use Rattle.ctt_script.specs.WrittenText.{line};
+ghost use Rattle.ctt_script.specs.WrittenWords.{call_words};
 
-use crate::written::{write_call, write_entry_head, write_reply};
+use crate::written::{write_call, write_entry_head};
 use ctt_core::{Answer, Event, PlannerNo};
-use ctt_edits::{Call, Reply};
+use ctt_edits::Call;
 use ctt_text::{Instance, NoMemory, end_with_count};
 use std::alloc::{AllocError, Global};
 use std::marker::Model;
@@ -49,15 +50,17 @@ impl Notes {
         self.calls = 0;
     }
 
-    /// Adds a call with its reply.
-    fn add(&mut self, instance: &Instance, call: &Call, reply: &Reply) -> Result<(), NoMemory>
-        requires call { CallFits instance.now call.now }
-        requires reply { ReplyFits instance.now reply.now }
-        ensures { OnOk result (self.new ≡ noted_call instance.now call.now reply.now self.old) }
+    /// Adds a call with the line of its reply.
+    fn add(&mut self, instance: &Instance, call: &Call, told: &str) -> Result<(), NoMemory>
+        requires { CallFits instance.now call.now }
+        ensures { OnOk result (self.new ≡ record {
+          text = self.old.text ++ (line (call_words instance.now call.now) ++ told.now);
+          calls = self.old.calls + 1;
+        }) }
     {
         let calls = self.calls.checked_add(1).ok_or(NoMemory)?;
         write_call(&mut self.text, instance, call)?;
-        write_reply(&mut self.text, instance, reply)?;
+        self.text.push_str(told)?;
         self.calls = calls;
         Ok(())
     }
@@ -125,22 +128,23 @@ impl Minutes {
         }
     }
 
-    /// Notes a call.
+    /// Notes a call, by the line of its answer.
     fn note_ask(
         &mut self,
         instance: &Instance,
         planner: PlannerNo,
         call: &Call,
         answer: &Answer,
+        told: &str,
     ) -> Result<(), NoMemory>
         requires planner { planner < length self.old.drafts }
         requires call { CallFits instance.now call.now }
-        requires answer { AnswerFits instance.now answer.now }
+        requires told { told.now ≡ line (answer_words instance.now answer.now) }
         ensures { OnOk result (self.new
             ≡ noted_ask instance.now planner call.now answer.now self.old) }
     {
-        if let Answer::Replied(reply) = answer {
-            return self.drafts[planner.get() as usize].add(instance, call, reply);
+        if let Answer::Replied(_) = answer {
+            return self.drafts[planner.get() as usize].add(instance, call, told);
         }
         Ok(())
     }
@@ -156,15 +160,16 @@ impl Minutes {
         Ok(())
     }
 
-    /// Notes an event and its answer.
+    /// Notes an event and its answer, by the answer's line.
     pub(crate) fn note(
         &mut self,
         instance: &Instance,
         event: &Event,
         answer: &Answer,
+        told: &str,
     ) -> Result<(), NoMemory>
         requires event { EventFits instance.now (length self.old.drafts) event.now }
-        requires answer { AnswerFits instance.now answer.now }
+        requires told { told.now ≡ line (answer_words instance.now answer.now) }
         ensures { OnOk result (self.new ≡ noted instance.now event.now answer.now self.old) }
     {
         match *event {
@@ -172,7 +177,7 @@ impl Minutes {
                 self.note_open(planner, answer);
                 Ok(())
             }
-            Event::Ask(planner, call) => self.note_ask(instance, planner, &call, answer),
+            Event::Ask(planner, call) => self.note_ask(instance, planner, &call, answer, told),
             Event::Commit(planner) => self.note_commit(planner, answer),
             Event::Refresh(_) | Event::Abandon(_) | Event::Show(_) => Ok(()),
         }

@@ -32,6 +32,7 @@ use itoa::Buffer;
 use std::alloc::{AllocError, Global};
 
 /// Adds the line of an edit that names a course, a room and a slot.
+#[inline(always)]
 fn write_roomed(
     text: &mut String,
     kind: &str,
@@ -99,6 +100,7 @@ fn write_edit(text: &mut String, instance: &Instance, edit: &Edit) -> Result<(),
 }
 
 /// Adds a line of two words.
+#[inline(always)]
 fn write_named(text: &mut String, kind: &str, name: &str) -> Result<(), AllocError>
     ensures { OnOk result (string_bytes text.new
         ≡ string_bytes text.old ++ line (kind.now ∷ name.now ∷ [])) }

@@ -6,8 +6,8 @@ use Rattle.ctt_draft.proofs.undo.forget_all.Goals as goal
 
 pub loop-cell-preserved : goal.loop-cell-preserved
 loop-cell-preserved c = record {
-  rows = c.unmark.ensures.rows ∙ c.loop-cell.invariant.rows;
-  slots = c.unmark.ensures.numbers ∙ c.loop-cell.invariant.slots;
+  courses = c.unmark.ensures.numbers ∙ c.loop-cell.invariant.courses;
+  slots = c.unmark.ensures.rows ∙ c.loop-cell.invariant.slots;
   rest = forgotten c.args.cells.now c.loop-cell.cell-index c.cell-item.result c.loop-cell.marks c.unmark.new.self (search rules) (search rules) (rw (c.get.ensures, c.get-in-loop-cell.ensures) at c.unmark.ensures) c.loop-cell.invariant.rest;
 }
 

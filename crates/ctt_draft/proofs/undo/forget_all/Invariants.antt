@@ -5,7 +5,7 @@ use Rattle.ctt_draft.proofs.undo.forget_all.Given as goal
 
 abbrev pub invariant-loop-cell : goal.invariant-loop-cell
 invariant-loop-cell l = record {
-  rows : l.marks.rows ≡ l.initial.marks.rows;
-  slots : l.marks.numbers ≡ l.initial.marks.numbers;
-  rest : (c s : ℕ) → c < l.marks.rows → s < l.marks.numbers → is_marked_in l.marks c s ≡ true → is_named c s (drop l.cell-index l.cells) ≡ true;
+  courses : l.marks.numbers ≡ l.initial.marks.numbers;
+  slots : l.marks.rows ≡ l.initial.marks.rows;
+  rest : (c s : ℕ) → c < l.marks.numbers → s < l.marks.rows → is_marked_in l.marks s c ≡ true → is_named c s (drop l.cell-index l.cells) ≡ true;
 }
