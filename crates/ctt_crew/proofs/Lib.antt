@@ -1,3 +1,4 @@
+pub mod SharingLemmas
 pub mod AttendLemmas
 pub mod CrewLemmas
 pub mod PlainLemmas

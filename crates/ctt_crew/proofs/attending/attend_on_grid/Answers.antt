@@ -1,15 +1,10 @@
 use Rattle.std.proofs.Common.{rules, refl, string_bytes}
 use Rattle.std.proofs.Crossing.{crosses}
-use Rattle.std.proofs.MapsCrossing.{String-sync}
-use denote.Param.Send.{IsSync, sendable}
-use Rattle.ctt_text.specs.contracts.instance.Instance.{the_row}
+use denote.Param.Send.{sendable}
 use Rattle.ctt_crew.specs.declared.seat.Seat.TheVariants.{Free}
 use Rattle.ctt_crew.proofs.PlainLemmas.{has_attended}
+use Rattle.ctt_crew.proofs.SharingLemmas.{instance_shared}
 use Rattle.ctt_crew.proofs.attending.attend_on_grid.Goals as goal
-
--- threads may share an instance: a step of its own, since it has many fields
-instance_shared : IsSync the_row
-instance_shared = search (String-sync, sendable, crosses) depth 60 fits 20000
 
 pub attend-requires : goal.attend-requires
 attend-requires g c κs = (search (instance_shared, sendable, crosses) depth 60 fits 20000, (search (instance_shared, sendable, crosses) depth 60 fits 20000, search rules))
