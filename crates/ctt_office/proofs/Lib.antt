@@ -7,5 +7,4 @@ mod PagesLemmas
 mod PartLemmas
 mod PassLemmas
 mod RecoveryLemmas
-mod SharingLemmas
 mod SittingLemmas

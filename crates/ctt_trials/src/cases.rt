@@ -5,7 +5,7 @@ ghost use Rattle.ctt_text.specs.Timetable.{IsTimetable};
 use crate::story::Story;
 use crate::{crews, cuts, desks, drafts, journals, scripts, shared, sheets, shown, transfers};
 use ctt_board::{GridSheet, ListSheet, Sheet};
-use ctt_text::{Instance, Placed, let_go, read_solution};
+use ctt_text::{Instance, Placed, is_timetable, let_go, read_solution};
 use std::marker::Sync;
 use std::sync::Wait;
 use std::thread::Threads;
@@ -91,18 +91,19 @@ pub(crate) struct Case {
     pub(crate) drops: bool,
 }
 
-/// The lines of a case, with its instance and the lectures of a timetable with which it opens.
+/// The lines of a case, with its instance and the lectures with which it opens.
 #[derive(Drop)]
 pub(crate) struct Script<'i> {
     pub(crate) small: &'i Instance,
     pub(crate) opening: &'i [Placed],
     pub(crate) lines: &'i str,
     pub(crate) drops: bool,
-    ghost timetable: { IsTimetable small.now opening.now },
 }
 
 /// Plays a case without a sheet.
-fn play_plain<R: Threads + Wait + Sync>(story: &mut Story, rt: &R, plain: &Plain, script: &Script) {
+fn play_plain<R: Threads + Wait + Sync>(story: &mut Story, rt: &R, plain: &Plain, script: &Script)
+    requires { IsTimetable script.now.small.now script.now.opening.now }
+{
     match plain {
         Plain::Reports => shown::play_reports(story, script),
         Plain::Written => shown::play_written(story, script),
@@ -115,8 +116,10 @@ fn play_plain<R: Threads + Wait + Sync>(story: &mut Story, rt: &R, plain: &Plain
     }
 }
 
-/// Plays a case on sheets of one kind.
-fn play_on<'i, S: Sheet<'i>>(story: &mut Story, on: &On, script: &Script<'i>) {
+/// Plays a case on sheets of one kind, with the lectures of a timetable.
+fn play_way<'i, S: Sheet<'i>>(story: &mut Story, on: &On, script: &Script<'i>)
+    requires { IsTimetable script.now.small.now script.now.opening.now }
+{
     match on {
         On::Lines | On::Placement | On::Accepted => sheets::play::<S>(story, on, script),
         On::Draft | On::LongDraft => drafts::play::<S>(story, on, script.small),
@@ -130,8 +133,19 @@ fn play_on<'i, S: Sheet<'i>>(story: &mut Story, on: &On, script: &Script<'i>) {
     }
 }
 
+/// Plays a case on sheets of one kind.
+fn play_on<'i, S: Sheet<'i>>(story: &mut Story, on: &On, script: &Script<'i>) {
+    if is_timetable(script.small, script.opening) {
+        play_way::<S>(story, on, script);
+    } else {
+        story.say("unfit");
+    }
+}
+
 /// Plays a case in one way.
-fn play_once<R: Threads + Wait + Sync>(story: &mut Story, rt: &R, way: &Way, script: &Script) {
+fn play_once<R: Threads + Wait + Sync>(story: &mut Story, rt: &R, way: &Way, script: &Script)
+    requires { IsTimetable script.now.small.now script.now.opening.now }
+{
     match way {
         Way::Plain(plain) => play_plain(story, rt, plain, script),
         Way::List(on) => play_on::<ListSheet>(story, on, script),

@@ -1,5 +1,6 @@
 //! Journals: their entries written, read and audited.
 
+ghost use Rattle.ctt_text.specs.Timetable.{IsTimetable};
 ghost use Rattle.std.specs.Prelude.{◌↔◌, IsTrue};
 ghost use Rattle.std.specs.List.{AllByRecursion as Each};
 ghost use Rattle.ctt_edits.specs.Fitting.{IsShortReply};
@@ -60,6 +61,7 @@ fn tell_entries<'i, S: Sheet<'i>>(
     script: &Script<'i>,
     entries: &[JournalEntry],
 )
+    requires timetable { IsTimetable script.now.small.now script.now.opening.now }
     requires entries { Each (EntryFits script.now.small.now) entries.now }
 {
     if matches!(on, On::Left) {
@@ -82,7 +84,9 @@ pub(crate) fn read_text<'i, S: Sheet<'i>>(
     on: &On,
     script: &Script<'i>,
     text: &[u8],
-) {
+)
+    requires { IsTimetable script.now.small.now script.now.opening.now }
+{
     match read_journal(story.alloc(), script.small, text) {
         Ok(entries) => tell_entries::<S>(story, on, script, &entries),
         Err(_fault) => story.no_memory(),
@@ -94,7 +98,9 @@ pub(crate) fn tell_journal<'i, S: Sheet<'i>>(
     story: &mut Story,
     script: &Script<'i>,
     entries: &[JournalEntry],
-) {
+)
+    requires { IsTimetable script.now.small.now script.now.opening.now }
+{
     if !are_entries(script.small, entries) || entries.len() > 999_999_999 {
         return story.say("unfit");
     }

@@ -9,7 +9,7 @@ use crate::story::Story;
 use crate::turns::{Here, LOOKS, Part, VIEWER, answer_lines, leave, sit};
 use ctt_board::{GridSheet, ListSheet, Sheet, Timetable};
 use ctt_desk::{Named, Naming, Opened, Planner, SharedDesk, SharedFault};
-use ctt_text::let_go;
+use ctt_text::{is_timetable, let_go};
 use std::alloc::Global;
 use std::marker::{Brand, PhantomData};
 use std::sync::Wait;
@@ -21,6 +21,9 @@ const PLANNERS: u16 = 4;
 fn opened<'i, S: Sheet<'i>>(alloc: Global, script: &Script<'i>) -> Result<Opened<S>, SharedFault>
     ensures { IfOk result (λ opened. opened.problem ≡ script.now.small.now) }
 {
+    if !is_timetable(script.small, script.opening) {
+        return Err(SharedFault::NoMemory);
+    }
     Opened::<S>::new(alloc, script.small, script.opening)
 }
 
@@ -69,7 +72,9 @@ fn close<'i, S: Sheet<'i>, J: Naming, R: Wait>(
     match desk.close(rt, planners) {
         Ok(closed) => {
             story.timetable(here.small, closed.list(), closed.cost());
-            tell_journal::<S>(story, script, closed.journal());
+            if is_timetable(script.small, script.opening) {
+                tell_journal::<S>(story, script, closed.journal());
+            }
             let_go(closed);
         }
         Err(closed) => let_go(closed),

@@ -1,7 +1,7 @@
 //! Cases on one sheet: what is placed, asked and refused.
 
 ghost use Rattle.std.specs.Prelude.{◌↔◌, IsTrue};
-ghost use Rattle.ctt_text.specs.Timetable.{Fits};
+ghost use Rattle.ctt_text.specs.Timetable.{Fits, IsTimetable};
 ghost use Rattle.ctt_edits.specs.Edits.{EditFits};
 ghost use Rattle.ctt_edits.specs.Looks.{LookFits};
 
@@ -164,7 +164,9 @@ fn tell_accepted<'i, S: Sheet<'i>>(story: &mut Story, sheet: &S) {
 }
 
 /// Plays lines, a placement or changes on a sheet that has the lectures of a script at first.
-pub(crate) fn play<'i, S: Sheet<'i>>(story: &mut Story, on: &On, script: &Script<'i>) {
+pub(crate) fn play<'i, S: Sheet<'i>>(story: &mut Story, on: &On, script: &Script<'i>)
+    requires { IsTimetable script.now.small.now script.now.opening.now }
+{
     match placed::<S>(story.alloc(), script.small, script.opening) {
         Ok(mut sheet) => match on {
             On::Placement => place_geo(story, &mut sheet),

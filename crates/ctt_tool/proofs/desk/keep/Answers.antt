@@ -1,15 +1,10 @@
 use Rattle.std.proofs.Common.{rules, ⊎_elim, inl, inr}
 use Rattle.std.proofs.Crossing.{crosses}
-use Rattle.std.proofs.MapsCrossing.{String-sync}
-use denote.Param.Send.{IsSync, sendable}
-use Rattle.ctt_text.specs.contracts.instance.Instance.{the_row}
+use denote.Param.Send.{sendable}
+use Rattle.ctt_crew.proofs.SharingLemmas.{instance_shared}
 use Rattle.ctt_tool.specs.Refusals.{IsOfSeats}
 use Rattle.ctt_tool.proofs.Plain.{passed_desk, seats_plain}
 use Rattle.ctt_tool.proofs.desk.keep.Goals as goal
-
--- threads may share an instance: a step of its own, since it has many fields
-instance_shared : IsSync the_row
-instance_shared = search (String-sync, sendable, crosses) depth 60 fits 20000
 
 pub open_on-requires : goal.open_on-requires
 open_on-requires g c κs = (search (instance_shared, sendable, crosses) depth 60 fits 20000, (search (instance_shared, sendable, crosses) depth 60 fits 20000, search rules))
