@@ -1,4 +1,7 @@
-use Rattle.std.proofs.Common.{inl, refl, subst}
+use Rattle.std.proofs.Common.{inl, refl, subst, rules}
+use Rattle.std.proofs.Crossing.{crosses}
+use denote.Param.Send.{sendable}
+use Rattle.ctt_crew.proofs.SharingLemmas.{instance_shared}
 use Rattle.std.proofs.lemmas.Result.{IfErr-weaker, IfOk-weaker}
 use Rattle.ctt_text.specs.Problem.{Problem}
 use Rattle.ctt_files.proofs.Plain.{behind_instance, instance_in_plain, passed_plain, unwritten_more}
@@ -25,3 +28,6 @@ pub returns-clause-cause : goal.returns-clause-cause
 returns-clause-cause g c =
     IfErr-weaker c.list_on-listed.result _ _ (λ fault is. unwritten_more fault _ _ _ _ (λ marked. marked)
     (λ why. (behind_instance (IsOfAudited c.args.journal c.args.start) _ _ c.args.instance c.args.barred c.in_ok-instance.instance fault c.in_ok-instance.ensures.spelled c.in_ok-instance.ensures.kept why.0, why.1)) is) c.list_on-listed.ensures.cause
+
+pub list_on-listed-requires : goal.list_on-listed-requires
+list_on-listed-requires g c κs = (search (instance_shared, sendable, crosses) depth 60 fits 20000, (search (instance_shared, sendable, crosses) depth 60 fits 20000, search rules))
