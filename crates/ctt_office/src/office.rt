@@ -166,7 +166,6 @@ fn desk_named<S: Timetable, J: Naming, R: Wait>(
     rt: &R,
     named: Named<S, J>,
 ) -> Result<(SharedDesk<S, J>, Vec<Planner<S, J>>), OfficeFault>
-    ensures each { IfOk result (λ made. length made.1.items ≡ named.count) }
     ensures planners { IfOk result (λ made. made.1.items ≡ new_planners named.count) }
     ensures fault { (seats : ℕ) → IfErr result (IsOfficeFault seats) }
 {

@@ -1,6 +1,7 @@
 -- Lines of a script, as their events.
-use Rattle.std.proofs.Common.{◌≡◌, ℕ, zero, suc, ◌+◌, ◌-◌, ◌<◌, ◌≤◌, get_or, length-drop, map, filter, ◌==◌, List, [], ◌∷◌, ◌++◌, length, take, drop, position, arith, Bool, true, false, cond, Option, Some, None, Result, Ok, Err, refl, sym, ap, subst, ◌∙◌}
+use Rattle.std.proofs.Common.{◌≡◌, ℕ, zero, suc, ◌+◌, ◌-◌, ◌<◌, ◌≤◌, get_or, length-drop, map, filter, ◌==◌, List, [], ◌∷◌, ◌++◌, length, take, drop, position, arith, Bool, true, false, cond, Option, Some, None, Result, Ok, Err, MatchResult, refl, sym, ap, subst, ◌∙◌}
 use Rattle.std.specs.List.{AllByRecursion as Each}
+use Rattle.std.specs.Result.{is_ok}
 use Rattle.std.specs.Str.{IsUtf8, IsCharBoundary, is_utf8}
 use Rattle.std.proofs.lemmas.Bool.{eqb-true}
 use Rattle.std.proofs.lemmas.List.{append-nil}
@@ -170,3 +171,8 @@ lines_within (suc n) text le is = lines_step text is (λ end e. lines_within n (
 
 pub lines_are_text : (text : List ℕ) → IsUtf8 text → Each IsUtf8 (lines_of text)
 lines_are_text text is = lines_within (length text) text (omega arith) is
+
+-- what holds beside the value of a result that has one
+pub ok_part : {T E : Type 0} {P : Type 0} (A : T → Type 0) (B : E → Type 0) (r : Result T E) → is_ok r ≡ true → MatchResult r (λ t. A t × P) B → P
+ok_part A B (Ok t) is m = m.1
+ok_part A B (Err e) is m = cc

@@ -31,7 +31,6 @@ pub fn push_number(text: &mut String, number: u64) -> Result<(), AllocError>
 }
 
 /// Adds a blank and a word.
-#[inline(always)]
 pub fn push_word(text: &mut String, word: &str) -> Result<(), AllocError>
     ensures { OnOk result (string_bytes text.new
         ≡ string_bytes text.old ++ (codes " " ++ word.now)) }

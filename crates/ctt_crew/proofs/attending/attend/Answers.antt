@@ -1,7 +1,6 @@
-use Rattle.std.proofs.Common.{rules, string_bytes, ◌≡◌, true, false, [], ◌∷◌, ◌∙◌, ℕ, ◌+◌, ◌<◌, List, Option, Result, Ok, Err, MatchResult, OnOk, OnSome, Some, None, arith, is_err, is_some, refl, sym, subst}
+use Rattle.std.proofs.Common.{rules, string_bytes, ◌≡◌, true, false, [], ◌∷◌, ◌∙◌, ℕ, ◌+◌, ◌<◌, List, Option, Result, Ok, Err, OnOk, OnSome, Some, None, arith, is_err, is_some, refl, sym, subst}
 use Rattle.std.specs.List.{AllByRecursion as Each}
 use Rattle.std.specs.Prelude.{IfSome}
-use Rattle.std.specs.Result.{is_ok}
 use Rattle.std.specs.Str.{IsUtf8}
 use Rattle.ctt_text.specs.Problem.{Problem}
 use Rattle.ctt_text.specs.declared.placed.Placed.{Placed}
@@ -10,7 +9,7 @@ use Rattle.ctt_core.specs.Runs.{EventFits}
 use Rattle.ctt_core.specs.declared.event.Event.{Event}
 use Rattle.ctt_core.specs.declared.event.Event.TheVariants.{Open, Ask, Commit, Refresh, Abandon, Show}
 use Rattle.ctt_script.specs.ScriptText.{has_words, lines_of, own_item}
-use Rattle.ctt_script.proofs.ScriptLaws.{lines_are_text}
+use Rattle.ctt_script.proofs.ScriptLaws.{lines_are_text, ok_part}
 use Rattle.ctt_crew.specs.CrewText.{call_in}
 use Rattle.ctt_crew.specs.Attended.{AnswersItems, IsAttending, own_items}
 use Rattle.ctt_crew.specs.Seats.{AnswersLine}
@@ -27,10 +26,6 @@ call_fits i n (Some (Commit p)) h = tt
 call_fits i n (Some (Refresh p)) h = tt
 call_fits i n (Some (Abandon p)) h = tt
 call_fits i n (Some (Show look)) h = tt
-
-ok_part : {T E : Type 0} {P : Type 0} (A : T → Type 0) (B : E → Type 0) (r : Result T E) → is_ok r ≡ true → MatchResult r (λ t. A t × P) B → P
-ok_part A B (Ok t) is m = m.1
-ok_part A B (Err e) is m = cc
 
 some_part : {T : Type 0} {P : Type 0} (o : Option T) → is_some o ≡ true → OnSome o P → P
 some_part None e h = cc

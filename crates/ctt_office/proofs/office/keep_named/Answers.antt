@@ -1,7 +1,11 @@
-use Rattle.std.proofs.Common.{length}
+use Rattle.std.proofs.Common.{◌∙◌, ap, length, sym}
+use Rattle.ctt_crew.proofs.CrewLemmas.{planners_many}
 use Rattle.ctt_office.specs.OfficeFaults.{IsOfficeFault}
 use Rattle.ctt_office.proofs.PassLemmas.{passed_on}
 use Rattle.ctt_office.proofs.office.keep_named.Goals as goal
+
+pub seated-sat-requires-clause-counted : goal.seated-sat-requires-clause-counted
+seated-sat-requires-clause-counted g c κs within = ap length c.in_ok-desk.ensures.planners ∙ planners_many c.args.count ∙ sym c.requires.counted
 
 pub returns-in_err-desk-clause-fault : goal.returns-in_err-desk-clause-fault
 returns-in_err-desk-clause-fault g c =

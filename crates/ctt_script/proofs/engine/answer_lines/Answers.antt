@@ -1,21 +1,16 @@
-use Rattle.std.proofs.Common.{rules, ◌≡◌, true, ◌∷◌, [], ◌∙◌, List, ℕ, length, Option, Result, Ok, Err, MatchResult, sym, subst, refl, string_bytes}
+use Rattle.std.proofs.Common.{rules, ◌≡◌, true, ◌∷◌, [], ◌∙◌, List, ℕ, length, Option, sym, subst, refl, string_bytes}
 use Rattle.std.specs.Io.KnownBytes.{Appends}
 use Rattle.std.specs.List.{AllByRecursion as Each}
-use Rattle.std.specs.Result.{is_ok}
 use Rattle.std.specs.Str.{IsUtf8}
 use Rattle.std.proofs.KnownBytes.{Appends-nil}
 use Rattle.ctt_core.specs.Desks.{DeskValue}
 use Rattle.ctt_script.specs.Answering.{Answered, Answering, IsAtRun, Wrote, WroteFront}
 use Rattle.ctt_devices.specs.Output.{AppendsFront}
 use Rattle.ctt_script.specs.ScriptText.{lines_of, items_of}
-use Rattle.ctt_script.proofs.ScriptLaws.{lines_are_text}
+use Rattle.ctt_script.proofs.ScriptLaws.{lines_are_text, ok_part}
 use Rattle.ctt_script.proofs.AnsweringLemmas.{begins, all_written, one_more_line, more_written, front_written, still_at_run}
 use Rattle.ctt_devices.proofs.OutputLemmas.{on_err}
 use Rattle.ctt_script.proofs.engine.answer_lines.Goals as goal
-
-ok_part : {T E : Type 0} {P : Type 0} (A : T → Type 0) (B : E → Type 0) (r : Result T E) → is_ok r ≡ true → MatchResult r (λ t. A t × P) B → P
-ok_part A B (Ok t) is m = m.1
-ok_part A B (Err e) is m = cc
 
 pub loop-line-init : goal.loop-line-init
 loop-line-init g c =
