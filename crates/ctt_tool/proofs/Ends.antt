@@ -44,6 +44,13 @@ ends_as outcome told status D is does ends = subst D (same_outcome outcome told 
 pub is_other : (outcome : Outcome) (status : ℕ) → status ≡ outcome_status outcome → status ≢ 0 → outcome ≢ Done
 is_other outcome status is some done = some (is ∙ ap outcome_status done)
 
+-- and no job ends with 2
+pub is_not_two : (outcome : Outcome) → outcome_status outcome ≢ 2
+is_not_two Done two = omega (arith, two)
+is_not_two Differs two = omega (arith, two)
+is_not_two Unlawful two = omega (arith, two)
+is_not_two Incomplete two = omega (arith, two)
+
 pub is_some_status : (status n : ℕ) → status ≡ suc n → status ≢ 0
 is_some_status status n is zero = omega (arith, is, zero)
 

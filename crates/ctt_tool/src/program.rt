@@ -4,11 +4,12 @@ ghost use Rattle.std.specs.Prelude.{◌≡◌, ◌≢◌, ◌≤◌, ◌⊎◌, 
 ghost use Rattle.ctt_words.specs.Jobs.{HasScripts, faults_of};
 ghost use Rattle.ctt_files.specs.Faults.{IfUnwritten, MayHaveWritten, status_of};
 ghost use Rattle.ctt_files.specs.declared.fault.Fault.TheVariants.{NoMemory};
-ghost use Rattle.ctt_files.specs.declared.outcome.Outcome.TheVariants.{Differs, Done, Incomplete, Unlawful};
+ghost use Rattle.ctt_files.specs.declared.outcome.Outcome.TheVariants.{Done};
 ghost use Rattle.ctt_tool.specs.Faults.{KeptUnless, SaysFault};
 ghost use Rattle.ctt_tool.specs.Jobs.{Saying, Storing, stored_by};
 ghost use Rattle.ctt_tool.specs.Runs.{KeepOthers};
-ghost use Rattle.ctt_tool.specs.Work.{AreTurnedDown, AsksForRefusedText, AsksToSay, AsksToStore, DoesAsAsked, DoesJob, EndsAsDone, GivesHelp, HasCause, IsOfHelp, IsOfJob, KeepAsAsked, PrintsHelp, SaysAsAsked, SaysOfTask, texts};
+ghost use Rattle.ctt_tool.specs.Served.{IsServed};
+ghost use Rattle.ctt_tool.specs.Work.{AsksToSay, AsksToStore, DoesAsAsked, DoesJob, GivesHelp, HasCause, IsOfHelp, IsOfJob, KeepAsAsked, PrintsHelp, SaysAsAsked, SaysOfTask, texts};
 
 use crate::audit::audit;
 use crate::crew::crew;
@@ -180,33 +181,11 @@ pub fn program<R: AllocGlobal + Threads + Wait + Sync, F: Files, O: Office, W: S
     requires out { W.has_failed out.old ≡ false }
     requires err { V.has_failed err.old ≡ false }
     ensures known { result ≤ 5 }
-    ensures done { result ≡ 0 → DoesAsAsked (texts words.now) Done
-        (F.held files.old) (F.held files.new) (W.taken out.old) (W.taken out.new) }
     ensures unmarked { result ≡ 0 → W.has_failed out.new ≡ false }
-    ensures unsaid { result ≡ 0 → AsksToSay (texts words.now) ⊎ (err.new ≡ err.old) }
-    ensures says { result ≡ 0 → (V.has_failed err.new ≡ true)
-        ⊎ SaysAsAsked (texts words.now) (F.held files.old) (V.taken err.old) (V.taken err.new) }
-    ensures one { result ≡ 1
-        → (AsksForRefusedText (texts words.now) (F.held files.old) × (out.new ≡ out.old))
-        ⊎ (DoesAsAsked (texts words.now) Differs (F.held files.old) (F.held files.new)
-        (W.taken out.old) (W.taken out.new) × (err.new ≡ err.old)) }
-    ensures four { result ≡ 4 → DoesAsAsked (texts words.now) Unlawful (F.held files.old)
-        (F.held files.new) (W.taken out.old) (W.taken out.new) × (err.new ≡ err.old) }
-    ensures five { result ≡ 5 → DoesAsAsked (texts words.now) Incomplete (F.held files.old)
-        (F.held files.new) (W.taken out.old) (W.taken out.new) × (err.new ≡ err.old) }
-    ensures taken { result ≡ 1 → faults_of (texts words.now) ≡ [] }
-    ensures refused { result ≡ 2 → AreTurnedDown (texts words.now) }
-    ensures said { result ≢ 0 → EndsAsDone (texts words.now) result
-        (F.held files.old) (F.held files.new) (W.taken out.old) (W.taken out.new)
-        ⊎ ((V.has_failed err.new ≡ true) ⊎ SaysFault
-        (HasCause (texts words.now) (F.held files.old) (W.has_failed out.new))
-        result (V.taken err.old) (V.taken err.new)) }
     ensures unprinted { result ≡ 2 → out.new ≡ out.old }
     ensures unwritten { W.has_failed out.new ≡ true → result ≡ 3 }
-    ensures unstored { result ≢ 0 → (F.held files.new ≡ F.held files.old)
-        ⊎ ((result ≡ 3) × ((W.has_failed out.new ≡ W.has_failed out.old)
-        × AsksToStore (texts words.now))) }
-    ensures others { KeepAsAsked (texts words.now) (F.held files.old) (F.held files.new) }
+    ensures served { IsServed W.taken W.has_failed V.taken V.has_failed (texts words.now) result
+        (F.held files.old) (F.held files.new) out.old out.new err.old err.new }
 {
     let alloc = rt.alloc();
     match do_as_asked(rt, alloc, words, files, office, out, err) {
