@@ -1,11 +1,12 @@
 //! A case is a row of a table: a script with its opening, and in which ways it is played.
 
 ghost use Rattle.ctt_text.specs.Timetable.{IsTimetable};
+ghost use Rattle.ctt_trials.specs.Scripts.{IsTimetable-prop};
 
 use crate::story::Story;
 use crate::{crews, cuts, desks, drafts, journals, scripts, shared, sheets, shown, transfers};
 use ctt_board::{GridSheet, ListSheet, Sheet};
-use ctt_text::{Instance, Placed, is_timetable, let_go, read_solution};
+use ctt_text::{Instance, Placed, let_go, read_solution};
 use std::marker::Sync;
 use std::sync::Wait;
 use std::thread::Threads;
@@ -98,12 +99,12 @@ pub(crate) struct Script<'i> {
     pub(crate) opening: &'i [Placed],
     pub(crate) lines: &'i str,
     pub(crate) drops: bool,
+    ghost timetable: { IsTimetable small.now opening.now }
+        by { IsTimetable-prop small.now opening.now },
 }
 
 /// Plays a case without a sheet.
-fn play_plain<R: Threads + Wait + Sync>(story: &mut Story, rt: &R, plain: &Plain, script: &Script)
-    requires { IsTimetable script.now.small.now script.now.opening.now }
-{
+fn play_plain<R: Threads + Wait + Sync>(story: &mut Story, rt: &R, plain: &Plain, script: &Script) {
     match plain {
         Plain::Reports => shown::play_reports(story, script),
         Plain::Written => shown::play_written(story, script),
@@ -116,10 +117,8 @@ fn play_plain<R: Threads + Wait + Sync>(story: &mut Story, rt: &R, plain: &Plain
     }
 }
 
-/// Plays a case on sheets of one kind, with the lectures of a timetable.
-fn play_way<'i, S: Sheet<'i>>(story: &mut Story, on: &On, script: &Script<'i>)
-    requires { IsTimetable script.now.small.now script.now.opening.now }
-{
+/// Plays a case on sheets of one kind.
+fn play_on<'i, S: Sheet<'i>>(story: &mut Story, on: &On, script: &Script<'i>) {
     match on {
         On::Lines | On::Placement | On::Accepted => sheets::play::<S>(story, on, script),
         On::Draft | On::LongDraft => drafts::play::<S>(story, on, script.small),
@@ -133,19 +132,8 @@ fn play_way<'i, S: Sheet<'i>>(story: &mut Story, on: &On, script: &Script<'i>)
     }
 }
 
-/// Plays a case on sheets of one kind.
-fn play_on<'i, S: Sheet<'i>>(story: &mut Story, on: &On, script: &Script<'i>) {
-    if is_timetable(script.small, script.opening) {
-        play_way::<S>(story, on, script);
-    } else {
-        story.say("unfit");
-    }
-}
-
 /// Plays a case in one way.
-fn play_once<R: Threads + Wait + Sync>(story: &mut Story, rt: &R, way: &Way, script: &Script)
-    requires { IsTimetable script.now.small.now script.now.opening.now }
-{
+fn play_once<R: Threads + Wait + Sync>(story: &mut Story, rt: &R, way: &Way, script: &Script) {
     match way {
         Way::Plain(plain) => play_plain(story, rt, plain, script),
         Way::List(on) => play_on::<ListSheet>(story, on, script),

@@ -1,6 +1,5 @@
 //! A script as events on a desk that keeps its journal: one by one, and at once. What the desk leaves is told.
 
-ghost use Rattle.ctt_text.specs.Timetable.{IsTimetable};
 ghost use Rattle.std.specs.Prelude.{◌↔◌, IsTrue, length};
 ghost use Rattle.std.specs.List.{AllByRecursion as Each};
 ghost use Rattle.ctt_core.specs.Runs.{EventFits};
@@ -20,9 +19,7 @@ pub(crate) fn tell_desk<'i, S: Sheet<'i>>(
     story: &mut Story,
     script: &Script<'i>,
     desk: &Desk<'i, S, KeepAll>,
-)
-    requires { IsTimetable script.now.small.now script.now.opening.now }
-{
+) {
     story.timetable(script.small, desk.list(), desk.cost());
     tell_journal::<S>(story, script, desk.journal());
 }
@@ -44,7 +41,7 @@ fn tells_step<'i, S: Sheet<'i>>(
         return false;
     }
     let small = desk.instance();
-    story.tells(small, &desk.step(*event))
+    story.tells(small, desk.step(*event))
 }
 
 /// Tells what a desk answers to an event. Where that is want of memory, it is asked again.
@@ -128,9 +125,7 @@ fn play_at<'i, S: Sheet<'i>>(
     on: &On,
     script: &Script<'i>,
     desk: &mut Desk<'i, S, KeepAll>,
-)
-    requires { IsTimetable script.now.small.now script.now.opening.now }
-{
+) {
     let events = asked_in::<Event>(story, script);
     if matches!(on, On::Run) {
         tell_answers(story, desk, &events);
@@ -144,9 +139,7 @@ fn play_at<'i, S: Sheet<'i>>(
 }
 
 /// Plays a script event by event, or at once.
-pub(crate) fn play<'i, S: Sheet<'i>>(story: &mut Story, on: &On, script: &Script<'i>)
-    requires { IsTimetable script.now.small.now script.now.opening.now }
-{
+pub(crate) fn play<'i, S: Sheet<'i>>(story: &mut Story, on: &On, script: &Script<'i>) {
     match Desk::<S, KeepAll>::new(story.alloc(), script.small, script.opening, PLANNERS) {
         Ok(mut desk) => {
             play_at(story, on, script, &mut desk);

@@ -52,30 +52,35 @@ fn ask<'i, S: Sheet<'i>>(
     story: &mut Story,
     draft: &mut Draft<'i, S, KeepAll>,
     call: &Call,
-) -> Option<Reply>
+) -> Result<Reply, NoMemory>
     ensures { draft.new.problem ≡ draft.old.problem }
 {
     match ask_once(draft, call) {
-        Ok(reply) => Some(reply),
+        Ok(reply) => Ok(reply),
         Err(NoMemory) => {
             story.call_again();
-            ask_once(draft, call).ok()
+            ask_once(draft, call)
         }
     }
 }
 
-/// What a draft answers to the call of a line, unless the case is to be played again.
+/// What a draft answers to the call of a line.
 fn ask_line<'i, S: Sheet<'i>>(
     story: &mut Story,
     draft: &mut Draft<'i, S, KeepAll>,
     line: &str,
-) -> Option<Reply>
+) -> Result<Reply, NoMemory>
     ensures { draft.new.problem ≡ draft.old.problem }
 {
     match call_of(draft.instance(), line.as_bytes()) {
         Some(call) => ask(story, draft, &call),
-        None => None,
+        None => Err(NoMemory),
     }
+}
+
+/// Whether an edit was made.
+fn is_done(told: Result<Reply, NoMemory>) -> bool {
+    matches!(told, Ok(Reply::Done))
 }
 
 /// Asks a draft what a line says, and tells the answer.
@@ -83,17 +88,16 @@ fn tell_asked<'i, S: Sheet<'i>>(story: &mut Story, draft: &mut Draft<'i, S, Keep
     ensures { draft.new.problem ≡ draft.old.problem }
 {
     let small = draft.instance();
-    match ask_line(story, draft, line) {
-        Some(reply) => story.answer(small, &Answer::Replied(reply)),
-        None => story.no_memory(),
-    }
+    let told = ask_line(story, draft, line);
+    story.reply(small, told);
 }
 
 /// Asks a draft what a line says: an edit, whose answer is not told.
 fn make<'i, S: Sheet<'i>>(story: &mut Story, draft: &mut Draft<'i, S, KeepAll>, line: &str)
     ensures { draft.new.problem ≡ draft.old.problem }
 {
-    if !matches!(ask_line(story, draft, line), Some(Reply::Done)) {
+    let told = ask_line(story, draft, line);
+    if !is_done(told) {
         story.no_memory();
     }
 }
@@ -113,7 +117,7 @@ fn tell_stale<'i, S: Sheet<'i>>(story: &mut Story, draft: &Draft<'i, S, KeepAll>
     requires { S.problem sheet.now ≡ draft.now.problem }
 {
     match draft.stale(sheet) {
-        Ok(Some(row)) => story.answer(sheet.instance(), &Answer::Stale(row)),
+        Ok(Some(row)) => story.answer(sheet.instance(), Answer::Stale(row)),
         Ok(None) => story.say("not stale"),
         Err(NoMemory) => story.no_memory(),
     }

@@ -1,6 +1,5 @@
 //! Journals: their entries written, read and audited.
 
-ghost use Rattle.ctt_text.specs.Timetable.{IsTimetable};
 ghost use Rattle.std.specs.Prelude.{◌↔◌, IsTrue};
 ghost use Rattle.std.specs.List.{AllByRecursion as Each};
 ghost use Rattle.ctt_edits.specs.Fitting.{IsShortReply};
@@ -13,7 +12,7 @@ use ctt_board::Sheet;
 use ctt_core::{JournalEntry, NoList, Verdict, audit, list_after};
 use ctt_edits::Reply;
 use ctt_script::{read_journal, write_journal};
-use ctt_text::{Instance, NoMemory};
+use ctt_text::{Instance, NoMemory, Placed};
 
 /// Whether a reply can be written.
 fn is_short_reply(reply: &Reply) -> bool
@@ -54,6 +53,23 @@ fn tell_found(story: &mut Story, small: &Instance, found: Verdict) {
     }
 }
 
+/// Tells what an audit found of entries.
+fn tell_audit(story: &mut Story, small: &Instance, told: Result<Verdict, NoMemory>) {
+    match told {
+        Ok(found) => tell_found(story, small, found),
+        Err(NoMemory) => story.no_memory(),
+    }
+}
+
+/// Tells the timetable that entries leave, or what was found of them.
+fn tell_left(story: &mut Story, small: &Instance, told: Result<Vec<Placed>, NoList>) {
+    match told {
+        Ok(list) => story.lectures(small, Ok(list)),
+        Err(NoList::Found(found)) => tell_found(story, small, found),
+        Err(NoList::NoMemory) => story.no_memory(),
+    }
+}
+
 /// Tells what an audit of entries finds, or the timetable that they leave.
 fn tell_entries<'i, S: Sheet<'i>>(
     story: &mut Story,
@@ -61,20 +77,15 @@ fn tell_entries<'i, S: Sheet<'i>>(
     script: &Script<'i>,
     entries: &[JournalEntry],
 )
-    requires timetable { IsTimetable script.now.small.now script.now.opening.now }
-    requires entries { Each (EntryFits script.now.small.now) entries.now }
+    requires { Each (EntryFits script.now.small.now) entries.now }
 {
+    let alloc = story.alloc();
     if matches!(on, On::Left) {
-        match list_after::<S>(story.alloc(), script.small, script.opening, entries) {
-            Ok(list) => story.lectures(script.small, Ok(list)),
-            Err(NoList::Found(found)) => tell_found(story, script.small, found),
-            Err(NoList::NoMemory) => story.no_memory(),
-        }
+        let left = list_after::<S>(alloc, script.small, script.opening, entries);
+        tell_left(story, script.small, left);
     } else {
-        match audit::<S>(story.alloc(), script.small, script.opening, entries) {
-            Ok(found) => tell_found(story, script.small, found),
-            Err(NoMemory) => story.no_memory(),
-        }
+        let found = audit::<S>(alloc, script.small, script.opening, entries);
+        tell_audit(story, script.small, found);
     }
 }
 
@@ -84,12 +95,25 @@ pub(crate) fn read_text<'i, S: Sheet<'i>>(
     on: &On,
     script: &Script<'i>,
     text: &[u8],
-)
-    requires { IsTimetable script.now.small.now script.now.opening.now }
-{
+) {
     match read_journal(story.alloc(), script.small, text) {
         Ok(entries) => tell_entries::<S>(story, on, script, &entries),
         Err(_fault) => story.no_memory(),
+    }
+}
+
+/// The journal of entries. Where there is none, that is told, or the case is to be played again.
+fn written(story: &mut Story, small: &Instance, entries: &[JournalEntry]) -> Option<Vec<u8>> {
+    if !are_entries(small, entries) || entries.len() > 999_999_999 {
+        story.say("unfit");
+        return None;
+    }
+    match write_journal(story.alloc(), small, entries) {
+        Ok(text) => Some(text),
+        Err(NoMemory) => {
+            story.no_memory();
+            None
+        }
     }
 }
 
@@ -98,17 +122,9 @@ pub(crate) fn tell_journal<'i, S: Sheet<'i>>(
     story: &mut Story,
     script: &Script<'i>,
     entries: &[JournalEntry],
-)
-    requires { IsTimetable script.now.small.now script.now.opening.now }
-{
-    if !are_entries(script.small, entries) || entries.len() > 999_999_999 {
-        return story.say("unfit");
-    }
-    match write_journal(story.alloc(), script.small, entries) {
-        Ok(text) => {
-            story.bytes(&text);
-            read_text::<S>(story, &On::Audit, script, &text);
-        }
-        Err(NoMemory) => story.no_memory(),
+) {
+    if let Some(text) = written(story, script.small, entries) {
+        story.bytes(&text);
+        read_text::<S>(story, &On::Audit, script, &text);
     }
 }

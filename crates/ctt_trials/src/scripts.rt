@@ -1,7 +1,6 @@
 //! A script that is read from a device, and its answers that are written to one; also where the devices fail.
 
 ghost use Rattle.std.specs.Prelude.{◌≡◌, false};
-ghost use Rattle.ctt_text.specs.Timetable.{IsTimetable};
 
 use crate::cases::Script;
 use crate::desks::tell_desk;
@@ -23,8 +22,7 @@ fn ran<'i, S: Sheet<'i>, W: Sink>(
     reader: &mut Memory,
     writer: &mut W,
 ) -> Result<Desk<'i, S, KeepAll>, ScriptFault>
-    requires timetable { IsTimetable script.now.small.now script.now.opening.now }
-    requires unmarked { reader.old.failed ≡ false }
+    requires { reader.old.failed ≡ false }
 {
     run_script::<S, KeepAll, Memory, W>(
         alloc,
@@ -37,9 +35,7 @@ fn ran<'i, S: Sheet<'i>, W: Sink>(
 }
 
 /// Plays a script that is read from a device, and whose answers are told as they are written.
-pub(crate) fn play_script<'i, S: Sheet<'i>>(story: &mut Story, script: &Script<'i>)
-    requires { IsTimetable script.now.small.now script.now.opening.now }
-{
+pub(crate) fn play_script<'i, S: Sheet<'i>>(story: &mut Story, script: &Script<'i>) {
     let alloc = story.alloc();
     let mut reader = Memory::new(script.lines.as_bytes(), 0);
     match ran::<S, Story>(alloc, script, &mut reader, story) {
@@ -61,9 +57,7 @@ fn fails<'i, S: Sheet<'i>>(
     fails_at: u64,
     shelf: &mut Shelf,
     taken: usize,
-) -> bool
-    requires { IsTimetable script.now.small.now script.now.opening.now }
-{
+) -> bool {
     let mut reader = Memory::new(lines, fails_at);
     let fault = ran::<S, Shelf>(story.alloc(), script, &mut reader, shelf).err();
     if fault == Some(ScriptFault::NoMemory) {
@@ -79,9 +73,7 @@ fn fails<'i, S: Sheet<'i>>(
 
 /// Tells behind how many bytes a writer may fail so that the script has a failed write, and these bytes were written, and
 /// behind how many a reader, so that it has a failed read, and nothing was written.
-fn tell_all_failing<'i, S: Sheet<'i>>(story: &mut Story, script: &Script<'i>)
-    requires { IsTimetable script.now.small.now script.now.opening.now }
-{
+fn tell_all_failing<'i, S: Sheet<'i>>(story: &mut Story, script: &Script<'i>) {
     let lines = script.lines.as_bytes();
     let answers = PHANTOM_ANSWERS.as_bytes();
     let mut failed = 0u64;
@@ -115,9 +107,7 @@ fn tell_failing<'i, S: Sheet<'i>>(
     answers: &str,
     failing: Failing,
     taken: usize,
-)
-    requires { IsTimetable script.now.small.now script.now.opening.now }
-{
+) {
     let mut shelf = Shelf::new(answers.as_bytes(), failing);
     let is_failed = fails::<S>(story, script, lines.as_bytes(), 0, &mut shelf, taken);
     story.count("a failed write", u64::from(is_failed));
@@ -126,9 +116,7 @@ fn tell_failing<'i, S: Sheet<'i>>(
 }
 
 /// The script of the phantom with its answers on devices that fail.
-pub(crate) fn play_devices<'i, S: Sheet<'i>>(story: &mut Story, script: &Script<'i>)
-    requires { IsTimetable script.now.small.now script.now.opening.now }
-{
+pub(crate) fn play_devices<'i, S: Sheet<'i>>(story: &mut Story, script: &Script<'i>) {
     tell_all_failing::<S>(story, script);
     let lines = script.lines;
     let whole = PHANTOM_ANSWERS.len();

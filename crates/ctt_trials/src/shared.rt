@@ -7,9 +7,9 @@ use crate::cases::Script;
 use crate::journals::tell_journal;
 use crate::story::Story;
 use crate::turns::{Here, LOOKS, Part, VIEWER, answer_lines, leave, sit};
-use ctt_board::{GridSheet, ListSheet, Sheet, Timetable};
+use ctt_board::{GridSheet, ListSheet, Sheet};
 use ctt_desk::{Named, Naming, Opened, Planner, SharedDesk, SharedFault};
-use ctt_text::{is_timetable, let_go};
+use ctt_text::let_go;
 use std::alloc::Global;
 use std::marker::{Brand, PhantomData};
 use std::sync::Wait;
@@ -21,9 +21,6 @@ const PLANNERS: u16 = 4;
 fn opened<'i, S: Sheet<'i>>(alloc: Global, script: &Script<'i>) -> Result<Opened<S>, SharedFault>
     ensures { IfOk result (λ opened. opened.problem ≡ script.now.small.now) }
 {
-    if !is_timetable(script.small, script.opening) {
-        return Err(SharedFault::NoMemory);
-    }
     Opened::<S>::new(alloc, script.small, script.opening)
 }
 
@@ -51,36 +48,28 @@ fn play_at<'i, S: Sheet<'i>, J: Naming, R: Wait>(
     leave(story, seats)
 }
 
-/// Tells how many drafts each planner has seen, and committed.
-fn tell_seen<S: Timetable, J: Naming>(story: &mut Story, planners: &[Planner<S, J>]) {
-    for planner in planners {
-        story.pair("seen", planner.seen());
-        story.count(" committed", planner.committed());
-    }
-}
-
-/// Closes a desk with all its planners, and tells what it has.
+/// Closes a desk with all its planners, and tells what it has, and how many drafts each of them has seen, and committed.
 fn close<'i, S: Sheet<'i>, J: Naming, R: Wait>(
     story: &mut Story,
     rt: &R,
     desk: SharedDesk<S, J>,
-    here: &Here<'i, J>,
     planners: &mut [Planner<S, J>],
     script: &Script<'i>,
 ) {
     let from = story.len();
     match desk.close(rt, planners) {
         Ok(closed) => {
-            story.timetable(here.small, closed.list(), closed.cost());
-            if is_timetable(script.small, script.opening) {
-                tell_journal::<S>(story, script, closed.journal());
-            }
+            story.timetable(script.small, closed.list(), closed.cost());
+            tell_journal::<S>(story, script, closed.journal());
             let_go(closed);
         }
         Err(closed) => let_go(closed),
     }
     story.compare(story.end, story.all, from, "what it left");
-    tell_seen(story, planners);
+    for planner in planners {
+        story.pair("seen", planner.seen());
+        story.count(" committed", planner.committed());
+    }
 }
 
 /// Plays a script on a desk that is opened for it.
@@ -94,7 +83,7 @@ fn play_named<'i, S: Sheet<'i>, J: Naming, R: Wait>(
     match SharedDesk::<S, J>::new(rt, named) {
         Ok((desk, all)) => {
             let mut planners = play_at(story, rt, &desk, here, all, script);
-            close(story, rt, desk, here, planners.as_mut_slice(), script);
+            close(story, rt, desk, planners.as_mut_slice(), script);
             let_go(planners);
         }
         Err(_fault) => story.no_memory(),

@@ -1,7 +1,7 @@
 //! Cases on one sheet: what is placed, asked and refused.
 
 ghost use Rattle.std.specs.Prelude.{◌↔◌, IsTrue};
-ghost use Rattle.ctt_text.specs.Timetable.{Fits, IsTimetable};
+ghost use Rattle.ctt_text.specs.Timetable.{Fits};
 ghost use Rattle.ctt_edits.specs.Edits.{EditFits};
 ghost use Rattle.ctt_edits.specs.Looks.{LookFits};
 
@@ -86,19 +86,12 @@ pub(crate) fn tell_sheet<'i, S: Sheet<'i>>(story: &mut Story, sheet: &S) {
     story.timetable(sheet.instance(), sheet.list(), sheet.cost());
 }
 
-/// Makes a call on a sheet, and tells the reply.
-fn answer<'i, S: Sheet<'i>>(story: &mut Story, sheet: &mut S, call: &Call) {
-    match call {
-        Call::Edit(edit) => make(story, sheet, edit, false),
-        Call::Look(asked) => show(story, sheet, asked),
-    }
-}
-
 /// Makes the calls that the lines of a script ask for, and tells what the sheet then has.
 fn answer_lines<'i, S: Sheet<'i>>(story: &mut Story, script: &Script<'i>, sheet: &mut S) {
     for line in Lines::new(script.lines.as_bytes()) {
         match call_of(script.small, line) {
-            Some(call) => answer(story, sheet, &call),
+            Some(Call::Edit(edit)) => make(story, sheet, &edit, false),
+            Some(Call::Look(asked)) => show(story, sheet, &asked),
             None => story.bad_line(line),
         }
     }
@@ -164,9 +157,7 @@ fn tell_accepted<'i, S: Sheet<'i>>(story: &mut Story, sheet: &S) {
 }
 
 /// Plays lines, a placement or changes on a sheet that has the lectures of a script at first.
-pub(crate) fn play<'i, S: Sheet<'i>>(story: &mut Story, on: &On, script: &Script<'i>)
-    requires { IsTimetable script.now.small.now script.now.opening.now }
-{
+pub(crate) fn play<'i, S: Sheet<'i>>(story: &mut Story, on: &On, script: &Script<'i>) {
     match placed::<S>(story.alloc(), script.small, script.opening) {
         Ok(mut sheet) => match on {
             On::Placement => place_geo(story, &mut sheet),

@@ -1,6 +1,5 @@
 //! A timetable that is shown: its reports, its text, what is found of it, its week and its page.
 
-ghost use Rattle.ctt_text.specs.Timetable.{IsTimetable};
 
 use crate::cases::Script;
 use crate::story::Story;
@@ -14,9 +13,7 @@ use ctt_week::{Selection, week_text};
 use std::alloc::Global;
 
 /// Both reports on a timetable.
-pub(crate) fn play_reports(story: &mut Story, script: &Script)
-    requires { IsTimetable script.now.small.now script.now.opening.now }
-{
+pub(crate) fn play_reports(story: &mut Story, script: &Script) {
     story.text(report_text(story.alloc(), script.small, script.opening));
     story.text(report_json(story.alloc(), script.small, script.opening));
 }
@@ -34,9 +31,7 @@ fn tell_read(story: &mut Story, script: &Script, text: &[u8]) {
 }
 
 /// A timetable, written and read again.
-pub(crate) fn play_written(story: &mut Story, script: &Script)
-    requires { IsTimetable script.now.small.now script.now.opening.now }
-{
+pub(crate) fn play_written(story: &mut Story, script: &Script) {
     match write_solution(story.alloc(), script.small, script.opening) {
         Ok(text) => {
             story.bytes(&text);
@@ -68,9 +63,7 @@ impl Listener for Pen {
 }
 
 /// The findings of a timetable.
-fn tell_found(story: &mut Story, script: &Script)
-    requires { IsTimetable script.now.small.now script.now.opening.now }
-{
+fn tell_found(story: &mut Story, script: &Script) {
     let alloc = story.alloc();
     let mut pen = Pen {
         alloc,
@@ -87,9 +80,7 @@ fn tell_found(story: &mut Story, script: &Script)
 }
 
 /// The week of a timetable, of the rooms or of a course.
-fn tell_week(story: &mut Story, script: &Script, course: Option<CourseNo>)
-    requires { IsTimetable script.now.small.now script.now.opening.now }
-{
+fn tell_week(story: &mut Story, script: &Script, course: Option<CourseNo>) {
     let selection = match course {
         Some(course) if course.fits(script.small) => Some(Selection::Course(course)),
         _ => None,
@@ -111,9 +102,7 @@ fn tell_lines(story: &mut Story, page: &[u8]) {
 }
 
 /// What is found of a timetable, the weeks of its rooms and of geo, and its page.
-pub(crate) fn play_findings(story: &mut Story, script: &Script)
-    requires { IsTimetable script.now.small.now script.now.opening.now }
-{
+pub(crate) fn play_findings(story: &mut Story, script: &Script) {
     tell_found(story, script);
     tell_week(story, script, None);
     tell_week(story, script, Some(CourseNo::new(1)));

@@ -156,7 +156,7 @@ impl Story {
     }
 
     /// Tells an answer, unless that is want of memory, and answers whether it was told.
-    pub(crate) fn tells(&mut self, instance: &Instance, answer: &Answer) -> bool {
+    fn writes(&mut self, instance: &Instance, answer: &Answer) -> bool {
         if matches!(answer, Answer::NoMemory) {
             return false;
         }
@@ -166,8 +166,13 @@ impl Story {
         true
     }
 
+    /// Tells an answer that is needed no more, unless that is want of memory, and answers whether it was told.
+    pub(crate) fn tells(&mut self, instance: &Instance, answer: Answer) -> bool {
+        self.writes(instance, &answer)
+    }
+
     /// Tells an answer. Want of memory is none: then the case is to be played again.
-    pub(crate) fn answer(&mut self, instance: &Instance, answer: &Answer) {
+    pub(crate) fn answer(&mut self, instance: &Instance, answer: Answer) {
         if !self.tells(instance, answer) {
             self.no_memory();
         }
@@ -176,19 +181,26 @@ impl Story {
     /// Tells answers.
     pub(crate) fn answers(&mut self, instance: &Instance, answers: &[Answer]) {
         for answer in answers {
-            self.answer(instance, answer);
+            if !self.writes(instance, answer) {
+                self.no_memory();
+            }
         }
+    }
+
+    /// Tells a reply.
+    fn replied(&mut self, instance: &Instance, reply: Reply) {
+        self.answer(instance, Answer::Replied(reply));
     }
 
     /// Tells a fault.
     pub(crate) fn refused(&mut self, instance: &Instance, fault: EditFault) {
-        self.answer(instance, &Answer::Replied(Reply::Refused(fault)));
+        self.replied(instance, Reply::Refused(fault));
     }
 
     /// Tells what a call answers that gives a reply.
     pub(crate) fn reply(&mut self, instance: &Instance, told: Result<Reply, NoMemory>) {
         match told {
-            Ok(reply) => self.answer(instance, &Answer::Replied(reply)),
+            Ok(reply) => self.replied(instance, reply),
             Err(NoMemory) => self.no_memory(),
         }
     }
@@ -196,10 +208,7 @@ impl Story {
     /// Tells what a call answers that gives lectures.
     pub(crate) fn lectures(&mut self, instance: &Instance, told: Result<Vec<Placed>, NoMemory>) {
         match told {
-            Ok(list) => {
-                let list = Reply::Lectures(Lectures::new(list));
-                self.answer(instance, &Answer::Replied(list));
-            }
+            Ok(list) => self.replied(instance, Reply::Lectures(Lectures::new(list))),
             Err(NoMemory) => self.no_memory(),
         }
     }
@@ -212,7 +221,7 @@ impl Story {
         cost: Cost,
     ) {
         self.lectures(instance, told);
-        self.answer(instance, &Answer::Replied(Reply::Costs(cost)));
+        self.replied(instance, Reply::Costs(cost));
     }
 
     /// Tells what a call answers that gives a text.

@@ -133,12 +133,12 @@ fn tells<'i, S: Sheet<'i>, J: Naming>(
     story: &mut Story,
     here: &Here<'i, J>,
     seats: &mut [Option<Seat<'i, S, J>>],
-    told: &Result<Receipt<J>, Told>,
+    told: Result<Receipt<J>, Told>,
 ) -> bool {
     match told {
         Ok(receipt) => {
-            learn(seats, receipt);
-            story.tells(here.small, &Answer::Committed(receipt.number()))
+            learn(seats, &receipt);
+            story.tells(here.small, Answer::Committed(receipt.number()))
         }
         Err(Told::Answer(answer)) => story.tells(here.small, answer),
         Err(Told::NoPlace) => false,
@@ -149,8 +149,9 @@ fn tells<'i, S: Sheet<'i>, J: Naming>(
     }
 }
 
-/// The planner of a place does what an event says, and once more where memory is wanted.
-fn answer<'i, S: Sheet<'i>, J: Naming, R: Wait>(
+/// The planner of a place does what an event says, and it is told what he is answered, if memory is not wanted. Answers
+/// whether it was told.
+fn answers<'i, S: Sheet<'i>, J: Naming, R: Wait>(
     story: &mut Story,
     rt: &R,
     desk: &SharedDesk<S, J>,
@@ -158,22 +159,17 @@ fn answer<'i, S: Sheet<'i>, J: Naming, R: Wait>(
     seats: &mut [Option<Seat<'i, S, J>>],
     place: usize,
     event: &Event,
-) {
-    for _ in 0..2 {
-        let Some(seat) = take_at(seats, place) else {
-            return story.say("no planner");
-        };
-        let (seat, told) = take(rt, desk, here, seat, event);
-        put_at(seats, place, seat);
-        if tells(story, here, seats, &told) {
-            return;
-        }
-        story.call_again();
-    }
-    story.no_memory();
+) -> bool {
+    let Some(seat) = take_at(seats, place) else {
+        story.say("no planner");
+        return true;
+    };
+    let (seat, told) = take(rt, desk, here, seat, event);
+    put_at(seats, place, seat);
+    tells(story, here, seats, told)
 }
 
-/// The lines of a part.
+/// The planners do what the lines of a part say, each line once more where memory is wanted.
 pub(crate) fn answer_lines<'i, S: Sheet<'i>, J: Naming, R: Wait>(
     story: &mut Story,
     rt: &R,
@@ -189,7 +185,12 @@ pub(crate) fn answer_lines<'i, S: Sheet<'i>, J: Naming, R: Wait>(
                 if part.drops && place > 0 {
                     drop(take_at(seats, 0));
                 }
-                answer(story, rt, desk, here, seats, place, &event);
+                if !answers(story, rt, desk, here, seats, place, &event) {
+                    story.call_again();
+                    if !answers(story, rt, desk, here, seats, place, &event) {
+                        story.no_memory();
+                    }
+                }
             }
             None => story.bad_line(line),
         }

@@ -5,6 +5,6 @@ use Rattle.ctt_trials.proofs.scripts.ran.Goals as goal
 
 pub run_script-requires : goal.run_script-requires
 run_script-requires g c κs =
-    let fit : Each (Fits c.args.script.now.small.now) c.args.script.now.opening.now = c.requires.timetable.fits in
-    let unmarked : c.args.reader.now.failed ≡ false = c.requires.unmarked in
+    let fit : Each (Fits c.args.script.now.small.now) c.args.script.now.opening.now = c.args.script.now.timetable.fits in
+    let unmarked : c.args.reader.now.failed ≡ false = c.requires in
     search rules

@@ -5,5 +5,5 @@ use Rattle.ctt_trials.proofs.sheets.play.Goals as goal
 
 pub placed-requires : goal.placed-requires
 placed-requires g c κs =
-    let fit : Each (Fits c.args.script.now.small.now) c.args.script.now.opening.now = c.requires.fits in
+    let fit : Each (Fits c.args.script.now.small.now) c.args.script.now.opening.now = c.args.script.now.timetable.fits in
     search rules
