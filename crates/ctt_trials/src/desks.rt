@@ -1,6 +1,6 @@
 //! A script as events on a desk that keeps its journal: one by one, and at once. What the desk leaves is told.
 
-ghost use Rattle.std.specs.Prelude.{◌↔◌, IsTrue, length};
+ghost use Rattle.std.specs.Prelude.{◌↔◌, IsTrue};
 ghost use Rattle.std.specs.List.{AllByRecursion as Each};
 ghost use Rattle.ctt_core.specs.Runs.{EventFits};
 
@@ -24,20 +24,13 @@ pub(crate) fn tell_desk<'i, S: Sheet<'i>>(
     tell_journal::<S>(story, script, desk.journal());
 }
 
-/// Whether an event is one of a desk.
-fn event_fits<'i, S: Sheet<'i>>(desk: &Desk<'i, S, KeepAll>, event: &Event) -> bool
-    ensures { IsTrue result ↔ EventFits desk.now.problem (length desk.now.drafts) event.now }
-{
-    event.fits(desk.instance(), desk.planners())
-}
-
 /// Tells what a desk answers to an event, and answers whether it was told: want of memory is not.
 fn tells_step<'i, S: Sheet<'i>>(
     story: &mut Story,
     desk: &mut Desk<'i, S, KeepAll>,
     event: &Event,
 ) -> bool {
-    if !event_fits(desk, event) {
+    if !event.fits(desk.instance(), desk.planners()) {
         return false;
     }
     let small = desk.instance();
@@ -93,14 +86,6 @@ fn all_fit(events: &[Event], instance: &Instance, planners: u16) -> bool
     events.iter().all(|event| event.fits(instance, planners))
 }
 
-/// Whether events are some of a desk.
-fn events_fit<'i, S: Sheet<'i>>(desk: &Desk<'i, S, KeepAll>, events: &[Event]) -> bool
-    ensures { IsTrue result
-        ↔ Each (EventFits desk.now.problem (length desk.now.drafts)) events.now }
-{
-    all_fit(events, desk.instance(), desk.planners())
-}
-
 /// Tells what a desk answers to events at once. Where an event wants memory those behind it meet another desk than they
 /// should: then the case is played again.
 fn tell_answers<'i, S: Sheet<'i>>(
@@ -108,7 +93,7 @@ fn tell_answers<'i, S: Sheet<'i>>(
     desk: &mut Desk<'i, S, KeepAll>,
     events: &[Event],
 ) {
-    if !events_fit(desk, events) {
+    if !all_fit(events, desk.instance(), desk.planners()) {
         return story.say("unfit");
     }
     let small = desk.instance();

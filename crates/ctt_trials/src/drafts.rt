@@ -1,7 +1,6 @@
 //! Drafts by themselves.
 
-ghost use Rattle.std.specs.Prelude.{◌≡◌, ◌↔◌, IsTrue, IfOk};
-ghost use Rattle.ctt_edits.specs.Calls.{CallFits};
+ghost use Rattle.std.specs.Prelude.{◌≡◌, IfOk};
 
 use crate::cases::On;
 use crate::sheets::{call_of, tell_cells, tell_sheet};
@@ -27,13 +26,6 @@ fn open<'i, S: Sheet<'i>>(alloc: Global, sheet: &S) -> Result<Draft<'i, S, KeepA
     Draft::open(alloc, sheet)
 }
 
-/// Whether a call has numbers of a draft's instance.
-fn call_fits<'i, S: Sheet<'i>>(draft: &Draft<'i, S, KeepAll>, call: &Call) -> bool
-    ensures { IsTrue result ↔ CallFits draft.now.problem call.now }
-{
-    call.fits(draft.instance())
-}
-
 /// What a draft answers to a call of its instance.
 fn ask_once<'i, S: Sheet<'i>>(
     draft: &mut Draft<'i, S, KeepAll>,
@@ -41,7 +33,7 @@ fn ask_once<'i, S: Sheet<'i>>(
 ) -> Result<Reply, NoMemory>
     ensures { draft.new.problem ≡ draft.old.problem }
 {
-    if !call_fits(draft, call) {
+    if !call.fits(draft.instance()) {
         return Err(NoMemory);
     }
     draft.call(*call)

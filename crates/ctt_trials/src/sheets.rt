@@ -2,8 +2,6 @@
 
 ghost use Rattle.std.specs.Prelude.{◌↔◌, IsTrue};
 ghost use Rattle.ctt_text.specs.Timetable.{Fits};
-ghost use Rattle.ctt_edits.specs.Edits.{EditFits};
-ghost use Rattle.ctt_edits.specs.Looks.{LookFits};
 
 use crate::cases::{On, Script};
 use crate::story::Story;
@@ -28,20 +26,6 @@ fn lecture_fits<'i, S: Sheet<'i>>(sheet: &S, lecture: &Placed) -> bool
     lecture.fits(sheet.instance())
 }
 
-/// Whether an edit has numbers of the instance of a sheet.
-fn edit_fits<'i, S: Sheet<'i>>(sheet: &S, edit: &Edit) -> bool
-    ensures { IsTrue result ↔ EditFits (S.problem sheet.now) edit.now }
-{
-    edit.fits(sheet.instance())
-}
-
-/// Whether a look has numbers of the instance of a sheet.
-fn look_fits<'i, S: Sheet<'i>>(sheet: &S, asked: &Look) -> bool
-    ensures { IsTrue result ↔ LookFits (S.problem sheet.now) asked.now }
-{
-    asked.fits(sheet.instance())
-}
-
 /// Tells the cells of a change: course, slot and room by their numbers, or that the room is none.
 pub(crate) fn tell_cells(story: &mut Story, cells: &[Cell]) {
     for cell in cells {
@@ -56,7 +40,7 @@ pub(crate) fn tell_cells(story: &mut Story, cells: &[Cell]) {
 
 /// Makes an edit on a sheet, and tells that it is done, or in full its change, and what that costs less.
 fn make<'i, S: Sheet<'i>>(story: &mut Story, sheet: &mut S, edit: &Edit, in_full: bool) {
-    if !edit_fits(sheet, edit) {
+    if !edit.fits(sheet.instance()) {
         return story.say("unfit");
     }
     match check(sheet, edit) {
@@ -75,7 +59,7 @@ fn make<'i, S: Sheet<'i>>(story: &mut Story, sheet: &mut S, edit: &Edit, in_full
 
 /// Looks at a sheet.
 fn show<'i, S: Sheet<'i>>(story: &mut Story, sheet: &S, asked: &Look) {
-    if !look_fits(sheet, asked) {
+    if !asked.fits(sheet.instance()) {
         return story.say("unfit");
     }
     story.reply(sheet.instance(), look(story.alloc(), sheet, asked));

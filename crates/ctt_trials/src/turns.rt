@@ -1,9 +1,8 @@
 //! The planners of a shared desk in their seats, and what they do there by turns.
 
-ghost use Rattle.std.specs.Prelude.{◌≡◌, ◌↔◌, IsTrue};
-ghost use Rattle.ctt_core.specs.Runs.{EventFits};
+ghost use Rattle.std.specs.Prelude.{◌≡◌};
 
-use crate::lists::{add, put_at, take_at};
+use crate::lists::{add, one_at, put_at, take_at};
 use crate::story::Story;
 use ctt_board::{Sheet, Timetable};
 use ctt_core::{Answer, Event};
@@ -95,13 +94,6 @@ pub(crate) fn leave<'i, S: Sheet<'i>, J: Naming>(
     planners
 }
 
-/// Whether an event has numbers of the instance of a desk.
-fn event_fits<'i, J: Naming>(here: &Here<'i, J>, event: &Event) -> bool
-    ensures { IsTrue result ↔ EventFits J.problem 64 event.now }
-{
-    event.fits(here.small, PLANNERS)
-}
-
 /// A planner does what an event says, and has a receipt, or is told something else.
 fn take<'i, S: Sheet<'i>, J: Naming, R: Wait>(
     rt: &R,
@@ -113,16 +105,16 @@ fn take<'i, S: Sheet<'i>, J: Naming, R: Wait>(
     if matches!(event, Event::Commit(_)) {
         return seat.commit(rt, desk);
     }
-    if !event_fits(here, event) {
+    if !event.fits(here.small, PLANNERS) {
         return (seat, Err(Told::NotYours(0)));
     }
     let (seat, told) = seat.take(rt, desk, *event);
     (seat, Err(told))
 }
 
-/// One of the planners learns a receipt, if he has no draft open.
-fn learn<'i, S: Sheet<'i>, J: Naming>(seats: &mut [Option<Seat<'i, S, J>>], receipt: &Receipt<J>) {
-    if let Some(Some(Seat::Free(planner))) = seats.get_mut(usize::from(LEARNER)) {
+/// Who sits there learns a receipt, if he has no draft open.
+fn learns<'i, S: Sheet<'i>, J: Naming>(seat: &mut Seat<'i, S, J>, receipt: &Receipt<J>) {
+    if let Seat::Free(planner) = seat {
         planner.learn(receipt);
     }
 }
@@ -137,7 +129,9 @@ fn tells<'i, S: Sheet<'i>, J: Naming>(
 ) -> bool {
     match told {
         Ok(receipt) => {
-            learn(seats, &receipt);
+            if let Some(seat) = one_at(seats, usize::from(LEARNER)) {
+                learns(seat, &receipt);
+            }
             story.tells(here.small, Answer::Committed(receipt.number()))
         }
         Err(Told::Answer(answer)) => story.tells(here.small, answer),
