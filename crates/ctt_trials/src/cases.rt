@@ -99,8 +99,7 @@ pub(crate) struct Script<'i> {
     pub(crate) opening: &'i [Placed],
     pub(crate) lines: &'i str,
     pub(crate) drops: bool,
-    ghost timetable: { IsTimetable small.now opening.now }
-        by { IsTimetable-prop small.now opening.now },
+    ghost timetable: { IsTimetable small.now opening.now } by { IsTimetable-prop small.now opening.now },
 }
 
 /// Plays a case without a sheet.

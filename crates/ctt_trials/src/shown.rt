@@ -1,6 +1,5 @@
 //! A timetable that is shown: its reports, its text, what is found of it, its week and its page.
 
-
 use crate::cases::Script;
 use crate::story::Story;
 use ctt_findings::{
