@@ -69,8 +69,6 @@ pub(crate) enum On {
     Audit,
     /// Its lines are the text of a journal, and what this leaves is told.
     Left,
-    /// Whether a shared desk opens.
-    Opening,
 }
 
 /// One way in which a case is played.
@@ -120,14 +118,13 @@ fn play_plain<R: Threads + Wait + Sync>(story: &mut Story, rt: &R, plain: &Plain
 fn play_on<'i, S: Sheet<'i>>(story: &mut Story, on: &On, script: &Script<'i>) {
     match on {
         On::Lines | On::Placement | On::Accepted => sheets::play::<S>(story, on, script),
-        On::Draft | On::LongDraft => drafts::play::<S>(story, on, script.small),
+        On::Draft | On::LongDraft => drafts::play::<S>(story, on, script),
         On::Step | On::Run => desks::play::<S>(story, on, script),
         On::Text => scripts::play_script::<S>(story, script),
         On::Devices => scripts::play_devices::<S>(story, script),
         On::Audit | On::Left => {
             journals::read_text::<S>(story, on, script, script.lines.as_bytes());
         }
-        On::Opening => shared::tell_opening::<S>(story, script),
     }
 }
 

@@ -37,20 +37,6 @@ fn tells_step<'i, S: Sheet<'i>>(
     story.tells(small, desk.step(*event))
 }
 
-/// Tells what a desk answers to an event. Where that is want of memory, it is asked again.
-fn tell_answer<'i, S: Sheet<'i>>(
-    story: &mut Story,
-    desk: &mut Desk<'i, S, KeepAll>,
-    event: &Event,
-) {
-    if !tells_step(story, desk, event) {
-        story.call_again();
-        if !tells_step(story, desk, event) {
-            story.no_memory();
-        }
-    }
-}
-
 /// What a line of a script asks for.
 trait OfLine: Drop {
     /// None for a bad line.
@@ -103,7 +89,7 @@ fn tell_answers<'i, S: Sheet<'i>>(
     }
 }
 
-/// Plays a script on a desk event by event, or at once, and tells what the desk then has. The place where its answers end in
+/// Plays a script on a desk event by event, each once more where memory is wanted, or at once, and tells what the desk then has. The place where its answers end in
 /// what is told is marked.
 fn play_at<'i, S: Sheet<'i>>(
     story: &mut Story,
@@ -116,7 +102,12 @@ fn play_at<'i, S: Sheet<'i>>(
         tell_answers(story, desk, &events);
     } else {
         for event in &events {
-            tell_answer(story, desk, event);
+            if !tells_step(story, desk, event) {
+                story.call_again();
+                if !tells_step(story, desk, event) {
+                    story.no_memory();
+                }
+            }
         }
     }
     story.marked = story.len();

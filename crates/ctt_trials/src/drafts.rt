@@ -2,14 +2,14 @@
 
 ghost use Rattle.std.specs.Prelude.{◌≡◌, IfOk};
 
-use crate::cases::On;
+use crate::cases::{On, Script};
 use crate::sheets::{call_of, tell_cells, tell_sheet};
 use crate::story::Story;
-use ctt_board::{Cell, Change, Sheet, Timetable};
-use ctt_core::Answer;
+use ctt_board::Sheet;
+use ctt_core::{Answer, placed};
 use ctt_draft::{Draft, KeepAll, replay};
 use ctt_edits::{Call, Reply};
-use ctt_text::{CourseNo, Instance, NoMemory, RoomNo, SlotNo, let_go};
+use ctt_text::{Instance, NoMemory, let_go};
 use std::alloc::Global;
 
 /// An empty sheet.
@@ -39,24 +39,7 @@ fn ask_once<'i, S: Sheet<'i>>(
     draft.call(*call)
 }
 
-/// What a draft answers to a call. Where that is want of memory, it is asked again.
-fn ask<'i, S: Sheet<'i>>(
-    story: &mut Story,
-    draft: &mut Draft<'i, S, KeepAll>,
-    call: &Call,
-) -> Result<Reply, NoMemory>
-    ensures { draft.new.problem ≡ draft.old.problem }
-{
-    match ask_once(draft, call) {
-        Ok(reply) => Ok(reply),
-        Err(NoMemory) => {
-            story.call_again();
-            ask_once(draft, call)
-        }
-    }
-}
-
-/// What a draft answers to the call of a line.
+/// What a draft answers to the call of a line. Where that is want of memory, it is asked again.
 fn ask_line<'i, S: Sheet<'i>>(
     story: &mut Story,
     draft: &mut Draft<'i, S, KeepAll>,
@@ -64,9 +47,15 @@ fn ask_line<'i, S: Sheet<'i>>(
 ) -> Result<Reply, NoMemory>
     ensures { draft.new.problem ≡ draft.old.problem }
 {
-    match call_of(draft.instance(), line.as_bytes()) {
-        Some(call) => ask(story, draft, &call),
-        None => Err(NoMemory),
+    let Some(call) = call_of(draft.instance(), line.as_bytes()) else {
+        return Err(NoMemory);
+    };
+    match ask_once(draft, &call) {
+        Ok(reply) => Ok(reply),
+        Err(NoMemory) => {
+            story.call_again();
+            ask_once(draft, &call)
+        }
     }
 }
 
@@ -179,32 +168,17 @@ fn long_draft<'i, S: Sheet<'i>>(story: &mut Story, sheet: &mut S) {
     settle(story, draft, sheet);
 }
 
-/// Places top in the third period of the first day, in room B, by a change.
-fn place_top<S: Timetable>(sheet: &mut S)
-    ensures { S.problem sheet.new ≡ S.problem sheet.old }
-{
-    let top = Cell {
-        course: CourseNo::new(2),
-        slot: SlotNo::new(2),
-        room: Some(RoomNo::new(1)),
-    };
-    if let Some(change) = Change::of(&[top]) {
-        let _is_made = replay(&[change], sheet);
-    }
-}
-
-/// A draft on an empty sheet, beside another sheet, or a long one.
-pub(crate) fn play<'i, S: Sheet<'i>>(story: &mut Story, on: &On, small: &'i Instance) {
+/// A draft on an empty sheet, beside a sheet with the lectures of a script, or a long one.
+pub(crate) fn play<'i, S: Sheet<'i>>(story: &mut Story, on: &On, script: &Script<'i>) {
     let alloc = story.alloc();
-    let Ok(mut sheet) = empty_sheet::<S>(alloc, small) else {
+    let Ok(mut sheet) = empty_sheet::<S>(alloc, script.small) else {
         return story.no_memory();
     };
     if matches!(on, On::LongDraft) {
         return long_draft(story, &mut sheet);
     }
-    let Ok(mut other) = empty_sheet::<S>(alloc, small) else {
+    let Ok(other) = placed::<S>(alloc, script.small, script.opening) else {
         return story.no_memory();
     };
-    place_top(&mut other);
     one_draft(story, &mut sheet, &other);
 }

@@ -9,7 +9,7 @@ use crate::story::Story;
 use crate::turns::{Here, LOOKS, Part, VIEWER, answer_lines, leave, sit};
 use ctt_board::{GridSheet, ListSheet, Sheet};
 use ctt_desk::{Named, Naming, Opened, Planner, SharedDesk, SharedFault};
-use ctt_text::let_go;
+use ctt_text::{Instance, let_go};
 use std::alloc::Global;
 use std::marker::{Brand, PhantomData};
 use std::sync::Wait;
@@ -90,6 +90,14 @@ fn play_named<'i, S: Sheet<'i>, J: Naming, R: Wait>(
     }
 }
 
+/// Tells why a desk does not open.
+fn tell_unopened(story: &mut Story, small: &Instance, fault: SharedFault) {
+    match fault {
+        SharedFault::Unlawful(at, fault) => story.unlawful(small, at, fault),
+        SharedFault::NoPlace | SharedFault::NoMemory => story.no_memory(),
+    }
+}
+
 /// Plays a script on a desk of list sheets of which is known which one it is.
 fn named_on_list<'i, J: Naming, R: Wait>(
     story: &mut Story,
@@ -117,7 +125,7 @@ fn named_on_list<'i, J: Naming, R: Wait>(
 pub(crate) fn on_list<R: Wait>(story: &mut Story, rt: &R, script: &Script) {
     match opened::<ListSheet>(story.alloc(), script) {
         Ok(opened) => named_on_list::<Brand, R>(story, rt, opened, PLANNERS, script),
-        Err(_fault) => story.no_memory(),
+        Err(fault) => tell_unopened(story, script.small, fault),
     }
 }
 
@@ -148,18 +156,6 @@ fn named_on_grid<'i, J: Naming, R: Wait>(
 pub(crate) fn on_grid<R: Wait>(story: &mut Story, rt: &R, script: &Script) {
     match opened::<GridSheet>(story.alloc(), script) {
         Ok(opened) => named_on_grid::<Brand, R>(story, rt, opened, PLANNERS, script),
-        Err(_fault) => story.no_memory(),
-    }
-}
-
-/// Tells whether a desk opens with the lectures of a script.
-pub(crate) fn tell_opening<'i, S: Sheet<'i>>(story: &mut Story, script: &Script<'i>) {
-    match opened::<S>(story.alloc(), script) {
-        Ok(opened) => {
-            story.say("opened");
-            let_go(opened);
-        }
-        Err(SharedFault::Unlawful(at, fault)) => story.unlawful(script.small, at, fault),
-        Err(_fault) => story.no_memory(),
+        Err(fault) => tell_unopened(story, script.small, fault),
     }
 }

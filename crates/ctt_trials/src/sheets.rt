@@ -152,12 +152,15 @@ pub(crate) fn play<'i, S: Sheet<'i>>(story: &mut Story, on: &On, script: &Script
     }
 }
 
-/// Tells the rows that a call reads.
-fn tell_rows_of(story: &mut Story, small: &Instance, call: &Call) {
-    if !call.fits(small) {
+/// Tells the rows that the call of a line reads.
+pub(crate) fn tell_rows(story: &mut Story, script: &Script) {
+    let Some(call) = call_of(script.small, script.lines.as_bytes()) else {
+        return story.say("bad line");
+    };
+    if !call.fits(script.small) {
         return story.say("unfit");
     }
-    match reads(story.alloc(), small, call) {
+    match reads(story.alloc(), script.small, &call) {
         Ok(rows) => {
             for row in &rows {
                 match row {
@@ -167,13 +170,5 @@ fn tell_rows_of(story: &mut Story, small: &Instance, call: &Call) {
             }
         }
         Err(NoMemory) => story.no_memory(),
-    }
-}
-
-/// Tells the rows that the call of a line reads.
-pub(crate) fn tell_rows(story: &mut Story, script: &Script) {
-    match call_of(script.small, script.lines.as_bytes()) {
-        Some(call) => tell_rows_of(story, script.small, &call),
-        None => story.say("bad line"),
     }
 }

@@ -1,7 +1,7 @@
 //! The tables of all cases.
 
 use crate::cases::{Case, On, Plain, Play, Way};
-use crate::texts::{CLASH, JOURNAL, NOTHING, SMALL, SOLUTION, WITHOUT_TOP};
+use crate::texts::{CLASH, JOURNAL, NOTHING, SMALL, SOLUTION, TOP, WITHOUT_TOP};
 use crate::worked::*;
 
 /// Ways in which a case is played, and how each is called.
@@ -102,7 +102,7 @@ const LEFT: &[Play] = plays![
 /// An opening that is refused, in each way.
 const UNLAWFUL: &[Play] = plays![
     Way::Grid(On::Step) => "",
-    Way::Grid(On::Opening) => "",
+    Way::SharedGrid => "",
     Way::Grid(On::Audit) => "",
     Way::Grid(On::Text) => "",
 ];
@@ -142,7 +142,7 @@ const ON_SHEETS: &[Case] = &[
     case!("accepted changes", SOLUTION, "", ACCEPTED),
     case!("price place alg B 0 0", NOTHING, PRICE, ROWS),
     case!("swap geo 0 1 top 0 2", NOTHING, SWAP, ROWS),
-    case!("drafts", NOTHING, "", DRAFT),
+    case!("drafts", TOP, "", DRAFT),
     case!("a draft of a thousand calls", NOTHING, "", LONG_DRAFT),
 ];
 

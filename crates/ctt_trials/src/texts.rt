@@ -34,6 +34,9 @@ pub(crate) const NOTHING: &str = "";
 /// A solution of it.
 pub(crate) const SOLUTION: &str = "alg A 0 0\nalg B 1 0\ngeo A 0 1\ngeo A 1 2\ntop B 0 2\n";
 
+/// Of the solution top alone.
+pub(crate) const TOP: &str = "top B 0 2\n";
+
 /// The solution without top.
 pub(crate) const WITHOUT_TOP: &str = "alg A 0 0\nalg B 1 0\ngeo A 0 1\ngeo A 1 2\n";
 
