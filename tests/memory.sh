@@ -128,7 +128,8 @@ echo "the trials met $((passed + failed)) refusals: $(noted again) calls were ma
 of_trials=$((passed + failed))
 spared=0
 for words in 'check small.ctt s.sol --json --barred barred' 'check small.ctt small.ctt' \
-    'check small.ctt s.sol --explain' 'check small.ctt s.sol --explain --json' 'week small.ctt s.sol --course geo' 'page small.ctt s.sol' \
+    'check small.ctt s.sol --explain' 'check small.ctt s.sol --explain --json' 'week small.ctt s.sol' 'week small.ctt s.sol --course geo' \
+    'page small.ctt s.sol' \
     'run small.ctt refreshed --barred barred --journal journal' 'audit small.ctt told --start s0.sol' \
     'journal small.ctt torn' 'list small.ctt told --start s0.sol' frobnicate; do
     "$program" $words >out 2>err

@@ -417,6 +417,8 @@ changes 45 END 'I3 45'
 printf 'Name: Small Courses: 2001\xff' >told.ctt
 run 'an instance that is not UTF-8 behind a fault' 1 '' 'timedesk: instance I1 25
 ' check told.ctt s.sol
+{ cat small.ctt && printf '\xff'; } >told.ctt
+run 'an instance that is not UTF-8 behind its end' 1 '' 'timedesk: instance I1 '"$(wc -c <small.ctt)"$'\n' check told.ctt s.sol
 # Checks a solution of the instance `small`, given as its text, against its fault.
 refuses_solution() {
     printf '%s' "$1" >told.sol
@@ -1138,8 +1140,11 @@ refuses() {
     printf '%s' "$2" >told
     run "$1" 1 '' "timedesk: journal $3"$'\n' audit small.ctt told
 }
-refuses 'a journal that is cut off' 'journal 1 entry 0 1 place top A 0 1' 'J2 11'
-refuses 'an empty journal' '' 'J2 1'
+# cut off behind each of its words
+read -ra words <<<'journal 1 entry 0 1 place top A 0 1 refused roomtaken geo END.'
+for ((count = 0; count < ${#words[@]}; count++)); do
+    refuses "a journal of $count words" "${words[*]:0:count}" "J2 $((count + 1))"
+done
 refuses 'an amount that is too large' 'journal 1 entry 0 1 cost costs 0 0 0 9223372036854775808 END.' 'J3 11'
 refuses 'a planner that is none' 'journal 1 entry 1000 0 END.' 'J3 4'
 refuses 'fewer entries than counted' 'journal 999999999 END.' 'J3 3'

@@ -7,8 +7,8 @@ use Rattle.ctt_words.specs.Jobs.{faults_of}
 use Rattle.ctt_tool.specs.Faults.{SaysFault}
 use Rattle.ctt_tool.specs.Work.{DoesAsAsked, EndsAsDone, AsksForRefusedText, AsksToStore, AsksToSay, SaysAsAsked, KeepAsAsked, AreTurnedDown, HasCause}
 
--- What the program has done for these words, by the status with which it ends. Of standard output `taken` says what it took, and
--- `failed` whether it failed; of standard error `told` and `broken` say so.
+-- what the program has done for these words, by the status with which it ends: of standard output `taken` says what it took, and
+-- `failed` whether it failed; of standard error `told` and `broken` say so
 pub record IsServed {W V : Type 0} (taken : W → Option (List ℕ)) (failed : W → Bool) (told : V → Option (List ℕ)) (broken : V → Bool) (words : List (List ℕ)) (status : ℕ) (before after : Held) (out new_out : W) (err new_err : V) : Type 0 where
   pub done : status ≡ 0 → DoesAsAsked words Done before after (taken out) (taken new_out)
   pub unsaid : status ≡ 0 → AsksToSay words ⊎ (new_err ≡ err)

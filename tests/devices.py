@@ -1,0 +1,237 @@
+#!/usr/bin/env python3
+"""Lets each read, write and sync of some runs fail, by calls in front of the C library's.
+
+A run takes its files byte by byte. Where a read fails it has to say so with status 3, print nothing and read no more. Where a
+write to standard output or to a file fails, or takes nothing, behind some bytes, these bytes have to be a front of what is
+written else, and no more may be written there. A desk whose minutes fail tells no commit as written that is not, and goes on.
+
+It needs a C compiler. PROGRAM names another program. The last line is 'N passed, M failed'.
+"""
+import os
+import shutil
+import subprocess
+import sys
+import tempfile
+
+sys.dont_write_bytecode = True
+from program import EXAMPLES, PROGRAM, check, end  # noqa: E402
+
+DEVICES = r"""
+#define _GNU_SOURCE
+#include <dlfcn.h>
+#include <errno.h>
+#include <fcntl.h>
+#include <stdatomic.h>
+#include <stdlib.h>
+#include <string.h>
+#include <unistd.h>
+
+static atomic_long reads, syncs, printed, stored;
+static long bad_read, bad_sync, prints, stores;
+static int idle, met = -1;
+static ssize_t (*next_read)(int, void *, size_t);
+static ssize_t (*next_write)(int, const void *, size_t);
+static int (*next_sync)(int);
+
+static long mark(const char *name, long otherwise) { return getenv(name) ? atol(getenv(name)) : otherwise; }
+
+__attribute__((constructor)) static void begin(void) {
+    next_read = dlsym(RTLD_NEXT, "read");
+    next_write = dlsym(RTLD_NEXT, "write");
+    next_sync = dlsym(RTLD_NEXT, "fdatasync");
+    bad_read = mark("BAD_READ", 0);
+    bad_sync = mark("BAD_SYNC", 0);
+    prints = mark("PRINTS", -1);
+    stores = mark("STORES", -1);
+    idle = mark("IDLE", 0);
+    met = open(getenv("MET"), O_WRONLY | O_CREAT | O_TRUNC, 0600);
+}
+
+/* notes a call that fails, and each one of its kind behind it */
+static void note(const char *kind) {
+    if (next_write(met, kind, strlen(kind)) < 0) {
+        _exit(99);
+    }
+}
+
+static int fail(const char *kind) {
+    note(kind);
+    errno = EIO;
+    return -1;
+}
+
+ssize_t read(int fd, void *bytes, size_t size) {
+    long now = atomic_fetch_add(&reads, 1) + 1;
+    if (now == bad_read) {
+        return fail("read\n");
+    }
+    if (bad_read > 0 && now > bad_read) {
+        note("read\n");
+    }
+    return next_read(fd, bytes, size > 1 ? 1 : size);
+}
+
+/* a write where there is room for so many bytes more, which then fails, or takes nothing */
+static ssize_t put(int fd, const void *bytes, size_t size, atomic_long *taken, long room) {
+    size_t left = (size_t)(room - atomic_load(taken));
+    if (room < 0 || size == 0) {
+        return next_write(fd, bytes, size);
+    }
+    if (left == 0) {
+        return fail("write\n") + idle;
+    }
+    atomic_fetch_add(taken, (long)(size < left ? size : left));
+    return next_write(fd, bytes, size < left ? size : left);
+}
+
+ssize_t write(int fd, const void *bytes, size_t size) {
+    if (fd == 2) {
+        return next_write(fd, bytes, size);
+    }
+    return fd == 1 ? put(fd, bytes, size, &printed, prints) : put(fd, bytes, size, &stored, stores);
+}
+
+int fdatasync(int fd) { return atomic_fetch_add(&syncs, 1) + 1 == bad_sync ? fail("sync\n") : next_sync(fd); }
+"""
+JOURNAL = "journal 1\nentry 0 1\nplace top A 0 1\nrefused roomtaken geo\nEND.\n"
+OWN = "open\nplace geo A 0 1\ncommit\n"
+# what is typed at a seat, its answers, and the entry of each commit
+TYPED = ["open", "place geo A 0 1", "commit", "open", "slot 0 1", "commit", "show cost", "leave"]
+TOLD = ["opened", "done", "committed 1", "opened", "lectures 1 geo A 0 1", "committed 2", "costs 0 15 2 0", "left"]
+ENTRIES = [b"entry 0 1\nplace geo A 0 1\ndone\n", b"entry 0 1\nslot 0 1\nlectures 1 geo A 0 1\n"]
+# what the desk says at its end behind so many commits
+CLOSED = ["journal 0\ncosts 0 20 0 0\n", "journal 1\ncosts 0 15 2 0\n", "journal 2\ncosts 0 15 2 0\n"]
+NOT_READ = "timedesk: cannot read {}\n"
+NOT_WRITTEN = "timedesk: cannot write\n"
+FAILS = ({}, {"IDLE": 1})
+
+
+def build(folder):
+    """The calls in front of the C library's, or an end where there is no compiler."""
+    compiler = next(filter(None, map(shutil.which, ("cc", "gcc", "clang"))), None)
+    if compiler is None:
+        print("no C compiler was found, so no read or write failed")
+        sys.exit(1)
+    source, made = (os.path.join(folder, name) for name in ("devices.c", "devices.so"))
+    with open(source, "w", encoding="ascii") as file:
+        file.write(DEVICES)
+    subprocess.run([compiler, "-O1", "-shared", "-fPIC", "-o", made, source, "-ldl"], check=True)
+    return made
+
+
+def held(folder, name):
+    """What a file holds; nothing where there is none."""
+    path = os.path.join(folder, name)
+    if not os.path.exists(path):
+        return b""
+    with open(path, "rb") as file:
+        return file.read()
+
+
+class Runs:
+    """Runs of these words in a folder, on the files that they read."""
+
+    def __init__(self, folder, made, words, files=(), typed=b""):
+        self.folder, self.made, self.words, self.files, self.typed = folder, made, words, files, typed
+
+    def run(self, **marks):
+        """How a run ended, what it printed, said and stored, and which of its calls failed or came too late."""
+        for name in ("met", "kept"):
+            if os.path.exists(os.path.join(self.folder, name)):
+                os.remove(os.path.join(self.folder, name))
+        marks = {name: str(mark) for name, mark in marks.items()}
+        env = {**os.environ, "LD_PRELOAD": self.made, "MET": "met", **marks} if marks else None
+        words = [PROGRAM, *self.words]
+        done = subprocess.run(words, cwd=self.folder, env=env, input=self.typed, capture_output=True, timeout=60)
+        met = held(self.folder, "met").decode()
+        return done.returncode, done.stdout, done.stderr.decode(), held(self.folder, "kept"), met
+
+    def check(self, name, wanted, **marks):
+        """Compares a run with how it has to end."""
+        check(f"{' '.join(self.words)}: {name}", self.run(**marks), wanted)
+
+    def check_reads(self):
+        """Lets each read fail: one for each byte of each file, and one at its end."""
+        number = 0
+        for file in self.files:
+            for _ in range(len(held(self.folder, file)) + 1):
+                number += 1
+                self.check(f"read {number} fails", (3, b"", NOT_READ.format(file), b"", "read\n"), BAD_READ=number)
+        check(f"{' '.join(self.words)}: there is no read {number + 1}", self.run(BAD_READ=number + 1)[4], "")
+
+    def check_all(self):
+        """Compares a run on slow devices with one on others, and lets each read and each write fail."""
+        status, printed, said, kept, _ = self.run()
+        self.check("byte by byte", (0, printed, "", kept, ""), BAD_READ=0)
+        check(f"{' '.join(self.words)}: status and standard error", (status, said), (0, ""))
+        self.check_reads()
+        for marks in FAILS:
+            for k in range(len(printed)):
+                self.check(f"{k} bytes are printed", (3, printed[:k], NOT_WRITTEN, b"", "write\n"), PRINTS=k, **marks)
+            for k in range(len(kept)):
+                self.check(f"{k} bytes are stored", (3, printed, NOT_WRITTEN, kept[:k], "write\n"), STORES=k, **marks)
+
+
+def told(lines, written=2):
+    """What a seat is told of so many lines, where so many commits are written: one that is not ends its draft, and the next is not tried."""
+    answers = list(TOLD)
+    if written == 0:
+        answers[2] = "not written"
+        answers[6] = "already open"
+    if written < 2:
+        answers[5] = "not written"
+    return "".join(f"{answer}\n" for answer in answers[:lines]).encode()
+
+
+def check_desk(folder, made):
+    """Lets the minutes of a desk fail, and then its seat, which ends so, while the desk ends as it should."""
+    typed = "".join(f"{line}\n" for line in TYPED).encode()
+    desk = Runs(folder, made, ["desk", "small.ctt", "-", "--minutes", "kept"], typed=typed)
+    every = len(TYPED)
+    ends = [b"".join(ENTRIES[:commits]) for commits in range(3)]
+
+    def left(lines):
+        """What the desk says at its end behind so many lines, and its minutes."""
+        commits = TYPED[:lines].count("commit")
+        return CLOSED[commits], ends[commits]
+
+    desk.check("byte by byte", (0, told(every), *left(every), ""), BAD_READ=0)
+    for k in range(len(ends[2])):
+        written = k >= len(ends[1])
+        for marks in FAILS:
+            wanted = (3, told(every, written), NOT_WRITTEN, ends[2][:k], "write\n")
+            desk.check(f"{k} bytes are stored", wanted, STORES=k, **marks)
+    for number in (1, 2):
+        wanted = (3, told(every, number - 1), NOT_WRITTEN, ends[number], "sync\n")
+        desk.check(f"sync {number} fails", wanted, BAD_SYNC=number)
+    check("there is no third sync", desk.run(BAD_SYNC=3)[4], "")
+    for k in range(len(told(every))):
+        answered = told(every)[:k].count(b"\n") + 1
+        for marks in FAILS:
+            wanted = (0, told(every)[:k], *left(answered), "write\n")
+            desk.check(f"{k} bytes are printed", wanted, PRINTS=k, **marks)
+    before = len(held(folder, "small.ctt")) + 1
+    for k in range(len(typed)):
+        lines = typed[:k].count(b"\n")
+        wanted = (0, told(lines), *left(lines), "read\n")
+        desk.check(f"{k} bytes are typed", wanted, BAD_READ=before + k + 1)
+    check("there is no read behind the last line", desk.run(BAD_READ=before + len(typed) + 1)[4], "")
+
+
+with tempfile.TemporaryDirectory() as room:
+    shim = build(room)
+    for example in ("small.ctt", "s.sol", "phantom.txt"):
+        shutil.copy(os.path.join(EXAMPLES, example), room)
+    start = "".join(held(room, "s.sol").decode().splitlines(keepends=True)[:4])
+    for example, text in (("told", JOURNAL), ("own", OWN), ("s0.sol", start), ("barred", "Barred: 0 END.\n")):
+        with open(os.path.join(room, example), "w", encoding="ascii") as opened:
+            opened.write(text)
+    for command, read in (
+        ("check small.ctt s.sol --barred barred", ["small.ctt", "barred", "s.sol"]),
+        ("run small.ctt phantom.txt --journal kept", ["small.ctt", "phantom.txt"]),
+        ("audit small.ctt told --start s0.sol", ["small.ctt", "told", "s0.sol"]),
+        ("crew small.ctt own", ["small.ctt", "own"]),
+    ):
+        Runs(room, shim, command.split(), read).check_all()
+    check_desk(room, shim)
+end()
