@@ -4,7 +4,7 @@ ghost use Rattle.ctt_text.specs.Timetable.{IsTimetable};
 ghost use Rattle.ctt_trials.specs.Scripts.{IsTimetable-prop};
 
 use crate::story::Story;
-use crate::{crews, cuts, desks, drafts, journals, scripts, shared, sheets, shown, transfers};
+use crate::{crews, desks, drafts, journals, scripts, shared, sheets, shown};
 use ctt_board::{GridSheet, ListSheet, Sheet};
 use ctt_text::{Instance, Placed, let_go, read_solution};
 use std::marker::Sync;
@@ -19,10 +19,8 @@ pub(crate) enum Way {
     List(On),
     /// On grid sheets.
     Grid(On),
-    /// Its lines by the planners of a shared desk of list sheets.
-    SharedList,
-    /// Its lines by the planners of a shared desk of grid sheets.
-    SharedGrid,
+    /// Its lines by the planners of a shared desk, of grid sheets.
+    Shared,
 }
 
 /// How a case is played without a sheet.
@@ -31,18 +29,10 @@ pub(crate) enum Plain {
     Reports,
     /// Its opening is written and read again.
     Written,
-    /// What is found of its opening, its week and its page.
-    Findings,
     /// Which rows its line reads.
     Rows,
     /// Its lines are the script of a crew of one.
     Crew,
-    /// Texts that are cut, and texts that count falsely.
-    Cut,
-    /// Its lines are a text that is read from devices that fail.
-    Reads,
-    /// Its lines are a text that is written to devices that fail.
-    Writes,
 }
 
 /// How a case is played on sheets of one kind.
@@ -51,8 +41,6 @@ pub(crate) enum On {
     Lines,
     /// One placement on a sheet.
     Placement,
-    /// Which changes a sheet accepts.
-    Accepted,
     /// A draft that is stale on another sheet.
     Draft,
     /// A draft of a thousand calls.
@@ -63,8 +51,10 @@ pub(crate) enum On {
     Run,
     /// Its lines as a text, whose answers are a text.
     Text,
-    /// Its lines as a script on devices that fail.
-    Devices,
+    /// Its lines as a text, whose journal is told.
+    Journal,
+    /// Its lines as a text, whose answers are not passed on.
+    Unflushed,
     /// Its lines are the text of a journal, which is audited.
     Audit,
     /// Its lines are the text of a journal, and what this leaves is told.
@@ -105,23 +95,20 @@ fn play_plain<R: Threads + Wait + Sync>(story: &mut Story, rt: &R, plain: &Plain
     match plain {
         Plain::Reports => shown::play_reports(story, script),
         Plain::Written => shown::play_written(story, script),
-        Plain::Findings => shown::play_findings(story, script),
         Plain::Rows => sheets::tell_rows(story, script),
         Plain::Crew => crews::play(story, rt, script),
-        Plain::Cut => cuts::play(story, script.small),
-        Plain::Reads => transfers::play_reads(story, script.lines),
-        Plain::Writes => transfers::play_writes(story, script.lines),
     }
 }
 
 /// Plays a case on sheets of one kind.
 fn play_on<'i, S: Sheet<'i>>(story: &mut Story, on: &On, script: &Script<'i>) {
     match on {
-        On::Lines | On::Placement | On::Accepted => sheets::play::<S>(story, on, script),
+        On::Lines | On::Placement => sheets::play::<S>(story, on, script),
         On::Draft | On::LongDraft => drafts::play::<S>(story, on, script),
         On::Step | On::Run => desks::play::<S>(story, on, script),
         On::Text => scripts::play_script::<S>(story, script),
-        On::Devices => scripts::play_devices::<S>(story, script),
+        On::Journal => scripts::play_journal::<S>(story, script),
+        On::Unflushed => scripts::play_unflushed::<S>(story, script),
         On::Audit | On::Left => {
             journals::read_text::<S>(story, on, script, script.lines.as_bytes());
         }
@@ -134,8 +121,7 @@ fn play_once<R: Threads + Wait + Sync>(story: &mut Story, rt: &R, way: &Way, scr
         Way::Plain(plain) => play_plain(story, rt, plain, script),
         Way::List(on) => play_on::<ListSheet>(story, on, script),
         Way::Grid(on) => play_on::<GridSheet>(story, on, script),
-        Way::SharedList => shared::on_list(story, rt, script),
-        Way::SharedGrid => shared::on_grid(story, rt, script),
+        Way::Shared => shared::play(story, rt, script),
     }
 }
 

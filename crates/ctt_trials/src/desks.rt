@@ -5,7 +5,6 @@ ghost use Rattle.std.specs.List.{AllByRecursion as Each};
 ghost use Rattle.ctt_core.specs.Runs.{EventFits};
 
 use crate::cases::{On, Script};
-use crate::journals::tell_journal;
 use crate::lists::add;
 use crate::story::Story;
 use ctt_board::Sheet;
@@ -14,14 +13,10 @@ use ctt_draft::KeepAll;
 use ctt_script::{Lines, PLANNERS, read_line};
 use ctt_text::{Instance, NoMemory, let_go};
 
-/// Tells the lectures, the cost and the journal of a desk.
-pub(crate) fn tell_desk<'i, S: Sheet<'i>>(
-    story: &mut Story,
-    script: &Script<'i>,
-    desk: &Desk<'i, S, KeepAll>,
-) {
-    story.timetable(script.small, desk.list(), desk.cost());
-    tell_journal::<S>(story, script, desk.journal());
+/// Tells the lectures and the cost of a desk, and how many entries its journal has.
+pub(crate) fn tell_desk<'i, S: Sheet<'i>>(story: &mut Story, desk: &Desk<'i, S, KeepAll>) {
+    story.timetable(desk.instance(), desk.list(), desk.cost());
+    story.count("entries", desk.journal().len() as u64);
 }
 
 /// Tells what a desk answers to an event, and answers whether it was told: want of memory is not.
@@ -84,7 +79,7 @@ fn tell_answers<'i, S: Sheet<'i>>(
     }
     let small = desk.instance();
     match desk.run(events) {
-        Ok(answers) => story.answers(small, &answers),
+        Ok(answers) => story.answers(small, answers),
         Err(NoMemory) => story.no_memory(),
     }
 }
@@ -111,7 +106,7 @@ fn play_at<'i, S: Sheet<'i>>(
         }
     }
     story.marked = story.len();
-    tell_desk(story, script, desk);
+    tell_desk(story, desk);
 }
 
 /// Plays a script event by event, or at once.

@@ -8,16 +8,9 @@ use crate::story::Story;
 use ctt_board::Sheet;
 use ctt_core::{Answer, placed};
 use ctt_draft::{Draft, KeepAll, replay};
-use ctt_edits::{Call, Reply};
-use ctt_text::{Instance, NoMemory, let_go};
+use ctt_edits::Reply;
+use ctt_text::{NoMemory, let_go};
 use std::alloc::Global;
-
-/// An empty sheet.
-fn empty_sheet<'i, S: Sheet<'i>>(alloc: Global, small: &'i Instance) -> Result<S, NoMemory>
-    ensures { IfOk result (λ sheet. S.problem sheet ≡ small.now) }
-{
-    S::empty(alloc, small)
-}
 
 /// Opens a draft on a sheet.
 fn open<'i, S: Sheet<'i>>(alloc: Global, sheet: &S) -> Result<Draft<'i, S, KeepAll>, NoMemory>
@@ -26,21 +19,8 @@ fn open<'i, S: Sheet<'i>>(alloc: Global, sheet: &S) -> Result<Draft<'i, S, KeepA
     Draft::open(alloc, sheet)
 }
 
-/// What a draft answers to a call of its instance.
-fn ask_once<'i, S: Sheet<'i>>(
-    draft: &mut Draft<'i, S, KeepAll>,
-    call: &Call,
-) -> Result<Reply, NoMemory>
-    ensures { draft.new.problem ≡ draft.old.problem }
-{
-    if !call.fits(draft.instance()) {
-        return Err(NoMemory);
-    }
-    draft.call(*call)
-}
-
 /// What a draft answers to the call of a line. Where that is want of memory, it is asked again.
-fn ask_line<'i, S: Sheet<'i>>(
+fn ask<'i, S: Sheet<'i>>(
     story: &mut Story,
     draft: &mut Draft<'i, S, KeepAll>,
     line: &str,
@@ -50,18 +30,14 @@ fn ask_line<'i, S: Sheet<'i>>(
     let Some(call) = call_of(draft.instance(), line.as_bytes()) else {
         return Err(NoMemory);
     };
-    match ask_once(draft, &call) {
+    let asked = &call;
+    match draft.call(*asked) {
         Ok(reply) => Ok(reply),
         Err(NoMemory) => {
             story.call_again();
-            ask_once(draft, &call)
+            draft.call(*asked)
         }
     }
-}
-
-/// Whether an edit was made.
-fn is_done(told: Result<Reply, NoMemory>) -> bool {
-    matches!(told, Ok(Reply::Done))
 }
 
 /// Asks a draft what a line says, and tells the answer.
@@ -69,28 +45,20 @@ fn tell_asked<'i, S: Sheet<'i>>(story: &mut Story, draft: &mut Draft<'i, S, Keep
     ensures { draft.new.problem ≡ draft.old.problem }
 {
     let small = draft.instance();
-    let told = ask_line(story, draft, line);
+    let told = ask(story, draft, line);
     story.reply(small, told);
 }
 
-/// Asks a draft what a line says: an edit, whose answer is not told.
-fn make<'i, S: Sheet<'i>>(story: &mut Story, draft: &mut Draft<'i, S, KeepAll>, line: &str)
-    ensures { draft.new.problem ≡ draft.old.problem }
-{
-    let told = ask_line(story, draft, line);
-    if !is_done(told) {
-        story.no_memory();
-    }
-}
-
-/// Asks a draft a thousand times, by turns to place geo and to drop it again.
+/// Asks a draft a thousand times, by turns to place geo and to drop it again, and tells how many bytes that is answered.
 fn ask_often<'i, S: Sheet<'i>>(story: &mut Story, draft: &mut Draft<'i, S, KeepAll>)
     ensures { draft.new.problem ≡ draft.old.problem }
 {
+    let here = story.len();
     for turn in 0..500u64 {
-        make(story, draft, "place geo A 0 1");
-        make(story, draft, "drop geo 0 1");
+        tell_asked(story, draft, "place geo A 0 1");
+        tell_asked(story, draft, "drop geo 0 1");
     }
+    story.measure(here);
 }
 
 /// Tells whether a draft is stale against a sheet.
@@ -171,7 +139,7 @@ fn long_draft<'i, S: Sheet<'i>>(story: &mut Story, sheet: &mut S) {
 /// A draft on an empty sheet, beside a sheet with the lectures of a script, or a long one.
 pub(crate) fn play<'i, S: Sheet<'i>>(story: &mut Story, on: &On, script: &Script<'i>) {
     let alloc = story.alloc();
-    let Ok(mut sheet) = empty_sheet::<S>(alloc, script.small) else {
+    let Ok(mut sheet) = placed::<S>(alloc, script.small, &[]) else {
         return story.no_memory();
     };
     if matches!(on, On::LongDraft) {

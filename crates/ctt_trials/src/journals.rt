@@ -1,45 +1,15 @@
 //! Journals: their entries written, read and audited.
 
-ghost use Rattle.std.specs.Prelude.{◌↔◌, IsTrue};
 ghost use Rattle.std.specs.List.{AllByRecursion as Each};
-ghost use Rattle.ctt_edits.specs.Fitting.{IsShortReply};
 ghost use Rattle.ctt_core.specs.Entries.{EntryFits};
-ghost use Rattle.ctt_script.specs.Entries.{IsEntry, IsShort};
+ghost use Rattle.ctt_script.specs.Entries.{IsWritable};
 
 use crate::cases::{On, Script};
 use crate::story::Story;
 use ctt_board::Sheet;
 use ctt_core::{JournalEntry, NoList, Verdict, audit, list_after};
-use ctt_edits::Reply;
 use ctt_script::{read_journal, write_journal};
 use ctt_text::{Instance, NoMemory, Placed};
-
-/// Whether a reply can be written.
-fn is_short_reply(reply: &Reply) -> bool
-    ensures { IsTrue result ↔ IsShortReply reply.now }
-{
-    match reply {
-        Reply::Lectures(list) => list.as_slice().len() <= 999_999_999,
-        Reply::Done | Reply::Refused(_) | Reply::Costs(_) | Reply::Price(_) => true,
-    }
-}
-
-/// Whether an entry can be written.
-fn is_short(entry: &JournalEntry) -> bool
-    ensures { IsTrue result ↔ IsShort entry.now }
-{
-    let asked = entry.asked.as_slice();
-    asked.len() <= 999_999_999 && asked.iter().all(|one| is_short_reply(&one.reply))
-}
-
-/// Whether entries are some of an instance, and can be written.
-fn are_entries(small: &Instance, entries: &[JournalEntry]) -> bool
-    ensures { IsTrue result ↔ Each (IsEntry small.now) entries.now }
-{
-    entries
-        .iter()
-        .all(|entry| entry.fits(small) && is_short(entry))
-}
 
 /// Tells what was found of a journal.
 fn tell_found(story: &mut Story, small: &Instance, found: Verdict) {
@@ -102,29 +72,19 @@ pub(crate) fn read_text<'i, S: Sheet<'i>>(
     }
 }
 
-/// The journal of entries. Where there is none, that is told, or the case is to be played again.
-fn written(story: &mut Story, small: &Instance, entries: &[JournalEntry]) -> Option<Vec<u8>> {
-    if !are_entries(small, entries) || entries.len() > 999_999_999 {
-        story.say("unfit");
-        return None;
-    }
-    match write_journal(story.alloc(), small, entries) {
-        Ok(text) => Some(text),
-        Err(NoMemory) => {
-            story.no_memory();
-            None
-        }
-    }
-}
-
-/// Tells the journal of entries, and what is found of it.
+/// Tells the journal of entries, and what is found of it when it is read.
 pub(crate) fn tell_journal<'i, S: Sheet<'i>>(
     story: &mut Story,
     script: &Script<'i>,
     entries: &[JournalEntry],
-) {
-    if let Some(text) = written(story, script.small, entries) {
-        story.bytes(&text);
-        read_text::<S>(story, &On::Audit, script, &text);
+)
+    requires { IsWritable script.now.small.now entries.now }
+{
+    match write_journal(story.alloc(), script.small, entries) {
+        Ok(text) => {
+            story.bytes(&text);
+            read_text::<S>(story, &On::Audit, script, &text);
+        }
+        Err(NoMemory) => story.no_memory(),
     }
 }

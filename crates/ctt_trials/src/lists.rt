@@ -10,11 +10,6 @@ pub(crate) fn add<T: Drop>(list: &mut Vec<T>, one: T) -> Result<(), AllocError> 
     }
 }
 
-/// What stands in a place, if anything does.
-pub(crate) fn one_at<T: Drop>(places: &mut [Option<T>], place: usize) -> Option<&mut T> {
-    places.get_mut(place)?.as_mut()
-}
-
 /// Takes what stands in a place, if anything does.
 pub(crate) fn take_at<T: Drop>(places: &mut [Option<T>], place: usize) -> Option<T> {
     places.get_mut(place)?.take()

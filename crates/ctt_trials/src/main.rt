@@ -6,9 +6,7 @@
 mod barred;
 mod cases;
 mod crews;
-mod cuts;
 mod desks;
-mod devices;
 mod drafts;
 mod journals;
 mod lists;
@@ -19,13 +17,12 @@ mod shown;
 mod story;
 mod tables;
 mod texts;
-mod transfers;
 mod turns;
 mod worked;
 
 use cases::play_cases;
-use ctt_devices::Device;
-use ctt_text::{let_go, read_instance};
+use ctt_devices::{Device, INPUT_LIMIT, read_all};
+use ctt_text::{Instance, let_go, read_instance};
 use std::alloc::Global;
 use std::marker::Sync;
 use std::process::ExitCode;
@@ -35,10 +32,16 @@ use story::Story;
 use tables::{of_texts, on_desks, on_sheets, refreshed_desks, refusing_desks};
 use texts::SMALL;
 
+/// The small instance, read from a device.
+fn small_instance(alloc: Global) -> Option<Instance> {
+    let text = read_all(alloc, &mut Device::new(SMALL.as_bytes()), INPUT_LIMIT).ok()?;
+    read_instance(alloc, &text).ok()
+}
+
 /// All that is played.
 fn play<R: Threads + Wait + Sync>(story: &mut Story, rt: &R) {
-    match read_instance(story.alloc(), SMALL.as_bytes()) {
-        Ok(mut small) => {
+    match small_instance(story.alloc()) {
+        Some(mut small) => {
             play_cases(story, rt, &small, on_sheets());
             play_cases(story, rt, &small, on_desks());
             play_cases(story, rt, &small, refreshed_desks());
@@ -47,7 +50,7 @@ fn play<R: Threads + Wait + Sync>(story: &mut Story, rt: &R) {
             barred::play(story, rt, &mut small);
             let_go(small);
         }
-        Err(_fault) => story.no_memory(),
+        None => story.no_memory(),
     }
 }
 

@@ -4,10 +4,9 @@ ghost use Rattle.std.specs.Prelude.{◌≡◌, IfOk};
 ghost use Rattle.ctt_desk.specs.Names.{IsNamed};
 
 use crate::cases::Script;
-use crate::journals::tell_journal;
 use crate::story::Story;
 use crate::turns::{Here, LOOKS, Part, VIEWER, answer_lines, leave, sit};
-use ctt_board::{GridSheet, ListSheet, Sheet};
+use ctt_board::{GridSheet, Sheet};
 use ctt_desk::{Named, Naming, Opened, Planner, SharedDesk, SharedFault};
 use ctt_text::{Instance, let_go};
 use std::alloc::Global;
@@ -60,7 +59,7 @@ fn close<'i, S: Sheet<'i>, J: Naming, R: Wait>(
     match desk.close(rt, planners) {
         Ok(closed) => {
             story.timetable(script.small, closed.list(), closed.cost());
-            tell_journal::<S>(story, script, closed.journal());
+            story.count("entries", closed.journal().len() as u64);
             let_go(closed);
         }
         Err(closed) => let_go(closed),
@@ -98,39 +97,8 @@ fn tell_unopened(story: &mut Story, small: &Instance, fault: SharedFault) {
     }
 }
 
-/// Plays a script on a desk of list sheets of which is known which one it is.
-fn named_on_list<'i, J: Naming, R: Wait>(
-    story: &mut Story,
-    rt: &R,
-    opened: Opened<ListSheet<'i>>,
-    count: u16,
-    script: &Script<'i>,
-)
-    requires named { IsNamed J.problem J.opening J.planners J.book opened count }
-    requires problem { opened.problem ≡ script.now.small.now }
-{
-    let here = Here {
-        small: script.small,
-        desk: PhantomData,
-    };
-    let named = Named {
-        opened,
-        count,
-        name: PhantomData,
-    };
-    play_named::<ListSheet, J, R>(story, rt, named, &here, script);
-}
-
-/// Plays a script on a desk of list sheets.
-pub(crate) fn on_list<R: Wait>(story: &mut Story, rt: &R, script: &Script) {
-    match opened::<ListSheet>(story.alloc(), script) {
-        Ok(opened) => named_on_list::<Brand, R>(story, rt, opened, PLANNERS, script),
-        Err(fault) => tell_unopened(story, script.small, fault),
-    }
-}
-
-/// Plays a script on a desk of grid sheets of which is known which one it is.
-fn named_on_grid<'i, J: Naming, R: Wait>(
+/// Plays a script on a desk of which is known which one it is.
+fn play_opened<'i, J: Naming, R: Wait>(
     story: &mut Story,
     rt: &R,
     opened: Opened<GridSheet<'i>>,
@@ -153,9 +121,9 @@ fn named_on_grid<'i, J: Naming, R: Wait>(
 }
 
 /// Plays a script on a desk of grid sheets.
-pub(crate) fn on_grid<R: Wait>(story: &mut Story, rt: &R, script: &Script) {
+pub(crate) fn play<R: Wait>(story: &mut Story, rt: &R, script: &Script) {
     match opened::<GridSheet>(story.alloc(), script) {
-        Ok(opened) => named_on_grid::<Brand, R>(story, rt, opened, PLANNERS, script),
+        Ok(opened) => play_opened::<Brand, R>(story, rt, opened, PLANNERS, script),
         Err(fault) => tell_unopened(story, script.small, fault),
     }
 }

@@ -1,18 +1,21 @@
 //! Cases on one sheet: what is placed, asked and refused.
 
-ghost use Rattle.std.specs.Prelude.{◌↔◌, IsTrue};
+ghost use Rattle.std.specs.Prelude.{◌↔◌, IfSome, IsTrue};
 ghost use Rattle.ctt_text.specs.Timetable.{Fits};
+ghost use Rattle.ctt_edits.specs.Calls.{CallFits};
 
 use crate::cases::{On, Script};
 use crate::story::Story;
-use ctt_board::{Cell, Change, Sheet};
+use ctt_board::{Cell, Sheet};
 use ctt_core::{Event, PlannerNo, placed};
 use ctt_edits::{Call, Edit, Look, Row, check, look, reads};
 use ctt_script::{Lines, read_own_line};
 use ctt_text::{CourseNo, Instance, NoMemory, Placed, RoomNo, SlotNo};
 
 /// The call that a line asks for.
-pub(crate) fn call_of(small: &Instance, line: &[u8]) -> Option<Call> {
+pub(crate) fn call_of(small: &Instance, line: &[u8]) -> Option<Call>
+    ensures { IfSome result (CallFits small.now) }
+{
     match read_own_line(small, PlannerNo::new(0), line) {
         Some(Event::Ask(_, call)) => Some(call),
         _ => None,
@@ -118,34 +121,11 @@ fn place_geo<'i, S: Sheet<'i>>(story: &mut Story, sheet: &mut S) {
     }
 }
 
-/// Changes of one cell, by the numbers of course and slot, and whether room A is named: an addition of top where the room is
-/// taken, a removal of geo, and a cell of a course that is not there.
-const CHANGES: &[(u16, u16, bool)] = &[(2, 1, true), (1, 5, false), (3, 1, true)];
-
-/// Which changes a sheet accepts.
-fn tell_accepted<'i, S: Sheet<'i>>(story: &mut Story, sheet: &S) {
-    for (course, slot, is_placed) in CHANGES {
-        let cell = Cell {
-            course: CourseNo::new(*course),
-            slot: SlotNo::new(*slot),
-            room: if *is_placed {
-                Some(RoomNo::new(0))
-            } else {
-                None
-            },
-        };
-        if let Some(change) = Change::of(&[cell]) {
-            story.count("accepted", u64::from(sheet.accepts(&change)));
-        }
-    }
-}
-
-/// Plays lines, a placement or changes on a sheet that has the lectures of a script at first.
+/// Plays lines or a placement on a sheet that has the lectures of a script at first.
 pub(crate) fn play<'i, S: Sheet<'i>>(story: &mut Story, on: &On, script: &Script<'i>) {
     match placed::<S>(story.alloc(), script.small, script.opening) {
         Ok(mut sheet) => match on {
             On::Placement => place_geo(story, &mut sheet),
-            On::Accepted => tell_accepted(story, &sheet),
             _ => answer_lines(story, script, &mut sheet),
         },
         Err(_fault) => story.no_memory(),
@@ -157,9 +137,6 @@ pub(crate) fn tell_rows(story: &mut Story, script: &Script) {
     let Some(call) = call_of(script.small, script.lines.as_bytes()) else {
         return story.say("bad line");
     };
-    if !call.fits(script.small) {
-        return story.say("unfit");
-    }
     match reads(story.alloc(), script.small, &call) {
         Ok(rows) => {
             for row in &rows {

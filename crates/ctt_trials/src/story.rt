@@ -148,6 +148,13 @@ impl Story {
         self.bytes(b"\n");
     }
 
+    /// Tells how many bytes were told from a place on, in their place.
+    pub(crate) fn measure(&mut self, from: usize) {
+        let told = self.text.len().saturating_sub(from);
+        self.text.truncate(from);
+        self.count("bytes", told as u64);
+    }
+
     /// Tells at which lecture an opening is refused.
     pub(crate) fn unlawful(&mut self, instance: &Instance, at: u64, fault: EditFault) {
         self.pair("opening", at);
@@ -156,19 +163,14 @@ impl Story {
     }
 
     /// Tells an answer, unless that is want of memory, and answers whether it was told.
-    fn writes(&mut self, instance: &Instance, answer: &Answer) -> bool {
+    pub(crate) fn tells(&mut self, instance: &Instance, answer: Answer) -> bool {
         if matches!(answer, Answer::NoMemory) {
             return false;
         }
-        let is_written = answer_fits(instance, answer)
-            && write_answer(&mut self.line, instance, answer).is_ok();
+        let is_written = answer_fits(instance, &answer)
+            && write_answer(&mut self.line, instance, &answer).is_ok();
         self.end_line(is_written);
         true
-    }
-
-    /// Tells an answer that is needed no more, unless that is want of memory, and answers whether it was told.
-    pub(crate) fn tells(&mut self, instance: &Instance, answer: Answer) -> bool {
-        self.writes(instance, &answer)
     }
 
     /// Tells an answer. Want of memory is none: then the case is to be played again.
@@ -179,11 +181,9 @@ impl Story {
     }
 
     /// Tells answers.
-    pub(crate) fn answers(&mut self, instance: &Instance, answers: &[Answer]) {
+    pub(crate) fn answers(&mut self, instance: &Instance, answers: Vec<Answer>) {
         for answer in answers {
-            if !self.writes(instance, answer) {
-                self.no_memory();
-            }
+            self.answer(instance, answer);
         }
     }
 
@@ -229,24 +229,6 @@ impl Story {
         match told {
             Ok(text) => self.bytes(&text),
             Err(NoMemory) => self.no_memory(),
-        }
-    }
-
-    /// Tells how a text was read: that it was, or by its words and its place the fault that it has to have. Of another
-    /// fault nothing is told.
-    pub(crate) fn read<F: PartialEq>(
-        &mut self,
-        fault: &Option<F>,
-        no_memory: &F,
-        fit: &F,
-        words: &str,
-        at: u64,
-    ) {
-        match fault {
-            None => self.bytes(b"read"),
-            Some(fault) if fault == no_memory => self.no_memory(),
-            Some(fault) if fault == fit => self.pair(words, at),
-            Some(_) => {}
         }
     }
 

@@ -1,7 +1,7 @@
 //! The tables of all cases.
 
 use crate::cases::{Case, On, Plain, Play, Way};
-use crate::texts::{CLASH, JOURNAL, NOTHING, SMALL, SOLUTION, TOP, WITHOUT_TOP};
+use crate::texts::{CLASH, JOURNAL, NOTHING, SOLUTION, TOP, WITHOUT_TOP};
 use crate::worked::*;
 
 /// Ways in which a case is played, and how each is called.
@@ -36,9 +36,6 @@ const REPORTS: &[Play] = plays![
 /// The reports alone.
 const REPORTS_ALONE: &[Play] = plays![Way::Plain(Plain::Reports) => ""];
 
-/// What is found of a timetable, and how it looks.
-const FINDINGS: &[Play] = plays![Way::Plain(Plain::Findings) => ""];
-
 /// Lines on both kinds of sheets.
 const LINES: &[Play] = plays![
     Way::List(On::Lines) => "",
@@ -49,12 +46,6 @@ const LINES: &[Play] = plays![
 const PLACEMENT: &[Play] = plays![
     Way::List(On::Placement) => "",
     Way::Grid(On::Placement) => "on the grid sheet",
-];
-
-/// Which changes both kinds of sheets accept.
-const ACCEPTED: &[Play] = plays![
-    Way::List(On::Accepted) => "",
-    Way::Grid(On::Accepted) => "on the grid sheet",
 ];
 
 /// The rows that a line reads.
@@ -72,7 +63,7 @@ const LONG_DRAFT: &[Play] = plays![
     Way::Grid(On::LongDraft) => "on the grid sheet",
 ];
 
-/// A script by step, at once and as a text, on desks of both kinds of sheets, and on shared desks of both.
+/// A script by step, at once and as a text, on desks of both kinds of sheets; its journal; and on a shared desk.
 const DESK: &[Play] = plays![
     Way::List(On::Step) => "",
     Way::Grid(On::Step) => "on the grid sheet",
@@ -80,8 +71,8 @@ const DESK: &[Play] = plays![
     Way::Grid(On::Run) => "at once on the grid sheet",
     Way::List(On::Text) => "as a script",
     Way::Grid(On::Text) => "as a script on the grid sheet",
-    Way::SharedList => "",
-    Way::SharedGrid => "on a shared desk on the grid sheet",
+    Way::Grid(On::Journal) => "",
+    Way::Shared => "",
 ];
 
 /// Lines that are no events, by step and as a text.
@@ -102,7 +93,7 @@ const LEFT: &[Play] = plays![
 /// An opening that is refused, in each way.
 const UNLAWFUL: &[Play] = plays![
     Way::Grid(On::Step) => "",
-    Way::SharedGrid => "",
+    Way::Shared => "",
     Way::Grid(On::Audit) => "",
     Way::Grid(On::Text) => "",
 ];
@@ -110,17 +101,8 @@ const UNLAWFUL: &[Play] = plays![
 /// A crew of one.
 const A_CREW: &[Play] = plays![Way::Plain(Plain::Crew) => ""];
 
-/// Texts that are cut, and texts that count falsely.
-const CUT: &[Play] = plays![Way::Plain(Plain::Cut) => ""];
-
-/// A script on devices that fail.
-const DEVICES: &[Play] = plays![Way::Grid(On::Devices) => ""];
-
-/// A text that is read from devices that fail.
-const READS: &[Play] = plays![Way::Plain(Plain::Reads) => ""];
-
-/// A text that is written to devices that fail.
-const WRITES: &[Play] = plays![Way::Plain(Plain::Writes) => ""];
+/// A script whose answers are not passed on.
+const UNFLUSHED: &[Play] = plays![Way::Grid(On::Unflushed) => ""];
 
 /// Reports, lines on one sheet, and drafts by themselves.
 const ON_SHEETS: &[Case] = &[
@@ -139,7 +121,6 @@ const ON_SHEETS: &[Case] = &[
     case!("a drop", SOLUTION, DROP, LINES),
     case!("a room that is taken", WITHOUT_TOP, ROOM_TAKEN, LINES),
     case!("one placement", NOTHING, "", PLACEMENT),
-    case!("accepted changes", SOLUTION, "", ACCEPTED),
     case!("price place alg B 0 0", NOTHING, PRICE, ROWS),
     case!("swap geo 0 1 top 0 2", NOTHING, SWAP, ROWS),
     case!("drafts", TOP, "", DRAFT),
@@ -187,7 +168,7 @@ const REFUSING_DESKS: &[Case] = &[
     case!("a refused edit", WITHOUT_TOP, REFUSED, DESK),
 ];
 
-/// Journals, findings, crews, cut texts, and devices that fail.
+/// Journals, crews, and answers that are not passed on.
 const TEXTS: &[Case] = &[
     case!("another reply", WITHOUT_TOP, OTHER_JOURNAL, AUDIT),
     case!("what a journal leaves", WITHOUT_TOP, TOP_JOURNAL, LEFT),
@@ -199,8 +180,6 @@ const TEXTS: &[Case] = &[
     ),
     case!("an unlawful opening", CLASH, JOURNAL, UNLAWFUL),
     case!("what an unlawful opening leaves", CLASH, JOURNAL, LEFT),
-    case!("what is found of the solution", SOLUTION, "", FINDINGS),
-    case!("what is found of a clash", CLASH, "", FINDINGS),
     case!("a crew of one", NOTHING, CREW, A_CREW),
     case!(
         "a crew whose draft is left open",
@@ -208,16 +187,13 @@ const TEXTS: &[Case] = &[
         CREW_LEFT,
         A_CREW
     ),
-    case!("cut", NOTHING, "", CUT),
-    case!("a script on devices that fail", NOTHING, PHANTOM, DEVICES),
-    case!("texts on devices that fail", NOTHING, SMALL, READS),
-    case!("", NOTHING, SOLUTION, READS),
-    case!("", NOTHING, JOURNAL, READS),
-    case!("", NOTHING, CREW, READS),
-    case!("", NOTHING, REPORT, WRITES),
-    case!("", NOTHING, VERDICT, WRITES),
-    case!("", NOTHING, CREW_ANSWERS, WRITES),
-    case!("", NOTHING, OTHER_JOURNAL, AUDIT),
+    case!(
+        "answers that are not passed on",
+        NOTHING,
+        PHANTOM,
+        UNFLUSHED
+    ),
+    case!("a journal that agrees", NOTHING, OTHER_JOURNAL, AUDIT),
 ];
 
 /// What is played where room A is barred for top: an old journal, and a swap and a script that meet that room.
@@ -252,7 +228,7 @@ pub(crate) fn refusing_desks() -> &'static [Case] {
     REFUSING_DESKS
 }
 
-/// Journals, findings, crews, cut texts, and devices that fail.
+/// Journals, crews, and answers that are not passed on.
 pub(crate) fn of_texts() -> &'static [Case] {
     TEXTS
 }

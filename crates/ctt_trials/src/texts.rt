@@ -1,32 +1,26 @@
 //! The texts of the small instance, of its timetables and of a journal.
 
-/// The text of an instance of three courses, of which alg and geo are members of a curriculum, and alg and top have one
-/// teacher: with these numbers of constraints and of members, and these words at its end.
-macro_rules! small {
-    ($constraints:literal, $members:literal, $end:literal) => {
-        concat!(
-            "Name: Small\nCourses: 3\nRooms: 2\nDays: 2\nPeriods_per_day: 3\nCurricula: 1\nConstraints: ",
-            $constraints,
-            "\nCOURSES:\nalg t1 2 2 30\ngeo t2 2 1 20\ntop t1 1 1 50\nROOMS:\nA 25\nB 40\nCURRICULA:\nq1 ",
-            $members,
-            " alg geo\nUNAVAILABILITY_CONSTRAINTS:\ngeo 0 0\nEND.",
-            $end
-        )
-    };
-}
-
-pub(crate) const SMALL: &str = small!("1", "2", "\n");
-
-/// It says that it has the most constraints that an instance may have.
-pub(crate) const MANY_CONSTRAINTS: &str = small!("2000000", "2", "\n");
-
-/// It says that its curriculum has as many members as a number can say.
-pub(crate) const MANY_MEMBERS: &str = small!("1", "999999999", "\n");
-
-/// The small instance with a byte behind it that is no text.
-pub(crate) const SPOILT: &[u8] =
-    b"Name: Small\nCourses: 3\nRooms: 2\nDays: 2\nPeriods_per_day: 3\nCurricula: 1\nConstraints: 1\nCOURSES:\n\
-alg t1 2 2 30\ngeo t2 2 1 20\ntop t1 1 1 50\nROOMS:\nA 25\nB 40\nCURRICULA:\nq1 2 alg geo\nUNAVAILABILITY_CONSTRAINTS:\ngeo 0 0\nEND.\n\xff";
+/// An instance of three courses. The courses alg and geo are members of a curriculum, and alg and top have one teacher.
+pub(crate) const SMALL: &str = "Name: Small
+Courses: 3
+Rooms: 2
+Days: 2
+Periods_per_day: 3
+Curricula: 1
+Constraints: 1
+COURSES:
+alg t1 2 2 30
+geo t2 2 1 20
+top t1 1 1 50
+ROOMS:
+A 25
+B 40
+CURRICULA:
+q1 2 alg geo
+UNAVAILABILITY_CONSTRAINTS:
+geo 0 0
+END.
+";
 
 /// The empty timetable of it.
 pub(crate) const NOTHING: &str = "";

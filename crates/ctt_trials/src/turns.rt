@@ -1,14 +1,15 @@
 //! The planners of a shared desk in their seats, and what they do there by turns.
 
 ghost use Rattle.std.specs.Prelude.{◌≡◌};
+ghost use Rattle.ctt_core.specs.Runs.{EventFits};
 
-use crate::lists::{add, one_at, put_at, take_at};
+use crate::lists::{add, put_at, take_at};
 use crate::story::Story;
 use ctt_board::{Sheet, Timetable};
 use ctt_core::{Answer, Event};
 use ctt_crew::{Seat, Told};
 use ctt_desk::{Naming, Planner, Receipt, SharedDesk};
-use ctt_script::{Lines, PLANNERS, read_line};
+use ctt_script::{Lines, read_line};
 use ctt_text::Instance;
 use std::marker::PhantomData;
 use std::sync::Wait;
@@ -101,21 +102,28 @@ fn take<'i, S: Sheet<'i>, J: Naming, R: Wait>(
     here: &Here<'i, J>,
     seat: Seat<'i, S, J>,
     event: &Event,
-) -> (Seat<'i, S, J>, Result<Receipt<J>, Told>) {
+) -> (Seat<'i, S, J>, Result<Receipt<J>, Told>)
+    requires { EventFits here.now.small.now 64 event.now }
+{
     if matches!(event, Event::Commit(_)) {
         return seat.commit(rt, desk);
-    }
-    if !event.fits(here.small, PLANNERS) {
-        return (seat, Err(Told::NotYours(0)));
     }
     let (seat, told) = seat.take(rt, desk, *event);
     (seat, Err(told))
 }
 
-/// Who sits there learns a receipt, if he has no draft open.
-fn learns<'i, S: Sheet<'i>, J: Naming>(seat: &mut Seat<'i, S, J>, receipt: &Receipt<J>) {
-    if let Seat::Free(planner) = seat {
-        planner.learn(receipt);
+/// Who sits in a seat learns a receipt, if he has no draft open.
+fn learnt<'i, S: Sheet<'i>, J: Naming>(
+    seat: Seat<'i, S, J>,
+    receipt: &Receipt<J>,
+) -> Seat<'i, S, J> {
+    match seat {
+        Seat::Free(planner) => {
+            let mut planner = planner;
+            planner.learn(receipt);
+            Seat::Free(planner)
+        }
+        Seat::Drafting(drafting) => Seat::Drafting(drafting),
     }
 }
 
@@ -129,8 +137,9 @@ fn tells<'i, S: Sheet<'i>, J: Naming>(
 ) -> bool {
     match told {
         Ok(receipt) => {
-            if let Some(seat) = one_at(seats, usize::from(LEARNER)) {
-                learns(seat, &receipt);
+            let place = usize::from(LEARNER);
+            if let Some(seat) = take_at(seats, place) {
+                put_at(seats, place, learnt(seat, &receipt));
             }
             story.tells(here.small, Answer::Committed(receipt.number()))
         }
@@ -153,7 +162,9 @@ fn answers<'i, S: Sheet<'i>, J: Naming, R: Wait>(
     seats: &mut [Option<Seat<'i, S, J>>],
     place: usize,
     event: &Event,
-) -> bool {
+) -> bool
+    requires { EventFits here.now.small.now 64 event.now }
+{
     let Some(seat) = take_at(seats, place) else {
         story.say("no planner");
         return true;

@@ -11,17 +11,6 @@ pub(crate) const PHANTOM: &str = "0 open
 show cost
 ";
 
-/// What its lines are answered.
-pub(crate) const PHANTOM_ANSWERS: &str = "opened
-lectures 0
-done
-opened
-done
-committed 1
-stale slot 0 2
-costs 10 15 0 0
-";
-
 /// The same, but what the other one placed is taken away again before the first one commits.
 pub(crate) const CHANGED_BACK: &str = "0 open
 0 slot 0 2
@@ -257,30 +246,3 @@ pub(crate) const OTHER_JOURNAL: &str = "journal 1 entry 0 1 place top A 0 1 done
 
 /// A journal of a draft in which top was placed in room B.
 pub(crate) const TOP_JOURNAL: &str = "journal 1 entry 0 1 place top B 0 2 done END.";
-
-/// The report on the solution.
-pub(crate) const REPORT: &str = "instance Small
-lectures 0
-conflicts 0
-availability 0
-occupancy 0
-capacity 15
-days 0
-compactness 4
-stability 1
-total 20
-lawful yes
-complete yes
-";
-
-/// What an audit finds.
-pub(crate) const VERDICT: &str = "differs 1 1\n";
-
-/// What a crew of one planner writes.
-pub(crate) const CREW_ANSWERS: &str = "planner 0
-opened
-done
-committed 1
-journal 1
-costs 0 15 2 0
-";

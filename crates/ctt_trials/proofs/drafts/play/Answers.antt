@@ -10,5 +10,5 @@ placed-requires g c κs =
 
 pub one_draft-requires : goal.one_draft-requires
 one_draft-requires g c κs =
-    let same : g.S.Rooms.problem c.in-Ok-placed.other ≡ g.S.Rooms.problem c.in-Ok.sheet = c.in-Ok-placed.ensures.problem ∙ sym c.in-Ok.ensures in
+    let same : g.S.Rooms.problem c.in-Ok-placed.other ≡ g.S.Rooms.problem c.in-Ok.sheet = c.in-Ok-placed.ensures.problem ∙ sym c.in-Ok.ensures.problem in
     search rules
