@@ -5,7 +5,6 @@ ghost use Rattle.std.specs.List.{AllByRecursion as Each};
 ghost use Rattle.ctt_core.specs.Runs.{EventFits};
 
 use crate::cases::{On, Script};
-use crate::lists::add;
 use crate::story::Story;
 use ctt_board::Sheet;
 use ctt_core::{Desk, DeskFault, Event};
@@ -49,11 +48,7 @@ fn asked_in<T: OfLine>(story: &mut Story, script: &Script) -> Vec<T> {
     let mut list = Vec::new(story.alloc());
     for line in Lines::new(script.lines.as_bytes()) {
         match T::of_line(script.small, line) {
-            Some(one) => {
-                if add(&mut list, one).is_err() {
-                    story.no_memory();
-                }
-            }
+            Some(one) => story.add(&mut list, one),
             None => story.bad_line(line),
         }
     }

@@ -110,43 +110,49 @@ fn settle<'i, S: Sheet<'i>>(story: &mut Story, draft: Draft<'i, S, KeepAll>, she
     }
 }
 
-/// A draft on an empty sheet that looks at a slot and places geo. Another sheet has top in that slot.
-fn one_draft<'i, S: Sheet<'i>>(story: &mut Story, sheet: &mut S, other: &S)
+/// What is asked of a draft on an empty sheet: a thousand calls, or to look at a slot and to place geo, where another sheet has
+/// top in that slot.
+fn ask_all<'i, S: Sheet<'i>>(
+    story: &mut Story,
+    on: &On,
+    draft: &mut Draft<'i, S, KeepAll>,
+    sheet: &S,
+    other: &S,
+)
+    requires own { S.problem sheet.now ≡ draft.old.problem }
+    requires other { S.problem other.now ≡ draft.old.problem }
+    ensures { draft.new.problem ≡ draft.old.problem }
+{
+    if matches!(on, On::LongDraft) {
+        return ask_often(story, draft);
+    }
+    tell_asked(story, draft, "slot 0 2");
+    tell_asked(story, draft, "place geo A 0 1");
+    tell_stale(story, draft, sheet);
+    tell_stale(story, draft, other);
+    tell_replayed(story, draft, other);
+}
+
+/// A draft on an empty sheet, which is settled there. Another sheet has the lectures of a script.
+fn one_draft<'i, S: Sheet<'i>>(story: &mut Story, on: &On, sheet: &mut S, other: &S)
     requires { S.problem other.now ≡ S.problem sheet.old }
 {
     let Ok(mut draft) = open(story.alloc(), sheet) else {
         return story.no_memory();
     };
-    tell_asked(story, &mut draft, "slot 0 2");
-    tell_asked(story, &mut draft, "place geo A 0 1");
-    tell_stale(story, &draft, sheet);
-    tell_stale(story, &draft, other);
-    tell_replayed(story, &draft, other);
+    ask_all(story, on, &mut draft, sheet, other);
     tell_work(story, &draft);
     settle(story, draft, sheet);
 }
 
-/// A draft of a thousand calls.
-fn long_draft<'i, S: Sheet<'i>>(story: &mut Story, sheet: &mut S) {
-    let Ok(mut draft) = open(story.alloc(), sheet) else {
-        return story.no_memory();
-    };
-    ask_often(story, &mut draft);
-    tell_work(story, &draft);
-    settle(story, draft, sheet);
-}
-
-/// A draft on an empty sheet, beside a sheet with the lectures of a script, or a long one.
+/// A draft on an empty sheet, beside a sheet with the lectures of a script.
 pub(crate) fn play<'i, S: Sheet<'i>>(story: &mut Story, on: &On, script: &Script<'i>) {
     let alloc = story.alloc();
     let Ok(mut sheet) = placed::<S>(alloc, script.small, &[]) else {
         return story.no_memory();
     };
-    if matches!(on, On::LongDraft) {
-        return long_draft(story, &mut sheet);
-    }
     let Ok(other) = placed::<S>(alloc, script.small, script.opening) else {
         return story.no_memory();
     };
-    one_draft(story, &mut sheet, &other);
+    one_draft(story, on, &mut sheet, &other);
 }

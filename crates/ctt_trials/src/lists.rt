@@ -1,14 +1,4 @@
-//! Lists that grow, and places that are taken and left.
-
-use std::alloc::AllocError;
-
-/// Adds one to a list, if there is memory.
-pub(crate) fn add<T: Drop>(list: &mut Vec<T>, one: T) -> Result<(), AllocError> {
-    match list.push(one) {
-        Ok(()) => Ok(()),
-        Err(_refused) => Err(AllocError),
-    }
-}
+//! Places that are taken and left.
 
 /// Takes what stands in a place, if anything does.
 pub(crate) fn take_at<T: Drop>(places: &mut [Option<T>], place: usize) -> Option<T> {

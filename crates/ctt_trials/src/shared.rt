@@ -5,7 +5,7 @@ ghost use Rattle.ctt_desk.specs.Names.{IsNamed};
 
 use crate::cases::Script;
 use crate::story::Story;
-use crate::turns::{Here, LOOKS, Part, VIEWER, answer_lines, leave, sit};
+use crate::turns::{Here, LOOKS, answer_lines, leave, sit};
 use ctt_board::{GridSheet, Sheet};
 use ctt_desk::{Named, Naming, Opened, Planner, SharedDesk, SharedFault};
 use ctt_text::{Instance, let_go};
@@ -34,16 +34,17 @@ fn play_at<'i, S: Sheet<'i>, J: Naming, R: Wait>(
 ) -> Vec<Planner<S, J>> {
     let mut seats = sit(story, planners);
     let from = story.len();
-    let part = Part {
-        lines: script.lines,
-        viewer: VIEWER,
-        drops: script.drops,
-    };
-    answer_lines(story, rt, desk, here, &mut seats, &part);
+    answer_lines(
+        story,
+        rt,
+        desk,
+        here,
+        &mut seats,
+        script.lines,
+        script.drops,
+    );
     story.compare(story.answers, story.end, from, "on a shared desk");
-    for part in LOOKS {
-        answer_lines(story, rt, desk, here, &mut seats, part);
-    }
+    answer_lines(story, rt, desk, here, &mut seats, LOOKS, false);
     leave(story, seats)
 }
 
@@ -56,14 +57,16 @@ fn close<'i, S: Sheet<'i>, J: Naming, R: Wait>(
     script: &Script<'i>,
 ) {
     let from = story.len();
-    match desk.close(rt, planners) {
-        Ok(closed) => {
-            story.timetable(script.small, closed.list(), closed.cost());
-            story.count("entries", closed.journal().len() as u64);
-            let_go(closed);
+    let closed = match desk.close(rt, planners) {
+        Ok(closed) => closed,
+        Err(closed) => {
+            story.say("not by all");
+            closed
         }
-        Err(closed) => let_go(closed),
-    }
+    };
+    story.timetable(script.small, closed.list(), closed.cost());
+    story.count("entries", closed.journal().len() as u64);
+    let_go(closed);
     story.compare(story.end, story.all, from, "what it left");
     for planner in planners {
         story.pair("seen", planner.seen());

@@ -97,6 +97,14 @@ impl Story {
         self.is_wanting = true;
     }
 
+    /// Adds one to a list. Where memory is wanted for it the case is to be played again.
+    pub(crate) fn add<T: Drop>(&mut self, list: &mut Vec<T>, one: T) {
+        match list.push(one) {
+            Ok(()) => {}
+            Err(_refused) => self.no_memory(),
+        }
+    }
+
     /// Whether a call wanted memory. Then what was told from a place on is taken back.
     pub(crate) fn takes_back(&mut self, from: usize) -> bool {
         if !self.is_wanting {

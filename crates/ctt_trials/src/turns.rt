@@ -3,7 +3,7 @@
 ghost use Rattle.std.specs.Prelude.{◌≡◌};
 ghost use Rattle.ctt_core.specs.Runs.{EventFits};
 
-use crate::lists::{add, put_at, take_at};
+use crate::lists::{put_at, take_at};
 use crate::story::Story;
 use ctt_board::{Sheet, Timetable};
 use ctt_core::{Answer, Event};
@@ -17,8 +17,18 @@ use std::sync::Wait;
 /// The place of the planner who learns each receipt.
 const LEARNER: u16 = 2;
 
-/// The place of the planner who learns nothing, and looks at the timetable as it stands.
-pub(crate) const VIEWER: u16 = 3;
+/// The place of the planner who learns nothing, and is asked to show the timetable.
+const VIEWER: u16 = 3;
+
+/// How these two look at the timetable, in drafts and without.
+pub(crate) const LOOKS: &str = "2 open
+2 cost
+2 abandon
+show cost
+3 open
+3 cost
+3 abandon
+";
 
 /// The instance of a desk.
 #[derive(Drop)]
@@ -28,40 +38,17 @@ pub(crate) struct Here<'i, J: Naming> {
     ghost same: { J.problem ≡ small.now },
 }
 
-/// A part of what planners do.
-#[derive(Drop)]
-pub(crate) struct Part<'a> {
-    pub(crate) lines: &'a str,
-    /// The place of the planner who is asked to show the timetable.
-    pub(crate) viewer: u16,
-    /// Whether the first planner is dropped when another one begins, with the draft that he may have open.
-    pub(crate) drops: bool,
-}
-
-/// How two of them look at the timetable, and at that of a draft.
-pub(crate) const LOOKS: &[Part] = &[
-    Part {
-        lines: "show cost\n2 open\n2 cost\n2 abandon\n",
-        viewer: LEARNER,
-        drops: false,
-    },
-    Part {
-        lines: "show cost\n3 open\n3 cost\n3 abandon\n",
-        viewer: VIEWER,
-        drops: false,
-    },
-];
-
-/// The place of the planner who is asked by an event. One of them is asked to show the timetable.
-fn place_of(event: &Event, viewer: u16) -> usize {
-    match event {
+/// The place of the planner who is asked by an event.
+fn place_of(event: &Event) -> usize {
+    let number = match event {
         Event::Open(planner)
         | Event::Ask(planner, _)
         | Event::Commit(planner)
         | Event::Refresh(planner)
-        | Event::Abandon(planner) => usize::from(planner.get()),
-        Event::Show(_) => usize::from(viewer),
-    }
+        | Event::Abandon(planner) => planner.get(),
+        Event::Show(_) => VIEWER,
+    };
+    usize::from(number)
 }
 
 /// The planners take their seats.
@@ -71,9 +58,7 @@ pub(crate) fn sit<'i, S: Timetable, J: Naming>(
 ) -> Vec<Option<Seat<'i, S, J>>> {
     let mut seats = Vec::new(story.alloc());
     for planner in planners {
-        if add(&mut seats, Some(Seat::Free(planner))).is_err() {
-            story.no_memory();
-        }
+        story.add(&mut seats, Some(Seat::Free(planner)));
     }
     seats
 }
@@ -85,11 +70,8 @@ pub(crate) fn leave<'i, S: Sheet<'i>, J: Naming>(
 ) -> Vec<Planner<S, J>> {
     let mut planners = Vec::new(story.alloc());
     for seat in seats {
-        let Some(seat) = seat else {
-            continue;
-        };
-        if add(&mut planners, seat.leave()).is_err() {
-            story.no_memory();
+        if let Some(seat) = seat {
+            story.add(&mut planners, seat.leave());
         }
     }
     planners
@@ -174,20 +156,22 @@ fn answers<'i, S: Sheet<'i>, J: Naming, R: Wait>(
     tells(story, here, seats, told)
 }
 
-/// The planners do what the lines of a part say, each line once more where memory is wanted.
+/// The planners do what lines say, each line once more where memory is wanted. The first planner may be dropped when another
+/// one begins, with the draft that he may have open.
 pub(crate) fn answer_lines<'i, S: Sheet<'i>, J: Naming, R: Wait>(
     story: &mut Story,
     rt: &R,
     desk: &SharedDesk<S, J>,
     here: &Here<'i, J>,
     seats: &mut [Option<Seat<'i, S, J>>],
-    part: &Part,
+    lines: &str,
+    drops: bool,
 ) {
-    for line in Lines::new(part.lines.as_bytes()) {
+    for line in Lines::new(lines.as_bytes()) {
         match read_line(here.small, line) {
             Some(event) => {
-                let place = place_of(&event, part.viewer);
-                if part.drops && place > 0 {
+                let place = place_of(&event);
+                if drops && place > 0 {
                     drop(take_at(seats, 0));
                 }
                 if !answers(story, rt, desk, here, seats, place, &event) {
