@@ -106,9 +106,7 @@ fn play_on<'i, S: Sheet<'i>>(story: &mut Story, on: &On, script: &Script<'i>) {
         On::Lines | On::Placement => sheets::play::<S>(story, on, script),
         On::Draft | On::LongDraft => drafts::play::<S>(story, on, script),
         On::Step | On::Run => desks::play::<S>(story, on, script),
-        On::Text => scripts::play_script::<S>(story, script),
-        On::Journal => scripts::play_journal::<S>(story, script),
-        On::Unflushed => scripts::play_unflushed::<S>(story, script),
+        On::Text | On::Journal | On::Unflushed => scripts::play::<S>(story, on, script),
         On::Audit | On::Left => {
             journals::read_text::<S>(story, on, script, script.lines.as_bytes());
         }

@@ -57,16 +57,14 @@ fn close<'i, S: Sheet<'i>, J: Naming, R: Wait>(
     script: &Script<'i>,
 ) {
     let from = story.len();
-    let closed = match desk.close(rt, planners) {
-        Ok(closed) => closed,
-        Err(closed) => {
-            story.say("not by all");
-            closed
+    match desk.close(rt, planners) {
+        Ok(closed) => {
+            story.timetable(script.small, closed.list(), closed.cost());
+            story.count("entries", closed.journal().len() as u64);
+            let_go(closed);
         }
-    };
-    story.timetable(script.small, closed.list(), closed.cost());
-    story.count("entries", closed.journal().len() as u64);
-    let_go(closed);
+        Err(closed) => let_go(closed),
+    }
     story.compare(story.end, story.all, from, "what it left");
     for planner in planners {
         story.pair("seen", planner.seen());

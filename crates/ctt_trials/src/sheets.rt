@@ -85,19 +85,11 @@ fn answer_lines<'i, S: Sheet<'i>>(story: &mut Story, script: &Script<'i>, sheet:
     tell_sheet(story, sheet);
 }
 
-/// Tells what a sheet has of a lecture, in each way in which it can be read.
+/// Tells the rows of a lecture on a sheet, and the sheet.
 fn tell_lecture<'i, S: Sheet<'i>>(story: &mut Story, sheet: &S, lecture: &Placed) {
     if !lecture_fits(sheet, lecture) {
         return story.say("unfit");
     }
-    match sheet.room_at(lecture.course, lecture.slot) {
-        Some(room) => story.count("room", u64::from(room.get())),
-        None => story.say("no room"),
-    }
-    story.count(
-        "lectures of the course",
-        u64::from(sheet.count(lecture.course)),
-    );
     story.lectures(sheet.instance(), sheet.course_row(lecture.course));
     story.lectures(sheet.instance(), sheet.slot_row(lecture.slot));
     tell_sheet(story, sheet);

@@ -1,6 +1,6 @@
 //! What is told of the trials, and how many calls were made again.
 
-ghost use Rattle.std.specs.Prelude.{◌↔◌, IsTrue, None, false};
+ghost use Rattle.std.specs.Prelude.{◌↔◌, IsTrue, None};
 ghost use Rattle.ctt_script.specs.Entries.{AnswerFits};
 
 use ctt_core::Answer;
@@ -31,6 +31,9 @@ pub(crate) struct Story {
     again: u64,
     is_wanting: bool,
     is_lost: bool,
+    /// Whether it passes on nothing, as a writer.
+    pub(crate) is_deaf: bool,
+    failed: bool,
 }
 
 /// Whether an answer can be written.
@@ -66,6 +69,8 @@ impl Story {
             again: 0,
             is_wanting: false,
             is_lost: false,
+            is_deaf: false,
+            failed: false,
         })
     }
 
@@ -262,16 +267,22 @@ impl Story {
 }
 
 impl Sink for Story {
-    ghost has_failed = { λ story. false };
+    ghost has_failed = { λ story. story.failed };
 
     ghost taken = { λ story. None };
 
     fn put(&mut self, bytes: &[u8]) -> Result<usize, Failed> {
+        let failed = self.failed;
         self.bytes(bytes);
+        self.failed = failed;
         Ok(bytes.len())
     }
 
     fn flush(&mut self) -> Result<(), Failed> {
+        if self.is_deaf {
+            self.failed = true;
+            return Err(Failed);
+        }
         Ok(())
     }
 }

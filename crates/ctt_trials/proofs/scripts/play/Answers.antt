@@ -1,6 +1,6 @@
 use Rattle.std.proofs.Common.{rules, subst, sym}
 use Rattle.ctt_script.specs.Entries.{IsWritable}
-use Rattle.ctt_trials.proofs.scripts.play_journal.Goals as goal
+use Rattle.ctt_trials.proofs.scripts.play.Goals as goal
 
 pub tell_journal-requires : goal.tell_journal-requires
 tell_journal-requires g c κs =
