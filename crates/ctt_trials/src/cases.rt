@@ -4,12 +4,10 @@ ghost use Rattle.ctt_text.specs.Timetable.{IsTimetable};
 ghost use Rattle.ctt_trials.specs.Scripts.{IsTimetable-prop};
 
 use crate::story::Story;
-use crate::{crews, desks, drafts, journals, scripts, shared, sheets, shown};
+use crate::{desks, drafts, journals, scripts, shared, sheets, shown};
 use ctt_board::{GridSheet, ListSheet, Sheet};
 use ctt_text::{Instance, Placed, let_go, read_solution};
-use std::marker::Sync;
 use std::sync::Wait;
-use std::thread::Threads;
 
 /// How a case is played.
 pub(crate) enum Way {
@@ -31,8 +29,6 @@ pub(crate) enum Plain {
     Written,
     /// Which rows its line reads.
     Rows,
-    /// Its lines are the script of a crew of one.
-    Crew,
 }
 
 /// How a case is played on sheets of one kind.
@@ -91,12 +87,11 @@ pub(crate) struct Script<'i> {
 }
 
 /// Plays a case without a sheet.
-fn play_plain<R: Threads + Wait + Sync>(story: &mut Story, rt: &R, plain: &Plain, script: &Script) {
+fn play_plain(story: &mut Story, plain: &Plain, script: &Script) {
     match plain {
         Plain::Reports => shown::play_reports(story, script),
         Plain::Written => shown::play_written(story, script),
         Plain::Rows => sheets::tell_rows(story, script),
-        Plain::Crew => crews::play(story, rt, script),
     }
 }
 
@@ -114,9 +109,9 @@ fn play_on<'i, S: Sheet<'i>>(story: &mut Story, on: &On, script: &Script<'i>) {
 }
 
 /// Plays a case in one way.
-fn play_once<R: Threads + Wait + Sync>(story: &mut Story, rt: &R, way: &Way, script: &Script) {
+fn play_once<R: Wait>(story: &mut Story, rt: &R, way: &Way, script: &Script) {
     match way {
-        Way::Plain(plain) => play_plain(story, rt, plain, script),
+        Way::Plain(plain) => play_plain(story, plain, script),
         Way::List(on) => play_on::<ListSheet>(story, on, script),
         Way::Grid(on) => play_on::<GridSheet>(story, on, script),
         Way::Shared => shared::play(story, rt, script),
@@ -124,7 +119,7 @@ fn play_once<R: Threads + Wait + Sync>(story: &mut Story, rt: &R, way: &Way, scr
 }
 
 /// Plays a case with the lectures of its opening.
-fn play_opened<R: Threads + Wait + Sync>(
+fn play_opened<R: Wait>(
     story: &mut Story,
     rt: &R,
     small: &Instance,
@@ -154,7 +149,7 @@ fn play_opened<R: Threads + Wait + Sync>(
 }
 
 /// Plays a case.
-fn play_case<R: Threads + Wait + Sync>(story: &mut Story, rt: &R, small: &Instance, case: &Case) {
+fn play_case<R: Wait>(story: &mut Story, rt: &R, small: &Instance, case: &Case) {
     match read_solution(story.alloc(), small, case.opening.as_bytes()) {
         Ok(opening) => {
             play_opened(story, rt, small, &opening, case);
@@ -165,12 +160,7 @@ fn play_case<R: Threads + Wait + Sync>(story: &mut Story, rt: &R, small: &Instan
 }
 
 /// Plays cases, each once more where a call of it wanted memory.
-pub(crate) fn play_cases<R: Threads + Wait + Sync>(
-    story: &mut Story,
-    rt: &R,
-    small: &Instance,
-    cases: &[Case],
-) {
+pub(crate) fn play_cases<R: Wait>(story: &mut Story, rt: &R, small: &Instance, cases: &[Case]) {
     for case in cases {
         if !case.name.is_empty() {
             story.say(case.name);

@@ -5,7 +5,6 @@
 
 mod barred;
 mod cases;
-mod crews;
 mod desks;
 mod drafts;
 mod journals;
@@ -24,10 +23,8 @@ use cases::play_cases;
 use ctt_devices::{Device, INPUT_LIMIT, read_all};
 use ctt_text::{Instance, let_go, read_instance};
 use std::alloc::Global;
-use std::marker::Sync;
 use std::process::ExitCode;
 use std::sync::Wait;
-use std::thread::Threads;
 use story::Story;
 use tables::{of_texts, on_desks, on_sheets, refreshed_desks, refusing_desks};
 use texts::SMALL;
@@ -39,7 +36,7 @@ fn small_instance(alloc: Global) -> Option<Instance> {
 }
 
 /// All that is played.
-fn play<R: Threads + Wait + Sync>(story: &mut Story, rt: &R) {
+fn play<R: Wait>(story: &mut Story, rt: &R) {
     match small_instance(story.alloc()) {
         Some(mut small) => {
             play_cases(story, rt, &small, on_sheets());

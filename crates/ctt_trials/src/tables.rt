@@ -98,9 +98,6 @@ const UNLAWFUL: &[Play] = plays![
     Way::Grid(On::Text) => "",
 ];
 
-/// A crew of one.
-const A_CREW: &[Play] = plays![Way::Plain(Plain::Crew) => ""];
-
 /// A script whose answers are not passed on.
 const UNFLUSHED: &[Play] = plays![Way::Grid(On::Unflushed) => ""];
 
@@ -168,7 +165,7 @@ const REFUSING_DESKS: &[Case] = &[
     case!("a refused edit", WITHOUT_TOP, REFUSED, DESK),
 ];
 
-/// Journals, crews, and answers that are not passed on.
+/// Journals, and answers that are not passed on.
 const TEXTS: &[Case] = &[
     case!("another reply", WITHOUT_TOP, OTHER_JOURNAL, AUDIT),
     case!("what a journal leaves", WITHOUT_TOP, TOP_JOURNAL, LEFT),
@@ -180,13 +177,6 @@ const TEXTS: &[Case] = &[
     ),
     case!("an unlawful opening", CLASH, JOURNAL, UNLAWFUL),
     case!("what an unlawful opening leaves", CLASH, JOURNAL, LEFT),
-    case!("a crew of one", NOTHING, CREW, A_CREW),
-    case!(
-        "a crew whose draft is left open",
-        NOTHING,
-        CREW_LEFT,
-        A_CREW
-    ),
     case!(
         "answers that are not passed on",
         NOTHING,
@@ -228,7 +218,7 @@ pub(crate) fn refusing_desks() -> &'static [Case] {
     REFUSING_DESKS
 }
 
-/// Journals, crews, and answers that are not passed on.
+/// Journals, and answers that are not passed on.
 pub(crate) fn of_texts() -> &'static [Case] {
     TEXTS
 }

@@ -230,17 +230,6 @@ place geo A 1 0
 /// What reads two courses and a slot.
 pub(crate) const PRICE: &str = "price place alg B 0 0";
 
-/// A planner of a crew places geo.
-pub(crate) const CREW: &str = "open
-place geo A 0 1
-commit
-";
-
-/// He places it, and leaves his draft open.
-pub(crate) const CREW_LEFT: &str = "open
-place geo A 0 1
-";
-
 /// A journal of a draft in which top was placed in room A.
 pub(crate) const OTHER_JOURNAL: &str = "journal 1 entry 0 1 place top A 0 1 done END.";
 
