@@ -197,7 +197,7 @@ def check_desk(folder, made):
 
     desk.check("byte by byte", (0, told(every), *left(every), ""), BAD_READ=0)
     for k in range(len(ends[2])):
-        written = k >= len(ends[1])
+        written = int(k >= len(ends[1]))
         for marks in FAILS:
             wanted = (3, told(every, written), NOT_WRITTEN, ends[2][:k], "write\n")
             desk.check(f"{k} bytes are stored", wanted, STORES=k, **marks)

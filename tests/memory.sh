@@ -8,8 +8,9 @@
 # that asks for room for as many elements as may come, and where this is refused for one. Of these there are so many as stand below:
 # the words of the command line are collected twice, and `clap` collects the letters of each two words that it compares.
 #
-# Each line of a crew's planner stands twice in his script. One of them may be answered 'no memory': then the crew has to end as it
-# does with memory. It may also end with status 3 and 'timedesk: no thread', where the system wanted the memory for it.
+# Each line of a crew's planner stands twice in his script. One of them may be answered 'no memory': if it is the first of the two, the
+# second has its answer, and all others are as with memory. The crew may also end with status 3 and 'timedesk: no thread', where the
+# system wanted the memory for it.
 #
 # At a seat of a desk each request of the program is refused alone: a line that is answered 'no memory' is typed again. The answers
 # have to be those with memory, and the minutes too. Or the desk ends with status 3 and 'timedesk: no memory', or 'timedesk: no thread'
@@ -161,8 +162,9 @@ for words in 'check small.ctt s.sol --json --barred barred' 'check small.ctt sma
             if [[ $words == crew* ]]; then
                 sed -i 's/^timedesk: no thread$/timedesk: no memory/' err.now
             fi
-            if [[ $words == crew* ]] && [ "$status" = 0 ] && [ ! -s err.now ] && [ "$(grep -cx 'no memory' out.now)" = 1 ] \
-                && [ "$(wc -l <out.now)" = "$(wc -l <out)" ] && [ "$(tail -n 2 out.now)" = "$(tail -n 2 out)" ]; then
+            if [[ $words == crew* ]] && [ "$status" = 0 ] && [ ! -s err.now ] && again=$(grep -nx 'no memory' out.now) \
+                && awk -v n="${again%%:*}" '{ line[NR] = $0 } END { for (i = 1; i <= NR; i++)
+                    print i == n ? "no memory" : i == n + 1 && n % 2 == 0 ? line[n] : line[i] }' out | cmp -s - out.now; then
                 made_again=$((made_again + 1))
                 passed=$((passed + 1))
             elif [ "$is_same" = yes ] && [ -z "$later" ] && grep -q more met && [ "$spare" -gt 0 ]; then
