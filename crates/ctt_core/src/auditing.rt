@@ -130,7 +130,6 @@ impl<'a> Tells<Heard<'a>, Asked> for WholeCall {
 
 /// An audit in progress. The entries are run as they come, call by call, and none of them is kept; behind the
 /// first call that was told something else none is run. A call is made first, and what it was told is heard then.
-#[derive(Drop)]
 pub struct Auditor<'a, S: Timetable> {
     opening: &'a [Placed],
     sheet: S,
@@ -144,6 +143,24 @@ pub struct Auditor<'a, S: Timetable> {
     told: Option<Reply>,
     entries: GhostList<JournalEntry>,
     asked: GhostList<Asked>,
+}
+
+// A derived `Drop` is proved anew in each crate above.
+impl<'a, S: Timetable> Drop for Auditor<'a, S> {
+    fn drop(self) {
+        let Auditor {
+            opening: _,
+            sheet: _,
+            found: _,
+            differs: _,
+            ended: _,
+            begun: _,
+            made: _,
+            told: _,
+            entries: _,
+            asked: _,
+        } = self;
+    }
 }
 
 impl<'a, S: Timetable> Model for Auditor<'a, S> {

@@ -8,12 +8,21 @@ use ctt_draft::{Asked, AskedCalls, Keeping, Log, Tells};
 use ctt_text::Instance;
 
 /// An accepted draft: whose it was, and its calls with their replies.
-#[derive(Drop)]
 pub struct JournalEntry {
     /// The planner whose draft it was.
     pub planner: PlannerNo,
     /// The calls with their replies, in order.
     pub asked: AskedCalls,
+}
+
+// A derived `Drop` is proved anew in each crate above.
+impl Drop for JournalEntry {
+    fn drop(self) {
+        let JournalEntry {
+            planner: _,
+            asked: _,
+        } = self;
+    }
 }
 
 impl JournalEntry {

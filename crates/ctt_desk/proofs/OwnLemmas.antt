@@ -11,7 +11,7 @@ use Rattle.ctt_draft.specs.declared.asked.Asked.{Asked}
 use Rattle.ctt_core.specs.Runs.{after, Legal}
 use Rattle.ctt_core.specs.declared.journal.JournalEntry.{JournalEntry}
 use Rattle.ctt_desk.specs.Histories.{own, entry_of, IsHis, IsNotHis, IsSeen}
-use Rattle.ctt_desk.specs.Planners.{PlannerValue, DraftingValue, Grows, IsAccepted, IsForeign, IsStale}
+use Rattle.ctt_desk.specs.Planners.{PlannerValue, DraftingValue, Grows, IsAccepted, IsForeign, IsStale, seen_up_to}
 use Rattle.ctt_desk.proofs.PrefixLemmas.{prefix_self}
 
 nothing : {A : Type 0} (xs : List A) → length xs ≡ 0 → xs ≡ []
@@ -30,6 +30,11 @@ own-append p xs ys = filter-append (λ (e : JournalEntry). e.planner == p) xs ys
 -- a longer history has no fewer drafts of one planner
 pub own_more : (p n : ℕ) (h more : List JournalEntry) → IsPrefix h more → n ≤ length (own p h) → n ≤ length (own p more)
 own_more p n h more begins least = omega (arith, least, ap length (sym (ap (own p) begins.1) ∙ own-append p h begins.0), length-append (own p h) (own p begins.0))
+
+-- nor has what a planner has seen who is told that the journal has another number of his
+pub own_seen : (p n count : ℕ) (j old new : List JournalEntry) → IsNotHis j p n old new count → n ≤ length (own p old) → n ≤ length (own p new)
+own_seen p n count j old new (inl w) least = subst (λ h. n ≤ length (own p h)) (sym w.0) least
+own_seen p n count j old new (inr w) least = own_more p n old new w.0.1 least
 
 -- the journal j, with one entry more, is the front f of a planner who has all his drafts in it
 accepted_by : (i : Problem) (t0 : List Placed) (d : DraftingValue) (q : PlannerValue) (j f : List JournalEntry) → f ≡ j ++ entry_of d.planner.number d.asked ∷ [] → IsPrefix d.planner.front j → length (own d.planner.number j) ≡ d.planner.committed → d.planner.committed ≤ length (own d.planner.number d.planner.front) → Legal i t0 f → stale i d.base (after i t0 j) (calls_of d.asked) ≡ None
@@ -56,10 +61,6 @@ accepted_by i t0 d q j f is begins count least legal fresh becomes =
 -- one entry more of planner p
 pub counted_now : (p n : ℕ) (j f : List JournalEntry) (asked : List Asked) → f ≡ j ++ entry_of p asked ∷ [] → length (own p j) ≡ n → length (own p f) ≡ n + 1
 counted_now p n j f asked is count = ap (λ l. length (own p l)) is ∙ ap length (own-append p j (entry_of p asked ∷ []) ∙ ap (λ l. own p j ++ l) (own-entry p asked)) ∙ length-append (own p j) (entry_of p asked ∷ []) ∙ ap (λ n. n + 1) count
-
--- a planner whose front is now f
-abbrev pub seen_up_to : PlannerValue → List JournalEntry → PlannerValue
-seen_up_to p f = record { number = p.number; committed = p.committed; front = f }
 
 grown : (i : Problem) (t0 : List Placed) (p q : PlannerValue) (f : List JournalEntry) → q ≡ seen_up_to p f → IsPrefix p.front f → Legal i t0 f → Grows i t0 p q
 grown i t0 p q f is begins legal = subst (λ (x : PlannerValue). Grows i t0 p x) (sym is) (record { number = refl; committed = refl; begins = begins; legal = legal })

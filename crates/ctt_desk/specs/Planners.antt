@@ -32,6 +32,10 @@ new_planners (suc n) = new_planners n ++ new_planner n ∷ []
 abbrev pub committed_more : PlannerValue → PlannerValue
 committed_more p = record { number = p.number; committed = p.committed + 1; front = p.front }
 
+-- the planner whose front is now f
+abbrev pub seen_up_to : PlannerValue → List JournalEntry → PlannerValue
+seen_up_to p f = record { number = p.number; committed = p.committed; front = f }
+
 -- the planner p has become q, who has seen more, or as much
 pub record Grows (i : Problem) (opening : List Placed) (p q : PlannerValue) : Type 0 where
   pub number : q.number ≡ p.number

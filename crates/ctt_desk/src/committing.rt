@@ -68,37 +68,24 @@ impl<'i, S: Sheet<'i>, J: Naming, K: Keeping> Drafting<'i, S, J, K> {
         ensures err { IfErr result (IsRefused J.problem J.opening self.entry) }
     {
         let Drafting { planner, draft } = self;
-        let Planner {
-            alloc,
-            number,
-            committed,
-            mut front,
-            place,
-            kept,
-        } = planner;
-        let before = front.again();
+        let (number, committed) = (planner.number(), planner.committed());
+        let (before, mut front) = (planner.front(), planner.front());
         let mut locked = held(rt, &desk.locked);
         let outcome = locked.commit(rt, number, committed, &mut front, draft);
         MutexGuard::unlock(locked);
-        let seen = front.again();
-        let planner = Planner {
-            alloc,
-            number,
-            committed,
-            front,
-            place,
-            kept,
-        };
         match outcome {
-            Ok(remains) => Ok(planner.accepted(Kept::left_by(remains, before, seen))),
+            Ok(remains) => {
+                let kept = Kept::left_by(remains, before, front.again());
+                Ok(planner.keeping(kept).accepted(front))
+            }
             Err((draft, cause)) => match cause {
                 Cause::NotYours(count) => {
                     let_go(draft);
-                    Err(Refusal::NotYours(planner, count))
+                    Err(Refusal::NotYours(planner.seeing(front), count))
                 }
                 Cause::Stale(row) => {
                     let kept = Kept::of_base(draft, before);
-                    Err(Refusal::Stale(planner.keeping(kept), row))
+                    Err(Refusal::Stale(planner.keeping(kept).seeing(front), row))
                 }
                 Cause::NoMemory => Err(Refusal::NoMemory(Drafting { planner, draft })),
             },

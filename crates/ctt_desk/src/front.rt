@@ -24,11 +24,21 @@ pub(crate) struct Head<J: Naming> {
 }
 
 /// A legal history that was seen, with which the desk's begins.
-#[derive(Drop)]
 pub(crate) struct Front<J: Naming> {
     drafts: u64,
     seen: Seen<JournalEntry, u64, BookRule>,
     desk: PhantomData<J>,
+}
+
+// A derived `Drop` is proved anew in each crate above.
+impl<J: Naming> Drop for Front<J> {
+    fn drop(self) {
+        let Front {
+            drafts: _,
+            seen: _,
+            desk: _,
+        } = self;
+    }
 }
 
 impl<J: Naming> Model for Front<J> {

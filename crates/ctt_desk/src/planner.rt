@@ -6,7 +6,7 @@ ghost use Rattle.ctt_edits.specs.Fitting.{IsReply};
 ghost use Rattle.ctt_edits.specs.Looks.{LookFits, shown as shown_of};
 ghost use Rattle.ctt_core.specs.Runs.{Legal};
 ghost use Rattle.ctt_desk.specs.Histories.{own};
-ghost use Rattle.ctt_desk.specs.Planners.{new_planner, committed_more, Grows, IsOpen, IsViewed};
+ghost use Rattle.ctt_desk.specs.Planners.{new_planner, committed_more, seen_up_to, Grows, IsOpen, IsViewed};
 ghost use Rattle.ctt_desk.specs.Refusals.{IsUnread};
 
 use crate::drafting::Drafting;
@@ -26,7 +26,6 @@ use std::marker::Model;
 
 /// One who drafts. Contracts see the number, how many drafts were committed, and the front: the
 /// history that the planner has seen.
-#[derive(Drop)]
 pub struct Planner<S: Timetable, J: Naming> {
     pub(crate) alloc: Global,
     pub(crate) number: PlannerNo,
@@ -36,6 +35,20 @@ pub struct Planner<S: Timetable, J: Naming> {
     pub(crate) place: Option<Place<S, J>>,
     /// The sheet of the last draft, for a draft to come, and room for it.
     pub(crate) kept: Box<Option<Kept<S, J>>>,
+}
+
+// A derived `Drop` is proved anew in each crate above.
+impl<S: Timetable, J: Naming> Drop for Planner<S, J> {
+    fn drop(self) {
+        let Planner {
+            alloc: _,
+            number: _,
+            committed: _,
+            front: _,
+            place: _,
+            kept: _,
+        } = self;
+    }
 }
 
 impl<S: Timetable, J: Naming> Model for Planner<S, J> {
@@ -83,9 +96,10 @@ impl<S: Timetable, J: Naming> Planner<S, J> {
         self.number
     }
 
-    /// How many drafts the planner has committed.
+    /// How many drafts the planner has committed: no more than he has seen of his own.
     pub fn committed(&self) -> u64
-        ensures { result ≡ self.now.committed }
+        ensures committed { result ≡ self.now.committed }
+        ensures seen { self.now.committed ≤ length (own self.now.number self.now.front) }
     {
         self.committed
     }
@@ -96,6 +110,14 @@ impl<S: Timetable, J: Naming> Planner<S, J> {
         ensures legal { Legal J.problem J.opening self.now.front }
     {
         self.front.len()
+    }
+
+    /// The history that the planner has seen.
+    pub(crate) fn front(&self) -> Front<J>
+        ensures same { result ≡ self.now.front }
+        ensures legal { Legal J.problem J.opening result }
+    {
+        self.front.again()
     }
 
     /// Whether a history begins with the planner's front.
@@ -115,25 +137,34 @@ impl<S: Timetable, J: Naming> Planner<S, J> {
         planner
     }
 
-    /// The planner with one commit more, which is the last one in his front, and its receipt. He
-    /// keeps a sheet.
-    #[inline(always)]
-    pub(crate) fn accepted(self, kept: Kept<S, J>) -> (Self, Receipt<J>)
-        requires { length (own self.number self.front) ≡ self.committed + 1 }
-        ensures planner { result.0 ≡ committed_more self }
-        ensures receipt { result.1 ≡ self.front }
+    /// The planner, who has seen a history.
+    pub(crate) fn seeing(self, front: Front<J>) -> Self
+        requires { self.committed ≤ length (own self.number front) }
+        ensures { result ≡ seen_up_to self front }
     {
-        let seen = self.front.len();
+        let mut planner = self;
+        planner.front = front;
+        planner
+    }
+
+    /// The planner with one commit more, which is the last one in a history that he has seen, and its
+    /// receipt.
+    #[inline(always)]
+    pub(crate) fn accepted(self, front: Front<J>) -> (Self, Receipt<J>)
+        requires { length (own self.number front) ≡ self.committed + 1 }
+        ensures planner { result.0 ≡ committed_more (seen_up_to self front) }
+        ensures receipt { result.1 ≡ front }
+    {
+        let seen = front.len();
         let committed = self.committed;
         prove!(committed < seen);
         let receipt = Receipt {
-            front: self.front.again(),
+            front: front.again(),
         };
-        let planner = Planner {
-            committed: committed + 1,
-            ..self
-        };
-        (planner.keeping(kept), receipt)
+        let mut planner = self;
+        planner.committed = committed + 1;
+        planner.front = front;
+        (planner, receipt)
     }
 
     /// Takes in what a receipt shows.

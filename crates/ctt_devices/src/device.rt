@@ -13,7 +13,7 @@ pub struct Device<T> {
 }
 
 impl<T> Device<T> {
-    ghost use Rattle.std.specs.Prelude.{◌≡◌, false};
+    ghost use Rattle.std.specs.Prelude.{◌≡◌, false, true};
     ghost use Rattle.ctt_devices.specs.Device.{inner_of, is_marked, pulls_of};
 
     /// A reader or a writer, unmarked, that was not read from.
@@ -34,6 +34,15 @@ impl<T> Device<T> {
         ensures { result.now ≡ inner_of self.now }
     {
         &self.inner
+    }
+
+    /// Sets the mark, where a call of std failed that is no read, write or flush.
+    pub fn mark(&mut self)
+        ensures inner { inner_of self.new ≡ inner_of self.old }
+        ensures marked { is_marked self.new ≡ true }
+        ensures unread { pulls_of self.new ≡ pulls_of self.old }
+    {
+        self.failed = true;
     }
 }
 

@@ -12,12 +12,18 @@ use std::alloc::Global;
 use std::marker::Model;
 
 /// A call with its reply.
-#[derive(Drop)]
 pub struct Asked {
     /// The edit or look that was asked for.
     pub call: Call,
     /// What was told.
     pub reply: Reply,
+}
+
+// A derived `Drop` is proved anew in each crate above.
+impl Drop for Asked {
+    fn drop(self) {
+        let Asked { call: _, reply: _ } = self;
+    }
 }
 
 impl Asked {
@@ -66,9 +72,15 @@ pub(crate) fn push_told<K: Keeping>(
 }
 
 /// Calls with their replies, in order.
-#[derive(Drop)]
 pub struct AskedCalls {
     list: Vec<Asked>,
+}
+
+// A derived `Drop` is proved anew in each crate above.
+impl Drop for AskedCalls {
+    fn drop(self) {
+        let AskedCalls { list: _ } = self;
+    }
 }
 
 impl Model for AskedCalls {

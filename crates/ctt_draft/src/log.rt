@@ -44,12 +44,23 @@ impl Keeping for KeepNone {
 }
 
 /// A list that grows at its end, and its length. Where it is not kept it takes no memory.
-#[derive(Drop)]
 pub struct Log<E, K: Keeping> {
     kept: Vec<E>,
     len: u64,
     all: GhostList<E>,
     keeping: PhantomData<K>,
+}
+
+// A derived `Drop` is proved anew in each crate above.
+impl<E: Drop, K: Keeping> Drop for Log<E, K> {
+    fn drop(self) {
+        let Log {
+            kept: _,
+            len: _,
+            all: _,
+            keeping: _,
+        } = self;
+    }
 }
 
 impl<E, K: Keeping> Model for Log<E, K> {
@@ -130,7 +141,13 @@ impl<E: Drop, K: Keeping> Log<E, K> {
         requires { K.keeps ≡ true }
         ensures { result.items ≡ self.list }
     {
-        self.kept
+        let Log {
+            kept,
+            len: _,
+            all: _,
+            keeping: _,
+        } = self;
+        kept
     }
 }
 

@@ -6,9 +6,15 @@ use ctt_text::{NoMemory, Placed};
 use std::marker::Model;
 
 /// Lectures in a list, seen as this list.
-#[derive(Drop)]
 pub struct Lectures {
     list: Vec<Placed>,
+}
+
+// A derived `Drop` is proved anew in each crate above.
+impl Drop for Lectures {
+    fn drop(self) {
+        let Lectures { list: _ } = self;
+    }
 }
 
 impl Model for Lectures {
@@ -39,7 +45,8 @@ impl Lectures {
     pub fn into_vec(self) -> Vec<Placed>
         ensures { result.items ≡ self }
     {
-        self.list
+        let Lectures { list } = self;
+        list
     }
 
     /// Equal lectures.

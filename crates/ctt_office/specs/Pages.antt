@@ -9,12 +9,13 @@ use Rattle.ctt_script.specs.WrittenText.{entry_text}
 abbrev pub Stays : Option (List ℕ) → Option (List ℕ) → Type 0
 Stays kept taken = IfSome kept (λ bytes. taken ≡ Some bytes)
 
--- pages by their value: the bytes that were taken, and those of them that stay, where they are known; the history of which the entries are written, and whether one could not be
+-- pages by their value: the bytes that were taken, and those of them that stay, where they are known; the history of which the entries are written, and whether one could not be; whether a call of the writer has failed
 pub record PagesValue : Type 0 where
   pub taken : Option (List ℕ)
   pub kept : Option (List ℕ)
   pub history : List JournalEntry
   pub failed : Bool
+  pub marked : Bool
 
 -- the history that was seen last; none where none was
 abbrev pub seen : Option (List JournalEntry) → List JournalEntry

@@ -1,6 +1,6 @@
 //! The book of minutes: the accepted drafts, in the order of their commits, on a writer whose bytes stay.
 
-ghost use Rattle.std.specs.Prelude.{◌≡◌, ◌+◌, ◌<◌, [], length, true, false, IsTrue, OnErr, OnOk};
+ghost use Rattle.std.specs.Prelude.{◌≡◌, ◌+◌, ◌<◌, ◌≤◌, ◌↔◌, ◌⊎◌, [], length, true, false, IsTrue, OnErr, OnOk};
 ghost use Rattle.std.specs.Io.KnownBytes.{Appends};
 ghost use Rattle.ctt_devices.specs.Output.{AppendsFront};
 ghost use mathlib.Core.List.{IsPrefix};
@@ -44,6 +44,7 @@ impl<W: Durable, J: Naming> Model for Pages<W, J> {
       kept = W.kept p.writer;
       history = seen p.last;
       failed = p.failed;
+      marked = W.Sink.has_failed p.writer;
     } };
 
     ghost invariant = { λ p. p.failed ≡ false
@@ -58,6 +59,7 @@ fn write<W: Durable>(writer: &mut W, entry: &[u8]) -> Result<(), Failed>
     ensures front { OnErr result
         (AppendsFront (W.Sink.taken writer.old) (W.Sink.taken writer.new) entry.now) }
     ensures kept { OnOk result (Stays (W.kept writer.new) (W.Sink.taken writer.new)) }
+    ensures marked { OnErr result (W.Sink.has_failed writer.new ≡ true) }
 {
     put_whole(writer, entry)?;
     writer.sync()
@@ -75,7 +77,8 @@ fn count<J: Naming>(last: &Option<Receipt<J>>) -> u64
 
 /// Whether the history of a receipt begins with one that was seen, if one was.
 fn begins<J: Naming>(last: &Option<Receipt<J>>, receipt: &Receipt<J>) -> bool
-    ensures { IsTrue result → IsPrefix (seen last.now) receipt.now }
+    ensures begins { IsTrue result → IsPrefix (seen last.now) receipt.now }
+    ensures shorter { IsTrue result ↔ (length (seen last.now) ≤ length receipt.now) }
 {
     match last {
         Some(last) => last.begins(receipt),
@@ -91,6 +94,7 @@ impl<W: Durable, J: Naming> Pages<W, J> {
           kept = W.kept writer;
           history = [];
           failed = false;
+          marked = W.Sink.has_failed writer;
         } }
     {
         Pages {
@@ -119,6 +123,8 @@ impl<W: Durable, J: Naming> Pages<W, J> {
         ensures kept { result ≡ Entered
             → IsInMinutes W.Sink.taken W.kept J.problem receipt.now }
         ensures failed { result ≡ NotEntered → self.new.failed ≡ true }
+        ensures cause { result ≡ NotEntered → (self.old.failed ≡ true)
+            ⊎ (length receipt.now ≤ length self.old.history) ⊎ (self.new.marked ≡ true) }
         ensures front { result ≡ NotEntered
             → AppendsFront self.old.taken self.new.taken entry.now }
         ensures shut { self.old.failed ≡ true → (result ≡ NotEntered) × (self.new ≡ self.old) }

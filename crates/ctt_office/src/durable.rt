@@ -1,6 +1,6 @@
 //! A writer whose bytes outlive the machine.
 
-ghost use Rattle.std.specs.Prelude.{OnOk};
+ghost use Rattle.std.specs.Prelude.{◌≡◌, true, OnErr, OnOk};
 ghost use Rattle.std.specs.Io.KnownBytes.{Keeps};
 ghost use Rattle.ctt_office.specs.Pages.{Stays};
 
@@ -20,7 +20,10 @@ pub trait Durable: Sink + Drop {
     /// `Failed` where that is not known.
     fn sync(&mut self) -> Result<(), Failed>
         ensures taken { Keeps (Self.Sink.taken self.old) (Self.Sink.taken self.new) }
-        ensures kept { OnOk result (Stays (kept self.new) (Self.Sink.taken self.new)) };
+        ensures kept { OnOk result (Stays (kept self.new) (Self.Sink.taken self.new)) }
+
+        ensures marked { OnErr result (Self.Sink.has_failed self.new ≡ true) }
+        ensures unmarked { OnOk result (Self.Sink.has_failed self.new ≡ Self.Sink.has_failed self.old) };
 }
 
 impl<F: Write + OpenFile + Drop> Durable for Device<F> {
@@ -31,7 +34,10 @@ impl<F: Write + OpenFile + Drop> Durable for Device<F> {
     fn sync(&mut self) -> Result<(), Failed> {
         match self.inner().sync_data() {
             Ok(()) => Ok(()),
-            Err(_) => Err(Failed),
+            Err(_) => {
+                self.mark();
+                Err(Failed)
+            }
         }
     }
 }

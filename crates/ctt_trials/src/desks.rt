@@ -1,6 +1,6 @@
 //! A script as events on a desk that keeps its journal: one by one, and at once. What the desk leaves is told.
 
-ghost use Rattle.std.specs.Prelude.{◌↔◌, IsTrue};
+ghost use Rattle.std.specs.Prelude.{IsTrue};
 ghost use Rattle.std.specs.List.{AllByRecursion as Each};
 ghost use Rattle.ctt_core.specs.Runs.{EventFits};
 
@@ -57,9 +57,14 @@ fn asked_in<T: OfLine>(story: &mut Story, script: &Script) -> Vec<T> {
 
 /// Whether a desk of the instance with so many planners can be asked to answer these events.
 fn all_fit(events: &[Event], instance: &Instance, planners: u16) -> bool
-    ensures { IsTrue result ↔ Each (EventFits instance.now planners) events.now }
+    ensures { IsTrue result → Each (EventFits instance.now planners) events.now }
 {
-    events.iter().all(|event| event.fits(instance, planners))
+    for event in events {
+        if !event.fits(instance, planners) {
+            return false;
+        }
+    }
+    true
 }
 
 /// Tells what a desk answers to events at once. Where an event wants memory those behind it meet another desk than they

@@ -26,25 +26,15 @@ fn opened<'i, S: Sheet<'i>>(alloc: Global, script: &Script<'i>) -> Result<Opened
 /// The planners play a script at their desk, and look at what it has left. They come back from their seats.
 fn play_at<'i, S: Sheet<'i>, J: Naming, R: Wait>(
     story: &mut Story,
-    rt: &R,
-    desk: &SharedDesk<S, J>,
-    here: &Here<'i, J>,
+    here: &Here<'i, '_, S, J, R>,
     planners: Vec<Planner<S, J>>,
     script: &Script<'i>,
 ) -> Vec<Planner<S, J>> {
     let mut seats = sit(story, planners);
     let from = story.len();
-    answer_lines(
-        story,
-        rt,
-        desk,
-        here,
-        &mut seats,
-        script.lines,
-        script.drops,
-    );
+    answer_lines(story, here, &mut seats, script.lines, script.drops);
     story.compare(story.answers, story.end, from, "on a shared desk");
-    answer_lines(story, rt, desk, here, &mut seats, LOOKS, false);
+    answer_lines(story, here, &mut seats, LOOKS, false);
     leave(story, seats)
 }
 
@@ -77,12 +67,18 @@ fn play_named<'i, S: Sheet<'i>, J: Naming, R: Wait>(
     story: &mut Story,
     rt: &R,
     named: Named<S, J>,
-    here: &Here<'i, J>,
     script: &Script<'i>,
-) {
+)
+    requires { J.problem ≡ script.now.small.now }
+{
     match SharedDesk::<S, J>::new(rt, named) {
         Ok((desk, all)) => {
-            let mut planners = play_at(story, rt, &desk, here, all, script);
+            let here = Here {
+                rt,
+                desk: &desk,
+                small: script.small,
+            };
+            let mut planners = play_at(story, &here, all, script);
             close(story, rt, desk, planners.as_mut_slice(), script);
             let_go(planners);
         }
@@ -109,16 +105,12 @@ fn play_opened<'i, J: Naming, R: Wait>(
     requires named { IsNamed J.problem J.opening J.planners J.book opened count }
     requires problem { opened.problem ≡ script.now.small.now }
 {
-    let here = Here {
-        small: script.small,
-        desk: PhantomData,
-    };
     let named = Named {
         opened,
         count,
         name: PhantomData,
     };
-    play_named::<GridSheet, J, R>(story, rt, named, &here, script);
+    play_named::<GridSheet, J, R>(story, rt, named, script);
 }
 
 /// Plays a script on a desk of grid sheets.

@@ -11,11 +11,10 @@ use ctt_crew::{Seat, Told};
 use ctt_desk::{Naming, Planner, Receipt, SharedDesk};
 use ctt_script::{Lines, read_line};
 use ctt_text::Instance;
-use std::marker::PhantomData;
 use std::sync::Wait;
 
 /// The place of the planner who learns each receipt.
-const LEARNER: u16 = 2;
+const LEARNER: usize = 2;
 
 /// The place of the planner who learns nothing, and is asked to show the timetable.
 const VIEWER: u16 = 3;
@@ -30,11 +29,12 @@ show cost
 3 abandon
 ";
 
-/// The instance of a desk.
+/// A desk with its instance.
 #[derive(Drop)]
-pub(crate) struct Here<'i, J: Naming> {
+pub(crate) struct Here<'i, 'x, S: Timetable, J: Naming, R: Wait> {
+    pub(crate) rt: &'x R,
+    pub(crate) desk: &'x SharedDesk<S, J>,
     pub(crate) small: &'i Instance,
-    pub(crate) desk: PhantomData<J>,
     ghost same: { J.problem ≡ small.now },
 }
 
@@ -79,53 +79,35 @@ pub(crate) fn leave<'i, S: Sheet<'i>, J: Naming>(
 
 /// A planner does what an event says, and has a receipt, or is told something else.
 fn take<'i, S: Sheet<'i>, J: Naming, R: Wait>(
-    rt: &R,
-    desk: &SharedDesk<S, J>,
-    here: &Here<'i, J>,
+    here: &Here<'i, '_, S, J, R>,
     seat: Seat<'i, S, J>,
     event: &Event,
 ) -> (Seat<'i, S, J>, Result<Receipt<J>, Told>)
     requires { EventFits here.now.small.now 64 event.now }
 {
     if matches!(event, Event::Commit(_)) {
-        return seat.commit(rt, desk);
+        return seat.commit(here.rt, here.desk);
     }
-    let (seat, told) = seat.take(rt, desk, *event);
+    let (seat, told) = seat.take(here.rt, here.desk, *event);
     (seat, Err(told))
-}
-
-/// Who sits in a seat learns a receipt, if he has no draft open.
-fn learnt<'i, S: Sheet<'i>, J: Naming>(
-    seat: Seat<'i, S, J>,
-    receipt: &Receipt<J>,
-) -> Seat<'i, S, J> {
-    match seat {
-        Seat::Free(planner) => {
-            let mut planner = planner;
-            planner.learn(receipt);
-            Seat::Free(planner)
-        }
-        Seat::Drafting(drafting) => Seat::Drafting(drafting),
-    }
 }
 
 /// Tells what a planner is answered, whose receipt is learnt where he has one, and answers whether it was told: want of memory
 /// is not, and no more a place that was refused, since this comes of nothing else here.
 fn tells<'i, S: Sheet<'i>, J: Naming>(
     story: &mut Story,
-    here: &Here<'i, J>,
+    small: &Instance,
     seats: &mut [Option<Seat<'i, S, J>>],
     told: Result<Receipt<J>, Told>,
 ) -> bool {
     match told {
         Ok(receipt) => {
-            let place = usize::from(LEARNER);
-            if let Some(seat) = take_at(seats, place) {
-                put_at(seats, place, learnt(seat, &receipt));
+            if let Some(Some(Seat::Free(learner))) = seats.get_mut(LEARNER) {
+                learner.learn(&receipt);
             }
-            story.tells(here.small, Answer::Committed(receipt.number()))
+            story.tells(small, Answer::Committed(receipt.number()))
         }
-        Err(Told::Answer(answer)) => story.tells(here.small, answer),
+        Err(Told::Answer(answer)) => story.tells(small, answer),
         Err(Told::NoPlace) => false,
         Err(Told::NotYours(_)) => {
             story.say("not yours");
@@ -138,9 +120,7 @@ fn tells<'i, S: Sheet<'i>, J: Naming>(
 /// whether it was told.
 fn answers<'i, S: Sheet<'i>, J: Naming, R: Wait>(
     story: &mut Story,
-    rt: &R,
-    desk: &SharedDesk<S, J>,
-    here: &Here<'i, J>,
+    here: &Here<'i, '_, S, J, R>,
     seats: &mut [Option<Seat<'i, S, J>>],
     place: usize,
     event: &Event,
@@ -151,18 +131,16 @@ fn answers<'i, S: Sheet<'i>, J: Naming, R: Wait>(
         story.say("no planner");
         return true;
     };
-    let (seat, told) = take(rt, desk, here, seat, event);
+    let (seat, told) = take(here, seat, event);
     put_at(seats, place, seat);
-    tells(story, here, seats, told)
+    tells(story, here.small, seats, told)
 }
 
 /// The planners do what lines say, each line once more where memory is wanted. The first planner may be dropped when another
 /// one begins, with the draft that he may have open.
 pub(crate) fn answer_lines<'i, S: Sheet<'i>, J: Naming, R: Wait>(
     story: &mut Story,
-    rt: &R,
-    desk: &SharedDesk<S, J>,
-    here: &Here<'i, J>,
+    here: &Here<'i, '_, S, J, R>,
     seats: &mut [Option<Seat<'i, S, J>>],
     lines: &str,
     drops: bool,
@@ -174,9 +152,9 @@ pub(crate) fn answer_lines<'i, S: Sheet<'i>, J: Naming, R: Wait>(
                 if drops && place > 0 {
                     drop(take_at(seats, 0));
                 }
-                if !answers(story, rt, desk, here, seats, place, &event) {
+                if !answers(story, here, seats, place, &event) {
                     story.call_again();
-                    if !answers(story, rt, desk, here, seats, place, &event) {
+                    if !answers(story, here, seats, place, &event) {
                         story.no_memory();
                     }
                 }
