@@ -29,7 +29,9 @@ fn play_at<'i, S: Sheet<'i>, J: Naming, R: Wait>(
     here: &Here<'i, '_, S, J, R>,
     planners: Vec<Planner<S, J>>,
     script: &Script<'i>,
-) -> Vec<Planner<S, J>> {
+) -> Vec<Planner<S, J>>
+    requires { J.problem ≡ here.now.small.now }
+{
     let mut seats = sit(story, planners);
     let from = story.len();
     answer_lines(story, here, &mut seats, script.lines, script.drops);

@@ -35,7 +35,6 @@ pub(crate) struct Here<'i, 'x, S: Timetable, J: Naming, R: Wait> {
     pub(crate) rt: &'x R,
     pub(crate) desk: &'x SharedDesk<S, J>,
     pub(crate) small: &'i Instance,
-    ghost same: { J.problem ≡ small.now },
 }
 
 /// The place of the planner who is asked by an event.
@@ -83,7 +82,8 @@ fn take<'i, S: Sheet<'i>, J: Naming, R: Wait>(
     seat: Seat<'i, S, J>,
     event: &Event,
 ) -> (Seat<'i, S, J>, Result<Receipt<J>, Told>)
-    requires { EventFits here.now.small.now 64 event.now }
+    requires same { J.problem ≡ here.now.small.now }
+    requires fits { EventFits here.now.small.now 64 event.now }
 {
     if matches!(event, Event::Commit(_)) {
         return seat.commit(here.rt, here.desk);
@@ -125,7 +125,8 @@ fn answers<'i, S: Sheet<'i>, J: Naming, R: Wait>(
     place: usize,
     event: &Event,
 ) -> bool
-    requires { EventFits here.now.small.now 64 event.now }
+    requires same { J.problem ≡ here.now.small.now }
+    requires fits { EventFits here.now.small.now 64 event.now }
 {
     let Some(seat) = take_at(seats, place) else {
         story.say("no planner");
@@ -144,7 +145,9 @@ pub(crate) fn answer_lines<'i, S: Sheet<'i>, J: Naming, R: Wait>(
     seats: &mut [Option<Seat<'i, S, J>>],
     lines: &str,
     drops: bool,
-) {
+)
+    requires { J.problem ≡ here.now.small.now }
+{
     for line in Lines::new(lines.as_bytes()) {
         match read_line(here.small, line) {
             Some(event) => {

@@ -1,0 +1,7 @@
+use Rattle.std.proofs.Common.{arith}
+use Rattle.ctt_core.specs.Runs.{EventFits}
+use Rattle.ctt_text.proofs.TimetableLemmas.{Each-from_index}
+use Rattle.ctt_trials.proofs.desks.all_fit.Goals as goal
+
+pub returns : goal.returns
+returns g c = Each-from_index (EventFits g.args.instance.now g.args.planners) g.args.events.now (λ k other lt. g.loop-event.invariant k other (omega (arith, lt, g.loop-event-test.false)))
