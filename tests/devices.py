@@ -14,85 +14,8 @@ import sys
 import tempfile
 
 sys.dont_write_bytecode = True
-from program import EXAMPLES, PROGRAM, check, end  # noqa: E402
+from program import EXAMPLES, PROGRAM, build, check, end  # noqa: E402
 
-DEVICES = r"""
-#define _GNU_SOURCE
-#include <dlfcn.h>
-#include <errno.h>
-#include <fcntl.h>
-#include <stdatomic.h>
-#include <stdlib.h>
-#include <string.h>
-#include <unistd.h>
-
-static atomic_long reads, syncs, printed, stored;
-static long bad_read, bad_sync, prints, stores;
-static int idle, met = -1;
-static ssize_t (*next_read)(int, void *, size_t);
-static ssize_t (*next_write)(int, const void *, size_t);
-static int (*next_sync)(int);
-
-static long mark(const char *name, long otherwise) { return getenv(name) ? atol(getenv(name)) : otherwise; }
-
-__attribute__((constructor)) static void begin(void) {
-    next_read = dlsym(RTLD_NEXT, "read");
-    next_write = dlsym(RTLD_NEXT, "write");
-    next_sync = dlsym(RTLD_NEXT, "fdatasync");
-    bad_read = mark("BAD_READ", 0);
-    bad_sync = mark("BAD_SYNC", 0);
-    prints = mark("PRINTS", -1);
-    stores = mark("STORES", -1);
-    idle = mark("IDLE", 0);
-    met = open(getenv("MET"), O_WRONLY | O_CREAT | O_TRUNC, 0600);
-}
-
-/* notes a call that fails, and each one of its kind behind it */
-static void note(const char *kind) {
-    if (next_write(met, kind, strlen(kind)) < 0) {
-        _exit(99);
-    }
-}
-
-static int fail(const char *kind) {
-    note(kind);
-    errno = EIO;
-    return -1;
-}
-
-ssize_t read(int fd, void *bytes, size_t size) {
-    long now = atomic_fetch_add(&reads, 1) + 1;
-    if (now == bad_read) {
-        return fail("read\n");
-    }
-    if (bad_read > 0 && now > bad_read) {
-        note("read\n");
-    }
-    return next_read(fd, bytes, size > 1 ? 1 : size);
-}
-
-/* a write where there is room for so many bytes more, which then fails, or takes nothing */
-static ssize_t put(int fd, const void *bytes, size_t size, atomic_long *taken, long room) {
-    size_t left = (size_t)(room - atomic_load(taken));
-    if (room < 0 || size == 0) {
-        return next_write(fd, bytes, size);
-    }
-    if (left == 0) {
-        return fail("write\n") + idle;
-    }
-    atomic_fetch_add(taken, (long)(size < left ? size : left));
-    return next_write(fd, bytes, size < left ? size : left);
-}
-
-ssize_t write(int fd, const void *bytes, size_t size) {
-    if (fd == 2) {
-        return next_write(fd, bytes, size);
-    }
-    return fd == 1 ? put(fd, bytes, size, &printed, prints) : put(fd, bytes, size, &stored, stores);
-}
-
-int fdatasync(int fd) { return atomic_fetch_add(&syncs, 1) + 1 == bad_sync ? fail("sync\n") : next_sync(fd); }
-"""
 JOURNAL = "journal 1\nentry 0 1\nplace top A 0 1\nrefused roomtaken geo\nEND.\n"
 OWN = "open\nplace geo A 0 1\ncommit\n"
 # what is typed at a seat, its answers, and the entry of each commit
@@ -104,19 +27,6 @@ CLOSED = ["journal 0\ncosts 0 20 0 0\n", "journal 1\ncosts 0 15 2 0\n", "journal
 NOT_READ = "timedesk: cannot read {}\n"
 NOT_WRITTEN = "timedesk: cannot write\n"
 FAILS = ({}, {"IDLE": 1})
-
-
-def build(folder):
-    """The calls in front of the C library's, or an end where there is no compiler."""
-    compiler = next(filter(None, map(shutil.which, ("cc", "gcc", "clang"))), None)
-    if compiler is None:
-        print("no C compiler was found, so no read or write failed")
-        sys.exit(1)
-    source, made = (os.path.join(folder, name) for name in ("devices.c", "devices.so"))
-    with open(source, "w", encoding="ascii") as file:
-        file.write(DEVICES)
-    subprocess.run([compiler, "-O1", "-shared", "-fPIC", "-o", made, source, "-ldl"], check=True)
-    return made
 
 
 def held(folder, name):
@@ -219,7 +129,7 @@ def check_desk(folder, made):
 
 
 with tempfile.TemporaryDirectory() as room:
-    shim = build(room)
+    shim = build(room, "devices")
     for example in ("small.ctt", "s.sol", "phantom.txt"):
         shutil.copy(os.path.join(EXAMPLES, example), room)
     start = "".join(held(room, "s.sol").decode().splitlines(keepends=True)[:4])

@@ -12,10 +12,7 @@
 # second has its answer, and all others are as with memory. The crew may also end with status 3 and 'timedesk: no thread', where the
 # system wanted the memory for it.
 #
-# At a seat of a desk each request of the program is refused alone: a line that is answered 'no memory' is typed again. The answers
-# have to be those with memory, and the minutes too. Or the desk ends with status 3 and 'timedesk: no memory', or 'timedesk: no thread'
-# where the system wanted the memory for it: then what it answered, and the minutes, are the front of what they are with memory, and
-# what was told as committed is in the minutes.
+# Desks with seats are played so by `tests/seats.py`.
 #
 # It needs a C compiler. TRIALS and PROGRAM name other builds. The last line is 'N passed, M failed', of runs that met a refusal.
 set -u
@@ -24,58 +21,11 @@ trials=${TRIALS:-$here/crates/ctt_trials/out/ctt_trials}
 program=${PROGRAM:-$here/crates/ctt_tool/out/ctt_tool}
 room=$(mktemp -d) || exit 1
 trap 'rm -rf -- "$room"' EXIT
-cat >"$room/refuse.c" <<'C'
-#define _GNU_SOURCE
-#include <dlfcn.h>
-#include <fcntl.h>
-#include <malloc.h>
-#include <stdatomic.h>
-#include <stdlib.h>
-#include <unistd.h>
-
-static atomic_long asked;
-static long number;
-static int later;
-static int met = -1;
-static void *(*next_malloc)(size_t);
-static void *(*next_realloc)(void *, size_t);
-
-__attribute__((constructor)) static void begin(void) {
-    const char *name = getenv("MET");
-    next_malloc = dlsym(RTLD_NEXT, "malloc");
-    next_realloc = dlsym(RTLD_NEXT, "realloc");
-    number = getenv("REFUSE") ? atol(getenv("REFUSE")) : 0;
-    later = getenv("REFUSE_LATER") != 0;
-    if (name) {
-        met = open(name, O_WRONLY | O_CREAT | O_TRUNC, 0600);
-    }
-    /* what was asked for until now was not asked for by the program */
-    atomic_store(&asked, 0);
-}
-
-/* whether the request is refused: which kind it is is noted, since the program may end without a word to the C library */
-static int refused(const char kind[5]) {
-    long now = atomic_fetch_add(&asked, 1) + 1;
-    if (number == 0 || (later ? now < number : now != number)) {
-        return 0;
-    }
-    if (met >= 0 && write(met, kind, 5) != 5) {
-        _exit(99);
-    }
-    return 1;
-}
-
-void *malloc(size_t size) { return next_malloc && !refused("more\n") ? next_malloc(size) : 0; }
-
-void *realloc(void *old, size_t size) {
-    return refused(old && size <= malloc_usable_size(old) ? "less\n" : "more\n") ? 0 : next_realloc(old, size);
-}
-C
 compiler=$(command -v cc || command -v gcc || command -v clang) || {
     echo 'no C compiler was found, so no memory was refused'
     exit 1
 }
-"$compiler" -O1 -shared -fPIC -o "$room/refuse.so" "$room/refuse.c" -ldl || exit 1
+"$compiler" -O1 -shared -fPIC -o "$room/refuse.so" "$here/tests/refuse.c" -ldl || exit 1
 cp -- "$here"/examples/*.ctt "$here"/examples/*.sol "$here"/examples/*.txt "$room"
 cd -- "$room" || exit 1
 head -n 4 s.sol >s0.sol
@@ -84,9 +34,6 @@ echo 'Barred: 2 alg A top A END.' >barred
 printf '%s\n' 'entry 0 1' 'place top B 0 2' done 'entry 1 1' 'slot 0 2' 'lectures 1 top B 0 2' 'entry 0 1' 'drop top 0' >torn
 # each line of a crew's planner, twice
 printf '%s\n' open open 'place geo A 0 1' 'place geo A 0 1' 'slot 0 1' 'slot 0 1' refresh refresh commit commit >twice
-# what a planner types at a seat
-printf '%s\n' open 'place geo A 0 1' 'price place top B 0 2' refresh commit open 'slot 0 1' 'teacher t1' 'drop geo 0 1' \
-    'place alg A 0 0' 'swap alg 0 0 geo 0 1' 'reroom alg B 0 0' 'frob it' commit 'show cost' open abandon leave >typed
 # a draft that is brought up to date, and one that turns out to be stale
 printf '%s\n' '0 open' '0 place geo A 0 1' '2 open' '2 slot 0 2' '1 open' '1 place top B 0 2' '1 commit' '0 refresh' '2 refresh' '0 slot 0 2' \
     '0 commit' >refreshed
@@ -183,70 +130,5 @@ for words in 'check small.ctt s.sol --json --barred barred' 'check small.ctt sma
 done
 echo "the program met $((passed + failed - of_trials)) more, of which $spared were for room by a guess; $made_again lines of a crew were made again"
 
-# Plays the typed lines at a seat, each when the one before is answered, and notes the answers in `out.now`, how often a line was
-# typed again in `again`, and how the desk ended in `status`.
-sit() {
-    local line answer into from desk
-    again=0
-    rm -f minutes met
-    : >out.now
-    coproc seat { exec env "$@" "$program" desk small.ctt - --minutes minutes 2>err.now; }
-    desk=$! into=${seat[1]} from=${seat[0]}
-    exec 8<&"$from" 9>&"$into"
-    eval "exec $from<&- $into>&-"
-    while read -r line; do
-        echo "$line" >&9 2>pipe || break
-        read -r answer <&8 || break
-        if [ "$answer" = 'no memory' ]; then
-            again=$((again + 1))
-            echo "$line" >&9 2>pipe || break
-            read -r answer <&8 || break
-        fi
-        echo "$answer" >>out.now
-    done <typed
-    exec 9>&-
-    cat <&8 >>out.now
-    exec 8<&-
-    wait "$desk" 2>pipe
-    status=$?
-}
-
-# Whether the first file is the front of the second one.
-begins() { cmp -s -n "$(wc -c <"$1")" "$1" "$2"; }
-
-trap '' PIPE
-of_all=$((passed + failed))
-typed_again=0
-spare=2
-sit MET=met
-mv out.now out
-mv minutes minutes.all
-if [ "$status" != 0 ] || [ -s met ]; then
-    failed=$((failed + 1))
-    echo "FAILED: a seat: status $status"
-fi
-for ((number = 1; ; number++)); do
-    sit LD_PRELOAD="$room/refuse.so" MET=met REFUSE="$number"
-    [ -s met ] || break
-    [ "$again" = 0 ] || typed_again=$((typed_again + 1))
-    if [ "$status" = 0 ] && cmp -s out out.now && cmp -s minutes.all minutes; then
-        if [ "$again" = 0 ] && grep -q more met; then
-            spare=$((spare - 1))
-        fi
-        if [ "$spare" -ge 0 ]; then
-            passed=$((passed + 1))
-        else
-            failed=$((failed + 1))
-            echo "FAILED: a seat, request $number, which could be done without"
-        fi
-    elif [ "$status" = 3 ] && [[ $(<err.now) =~ ^timedesk:\ no\ (memory|thread)$ ]] && begins out.now out && { [ ! -e minutes ] || begins minutes minutes.all; } \
-        && [ "$(grep -c '^committed' out.now)" -le "$(cat minutes 2>pipe | grep -c '^entry')" ]; then
-        passed=$((passed + 1))
-    else
-        failed=$((failed + 1))
-        echo "FAILED: a seat, request $number: status $status"
-    fi
-done
-echo "a seat met $((passed + failed - of_all)) more, of which $typed_again were answered and made again"
 echo "$passed passed, $failed failed"
 [ "$failed" = 0 ]

@@ -1,6 +1,7 @@
 """Runs the program, and counts comparisons. PROGRAM names another one."""
 import itertools
 import os
+import shutil
 import subprocess
 import sys
 
@@ -41,6 +42,18 @@ def write_files(folder, instance, solution, barred=None):
 def words_of(files):
     """The words of a command by which it is given these files."""
     return [*files[:2], *(("--barred", files[2]) if len(files) > 2 else ())]
+
+
+def build(folder, name):
+    """A library of calls to stand in front of the C library's, or an end where there is no compiler."""
+    compiler = next(filter(None, map(shutil.which, ("cc", "gcc", "clang"))), None)
+    if compiler is None:
+        print("no C compiler was found, so no call of the C library failed")
+        sys.exit(1)
+    made = os.path.join(folder, f"{name}.so")
+    source = os.path.join(HERE, "tests", f"{name}.c")
+    subprocess.run([compiler, "-O1", "-shared", "-fPIC", "-o", made, source, "-ldl"], check=True)
+    return made
 
 
 def check(name, found, wanted):

@@ -4,10 +4,9 @@ ghost use Rattle.ctt_text.specs.Timetable.{IsTimetable};
 ghost use Rattle.ctt_trials.specs.Scripts.{IsTimetable-prop};
 
 use crate::story::Story;
-use crate::{desks, drafts, journals, scripts, shared, sheets, shown};
+use crate::{desks, drafts, journals, scripts, sheets, shown};
 use ctt_board::{GridSheet, ListSheet, Sheet};
 use ctt_text::{Instance, Placed, let_go, read_solution};
-use std::sync::Wait;
 
 /// How a case is played.
 pub(crate) enum Way {
@@ -17,8 +16,6 @@ pub(crate) enum Way {
     List(On),
     /// On grid sheets.
     Grid(On),
-    /// Its lines by the planners of a shared desk, of grid sheets.
-    Shared,
 }
 
 /// How a case is played without a sheet.
@@ -72,8 +69,6 @@ pub(crate) struct Case {
     pub(crate) opening: &'static str,
     pub(crate) lines: &'static str,
     pub(crate) plays: &'static [Play],
-    /// Whether the first planner is dropped when another one begins, with the draft that he has open, where the desk is shared.
-    pub(crate) drops: bool,
 }
 
 /// The lines of a case, with its instance and the lectures with which it opens.
@@ -82,66 +77,55 @@ pub(crate) struct Script<'i> {
     pub(crate) small: &'i Instance,
     pub(crate) opening: &'i [Placed],
     pub(crate) lines: &'i str,
-    pub(crate) drops: bool,
     ghost timetable: { IsTimetable small.now opening.now } by { IsTimetable-prop small.now opening.now },
 }
 
 /// Plays a case without a sheet.
-fn play_plain(story: &mut Story, plain: &Plain, script: &Script) {
+fn play_plain(script: &Script, story: &mut Story, plain: &Plain) {
     match plain {
-        Plain::Reports => shown::play_reports(story, script),
-        Plain::Written => shown::play_written(story, script),
-        Plain::Rows => sheets::tell_rows(story, script),
+        Plain::Reports => shown::play_reports(script, story),
+        Plain::Written => shown::play_written(script, story),
+        Plain::Rows => sheets::tell_rows(script, story),
     }
 }
 
 /// Plays a case on sheets of one kind.
-fn play_on<'i, S: Sheet<'i>>(story: &mut Story, on: &On, script: &Script<'i>) {
+fn play_on<'i, S: Sheet<'i>>(script: &Script<'i>, story: &mut Story, on: &On) {
     match on {
-        On::Lines | On::Placement => sheets::play::<S>(story, on, script),
-        On::Draft | On::LongDraft => drafts::play::<S>(story, on, script),
-        On::Step | On::Run => desks::play::<S>(story, on, script),
-        On::Text | On::Journal | On::Unflushed => scripts::play::<S>(story, on, script),
+        On::Lines | On::Placement => sheets::play::<S>(script, story, on),
+        On::Draft | On::LongDraft => drafts::play::<S>(script, story, on),
+        On::Step | On::Run => desks::play::<S>(script, story, on),
+        On::Text | On::Journal | On::Unflushed => scripts::play::<S>(script, story, on),
         On::Audit | On::Left => {
-            journals::read_text::<S>(story, on, script, script.lines.as_bytes());
+            journals::read_text::<S>(script, story, on, script.lines.as_bytes());
         }
     }
 }
 
 /// Plays a case in one way.
-fn play_once<R: Wait>(story: &mut Story, rt: &R, way: &Way, script: &Script) {
+fn play_once(script: &Script, story: &mut Story, way: &Way) {
     match way {
-        Way::Plain(plain) => play_plain(story, plain, script),
-        Way::List(on) => play_on::<ListSheet>(story, on, script),
-        Way::Grid(on) => play_on::<GridSheet>(story, on, script),
-        Way::Shared => shared::play(story, rt, script),
+        Way::Plain(plain) => play_plain(script, story, plain),
+        Way::List(on) => play_on::<ListSheet>(script, story, on),
+        Way::Grid(on) => play_on::<GridSheet>(script, story, on),
     }
 }
 
 /// Plays a case with the lectures of its opening.
-fn play_opened<R: Wait>(
-    story: &mut Story,
-    rt: &R,
-    small: &Instance,
-    opening: &[Placed],
-    case: &Case,
-)
+fn play_opened(story: &mut Story, small: &Instance, opening: &[Placed], case: &Case)
     requires { IsTimetable small.now opening.now }
 {
     let script = Script {
         small,
         opening,
         lines: case.lines,
-        drops: case.drops,
     };
     let (mut from, mut to) = (0, 0);
     for play in case.plays {
         let here = story.len();
-        story.marked = 0;
-        play_once(story, rt, &play.way, &script);
+        play_once(&script, story, &play.way);
         if play.called.is_empty() {
             (from, to) = (here, story.len());
-            story.note(here);
         } else {
             story.compare(from, to, here, play.called);
         }
@@ -149,10 +133,10 @@ fn play_opened<R: Wait>(
 }
 
 /// Plays a case.
-fn play_case<R: Wait>(story: &mut Story, rt: &R, small: &Instance, case: &Case) {
+fn play_case(story: &mut Story, small: &Instance, case: &Case) {
     match read_solution(story.alloc(), small, case.opening.as_bytes()) {
         Ok(opening) => {
-            play_opened(story, rt, small, &opening, case);
+            play_opened(story, small, &opening, case);
             let_go(opening);
         }
         Err(_fault) => story.no_memory(),
@@ -160,15 +144,15 @@ fn play_case<R: Wait>(story: &mut Story, rt: &R, small: &Instance, case: &Case) 
 }
 
 /// Plays cases, each once more where a call of it wanted memory.
-pub(crate) fn play_cases<R: Wait>(story: &mut Story, rt: &R, small: &Instance, cases: &[Case]) {
+pub(crate) fn play_cases(story: &mut Story, small: &Instance, cases: &[Case]) {
     for case in cases {
         if !case.name.is_empty() {
             story.say(case.name);
         }
         let here = story.len();
-        play_case(story, rt, small, case);
+        play_case(story, small, case);
         if story.takes_back(here) {
-            play_case(story, rt, small, case);
+            play_case(story, small, case);
         }
     }
 }

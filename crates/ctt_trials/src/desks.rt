@@ -13,15 +13,15 @@ use ctt_script::{Lines, PLANNERS, read_line};
 use ctt_text::{Instance, NoMemory, let_go};
 
 /// Tells the lectures and the cost of a desk, and how many entries its journal has.
-pub(crate) fn tell_desk<'i, S: Sheet<'i>>(story: &mut Story, desk: &Desk<'i, S, KeepAll>) {
+pub(crate) fn tell_desk<'i, S: Sheet<'i>>(desk: &Desk<'i, S, KeepAll>, story: &mut Story) {
     story.timetable(desk.instance(), desk.list(), desk.cost());
     story.count("entries", desk.journal().len() as u64);
 }
 
 /// Tells what a desk answers to an event, and answers whether it was told: want of memory is not.
 fn tells_step<'i, S: Sheet<'i>>(
-    story: &mut Story,
     desk: &mut Desk<'i, S, KeepAll>,
+    story: &mut Story,
     event: &Event,
 ) -> bool {
     if !event.fits(desk.instance(), desk.planners()) {
@@ -70,8 +70,8 @@ fn all_fit(events: &[Event], instance: &Instance, planners: u16) -> bool
 /// Tells what a desk answers to events at once. Where an event wants memory those behind it meet another desk than they
 /// should: then the case is played again.
 fn tell_answers<'i, S: Sheet<'i>>(
-    story: &mut Story,
     desk: &mut Desk<'i, S, KeepAll>,
+    story: &mut Story,
     events: &[Event],
 ) {
     if !all_fit(events, desk.instance(), desk.planners()) {
@@ -84,36 +84,34 @@ fn tell_answers<'i, S: Sheet<'i>>(
     }
 }
 
-/// Plays a script on a desk event by event, each once more where memory is wanted, or at once, and tells what the desk then has. The place where its answers end in
-/// what is told is marked.
+/// Plays a script on a desk event by event, each once more where memory is wanted, or at once, and tells what the desk then has.
 fn play_at<'i, S: Sheet<'i>>(
+    desk: &mut Desk<'i, S, KeepAll>,
     story: &mut Story,
     on: &On,
     script: &Script<'i>,
-    desk: &mut Desk<'i, S, KeepAll>,
 ) {
     let events = asked_in::<Event>(story, script);
     if matches!(on, On::Run) {
-        tell_answers(story, desk, &events);
+        tell_answers(desk, story, &events);
     } else {
         for event in &events {
-            if !tells_step(story, desk, event) {
+            if !tells_step(desk, story, event) {
                 story.call_again();
-                if !tells_step(story, desk, event) {
+                if !tells_step(desk, story, event) {
                     story.no_memory();
                 }
             }
         }
     }
-    story.marked = story.len();
-    tell_desk(story, desk);
+    tell_desk(desk, story);
 }
 
 /// Plays a script event by event, or at once.
-pub(crate) fn play<'i, S: Sheet<'i>>(story: &mut Story, on: &On, script: &Script<'i>) {
+pub(crate) fn play<'i, S: Sheet<'i>>(script: &Script<'i>, story: &mut Story, on: &On) {
     match Desk::<S, KeepAll>::new(story.alloc(), script.small, script.opening, PLANNERS) {
         Ok(mut desk) => {
-            play_at(story, on, script, &mut desk);
+            play_at(&mut desk, story, on, script);
             let_go(desk);
         }
         Err(DeskFault::Unlawful(at, fault)) => story.unlawful(script.small, at, fault),

@@ -21,8 +21,8 @@ fn open<'i, S: Sheet<'i>>(alloc: Global, sheet: &S) -> Result<Draft<'i, S, KeepA
 
 /// What a draft answers to the call of a line. Where that is want of memory, it is asked again.
 fn ask<'i, S: Sheet<'i>>(
-    story: &mut Story,
     draft: &mut Draft<'i, S, KeepAll>,
+    story: &mut Story,
     line: &str,
 ) -> Result<Reply, NoMemory>
     ensures { draft.new.problem ≡ draft.old.problem }
@@ -41,28 +41,28 @@ fn ask<'i, S: Sheet<'i>>(
 }
 
 /// Asks a draft what a line says, and tells the answer.
-fn tell_asked<'i, S: Sheet<'i>>(story: &mut Story, draft: &mut Draft<'i, S, KeepAll>, line: &str)
+fn tell_asked<'i, S: Sheet<'i>>(draft: &mut Draft<'i, S, KeepAll>, story: &mut Story, line: &str)
     ensures { draft.new.problem ≡ draft.old.problem }
 {
     let small = draft.instance();
-    let told = ask(story, draft, line);
+    let told = ask(draft, story, line);
     story.reply(small, told);
 }
 
 /// Asks a draft a thousand times, by turns to place geo and to drop it again, and tells how many bytes that is answered.
-fn ask_often<'i, S: Sheet<'i>>(story: &mut Story, draft: &mut Draft<'i, S, KeepAll>)
+fn ask_often<'i, S: Sheet<'i>>(draft: &mut Draft<'i, S, KeepAll>, story: &mut Story)
     ensures { draft.new.problem ≡ draft.old.problem }
 {
     let here = story.len();
     for turn in 0..500u64 {
-        tell_asked(story, draft, "place geo A 0 1");
-        tell_asked(story, draft, "drop geo 0 1");
+        tell_asked(draft, story, "place geo A 0 1");
+        tell_asked(draft, story, "drop geo 0 1");
     }
     story.measure(here);
 }
 
 /// Tells whether a draft is stale against a sheet.
-fn tell_stale<'i, S: Sheet<'i>>(story: &mut Story, draft: &Draft<'i, S, KeepAll>, sheet: &S)
+fn tell_stale<'i, S: Sheet<'i>>(draft: &Draft<'i, S, KeepAll>, story: &mut Story, sheet: &S)
     requires { S.problem sheet.now ≡ draft.now.problem }
 {
     match draft.stale(sheet) {
@@ -73,7 +73,7 @@ fn tell_stale<'i, S: Sheet<'i>>(story: &mut Story, draft: &Draft<'i, S, KeepAll>
 }
 
 /// Makes the changes of a draft again on a copy of a sheet.
-fn tell_replayed<'i, S: Sheet<'i>>(story: &mut Story, draft: &Draft<'i, S, KeepAll>, sheet: &S) {
+fn tell_replayed<'i, S: Sheet<'i>>(draft: &Draft<'i, S, KeepAll>, story: &mut Story, sheet: &S) {
     match sheet.copy() {
         Ok(mut copy) => {
             story.count("replayed", u64::from(replay(draft.changes(), &mut copy)));
@@ -84,14 +84,14 @@ fn tell_replayed<'i, S: Sheet<'i>>(story: &mut Story, draft: &Draft<'i, S, KeepA
 }
 
 /// Tells the cells that a draft would put back, and how many changes and calls it has.
-fn tell_work<'i, S: Sheet<'i>>(story: &mut Story, draft: &Draft<'i, S, KeepAll>) {
+fn tell_work<'i, S: Sheet<'i>>(draft: &Draft<'i, S, KeepAll>, story: &mut Story) {
     tell_cells(story, draft.undo());
     story.count("changes", draft.changes().len() as u64);
     story.count("calls", draft.asked().len() as u64);
 }
 
 /// Ends a draft, and settles it on a sheet, unless it is stale there.
-fn settle<'i, S: Sheet<'i>>(story: &mut Story, draft: Draft<'i, S, KeepAll>, sheet: &mut S)
+fn settle<'i, S: Sheet<'i>>(draft: Draft<'i, S, KeepAll>, story: &mut Story, sheet: &mut S)
     requires { S.problem sheet.old ≡ draft.problem }
 {
     match draft.stale(sheet) {
@@ -113,9 +113,9 @@ fn settle<'i, S: Sheet<'i>>(story: &mut Story, draft: Draft<'i, S, KeepAll>, she
 /// What is asked of a draft on an empty sheet: a thousand calls, or to look at a slot and to place geo, where another sheet has
 /// top in that slot.
 fn ask_all<'i, S: Sheet<'i>>(
+    draft: &mut Draft<'i, S, KeepAll>,
     story: &mut Story,
     on: &On,
-    draft: &mut Draft<'i, S, KeepAll>,
     sheet: &S,
     other: &S,
 )
@@ -124,13 +124,13 @@ fn ask_all<'i, S: Sheet<'i>>(
     ensures { draft.new.problem ≡ draft.old.problem }
 {
     if matches!(on, On::LongDraft) {
-        return ask_often(story, draft);
+        return ask_often(draft, story);
     }
-    tell_asked(story, draft, "slot 0 2");
-    tell_asked(story, draft, "place geo A 0 1");
-    tell_stale(story, draft, sheet);
-    tell_stale(story, draft, other);
-    tell_replayed(story, draft, other);
+    tell_asked(draft, story, "slot 0 2");
+    tell_asked(draft, story, "place geo A 0 1");
+    tell_stale(draft, story, sheet);
+    tell_stale(draft, story, other);
+    tell_replayed(draft, story, other);
 }
 
 /// A draft on an empty sheet, which is settled there. Another sheet has the lectures of a script.
@@ -140,13 +140,13 @@ fn one_draft<'i, S: Sheet<'i>>(story: &mut Story, on: &On, sheet: &mut S, other:
     let Ok(mut draft) = open(story.alloc(), sheet) else {
         return story.no_memory();
     };
-    ask_all(story, on, &mut draft, sheet, other);
-    tell_work(story, &draft);
-    settle(story, draft, sheet);
+    ask_all(&mut draft, story, on, sheet, other);
+    tell_work(&draft, story);
+    settle(draft, story, sheet);
 }
 
 /// A draft on an empty sheet, beside a sheet with the lectures of a script.
-pub(crate) fn play<'i, S: Sheet<'i>>(story: &mut Story, on: &On, script: &Script<'i>) {
+pub(crate) fn play<'i, S: Sheet<'i>>(script: &Script<'i>, story: &mut Story, on: &On) {
     let alloc = story.alloc();
     let Ok(mut sheet) = placed::<S>(alloc, script.small, &[]) else {
         return story.no_memory();

@@ -42,9 +42,9 @@ fn tell_left(story: &mut Story, small: &Instance, told: Result<Vec<Placed>, NoLi
 
 /// Tells what an audit of entries finds, or the timetable that they leave.
 fn tell_entries<'i, S: Sheet<'i>>(
+    script: &Script<'i>,
     story: &mut Story,
     on: &On,
-    script: &Script<'i>,
     entries: &[JournalEntry],
 )
     requires { Each (EntryFits script.now.small.now) entries.now }
@@ -61,21 +61,21 @@ fn tell_entries<'i, S: Sheet<'i>>(
 
 /// Reads the text of a journal, and tells what an audit finds, or the timetable that it leaves.
 pub(crate) fn read_text<'i, S: Sheet<'i>>(
+    script: &Script<'i>,
     story: &mut Story,
     on: &On,
-    script: &Script<'i>,
     text: &[u8],
 ) {
     match read_journal(story.alloc(), script.small, text) {
-        Ok(entries) => tell_entries::<S>(story, on, script, &entries),
+        Ok(entries) => tell_entries::<S>(script, story, on, &entries),
         Err(_fault) => story.no_memory(),
     }
 }
 
 /// Tells the journal of entries, and what is found of it when it is read.
 pub(crate) fn tell_journal<'i, S: Sheet<'i>>(
-    story: &mut Story,
     script: &Script<'i>,
+    story: &mut Story,
     entries: &[JournalEntry],
 )
     requires { IsWritable script.now.small.now entries.now }
@@ -83,7 +83,7 @@ pub(crate) fn tell_journal<'i, S: Sheet<'i>>(
     match write_journal(story.alloc(), script.small, entries) {
         Ok(text) => {
             story.bytes(&text);
-            read_text::<S>(story, &On::Audit, script, &text);
+            read_text::<S>(script, story, &On::Audit, &text);
         }
         Err(NoMemory) => story.no_memory(),
     }

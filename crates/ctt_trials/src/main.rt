@@ -8,15 +8,12 @@ mod cases;
 mod desks;
 mod drafts;
 mod journals;
-mod lists;
 mod scripts;
-mod shared;
 mod sheets;
 mod shown;
 mod story;
 mod tables;
 mod texts;
-mod turns;
 mod worked;
 
 use cases::play_cases;
@@ -24,7 +21,6 @@ use ctt_devices::{Device, INPUT_LIMIT, read_all};
 use ctt_text::{Instance, let_go, read_instance};
 use std::alloc::Global;
 use std::process::ExitCode;
-use std::sync::Wait;
 use story::Story;
 use tables::{of_texts, on_desks, on_sheets, refreshed_desks, refusing_desks};
 use texts::SMALL;
@@ -36,15 +32,15 @@ fn small_instance(alloc: Global) -> Option<Instance> {
 }
 
 /// All that is played.
-fn play<R: Wait>(story: &mut Story, rt: &R) {
+fn play(story: &mut Story) {
     match small_instance(story.alloc()) {
         Some(mut small) => {
-            play_cases(story, rt, &small, on_sheets());
-            play_cases(story, rt, &small, on_desks());
-            play_cases(story, rt, &small, refreshed_desks());
-            play_cases(story, rt, &small, refusing_desks());
-            play_cases(story, rt, &small, of_texts());
-            barred::play(story, rt, &mut small);
+            play_cases(story, &small, on_sheets());
+            play_cases(story, &small, on_desks());
+            play_cases(story, &small, refreshed_desks());
+            play_cases(story, &small, refusing_desks());
+            play_cases(story, &small, of_texts());
+            barred::play(story, &mut small);
             let_go(small);
         }
         None => story.no_memory(),
@@ -67,9 +63,9 @@ fn main(rt: HostRuntime) -> ExitCode {
     let Some(mut story) = new_story(rt.alloc()) else {
         return ExitCode::from(3);
     };
-    play(&mut story, &rt);
+    play(&mut story);
     if story.takes_back(0) {
-        play(&mut story, &rt);
+        play(&mut story);
     }
     let mut out = Device::new(rt.stdout());
     ExitCode::from(if story.write(&mut out) { 0 } else { 3 })

@@ -17,8 +17,8 @@ use ctt_text::let_go;
 
 /// Runs the lines of a script, whose answers are told.
 fn ran<'i, S: Sheet<'i>>(
-    story: &mut Story,
     script: &Script<'i>,
+    story: &mut Story,
 ) -> Result<Desk<'i, S, KeepAll>, ScriptFault>
     ensures { IfOk result (λ desk. IsWritable script.now.small.now desk.journal) }
 {
@@ -33,18 +33,31 @@ fn ran<'i, S: Sheet<'i>>(
     )
 }
 
+/// Tells what a desk has, or only how long its answers are, which were told from a place on, and its journal.
+fn tell_left<'i, S: Sheet<'i>>(
+    desk: &Desk<'i, S, KeepAll>,
+    story: &mut Story,
+    on: &On,
+    script: &Script<'i>,
+    here: usize,
+)
+    requires { IsWritable script.now.small.now desk.now.journal }
+{
+    if matches!(on, On::Journal) {
+        story.measure(here);
+        tell_journal::<S>(script, story, desk.journal());
+    } else {
+        tell_desk(desk, story);
+    }
+}
+
 /// Plays a script. Its answers are told, and what it leaves; or only how long they are, and its journal.
-pub(crate) fn play<'i, S: Sheet<'i>>(story: &mut Story, on: &On, script: &Script<'i>) {
+pub(crate) fn play<'i, S: Sheet<'i>>(script: &Script<'i>, story: &mut Story, on: &On) {
     let here = story.len();
     story.is_deaf = matches!(on, On::Unflushed);
-    match ran::<S>(story, script) {
+    match ran::<S>(script, story) {
         Ok(desk) => {
-            if matches!(on, On::Journal) {
-                story.measure(here);
-                tell_journal::<S>(story, script, desk.journal());
-            } else {
-                tell_desk(story, &desk);
-            }
+            tell_left(&desk, story, on, script, here);
             let_go(desk);
         }
         Err(ScriptFault::Unlawful(at, fault)) => story.unlawful(script.small, at, fault),

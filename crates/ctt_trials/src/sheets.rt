@@ -74,7 +74,7 @@ pub(crate) fn tell_sheet<'i, S: Sheet<'i>>(story: &mut Story, sheet: &S) {
 }
 
 /// Makes the calls that the lines of a script ask for, and tells what the sheet then has.
-fn answer_lines<'i, S: Sheet<'i>>(story: &mut Story, script: &Script<'i>, sheet: &mut S) {
+fn answer_lines<'i, S: Sheet<'i>>(script: &Script<'i>, story: &mut Story, sheet: &mut S) {
     for line in Lines::new(script.lines.as_bytes()) {
         match call_of(script.small, line) {
             Some(Call::Edit(edit)) => make(story, sheet, &edit, false),
@@ -114,18 +114,18 @@ fn place_geo<'i, S: Sheet<'i>>(story: &mut Story, sheet: &mut S) {
 }
 
 /// Plays lines or a placement on a sheet that has the lectures of a script at first.
-pub(crate) fn play<'i, S: Sheet<'i>>(story: &mut Story, on: &On, script: &Script<'i>) {
+pub(crate) fn play<'i, S: Sheet<'i>>(script: &Script<'i>, story: &mut Story, on: &On) {
     match placed::<S>(story.alloc(), script.small, script.opening) {
         Ok(mut sheet) => match on {
             On::Placement => place_geo(story, &mut sheet),
-            _ => answer_lines(story, script, &mut sheet),
+            _ => answer_lines(script, story, &mut sheet),
         },
         Err(_fault) => story.no_memory(),
     }
 }
 
 /// Tells the rows that the call of a line reads.
-pub(crate) fn tell_rows(story: &mut Story, script: &Script) {
+pub(crate) fn tell_rows(script: &Script, story: &mut Story) {
     let Some(call) = call_of(script.small, script.lines.as_bytes()) else {
         return story.say("bad line");
     };

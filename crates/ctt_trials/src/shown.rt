@@ -6,13 +6,13 @@ use ctt_findings::{report_json, report_text};
 use ctt_text::{read_solution, write_solution};
 
 /// Both reports on a timetable.
-pub(crate) fn play_reports(story: &mut Story, script: &Script) {
+pub(crate) fn play_reports(script: &Script, story: &mut Story) {
     story.text(report_text(story.alloc(), script.small, script.opening));
     story.text(report_json(story.alloc(), script.small, script.opening));
 }
 
 /// Tells whether a text is read as the timetable.
-fn tell_read(story: &mut Story, script: &Script, text: &[u8]) {
+fn tell_read(script: &Script, story: &mut Story, text: &[u8]) {
     match read_solution(story.alloc(), script.small, text) {
         Ok(read) => {
             if read.as_slice() == script.opening {
@@ -24,11 +24,11 @@ fn tell_read(story: &mut Story, script: &Script, text: &[u8]) {
 }
 
 /// A timetable, written and read again.
-pub(crate) fn play_written(story: &mut Story, script: &Script) {
+pub(crate) fn play_written(script: &Script, story: &mut Story) {
     match write_solution(story.alloc(), script.small, script.opening) {
         Ok(text) => {
             story.bytes(&text);
-            tell_read(story, script, &text);
+            tell_read(script, story, &text);
         }
         Err(_no_memory) => story.no_memory(),
     }

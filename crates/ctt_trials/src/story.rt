@@ -22,12 +22,6 @@ const LINE: usize = 4_096;
 pub(crate) struct Story {
     text: Vec<u8>,
     line: String,
-    /// Where the answers of a script end that were told last by a desk for one thread; 0 where there are none.
-    pub(crate) marked: usize,
-    /// Where the answers of the case begin and end in what was told of it first, and where what the desk left ends.
-    pub(crate) answers: usize,
-    pub(crate) end: usize,
-    pub(crate) all: usize,
     again: u64,
     is_wanting: bool,
     is_lost: bool,
@@ -62,10 +56,6 @@ impl Story {
         Some(Story {
             text,
             line,
-            marked: 0,
-            answers: 0,
-            end: 0,
-            all: 0,
             again: 0,
             is_wanting: false,
             is_lost: false,
@@ -81,15 +71,6 @@ impl Story {
     /// How many bytes are told.
     pub(crate) fn len(&self) -> usize {
         self.text.len()
-    }
-
-    /// Notes what was told of a script from a place on, if a desk for one thread answered it there.
-    pub(crate) fn note(&mut self, from: usize) {
-        if self.marked > 0 {
-            self.answers = from;
-            self.end = self.marked;
-            self.all = self.text.len();
-        }
     }
 
     /// Notes that a call is made again.

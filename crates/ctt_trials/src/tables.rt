@@ -22,7 +22,6 @@ macro_rules! case {
             opening: $opening,
             lines: $lines,
             plays: $plays,
-            drops: false,
         }
     };
 }
@@ -63,7 +62,7 @@ const LONG_DRAFT: &[Play] = plays![
     Way::Grid(On::LongDraft) => "on the grid sheet",
 ];
 
-/// A script by step, at once and as a text, on desks of both kinds of sheets; its journal; and on a shared desk.
+/// A script by step, at once and as a text, on desks of both kinds of sheets; and its journal.
 const DESK: &[Play] = plays![
     Way::List(On::Step) => "",
     Way::Grid(On::Step) => "on the grid sheet",
@@ -72,7 +71,6 @@ const DESK: &[Play] = plays![
     Way::List(On::Text) => "as a script",
     Way::Grid(On::Text) => "as a script on the grid sheet",
     Way::Grid(On::Journal) => "",
-    Way::Shared => "",
 ];
 
 /// Lines that are no events, by step and as a text.
@@ -93,7 +91,6 @@ const LEFT: &[Play] = plays![
 /// An opening that is refused, in each way.
 const UNLAWFUL: &[Play] = plays![
     Way::Grid(On::Step) => "",
-    Way::Shared => "",
     Way::Grid(On::Audit) => "",
     Way::Grid(On::Text) => "",
 ];
@@ -138,10 +135,7 @@ const REFRESHED_DESKS: &[Case] = &[
     case!("refreshed", NOTHING, REFRESHED, DESK),
     case!("not refreshed", NOTHING, NOT_REFRESHED, DESK),
     case!("stale at a refresh", NOTHING, STALE_REFRESH, DESK),
-    Case {
-        drops: true,
-        ..case!("left open, or dropped", NOTHING, LEFT_OPEN, DESK)
-    },
+    case!("left open", NOTHING, LEFT_OPEN, DESK),
     case!("refreshed with nothing new", NOTHING, NOTHING_NEW, DESK),
     case!("stale behind a refresh", NOTHING, STALE_AGAIN, DESK),
     case!(

@@ -1,8 +1,0 @@
-use Rattle.std.proofs.Common.{rules, subst, sym}
-use Rattle.ctt_script.specs.Entries.{IsWritable}
-use Rattle.ctt_trials.proofs.scripts.play.Goals as goal
-
-pub tell_journal-requires : goal.tell_journal-requires
-tell_journal-requires g c κs =
-    let entries : IsWritable c.args.script.now.small.now c.journal.result.now = subst (λ entries. IsWritable c.args.script.now.small.now entries) (sym c.journal.ensures) c.in-Ok.ensures in
-    search rules

@@ -1,0 +1,8 @@
+use Rattle.std.proofs.Common.{rules, subst, sym}
+use Rattle.ctt_script.specs.Entries.{IsWritable}
+use Rattle.ctt_trials.proofs.scripts.tell_left.Goals as goal
+
+pub tell_journal-requires : goal.tell_journal-requires
+tell_journal-requires g c κs =
+    let entries : IsWritable c.args.script.now.small.now c.journal.result.now = subst (λ entries. IsWritable c.args.script.now.small.now entries) (sym c.journal.ensures) c.requires in
+    search rules

@@ -1,0 +1,265 @@
+#!/usr/bin/env python3
+"""Plays the worked desks of the trials at the seats of a desk, and refuses each of its requests for memory.
+
+A script is run on one thread first. Then each of its lines is typed at the seat of its planner, when the line before is
+answered; who only looks sits at the last seat. The answers have to be those of the run, and the minutes its journal. Behind
+the script that last planner opens a draft, and sees what the desk ends with, and the first one leaves.
+
+Then each request for memory is refused alone, by a `malloc` in front of the C library's. A line that is answered 'no memory',
+or 'no place', is typed again. The answers and the minutes have to be those with memory. Or the desk ends with status 3 and
+'timedesk: no memory', or 'timedesk: no thread' where the system wanted the memory for it, or says which seat it could not
+open: then what was answered, and the minutes, are a front of that, and what was told as committed is in the minutes.
+
+It needs a C compiler. PROGRAM names another program. The last line is 'N passed, M failed'.
+"""
+import concurrent.futures
+import os
+import re
+import select
+import subprocess
+import sys
+import tempfile
+import time
+
+sys.dont_write_bytecode = True
+from program import HERE, PROGRAM, build, check, end  # noqa: E402
+
+TRIALS = os.path.join(HERE, "crates/ctt_trials/src")
+# a planner who does all that he may: he has a seat alone
+DAY = """0 open
+0 place geo A 0 1
+0 price place top B 0 2
+0 refresh
+0 commit
+0 open
+0 slot 0 1
+0 teacher t1
+0 drop geo 0 1
+0 place alg A 0 0
+0 swap alg 0 0 geo 0 1
+0 reroom alg B 0 0
+0 frob it
+0 commit
+show cost
+0 open
+0 abandon
+"""
+# the seats, of which the last one is that of who only looks
+SEATS = ("0", "1", "2")
+LAST = SEATS[-1]
+WANTS = (b"no memory\n", b"no place\n")
+# of so many runs a desk may end as it does with memory though none was given: the room was asked for by a guess
+SPARE = 2
+# what a desk says that ends for want of memory; a seat whose file could not be opened for it says that
+SAID = rb"timedesk: no (memory|thread)\n"
+SAID_BEFORE = SAID + rb"|timedesk: cannot (read .*/[0-9]\.in|write)\n"
+# a desk that says nothing for so many seconds has ended the seat
+PATIENCE = 10
+
+
+def texts_of(name):
+    """The texts of a file of the trials, by their names."""
+    with open(os.path.join(TRIALS, name), encoding="utf-8") as file:
+        found = re.findall(r'const (\w+): &str =\s*"(.*?)";', file.read(), re.S)
+    return {name: text.replace("\\n", "\n") for name, text in found}
+
+
+def worked_desks():
+    """Each worked desk: its name, its opening, its script, and which rooms are barred."""
+    texts, scripts = texts_of("texts.rt"), texts_of("worked.rt")
+    with open(os.path.join(TRIALS, "tables.rt"), encoding="utf-8") as file:
+        tables = re.split(r"\nconst |\npub\(crate\) const ", file.read())
+    for table in tables:
+        barred = "Barred: 1 top A END.\n" if table.startswith("BARRED:") else None
+        for name, opening, script in re.findall(r'case!\(\s*"([^"]+)",\s*(\w+),\s*(\w+),\s*DESK\s*\)', table):
+            yield name, texts[opening], scripts[script], barred
+    yield "a day", "", DAY, None
+
+
+def held(path):
+    """What a file holds; nothing where there is none."""
+    if not os.path.exists(path):
+        return b""
+    with open(path, "rb") as file:
+        return file.read()
+
+
+class Seat:
+    """The other ends of a seat's pipes: nothing here waits for the desk to open its own."""
+
+    def __init__(self, path):
+        self.path = path
+        for ending in (".in", ".out"):
+            os.mkfifo(path + ending)
+        self.lines = os.open(path + ".in", os.O_RDWR)
+        self.answers = os.open(path + ".out", os.O_RDONLY | os.O_NONBLOCK)
+
+    def is_open(self):
+        """Whether the desk holds the answers' end, before anything is typed."""
+        try:
+            os.read(self.answers, 1)
+        except BlockingIOError:
+            return True
+        return False
+
+    def hear(self):
+        """A line of the desk, or less where the seat has ended."""
+        heard, until = b"", time.monotonic() + PATIENCE
+        while not heard.endswith(b"\n") and time.monotonic() < until:
+            if not select.select([self.answers], [], [], 0.5)[0]:
+                continue
+            more = os.read(self.answers, 4096)
+            if not more:
+                break
+            heard += more
+        return heard
+
+    def ask(self, line):
+        """Types a line, and waits for its answer."""
+        os.write(self.lines, line.encode() + b"\n")
+        return self.hear()
+
+    def open_again(self):
+        """Lets a desk go on that opens the lines now, of which there are no more."""
+        os.close(os.open(self.path + ".in", os.O_RDWR))
+
+
+class Played:
+    """How a script was played: the answers, how often a line was typed again, how the desk ended, and its minutes."""
+
+    def __init__(self, folder, words, lines, marks):
+        seats = {name: Seat(os.path.join(folder, name)) for name in SEATS}
+        minutes = os.path.join(folder, "minutes")
+        paths = [seat.path for seat in seats.values()]
+        command = [PROGRAM, "desk", words[0], *paths, *words[1:], "--minutes", minutes]
+        env = {**os.environ, "MET": os.path.join(folder, "met"), **marks}
+        desk = subprocess.Popen(command, env=env, stdout=subprocess.PIPE, stderr=subprocess.PIPE)
+        self.answers, self.again = [], 0
+        if self.all_sit(seats.values(), desk):
+            self.type(seats, lines)
+        for seat in seats.values():
+            os.close(seat.lines)
+        until = time.monotonic() + 6 * PATIENCE
+        while desk.poll() is None and time.monotonic() < until:
+            for seat in seats.values():
+                seat.open_again()
+            time.sleep(0.002)
+        desk.kill()
+        self.printed, self.said = desk.communicate()
+        for seat in seats.values():
+            os.close(seat.answers)
+        self.status, self.minutes, self.met = desk.returncode, held(minutes), held(env["MET"])
+
+    @staticmethod
+    def all_sit(seats, desk):
+        """Waits until the desk has opened each seat, and answers whether it did: each has a thread, beside the first one."""
+        late, until = 0, time.monotonic() + PATIENCE
+        while desk.poll() is None and time.monotonic() < until and late < 50:
+            if all(seat.is_open() for seat in seats):
+                return True
+            try:
+                threads = len(os.listdir(f"/proc/{desk.pid}/task"))
+            except OSError:
+                threads = 0
+            late = late + 1 if threads <= len(seats) else 0
+            time.sleep(0.002)
+        return False
+
+    def type(self, seats, lines):
+        """Types the lines, each once more where memory is wanted, until a seat has ended."""
+        for name, line in lines:
+            answer = seats[name].ask(line)
+            if answer in WANTS:
+                self.again += 1
+                answer = seats[name].ask(line)
+            if not answer.endswith(b"\n"):
+                return
+            self.answers.append(answer)
+
+
+class Desk:
+    """A worked desk: its words on the command line, its lines by seats, and what it has to answer and to leave."""
+
+    def __init__(self, folder, name, opening, script, barred):
+        self.folder, self.name, self.number = folder, name, 0
+        self.words = [os.path.join(HERE, "examples/small.ctt")]
+        for word, text in (("--start", opening), ("--barred", barred)):
+            if text:
+                self.words += [word, self.file(word[2:], text)]
+        journal = os.path.join(folder, "journal")
+        words = [PROGRAM, "run", self.words[0], self.file("script", script + "show cost\n"), *self.words[1:]]
+        done = subprocess.run([*words, "--journal", journal], capture_output=True, timeout=60, check=True)
+        *self.answers, costs = done.stdout.splitlines(keepends=True)
+        self.minutes = held(journal).split(b"\n", 1)[1].removesuffix(b"END.\n")
+        self.lines = [(p, rest) if p in SEATS else (LAST, f"{p} {rest}") for p, rest in (line.split(" ", 1) for line in script.splitlines())]
+        self.lines += [(LAST, "open"), (LAST, "cost"), (LAST, "abandon"), ("0", "leave")]
+        self.answers += [b"opened\n", costs, b"abandoned\n", b"left\n"]
+        self.printed = b"journal %d\n" % self.minutes.count(b"entry ") + costs
+
+    def file(self, name, text):
+        path = os.path.join(self.folder, name)
+        with open(path, "w", encoding="utf-8") as file:
+            file.write(text)
+        return path
+
+    def play(self, number=0, **marks):
+        """Plays the script once."""
+        room = os.path.join(self.folder, str(number))
+        os.mkdir(room)
+        return Played(room, self.words, self.lines, {**marks, "REFUSE": str(number)})
+
+    def is_right(self, played):
+        """Whether all is as with memory."""
+        return (played.status, played.answers, played.printed, played.said, played.minutes) == (0, self.answers, self.printed, b"", self.minutes)
+
+    def is_front(self, played):
+        """Whether the desk has ended for want of memory, and what was told and written until then is right."""
+        told = sum(answer.startswith(b"committed") for answer in played.answers)
+        return (
+            played.status == 3
+            and re.fullmatch(SAID if played.answers else SAID_BEFORE, played.said) is not None
+            and played.answers == self.answers[: len(played.answers)]
+            and self.minutes.startswith(played.minutes)
+            and told <= played.minutes.count(b"entry ")
+        )
+
+
+def refuse(desk, made, first, step):
+    """Refuses each request whose number is the first one, or so many more, and answers how each run ended."""
+    ended = []
+    number = first
+    while True:
+        played = desk.play(number, LD_PRELOAD=made)
+        if not played.met:
+            return ended
+        if desk.is_right(played) and (played.again or b"more" not in played.met):
+            ended.append((number, "again" if played.again else "back"))
+        elif desk.is_right(played):
+            ended.append((number, "spare"))
+        elif desk.is_front(played):
+            ended.append((number, "stopped"))
+        else:
+            ended.append((number, f"status {played.status}, {played.said!r}, answers {played.answers!r}"))
+        number += step
+
+
+with tempfile.TemporaryDirectory() as room:
+    shim = build(room, "refuse")
+    lanes = os.cpu_count() or 1
+    noted = {"again": 0, "back": 0, "stopped": 0, "spare": 0}
+    for number, (name, *rest) in enumerate(worked_desks()):
+        own = os.path.join(room, f"desk{number}")
+        os.mkdir(own)
+        desk = Desk(own, name, *rest)
+        played = desk.play()
+        check(f"{name}: answers", played.answers, desk.answers)
+        check(f"{name}: end", (played.status, played.printed, played.said, played.minutes), (0, desk.printed, b"", desk.minutes))
+        with concurrent.futures.ThreadPoolExecutor(lanes) as pool:
+            runs = list(pool.map(lambda first: refuse(desk, shim, first, lanes), range(1, lanes + 1)))
+        spared = 0
+        for request, how in sorted(sum(runs, [])):
+            spared += how == "spare"
+            check(f"{name}, request {request}", how in noted and spared <= SPARE or how, True)
+            noted[how] = noted.get(how, 0) + 1
+    print(", ".join(f"{count} {how}" for how, count in noted.items()))
+end()
