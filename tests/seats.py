@@ -13,6 +13,7 @@ open: then what was answered, and the minutes, are a front of that, and what was
 It needs a C compiler. PROGRAM names another program. The last line is 'N passed, M failed'.
 """
 import concurrent.futures
+import contextlib
 import os
 import re
 import select
@@ -53,8 +54,8 @@ SPARE = 2
 # what a desk says that ends for want of memory; a seat whose file could not be opened for it says that
 SAID = rb"timedesk: no (memory|thread)\n"
 SAID_BEFORE = SAID + rb"|timedesk: cannot (read .*/[0-9]\.in|write)\n"
-# a desk that says nothing for so many seconds has ended the seat
-PATIENCE = 10
+# a seat that is not opened, or says nothing, for so many seconds has ended
+PATIENCE = 5
 
 
 def texts_of(name):
@@ -65,15 +66,17 @@ def texts_of(name):
 
 
 def worked_desks():
-    """Each worked desk: its name, its opening, its script, and which rooms are barred."""
+    """Each worked desk: its name, its opening, its script, which rooms are barred, and whether its first planner goes away when
+    another one begins, with the draft that he has open."""
     texts, scripts = texts_of("texts.rt"), texts_of("worked.rt")
     with open(os.path.join(TRIALS, "tables.rt"), encoding="utf-8") as file:
         tables = re.split(r"\nconst |\npub\(crate\) const ", file.read())
     for table in tables:
         barred = "Barred: 1 top A END.\n" if table.startswith("BARRED:") else None
         for name, opening, script in re.findall(r'case!\(\s*"([^"]+)",\s*(\w+),\s*(\w+),\s*DESK\s*\)', table):
-            yield name, texts[opening], scripts[script], barred
-    yield "a day", "", DAY, None
+            yield name, texts[opening], scripts[script], barred, False
+    yield "left open by a planner who is gone", "", scripts["LEFT_OPEN"], None, True
+    yield "a day", "", DAY, None, False
 
 
 def held(path):
@@ -82,6 +85,12 @@ def held(path):
         return b""
     with open(path, "rb") as file:
         return file.read()
+
+
+def seat_of(line):
+    """The seat at which a line of a script is typed, and what is typed there."""
+    planner, rest = line.split(" ", 1)
+    return (planner, rest) if planner in SEATS else (LAST, line)
 
 
 class Seat:
@@ -115,9 +124,17 @@ class Seat:
         return heard
 
     def ask(self, line):
-        """Types a line, and waits for its answer."""
-        os.write(self.lines, line.encode() + b"\n")
+        """Types a line, and waits for its answer; or ends the lines, and waits until the seat has ended."""
+        if line is None:
+            self.end_lines()
+        else:
+            os.write(self.lines, line.encode() + b"\n")
         return self.hear()
+
+    def end_lines(self):
+        if self.lines is not None:
+            os.close(self.lines)
+            self.lines = None
 
     def open_again(self):
         """Lets a desk go on that opens the lines now, of which there are no more."""
@@ -125,7 +142,8 @@ class Seat:
 
 
 class Played:
-    """How a script was played: the answers, how often a line was typed again, how the desk ended, and its minutes."""
+    """How a script was played: the answers, how often a line was typed again, and how the desk ended: its status, what it
+    printed and said, and its minutes."""
 
     def __init__(self, folder, words, lines, marks):
         seats = {name: Seat(os.path.join(folder, name)) for name in SEATS}
@@ -138,31 +156,35 @@ class Played:
         if self.all_sit(seats.values(), desk):
             self.type(seats, lines)
         for seat in seats.values():
-            os.close(seat.lines)
+            seat.end_lines()
         until = time.monotonic() + 6 * PATIENCE
         while desk.poll() is None and time.monotonic() < until:
             for seat in seats.values():
                 seat.open_again()
             time.sleep(0.002)
         desk.kill()
-        self.printed, self.said = desk.communicate()
+        printed, said = desk.communicate()
         for seat in seats.values():
             os.close(seat.answers)
-        self.status, self.minutes, self.met = desk.returncode, held(minutes), held(env["MET"])
+        self.left = (desk.returncode, printed, said, held(minutes))
+        self.met = held(env["MET"])
 
     @staticmethod
     def all_sit(seats, desk):
-        """Waits until the desk has opened each seat, and answers whether it did: each has a thread, beside the first one."""
-        late, until = 0, time.monotonic() + PATIENCE
-        while desk.poll() is None and time.monotonic() < until and late < 50:
-            if all(seat.is_open() for seat in seats):
+        """Waits until the desk has opened each seat, and answers whether it did. Each seat has a thread, beside the first one:
+        where there are fewer some time behind the first seat, a thread has ended that opens none any more."""
+        first, until = None, time.monotonic() + PATIENCE
+        while desk.poll() is None and time.monotonic() < until:
+            are_open = [seat.is_open() for seat in seats]
+            if all(are_open):
                 return True
-            try:
-                threads = len(os.listdir(f"/proc/{desk.pid}/task"))
-            except OSError:
-                threads = 0
-            late = late + 1 if threads <= len(seats) else 0
-            time.sleep(0.002)
+            if any(are_open):
+                first = first or time.monotonic()
+                with contextlib.suppress(OSError):
+                    threads = len(os.listdir(f"/proc/{desk.pid}/task"))
+                    if threads <= len(seats) and time.monotonic() > first + 0.3:
+                        return False
+            time.sleep(0.001)
         return False
 
     def type(self, seats, lines):
@@ -172,16 +194,16 @@ class Played:
             if answer in WANTS:
                 self.again += 1
                 answer = seats[name].ask(line)
-            if not answer.endswith(b"\n"):
+            if line is not None and not answer.endswith(b"\n"):
                 return
             self.answers.append(answer)
 
 
 class Desk:
-    """A worked desk: its words on the command line, its lines by seats, and what it has to answer and to leave."""
+    """A worked desk: its words on the command line, its lines by seats, its answers, and how it has to end."""
 
-    def __init__(self, folder, name, opening, script, barred):
-        self.folder, self.name, self.number = folder, name, 0
+    def __init__(self, folder, opening, script, barred, goes):
+        self.folder = folder
         self.words = [os.path.join(HERE, "examples/small.ctt")]
         for word, text in (("--start", opening), ("--barred", barred)):
             if text:
@@ -191,10 +213,15 @@ class Desk:
         done = subprocess.run([*words, "--journal", journal], capture_output=True, timeout=60, check=True)
         *self.answers, costs = done.stdout.splitlines(keepends=True)
         self.minutes = held(journal).split(b"\n", 1)[1].removesuffix(b"END.\n")
-        self.lines = [(p, rest) if p in SEATS else (LAST, f"{p} {rest}") for p, rest in (line.split(" ", 1) for line in script.splitlines())]
-        self.lines += [(LAST, "open"), (LAST, "cost"), (LAST, "abandon"), ("0", "leave")]
-        self.answers += [b"opened\n", costs, b"abandoned\n", b"left\n"]
-        self.printed = b"journal %d\n" % self.minutes.count(b"entry ") + costs
+        self.lines = [seat_of(line) for line in script.splitlines()]
+        self.lines += [(LAST, "open"), (LAST, "cost"), (LAST, "abandon")]
+        self.answers += [b"opened\n", costs, b"abandoned\n"]
+        at, last, told = len(self.lines), "leave", b"left\n"
+        if goes:
+            at, last, told = next(k for k, (seat, _) in enumerate(self.lines) if seat != "0"), None, b""
+        self.lines.insert(at, ("0", last))
+        self.answers.insert(at, told)
+        self.left = (0, b"journal %d\n" % self.minutes.count(b"entry ") + costs, b"", self.minutes)
 
     def file(self, name, text):
         path = os.path.join(self.folder, name)
@@ -210,17 +237,18 @@ class Desk:
 
     def is_right(self, played):
         """Whether all is as with memory."""
-        return (played.status, played.answers, played.printed, played.said, played.minutes) == (0, self.answers, self.printed, b"", self.minutes)
+        return played.answers == self.answers and played.left == self.left
 
     def is_front(self, played):
         """Whether the desk has ended for want of memory, and what was told and written until then is right."""
+        status, _, said, minutes = played.left
         told = sum(answer.startswith(b"committed") for answer in played.answers)
         return (
-            played.status == 3
-            and re.fullmatch(SAID if played.answers else SAID_BEFORE, played.said) is not None
+            status == 3
+            and re.fullmatch(SAID if played.answers else SAID_BEFORE, said) is not None
             and played.answers == self.answers[: len(played.answers)]
-            and self.minutes.startswith(played.minutes)
-            and told <= played.minutes.count(b"entry ")
+            and self.minutes.startswith(minutes)
+            and told <= minutes.count(b"entry ")
         )
 
 
@@ -232,14 +260,14 @@ def refuse(desk, made, first, step):
         played = desk.play(number, LD_PRELOAD=made)
         if not played.met:
             return ended
-        if desk.is_right(played) and (played.again or b"more" not in played.met):
-            ended.append((number, "again" if played.again else "back"))
-        elif desk.is_right(played):
-            ended.append((number, "spare"))
+        if desk.is_right(played) and played.again == 1:
+            ended.append((number, "again"))
+        elif desk.is_right(played) and played.again == 0:
+            ended.append((number, "spare" if b"more" in played.met else "back"))
         elif desk.is_front(played):
             ended.append((number, "stopped"))
         else:
-            ended.append((number, f"status {played.status}, {played.said!r}, answers {played.answers!r}"))
+            ended.append((number, f"{played.again} lines typed again, {played.answers!r}, {played.left!r}"))
         number += step
 
 
@@ -250,10 +278,10 @@ with tempfile.TemporaryDirectory() as room:
     for number, (name, *rest) in enumerate(worked_desks()):
         own = os.path.join(room, f"desk{number}")
         os.mkdir(own)
-        desk = Desk(own, name, *rest)
+        desk = Desk(own, *rest)
         played = desk.play()
-        check(f"{name}: answers", played.answers, desk.answers)
-        check(f"{name}: end", (played.status, played.printed, played.said, played.minutes), (0, desk.printed, b"", desk.minutes))
+        check(f"{name}: answers", (played.answers, played.again), (desk.answers, 0))
+        check(f"{name}: end", played.left, desk.left)
         with concurrent.futures.ThreadPoolExecutor(lanes) as pool:
             runs = list(pool.map(lambda first: refuse(desk, shim, first, lanes), range(1, lanes + 1)))
         spared = 0
