@@ -274,7 +274,7 @@ def refuse(desk, made, first, step):
 with tempfile.TemporaryDirectory() as room:
     shim = build(room, "refuse")
     lanes = os.cpu_count() or 1
-    noted = {"again": 0, "back": 0, "stopped": 0, "spare": 0}
+    noted = {"again": 0, "back": 0, "stopped": 0, "spare": 0, "wrong": 0}
     for number, (name, *rest) in enumerate(worked_desks()):
         own = os.path.join(room, f"desk{number}")
         os.mkdir(own)
@@ -287,7 +287,7 @@ with tempfile.TemporaryDirectory() as room:
         spared = 0
         for request, how in sorted(sum(runs, [])):
             spared += how == "spare"
-            check(f"{name}, request {request}", how in noted and spared <= SPARE or how, True)
-            noted[how] = noted.get(how, 0) + 1
-    print(", ".join(f"{count} {how}" for how, count in noted.items()))
+            check(f"{name}, request {request}", "" if how in noted and spared <= SPARE else how, "")
+            noted[how if how in noted else "wrong"] += 1
+    print(", ".join(f"{how} {count}" for how, count in noted.items()))
 end()
