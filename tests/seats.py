@@ -182,7 +182,7 @@ class Played:
                 first = first or time.monotonic()
                 with contextlib.suppress(OSError):
                     threads = len(os.listdir(f"/proc/{desk.pid}/task"))
-                    if threads <= len(seats) and time.monotonic() > first + 0.3:
+                    if threads <= len(seats) and time.monotonic() > first + 0.5:
                         return False
             time.sleep(0.001)
         return False
