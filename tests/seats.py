@@ -3,7 +3,7 @@
 
 A script is run on one thread first. Then each of its lines is typed at the seat of its planner, when the line before is
 answered; who only looks sits at the last seat. The answers have to be those of the run, and the minutes its journal. Behind
-the script that last planner opens a draft, and sees what the desk ends with, and the first one leaves.
+the script a planner who did nothing yet opens a draft, and sees what the desk ends with, and the first one leaves.
 
 Then each request for memory is refused alone, by a `malloc` in front of the C library's. A line that is answered 'no memory',
 or 'no place', is typed again. The answers and the minutes have to be those with memory. Or the desk ends with status 3 and
@@ -45,9 +45,9 @@ show cost
 0 open
 0 abandon
 """
-# the seats, of which the last one is that of who only looks
-SEATS = ("0", "1", "2")
-LAST = SEATS[-1]
+# the seats: of two planners, of one who does nothing, and of one who only looks
+SEATS = ("0", "1", "2", "3")
+IDLE, LAST = SEATS[2:]
 WANTS = (b"no memory\n", b"no place\n")
 # of so many runs a desk may end as it does with memory though none was given: the room was asked for by a guess
 SPARE = 2
@@ -214,8 +214,8 @@ class Desk:
         *self.answers, costs = done.stdout.splitlines(keepends=True)
         self.minutes = held(journal).split(b"\n", 1)[1].removesuffix(b"END.\n")
         self.lines = [seat_of(line) for line in script.splitlines()]
-        self.lines += [(LAST, "open"), (LAST, "cost"), (LAST, "abandon")]
-        self.answers += [b"opened\n", costs, b"abandoned\n"]
+        self.lines += [(IDLE, "open"), (IDLE, "cost"), (IDLE, "abandon"), (LAST, "show cost")]
+        self.answers += [b"opened\n", costs, b"abandoned\n", costs]
         at, last, told = len(self.lines), "leave", b"left\n"
         if goes:
             at, last, told = next(k for k, (seat, _) in enumerate(self.lines) if seat != "0"), None, b""
