@@ -26,7 +26,9 @@ sys.dont_write_bytecode = True
 from program import HERE, PROGRAM, build, check, end  # noqa: E402
 
 TRIALS = os.path.join(HERE, "crates/ctt_trials/src")
-# a planner who does all that he may: he has a seat alone
+# a row of a desk in the tables of the trials: its name, its opening, its script
+ROW = re.compile(r'case!\(\s*"([^"]+)",\s*(\w+),\s*(\w+),\s*DESK\s*\)')
+# a planner who does all that he may
 DAY = """0 open
 0 place geo A 0 1
 0 price place top B 0 2
@@ -70,10 +72,12 @@ def worked_desks():
     another one begins, with the draft that he has open."""
     texts, scripts = texts_of("texts.rt"), texts_of("worked.rt")
     with open(os.path.join(TRIALS, "tables.rt"), encoding="utf-8") as file:
-        tables = re.split(r"\nconst |\npub\(crate\) const ", file.read())
-    for table in tables:
+        text = file.read()
+    # each place that names the ways of a desk, but the one that says what they are
+    check("rows of desks", len(ROW.findall(text)), len(re.findall(r"\bDESK\b", text)) - 1)
+    for table in re.split(r"\nconst |\npub\(crate\) const ", text):
         barred = "Barred: 1 top A END.\n" if table.startswith("BARRED:") else None
-        for name, opening, script in re.findall(r'case!\(\s*"([^"]+)",\s*(\w+),\s*(\w+),\s*DESK\s*\)', table):
+        for name, opening, script in ROW.findall(table):
             yield name, texts[opening], scripts[script], barred, False
     yield "left open by a planner who is gone", "", scripts["LEFT_OPEN"], None, True
     yield "a day", "", DAY, None, False
