@@ -5,7 +5,7 @@ ghost use Rattle.ctt_text.specs.Marks.{is_marked};
 ghost use Rattle.ctt_text.specs.Problem.{course_count, slot_count};
 ghost use Rattle.ctt_text.specs.Timetable.{course_row, slot_row, with, without, Fits};
 ghost use Rattle.ctt_rules.specs.Hard.{Lawful};
-ghost use Rattle.ctt_board.specs.Changes.{CellFits, CellsFit, room_at, apply_at, apply, apply_all, ChangesFit};
+ghost use Rattle.ctt_board.specs.Changes.{CellFits, CellsFit, room_at, apply_at, apply};
 ghost use Rattle.ctt_rules.specs.Penalty.{penalty, total};
 ghost use Rattle.ctt_board.specs.Seen.{Sees, HasPlaces};
 ghost use Rattle.ctt_board.specs.Ways.{Ready};
@@ -114,17 +114,6 @@ impl<'i> GridSheet<'i> {
         }
     }
 
-    /// Makes changes, each in its turn.
-    fn apply_each(&mut self, changes: &[Change])
-        requires { ChangesFit self.old.problem changes.now self.old.list }
-        ensures problem { self.new.problem ≡ self.old.problem }
-        ensures list { self.new.list ≡ apply_all changes.now self.old.list }
-    {
-        for change in changes {
-            self.apply(change);
-        }
-    }
-
     /// Appends the lectures of a course. Where it has none, none of its cells is looked at.
     #[inline(always)]
     fn append_if_any(&self, list: &mut Vec<Placed>, course: CourseNo) -> Result<(), AllocError>
@@ -151,9 +140,7 @@ impl<'i> GridSheet<'i> {
         requires slot { slot < slot_count self.now.problem }
         requires standing { (course : ℕ)
             → is_marked standing.now course ≡ is_some (room_at course slot self.now.list) }
-        ensures row { OnOk result (list.new.items ≡ list.old.items ++ slot_row slot self.now.list) }
-        ensures begins { OnErr result
-            (take (length list.old.items) list.new.items ≡ list.old.items) }
+        ensures { OnOk result (list.new.items ≡ list.old.items ++ slot_row slot self.now.list) }
     {
         self.instance.limits_hold();
         let courses = self.instance.courses() as usize;
@@ -261,12 +248,10 @@ impl<'i> Timetable for GridSheet<'i> {
         }
     }
 
-    fn apply_all(&mut self, changes: &[Change], cost: Option<Cost>) {
-        let Some(cost) = cost else {
-            return self.apply_each(changes);
-        };
-        self.tables.apply_all(self.instance, changes);
-        self.cost = cost;
+    fn apply_all(&mut self, changes: &[Change]) {
+        for change in changes {
+            self.apply(change);
+        }
     }
 
     fn course_row(&self, course: CourseNo) -> Result<Vec<Placed>, NoMemory> {
@@ -291,12 +276,6 @@ impl<'i> Timetable for GridSheet<'i> {
         let mut row = Vec::with_capacity(self.alloc, most)?;
         self.append_standing(&mut row, &standing, slot)?;
         Ok(row)
-    }
-
-    fn append_slot_row(&self, slot: SlotNo, list: &mut Vec<Placed>) -> Result<(), NoMemory> {
-        let length = list.len();
-        let appended = self.append_standing(list, &self.standing(slot), slot);
-        or_cut(list, length, appended)
     }
 
     fn list(&self) -> Result<Vec<Placed>, NoMemory> {

@@ -1,12 +1,7 @@
 //! Laws of changes and of costs, for the layers above. None of these functions computes anything.
 
-ghost use Rattle.ctt_board.specs.Laws.{ChangesLeaveOthers, LengthIsBounded, PenaltyFits};
+ghost use Rattle.ctt_board.specs.Laws.{LengthIsBounded, PenaltyFits};
 ghost use Rattle.ctt_board.specs.Fitting.{FitsAsTested};
-
-/// A change leaves the rows of the courses and slots that none of its cells names.
-pub fn changes_leave_others()
-    ensures { ChangesLeaveOthers }
-{}
 
 /// A timetable has at most one lecture for each course and slot.
 pub(crate) fn length_is_bounded()

@@ -189,7 +189,7 @@ impl<'i> Timetable for ListSheet<'i> {
         make(&mut self.lectures, change.cells());
     }
 
-    fn apply_all(&mut self, changes: &[Change], _cost: Option<Cost>) {
+    fn apply_all(&mut self, changes: &[Change]) {
         for change in changes {
             self.apply(change);
         }
@@ -209,11 +209,6 @@ impl<'i> Timetable for ListSheet<'i> {
         let mut row = Vec::new(*self.lectures.allocator());
         append_in_slot(&mut row, &self.lectures, slot)?;
         Ok(row)
-    }
-
-    fn append_slot_row(&self, slot: SlotNo, list: &mut Vec<Placed>) -> Result<(), NoMemory> {
-        let row = self.slot_row(slot)?;
-        Ok(list.extend_from_slice(&row)?)
     }
 
     fn list(&self) -> Result<Vec<Placed>, NoMemory> {

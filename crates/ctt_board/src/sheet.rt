@@ -1,6 +1,6 @@
 //! What a sheet is.
 
-ghost use Rattle.std.specs.Prelude.{◌≡◌, ◌<◌, ◌^◌, ◌++◌, ℕ, [], length, is_some, IfOk, IfSome, OnOk, OnErr};
+ghost use Rattle.std.specs.Prelude.{◌≡◌, ◌<◌, ◌^◌, ◌++◌, ℕ, [], length, is_some, IfOk, OnOk, OnErr};
 ghost use Rattle.ctt_text.specs.Problem.{course_count, slot_count, room_count};
 ghost use Rattle.ctt_text.specs.Marks.{is_marked};
 ghost use Rattle.ctt_text.specs.Timetable.{course_row, slot_row};
@@ -79,13 +79,9 @@ pub trait Timetable: Rooms + Send + Sync {
         ensures problem { Self.problem self.new ≡ Self.problem self.old }
         ensures list { Self.list self.new ≡ apply change.now (Self.list self.old) };
 
-    /// Makes changes, each in its turn, after which the timetable costs this, where it is known: then no
-    /// costs are reckoned. It takes no memory.
-    fn apply_all(&mut self, changes: &[Change], cost: Option<Cost>)
-        requires fit { ChangesFit (Self.problem self.old) changes.now (Self.list self.old) }
-        requires cost { IfSome cost
-            (λ x. x ≡ penalty (Self.problem self.old)
-            (apply_all changes.now (Self.list self.old))) }
+    /// Makes changes, each in its turn. It takes no memory.
+    fn apply_all(&mut self, changes: &[Change])
+        requires { ChangesFit (Self.problem self.old) changes.now (Self.list self.old) }
         ensures problem { Self.problem self.new ≡ Self.problem self.old }
         ensures list { Self.list self.new ≡ apply_all changes.now (Self.list self.old) };
 
@@ -105,13 +101,6 @@ pub trait Timetable: Rooms + Send + Sync {
     fn slot_row(&self, slot: SlotNo) -> Result<Vec<Placed>, NoMemory>
         requires { slot < slot_count (Self.problem self.now) }
         ensures { IfOk result (λ row. row.items ≡ slot_row slot (Self.list self.now)) };
-
-    /// Appends the lectures in a slot, by course, to a list, or leaves it as it was.
-    fn append_slot_row(&self, slot: SlotNo, list: &mut Vec<Placed>) -> Result<(), NoMemory>
-        requires { slot < slot_count (Self.problem self.now) }
-        ensures row { OnOk result
-            (list.new.items ≡ list.old.items ++ slot_row slot (Self.list self.now)) }
-        ensures kept { OnErr result (list.new.items ≡ list.old.items) };
 
     /// All lectures, by course and slot.
     fn list(&self) -> Result<Vec<Placed>, NoMemory>

@@ -5,11 +5,9 @@ ghost use Rattle.ctt_text.specs.Problem.{course_count, slot_count};
 ghost use Rattle.ctt_text.specs.Timetable.{with, without, Fits};
 ghost use Rattle.ctt_text.specs.declared.placed.Placed.{Placed};
 ghost use Rattle.ctt_rules.specs.Hard.{Lawful};
-ghost use Rattle.ctt_board.specs.Changes.{CellFits, ChangeFits, ChangesFit, room_at, apply_at, apply, apply_all};
+ghost use Rattle.ctt_board.specs.Changes.{room_at};
 ghost use Rattle.ctt_board.specs.Grids.{listed, AreTables, ArePlaces, HavePlaceSizes};
 
-use crate::cell::Cell;
-use crate::change::Change;
 use crate::counts::Counts;
 use crate::mark_rows::MarkRows;
 use crate::table::Table;
@@ -148,58 +146,5 @@ impl Tables {
         instance.limits_hold();
         self.counts.take(instance, lecture);
         self.lift(instance, lecture);
-    }
-
-    #[inline(always)]
-    fn make(&mut self, instance: &Instance, cell: &Cell)
-        requires tables { AreTables instance.now self.old }
-        requires fits { CellFits
-            (listed instance.now self.old.rooms) cell.now.course cell.now.slot cell.now.room }
-        requires lawful { Lawful instance.now
-            (apply_at cell.now.course cell.now.slot cell.now.room
-            (listed instance.now self.old.rooms)) }
-        requires course { cell.now.course < course_count instance.now }
-        requires slot { cell.now.slot < slot_count instance.now }
-        ensures tables { AreTables instance.now self.new }
-        ensures list { listed instance.now self.new.rooms
-            ≡ apply_at cell.now.course cell.now.slot cell.now.room
-            (listed instance.now self.old.rooms) }
-    {
-        let course = cell.course;
-        let slot = cell.slot;
-        match cell.room {
-            None => {
-                let room = self.room_at(instance, course, slot).unwrap();
-                self.remove(instance, &Placed { course, slot, room });
-            }
-            Some(room) => self.add(instance, &Placed { course, slot, room }),
-        }
-    }
-
-    #[inline(always)]
-    pub(crate) fn apply(&mut self, instance: &Instance, change: &Change)
-        requires tables { AreTables instance.now self.old }
-        requires fits { ChangeFits instance.now change.now (listed instance.now self.old.rooms) }
-        ensures tables { AreTables instance.now self.new }
-        ensures list { listed instance.now self.new.rooms
-            ≡ apply change.now (listed instance.now self.old.rooms) }
-    {
-        let cells = change.cells();
-        for cell in cells {
-            self.make(instance, cell);
-        }
-    }
-
-    /// Makes changes, each in its turn.
-    pub(crate) fn apply_all(&mut self, instance: &Instance, changes: &[Change])
-        requires tables { AreTables instance.now self.old }
-        requires fit { ChangesFit instance.now changes.now (listed instance.now self.old.rooms) }
-        ensures tables { AreTables instance.now self.new }
-        ensures list { listed instance.now self.new.rooms
-            ≡ apply_all changes.now (listed instance.now self.old.rooms) }
-    {
-        for change in changes {
-            self.apply(instance, change);
-        }
     }
 }

@@ -6,5 +6,3 @@ pub mod RanLemmas
 pub mod OpeningLemmas
 pub mod AuditLemmas
 pub mod JournalLemmas
-pub mod StockLemmas
-mod ListLemmas

@@ -1,6 +1,7 @@
 -- The drafts of a run are what its events and answers say.
 use Rattle.std.proofs.Common.{◌≡◌, ◌⊎◌, ℕ, ◌+◌, ◌==◌, ◌||◌, Bool, true, false, cond, List, [], ◌∷◌, ◌++◌, length, Option, Some, None, refl, ◌∙◌, sym, ap, ap₂, subst, arith, inl, inr, append-nil, append_assoc, length-append, true≢false}
 use Rattle.std.proofs.lemmas.Bool.{cases_Bool}
+use Rattle.std.specs.List.{AllByRecursion as Each}
 use Rattle.ctt_draft.specs.declared.asked.Asked.{Asked}
 use Rattle.ctt_core.specs.declared.event.Event.{Event}
 use Rattle.ctt_core.specs.declared.event.Event.TheVariants.{Open, Ask, Commit, Refresh, Abandon}
@@ -9,7 +10,15 @@ use Rattle.ctt_core.specs.declared.answer.Answer.TheVariants.{Opened, Replied, C
 use Rattle.ctt_core.specs.declared.journal.JournalEntry.{JournalEntry}
 use Rattle.ctt_core.specs.Runs.{Turn, answered, OpenDraft, begin, turned, is_commit, commits, draft, entry, entered, accepted_of, onto}
 use Rattle.ctt_core.specs.OpenDrafts.{turns, is_opening, is_ending, is_renewal, takes_base, call_in, asked_in, NoneIn, LastOf, HasOpen, Enters, AreEntered, DraftsAreTold, AcceptedAreTold}
-use Rattle.ctt_core.proofs.StockLemmas.{Each-more, Each-less}
+
+-- of a list and one more
+pub Each-more : {X : Type 0} (P : X → Type 0) (xs : List X) (x : X) → Each P xs → P x → Each P (xs ++ x ∷ [])
+Each-more P [] x h p = (p, tt)
+Each-more P (y ∷ ys) x h p = (h.0, Each-more P ys x h.1 p)
+
+pub Each-less : {X : Type 0} (P : X → Type 0) (xs : List X) (x : X) → Each P (xs ++ x ∷ []) → Each P xs × P x
+Each-less P [] x h = (tt, h.0)
+Each-less P (y ∷ ys) x h = (let rest = Each-less P ys x h.1 in ((h.0, rest.0), rest.1))
 
 -- what becomes of a draft in a turn that neither begins nor ends it
 abbrev pub goes_on : ℕ → ℕ → Event → Answer → Option OpenDraft → Option OpenDraft

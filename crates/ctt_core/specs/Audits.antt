@@ -1,5 +1,5 @@
 -- Whether a journal tells what its drafts are told when they are run whole, one after another; and the first reply that is another one.
-use Rattle.std.specs.Prelude.{ℕ, ◌+◌, ◌≡◌, ◌≢◌, List, [], ◌∷◌, ◌++◌, length, Option, Some, None, Ok, Err}
+use Rattle.std.specs.Prelude.{ℕ, ◌+◌, ◌≡◌, ◌≢◌, List, ◌∷◌, ◌++◌, length, Option, Some, None, Ok, Err}
 use Rattle.ctt_text.specs.Problem.{Problem}
 use Rattle.ctt_text.specs.declared.placed.Placed.{Placed}
 use Rattle.ctt_edits.specs.Calls.{reply}
@@ -39,10 +39,6 @@ abbrev pub Replayed : Problem → List Placed → List Placed → List Asked →
 Replayed i t u asked None = (replies_in asked ≡ replies i t (calls_of asked)) × (u ≡ whole i t (calls_of asked))
 Replayed i t u asked (Some number) = DiffersIn i t asked number
 
--- calls were made on some timetable, and u was left; after one call more, the one with this number, v is left: what was found, and what is found with it
-abbrev pub IsNext : Problem → List Placed → List Placed → Asked → ℕ → Option ℕ → Option ℕ → Type 0
-IsNext i u v this number before now = (t : List Placed) (earlier : List Asked) → number ≡ length earlier + 1 → Replayed i t u earlier before → Replayed i t v (earlier ++ this ∷ []) now
-
 -- what is found of the entries h on the timetable t
 abbrev pub Finds : Problem → List Placed → List JournalEntry → Verdict → Type 0
 Finds i t h Agrees = Legal i t h
@@ -73,10 +69,3 @@ pub record LeavesList (i : Problem) (ls : List Placed) (h : List JournalEntry) (
 abbrev pub IsNoList : Problem → List Placed → List JournalEntry → NoList → Type 0
 IsNoList i ls h (Found verdict) = IsVerdict i ls h verdict × (verdict ≢ Agrees)
 IsNoList i ls h NoMemory = Unit {0}
-
--- the verdict with the entry of this number more, in which this call differs, if one does
-abbrev pub found_more : Verdict → ℕ → Option ℕ → Verdict
-found_more Agrees entry None = Agrees
-found_more Agrees entry (Some call) = Differs entry call
-found_more (BadOpening at f) entry differs = BadOpening at f
-found_more (Differs e c) entry differs = Differs e c

@@ -14,7 +14,6 @@ use Rattle.ctt_core.specs.declared.event.Event.TheVariants.{Open, Ask, Commit, R
 use Rattle.ctt_core.specs.declared.answer.Answer.{Answer}
 use Rattle.ctt_core.specs.declared.answer.Answer.TheVariants.{Opened, AlreadyOpen, NoDraft, Replied, Committed, Refreshed, Stale, Abandoned, NoMemory}
 use Rattle.ctt_core.specs.declared.journal.JournalEntry.{JournalEntry}
-use Rattle.ctt_core.specs.Stocks.{StockValue, HasSeen, seen_at}
 use Rattle.ctt_core.specs.Runs.{after, Turn, OpenDraft, draft, accepted_of, now, acceptance, renewal, may_want}
 
 -- the opening timetable, the present one, the accepted drafts, and the open draft of each planner
@@ -106,14 +105,12 @@ goes_on v _ _ = v
 abbrev pub IsAnswerTo : DeskValue → Event → Answer → Type 0
 IsAnswerTo v event answer = (answer ≡ answer_of v event) ⊎ ((answer ≡ NoMemory) × (may_want event (answer_of v event) ≡ true))
 
--- what a desk keeps to: its timetable and its open drafts are of its instance, its opening is lawful, and it is known which changes were made since a draft was opened, or last refreshed
-pub record IsDesk (i : Problem) (stock : StockValue) (opening : List Placed) (drafts : List (Option DraftValue)) (seen : List (Option ℕ)) (planners : ℕ) : Type 0 where
-  pub same : stock.problem ≡ i
+-- what a desk keeps to: its timetable and its open drafts are of its instance, and its opening is lawful
+pub record IsDesk (i sheet_problem : Problem) (opening : List Placed) (drafts : List (Option DraftValue)) (planners : ℕ) : Type 0 where
+  pub same : sheet_problem ≡ i
   pub opening_lawful : Lawful i opening
   pub counted : length drafts ≡ planners
   pub drafts_of : (p : ℕ) → IfSome (draft_at drafts p) (λ d. d.problem ≡ i)
-  pub seen_counted : length seen ≡ planners
-  pub has_seen : (p : ℕ) → HasSeen stock (draft_at drafts p) (seen_at seen p)
 
 -- there is a draft, which can be settled
 abbrev pub IsFresh : DeskValue → Option DraftValue → Type 0

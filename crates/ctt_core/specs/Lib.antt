@@ -5,5 +5,3 @@ pub mod Laws
 pub mod Openings
 pub mod Entries
 pub mod Audits
-pub mod Stocks
-pub mod Auditors

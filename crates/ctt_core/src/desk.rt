@@ -18,10 +18,8 @@ use crate::event::Event;
 use crate::journal::JournalEntry;
 use crate::laws;
 use crate::opening::placed;
-use crate::stock::Stock;
 use ctt_board::{Rooms, Sheet, Timetable};
-use ctt_draft::{Draft, KeepAll, Keeping, Log};
-use ctt_edits::Reply;
+use ctt_draft::Draft;
 use ctt_rules::Cost;
 use ctt_text::{Instance, NoMemory, Placed};
 use std::alloc::{AllocError, Global};
@@ -30,37 +28,30 @@ use std::marker::Model;
 mod turns;
 
 /// A timetable on which planners have drafts, and the drafts that were accepted since its opening.
-pub struct Desk<'i, S: Timetable, K: Keeping> {
+pub struct Desk<'i, S: Timetable> {
     instance: &'i Instance,
     opening: Vec<Placed>,
-    stock: Stock<'i, S>,
-    journal: Log<JournalEntry, K>,
-    drafts: Vec<Option<Draft<'i, S, K>>>,
-    /// How many of the changes that the stock knows were made before a planner's draft was opened, or last
-    /// refreshed.
-    seen: Vec<Option<usize>>,
+    sheet: S,
+    journal: Vec<JournalEntry>,
+    drafts: Vec<Option<Draft<'i, S>>>,
     planners: u16,
-    /// A list of no meaning, in whose memory lectures are listed that are told.
-    spare: Vec<Placed>,
 }
 
 // A derived `Drop` is proved anew in each crate above.
-impl<'i, S: Timetable, K: Keeping> Drop for Desk<'i, S, K> {
+impl<'i, S: Timetable> Drop for Desk<'i, S> {
     fn drop(self) {
         let Desk {
             instance: _,
             opening: _,
-            stock: _,
+            sheet: _,
             journal: _,
             drafts: _,
-            seen: _,
             planners: _,
-            spare: _,
         } = self;
     }
 }
 
-impl<'i, S: Timetable, K: Keeping> Model for Desk<'i, S, K> {
+impl<'i, S: Timetable> Model for Desk<'i, S> {
     ghost use Rattle.ctt_core.specs.Desks.{DeskValue, IsDesk};
 
     ghost Value = { DeskValue };
@@ -68,20 +59,20 @@ impl<'i, S: Timetable, K: Keeping> Model for Desk<'i, S, K> {
     ghost view = { λ d. record {
       problem = d.instance.now;
       opening = d.opening.items;
-      list = d.stock.list;
-      journal = d.journal.list;
+      list = S.list d.sheet;
+      journal = d.journal.items;
       drafts = d.drafts.items;
     } };
 
     ghost invariant = { λ d.
-        IsDesk d.instance.now d.stock d.opening.items d.drafts.items d.seen.items d.planners };
+        IsDesk d.instance.now (S.problem d.sheet) d.opening.items d.drafts.items d.planners };
 }
 
 /// No draft for each of so many planners.
-fn no_drafts<'i, S: Timetable, K: Keeping>(
+fn no_drafts<'i, S: Timetable>(
     alloc: Global,
     planners: u16,
-) -> Result<Vec<Option<Draft<'i, S, K>>>, AllocError>
+) -> Result<Vec<Option<Draft<'i, S>>>, AllocError>
     ensures planners { IfOk result (λ drafts. length drafts.items ≡ planners) }
     ensures none { IfOk result (λ drafts. (p : ℕ) → draft_at drafts.items p ≡ None) }
 {
@@ -92,7 +83,7 @@ fn no_drafts<'i, S: Timetable, K: Keeping>(
     Ok(drafts)
 }
 
-impl<'i, S: Sheet<'i>, K: Keeping> Desk<'i, S, K> {
+impl<'i, S: Sheet<'i>> Desk<'i, S> {
     /// A desk whose opening timetable has these lectures, which are placed in their order, whatever it
     /// is, for so many planners. It is refused at the first lecture that cannot be placed.
     pub fn new(
@@ -113,18 +104,13 @@ impl<'i, S: Sheet<'i>, K: Keeping> Desk<'i, S, K> {
         sheet.lawful();
         let opening = sheet.list()?;
         let drafts = no_drafts(alloc, planners)?;
-        let mut seen = Vec::new(alloc);
-        seen.resize(planners as usize, None)?;
-        let stock = Stock::new(alloc, sheet, planners)?;
         Ok(Desk {
             instance,
             opening,
-            stock,
-            journal: Log::new(alloc),
+            sheet,
+            journal: Vec::new(alloc),
             drafts,
-            seen,
             planners,
-            spare: Vec::new(alloc),
         })
     }
 
@@ -146,14 +132,21 @@ impl<'i, S: Sheet<'i>, K: Keeping> Desk<'i, S, K> {
     pub fn list(&self) -> Result<Vec<Placed>, NoMemory>
         ensures { IfOk result (λ list. list.items ≡ self.now.list) }
     {
-        self.stock.sheet().list()
+        self.sheet.list()
     }
 
     /// What the timetable costs.
     pub fn cost(&self) -> Cost
         ensures { result ≡ penalty self.now.problem self.now.list }
     {
-        self.stock.sheet().cost()
+        self.sheet.cost()
+    }
+
+    /// The accepted drafts, in the order of their commits.
+    pub fn journal(&self) -> &[JournalEntry]
+        ensures { result.now ≡ self.now.journal }
+    {
+        self.journal.as_slice()
     }
 
     /// Computes nothing: its contract says that the opening and the timetable are lawful.
@@ -161,7 +154,7 @@ impl<'i, S: Sheet<'i>, K: Keeping> Desk<'i, S, K> {
         ensures opening { Lawful self.now.problem self.now.opening }
         ensures list { Lawful self.now.problem self.now.list }
     {
-        self.stock.sheet().lawful();
+        self.sheet.lawful();
     }
 
     /// Answers an event. Where memory is wanted nothing was done, and a draft stays open.
@@ -191,15 +184,6 @@ impl<'i, S: Sheet<'i>, K: Keeping> Desk<'i, S, K> {
         let answer = self.answer(event);
         self.lawful();
         answer
-    }
-
-    /// Takes an answer back whose lectures nobody needs any more: in its memory later ones are listed.
-    pub fn reuse(&mut self, answer: Answer)
-        ensures { self.new ≡ self.old }
-    {
-        if let Answer::Replied(Reply::Lectures(lectures)) = answer {
-            self.spare = lectures.into_vec();
-        }
     }
 
     /// Answers events one after another. Where there is no memory for the answers no event was taken.
@@ -233,14 +217,5 @@ impl<'i, S: Sheet<'i>, K: Keeping> Desk<'i, S, K> {
         }
         self.lawful();
         Ok(answers)
-    }
-}
-
-impl<'i, S: Sheet<'i>> Desk<'i, S, KeepAll> {
-    /// The accepted drafts, in the order of their commits.
-    pub fn journal(&self) -> &[JournalEntry]
-        ensures { result.now ≡ self.now.journal }
-    {
-        self.journal.as_slice()
     }
 }

@@ -1,10 +1,10 @@
 //! Drafts that were accepted.
 
-ghost use Rattle.std.specs.Prelude.{◌≡◌, ◌↔◌, ◌++◌, ◌∷◌, [], true, IsTrue};
+ghost use Rattle.std.specs.Prelude.{◌↔◌, IsTrue};
 ghost use Rattle.ctt_core.specs.Entries.{EntryFits};
 
 use crate::planner::PlannerNo;
-use ctt_draft::{Asked, AskedCalls, Keeping, Log, Tells};
+use ctt_draft::AskedCalls;
 use ctt_text::Instance;
 
 /// An accepted draft: whose it was, and its calls with their replies.
@@ -33,41 +33,5 @@ impl JournalEntry {
         ensures { IsTrue result ↔ EntryFits instance.now self.now }
     {
         self.planner.fits(1000) && self.asked.fits(instance)
-    }
-}
-
-/// A planner, and the calls of his draft.
-#[derive(Drop)]
-pub struct Entering<'a, K: Keeping> {
-    pub planner: PlannerNo,
-    pub asked: &'a Log<Asked, K>,
-}
-
-/// They are an entry.
-struct AsEntry;
-
-impl<'a, K: Keeping> Tells<Entering<'a, K>, JournalEntry> for AsEntry {
-    ghost element = { λ e. record { planner = e.planner; asked = e.asked.now.list } };
-}
-
-/// Enters a draft, of which the calls are kept where the journal is.
-pub fn enter<K: Keeping>(
-    journal: &mut Log<JournalEntry, K>,
-    planner: PlannerNo,
-    asked: Log<Asked, K>,
-)
-    requires { journal.old.has_room ≡ true }
-    ensures { journal.new.list
-        ≡ journal.old.list ++ record { planner = planner; asked = asked.list } ∷ [] }
-{
-    if K::keeps() {
-        let asked = AskedCalls::of(asked);
-        journal.push(JournalEntry { planner, asked });
-    } else {
-        let entering = Entering {
-            planner,
-            asked: &asked,
-        };
-        journal.push_unkept::<Entering<K>, AsEntry>(&entering);
     }
 }

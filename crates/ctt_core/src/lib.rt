@@ -10,15 +10,12 @@ mod journal;
 pub mod laws;
 mod opening;
 mod planner;
-mod stock;
-mod whole_audit;
 
 pub use answer::Answer;
-pub use auditing::{Auditor, NoList, Verdict};
+pub use auditing::{NoList, Verdict, audit, list_after};
 pub use desk::Desk;
 pub use desk_fault::DeskFault;
 pub use event::Event;
-pub use journal::{Entering, JournalEntry, enter};
+pub use journal::JournalEntry;
 pub use opening::placed;
 pub use planner::PlannerNo;
-pub use whole_audit::{audit, list_after};

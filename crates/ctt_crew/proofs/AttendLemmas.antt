@@ -12,24 +12,24 @@ use Rattle.ctt_crew.specs.Attended.{AnswersItems, AreAttended, AreAttending, IsA
 use Rattle.ctt_crew.specs.Seats.{AnswersCall, AnswersLine}
 use Rattle.ctt_crew.specs.declared.seat.Seat.{Seat}
 
-module _ {X Y Z : Type 0} (i : Problem) (t0 : List Placed) (p : ℕ) (all : List (List ℕ)) (before : Seat X Y Z) where
+module _ {X Y : Type 0} (i : Problem) (t0 : List Placed) (p : ℕ) (all : List (List ℕ)) (before : Seat X Y) where
   -- at first no line is answered
   pub begins : (text : List ℕ) → text ≡ [] → IsAttending i t0 p all all before before text
   begins text none = λ after new is. subst (λ old. AnswersItems i t0 (own_items i p all) before after old new) none is
 
   -- a line without words is passed over
-  pub passed_over : (words : List ℕ) (left : List (List ℕ)) (seat : Seat X Y Z) (text : List ℕ) → IsAttending i t0 p all (words ∷ left) before seat text → has_words words ≡ false → IsAttending i t0 p all left before seat text
+  pub passed_over : (words : List ℕ) (left : List (List ℕ)) (seat : Seat X Y) (text : List ℕ) → IsAttending i t0 p all (words ∷ left) before seat text → has_words words ≡ false → IsAttending i t0 p all left before seat text
   passed_over words left seat text h none = λ after new rest.
       h after new (subst (λ b. AnswersItems i t0 (map (own_item i p) (cond b (words ∷ filter has_words left) (filter has_words left))) seat after text new) (sym none) rest)
 
   -- a line is answered
-  pub one_more : (words : List ℕ) (left : List (List ℕ)) (seat next : Seat X Y Z) (text more : List ℕ) → IsAttending i t0 p all (words ∷ left) before seat text → has_words words ≡ true → AnswersLine i t0 (own_item i p words) seat next text more
+  pub one_more : (words : List ℕ) (left : List (List ℕ)) (seat next : Seat X Y) (text more : List ℕ) → IsAttending i t0 p all (words ∷ left) before seat text → has_words words ≡ true → AnswersLine i t0 (own_item i p words) seat next text more
       → IsAttending i t0 p all left before next more
   one_more words left seat next text more h some is = λ after new rest.
       h after new (subst (λ b. AnswersItems i t0 (map (own_item i p) (cond b (words ∷ filter has_words left) (filter has_words left))) seat after text new) (sym some) (next, more, is, rest))
 
 -- the line of a call is answered as the call is
-pub call_answered : {X Y Z : Type 0} (i : Problem) (t0 : List Placed) (read : Option Event) (call : Call) (seat next : Seat X Y Z) (old new : List ℕ) → call_in read ≡ Some call → AnswersCall i call seat next old new → AnswersLine i t0 read seat next old new
+pub call_answered : {X Y : Type 0} (i : Problem) (t0 : List Placed) (read : Option Event) (call : Call) (seat next : Seat X Y) (old new : List ℕ) → call_in read ≡ Some call → AnswersCall i call seat next old new → AnswersLine i t0 read seat next old new
 call_answered i t0 None call seat next old new e h = cc
 call_answered i t0 (Some (Open q)) call seat next old new e h = cc
 call_answered i t0 (Some (Ask q asked)) call seat next old new e h =

@@ -1,4 +1,3 @@
-pub mod SharingLemmas
 pub mod AttendLemmas
 pub mod CrewLemmas
 pub mod PlainLemmas

@@ -17,26 +17,26 @@ abbrev pub own_items : Problem → ℕ → List (List ℕ) → List (Option Even
 own_items i p lines = map (own_item i p) (filter has_words lines)
 
 -- items are answered one behind another, each at the seat as the one before it left it
-abbrev pub AnswersItems : {X Y Z : Type 0} → Problem → List Placed → List (Option Event) → Seat X Y Z → Seat X Y Z → List ℕ → List ℕ → Type 0
+abbrev pub AnswersItems : {X Y : Type 0} → Problem → List Placed → List (Option Event) → Seat X Y → Seat X Y → List ℕ → List ℕ → Type 0
 AnswersItems i t0 [] before after old new = (after ≡ before) × (new ≡ old)
-AnswersItems {X} {Y} {Z} i t0 (item ∷ items) before after old new = (next : Seat X Y Z) × (text : List ℕ) × AnswersLine i t0 item before next old text × AnswersItems i t0 items next after text new
+AnswersItems {X} {Y} i t0 (item ∷ items) before after old new = (next : Seat X Y) × (text : List ℕ) × AnswersLine i t0 item before next old text × AnswersItems i t0 items next after text new
 
 -- who leaves a seat; an open draft is given up
-abbrev pub leaver : {X Y Z : Type 0} → Seat X Y Z → PlannerValue
+abbrev pub leaver : {X Y : Type 0} → Seat X Y → PlannerValue
 leaver (Free p) = p
 leaver (Drafting d) = d.planner
 
 -- a planner follows his script: his answers are this text, and then he leaves
-abbrev pub Attends : {X Y Z : Type 0} → Problem → List Placed → List ℕ → Seat X Y Z → PlannerValue → List ℕ → Type 0
-Attends {X} {Y} {Z} i t0 script before q text = (after : Seat X Y Z) × AnswersItems i t0 (own_items i (leaver before).number (lines_of script)) before after [] text × (q ≡ leaver after)
+abbrev pub Attends : {X Y : Type 0} → Problem → List Placed → List ℕ → Seat X Y → PlannerValue → List ℕ → Type 0
+Attends {X} {Y} i t0 script before q text = (after : Seat X Y) × AnswersItems i t0 (own_items i (leaver before).number (lines_of script)) before after [] text × (q ≡ leaver after)
 
 -- so far: what answers the lines that are left from here answers all lines from the first seat
-abbrev pub IsAttending : {X Y Z : Type 0} → Problem → List Placed → ℕ → List (List ℕ) → List (List ℕ) → Seat X Y Z → Seat X Y Z → List ℕ → Type 0
-IsAttending {X} {Y} {Z} i t0 p all left before seat text = (after : Seat X Y Z) (new : List ℕ) → AnswersItems i t0 (own_items i p left) seat after text new → AnswersItems i t0 (own_items i p all) before after [] new
+abbrev pub IsAttending : {X Y : Type 0} → Problem → List Placed → ℕ → List (List ℕ) → List (List ℕ) → Seat X Y → Seat X Y → List ℕ → Type 0
+IsAttending {X} {Y} i t0 p all left before seat text = (after : Seat X Y) (new : List ℕ) → AnswersItems i t0 (own_items i p left) seat after text new → AnswersItems i t0 (own_items i p all) before after [] new
 
 -- the planner p follows his script, beginning without a draft, and his answers are this text
 abbrev pub IsAttended : Problem → List Placed → PlannerValue × List ℕ → List ℕ → Type 0
-IsAttended i t0 who text = (q : PlannerValue) × Attends {X = Unit {0}} {Y = Unit {0}} {Z = Unit {0}} i t0 who.1 (Free who.0) q text
+IsAttended i t0 who text = (q : PlannerValue) × Attends {X = Unit {0}} {Y = Unit {0}} i t0 who.1 (Free who.0) q text
 
 -- of each of these planners, with their scripts, these are the answers
 abbrev pub AreAttended : Problem → List Placed → List (PlannerValue × List ℕ) → List (List ℕ) → Type 0

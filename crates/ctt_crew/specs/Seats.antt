@@ -27,77 +27,77 @@ use Rattle.ctt_crew.specs.declared.seat.Told.{Told}
 use Rattle.ctt_crew.specs.declared.seat.Told.TheVariants.{Answer as Answered, NotYours, NoPlace}
 
 -- he is told this, and is as before
-abbrev pub IsTold : {X Y Z : Type 0} → Seat X Y Z → Seat X Y Z → Told → Told → Type 0
+abbrev pub IsTold : {X Y : Type 0} → Seat X Y → Seat X Y → Told → Told → Type 0
 IsTold before after answer told = (after ≡ before) × (told ≡ answer)
 
 -- the planner p, who could not read, is q now, and is told why
 abbrev pub IsUntold : Problem → List Placed → PlannerValue → PlannerValue → Told → Type 0
 IsUntold i t0 p q told = (fault : SharedFault) × IsUnread i t0 p q fault × (told ≡ told_unread fault)
 
-abbrev pub Opens : {X Y Z : Type 0} → Problem → List Placed → Seat X Y Z → Seat X Y Z → Told → Type 0
+abbrev pub Opens : {X Y : Type 0} → Problem → List Placed → Seat X Y → Seat X Y → Told → Type 0
 Opens i t0 (Free p) (Drafting d) told = IsOpen i t0 p d × (told ≡ Answered answer.Opened)
 Opens i t0 (Free p) (Free q) told = IsUntold i t0 p q told
 Opens i t0 (Drafting d) after told = IsTold (Drafting d) after (Answered answer.AlreadyOpen) told
 
 -- a call is made in a draft, or there is no memory for it
-abbrev pub Asks : {X Y Z : Type 0} → Problem → Call → Seat X Y Z → Seat X Y Z → Told → Type 0
+abbrev pub Asks : {X Y : Type 0} → Problem → Call → Seat X Y → Seat X Y → Told → Type 0
 Asks i call (Free p) after told = IsTold (Free p) after (Answered answer.NoDraft) told
 Asks i call (Drafting d) after told =
     ((r : Reply) × (r ≡ reply i (present_of i d) call) × (after ≡ Drafting (asked_also d call r)) × (told ≡ Answered (answer.Replied r)))
     ⊎ IsTold (Drafting d) after (Answered answer.NoMemory) told
 
 -- a refusal leaves a planner, or his draft, and he is told it
-abbrev pub seat_refused : {X Y Z : Type 0} → Refusal X Y Z → Seat X Y Z
+abbrev pub seat_refused : {X Y : Type 0} → Refusal X Y → Seat X Y
 seat_refused (refusal.NotYours q count) = Free q
 seat_refused (refusal.Stale q row) = Free q
 seat_refused (refusal.NoMemory d) = Drafting d
 
-abbrev pub told_refused : {X Y Z : Type 0} → Refusal X Y Z → Told
+abbrev pub told_refused : {X Y : Type 0} → Refusal X Y → Told
 told_refused (refusal.NotYours q count) = NotYours count
 told_refused (refusal.Stale q row) = Answered (answer.Stale row)
 told_refused (refusal.NoMemory d) = Answered answer.NoMemory
 
 -- a draft is committed, and the history is that of the receipt; or it is refused, and he is told why
-abbrev pub Commits : {X Y Z : Type 0} → Problem → List Placed → Seat X Y Z → Seat X Y Z → Result (List JournalEntry) Told → Type 0
+abbrev pub Commits : {X Y : Type 0} → Problem → List Placed → Seat X Y → Seat X Y → Result (List JournalEntry) Told → Type 0
 Commits i t0 (Free p) after (Ok history) = ⊥
 Commits i t0 (Free p) after (Err told) = IsTold (Free p) after (Answered answer.NoDraft) told
 Commits i t0 (Drafting d) after (Ok history) = (q : PlannerValue) × IsAccepted i t0 d q history × (after ≡ Free q)
-Commits {X} {Y} {Z} i t0 (Drafting d) after (Err told) = (why : Refusal X Y Z) × IsRefused i t0 d why × (after ≡ seat_refused why) × (told ≡ told_refused why)
+Commits {X} {Y} i t0 (Drafting d) after (Err told) = (why : Refusal X Y) × IsRefused i t0 d why × (after ≡ seat_refused why) × (told ≡ told_refused why)
 
 -- what is told of it: how many drafts were then accepted, or why it is refused
 abbrev pub told_of : Result (List JournalEntry) Told → Told
 told_of (Ok history) = Answered (answer.Committed (length history))
 told_of (Err told) = told
 
-abbrev pub seat_unrefreshed : {X Y Z : Type 0} → RefreshRefusal X Y Z → Seat X Y Z
+abbrev pub seat_unrefreshed : {X Y : Type 0} → RefreshRefusal X Y → Seat X Y
 seat_unrefreshed (unrefreshed.NoPlace d) = Drafting d
 seat_unrefreshed (unrefreshed.NoMemory d) = Drafting d
 seat_unrefreshed (unrefreshed.Stale q row) = Free q
 
-abbrev pub told_unrefreshed : {X Y Z : Type 0} → RefreshRefusal X Y Z → Told
+abbrev pub told_unrefreshed : {X Y : Type 0} → RefreshRefusal X Y → Told
 told_unrefreshed (unrefreshed.NoPlace d) = NoPlace
 told_unrefreshed (unrefreshed.NoMemory d) = Answered answer.NoMemory
 told_unrefreshed (unrefreshed.Stale q row) = Answered (answer.Stale row)
 
 -- a draft is brought up to date, or not
-abbrev pub Refreshes : {X Y Z : Type 0} → Problem → List Placed → Seat X Y Z → Seat X Y Z → Told → Type 0
+abbrev pub Refreshes : {X Y : Type 0} → Problem → List Placed → Seat X Y → Seat X Y → Told → Type 0
 Refreshes i t0 (Free p) after told = IsTold (Free p) after (Answered answer.NoDraft) told
-Refreshes {X} {Y} {Z} i t0 (Drafting d) after told =
+Refreshes {X} {Y} i t0 (Drafting d) after told =
     ((e : DraftingValue) × IsRefreshed i t0 d e × (after ≡ Drafting e) × (told ≡ Answered answer.Refreshed))
-    ⊎ ((why : RefreshRefusal X Y Z) × IsNotRefreshed i t0 d why × (after ≡ seat_unrefreshed why) × (told ≡ told_unrefreshed why))
+    ⊎ ((why : RefreshRefusal X Y) × IsNotRefreshed i t0 d why × (after ≡ seat_unrefreshed why) × (told ≡ told_unrefreshed why))
 
-abbrev pub Abandons : {X Y Z : Type 0} → Seat X Y Z → Seat X Y Z → Told → Type 0
+abbrev pub Abandons : {X Y : Type 0} → Seat X Y → Seat X Y → Told → Type 0
 Abandons (Free p) after told = IsTold (Free p) after (Answered answer.NoDraft) told
 Abandons (Drafting d) after told = (after ≡ Free d.planner) × (told ≡ Answered answer.Abandoned)
 
 -- what is published is shown, where no draft is open
-abbrev pub Shows : {X Y Z : Type 0} → Problem → List Placed → Look → Seat X Y Z → Seat X Y Z → Told → Type 0
+abbrev pub Shows : {X Y : Type 0} → Problem → List Placed → Look → Seat X Y → Seat X Y → Told → Type 0
 Shows i t0 look (Free p) (Drafting d) told = ⊥
 Shows i t0 look (Free p) (Free q) told = ((r : Reply) × IsViewed i t0 look p q r × (told ≡ Answered (answer.Replied r))) ⊎ IsUntold i t0 p q told
 Shows i t0 look (Drafting d) after told = IsTold (Drafting d) after (Answered answer.AlreadyOpen) told
 
 -- an event is answered
-abbrev pub Takes : {X Y Z : Type 0} → Problem → List Placed → Event → Seat X Y Z → Seat X Y Z → Told → Type 0
+abbrev pub Takes : {X Y : Type 0} → Problem → List Placed → Event → Seat X Y → Seat X Y → Told → Type 0
 Takes i t0 (Open p) before after told = Opens i t0 before after told
 Takes i t0 (Ask p call) before after told = Asks i call before after told
 Takes i t0 (Commit p) before after told = (outcome : Result (List JournalEntry) Told) × Commits i t0 before after outcome × (told ≡ told_of outcome)
@@ -106,11 +106,11 @@ Takes i t0 (Abandon p) before after told = Abandons before after told
 Takes i t0 (Show look) before after told = Shows i t0 look before after told
 
 -- the answer to a call is added to the text
-abbrev pub AnswersCall : {X Y Z : Type 0} → Problem → Call → Seat X Y Z → Seat X Y Z → List ℕ → List ℕ → Type 0
+abbrev pub AnswersCall : {X Y : Type 0} → Problem → Call → Seat X Y → Seat X Y → List ℕ → List ℕ → Type 0
 AnswersCall i call before after old new = (told : Told) × Asks i call before after told × (new ≡ old ++ line (told_words i told))
 
 -- the answer to a line, in which this event was read, or none, is added to the text
-abbrev pub AnswersLine : {X Y Z : Type 0} → Problem → List Placed → Option Event → Seat X Y Z → Seat X Y Z → List ℕ → List ℕ → Type 0
+abbrev pub AnswersLine : {X Y : Type 0} → Problem → List Placed → Option Event → Seat X Y → Seat X Y → List ℕ → List ℕ → Type 0
 AnswersLine i t0 None before after old new = (after ≡ before) × (new ≡ old ++ bad_line)
 AnswersLine i t0 (Some event) before after old new = (told : Told) × Takes i t0 event before after told × (new ≡ old ++ line (told_words i told))
 
@@ -119,6 +119,6 @@ abbrev pub draft_text : Problem → DraftingValue → List ℕ
 draft_text i d = entry_text i (entry_of d.planner.number d.asked)
 
 -- the entry of the open draft; nothing where none is open
-abbrev pub open_entry : {X Y Z : Type 0} → Problem → Seat X Y Z → List ℕ
+abbrev pub open_entry : {X Y : Type 0} → Problem → Seat X Y → List ℕ
 open_entry i (Free p) = []
 open_entry i (Drafting d) = draft_text i d

@@ -13,7 +13,6 @@ use crate::seat::{Seat, Told};
 use ctt_board::{GridSheet, Sheet};
 use ctt_core::{Event, PlannerNo};
 use ctt_desk::{Naming, Planner, SharedDesk};
-use ctt_draft::KeepNone;
 use ctt_edits::Call;
 use ctt_script::{Lines, has_words, read_own_line_of, write_answer, write_bad_line};
 use ctt_text::{Instance, NoMemory, let_go};
@@ -40,7 +39,7 @@ pub fn write_told(text: &mut String, instance: &Instance, told: &Told) -> Result
 
 /// Makes the call that a line asks for, and adds the line of the answer.
 fn answer_call<'i, S: Sheet<'i>, J: Naming>(
-    seat: &mut Seat<'i, S, J, KeepNone>,
+    seat: &mut Seat<'i, S, J>,
     instance: &Instance,
     call: Call,
     text: &mut String,
@@ -66,13 +65,13 @@ fn kept_if<T: Drop>(value: T, written: Result<(), AllocError>) -> Result<T, NoMe
 /// Answers a line of a planner's script, in which this event was read, or none, and adds the line of the answer.
 fn answer_own_line<'i, S: Sheet<'i>, J: Naming, R: Wait>(
     rt: &R,
-    desk: &SharedDesk<S, J, KeepNone>,
+    desk: &SharedDesk<S, J>,
     instance: &Instance,
-    seat: Seat<'i, S, J, KeepNone>,
+    seat: Seat<'i, S, J>,
     planner: PlannerNo,
     read: Option<Event>,
     text: &mut String,
-) -> Result<Seat<'i, S, J, KeepNone>, NoMemory>
+) -> Result<Seat<'i, S, J>, NoMemory>
     requires same { J.problem ≡ instance.now }
     requires fits { (planners : ℕ) → planner < planners
         → IfSome read (EventFits instance.now planners) }
@@ -116,9 +115,9 @@ pub(crate) struct Attendance<'i, 'x, J: Naming, G: Gate> {
 fn attend<'i, 'x, S: Sheet<'i>, J: Naming, R: Wait, G: Gate>(
     attendance: Attendance<'i, 'x, J, G>,
     rt: &R,
-    desk: &SharedDesk<S, J, KeepNone>,
+    desk: &SharedDesk<S, J>,
     number: PlannerNo,
-    seat: Seat<'i, S, J, KeepNone>,
+    seat: Seat<'i, S, J>,
 ) -> Result<(Planner<S, J>, String), NoMemory>
     requires { number ≡ (leaver seat).number }
     ensures { IfOk result (λ done. Attends J.problem J.opening attendance.entry.script.now
@@ -169,7 +168,7 @@ fn attend<'i, 'x, S: Sheet<'i>, J: Naming, R: Wait, G: Gate>(
 /// thread has to.
 #[derive(Drop)]
 pub(crate) struct GridAttendance<'i, 'x, J: Naming, G: Gate> {
-    pub(crate) desk: &'x SharedDesk<GridSheet<'i>, J, KeepNone>,
+    pub(crate) desk: &'x SharedDesk<GridSheet<'i>, J>,
     pub(crate) planner: Planner<GridSheet<'i>, J>,
     pub(crate) attendance: Attendance<'i, 'x, J, G>,
 }

@@ -16,7 +16,6 @@ use crate::gate::Gate;
 use ctt_board::{GridSheet, Sheet, Timetable};
 use ctt_core::PlannerNo;
 use ctt_desk::{Closed, Named, Naming, Opened, Planner, SharedDesk, SharedFault};
-use ctt_draft::{KeepNone, Keeping};
 use ctt_rules::Cost;
 use ctt_script::write_costs;
 use ctt_text::{Instance, NoMemory, let_go};
@@ -65,7 +64,7 @@ fn added<T: Drop, E: Drop>(
 fn work_at_once<'i, 'x, J: Naming + Send + Sync, R: Threads + Wait + Sync, G: Gate>(
     rt: &R,
     alloc: Global,
-    desk: &'x SharedDesk<GridSheet<'i>, J, KeepNone>,
+    desk: &'x SharedDesk<GridSheet<'i>, J>,
     works: Vec<(Planner<GridSheet<'i>, J>, Attendance<'i, 'x, J, G>)>,
 ) -> Result<Vec<String>, CrewFault>
     ensures attended { IfOk result (λ answers. AreAttended J.problem J.opening
@@ -173,9 +172,9 @@ fn crew_report(
 }
 
 /// What a crew wrote whose desk is closed.
-pub fn closing_report<S: Timetable, J: Naming, K: Keeping>(
+pub fn closing_report<S: Timetable, J: Naming>(
     alloc: Global,
-    closed: &Closed<S, J, K>,
+    closed: &Closed<S, J>,
     answers: Vec<String>,
 ) -> Result<Vec<u8>, NoMemory>
     ensures text { IfOk result (λ text. text.items
@@ -191,7 +190,7 @@ pub fn closing_report<S: Timetable, J: Naming, K: Keeping>(
 fn desk_named<S: Timetable, J: Naming, R: Wait>(
     rt: &R,
     named: Named<S, J>,
-) -> Result<(SharedDesk<S, J, KeepNone>, Vec<Planner<S, J>>), CrewFault>
+) -> Result<(SharedDesk<S, J>, Vec<Planner<S, J>>), CrewFault>
     ensures planners { IfOk result (λ made. made.1.items ≡ new_planners named.count) }
     ensures fault { IfErr result (IsCrewFault J.planners) }
 {
@@ -199,11 +198,11 @@ fn desk_named<S: Timetable, J: Naming, R: Wait>(
 }
 
 /// Ends a desk whose planners are gone.
-pub fn end_desk<S: Timetable, J: Naming, K: Keeping, R: Wait>(
+pub fn end_desk<S: Timetable, J: Naming, R: Wait>(
     rt: &R,
     alloc: Global,
-    desk: SharedDesk<S, J, K>,
-) -> Closed<S, J, K> {
+    desk: SharedDesk<S, J>,
+) -> Closed<S, J> {
     let mut none = Vec::new(alloc);
     match desk.close(rt, none.as_mut_slice()) {
         Ok(closed) | Err(closed) => closed,
@@ -213,7 +212,7 @@ pub fn end_desk<S: Timetable, J: Naming, K: Keeping, R: Wait>(
 /// What a crew wrote whose desk is closed, if each planner was answered.
 fn report_if_answered<S: Timetable, J: Naming>(
     alloc: Global,
-    closed: &Closed<S, J, KeepNone>,
+    closed: &Closed<S, J>,
     answers: Result<Vec<String>, CrewFault>,
 ) -> Result<Vec<u8>, CrewFault>
     ensures text { IfOk result (λ text. IsOkAnd answers (λ answers. text.items
@@ -229,7 +228,7 @@ fn report_if_answered<S: Timetable, J: Naming>(
 fn last_report<S: Timetable, J: Naming, R: Wait>(
     rt: &R,
     alloc: Global,
-    desk: SharedDesk<S, J, KeepNone>,
+    desk: SharedDesk<S, J>,
     answers: Result<Vec<String>, CrewFault>,
 ) -> Result<Vec<u8>, CrewFault>
     ensures text { IfOk result (λ text. IsOkAnd answers (λ answers.
@@ -247,7 +246,7 @@ fn last_report<S: Timetable, J: Naming, R: Wait>(
 fn answers_at<'i, J: Naming + Send + Sync, R: Threads + Wait + Sync, G: Gate>(
     rt: &R,
     alloc: Global,
-    desk: &SharedDesk<GridSheet<'i>, J, KeepNone>,
+    desk: &SharedDesk<GridSheet<'i>, J>,
     instance: &'i Instance,
     planners: Vec<Planner<GridSheet<'i>, J>>,
     scripts: &[&[u8]],

@@ -13,7 +13,6 @@ use ctt_core::{Answer, Event};
 use ctt_desk::{
     Drafting, Naming, Planner, Receipt, RefreshRefusal, Refusal, SharedDesk, SharedFault,
 };
-use ctt_draft::{KeepAll, Keeping};
 use ctt_edits::{Call, Look};
 use ctt_script::write_entry;
 use ctt_text::{NoMemory, let_go};
@@ -21,11 +20,11 @@ use std::sync::Wait;
 
 /// A planner at work.
 #[derive(Drop)]
-pub enum Seat<'i, S: Timetable, J: Naming, K: Keeping = KeepAll> {
+pub enum Seat<'i, S: Timetable, J: Naming> {
     /// No draft is open.
     Free(Planner<S, J>),
     /// A draft is open.
-    Drafting(Drafting<'i, S, J, K>),
+    Drafting(Drafting<'i, S, J>),
 }
 
 /// What a planner of a crew is answered.
@@ -77,7 +76,7 @@ fn write_draft<'i, S: Sheet<'i>, J: Naming>(
     Ok(written?)
 }
 
-impl<'i, S: Sheet<'i>, J: Naming, K: Keeping> Seat<'i, S, J, K> {
+impl<'i, S: Sheet<'i>, J: Naming> Seat<'i, S, J> {
     /// Opens a draft.
     fn open(self) -> (Self, Told)
         ensures fits { ToldFits J.problem result.1 }
@@ -114,7 +113,7 @@ impl<'i, S: Sheet<'i>, J: Naming, K: Keeping> Seat<'i, S, J, K> {
     pub fn commit<R: Wait>(
         self,
         rt: &R,
-        desk: &SharedDesk<S, J, K>,
+        desk: &SharedDesk<S, J>,
     ) -> (Self, Result<Receipt<J>, Told>)
         ensures fits { IfErr result.1 (ToldFits J.problem) }
         ensures commits { Commits J.problem J.opening self.entry result.0 result.1 }
@@ -198,7 +197,7 @@ impl<'i, S: Sheet<'i>, J: Naming, K: Keeping> Seat<'i, S, J, K> {
     }
 
     /// Does what a line asks for. The planner goes on from where that leaves him.
-    pub fn take<R: Wait>(self, rt: &R, desk: &SharedDesk<S, J, K>, event: Event) -> (Self, Told)
+    pub fn take<R: Wait>(self, rt: &R, desk: &SharedDesk<S, J>, event: Event) -> (Self, Told)
         requires fits { (n : ℕ) × EventFits J.problem n event }
         ensures fits { ToldFits J.problem result.1 }
         ensures takes { Takes J.problem J.opening event self.entry result.0 result.1 }

@@ -6,8 +6,7 @@ use Rattle.ctt_text.specs.Problem.{Problem}
 use Rattle.ctt_text.specs.declared.placed.Placed.{Placed}
 use Rattle.ctt_rules.specs.Hard.{Lawful}
 use Rattle.ctt_draft.specs.Drafts.{calls_of, stale}
-use Rattle.ctt_draft.specs.DraftValues.{DraftValue, present}
-use Rattle.ctt_draft.specs.Endings.{RemainsValue}
+use Rattle.ctt_draft.specs.DraftValues.{DraftValue}
 use Rattle.ctt_draft.specs.declared.asked.Asked.{Asked}
 use Rattle.ctt_core.specs.Runs.{after, Legal}
 use Rattle.ctt_core.specs.declared.journal.JournalEntry.{JournalEntry}
@@ -22,10 +21,6 @@ own p h = filter (λ (e : JournalEntry). e.planner == p) h
 abbrev pub entry_of : ℕ → List Asked → JournalEntry
 entry_of p asked = record { planner = p; asked = asked }
 
--- what such a draft leaves
-abbrev pub left_of : DraftValue → RemainsValue
-left_of d = record { problem = d.problem; base = d.base; present = present d }
-
 -- the journal is legal on the opening, and the timetable is the opening after it, and lawful
 pub record Standing (i j : Problem) (opening t : List Placed) (journal : List JournalEntry) : Type 0 where
   pub same : j ≡ i
@@ -37,16 +32,10 @@ pub record Standing (i j : Problem) (opening t : List Placed) (journal : List Jo
 abbrev pub Counted : ℕ → List ℕ → List JournalEntry → Type 0
 Counted planners counts journal = (length counts ≡ planners) × ((p : ℕ) → p < planners → slice_index_or counts p 0 ≡ length (own p journal))
 
--- what holds whenever the lock is free
-pub record IsLocked (i : Problem) (opening opened : List Placed) (planners : ℕ) (counts : List ℕ) (journal : List JournalEntry) : Type 0 where
+-- beside that, what holds whenever the lock is free
+pub record IsLocked (opening opened : List Placed) (planners : ℕ) (counts : List ℕ) (journal : List JournalEntry) : Type 0 where
   pub opens : opened ≡ opening
-  pub legal : Legal i opening journal
   pub counted : Counted planners counts journal
-
--- and of the copy that is published: it is the opening after the journal, with the journal as its history
-pub record IsPublished (i j : Problem) (opening t : List Placed) (journal h : List JournalEntry) : Type 0 where
-  pub standing : Standing i j opening t journal
-  pub history : h ≡ journal
 
 -- the journal has as many drafts of planner p as he committed
 abbrev pub IsHis : List JournalEntry → ℕ → ℕ → Type 0

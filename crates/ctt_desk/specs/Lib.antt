@@ -5,4 +5,3 @@ pub mod Histories
 pub mod Planners
 pub mod Published
 pub mod Refusals
-pub mod Trails

@@ -1,34 +1,43 @@
--- The rule over the published copies, and what a step of a reader or of the writer tells.
-use Rattle.std.specs.Prelude.{◌≡◌, ◌==◌, ℕ, cond, List, length}
+-- What is published, what an accepted commit changes of it, the rule over it, and what a step of a reader or of the writer tells.
+use Rattle.std.specs.Prelude.{◌≡◌, ℕ, List}
 use mathlib.Core.List.{IsPrefix}
 use mathlib.Core.Option.{some}
 use lib.ListN.{get_elem?}
 use Rattle.ctt_text.specs.Problem.{Problem}
 use Rattle.ctt_text.specs.declared.placed.Placed.{Placed}
-use Rattle.ctt_board.specs.Changes.{apply_all}
+use Rattle.ctt_board.specs.Changes.{apply_all, ChangesFit}
+use Rattle.ctt_board.specs.declared.cell.Cell.{Cell}
 use Rattle.ctt_core.specs.Runs.{after, Legal}
-use Rattle.ctt_desk.specs.Trails.{UpdateValue}
 use Rattle.ctt_core.specs.declared.journal.JournalEntry.{JournalEntry}
-use Rattle.ctt_desk.specs.declared.shown.Common.{Common}
 use Rattle.ctt_desk.specs.declared.shown.View.{View}
 
--- what two copies have in common
-abbrev pub common : Problem → List Placed → List JournalEntry → Common
-common problem list history = record { problem = problem; list = list; history = history }
-
--- what an update makes of a copy: it comes behind the history before it, and changes no other copy
-abbrev pub updated : Common → UpdateValue → Common
-updated s u = cond (length s.history == length u.before) (common s.problem (apply_all u.changes s.list) u.front) s
-
--- the view of a seat that has seen this history
-abbrev pub seeing : List JournalEntry → View
-seeing history = record { seen = history }
+-- a published timetable with its history
+pub record ShownValue : Type 0 where
+  pub problem : Problem
+  pub list : List Placed
+  pub history : List JournalEntry
 
 -- the timetable t of the problem j is the opening after a legal history
 pub record IsAfter (i : Problem) (opening : List Placed) (j : Problem) (t : List Placed) (history : List JournalEntry) : Type 0 where
   pub same : j ≡ i
   pub legal : Legal i opening history
   pub list : t ≡ after i opening history
+
+-- what an accepted commit changes, and the histories before it and with it
+pub record UpdateValue : Type 0 where
+  pub changes : List (List Cell)
+  pub before : List JournalEntry
+  pub front : List JournalEntry
+
+-- the changes lead from the opening after the history before to the opening after the longer one
+pub record Leads (i : Problem) (opening : List Placed) (changes : List (List Cell)) (before front : List JournalEntry) : Type 0 where
+  pub grows : IsPrefix before front
+  pub fit : ChangesFit i changes (after i opening before)
+  pub ends : apply_all changes (after i opening before) ≡ after i opening front
+
+-- the view of a seat that has seen this history
+abbrev pub seeing : List JournalEntry → View
+seeing history = record { seen = history }
 
 -- what is published is the opening after a legal history, which begins with what each seat has seen
 pub record Keeps (i : Problem) (opening : List Placed) (j : Problem) (t : List Placed) (history : List JournalEntry) (views : List View) : Type 0 where

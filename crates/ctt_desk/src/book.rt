@@ -1,8 +1,7 @@
 //! The book in which a desk's history grows.
 
-use ctt_core::{Entering, JournalEntry};
-use ctt_draft::Keeping;
-use logbook::{Gain, Plain, Play, Rule};
+use ctt_core::JournalEntry;
+use logbook::{Gain, Play, Rule};
 
 /// The rule of the book: its word is the length of its history.
 pub struct BookRule;
@@ -41,13 +40,4 @@ impl Play<JournalEntry, u64> for Addition {
     ghost use Rattle.ctt_desk.specs.Books.{Adds};
 
     ghost then = { Adds };
-}
-
-impl<'a, K: Keeping> Plain<Entering<'a, K>, JournalEntry, u64> for Addition {
-    ghost use Rattle.std.specs.Prelude.{None};
-    ghost use Rattle.ctt_desk.specs.Histories.{entry_of};
-
-    ghost ask = { λ entering. entry_of entering.planner entering.asked.now.list };
-
-    ghost state = { λ entering. None };
 }

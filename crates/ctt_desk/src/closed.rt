@@ -9,21 +9,20 @@ use crate::front::Front;
 use crate::naming::Naming;
 use ctt_board::Timetable;
 use ctt_core::JournalEntry;
-use ctt_draft::{KeepAll, Keeping, Log};
 use ctt_rules::Cost;
 use ctt_text::{NoMemory, Placed};
 use std::marker::Model;
 
-/// What a desk left: its journal, which is kept or not, and its timetable. Contracts see the journal.
-pub struct Closed<S: Timetable, J: Naming, K: Keeping = KeepAll> {
-    pub(crate) journal: Log<JournalEntry, K>,
+/// What a desk left: its journal and its timetable. Contracts see the journal.
+pub struct Closed<S: Timetable, J: Naming> {
+    pub(crate) journal: Vec<JournalEntry>,
     pub(crate) sheet: S,
     /// The journal, as what was seen.
     pub(crate) front: Front<J>,
 }
 
 // A derived `Drop` is proved anew in each crate above.
-impl<S: Timetable, J: Naming, K: Keeping> Drop for Closed<S, J, K> {
+impl<S: Timetable, J: Naming> Drop for Closed<S, J> {
     fn drop(self) {
         let Closed {
             journal: _,
@@ -33,21 +32,21 @@ impl<S: Timetable, J: Naming, K: Keeping> Drop for Closed<S, J, K> {
     }
 }
 
-impl<S: Timetable, J: Naming, K: Keeping> Model for Closed<S, J, K> {
+impl<S: Timetable, J: Naming> Model for Closed<S, J> {
     ghost use Rattle.std.specs.Prelude.{◌≡◌, List};
     ghost use Rattle.ctt_core.specs.declared.journal.JournalEntry.{JournalEntry};
     ghost use Rattle.ctt_desk.specs.Histories.{Standing};
 
     ghost Value = { List JournalEntry };
 
-    ghost view = { λ c. c.journal.list };
+    ghost view = { λ c. c.journal.items };
 
     ghost invariant = { λ c.
-        Standing J.problem (S.problem c.sheet) J.opening (S.list c.sheet) c.journal.list
-        × (c.front ≡ c.journal.list) };
+        Standing J.problem (S.problem c.sheet) J.opening (S.list c.sheet) c.journal.items
+        × (c.front ≡ c.journal.items) };
 }
 
-impl<S: Timetable, J: Naming, K: Keeping> Closed<S, J, K> {
+impl<S: Timetable, J: Naming> Closed<S, J> {
     /// The lectures, by course and slot: the opening after the journal.
     pub fn list(&self) -> Result<Vec<Placed>, NoMemory>
         ensures list { IfOk result (λ list. list.items ≡ after J.problem J.opening self.now) }
@@ -68,7 +67,7 @@ impl<S: Timetable, J: Naming, K: Keeping> Closed<S, J, K> {
         ensures accepted { result ≡ length self.now }
         ensures legal { Legal J.problem J.opening self.now }
     {
-        self.journal.len()
+        self.journal.len() as u64
     }
 
     /// The journal, as what was seen.
@@ -77,9 +76,7 @@ impl<S: Timetable, J: Naming, K: Keeping> Closed<S, J, K> {
     {
         &self.front
     }
-}
 
-impl<S: Timetable, J: Naming> Closed<S, J> {
     /// The accepted drafts, in the order of their commits.
     pub fn journal(&self) -> &[JournalEntry]
         ensures journal { result.now ≡ self.now }

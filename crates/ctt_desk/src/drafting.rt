@@ -8,26 +8,25 @@ ghost use Rattle.ctt_draft.specs.Drafts.{AskedFits};
 ghost use Rattle.ctt_desk.specs.Histories.{entry_of};
 ghost use Rattle.ctt_desk.specs.Planners.{present_of, asked_also};
 
-use crate::kept::Kept;
 use crate::naming::Naming;
 use crate::planner::Planner;
 use ctt_board::{Sheet, Timetable};
 use ctt_core::JournalEntry;
-use ctt_draft::{AskedCalls, Draft, KeepAll, Keeping};
+use ctt_draft::{AskedCalls, Draft};
 use ctt_edits::{Call, Reply, laws};
-use ctt_text::{Instance, NoMemory};
+use ctt_text::{Instance, NoMemory, let_go};
 use std::alloc::Global;
 use std::marker::Model;
 
 /// A planner with an open draft. Contracts see the planner, the timetable on which the draft
 /// stands, and its calls with their replies. Whoever drops it abandons the draft.
 #[derive(Drop)]
-pub struct Drafting<'i, S: Timetable, J: Naming, K: Keeping = KeepAll> {
+pub struct Drafting<'i, S: Timetable, J: Naming> {
     pub(crate) planner: Planner<S, J>,
-    pub(crate) draft: Box<Draft<'i, S, K>>,
+    pub(crate) draft: Box<Draft<'i, S>>,
 }
 
-impl<'i, S: Timetable, J: Naming, K: Keeping> Model for Drafting<'i, S, J, K> {
+impl<'i, S: Timetable, J: Naming> Model for Drafting<'i, S, J> {
     ghost use Rattle.std.specs.Prelude.{◌≡◌};
     ghost use Rattle.ctt_core.specs.Runs.{after};
     ghost use Rattle.ctt_desk.specs.Planners.{DraftingValue};
@@ -47,17 +46,17 @@ impl<'i, S: Timetable, J: Naming, K: Keeping> Model for Drafting<'i, S, J, K> {
 /// A copy of the calls of a draft with their replies.
 fn asked_again<'i, S: Sheet<'i>>(
     alloc: Global,
-    draft: &Draft<'i, S, KeepAll>,
+    draft: &Draft<'i, S>,
 ) -> Result<AskedCalls, NoMemory>
     ensures asked { IfOk result (λ asked. asked ≡ draft.now.asked) }
     ensures fit { IfOk result (Each (AskedFits draft.now.problem)) }
 {
     draft.instance().limits_hold();
     draft.lawful();
-    draft.asked_again(alloc)
+    AskedCalls::copy_of(alloc, draft.asked())
 }
 
-impl<'i, S: Sheet<'i>, J: Naming, K: Keeping> Drafting<'i, S, J, K> {
+impl<'i, S: Sheet<'i>, J: Naming> Drafting<'i, S, J> {
     /// The instance whose courses are timetabled.
     pub fn instance(&self) -> &'i Instance
         ensures { result.now ≡ J.problem }
@@ -81,17 +80,15 @@ impl<'i, S: Sheet<'i>, J: Naming, K: Keeping> Drafting<'i, S, J, K> {
         self.draft.call(call)
     }
 
-    /// Gives the draft up. Its sheet is kept. It takes no memory.
+    /// Gives the draft up. It takes no memory.
     pub fn abandon(self) -> Planner<S, J>
         ensures { result ≡ self.entry.planner }
     {
         let Drafting { planner, draft } = self;
-        let kept = Kept::of_base(draft, planner.front.again());
-        planner.keeping(kept)
+        let_go(draft);
+        planner
     }
-}
 
-impl<'i, S: Sheet<'i>, J: Naming> Drafting<'i, S, J> {
     /// The entry that the draft is, if it is accepted.
     pub fn entry(&self) -> Result<JournalEntry, NoMemory>
         ensures entry { IfOk result (λ entry.

@@ -1,6 +1,6 @@
 //! What was seen of a desk's history.
 
-ghost use Rattle.std.specs.Prelude.{◌≡◌, ◌+◌, ◌<◌, ◌≤◌, ◌^◌, ◌++◌, ◌∷◌, ◌⊎◌, ◌↔◌, IsTrue, [], length};
+ghost use Rattle.std.specs.Prelude.{◌≡◌, ◌+◌, ◌<◌, ◌≤◌, ◌^◌, ◌++◌, ◌∷◌, ◌⊎◌, ◌↔◌, IsTrue, IfSome, [], length};
 ghost use mathlib.Core.List.{IsPrefix};
 ghost use Rattle.ctt_draft.specs.Drafts.{calls_of, replies_in, replies};
 ghost use Rattle.ctt_core.specs.Runs.{after, Legal};
@@ -9,11 +9,11 @@ ghost use Rattle.ctt_desk.specs.Histories.{entry_of};
 
 use crate::book::{Addition, BookRule, NoTrade};
 use crate::naming::Naming;
-use ctt_core::{Entering, JournalEntry, PlannerNo};
-use ctt_draft::{Asked, Keeping, Log};
-use logbook::{Offer, Seen, Word};
+use ctt_board::Timetable;
+use ctt_core::{JournalEntry, PlannerNo};
+use ctt_draft::Draft;
+use logbook::{Offer, Plain, Seen, Word};
 use std::marker::{Model, PhantomData};
-use std::sync::Wait;
 
 /// The word by which the history grows. It lies under the lock.
 #[derive(Drop)]
@@ -134,44 +134,55 @@ impl<J: Naming> Front<J> {
             self.again()
         }
     }
+}
 
-    /// Adds the entry of a draft to all that was seen. Were the history longer, which the lock
-    /// excludes, this would wait for ever.
-    pub(crate) fn extend<R: Wait, K: Keeping>(
-        &mut self,
-        rt: &R,
-        head: &Head<J>,
-        planner: PlannerNo,
-        asked: &Log<Asked, K>,
-    )
-        requires room { length self.old + 1 < 2 ^ 64 }
-        requires legal { replies_in asked.now.list
-            ≡ replies J.problem (after J.problem J.opening self.old) (calls_of asked.now.list) }
-        ensures { self.new ≡ self.old ++ entry_of planner asked.now.list ∷ [] }
-    {
-        let entering = Entering { planner, asked };
-        let mut seen = self.seen.again();
-        let mut offer: Offer<JournalEntry, u64, BookRule, NoTrade> = seen.plain::<
-            NoTrade,
-            Entering<K>,
-            Addition,
-        >(&entering);
-        let mut pen = seen.no_pen();
-        let drafts = self.drafts;
-        let found = head
-            .word
-            .compare_exchange::<Addition, NoTrade>(
-                drafts,
-                drafts + 1,
-                &mut seen,
-                &mut offer,
-                &mut pen,
-            );
-        if found != drafts {
-            for _ in rt.forever() {}
-            unreachable!()
-        }
-        self.seen = seen;
-        self.drafts = drafts + 1;
+/// A planner with his draft, of whose calls an entry is to be made.
+#[derive(Drop)]
+pub(crate) struct Proposal<'a, 'i, S: Timetable> {
+    planner: PlannerNo,
+    draft: &'a Draft<'i, S>,
+}
+
+impl<'a, 'i, S: Timetable> Plain<Proposal<'a, 'i, S>, JournalEntry, u64> for Addition {
+    ghost use Rattle.std.specs.Prelude.{None};
+    ghost use Rattle.ctt_desk.specs.Histories.{entry_of};
+
+    ghost ask = { λ p. entry_of p.planner p.draft.now.asked };
+
+    ghost state = { λ p. None };
+}
+
+/// The history that was seen, with the entry of a draft, by which the desk's grows. There is none,
+/// and nothing has grown, where the desk's is longer, which the lock excludes.
+pub(crate) fn extended<'i, S: Timetable, J: Naming>(
+    front: &Front<J>,
+    head: &Head<J>,
+    planner: PlannerNo,
+    draft: &Draft<'i, S>,
+) -> Option<Front<J>>
+    requires room { length front.now + 1 < 2 ^ 64 }
+    requires legal { replies_in draft.now.asked
+        ≡ replies J.problem (after J.problem J.opening front.now) (calls_of draft.now.asked) }
+    ensures { IfSome result (λ longer. longer ≡ front.now ++ entry_of planner draft.now.asked ∷ []) }
+{
+    let proposal = Proposal { planner, draft };
+    let mut seen = front.seen.again();
+    let mut offer: Offer<JournalEntry, u64, BookRule, NoTrade> = seen.plain::<
+        NoTrade,
+        Proposal<S>,
+        Addition,
+    >(&proposal);
+    let mut pen = seen.no_pen();
+    let drafts = front.drafts;
+    let found = head
+        .word
+        .compare_exchange::<Addition, NoTrade>(drafts, drafts + 1, &mut seen, &mut offer, &mut pen);
+    if found != drafts {
+        return None;
     }
+    Some(Front {
+        drafts: drafts + 1,
+        seen,
+        desk: PhantomData,
+    })
 }

@@ -2,24 +2,24 @@
 //! lock.
 #![tactic(auto)]
 
+mod base;
 mod book;
 mod closed;
 mod committing;
 mod drafting;
 mod front;
-mod kept;
 mod locked;
 mod named;
 mod naming;
 mod opened;
 mod planner;
+mod publisher;
 mod receipt;
 mod refreshing;
 mod refusal;
 mod shared_desk;
 mod shared_fault;
 mod shown;
-mod trail;
 mod update;
 
 pub use closed::Closed;

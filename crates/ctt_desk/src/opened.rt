@@ -10,7 +10,6 @@ use crate::book::BookRule;
 use crate::shared_fault::SharedFault;
 use ctt_board::{Sheet, Timetable};
 use ctt_core::{JournalEntry, placed};
-use ctt_draft::changes_for_copy;
 use ctt_text::{Instance, Placed};
 use logbook::{Seen, Start, Word};
 use std::alloc::Global;
@@ -23,8 +22,6 @@ pub struct Opened<S: Timetable> {
     pub(crate) alloc: Global,
     pub(crate) opening: Vec<Placed>,
     pub(crate) sheet: S,
-    /// For so many changes there is to be room in what is published: four times as many as may be made in place of a copy.
-    pub(crate) room: usize,
     /// The word by which the history will grow, and that there is none yet.
     pub(crate) word: Word<JournalEntry, u64, BookRule>,
     pub(crate) seen: Seen<JournalEntry, u64, BookRule>,
@@ -67,7 +64,6 @@ impl<'i, S: Sheet<'i>> Opened<S> {
             alloc,
             opening,
             sheet,
-            room: 4 * changes_for_copy(instance),
             word: Word::tracked(0, &mut first),
             seen,
         })

@@ -11,17 +11,16 @@ ghost use Rattle.ctt_desk.specs.Refusals.{IsUnread};
 
 use crate::drafting::Drafting;
 use crate::front::Front;
-use crate::kept::{Kept, draft_on};
 use crate::naming::Naming;
 use crate::receipt::Receipt;
 use crate::shared_fault::SharedFault;
-use crate::shown::{Place, enter};
+use crate::shown::{Place, Shown, enter};
 use ctt_board::{Sheet, Timetable};
 use ctt_core::PlannerNo;
-use ctt_draft::Keeping;
+use ctt_draft::Draft;
 use ctt_edits::{Look, Reply, laws};
 use ctt_text::NoMemory;
-use std::alloc::{AllocError, Global};
+use std::alloc::Global;
 use std::marker::Model;
 
 /// One who drafts. Contracts see the number, how many drafts were committed, and the front: the
@@ -33,8 +32,6 @@ pub struct Planner<S: Timetable, J: Naming> {
     pub(crate) front: Front<J>,
     /// It is there but while the planner reads.
     pub(crate) place: Option<Place<S, J>>,
-    /// The sheet of the last draft, for a draft to come, and room for it.
-    pub(crate) kept: Box<Option<Kept<S, J>>>,
 }
 
 // A derived `Drop` is proved anew in each crate above.
@@ -46,7 +43,6 @@ impl<S: Timetable, J: Naming> Drop for Planner<S, J> {
             committed: _,
             front: _,
             place: _,
-            kept: _,
         } = self;
     }
 }
@@ -67,25 +63,18 @@ impl<S: Timetable, J: Naming> Model for Planner<S, J> {
 
 impl<S: Timetable, J: Naming> Planner<S, J> {
     /// A planner of the desk who has committed nothing.
-    pub(crate) fn new(
-        alloc: Global,
-        number: u16,
-        front: &Front<J>,
-        place: Place<S, J>,
-    ) -> Result<Self, AllocError>
+    pub(crate) fn new(alloc: Global, number: u16, front: &Front<J>, place: Place<S, J>) -> Self
         requires number { number < J.planners }
         requires front { front.now ≡ [] }
-        ensures { IfOk result (λ planner. planner ≡ new_planner number) }
+        ensures { result ≡ new_planner number }
     {
-        let kept = Box::new(alloc, None)?;
-        Ok(Planner {
+        Planner {
             alloc,
             number: PlannerNo::new(number),
             committed: 0,
             front: front.again(),
             place: Some(place),
-            kept,
-        })
+        }
     }
 
     /// The planner's number.
@@ -126,15 +115,6 @@ impl<S: Timetable, J: Naming> Planner<S, J> {
         ensures shorter { IsTrue result ↔ (length self.now.front ≤ length history.now) }
     {
         self.front.begins(history)
-    }
-
-    /// The planner, who keeps a sheet.
-    pub(crate) fn keeping(self, kept: Kept<S, J>) -> Self
-        ensures { result ≡ self }
-    {
-        let mut planner = self;
-        *planner.kept = Some(kept);
-        planner
     }
 
     /// The planner, who has seen a history.
@@ -179,7 +159,7 @@ impl<S: Timetable, J: Naming> Planner<S, J> {
 
 impl<'i, S: Sheet<'i>, J: Naming> Planner<S, J> {
     /// Opens a draft on the timetable that was published last, which the planner has then seen.
-    pub fn open<K: Keeping>(self) -> Result<Drafting<'i, S, J, K>, (Self, SharedFault)>
+    pub fn open(self) -> Result<Drafting<'i, S, J>, (Self, SharedFault)>
         ensures ok { IfOk result (IsOpen J.problem J.opening self) }
         ensures err { IfErr result (λ refused.
             IsUnread J.problem J.opening self refused.0 refused.1) }
@@ -191,7 +171,7 @@ impl<'i, S: Sheet<'i>, J: Naming> Planner<S, J> {
                 Err((planner, SharedFault::NoPlace))
             }
             Ok((visit, seen)) => {
-                let opened = draft_on(planner.alloc, planner.kept.take(), visit.get(), &seen);
+                let opened = draft_on(planner.alloc, visit.get());
                 planner.place = Some(visit.leave());
                 planner.front = seen;
                 match opened {
@@ -222,6 +202,19 @@ impl<'i, S: Sheet<'i>, J: Naming> Planner<S, J> {
             }
         }
     }
+}
+
+/// A draft on a published timetable, in which nothing was asked yet.
+fn draft_on<'i, S: Sheet<'i>, J: Naming>(
+    alloc: Global,
+    shown: &Shown<S, J>,
+) -> Result<Box<Draft<'i, S>>, NoMemory>
+    ensures problem { IfOk result (λ draft. draft.value.problem ≡ shown.now.problem) }
+    ensures base { IfOk result (λ draft. draft.value.base ≡ shown.now.list) }
+    ensures asked { IfOk result (λ draft. draft.value.asked ≡ []) }
+{
+    let draft = Draft::open(alloc, &shown.sheet)?;
+    Ok(Box::new(alloc, draft)?)
 }
 
 /// What a look shows of a sheet.

@@ -7,22 +7,22 @@ ghost use Rattle.ctt_draft.specs.DraftValues.{refreshed};
 ghost use Rattle.ctt_desk.specs.Planners.{IsRefreshed};
 ghost use Rattle.ctt_desk.specs.Refusals.{IsNotRefreshed};
 
+use crate::base::settles_on_base;
 use crate::drafting::Drafting;
 use crate::front::Front;
-use crate::kept::Kept;
 use crate::naming::Naming;
 use crate::planner::Planner;
 use crate::refusal::RefreshRefusal;
 use crate::shown::{Shown, enter};
 use ctt_board::{Sheet, Timetable};
-use ctt_draft::{Draft, Keeping};
+use ctt_draft::Draft;
 use ctt_edits::Row;
-use ctt_text::NoMemory;
+use ctt_text::{NoMemory, let_go};
 
 /// Brings a draft up to date with a published timetable, as `Draft::refresh` does. Where that is
 /// the one on which the draft stands there is nothing to do.
-fn refresh_on<'i, S: Sheet<'i>, J: Naming, K: Keeping>(
-    draft: &mut Draft<'i, S, K>,
+fn refresh_on<'i, S: Sheet<'i>, J: Naming>(
+    draft: &mut Draft<'i, S>,
     front: &Front<J>,
     shown: &Shown<S, J>,
 ) -> Result<Option<Row>, NoMemory>
@@ -34,17 +34,17 @@ fn refresh_on<'i, S: Sheet<'i>, J: Naming, K: Keeping>(
     ensures err { OnErr result (draft.new ≡ draft.old) }
 {
     if front.is(&shown.front) {
-        draft.settles_on_base();
+        settles_on_base(draft);
         return Ok(None);
     }
     draft.refresh(&shown.sheet)
 }
 
-impl<'i, S: Sheet<'i>, J: Naming, K: Keeping> Drafting<'i, S, J, K> {
+impl<'i, S: Sheet<'i>, J: Naming> Drafting<'i, S, J> {
     /// Brings the draft up to date: where no row that it read has changed since it was opened, or
     /// last refreshed, it goes on from the timetable that was published last, which the planner has
     /// then seen.
-    pub fn refresh(self) -> Result<Self, RefreshRefusal<'i, S, J, K>>
+    pub fn refresh(self) -> Result<Self, RefreshRefusal<'i, S, J>>
         ensures ok { IfOk result (IsRefreshed J.problem J.opening self.entry) }
         ensures err { IfErr result (IsNotRefreshed J.problem J.opening self.entry) }
     {
@@ -66,9 +66,9 @@ impl<'i, S: Sheet<'i>, J: Naming, K: Keeping> Drafting<'i, S, J, K> {
                         Ok(Drafting { planner, draft })
                     }
                     Ok(Some(row)) => {
-                        let kept = Kept::of_base(draft, planner.front.again());
+                        let_go(draft);
                         planner.front = seen;
-                        Err(RefreshRefusal::Stale(planner.keeping(kept), row))
+                        Err(RefreshRefusal::Stale(planner, row))
                     }
                     Err(_) => Err(RefreshRefusal::NoMemory(Drafting { planner, draft })),
                 }

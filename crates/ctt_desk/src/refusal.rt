@@ -4,12 +4,11 @@ use crate::drafting::Drafting;
 use crate::naming::Naming;
 use crate::planner::Planner;
 use ctt_board::Timetable;
-use ctt_draft::{KeepAll, Keeping};
 use ctt_edits::Row;
 
 /// Why a draft was not accepted.
 #[derive(Drop)]
-pub enum Refusal<'i, S: Timetable, J: Naming, K: Keeping = KeepAll> {
+pub enum Refusal<'i, S: Timetable, J: Naming> {
     /// The planner has seen more drafts than the journal has, namely this many; or the journal has
     /// another number of this planner's drafts than the planner committed, namely this one. The
     /// draft has ended.
@@ -18,16 +17,16 @@ pub enum Refusal<'i, S: Timetable, J: Naming, K: Keeping = KeepAll> {
     /// last refreshed. The draft has ended.
     Stale(Planner<S, J>, Row),
     /// There is not enough memory. The draft is as it was.
-    NoMemory(Drafting<'i, S, J, K>),
+    NoMemory(Drafting<'i, S, J>),
 }
 
 /// Why a draft was not brought up to date.
 #[derive(Drop)]
-pub enum RefreshRefusal<'i, S: Timetable, J: Naming, K: Keeping = KeepAll> {
+pub enum RefreshRefusal<'i, S: Timetable, J: Naming> {
     /// `left_right` refused to enter. The draft is as it was.
-    NoPlace(Drafting<'i, S, J, K>),
+    NoPlace(Drafting<'i, S, J>),
     /// There is not enough memory. The draft is as it was.
-    NoMemory(Drafting<'i, S, J, K>),
+    NoMemory(Drafting<'i, S, J>),
     /// This row, the least of those that were read and have changed since the draft was opened, or
     /// last refreshed. The draft has ended.
     Stale(Planner<S, J>, Row),

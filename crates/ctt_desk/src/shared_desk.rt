@@ -13,22 +13,21 @@ use crate::named::Named;
 use crate::naming::Naming;
 use crate::opened::Opened;
 use crate::planner::Planner;
+use crate::publisher::Publisher;
 use crate::shared_fault::SharedFault;
-use crate::shown::{Common, Publisher, Shown, place, publisher};
-use crate::update::Update;
+use crate::shown::Shown;
 use ctt_board::Timetable;
-use ctt_draft::{KeepAll, Keeping};
 use ctt_text::let_go;
 use left_right::Absorb;
 use std::alloc::Global;
 use std::sync::{Mutex, Wait};
 
-/// A timetable on which planners work in threads, with a journal that is kept or not. It is ended by `close`.
-pub struct SharedDesk<S: Timetable, J: Naming, K: Keeping = KeepAll>
+/// A timetable on which planners work in threads. It is ended by `close`.
+pub struct SharedDesk<S: Timetable, J: Naming>
 where
-    Shown<S, J>: Absorb<Update<J>, State = Common>,
+    Shown<S, J>: Absorb<(), State = ()>,
 {
-    pub(crate) locked: Mutex<Locked<S, J, K>>,
+    pub(crate) locked: Mutex<Locked<S, J>>,
 }
 
 /// The planners with the numbers below this one, in order, each with a place.
@@ -36,7 +35,7 @@ fn planners<S: Timetable, J: Naming>(
     alloc: Global,
     count: u16,
     front: &Front<J>,
-    writer: &Publisher<S, J>,
+    publisher: &Publisher<S, J>,
 ) -> Result<Vec<Planner<S, J>>, SharedFault>
     requires count { count ≡ J.planners }
     requires front { front.now ≡ [] }
@@ -45,12 +44,10 @@ fn planners<S: Timetable, J: Naming>(
 {
     let mut planners = Vec::with_capacity(alloc, count as usize)?;
     for number in 0..count {
-        let Some(place) = place(writer) else {
+        let Some(place) = publisher.place() else {
             return Err(SharedFault::NoPlace);
         };
-        let Ok(planner) = Planner::new(alloc, number, front, place) else {
-            return Err(SharedFault::NoMemory);
-        };
+        let planner = Planner::new(alloc, number, front, place);
         if planners.push(planner).is_err() {
             return Err(SharedFault::NoMemory);
         }
@@ -80,7 +77,7 @@ fn fronts_are_legal<S: Timetable, J: Naming>(planners: &[Planner<S, J>])
     }
 }
 
-impl<S: Timetable, J: Naming, K: Keeping> SharedDesk<S, J, K> {
+impl<S: Timetable, J: Naming> SharedDesk<S, J> {
     /// The desk that opens so, with so many planners, who are numbered from 0 and have committed
     /// and seen nothing.
     pub fn new<R: Wait>(
@@ -99,16 +96,15 @@ impl<S: Timetable, J: Naming, K: Keeping> SharedDesk<S, J, K> {
             alloc,
             opening,
             sheet,
-            room,
             word,
             seen,
         } = opened;
         let (head, front) = first::<J>(word, seen);
         let counts = no_counts(alloc, count)?;
         let places = usize::from(count).max(1);
-        let writer = publisher(rt, alloc, sheet, &front, places, room)?;
-        let made = planners(alloc, count, &front, &writer);
-        let locked = Locked::new(alloc, opening, counts, front, head, writer);
+        let publisher = Publisher::new(rt, alloc, &sheet, &front, places)?;
+        let made = planners(alloc, count, &front, &publisher);
+        let locked = Locked::new(alloc, opening, counts, sheet, front, head, publisher);
         match made {
             Ok(planners) => {
                 let desk = SharedDesk {
@@ -129,7 +125,7 @@ impl<S: Timetable, J: Naming, K: Keeping> SharedDesk<S, J, K> {
         self,
         rt: &R,
         planners: &mut [Planner<S, J>],
-    ) -> Result<Closed<S, J, K>, Closed<S, J, K>>
+    ) -> Result<Closed<S, J>, Closed<S, J>>
         ensures same { planners.new ≡ planners.old }
         ensures legal { All (λ p. Legal J.problem J.opening p.front) planners.new }
         ensures ok { IfOk result (λ closed. All (λ p. IsPrefix p.front closed) planners.old) }

@@ -1,13 +1,13 @@
 -- A draft with one more call.
-use Rattle.std.proofs.Common.{◌≡◌, None, Bool, true, false, ◌||◌, List, [], ◌∷◌, ◌++◌, append-nil, refl, ◌∙◌, sym, ap, ap₂, subst, inl, inr}
-use Rattle.std.specs.List.{find, list_any, AllByRecursion as Each}
+use Rattle.std.proofs.Common.{◌≡◌, None, Bool, false, ◌||◌, List, [], ◌∷◌, ◌++◌, append-nil, refl, ◌∙◌, sym, ap, ap₂, subst, inl, inr}
+use Rattle.std.specs.List.{list_any, AllByRecursion as Each}
 use Rattle.std.proofs.lemmas.Bool.{cases_Bool}
 use Rattle.std.proofs.lemmas.List.{map-append, append-nil}
 use Rattle.ctt_text.specs.Problem.{Problem, course_count, slot_count}
 use Rattle.ctt_text.specs.declared.placed.Placed.{Placed}
 use Rattle.ctt_board.specs.Changes.{apply, ChangeFits, apply_all, ChangesFit}
 use Rattle.ctt_board.specs.declared.cell.Cell.{Cell}
-use Rattle.ctt_edits.specs.Calls.{CallFits, reply, cells_of, cells_if, reads_course, reads_slot, row}
+use Rattle.ctt_edits.specs.Calls.{CallFits, reply, cells_of, cells_if, reads_course, reads_slot}
 use Rattle.ctt_edits.specs.RowSets.{RowSet, is_in, AddsReads}
 use Rattle.ctt_edits.specs.declared.row.Row.{Row}
 use Rattle.ctt_edits.specs.declared.row.Row.TheVariants.{Course as CourseRow, Slot as SlotRow}
@@ -21,14 +21,11 @@ use Rattle.ctt_edits.specs.declared.reply.Reply.{Reply}
 use Rattle.ctt_edits.specs.declared.reply.Reply.TheVariants.{Done}
 use Rattle.ctt_edits.proofs.EditLemmas.{edits_fit}
 use Rattle.ctt_rules.specs.Hard.{Lawful}
-use Rattle.ctt_draft.specs.Drafts.{calls_of, after_call, replies, whole, made, changes, all_read_course, all_read_slot, all_reads, differs, stale}
-use Rattle.ctt_draft.specs.Endings.{RemainsValue, AreRemains}
+use Rattle.ctt_draft.specs.Drafts.{calls_of, after_call, replies, whole, made, changes, all_read_course, all_read_slot}
 use Rattle.ctt_draft.specs.DraftValues.{DraftValue, present, asked_more, IsTold, IsDraft}
 use Rattle.ctt_draft.specs.Undo.{undo_of, put_back, Records, AreWithin, UndoValue, all_noted}
 use Rattle.ctt_draft.specs.declared.asked.Asked.{Asked}
 use Rattle.ctt_draft.proofs.CallRuns.{replies-push, whole-push, changes-push, made_edit, whole_is, changes_fit}
-use Rattle.ctt_board.proofs.SameLemmas.{agree}
-use Rattle.ctt_draft.proofs.FrameLemmas.{differs_by}
 use Rattle.ctt_draft.proofs.UndoLemmas.{undo_made, undo_records, undo_puts_back}
 
 Each-push : {X : Type 0} (P : X → Type 0) (xs : List X) (x : X) → Each P xs → P x → Each P (xs ++ x ∷ [])
@@ -188,27 +185,3 @@ module _ (i k : Problem) (base here : List Placed) (asked : List Asked) (old : L
       let f' : EditFits i x = subst (λ (w : DraftValue). EditFits w.problem x) (sym e) f in
       let same' : cells ≡ change here x = subst (λ (w : DraftValue). cells ≡ change (present w) x) (sym e) same ∙ ap (λ u. change u x) (sym d.present_is) in
       subst (λ (u : UndoValue). AreWithin u.courses u.slots cells) (sym d.undo_is) (subst (λ cs. AreWithin (course_count i) (slot_count i) cs) (sym same') (change_within i here x f'))
-
--- what remains of a draft, by its value v
-module _ (i k : Problem) (here : List Placed) (asked : List Asked) (old : List (List Cell)) (undo : UndoValue) (rows : RowSet) (d : IsDraft i k (put_back i undo.cells here) here asked old undo rows) where
-  pub draft_remains : AreRemains k (put_back k undo.cells here) here undo
-  draft_remains = subst (λ j. AreRemains j (put_back j undo.cells here) here undo) (sym d.present_of) (record {
-    lawful_base = d.lawful_base;
-    courses_of = ap (λ (u : UndoValue). u.courses) d.undo_is;
-    slots_of = ap (λ (u : UndoValue). u.slots) d.undo_is;
-    records = records_base i k (put_back i undo.cells here) here asked old undo rows d;
-  })
-
-  pub remains_are : (v : DraftValue) → ◌≡◌ {A = DraftValue} (record { problem = i; base = put_back i undo.cells here; asked = asked }) v → ◌≡◌ {A = RemainsValue} (record { problem = k; base = put_back k undo.cells here; present = here }) (record { problem = v.problem; base = v.base; present = present v })
-  remains_are v e =
-      ap₂ (λ j t. record { problem = j; base = put_back j undo.cells here; present = t }) d.present_of d.present_is
-      ∙ ap (λ (w : DraftValue). record { problem = w.problem; base = w.base; present = present w }) e
-
--- nothing differs from itself
-none_differs : (t : List Placed) (rows : List Row) → find (differs t t) rows ≡ None
-none_differs t [] = refl
-none_differs t (r ∷ rows) = rw (sym (differs_by true t t r (agree (row r t ≡ row r t) refl))) (none_differs t rows)
-
--- a draft can be settled on its own base
-pub stale_on_base : (i : Problem) (base : List Placed) (calls : List Call) → stale i base base calls ≡ None
-stale_on_base i base calls = none_differs base (all_reads i calls)

@@ -6,7 +6,5 @@ pub mod FirstLemmas
 pub mod StaleLemmas
 pub mod UndoLemmas
 pub mod CompareLemmas
-mod TouchedLemmas
 pub mod ReplayLemmas
-pub mod PutBackLemmas
 pub mod RefreshLemmas

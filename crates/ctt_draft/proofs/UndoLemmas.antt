@@ -1,5 +1,5 @@
 -- An undo record: how it grows, and that it leads back to the base.
-use Rattle.std.proofs.Common.{◌≡◌, ℕ, ◌<◌, Bool, true, false, not, cond, ◌&&◌, ◌||◌, ◌==◌, List, [], ◌∷◌, ◌++◌, ◌+◌, map, drop, length, get_or, Option, append-nil, append_assoc, refl, ◌∙◌, sym, ap, ap₂, subst, arith, inl, inr}
+use Rattle.std.proofs.Common.{◌≡◌, ℕ, Bool, true, false, not, cond, ◌||◌, ◌==◌, List, [], ◌∷◌, ◌++◌, map, Option, append-nil, append_assoc, refl, ◌∙◌, sym, ap, ap₂, arith, inl, inr}
 use Rattle.std.specs.List.{filter, AllByRecursion as Each}
 use Rattle.std.proofs.lemmas.Bool.{cases_Bool, or_right, or_parts, and_parts, eqb-true}
 use Rattle.std.proofs.lemmas.Bool.Decides.{nat_tests}
@@ -13,13 +13,11 @@ use Rattle.ctt_text.specs.Timetable.{IsTimetable}
 use Rattle.ctt_text.specs.declared.placed.Placed.{Placed}
 use Rattle.ctt_board.specs.Changes.{room_at, room_by, apply, apply_all, ChangesFit}
 use Rattle.ctt_board.specs.declared.cell.Cell.{Cell}
-use Rattle.ctt_board.specs.MarkRows.{RowsOfMarks, is_marked_in, SetsMark}
-use Rattle.ctt_board.proofs.CellLemmas.{cell_at}
 use Rattle.ctt_board.proofs.RoomLemmas.{rooms_after}
 use Rattle.ctt_board.proofs.GridLemmas.{timetable_is, rows_same}
 use Rattle.ctt_draft.specs.Drafts.{made}
 use Rattle.ctt_draft.specs.Laws.{UndoPutsBack}
-use Rattle.ctt_draft.specs.Undo.{is_of, is_named, first_named, found_in, recorded, all_cells, undo_of, put_back, Records, noted, all_noted, IsUndo}
+use Rattle.ctt_draft.specs.Undo.{is_of, is_named, first_named, found_in, recorded, all_cells, undo_of, put_back, Records, noted, all_noted}
 
 -- of two cells, each names the other or neither does
 turned : (x y : Cell) → is_of y.course y.slot x ≡ is_of x.course x.slot y
@@ -149,31 +147,3 @@ undo_made i changes base (x ∷ xs) h = undo_more i changes base (x ∷ xs) h
 
 pub undo_puts_back : UndoPutsBack
 undo_puts_back i base changes h fit = put_back_is i base (apply_all changes base) (undo_of base changes) h (undo_records i changes base fit)
-
--- marks that are taken from cells, one by one, still tell of the others
-pub forgotten : (cells : List Cell) (k : ℕ) (x : Cell) (old new : RowsOfMarks) → k < length cells → x ≡ get_or cells k x → SetsMark old new x.slot x.course false →
-    ((c s : ℕ) → c < old.numbers → s < old.rows → is_marked_in old s c ≡ true → is_named c s (drop k cells) ≡ true) →
-    (c s : ℕ) → c < new.numbers → s < new.rows → is_marked_in new s c ≡ true → is_named c s (drop (k + 1) cells) ≡ true
-forgotten cells k x old new lt is set rest c s lc ls e =
-    elim (cases_Bool (s == x.slot && c == x.course)) [
-      | inl y ↦ absurd (let bad : true ≡ false = sym e ∙ set.marks s c ∙ ap (λ b. cond b false (is_marked_in old s c)) y in cc)
-      | inr n ↦ (
-          let there : is_marked_in old s c ≡ true = sym (ap (λ b. cond b false (is_marked_in old s c)) n) ∙ sym (set.marks s c) ∙ e in
-          let named : (is_of c s x || is_named c s (drop (k + 1) cells)) ≡ true = subst (λ ys. is_named c s ys ≡ true) (cell_at cells k x lt is) (rest c s (omega (arith, lc, set.numbers)) (omega (arith, ls, set.rows)) there) in
-          later (is_of c s x) (is_named c s (drop (k + 1) cells)) named (apart c s x n))
-    ]
-  where
-    later : (a b : Bool) → (a || b) ≡ true → a ≡ false → b ≡ true
-    later true b h k = cc
-    later false b h k = h
-
-    apart : (c s : ℕ) (x : Cell) → (s == x.slot && c == x.course) ≡ false → is_of c s x ≡ false
-    apart c s x n = grind (arith, nat_tests)
-
--- and then they tell of none
-pub none_left : (m : RowsOfMarks) → ((c s : ℕ) → c < m.numbers → s < m.rows → is_marked_in m s c ≡ true → false ≡ true) → IsUndo [] m
-none_left m none = record { within = tt; tells = λ c s lc ls. unmarked (is_marked_in m s c) (none c s lc ls) }
-  where
-    unmarked : (b : Bool) → (b ≡ true → false ≡ true) → b ≡ false
-    unmarked true h = sym (h refl)
-    unmarked false h = refl

@@ -1,10 +1,10 @@
 -- The base of a draft beside a sheet.
-use Rattle.std.specs.Prelude.{ℕ, ◌≡◌, ◌<◌, Bool, false, not, ◌&&◌, ◌||◌, ◌==◌, List}
+use Rattle.std.specs.Prelude.{ℕ, ◌≡◌, Bool, not, ◌&&◌, ◌==◌, List}
 use Rattle.std.specs.List.{list_any}
 use Rattle.std.specs.Option.{option_eq}
 use Rattle.ctt_text.specs.Marks.{is_marked}
 use Rattle.ctt_text.specs.Problem.{Problem, course_count, slot_count}
-use Rattle.ctt_text.specs.Timetable.{IsTimetable, course_row, slot_row}
+use Rattle.ctt_text.specs.Timetable.{IsTimetable}
 use Rattle.ctt_text.specs.declared.placed.Placed.{Placed}
 use Rattle.ctt_board.specs.Changes.{room_at}
 use Rattle.ctt_board.specs.declared.cell.Cell.{Cell}
@@ -20,30 +20,6 @@ has_other_in_course c t cells = list_any (λ (x : Cell). x.course == c && is_oth
 
 abbrev pub has_other_in_slot : ℕ → List Placed → List Cell → Bool
 has_other_in_slot s t cells = list_any (λ (x : Cell). x.slot == s && is_other t x) cells
-
--- some cell of these changes is of the course, or in the slot
-abbrev pub names_course : ℕ → List (List Cell) → Bool
-names_course c changes = list_any (λ cells. list_any (λ (x : Cell). x.course == c) cells) changes
-
-abbrev pub names_slot : ℕ → List (List Cell) → Bool
-names_slot s changes = list_any (λ cells. list_any (λ (x : Cell). x.slot == s) cells) changes
-
--- all courses and slots, or those that are marked
-pub record TouchedRows : Type 0 where
-  pub all : Bool
-  pub courses : List ℕ
-  pub slots : List ℕ
-
-abbrev pub touches_course : TouchedRows → ℕ → Bool
-touches_course touched c = touched.all || is_marked touched.courses c
-
-abbrev pub touches_slot : TouchedRows → ℕ → Bool
-touches_slot touched s = touched.all || is_marked touched.slots s
-
--- the rows of all other courses and slots of the instance are the same in two timetables
-pub record LeavesRest (i : Problem) (t u : List Placed) (touched : TouchedRows) : Type 0 where
-  pub courses : (c : ℕ) → c < course_count i → touches_course touched c ≡ false → course_row c t ≡ course_row c u
-  pub slots : (s : ℕ) → s < slot_count i → touches_slot touched s ≡ false → slot_row s t ≡ slot_row s u
 
 -- the present timetable with the recorded cells, which lead back to the base, and a sheet
 pub record Compared : Type 0 where
@@ -61,7 +37,7 @@ pub record IsComparable (v : Compared) : Type 0 where
   pub records : Records (base_of v) v.present v.undo
 
 -- what a comparison keeps: marks on the courses and the slots of cells that the sheet has otherwise
-pub record IsComparison (i p q : Problem) (present sheet : List Placed) (undo : UndoValue) (courses slots : List ℕ) (touched : TouchedRows) : Type 0 where
+pub record IsComparison (i p q : Problem) (present sheet : List Placed) (undo : UndoValue) (courses slots : List ℕ) : Type 0 where
   pub present_of : p ≡ i
   pub sheet_of : q ≡ i
   pub courses_of : undo.courses ≡ course_count i
@@ -69,4 +45,3 @@ pub record IsComparison (i p q : Problem) (present sheet : List Placed) (undo : 
   pub are : IsComparable (record { problem = i; present = present; undo = undo.cells; sheet = sheet })
   pub courses_are : (n : ℕ) → is_marked courses n ≡ has_other_in_course n sheet undo.cells
   pub slots_are : (n : ℕ) → is_marked slots n ≡ has_other_in_slot n sheet undo.cells
-  pub leaves_rest : LeavesRest i (put_back i undo.cells present) sheet touched

@@ -4,6 +4,3 @@ pub mod DraftValues
 pub mod Undo
 pub mod Comparisons
 pub mod Replays
-pub mod PutBack
-pub mod Endings
-pub mod Logs

@@ -1,11 +1,9 @@
 //! Calls with what was told.
 
-ghost use Rattle.std.specs.Prelude.{◌≡◌, ◌↔◌, ◌++◌, ◌∷◌, [], true, IsTrue, IfOk, OnOk, OnErr};
+ghost use Rattle.std.specs.Prelude.{◌≡◌, ◌↔◌, IsTrue, IfOk};
 ghost use Rattle.std.specs.List.{AllByRecursion as Each};
 ghost use Rattle.ctt_draft.specs.Drafts.{AskedFits};
 
-use crate::ghost_list::Tells;
-use crate::log::{Keeping, Log};
 use ctt_edits::{Call, Reply};
 use ctt_text::{Instance, NoMemory};
 use std::alloc::Global;
@@ -36,41 +34,6 @@ impl Asked {
     }
 }
 
-/// A call, and what was told.
-#[derive(Drop)]
-struct Telling<'a> {
-    call: &'a Call,
-    told: &'a Reply,
-}
-
-/// They are a call with its reply.
-struct AsAsked;
-
-impl<'a> Tells<Telling<'a>, Asked> for AsAsked {
-    ghost element = { λ t. record { call = t.call.now; reply = t.told.now } };
-}
-
-/// Adds a call and what was told, of which a copy is made where it is kept.
-pub(crate) fn push_told<K: Keeping>(
-    asked: &mut Log<Asked, K>,
-    call: Call,
-    told: &Reply,
-) -> Result<(), NoMemory>
-    requires room { asked.old.has_room ≡ true }
-    ensures ok { OnOk result (asked.new.list
-        ≡ asked.old.list ++ record { call = call; reply = told.now } ∷ []) }
-    ensures err { OnErr result (asked.new.list ≡ asked.old.list) }
-{
-    if K::keeps() {
-        let reply = told.copy()?;
-        asked.push(Asked { call, reply });
-    } else {
-        let telling = Telling { call: &call, told };
-        asked.push_unkept::<Telling, AsAsked>(&telling);
-    }
-    Ok(())
-}
-
 /// Calls with their replies, in order.
 pub struct AskedCalls {
     list: Vec<Asked>,
@@ -97,16 +60,6 @@ impl AskedCalls {
     pub fn new(list: Vec<Asked>) -> Self
         ensures { result ≡ list.items }
     {
-        AskedCalls { list }
-    }
-
-    /// The calls that a log has kept, in no more memory than they need.
-    pub fn of<K: Keeping>(asked: Log<Asked, K>) -> Self
-        requires { K.keeps ≡ true }
-        ensures { result ≡ asked.list }
-    {
-        let mut list = asked.into_vec();
-        list.shrink_to_fit();
         AskedCalls { list }
     }
 

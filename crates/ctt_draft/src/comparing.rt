@@ -12,9 +12,8 @@ ghost use Rattle.ctt_edits.specs.RowSets.{has_course, has_slot};
 ghost use Rattle.ctt_edits.specs.declared.row.Row.TheVariants.{Course as CourseRow, Slot as SlotRow};
 ghost use Rattle.ctt_draft.specs.Drafts.{differs};
 ghost use Rattle.ctt_draft.specs.Undo.{is_named, put_back, AreWithin, Records};
-ghost use Rattle.ctt_draft.specs.Comparisons.{base_of, has_other_in_course, has_other_in_slot, is_other, IsComparable, LeavesRest};
+ghost use Rattle.ctt_draft.specs.Comparisons.{base_of, has_other_in_course, has_other_in_slot, is_other, IsComparable};
 
-use crate::touched::Touched;
 use crate::undo::Undo;
 use ctt_board::{Cell, Rooms};
 use ctt_edits::RowsRead;
@@ -33,8 +32,6 @@ pub(crate) struct Comparison<'a, R: Rooms> {
     courses: Marks,
     /// Their slots.
     slots: Marks,
-    /// All other rows are the same.
-    touched: &'a Touched,
 }
 
 impl<'a, R: Rooms> Model for Comparison<'a, R> {
@@ -51,7 +48,7 @@ impl<'a, R: Rooms> Model for Comparison<'a, R> {
 
     ghost invariant = { λ c.
         IsComparison c.instance.now (R.problem c.present.now) (R.problem c.sheet.now)
-        (R.list c.present.now) (R.list c.sheet.now) c.undo.now c.courses c.slots c.touched.now };
+        (R.list c.present.now) (R.list c.sheet.now) c.undo.now c.courses c.slots };
 }
 
 /// Marks the course and the slot of a cell, if a timetable has another room there.
@@ -90,13 +87,7 @@ fn mark_others<R: Rooms>(cells: &[Cell], sheet: &R, courses: &mut Marks, slots: 
 
 impl<'a, R: Rooms> Comparison<'a, R> {
     /// The base to which an undo record leads back from the present timetable, beside a sheet.
-    pub(crate) fn new(
-        instance: &'a Instance,
-        present: &'a R,
-        undo: &'a Undo,
-        sheet: &'a R,
-        touched: &'a Touched,
-    ) -> Self
+    pub(crate) fn new(instance: &'a Instance, present: &'a R, undo: &'a Undo, sheet: &'a R) -> Self
         requires present { R.problem present.now ≡ instance.now }
         requires sheet { R.problem sheet.now ≡ instance.now }
         requires courses { undo.now.courses ≡ course_count instance.now }
@@ -105,8 +96,6 @@ impl<'a, R: Rooms> Comparison<'a, R> {
             (R.list present.now)) }
         requires records { Records (put_back instance.now undo.now.cells (R.list present.now))
             (R.list present.now) undo.now.cells }
-        requires rest { LeavesRest instance.now (put_back instance.now undo.now.cells
-            (R.list present.now)) (R.list sheet.now) touched.now }
         ensures { result ≡ record {
           problem = instance.now;
           present = R.list present.now;
@@ -126,7 +115,6 @@ impl<'a, R: Rooms> Comparison<'a, R> {
             sheet,
             courses,
             slots,
-            touched,
         }
     }
 
@@ -135,23 +123,6 @@ impl<'a, R: Rooms> Comparison<'a, R> {
         ensures { IsComparable self.now }
     {
         let _courses = &self.courses;
-    }
-
-    /// Whether the lectures of a course may differ.
-    fn touches_course(&self, course: CourseNo) -> bool
-        requires { course < course_count self.now.problem }
-        ensures { result ≡ false
-            → course_row course (base_of self.now) ≡ course_row course self.now.sheet }
-    {
-        self.touched.has_course(course)
-    }
-
-    /// Whether the lectures in a slot may differ.
-    fn touches_slot(&self, slot: SlotNo) -> bool
-        requires { slot < slot_count self.now.problem }
-        ensures { result ≡ false → slot_row slot (base_of self.now) ≡ slot_row slot self.now.sheet }
-    {
-        self.touched.has_slot(slot)
     }
 
     /// The instance.
@@ -195,9 +166,6 @@ impl<'a, R: Rooms> Comparison<'a, R> {
     {
         self.are_timetables();
         let instance = self.instance();
-        if !self.touches_course(course) {
-            return true;
-        }
         if self.has_other_in_course(course) {
             return false;
         }
@@ -217,9 +185,6 @@ impl<'a, R: Rooms> Comparison<'a, R> {
     {
         self.are_timetables();
         let instance = self.instance();
-        if !self.touches_slot(slot) {
-            return true;
-        }
         if self.has_other_in_slot(slot) {
             return false;
         }

@@ -13,17 +13,13 @@ ghost use Rattle.ctt_draft.specs.Replays.{replayed};
 ghost use Rattle.ctt_draft.specs.DraftValues.{present, asked_more, IsTold};
 ghost use Rattle.ctt_draft.specs.Undo.{undo_of};
 
-use crate::asked::{Asked, AskedCalls, push_told};
-use crate::boxed::{add, apply, boxed_copy, no_rows, note_cells};
-use crate::idle::Idle;
+use crate::asked::Asked;
 use crate::laws;
-use crate::log::{KeepAll, Keeping, Log};
-use crate::remains::Remains;
 use crate::undo::Undo;
 use crate::work::Work;
 use ctt_board::{Cell, Change, Rooms, Sheet, Timetable};
-use ctt_edits::{Call, Edit, Look, Reply, RowsRead, check, look_in};
-use ctt_text::{Instance, NoMemory, Placed};
+use ctt_edits::{Call, Edit, Look, Reply, RowsRead, check};
+use ctt_text::{Instance, NoMemory};
 use std::alloc::Global;
 use std::marker::Model;
 
@@ -32,17 +28,17 @@ mod staleness;
 /// The base, which is the timetable at the opening or at the last refresh, the calls since the opening with
 /// their replies, and the timetable as these leave it. Nobody else's later work is seen in it. Only the last
 /// of these timetables is kept; the undo record leads from it back to the base.
-pub struct Draft<'i, S: Timetable, K: Keeping> {
+pub struct Draft<'i, S: Timetable> {
     instance: &'i Instance,
-    present: Box<S>,
+    present: S,
     undo: Undo,
-    asked: Log<Asked, K>,
+    asked: Vec<Asked>,
     changes: Vec<Change>,
-    rows: Box<RowsRead>,
+    rows: RowsRead,
 }
 
 // A derived `Drop` is proved anew in each crate above.
-impl<'i, S: Timetable, K: Keeping> Drop for Draft<'i, S, K> {
+impl<'i, S: Timetable> Drop for Draft<'i, S> {
     fn drop(self) {
         let Draft {
             instance: _,
@@ -55,7 +51,7 @@ impl<'i, S: Timetable, K: Keeping> Drop for Draft<'i, S, K> {
     }
 }
 
-impl<'i, S: Timetable, K: Keeping> Model for Draft<'i, S, K> {
+impl<'i, S: Timetable> Model for Draft<'i, S> {
     ghost use Rattle.ctt_draft.specs.DraftValues.{DraftValue, IsDraft};
     ghost use Rattle.ctt_draft.specs.Undo.{put_back};
 
@@ -63,20 +59,17 @@ impl<'i, S: Timetable, K: Keeping> Model for Draft<'i, S, K> {
 
     ghost view = { λ d. record {
       problem = d.instance.now;
-      base = put_back d.instance.now d.undo.cells (S.list d.present.value);
-      asked = d.asked.list;
+      base = put_back d.instance.now d.undo.cells (S.list d.present);
+      asked = d.asked.items;
     } };
 
     ghost invariant = { λ d.
-        IsDraft d.instance.now (S.problem d.present.value)
-        (put_back d.instance.now d.undo.cells (S.list d.present.value)) (S.list d.present.value)
-        d.asked.list d.changes.items d.undo d.rows.value };
+        IsDraft d.instance.now (S.problem d.present)
+        (put_back d.instance.now d.undo.cells (S.list d.present)) (S.list d.present)
+        d.asked.items d.changes.items d.undo d.rows };
 }
 
-/// For how many calls a draft has room at first, as it mostly has several.
-const FIRST_ROOM: usize = 16;
-
-impl<'i, S: Sheet<'i>, K: Keeping> Draft<'i, S, K> {
+impl<'i, S: Sheet<'i>> Draft<'i, S> {
     /// A draft on the timetable of a sheet, in which nothing was asked yet.
     pub fn open(alloc: Global, sheet: &S) -> Result<Self, NoMemory>
         ensures problem { IfOk result (λ draft. draft.problem ≡ S.problem sheet.now) }
@@ -85,36 +78,16 @@ impl<'i, S: Sheet<'i>, K: Keeping> Draft<'i, S, K> {
     {
         sheet.lawful();
         let instance = sheet.instance();
-        let present = boxed_copy(alloc, sheet)?;
+        let present = sheet.copy()?;
         let undo = Undo::new(alloc, instance)?;
-        let rows = no_rows(alloc)?;
         Ok(Draft {
             instance,
             present,
             undo,
-            asked: Log::new(alloc),
+            asked: Vec::new(alloc),
             changes: Vec::new(alloc),
-            rows,
+            rows: RowsRead::new(),
         })
-    }
-
-    /// A draft on a timetable that was kept, in which nothing was asked yet. It takes no memory.
-    pub fn reopen(alloc: Global, idle: Idle<S>) -> Self
-        ensures problem { result.problem ≡ idle.problem }
-        ensures base { result.base ≡ idle.list }
-        ensures asked { result.asked ≡ [] }
-    {
-        idle.lawful();
-        let mut rows = idle.rows;
-        rows.clear();
-        Draft {
-            instance: idle.sheet.instance(),
-            present: idle.sheet,
-            undo: idle.undo,
-            asked: Log::new(alloc),
-            changes: Vec::new(alloc),
-            rows,
-        }
     }
 
     /// The instance.
@@ -122,6 +95,13 @@ impl<'i, S: Sheet<'i>, K: Keeping> Draft<'i, S, K> {
         ensures { result.now ≡ self.now.problem }
     {
         self.instance
+    }
+
+    /// The calls with their replies, in order.
+    pub fn asked(&self) -> &[Asked]
+        ensures { result.now ≡ self.now.asked }
+    {
+        self.asked.as_slice()
     }
 
     /// The changes that the calls made, in order. Replayed on a timetable on which the draft is not
@@ -148,7 +128,6 @@ impl<'i, S: Sheet<'i>, K: Keeping> Draft<'i, S, K> {
     }
 
     /// Adds a call that changes nothing, and what was told.
-    #[inline(always)]
     fn keep(&mut self, call: Call, told: &Reply) -> Result<(), NoMemory>
         requires fits { CallFits self.old.problem call }
         requires told { told.now ≡ reply self.old.problem (present self.old) call }
@@ -156,9 +135,9 @@ impl<'i, S: Sheet<'i>, K: Keeping> Draft<'i, S, K> {
         ensures ok { OnOk result (self.new ≡ asked_more self.old call told.now) }
         ensures err { OnErr result (self.new ≡ self.old) }
     {
-        self.asked.reserve(FIRST_ROOM)?;
-        push_told(&mut self.asked, call, told)?;
-        add(&mut self.rows, self.instance, &call);
+        let reply = told.copy()?;
+        self.asked.push(Asked { call, reply })?;
+        self.rows.add(self.instance, &call);
         Ok(())
     }
 
@@ -173,12 +152,12 @@ impl<'i, S: Sheet<'i>, K: Keeping> Draft<'i, S, K> {
         let call = Call::Edit(edit);
         self.present.lawful();
         self.changes.reserve(1)?;
-        self.asked.reserve(FIRST_ROOM)?;
-        note_cells(&mut self.undo, &self.present, change.cells())?;
-        apply(&mut self.present, &change);
-        add(&mut self.rows, self.instance, &call);
+        self.asked.reserve(1)?;
+        self.undo.record(&self.present, change.cells())?;
+        self.present.apply(&change);
+        self.rows.add(self.instance, &call);
         let reply = Reply::Done;
-        self.asked.push(Asked { call, reply });
+        self.asked.push(Asked { call, reply }).unwrap();
         self.changes.push(change).unwrap();
         Ok(())
     }
@@ -192,14 +171,14 @@ impl<'i, S: Sheet<'i>, K: Keeping> Draft<'i, S, K> {
     }
 
     /// Looks, and keeps what is shown.
-    fn look(&mut self, look: Look, spare: &mut Vec<Placed>) -> Result<Reply, NoMemory>
+    fn look(&mut self, look: Look) -> Result<Reply, NoMemory>
         requires fits { LookFits self.old.problem look }
         ensures ok { IfOk result (λ told.
             (told ≡ shown self.old.problem (present self.old) look)
             × (self.new ≡ asked_more self.old (Looks look) told)) }
         ensures err { OnErr result (self.new ≡ self.old) }
     {
-        let told = look_in(spare, self.present(), &look)?;
+        let told = ctt_edits::look(*self.changes.allocator(), self.present(), &look)?;
         self.keep(Call::Look(look), &told)?;
         Ok(told)
     }
@@ -226,23 +205,7 @@ impl<'i, S: Sheet<'i>, K: Keeping> Draft<'i, S, K> {
         }
     }
 
-    /// Makes a call. Where memory is wanted the call was not made, and nothing more was read. Lectures that
-    /// it is told are listed in the memory of a spare list, as `ctt_edits::look_in` does it.
-    pub fn call_in(&mut self, call: Call, spare: &mut Vec<Placed>) -> Result<Reply, NoMemory>
-        requires { CallFits self.old.problem call }
-        ensures ok { IfOk result (λ told.
-            (told ≡ reply self.old.problem (present self.old) call)
-            × (self.new ≡ asked_more self.old call told)) }
-        ensures err { OnErr result (self.new ≡ self.old) }
-    {
-        match call {
-            Call::Look(look) => self.look(look, spare),
-            Call::Edit(edit) => self.edit(&edit),
-        }
-    }
-
-    /// Makes a call, which is told in memory of its own. Where memory is wanted the call was not made, and
-    /// nothing more was read.
+    /// Makes a call. Where memory is wanted the call was not made, and nothing more was read.
     pub fn call(&mut self, call: Call) -> Result<Reply, NoMemory>
         requires { CallFits self.old.problem call }
         ensures ok { IfOk result (λ told.
@@ -250,8 +213,10 @@ impl<'i, S: Sheet<'i>, K: Keeping> Draft<'i, S, K> {
             × (self.new ≡ asked_more self.old call told)) }
         ensures err { OnErr result (self.new ≡ self.old) }
     {
-        let mut spare = Vec::new(*self.changes.allocator());
-        self.call_in(call, &mut spare)
+        match call {
+            Call::Look(look) => self.look(look),
+            Call::Edit(edit) => self.edit(&edit),
+        }
     }
 
     /// Computes nothing: its contract says that the base, and the timetable that the calls leave, are
@@ -265,67 +230,20 @@ impl<'i, S: Sheet<'i>, K: Keeping> Draft<'i, S, K> {
     }
 
     /// Ends the draft: its calls with their replies, and the changes that they made.
-    pub fn finish(self) -> Work<K>
-        ensures asked { result.asked.list ≡ self.entry.asked }
+    pub fn finish(self) -> Work
+        ensures asked { result.asked.items ≡ self.entry.asked }
         ensures changes { result.changes.items
             ≡ changes self.entry.problem self.entry.base (calls_of self.entry.asked) }
         ensures told { IsTold self.entry.problem self.entry.base self.entry.asked }
     {
-        let (work, _remains) = self.end();
-        work
-    }
-
-    /// Ends the draft, as `finish` does, and gives what remains of it beside its work, for who would
-    /// not drop it here.
-    pub fn end(self) -> (Work<K>, Remains<S>)
-        ensures asked { result.0.asked.list ≡ self.entry.asked }
-        ensures changes { result.0.changes.items
-            ≡ changes self.entry.problem self.entry.base (calls_of self.entry.asked) }
-        ensures told { IsTold self.entry.problem self.entry.base self.entry.asked }
-        ensures remains { result.1 ≡ record {
-          problem = self.entry.problem;
-          base = self.entry.base;
-          present = present self.entry;
-        } }
-    {
         let Draft {
             instance: _,
-            present,
-            undo,
+            present: _,
+            undo: _,
             asked,
             changes,
-            rows,
+            rows: _,
         } = self;
-        let work = Work { asked, changes };
-        let remains = Remains {
-            present,
-            undo,
-            rows,
-        };
-        (work, remains)
-    }
-
-    /// Ends the draft, and keeps its base for a draft to come. It takes no memory.
-    pub fn retire(self) -> Idle<S>
-        ensures { result ≡ record { problem = self.entry.problem; list = self.entry.base } }
-    {
-        let (_work, remains) = self.end();
-        remains.into_base()
-    }
-}
-
-impl<'i, S: Sheet<'i>> Draft<'i, S, KeepAll> {
-    /// The calls with their replies, in order.
-    pub fn asked(&self) -> &[Asked]
-        ensures { result.now ≡ self.now.asked }
-    {
-        self.asked.as_slice()
-    }
-
-    /// A copy of the calls with their replies, in order.
-    pub fn asked_again(&self, alloc: Global) -> Result<AskedCalls, NoMemory>
-        ensures { IfOk result (λ copy. copy ≡ self.now.asked) }
-    {
-        AskedCalls::copy_of(alloc, self.asked.as_slice())
+        Work { asked, changes }
     }
 }

@@ -82,26 +82,6 @@ impl Undo {
         note_all(&mut self.cells, &mut self.marks, rooms, cells);
         Ok(())
     }
-
-    /// Forgets all cells.
-    pub(crate) fn clear(&mut self)
-        ensures { self.new ≡ record self.old { cells = [] } }
-    {
-        forget_all(&mut self.marks, &self.cells);
-        self.cells.clear();
-    }
-}
-
-/// Forgets cells, which are all that are recorded.
-fn forget_all(marks: &mut MarkRows, cells: &[Cell])
-    requires { IsUndo cells.now marks.old }
-    ensures courses { marks.new.numbers ≡ marks.old.numbers }
-    ensures slots { marks.new.rows ≡ marks.old.rows }
-    ensures none { IsUndo [] marks.new }
-{
-    for cell in cells {
-        marks.unmark(cell.slot.get() as usize, cell.course.get() as usize);
-    }
 }
 
 /// Records a cell, if it is not recorded yet, with the room that is there.

@@ -4,23 +4,22 @@ ghost use Rattle.std.specs.Prelude.{◌≡◌};
 ghost use Rattle.ctt_board.specs.Changes.{apply_all, ChangesFit};
 
 use crate::asked::Asked;
-use crate::log::{Keeping, Log};
 use ctt_board::{Change, Timetable};
 
 /// The calls of a draft with their replies, and the changes that they made.
 #[derive(Drop)]
-pub struct Work<K: Keeping> {
-    pub asked: Log<Asked, K>,
+pub struct Work {
+    pub asked: Vec<Asked>,
     pub changes: Vec<Change>,
 }
 
-impl<K: Keeping> Work<K> {
+impl Work {
     /// Makes its changes on a sheet. It takes no memory.
     pub fn settle<S: Timetable>(&self, sheet: &mut S)
         requires { ChangesFit (S.problem sheet.old) self.now.changes.items (S.list sheet.old) }
         ensures problem { S.problem sheet.new ≡ S.problem sheet.old }
         ensures list { S.list sheet.new ≡ apply_all self.now.changes.items (S.list sheet.old) }
     {
-        sheet.apply_all(&self.changes, None);
+        sheet.apply_all(&self.changes);
     }
 }

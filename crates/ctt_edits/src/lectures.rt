@@ -41,14 +41,6 @@ impl Lectures {
         self.list.as_slice()
     }
 
-    /// The list itself.
-    pub fn into_vec(self) -> Vec<Placed>
-        ensures { result.items ≡ self }
-    {
-        let Lectures { list } = self;
-        list
-    }
-
     /// Equal lectures.
     pub(crate) fn copy(&self) -> Result<Self, NoMemory>
         ensures { IfOk result (λ lectures. lectures ≡ self.now) }

@@ -26,4 +26,4 @@ pub use reading::reads;
 pub use reply::Reply;
 pub use row::Row;
 pub use rows_read::RowsRead;
-pub use showing::{look, look_in};
+pub use showing::look;

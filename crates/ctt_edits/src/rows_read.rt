@@ -41,14 +41,6 @@ impl RowsRead {
         }
     }
 
-    /// Takes all rows out.
-    pub fn clear(&mut self)
-        ensures { (row : _) → is_in self.new row ≡ false }
-    {
-        self.courses = Marks::new();
-        self.slots = Marks::new();
-    }
-
     /// Adds the rows that a call reads.
     pub fn add(&mut self, instance: &Instance, call: &Call)
         requires { CallFits instance.now call.now }

@@ -22,14 +22,14 @@ adds written P old new answer is grown = on_ok_weaker written (λ g. (answer, is
 pub adds_also : {T E : Type 0} (written : Result T E) (P Q : List ℕ → Type 0) (old new : List ℕ) → ((answer : List ℕ) → P answer → Q answer) → OnOk written (Adds P old new) → OnOk written (Adds Q old new)
 adds_also written P Q old new also grown = on_ok_weaker written (λ a. (a.0, also a.0 a.1, a.2)) grown
 
-module _ {X Y Z : Type 0} (i : Problem) (t0 : List Placed) where
+module _ {X Y : Type 0} (i : Problem) (t0 : List Placed) where
   -- the history of a commit's receipt ends with the draft that was open
-  pub ends_with : (before after : Seat X Y Z) (history : List JournalEntry) (entry : List ℕ) → Commits i t0 before after (Ok history) → entry ≡ open_entry i before → EndsWith i history entry
+  pub ends_with : (before after : Seat X Y) (history : List JournalEntry) (entry : List ℕ) → Commits i t0 before after (Ok history) → entry ≡ open_entry i before → EndsWith i history entry
   ends_with (Free p) after history entry done is = absurd done
   ends_with (Drafting d) after history entry done is = (d.planner.front ++ done.1.between, entry_of d.planner.number d.asked, done.1.ends, is)
 
   -- a step that is no commit
-  pub no_commit : {B : Type 0} (book : Option B) (IsKept : List JournalEntry → Type 0) (event : Event) (before after : Seat X Y Z) (answer : List ℕ) → ((p : ℕ) → event ≡ Commit p → ⊥) → IsCrewAnswer i t0 event before after answer
+  pub no_commit : {B : Type 0} (book : Option B) (IsKept : List JournalEntry → Type 0) (event : Event) (before after : Seat X Y) (answer : List ℕ) → ((p : ℕ) → event ≡ Commit p → ⊥) → IsCrewAnswer i t0 event before after answer
       → IsStepAnswer book IsKept i t0 event before after answer
   no_commit book IsKept (Open p) before after answer other is = is
   no_commit book IsKept (Ask p call) before after answer other is = is
@@ -39,14 +39,14 @@ module _ {X Y Z : Type 0} (i : Problem) (t0 : List Placed) where
   no_commit book IsKept (Show look) before after answer other is = is
 
   -- a commit where no book is kept
-  pub no_book : {B : Type 0} (book : Option B) (IsKept : List JournalEntry → Type 0) (event : Event) (p : ℕ) (before after : Seat X Y Z) (answer : List ℕ) → book ≡ None → event ≡ Commit p → IsCrewAnswer i t0 event before after answer
+  pub no_book : {B : Type 0} (book : Option B) (IsKept : List JournalEntry → Type 0) (event : Event) (p : ℕ) (before after : Seat X Y) (answer : List ℕ) → book ≡ None → event ≡ Commit p → IsCrewAnswer i t0 event before after answer
       → IsStepAnswer book IsKept i t0 event before after answer
   no_book book IsKept event p before after answer none same is =
       let done = subst (λ e. IsCrewAnswer i t0 e before after answer) same is in
       subst (λ e. IsStepAnswer book IsKept i t0 e before after answer) (sym same) (subst (λ o. IsAnsweredBy o IsKept i t0 p before after answer) (sym none) done)
 
   -- a commit where one is
-  pub with_book : {B : Type 0} (book : Option B) (b : B) (IsKept : List JournalEntry → Type 0) (event : Event) (p : ℕ) (before after : Seat X Y Z) (answer : List ℕ) → book ≡ Some b → event ≡ Commit p
+  pub with_book : {B : Type 0} (book : Option B) (b : B) (IsKept : List JournalEntry → Type 0) (event : Event) (p : ℕ) (before after : Seat X Y) (answer : List ℕ) → book ≡ Some b → event ≡ Commit p
       → IsCommitAnswer IsKept i t0 before after answer → IsStepAnswer book IsKept i t0 event before after answer
   with_book book b IsKept event p before after answer some same is =
       subst (λ e. IsStepAnswer book IsKept i t0 e before after answer) (sym same) (subst (λ o. IsAnsweredBy o IsKept i t0 p before after answer) (sym some) is)

@@ -39,22 +39,22 @@ abbrev pub IsUntriedAnswer : Problem → List ℕ → Type 0
 IsUntriedAnswer i answer = (answer ≡ not_written) ⊎ (answer ≡ told_line i (Answered NoMemory))
 
 -- a commit is tried and answered, or not tried
-abbrev pub IsCommitAnswer : {X Y Z : Type 0} → (List JournalEntry → Type 0) → Problem → List Placed → Seat X Y Z → Seat X Y Z → List ℕ → Type 0
+abbrev pub IsCommitAnswer : {X Y : Type 0} → (List JournalEntry → Type 0) → Problem → List Placed → Seat X Y → Seat X Y → List ℕ → Type 0
 IsCommitAnswer IsKept i t0 before after answer =
     ((outcome : Result (List JournalEntry) Told) × Commits i t0 before after outcome × IsOutcomeAnswer IsKept i outcome answer)
     ⊎ ((after ≡ before) × IsUntriedAnswer i answer)
 
 -- a step is done, and answered as in a crew
-abbrev pub IsCrewAnswer : {X Y Z : Type 0} → Problem → List Placed → Event → Seat X Y Z → Seat X Y Z → List ℕ → Type 0
+abbrev pub IsCrewAnswer : {X Y : Type 0} → Problem → List Placed → Event → Seat X Y → Seat X Y → List ℕ → Type 0
 IsCrewAnswer i t0 event before after answer = (told : Told) × Takes i t0 event before after told × (answer ≡ told_line i told)
 
 -- a commit of planner p is answered: where no book is kept as in a crew
-abbrev pub IsAnsweredBy : {B X Y Z : Type 0} → Option B → (List JournalEntry → Type 0) → Problem → List Placed → ℕ → Seat X Y Z → Seat X Y Z → List ℕ → Type 0
+abbrev pub IsAnsweredBy : {B X Y : Type 0} → Option B → (List JournalEntry → Type 0) → Problem → List Placed → ℕ → Seat X Y → Seat X Y → List ℕ → Type 0
 IsAnsweredBy None IsKept i t0 p before after answer = IsCrewAnswer i t0 (Commit p) before after answer
 IsAnsweredBy (Some book) IsKept i t0 p before after answer = IsCommitAnswer IsKept i t0 before after answer
 
 -- a step is answered: all but commits as in a crew
-abbrev pub IsStepAnswer : {B X Y Z : Type 0} → Option B → (List JournalEntry → Type 0) → Problem → List Placed → Event → Seat X Y Z → Seat X Y Z → List ℕ → Type 0
+abbrev pub IsStepAnswer : {B X Y : Type 0} → Option B → (List JournalEntry → Type 0) → Problem → List Placed → Event → Seat X Y → Seat X Y → List ℕ → Type 0
 IsStepAnswer book IsKept i t0 (Open p) before after answer = IsCrewAnswer i t0 (Open p) before after answer
 IsStepAnswer book IsKept i t0 (Ask p call) before after answer = IsCrewAnswer i t0 (Ask p call) before after answer
 IsStepAnswer book IsKept i t0 (Commit p) before after answer = IsAnsweredBy book IsKept i t0 p before after answer
@@ -63,7 +63,7 @@ IsStepAnswer book IsKept i t0 (Abandon p) before after answer = IsCrewAnswer i t
 IsStepAnswer book IsKept i t0 (Show look) before after answer = IsCrewAnswer i t0 (Show look) before after answer
 
 -- a line is answered: by one line where it has words
-abbrev pub IsAnswer : {B X Y Z : Type 0} → Option B → (List JournalEntry → Type 0) → Problem → List Placed → SeatLine → Seat X Y Z → Seat X Y Z → List ℕ → Type 0
+abbrev pub IsAnswer : {B X Y : Type 0} → Option B → (List JournalEntry → Type 0) → Problem → List Placed → SeatLine → Seat X Y → Seat X Y → List ℕ → Type 0
 IsAnswer book IsKept i t0 Blank before after answer = (after ≡ before) × (answer ≡ [])
 IsAnswer book IsKept i t0 Leave before after answer = (after ≡ before) × (answer ≡ left_line)
 IsAnswer book IsKept i t0 Bad before after answer = (after ≡ before) × (answer ≡ bad_line)

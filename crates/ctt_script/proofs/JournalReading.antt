@@ -25,14 +25,10 @@ use Rattle.ctt_script.specs.declared.kinds.FaultKind.TheVariants as fault
 use Rattle.ctt_core.specs.declared.journal.JournalEntry.{JournalEntry}
 use Rattle.ctt_edits.specs.Fitting.{AreFew}
 use Rattle.ctt_text.specs.Left.{Left}
-use Rattle.ctt_text.specs.declared.placed.Placed.{Placed}
 use Rattle.ctt_edits.specs.Calls.{CallFits}
 use Rattle.ctt_edits.specs.declared.call.Call.{Call}
-use Rattle.ctt_core.specs.Audits.{IsVerdict}
-use Rattle.ctt_core.specs.declared.auditing.Verdict.{Verdict}
 use Rattle.ctt_core.specs.Entries.{EntryFits}
 use Rattle.ctt_script.specs.Entries.{IsShort, IsEntry}
-use Rattle.ctt_script.specs.AuditedText.{AuditsText, GivesVerdict}
 use Rattle.ctt_script.specs.JournalWords.{word, missing, reads, wants_memory}
 use Rattle.ctt_script.specs.CallPlaces.{course, room, teacher, curriculum, slot, edit_after, edit_form, look_after, call_after, call_form}
 use Rattle.ctt_script.specs.ReplyPlaces.{fault_after, fault_form, lecture, lectures, count, amount, costs, reply_after, reply_form}
@@ -215,21 +211,3 @@ module _ (i : Problem) (text : List ℕ) where
   pub gives_broken : (r : Result (Vec JournalEntry Global) JournalFault) → Returns r → (k : ℕ) (fault : JournalFault) → JournalBreaksAt i (words text) k fault → (r ≡ Err fault) ⊎ (r ≡ Err NoMemory)
   gives_broken (Ok list) h k fault b = ok_is_err _ list.items fault (sym h ∙ breaks_answer missing (journal_form i) (words text) k fault b)
   gives_broken (Err e) h k fault b = breaks e h k fault b
-
-  module _ (ls : List Placed) where
-    -- the same of what an audit finds
-    pub found_spelled : (r : Result Verdict JournalFault) → GivesVerdict i ls (words text) r → IfOk r (AuditsText i ls (words text))
-    found_spelled (Ok v) h = record { entries = h.0; spells = (reads_journals i (words text) h.0).0 h.1; found = h.2 }
-    found_spelled (Err e) h = tt
-
-    pub found_accepted : (r : Result Verdict JournalFault) → GivesVerdict i ls (words text) r → (t : List JournalEntry) → JournalSpells i (words text) t → MatchResult r (IsVerdict i ls t) (λ fault. fault ≡ NoMemory)
-    found_accepted (Ok v) h t s = subst (λ es. IsVerdict i ls es v) (ok_same {F = JournalFault} h.0 t (sym h.1 ∙ (reads_journals i (words text) t).1 s)) h.2
-    found_accepted (Err e) h t s = refuses e h t s
-
-    pub found_cause : IsUtf8 text → (r : Result Verdict JournalFault) → GivesVerdict i ls (words text) r → IfErr r (IsJournalCauseOf i text)
-    found_cause utf8 (Ok v) h = tt
-    found_cause utf8 (Err e) h = has_cause i text utf8 e h
-
-    pub found_broken : (r : Result Verdict JournalFault) → GivesVerdict i ls (words text) r → (k : ℕ) (fault : JournalFault) → JournalBreaksAt i (words text) k fault → (r ≡ Err fault) ⊎ (r ≡ Err NoMemory)
-    found_broken (Ok v) h k fault b = ok_is_err _ h.0 fault (sym h.1 ∙ breaks_answer missing (journal_form i) (words text) k fault b)
-    found_broken (Err e) h k fault b = breaks e h k fault b

@@ -13,5 +13,3 @@ pub mod ScriptPlaces
 pub mod ScriptText
 pub mod WrittenText
 pub mod WrittenWords
-pub mod Minutes
-pub mod AuditedText

@@ -1,8 +1,7 @@
 //! Running a script.
 
-ghost use Rattle.std.specs.Prelude.{◌≡◌, ◌⊎◌, ◌↔◌, ℕ, ◌+◌, ◌++◌, ◌∷◌, [], ◌<◌, ◌≤◌, List, length, true, false, Ok, Err, IfOk, IfErr, OnOk, OnErr, IfSome, Some, is_some, string_bytes};
+ghost use Rattle.std.specs.Prelude.{◌≡◌, ◌⊎◌, ◌↔◌, ℕ, ◌+◌, ◌++◌, ◌∷◌, [], ◌<◌, ◌≤◌, List, length, true, false, Ok, Err, IfOk, IfErr, OnOk, OnErr, IfSome, Some, string_bytes};
 ghost use Rattle.std.specs.List.{AllByRecursion as Each};
-ghost use Rattle.std.specs.Option.{option_map};
 ghost use Rattle.std.specs.Io.KnownBytes.{Appends};
 ghost use Rattle.std.specs.Str.{IsUtf8};
 ghost use Rattle.ctt_text.specs.Timetable.{Fits};
@@ -12,73 +11,41 @@ ghost use Rattle.ctt_core.specs.Runs.{EventFits};
 ghost use Rattle.ctt_core.specs.Laws.{Stands};
 ghost use Rattle.ctt_edits.specs.Openings.{opening};
 ghost use Rattle.ctt_core.specs.declared.desk_fault.DeskFault.TheVariants as desk_fault;
-ghost use Rattle.ctt_script.specs.AnswerText.{answer_text, answer_words, script_run};
+ghost use Rattle.ctt_script.specs.AnswerText.{answer_text, script_run};
 ghost use Rattle.ctt_script.specs.Answering.{Answered, IsAtRun, WritesOut, Wrote, WroteFront};
-ghost use Rattle.ctt_script.specs.Entries.{AnswerFits, IsWritable};
-ghost use Rattle.ctt_script.specs.Minutes.{IsMinuted, blank, noted};
+ghost use Rattle.ctt_script.specs.Entries.{IsWritable};
 ghost use Rattle.ctt_devices.specs.Output.{AppendsFront};
 ghost use Rattle.ctt_script.specs.RunFaults.{IsCauseOf, MayHaveWritten};
 ghost use Rattle.ctt_script.specs.ScriptText.{items_of, script};
-ghost use Rattle.ctt_script.specs.WrittenText.{line};
 ghost use Rattle.ctt_script.specs.declared.script_fault.ScriptFault.TheVariants as script_fault;
 
 use crate::answers::{write_answer, write_bad_line};
 use crate::lines::Lines;
-use crate::minutes::Minutes;
 use crate::script::{PLANNERS, has_words, read_line_of};
 use crate::script_fault::ScriptFault;
-use ctt_board::Sheet;
+use ctt_board::{GridSheet, Sheet};
 use ctt_core::{Answer, Desk, Event};
 use ctt_devices::{Failed, INPUT_LIMIT, Sink, Source, put_all, put_whole, read_all};
-use ctt_draft::Keeping;
 use ctt_text::{Instance, NoMemory, Placed, let_go};
-use std::alloc::{AllocError, Global};
+use std::alloc::Global;
 
 /// From how many bytes on answers are written out: few writes, and little room.
 const PIECE: usize = 32_768;
 
-/// Adds the line of an answer, and notes it where there are minutes.
-fn add_answer(
-    answers: &mut String,
-    minutes: &mut Option<Minutes>,
-    instance: &Instance,
-    event: &Event,
-    answer: &Answer,
-) -> Result<(), NoMemory>
-    requires event { IfSome minutes.old (λ m. EventFits instance.now (length m.drafts) event.now) }
-    requires answer { AnswerFits instance.now answer.now }
-    ensures written { OnOk result (string_bytes answers.new
-        ≡ string_bytes answers.old ++ line (answer_words instance.now answer.now)) }
-    ensures noted { OnOk result (minutes.new
-        ≡ option_map (noted instance.now event.now answer.now) minutes.old) }
-    ensures given { OnOk result (is_some minutes.new ≡ is_some minutes.old) }
-{
-    let before = answers.len();
-    write_answer(answers, instance, answer)?;
-    match minutes {
-        Some(minutes) => minutes.note(instance, event, answer, &answers.as_str()[before..]),
-        None => Ok(()),
-    }
-}
-
 /// Answers an event, and adds the line of the answer.
-fn answer_event<'i, S: Sheet<'i>, K: Keeping>(
-    desk: &mut Desk<'i, S, K>,
+fn answer_event<'i, S: Sheet<'i>>(
+    desk: &mut Desk<'i, S>,
     instance: &Instance,
     event: &Event,
     answers: &mut String,
-    minutes: &mut Option<Minutes>,
 ) -> Result<(), NoMemory>
     requires same { desk.old.problem ≡ instance.now }
     requires planners { length desk.old.drafts ≡ 64 }
     requires fits { EventFits instance.now 64 event.now }
     requires stands { IsAtRun desk.old }
-    requires minuted { IsMinuted instance.now desk.old minutes.old }
-    ensures answered { OnOk result
+    ensures { OnOk result
         (Answered desk.old desk.new (string_bytes answers.old) (string_bytes answers.new)
         (Some event.now ∷ [])) }
-    ensures minuted { OnOk result (IsMinuted instance.now desk.new minutes.new) }
-    ensures given { OnOk result (is_some minutes.new ≡ is_some minutes.old) }
 {
     instance.limits_hold();
     desk.lawful();
@@ -86,33 +53,28 @@ fn answer_event<'i, S: Sheet<'i>, K: Keeping>(
     if let Answer::NoMemory = answer {
         return Err(NoMemory);
     }
-    add_answer(answers, minutes, instance, event, &answer)?;
-    desk.reuse(answer);
+    write_answer(answers, instance, &answer)?;
     Ok(())
 }
 
 /// Adds the answer to a line, if the line has words.
-fn answer_line<'i, S: Sheet<'i>, K: Keeping>(
-    desk: &mut Desk<'i, S, K>,
+fn answer_line<'i, S: Sheet<'i>>(
+    desk: &mut Desk<'i, S>,
     instance: &Instance,
     line: &[u8],
     is_text: bool,
     answers: &mut String,
-    minutes: &mut Option<Minutes>,
 ) -> Result<(), NoMemory>
     requires text { is_text ≡ true → IsUtf8 line.now }
     requires same { desk.old.problem ≡ instance.now }
     requires planners { length desk.old.drafts ≡ 64 }
     requires stands { IsAtRun desk.old }
-    requires minuted { IsMinuted instance.now desk.old minutes.old }
-    ensures answered { OnOk result
+    ensures { OnOk result
         (Answered desk.old desk.new (string_bytes answers.old) (string_bytes answers.new)
         (items_of instance.now (line.now ∷ []))) }
-    ensures minuted { OnOk result (IsMinuted instance.now desk.new minutes.new) }
-    ensures given { OnOk result (is_some minutes.new ≡ is_some minutes.old) }
 {
     match read_line_of(instance, line, is_text) {
-        Some(event) => answer_event(desk, instance, &event, answers, minutes),
+        Some(event) => answer_event(desk, instance, &event, answers),
         None if has_words(line) => Ok(write_bad_line(answers)?),
         None => Ok(()),
     }
@@ -137,20 +99,16 @@ fn write_full<W: Sink>(writer: &mut W, answers: &mut String) -> Result<(), Faile
 }
 
 /// Answers the lines of a script, writes the answers, and passes them on.
-fn answer_lines<'i, S: Sheet<'i>, K: Keeping, W: Sink>(
+fn answer_lines<'i, S: Sheet<'i>, W: Sink>(
     alloc: Global,
-    desk: &mut Desk<'i, S, K>,
+    desk: &mut Desk<'i, S>,
     instance: &Instance,
     text: &[u8],
     writer: &mut W,
-    minutes: &mut Option<Minutes>,
 ) -> Result<(), ScriptFault>
     requires same { desk.old.problem ≡ instance.now }
     requires planners { length desk.old.drafts ≡ 64 }
     requires stands { IsAtRun desk.old }
-    requires minuted { IsMinuted instance.now desk.old minutes.old }
-    ensures minuted { OnOk result (IsMinuted instance.now desk.new minutes.new) }
-    ensures given { OnOk result (is_some minutes.new ≡ is_some minutes.old) }
     ensures written { OnOk result
         (Wrote desk.old desk.new (script instance.now text.now) (W.taken writer.old)
         (W.taken writer.new)) }
@@ -166,7 +124,7 @@ fn answer_lines<'i, S: Sheet<'i>, K: Keeping, W: Sink>(
     let is_text = str::from_utf8(text).is_ok();
     let mut answers = String::new(alloc);
     for line in Lines::new(text) {
-        answer_line(desk, instance, line, is_text, &mut answers, minutes)?;
+        answer_line(desk, instance, line, is_text, &mut answers)?;
         write_full(writer, &mut answers)?;
     }
     put_whole(writer, answers.as_bytes())?;
@@ -175,24 +133,21 @@ fn answer_lines<'i, S: Sheet<'i>, K: Keeping, W: Sink>(
 
 /// Runs a script of 64 planners on a desk whose opening timetable has these lectures, placed in their
 /// order, and writes the answers: a line for each line that has words. The desk is handed back as the
-/// script leaves it; whether it keeps its journal is the caller's choice, and so is whether minutes are written,
-/// which begin blank for 64 planners and are then those of the desk.
+/// script leaves it.
 ///
 /// The script is read whole before anything is written, and it is not read where the opening is
 /// refused. A flush that fails is a failed write. Where a write fails, or memory is wanted, a front of the
-/// answers may have been written, and the minutes are not to be used.
+/// answers may have been written.
 #[tactic(auto, using(crate::proofs::ScriptRuns::not_read))]
-pub fn run_script<'i, S: Sheet<'i>, K: Keeping, R: Source, W: Sink>(
+pub fn run_script<'i, R: Source, W: Sink>(
     alloc: Global,
     instance: &'i Instance,
     lectures: &[Placed],
     reader: &mut R,
     writer: &mut W,
-    minutes: &mut Option<Minutes>,
-) -> Result<Desk<'i, S, K>, ScriptFault>
+) -> Result<Desk<'i, GridSheet<'i>>, ScriptFault>
     requires fit { Each (Fits instance.now) lectures.now }
     requires unmarked { R.has_failed reader.old ≡ false }
-    requires blank { IfSome minutes.old (λ m. m ≡ blank 64) }
 
     ensures problem { IfOk result (λ desk. desk.problem ≡ instance.now) }
     ensures opening { IfOk result (λ desk. opening instance.now lectures.now ≡ Ok desk.opening) }
@@ -202,8 +157,6 @@ pub fn run_script<'i, S: Sheet<'i>, K: Keeping, R: Source, W: Sink>(
     ensures stands { IfOk result (λ desk. IfSome (R.left reader.old) (λ text.
         Stands desk (script_run instance.now desk.opening text))) }
     ensures entries { IfOk result (λ desk. IsWritable instance.now desk.journal) }
-    ensures minutes { IfOk result (λ desk. IsMinuted instance.now desk minutes.new) }
-    ensures given { OnOk result (is_some minutes.new ≡ is_some minutes.old) }
     ensures short { OnOk result (IfSome (R.left reader.old) (λ text. length text ≤ 67108864)) }
 
     ensures cause { IfErr result (λ fault.
@@ -227,7 +180,7 @@ pub fn run_script<'i, S: Sheet<'i>, K: Keeping, R: Source, W: Sink>(
         (answer_text instance.now t0 text))) }
 {
     instance.limits_hold();
-    let mut desk: Desk<'i, S, K> = Desk::new(alloc, instance, lectures, PLANNERS)?;
+    let mut desk: Desk<'i, GridSheet<'i>> = Desk::new(alloc, instance, lectures, PLANNERS)?;
     desk.lawful();
     let text = match read_all(alloc, reader, INPUT_LIMIT) {
         Ok(text) => text,
@@ -236,7 +189,7 @@ pub fn run_script<'i, S: Sheet<'i>, K: Keeping, R: Source, W: Sink>(
             return Err(ScriptFault::from(fault));
         }
     };
-    let answered = answer_lines(alloc, &mut desk, instance, &text, writer, minutes);
+    let answered = answer_lines(alloc, &mut desk, instance, &text, writer);
     let_go(text);
     match answered {
         Ok(()) => Ok(desk),

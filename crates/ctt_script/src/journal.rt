@@ -147,7 +147,7 @@ fn read_entries(
 }
 
 /// Reads a journal from a text.
-pub(crate) fn read_text(
+fn read_text(
     alloc: Global,
     instance: &Instance,
     text: &str,

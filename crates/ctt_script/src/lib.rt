@@ -3,16 +3,13 @@
 
 mod amounts;
 mod answers;
-mod audited;
 mod calls;
 mod engine;
-mod expected;
 mod gathered;
 mod journal;
 mod journal_fault;
 mod kinds;
 mod lines;
-mod minutes;
 mod places;
 mod replies;
 mod script;
@@ -20,13 +17,11 @@ mod script_fault;
 mod written;
 
 pub use answers::{write_answer, write_bad_line};
-pub use audited::audit_journal;
 pub use engine::run_script;
 pub use journal::{read_entry, read_journal};
 pub use journal_fault::JournalFault;
 pub use kinds::is_word;
 pub use lines::{Lines, line_end};
-pub use minutes::Minutes;
 pub use script::{PLANNERS, has_words, read_line, read_own_line, read_own_line_of};
 pub use script_fault::ScriptFault;
 pub use written::{write_costs, write_entry, write_fault, write_journal};

@@ -137,11 +137,7 @@ fn write_look(text: &mut String, instance: &Instance, look: &Look) -> Result<(),
 }
 
 /// Adds the line of a call.
-pub(crate) fn write_call(
-    text: &mut String,
-    instance: &Instance,
-    call: &Call,
-) -> Result<(), AllocError>
+fn write_call(text: &mut String, instance: &Instance, call: &Call) -> Result<(), AllocError>
     requires { CallFits instance.now call.now }
     ensures { OnOk result (string_bytes text.new
         ≡ string_bytes text.old ++ line (call_words instance.now call.now)) }
@@ -269,11 +265,7 @@ fn write_asked(text: &mut String, instance: &Instance, asked: &Asked) -> Result<
 }
 
 /// Adds the first line of an entry.
-pub(crate) fn write_entry_head(
-    text: &mut String,
-    planner: PlannerNo,
-    calls: u64,
-) -> Result<(), AllocError>
+fn write_entry_head(text: &mut String, planner: PlannerNo, calls: u64) -> Result<(), AllocError>
     ensures { OnOk result (string_bytes text.new
         ≡ string_bytes text.old ++ line (codes "entry" ∷ decimal planner ∷ decimal calls ∷ [])) }
 {

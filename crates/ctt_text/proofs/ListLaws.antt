@@ -171,7 +171,7 @@ pub place_below : {X : Type 0} (test : X → Bool) (xs : List X) → list_any te
 place_below test xs h = ltb-true (position_or_len test xs) (length xs) (any_by_place test xs ∙ h)
 
 -- the place of a name stays when names are added behind it
-pub place_kept : {X : Type 0} (test : X → Bool) (xs ys : List X) → list_any test xs ≡ true → position_or_len test (xs ++ ys) ≡ position_or_len test xs
+place_kept : {X : Type 0} (test : X → Bool) (xs ys : List X) → list_any test xs ≡ true → position_or_len test (xs ++ ys) ≡ position_or_len test xs
 place_kept test [] ys h = absurd (true≢false (sym h))
 place_kept test (x ∷ xs) ys h = by (test x) h (place_kept test xs ys)
   where

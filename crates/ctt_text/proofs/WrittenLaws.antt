@@ -55,7 +55,7 @@ pub decimal_word : (n : ℕ) → n < 2 ^ 64 → IsWord (decimal n)
 decimal_word n h = (decimal_nonempty n h, digits_not_blank (decimal n) (decimal_digits n h))
 
 -- names and their places
-pub none_before : (p : List ℕ → Bool) (xs : List (List ℕ)) → list_any p xs ≡ false → position_or_len p xs ≡ length xs
+none_before : (p : List ℕ → Bool) (xs : List (List ℕ)) → list_any p xs ≡ false → position_or_len p xs ≡ length xs
 none_before p [] h = refl
 none_before p (x ∷ xs) h = by (p x) h (none_before p xs)
   where

@@ -16,7 +16,6 @@ use Rattle.ctt_core.specs.declared.auditing.Verdict.{Verdict}
 use Rattle.ctt_core.specs.declared.auditing.Verdict.TheVariants as found
 use Rattle.ctt_core.specs.declared.journal.JournalEntry.{JournalEntry}
 use Rattle.ctt_core.specs.Desks.{DeskValue}
-use Rattle.ctt_script.specs.Minutes.{IsMinuted, MinutesValue, minutes_text}
 use Rattle.ctt_script.specs.RunFaults.{IsCauseOf}
 use Rattle.ctt_script.specs.WrittenText.{journal_text, line}
 use Rattle.ctt_script.specs.declared.script_fault.ScriptFault.{ScriptFault}
@@ -116,15 +115,3 @@ journal_stored (Some name) before later after told i entries kept accepted same_
     let holds = some_weaker (after (string_bytes name)) (λ bytes. bytes ≡ journal_text i entries) (λ bytes. IfSome told (λ text. bytes ≡ journal_text i (accepted text))) h.0
     (λ bytes is. journal_told told i entries kept accepted bytes same known is) in
     (holds, others_kept (Some name) before later after same_files h.1)
-
-is_other : false ≡ true → ⊥
-is_other e = let no : ◌≡◌ {A = ℕ} 0 1 = ap (λ b. cond b 1 0) e in omega (arith, no)
-
--- the minutes that are stored are the journal of the desk
-pub minutes_stored : (journal : Option (String Global)) (later after : Held) (minutes : Option MinutesValue) (i : Problem) (v : DeskValue) → is_some minutes ≡ is_some journal → IsMinuted i v minutes
-    → Stores journal later after (λ bytes. IfSome minutes (λ m. bytes ≡ minutes_text m)) → Stores journal later after (λ bytes. bytes ≡ journal_text i v.journal)
-minutes_stored None later after minutes i v given are stores = stores
-minutes_stored (Some name) later after None i v given are stores = absurd (is_other given)
-minutes_stored (Some name) later after (Some m) i v given are stores =
-    let text : minutes_text m ≡ journal_text i v.journal = ap₂ (λ n bytes. line (codes "journal" ∷ decimal n ∷ []) ++ (bytes ++ line (codes "END." ∷ []))) are.count are.entries in
-    (some_weaker (after (string_bytes name)) (λ bytes. bytes ≡ minutes_text m) (λ bytes. bytes ≡ journal_text i v.journal) stores.0 (λ bytes is. is ∙ text), stores.1)

@@ -1,24 +1,21 @@
 //! The command `audit`.
 
-ghost use Rattle.std.specs.Prelude.{◌≡◌, List, true, OnOk, IfOk, IfErr};
+ghost use Rattle.std.specs.Prelude.{◌≡◌, true, OnOk, IfOk, IfErr, IfSome};
 ghost use Rattle.std.specs.List.{AllByRecursion as Each};
-ghost use Rattle.std.specs.Str.{IsUtf8};
-ghost use Rattle.ctt_text.specs.Timetable.{Fits};
-ghost use Rattle.ctt_text.specs.Words.{words};
-ghost use Rattle.ctt_core.specs.declared.journal.JournalEntry.{JournalEntry};
-ghost use Rattle.ctt_script.specs.AuditedText.{AuditsText};
+ghost use Rattle.std.specs.String.{string_bytes};
+ghost use Rattle.ctt_core.specs.Entries.{EntryFits};
 ghost use Rattle.ctt_files.specs.Faults.{IfUnwritten};
 ghost use Rattle.ctt_tool.specs.Audits.{AuditsJournal, AuditsOn, FindsIn, IsVerdictFault, PrintsVerdict, VerdictFits};
-ghost use Rattle.ctt_tool.specs.Refusals.{IsNoJournalOf, IsOfAudit, IsOfAudited};
+ghost use Rattle.ctt_tool.specs.Refusals.{IsOfAudit, IsOfAudited, IsOfJournal};
 ghost use Rattle.ctt_tool.specs.Texts.{IsJournalText};
 
 use crate::refused::{refused_journal, refused_opening};
 use ctt_board::{GridSheet, Sheet};
-use ctt_core::Verdict;
+use ctt_core::{JournalEntry, Verdict, audit as audit_entries};
 use ctt_devices::Sink;
 use ctt_files::{Fault, Files, Outcome, fetch_instance, fetch_start, print, read_file};
-use ctt_script::{audit_journal, read_journal};
-use ctt_text::{Instance, Placed, let_go};
+use ctt_script::read_journal;
+use ctt_text::{Instance, let_go};
 use std::alloc::Global;
 
 /// Prints a verdict, unless it is that the opening is refused.
@@ -50,41 +47,28 @@ pub fn print_verdict<W: Sink>(
     }
 }
 
-/// What is found of the journal of a text.
-fn verdict_of<'i, S: Sheet<'i>>(
+/// The entries of the journal in a file.
+pub fn fetch_entries<F: Files>(
     alloc: Global,
-    instance: &'i Instance,
-    lectures: &[Placed],
-    text: &[u8],
-) -> Result<Verdict, Fault>
-    requires { Each (Fits instance.now) lectures.now }
-    ensures text { OnOk result (IsUtf8 text.now) }
-    ensures found { IfOk result (AuditsText instance.now lectures.now (words text.now)) }
-    ensures cause { IfErr result (IsNoJournalOf instance.now text.now) }
+    files: &mut F,
+    instance: &Instance,
+    journal: String,
+) -> Result<Vec<JournalEntry>, Fault>
+    ensures spelled { IfOk result (λ entries.
+        IfSome (F.held files.old (string_bytes journal)) (λ text.
+        IsJournalText instance.now text entries.items)) }
+    ensures fit { IfOk result (λ entries. Each (EntryFits instance.now) entries.items) }
+    ensures kept { F.held files.new ≡ F.held files.old }
+    ensures cause { IfErr result (IsOfJournal journal (F.held files.old) instance.now) }
 {
-    match audit_journal::<S>(alloc, instance, lectures, text) {
-        Ok(verdict) => Ok(verdict),
+    let text = read_file(alloc, files, journal)?;
+    match read_journal(alloc, instance, &text) {
+        Ok(entries) => Ok(entries),
         Err(fault) => Err(refused_journal(fault)),
     }
 }
 
-/// Refuses a text that is no journal.
-fn check_journal(alloc: Global, instance: &Instance, text: &[u8]) -> Result<(), Fault>
-    ensures journal { OnOk result ((entries : List JournalEntry)
-        × IsJournalText instance.now text.now entries) }
-    ensures cause { IfErr result (IsNoJournalOf instance.now text.now) }
-{
-    match read_journal(alloc, instance, text) {
-        Ok(entries) => {
-            let_go(entries);
-            Ok(())
-        }
-        Err(fault) => Err(refused_journal(fault)),
-    }
-}
-
-/// What is found of the journal in a file, which is audited as it is read. The file of the start is read behind that of
-/// the journal, and refused behind it.
+/// What is found of the journal in a file. The file of the start is read behind that of the journal, and refused behind it.
 fn fetch_verdict<'i, S: Sheet<'i>, F: Files>(
     alloc: Global,
     files: &mut F,
@@ -97,13 +81,19 @@ fn fetch_verdict<'i, S: Sheet<'i>, F: Files>(
     ensures kept { F.held files.new ≡ F.held files.old }
     ensures cause { IfErr result (IsOfAudited journal start (F.held files.old) instance.now) }
 {
-    let text = read_file(alloc, files, journal)?;
-    match fetch_start(alloc, files, instance, start) {
-        Ok(lectures) => verdict_of::<S>(alloc, instance, &lectures, &text),
+    let entries = fetch_entries(alloc, files, instance, journal)?;
+    let lectures = match fetch_start(alloc, files, instance, start) {
+        Ok(lectures) => lectures,
         Err(fault) => {
-            check_journal(alloc, instance, &text)?;
-            Err(fault)
+            let_go(entries);
+            return Err(fault);
         }
+    };
+    let found = audit_entries::<S>(alloc, instance, &lectures, &entries);
+    let_go(entries);
+    match found {
+        Ok(verdict) => Ok(verdict),
+        Err(_) => Err(Fault::NoMemory),
     }
 }
 

@@ -1,45 +1,20 @@
 //! The command `list`.
 
-ghost use Rattle.std.specs.Prelude.{◌≡◌, true, OnOk, IfOk, IfErr, IfSome};
+ghost use Rattle.std.specs.Prelude.{◌≡◌, true, OnOk, IfOk, IfErr};
 ghost use Rattle.std.specs.List.{AllByRecursion as Each};
-ghost use Rattle.std.specs.String.{string_bytes};
 ghost use Rattle.ctt_text.specs.Timetable.{Fits};
 ghost use Rattle.ctt_core.specs.Entries.{EntryFits};
 ghost use Rattle.ctt_files.specs.Faults.{IfUnwritten};
 ghost use Rattle.ctt_tool.specs.Lists.{ListsJournal, ListsOn, PrintsLeft};
-ghost use Rattle.ctt_tool.specs.Refusals.{IsLeftFault, IsOfAudit, IsOfAudited, IsOfJournal};
-ghost use Rattle.ctt_tool.specs.Texts.{IsJournalText};
+ghost use Rattle.ctt_tool.specs.Refusals.{IsLeftFault, IsOfAudit, IsOfAudited};
 
-use crate::audit::print_verdict;
-use crate::refused::refused_journal;
+use crate::audit::{fetch_entries, print_verdict};
 use ctt_board::{GridSheet, Sheet};
 use ctt_core::{JournalEntry, NoList, list_after};
 use ctt_devices::Sink;
-use ctt_files::{Fault, Files, Outcome, fetch_instance, fetch_start, print, read_file};
-use ctt_script::read_journal;
+use ctt_files::{Fault, Files, Outcome, fetch_instance, fetch_start, print};
 use ctt_text::{Instance, Placed, let_go, write_solution};
 use std::alloc::Global;
-
-/// The entries of the journal in a file.
-fn fetch_entries<F: Files>(
-    alloc: Global,
-    files: &mut F,
-    instance: &Instance,
-    journal: String,
-) -> Result<Vec<JournalEntry>, Fault>
-    ensures spelled { IfOk result (λ entries.
-        IfSome (F.held files.old (string_bytes journal)) (λ text.
-        IsJournalText instance.now text entries.items)) }
-    ensures fit { IfOk result (λ entries. Each (EntryFits instance.now) entries.items) }
-    ensures kept { F.held files.new ≡ F.held files.old }
-    ensures cause { IfErr result (IsOfJournal journal (F.held files.old) instance.now) }
-{
-    let text = read_file(alloc, files, journal)?;
-    match read_journal(alloc, instance, &text) {
-        Ok(entries) => Ok(entries),
-        Err(fault) => Err(refused_journal(fault)),
-    }
-}
 
 /// Prints the timetable that entries leave on the opening with these lectures, or what an audit finds.
 fn print_left<'i, S: Sheet<'i>, W: Sink>(

@@ -1,13 +1,14 @@
 //! The command `run`.
 
-ghost use Rattle.std.specs.Prelude.{◌≡◌, ◌⊎◌, ◌≤◌, length, true, false, is_some, Ok, OnOk, IfOk, IfErr, IfSome};
+ghost use Rattle.std.specs.Prelude.{◌≡◌, ◌⊎◌, ◌≤◌, length, true, false, Ok, OnOk, IfOk, IfErr, IfSome};
 ghost use Rattle.std.specs.Io.KnownBytes.{Appends};
 ghost use Rattle.std.specs.List.{AllByRecursion as Each};
 ghost use Rattle.ctt_text.specs.Timetable.{Fits};
 ghost use Rattle.ctt_edits.specs.Openings.{opening};
 ghost use Rattle.ctt_core.specs.Runs.{accepted_of};
 ghost use Rattle.ctt_script.specs.AnswerText.{answer_text, script_run};
-ghost use Rattle.ctt_script.specs.Minutes.{IsMinuted, blank, minutes_text};
+ghost use Rattle.ctt_script.specs.Entries.{IsWritable};
+ghost use Rattle.ctt_script.specs.WrittenText.{journal_text};
 ghost use Rattle.ctt_files.specs.Faults.{IfUnwritten, MayHaveWritten};
 ghost use Rattle.ctt_files.specs.declared.fault.Fault.TheVariants.{NoMemory as OutOfMemory};
 ghost use Rattle.ctt_files.specs.declared.outcome.Outcome.TheVariants.{Done};
@@ -17,13 +18,12 @@ ghost use Rattle.ctt_tool.specs.Refusals.{IsAnswerFault, IsOfRun, IsOfScript};
 ghost use Rattle.ctt_tool.specs.Runs.{KeepOthers, RunsOn, RunsScript, Stores};
 
 use crate::refused::refused_opening;
-use ctt_board::{GridSheet, Sheet};
-use ctt_core::Desk;
+use ctt_board::GridSheet;
+use ctt_core::{Desk, JournalEntry};
 use ctt_devices::{Sink, Source};
-use ctt_draft::KeepNone;
 use ctt_files::{Fault, Files, Outcome, fetch_instance, fetch_start};
-use ctt_script::{Minutes, PLANNERS, ScriptFault, run_script};
-use ctt_text::{Instance, NoMemory, Placed, let_go};
+use ctt_script::{ScriptFault, run_script, write_journal};
+use ctt_text::{Instance, Placed, let_go};
 use std::alloc::Global;
 
 /// The fault of the run of the script in a file.
@@ -41,27 +41,24 @@ fn fault_of_run(alloc: Global, instance: &Instance, fault: ScriptFault, script: 
 }
 
 /// Runs a script on a desk that opens with these lectures, and prints the answers. The script is read
-/// from a file of this name. The desk keeps no journal: where one is wanted the minutes are it.
-fn answer<'i, S: Sheet<'i>, R: Source, W: Sink>(
+/// from a file of this name.
+fn answer<'i, R: Source, W: Sink>(
     alloc: Global,
     instance: &'i Instance,
     lectures: &[Placed],
     script: &mut R,
     name: String,
     out: &mut W,
-    minutes: &mut Option<Minutes>,
-) -> Result<Desk<'i, S, KeepNone>, Fault>
+) -> Result<Desk<'i, GridSheet<'i>>, Fault>
     requires fit { Each (Fits instance.now) lectures.now }
     requires unread { R.has_failed script.old ≡ false }
-    requires blank { IfSome minutes.old (λ m. m ≡ blank 64) }
 
     ensures opening { IfOk result (λ desk. opening instance.now lectures.now ≡ Ok desk.opening) }
     ensures prints { IfOk result (λ desk. IfSome (R.left script.old) (λ text.
         Appends (W.taken out.old) (W.taken out.new) (answer_text instance.now desk.opening text))) }
     ensures journal { IfOk result (λ desk. IfSome (R.left script.old) (λ text.
         desk.journal ≡ accepted_of (script_run instance.now desk.opening text))) }
-    ensures minutes { IfOk result (λ desk. IsMinuted instance.now desk minutes.new) }
-    ensures given { OnOk result (is_some minutes.new ≡ is_some minutes.old) }
+    ensures entries { IfOk result (λ desk. IsWritable instance.now desk.journal) }
     ensures short { OnOk result (IfSome (R.left script.old) (λ text. length text ≤ 67108864)) }
     ensures unmarked { OnOk result (W.has_failed out.new ≡ W.has_failed out.old) }
 
@@ -71,34 +68,24 @@ fn answer<'i, S: Sheet<'i>, R: Source, W: Sink>(
         × (W.has_failed out.new ≡ W.has_failed out.old))) }
     ensures unwritten { IfErr result (λ fault. MayHaveWritten fault ⊎ (out.new ≡ out.old)) }
 {
-    match run_script(alloc, instance, lectures, script, out, minutes) {
+    match run_script(alloc, instance, lectures, script, out) {
         Ok(desk) => Ok(desk),
         Err(fault) => Err(fault_of_run(alloc, instance, fault, name)),
     }
 }
 
-/// Blank minutes for the planners of a script, where a file is given for a journal.
-fn minutes_for(alloc: Global, journal: &Option<String>) -> Result<Option<Minutes>, NoMemory>
-    ensures blank { IfOk result (λ minutes. IfSome minutes (λ m. m ≡ blank 64)) }
-    ensures given { IfOk result (λ minutes. is_some minutes ≡ is_some journal.now) }
-{
-    if journal.is_some() {
-        Ok(Some(Minutes::new(alloc, PLANNERS)?))
-    } else {
-        Ok(None)
-    }
-}
-
-/// Stores a journal where a file is given for it, with which a run is done. No other file is written.
+/// Stores the journal of these entries where a file is given for it, with which a run is done. No other file is written.
 fn store_journal<F: Files>(
+    alloc: Global,
     files: &mut F,
+    instance: &Instance,
     journal: Option<String>,
-    minutes: Option<Minutes>,
+    entries: &[JournalEntry],
 ) -> Result<Outcome, Fault>
-    requires { is_some minutes ≡ is_some journal }
+    requires { IsWritable instance.now entries.now }
     ensures done { IfOk result (λ outcome. outcome ≡ Done) }
     ensures stores { OnOk result (Stores journal (F.held files.old) (F.held files.new) (λ bytes.
-        IfSome minutes (λ m. bytes ≡ minutes_text m))) }
+        bytes ≡ journal_text instance.now entries.now)) }
     ensures fault { IfErr result (λ fault. IfUnwritten fault
         (IsGiven journal)
         ((fault ≡ OutOfMemory) × (F.held files.new ≡ F.held files.old))) }
@@ -107,23 +94,20 @@ fn store_journal<F: Files>(
     let Some(name) = journal else {
         return Ok(Outcome::Done);
     };
-    let Some(minutes) = minutes else {
-        unreachable!()
-    };
-    let text = minutes.into_text()?;
+    let text = write_journal(alloc, instance, entries)?;
     match files.store(&name, &text) {
         Ok(()) => Ok(Outcome::Done),
         Err(_) => Err(Fault::CannotWrite),
     }
 }
 
-/// Runs the script in a file on a desk of this kind of sheet. The file is opened first, then the one of
+/// Runs the script in a file on a desk. The file is opened first, then the one of
 /// the start is read, and then the script.
-fn run_on<'i, S: Sheet<'i>, F: Files, W: Sink>(
+fn run_on<F: Files, W: Sink>(
     alloc: Global,
     files: &mut F,
     out: &mut W,
-    instance: &'i Instance,
+    instance: &Instance,
     script: String,
     start: Option<String>,
     journal: Option<String>,
@@ -147,17 +131,8 @@ fn run_on<'i, S: Sheet<'i>, F: Files, W: Sink>(
         return Err(Fault::CannotRead(script));
     };
     let lectures = fetch_start(alloc, files, instance, start)?;
-    let mut minutes = minutes_for(alloc, &journal)?;
-    let _desk: Desk<'i, S, KeepNone> = answer(
-        alloc,
-        instance,
-        &lectures,
-        &mut input,
-        script,
-        out,
-        &mut minutes,
-    )?;
-    store_journal(files, journal, minutes)
+    let desk = answer(alloc, instance, &lectures, &mut input, script, out)?;
+    store_journal(alloc, files, instance, journal, desk.journal())
 }
 
 /// Runs a script on a desk of an instance, and prints the answers; then stores the journal of the drafts
@@ -188,7 +163,7 @@ pub fn run<F: Files, W: Sink>(
     ensures others { KeepOthers journal (F.held files.old) (F.held files.new) }
 {
     let instance = fetch_instance(alloc, files, instance, barred)?;
-    let done = run_on::<GridSheet, F, W>(alloc, files, out, &instance, script, start, journal);
+    let done = run_on(alloc, files, out, &instance, script, start, journal);
     let_go(instance);
     done
 }

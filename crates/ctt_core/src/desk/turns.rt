@@ -1,10 +1,9 @@
 //! The turns of a desk: what it does at each event.
 
-ghost use Rattle.std.specs.Prelude.{◌≡◌, ◌⊎◌, ℕ, ◌+◌, ◌<◌, true, false, length, None};
+ghost use Rattle.std.specs.Prelude.{◌≡◌, ◌⊎◌, ◌+◌, ◌<◌, length, None};
 ghost use Rattle.ctt_edits.specs.Calls.{CallFits};
 ghost use Rattle.ctt_edits.specs.Looks.{LookFits};
 ghost use Rattle.ctt_core.specs.Runs.{EventFits};
-ghost use Rattle.ctt_core.specs.Stocks.{seen_at};
 ghost use Rattle.ctt_core.specs.Desks.{IsAnswerTo, goes_on, draft_at, with_draft, IsFresh};
 ghost use Rattle.ctt_core.specs.declared.answer.Answer.TheVariants.{Committed, NoMemory as OutOfMemory};
 ghost use Rattle.ctt_core.specs.declared.event.Event.TheVariants.{Open, Ask, Commit, Refresh, Abandon, Show};
@@ -12,27 +11,13 @@ ghost use Rattle.ctt_core.specs.declared.event.Event.TheVariants.{Open, Ask, Com
 use crate::answer::Answer;
 use crate::desk::Desk;
 use crate::event::Event;
-use crate::journal::enter;
+use crate::journal::JournalEntry;
 use crate::planner::PlannerNo;
 use ctt_board::{Rooms, Sheet};
-use ctt_draft::Keeping;
-use ctt_edits::{Call, Look, look_in};
+use ctt_draft::{AskedCalls, Draft};
+use ctt_edits::{Call, Look};
 
-/// Forgets how many changes each draft has seen, unless these are known.
-#[tactic(auto, using(crate::proofs::StockLemmas::refilled))]
-fn forget_unless(known: bool, seen: &mut Vec<Option<usize>>)
-    ensures length { length seen.new.items ≡ length seen.old.items }
-    ensures kept { known ≡ true → seen.new.items ≡ seen.old.items }
-    ensures none { known ≡ false → (p : ℕ) → seen_at seen.new.items p ≡ None }
-{
-    if !known {
-        let count = seen.len();
-        seen.clear();
-        seen.resize(count, None).unwrap();
-    }
-}
-
-impl<'i, S: Sheet<'i>, K: Keeping> Desk<'i, S, K> {
+impl<'i, S: Sheet<'i>> Desk<'i, S> {
     /// Opens a draft.
     fn open(&mut self, planner: PlannerNo) -> Answer
         requires { planner < length self.old.drafts }
@@ -43,10 +28,9 @@ impl<'i, S: Sheet<'i>, K: Keeping> Desk<'i, S, K> {
         if self.drafts[place].is_some() {
             return Answer::AlreadyOpen;
         }
-        match self.stock.open(*self.opening.allocator()) {
+        match Draft::open(*self.opening.allocator(), &self.sheet) {
             Ok(draft) => {
                 self.drafts[place] = Some(draft);
-                self.seen[place] = Some(self.stock.latest());
                 Answer::Opened
             }
             Err(_) => Answer::NoMemory,
@@ -64,22 +48,19 @@ impl<'i, S: Sheet<'i>, K: Keeping> Desk<'i, S, K> {
         let draft = &mut self.drafts[place];
         match draft {
             None => Answer::NoDraft,
-            Some(draft) => match draft.call_in(call, &mut self.spare) {
+            Some(draft) => match draft.call(call) {
                 Ok(told) => Answer::Replied(told),
                 Err(_) => Answer::NoMemory,
             },
         }
     }
 
-    /// Ends a planner's draft, if he has one, and keeps its sheet.
+    /// Ends a planner's draft, if he has one.
     fn give_up(&mut self, planner: PlannerNo)
         requires { planner < length self.old.drafts }
         ensures { self.new ≡ with_draft planner None self.old }
     {
-        let place = planner.get() as usize;
-        if let Some(draft) = self.drafts[place].take() {
-            self.stock.retire(draft, self.seen[place]);
-        }
+        self.drafts[planner.get() as usize] = None;
     }
 
     /// Gives a draft up.
@@ -102,7 +83,7 @@ impl<'i, S: Sheet<'i>, K: Keeping> Desk<'i, S, K> {
         ensures answer { IsAnswerTo self.old (Show look.now) result }
         ensures goes_on { self.new ≡ goes_on self.old (Show look.now) result }
     {
-        match look_in(&mut self.spare, self.stock.sheet(), look) {
+        match ctt_edits::look(*self.opening.allocator(), &self.sheet, look) {
             Ok(told) => Answer::Replied(told),
             Err(_) => Answer::NoMemory,
         }
@@ -120,11 +101,13 @@ impl<'i, S: Sheet<'i>, K: Keeping> Desk<'i, S, K> {
         if self.journal.reserve(1).is_err() {
             return Answer::NoMemory;
         }
-        let draft = self.drafts[place].take().unwrap();
-        let (asked, known) = self.stock.settle(draft, self.seen[place]);
-        forget_unless(known, &mut self.seen);
-        enter(&mut self.journal, planner, asked);
-        Answer::Committed(self.journal.len())
+        let work = self.drafts[place].take().unwrap().finish();
+        work.settle(&mut self.sheet);
+        let mut list = work.asked;
+        list.shrink_to_fit();
+        let asked = AskedCalls::new(list);
+        self.journal.push(JournalEntry { planner, asked }).unwrap();
+        Answer::Committed(self.journal.len() as u64)
     }
 
     /// Accepts a draft, or refuses it where it is stale.
@@ -136,7 +119,7 @@ impl<'i, S: Sheet<'i>, K: Keeping> Desk<'i, S, K> {
         let place = planner.get() as usize;
         let found = match &self.drafts[place] {
             None => return Answer::NoDraft,
-            Some(draft) => self.stock.stale(draft, self.seen[place]),
+            Some(draft) => draft.stale(&self.sheet).unwrap(),
         };
         match found {
             Some(row) => {
@@ -154,21 +137,16 @@ impl<'i, S: Sheet<'i>, K: Keeping> Desk<'i, S, K> {
         ensures goes_on { self.new ≡ goes_on self.old (Refresh planner) result }
     {
         let place = planner.get() as usize;
-        let seen = self.seen[place];
         let draft = &mut self.drafts[place];
         match draft {
             None => Answer::NoDraft,
-            Some(draft) => match self.stock.refresh(draft, seen) {
+            Some(draft) => match draft.refresh(&self.sheet) {
                 Err(_) => Answer::NoMemory,
                 Ok(Some(row)) => {
                     self.give_up(planner);
                     Answer::Stale(row)
                 }
-                Ok(None) => {
-                    let latest = self.stock.latest();
-                    self.seen[place] = Some(latest);
-                    Answer::Refreshed
-                }
+                Ok(None) => Answer::Refreshed,
             },
         }
     }

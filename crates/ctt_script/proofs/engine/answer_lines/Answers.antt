@@ -20,8 +20,6 @@ loop-line-init g c =
     let first : c.into_iter-line-iterator.result ≡ all = search rules in
     record {
       answering = subst (λ ls. Answering v v all ls taken taken (string_bytes c.new-answers.result)) (sym first) (begins v all taken (string_bytes c.new-answers.result) c.new-answers.ensures.bytes);
-      minuted = c.requires.minuted;
-      given = refl;
       texts = λ e. subst (Each IsUtf8) (sym first) (lines_are_text c.args.text.now (ok_part _ _ c.from_utf8.result (sym c.is_ok-is_text.ensures.value ∙ e) c.from_utf8.ensures.cases));
       unmarked = refl;
     }
@@ -32,7 +30,6 @@ answer_line-requires g c κs =
     let h = c.loop-line.invariant.answering in
     let same : c.loop-line.desk.problem ≡ c.args.instance.now = h.answered.same.problem ∙ c.requires.same in
     let planners : length c.loop-line.desk.drafts ≡ 64 = h.answered.same.planners ∙ c.requires.planners in
-    let minuted = c.loop-line.invariant.minuted in
     let step : c.loop-line.line-iterator ≡ c.in-Some.line.now ∷ c.next.new.self = search rules in
     let text : c.is_ok-is_text.result ≡ true → IsUtf8 c.in-Some.line.now = λ e. (subst (Each IsUtf8) step (c.loop-line.invariant.texts e)).0 in
     let at : IsAtRun c.loop-line.desk = still_at_run v (lines_of c.args.text.now) (g.W.Sink.taken c.args.writer.now) c.loop-line.desk c.loop-line.line-iterator (g.W.Sink.taken c.loop-line.writer) (string_bytes c.loop-line.answers) c.requires.stands h in
@@ -53,12 +50,10 @@ loop-line-preserved g c =
     let before : Option (List ℕ) = g.W.Sink.taken c.args.writer.now in
     let taken : Option (List ℕ) = g.W.Sink.taken c.loop-line.writer in
     let step : c.loop-line.line-iterator ≡ c.in-Some.line.now ∷ c.next.new.self = search rules in
-    let more : Answered c.loop-line.desk c.answer_line.new.desk (string_bytes c.loop-line.answers) (string_bytes c.answer_line.new.answers) (items_of v.problem (c.in-Some.line.now ∷ [])) = rw c.requires.same c.in_ok-answer_line.ensures.answered in
+    let more : Answered c.loop-line.desk c.answer_line.new.desk (string_bytes c.loop-line.answers) (string_bytes c.answer_line.new.answers) (items_of v.problem (c.in-Some.line.now ∷ [])) = rw c.requires.same c.in_ok-answer_line.ensures in
     let next : Answering v c.answer_line.new.desk all c.next.new.self before taken (string_bytes c.answer_line.new.answers) = one_more_line v all before c.loop-line.desk c.answer_line.new.desk taken c.in-Some.line.now c.loop-line.line-iterator c.next.new.self (string_bytes c.loop-line.answers) (string_bytes c.answer_line.new.answers) step c.loop-line.invariant.answering more in
     record {
       answering = more_written v all before c.answer_line.new.desk c.next.new.self taken (g.W.Sink.taken c.write_full.new.writer) (string_bytes c.answer_line.new.answers) next (string_bytes c.write_full.new.answers) c.in_ok-write_full.ensures.written;
-      minuted = c.in_ok-answer_line.ensures.minuted;
-      given = c.in_ok-answer_line.ensures.given ∙ c.loop-line.invariant.given;
       texts = λ e. (subst (Each IsUtf8) step (c.loop-line.invariant.texts e)).1;
       unmarked = c.in_ok-write_full.ensures.unmarked ∙ c.loop-line.invariant.unmarked;
     }
@@ -70,7 +65,7 @@ returns-in_err-write_full-clause-part g c =
     let before : Option (List ℕ) = g.W.Sink.taken c.args.writer.now in
     let taken : Option (List ℕ) = g.W.Sink.taken c.loop-line.writer in
     let step : c.loop-line.line-iterator ≡ c.in-Some.line.now ∷ c.next.new.self = search rules in
-    let more : Answered c.loop-line.desk c.answer_line.new.desk (string_bytes c.loop-line.answers) (string_bytes c.answer_line.new.answers) (items_of v.problem (c.in-Some.line.now ∷ [])) = rw c.requires.same c.in_ok-answer_line.ensures.answered in
+    let more : Answered c.loop-line.desk c.answer_line.new.desk (string_bytes c.loop-line.answers) (string_bytes c.answer_line.new.answers) (items_of v.problem (c.in-Some.line.now ∷ [])) = rw c.requires.same c.in_ok-answer_line.ensures in
     let next : Answering v c.answer_line.new.desk all c.next.new.self before taken (string_bytes c.answer_line.new.answers) = one_more_line v all before c.loop-line.desk c.answer_line.new.desk taken c.in-Some.line.now c.loop-line.line-iterator c.next.new.self (string_bytes c.loop-line.answers) (string_bytes c.answer_line.new.answers) step c.loop-line.invariant.answering more in
     on_err c.from_residual-in_err-write_full.result (subst (λ i. WroteFront v (items_of i all) before (g.W.Sink.taken c.write_full.new.writer)) c.requires.same
     (front_written v all before c.answer_line.new.desk c.next.new.self taken (g.W.Sink.taken c.write_full.new.writer) (string_bytes c.answer_line.new.answers) next c.in_err-write_full.ensures.part))

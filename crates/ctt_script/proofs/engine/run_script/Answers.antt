@@ -1,7 +1,8 @@
 use Rattle.std.proofs.Common.{rules, ◌≡◌, ◌∙◌, [], ℕ, length, sym}
 use Rattle.ctt_script.specs.Answering.{IsAtRun}
-use Rattle.ctt_script.specs.Minutes.{IsMinuted}
-use Rattle.ctt_script.proofs.MinutesLemmas.{begin_blank}
+use Rattle.std.proofs.Crossing.{crosses}
+use denote.Param.Send.{sendable}
+use Rattle.ctt_text.proofs.SharingLemmas.{instance_shared}
 use Rattle.ctt_text.proofs.FormLaws.{ok_same}
 use Rattle.ctt_edits.specs.declared.fault.EditFault.{EditFault}
 use Rattle.ctt_script.proofs.ScriptRuns.{all_said, front_said, journal_can, read_short, script_done}
@@ -10,15 +11,14 @@ use Rattle.ctt_script.proofs.engine.run_script.Goals as goal
 pub new-requires : goal.new-requires
 new-requires g c κs =
     let fit = c.requires.fit in
-    search rules
+    (search (instance_shared, sendable, crosses) depth 60 fits 20000, (search (instance_shared, sendable, crosses) depth 60 fits 20000, search rules))
 
 pub answer_lines-answered-requires : goal.answer_lines-answered-requires
 answer_lines-answered-requires g c κs =
     let same : c.in_ok-desk.desk.problem ≡ c.args.instance.now = c.in_ok-desk.ensures.problem in
     let planners : length c.in_ok-desk.desk.drafts ≡ 64 = c.in_ok-desk.ensures.planners in
     let at : IsAtRun c.in_ok-desk.desk = ([], c.in_ok-desk.ensures.stands) in
-    let minuted : IsMinuted c.args.instance.now c.in_ok-desk.desk c.args.minutes.now = begin_blank _ _ c.args.minutes.now c.in_ok-desk.ensures.stands c.in_ok-desk.ensures.planners c.requires.blank in
-    search rules
+    (search (instance_shared, sendable, crosses) depth 60 fits 20000, (search (instance_shared, sendable, crosses) depth 60 fits 20000, search rules))
 
 pub returns-in-Err-answered-clause-front : goal.returns-in-Err-answered-clause-front
 returns-in-Err-answered-clause-front g c = λ t0 e.
@@ -42,3 +42,6 @@ returns-in-Ok-answered-clause-stands g c =
 
 pub returns-in-Ok-answered-clause-short : goal.returns-in-Ok-answered-clause-short
 returns-in-Ok-answered-clause-short g c = read_short (g.R.Source.left c.args.reader.now) c.in-Ok.text.items 67108864 c.in-Ok.ensures.all (search rules)
+
+pub lawful-requires : goal.lawful-requires
+lawful-requires g c κs = (search (instance_shared, sendable, crosses) depth 60 fits 20000, (search (instance_shared, sendable, crosses) depth 60 fits 20000, search rules))

@@ -1,7 +1,7 @@
 use Rattle.std.proofs.Common.{inl, refl, subst, rules}
 use Rattle.std.proofs.Crossing.{crosses}
 use denote.Param.Send.{sendable}
-use Rattle.ctt_crew.proofs.SharingLemmas.{instance_shared}
+use Rattle.ctt_text.proofs.SharingLemmas.{instance_shared}
 use Rattle.std.proofs.lemmas.Result.{IfErr-weaker, IfOk-weaker}
 use Rattle.ctt_text.specs.Problem.{Problem}
 use Rattle.ctt_files.proofs.Plain.{behind_instance, instance_in_plain, passed_plain, unwritten_more}

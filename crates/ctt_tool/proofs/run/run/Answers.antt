@@ -1,7 +1,4 @@
-use Rattle.std.proofs.Common.{◌∙◌, inl, refl, subst, rules}
-use Rattle.std.proofs.Crossing.{crosses}
-use denote.Param.Send.{sendable}
-use Rattle.ctt_crew.proofs.SharingLemmas.{instance_shared}
+use Rattle.std.proofs.Common.{◌∙◌, inl, refl, subst}
 use Rattle.std.proofs.lemmas.Result.{IfErr-weaker}
 use Rattle.ctt_text.specs.Problem.{Problem}
 use Rattle.ctt_files.proofs.Plain.{behind_instance, instance_in_plain, on_ok_weaker, passed_plain, unwritten_more}
@@ -37,6 +34,3 @@ returns-clause-cause g c =
 
 pub returns-clause-others : goal.returns-clause-others
 returns-clause-others g c = others_kept c.args.journal _ _ _ c.in_ok-instance.ensures.kept c.run_on-done.ensures.others
-
-pub run_on-done-requires : goal.run_on-done-requires
-run_on-done-requires g c κs = (search (instance_shared, sendable, crosses) depth 60 fits 20000, (search (instance_shared, sendable, crosses) depth 60 fits 20000, search rules))

@@ -1,4 +1,8 @@
 use Rattle.std.proofs.Common.{rules, ◌≡◌, ◌∙◌, ◌⊎◌, ap, subst, sym, true, false, inl, inr, refl, List, IfSome, Some}
+use Rattle.std.proofs.Crossing.{crosses}
+use denote.Param.Send.{sendable}
+use Rattle.ctt_text.proofs.SharingLemmas.{instance_shared}
+use Rattle.ctt_script.specs.Entries.{IsWritable}
 use Rattle.std.proofs.lemmas.Result.{IfErr-weaker}
 use Rattle.std.specs.List.{AllByRecursion as Each}
 use Rattle.std.specs.String.{string_bytes}
@@ -14,14 +18,13 @@ use Rattle.ctt_files.specs.Texts.{Held, Holds, IsStart}
 use Rattle.ctt_files.proofs.Plain.{on_ok_weaker, passed_on, passed_plain, start_plain, unwritten_more}
 use Rattle.ctt_tool.specs.Jobs.{IsGiven}
 use Rattle.ctt_tool.specs.Refusals.{IsOfScript}
-use Rattle.ctt_tool.proofs.Desks.{answer_in, journal_stored, minutes_stored, others_kept, told_through}
+use Rattle.ctt_tool.proofs.Desks.{answer_in, journal_stored, others_kept, told_through}
 use Rattle.ctt_tool.proofs.run.run_on.Goals as goal
 
 pub answer-requires : goal.answer-requires
 answer-requires g c κs =
     let fit : Each (Fits c.args.instance.now) c.deref-2.result.now = subst (Each (Fits c.args.instance.now)) (sym c.deref-2.ensures.value) c.in_ok-lectures.ensures.fit in
     let unread : g.F.Input.Source.has_failed c.in-Ok.input ≡ false = c.in-Ok.ensures.unmarked in
-    let blank = c.in_ok-minutes.ensures.blank in
     search rules
 
 pub returns-in_err-lectures-clause-cause : goal.returns-in_err-lectures-clause-cause
@@ -32,39 +35,44 @@ returns-in_err-lectures-clause-cause g c =
     passed_plain c.from_residual.result c.in_err-lectures.field-0.0 _ _ (IsOfScript c.args.script c.args.start held problem) c.from_residual.ensures.1
     (start_plain c.args.start held problem c.in_err-lectures.field-0.0 is) (inr (inl (inl is))) refl
 
-pub returns-in_err-_desk-clause-cause : goal.returns-in_err-_desk-clause-cause
-returns-in_err-_desk-clause-cause g c =
+pub returns-in_err-desk-clause-cause : goal.returns-in_err-desk-clause-cause
+returns-in_err-desk-clause-cause g c =
     let problem : Problem = c.args.instance.now in
     let held : Held = g.F.Files.held c.args.files.now in
-    let fault = c.in_err-_desk.field-0.0 in
+    let fault = c.in_err-desk.field-0.0 in
     let whole : Holds held c.args.script (λ text. g.F.Input.Source.left c.in-Ok.input ≡ Some text) = subst (λ name. IfSome (held name) (λ text. g.F.Input.Source.left c.in-Ok.input ≡ Some text)) c.deref.ensures c.in-Ok.ensures.whole in
     let start : IsStart problem held c.args.start c.deref-2.result.now =
     subst (IsStart problem held c.args.start) (sym c.deref-2.ensures.value) (subst (λ (known : Held). IsStart problem known c.args.start c.in_ok-lectures.lectures.items) c.in-Ok.ensures.kept c.in_ok-lectures.ensures.spelled) in
-    passed_on c.from_residual-in_err-_desk.result fault (λ told. IfUnwritten told ((g.W.Sink.has_failed c.answer.new.out ≡ true) ⊎ IsGiven c.args.journal) (IsOfScript c.args.script c.args.start held problem told × (g.W.Sink.has_failed c.answer.new.out ≡ g.W.Sink.has_failed c.args.out.now))) c.from_residual-in_err-_desk.ensures.1
-    (unwritten_more fault _ _ _ _ inl (λ why. (answer_in problem c.deref-2.result.now c.args.script c.args.start held _ fault whole start why.0, why.1)) c.in_err-_desk.ensures.cause)
+    passed_on c.from_residual-in_err-desk.result fault (λ told. IfUnwritten told ((g.W.Sink.has_failed c.answer.new.out ≡ true) ⊎ IsGiven c.args.journal) (IsOfScript c.args.script c.args.start held problem told × (g.W.Sink.has_failed c.answer.new.out ≡ g.W.Sink.has_failed c.args.out.now))) c.from_residual-in_err-desk.ensures.1
+    (unwritten_more fault _ _ _ _ inl (λ why. (answer_in problem c.deref-2.result.now c.args.script c.args.start held _ fault whole start why.0, why.1)) c.in_err-desk.ensures.cause)
 
 pub returns-clause-runs : goal.returns-clause-runs
 returns-clause-runs g c =
     let problem : Problem = c.args.instance.now in
     let held : Held = g.F.Files.held c.args.files.now in
-    let opened : List Placed = c.in_ok-_desk._desk.opening in
+    let opened : List Placed = c.in_ok-desk.desk.opening in
     let whole : Holds held c.args.script (λ text. g.F.Input.Source.left c.in-Ok.input ≡ Some text) = subst (λ name. IfSome (held name) (λ text. g.F.Input.Source.left c.in-Ok.input ≡ Some text)) c.deref.ensures c.in-Ok.ensures.whole in
-    let given = c.in_ok-_desk.ensures.given ∙ c.in_ok-minutes.ensures.given in
-    let entries : Holds held c.args.script (λ text. c.in_ok-_desk._desk.journal ≡ accepted_of (script_run problem opened text)) = told_through _ _ _ whole c.in_ok-_desk.ensures.journal in
+    let entries : Holds held c.args.script (λ text. c.in_ok-desk.desk.journal ≡ accepted_of (script_run problem opened text)) = told_through _ _ _ whole c.in_ok-desk.ensures.journal in
     on_ok_weaker c.store_journal.result _ _ (λ stores. record {
       lectures = c.in_ok-lectures.lectures.items;
       is_start = subst (λ known. IsStart problem known c.args.start c.in_ok-lectures.lectures.items) c.in-Ok.ensures.kept c.in_ok-lectures.ensures.spelled;
       opened = opened;
-      opens = ap (opening problem) (sym c.deref-2.ensures.value) ∙ c.in_ok-_desk.ensures.opening;
-      short = told_through _ _ _ whole c.in_ok-_desk.ensures.short;
-      prints = told_through _ _ _ whole c.in_ok-_desk.ensures.prints;
-      stores = journal_stored c.args.journal held _ _ (held (string_bytes c.args.script)) problem c.in_ok-_desk._desk.journal c.in_ok-_desk._desk.journal (λ text. accepted_of (script_run problem opened text))
-          (c.in_ok-lectures.ensures.kept ∙ c.in-Ok.ensures.kept) refl entries (minutes_stored c.args.journal _ _ _ problem c.in_ok-_desk._desk given c.in_ok-_desk.ensures.minutes stores);
+      opens = ap (opening problem) (sym c.deref-2.ensures.value) ∙ c.in_ok-desk.ensures.opening;
+      short = told_through _ _ _ whole c.in_ok-desk.ensures.short;
+      prints = told_through _ _ _ whole c.in_ok-desk.ensures.prints;
+      stores = journal_stored c.args.journal held _ _ (held (string_bytes c.args.script)) problem c.journal.result.now c.in_ok-desk.desk.journal (λ text. accepted_of (script_run problem opened text))
+          (c.in_ok-lectures.ensures.kept ∙ c.in-Ok.ensures.kept) c.journal.ensures entries stores;
     }) c.store_journal.ensures.stores
 
 pub returns-clause-cause : goal.returns-clause-cause
 returns-clause-cause g c =
-    IfErr-weaker c.store_journal.result _ _ (λ fault is. unwritten_more fault _ _ _ _ inr (λ why. (inl (inr why.0), c.in_ok-_desk.ensures.unmarked)) is) c.store_journal.ensures.fault
+    IfErr-weaker c.store_journal.result _ _ (λ fault is. unwritten_more fault _ _ _ _ inr (λ why. (inl (inr why.0), c.in_ok-desk.ensures.unmarked)) is) c.store_journal.ensures.fault
 
 pub returns-clause-others : goal.returns-clause-others
 returns-clause-others g c = others_kept c.args.journal _ _ _ (c.in_ok-lectures.ensures.kept ∙ c.in-Ok.ensures.kept) c.store_journal.ensures.others
+
+pub journal-requires : goal.journal-requires
+journal-requires g c κs = (search (instance_shared, sendable, crosses) depth 60 fits 20000, (search (instance_shared, sendable, crosses) depth 60 fits 20000, search rules))
+
+pub store_journal-requires : goal.store_journal-requires
+store_journal-requires g c = subst (IsWritable c.args.instance.now) (sym c.journal.ensures) c.in_ok-desk.ensures.entries

@@ -4,7 +4,7 @@ use Rattle.ctt_core.specs.Desks.{DeskValue}
 use Rattle.ctt_core.proofs.StepLemmas.{draft_fits}
 use Rattle.ctt_core.proofs.desk.Desk.ask.Goals as goal
 
-pub call_in-requires : goal.call_in-requires
-call_in-requires g c κs =
+pub call-requires : goal.call-requires
+call-requires g c κs =
     let fits : CallFits c.in-Some.draft.problem c.args.call = subst (λ i. CallFits i c.args.call) (sym (draft_fits _ _ c.args.self.now c.args.planner _ _ _ (ap (λ (v : DeskValue). v.problem) c.self.view_is) (ap (λ (v : DeskValue). v.drafts) c.self.view_is) c.self.invariant.drafts_of c.requires.planner c.get-place.ensures c.index_mut-draft.ensures.value c.in-Some.is)) c.requires.fits in
     search rules

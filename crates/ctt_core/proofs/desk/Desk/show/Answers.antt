@@ -3,7 +3,7 @@ use Rattle.ctt_edits.specs.Looks.{LookFits}
 use Rattle.ctt_core.specs.Desks.{DeskValue}
 use Rattle.ctt_core.proofs.desk.Desk.show.Goals as goal
 
-pub look_in-requires : goal.look_in-requires
-look_in-requires g c κs =
-    let fits : LookFits (g.S.Rooms.problem c.sheet.result.now) c.args.look.now = subst (λ i. LookFits i c.args.look.now) (sym (c.sheet.ensures.problem ∙ c.self.invariant.same ∙ ap (λ (v : DeskValue). v.problem) c.self.view_is)) c.requires in
+pub look-requires : goal.look-requires
+look-requires g c κs =
+    let fits : LookFits (g.S.Rooms.problem c.self.inside.sheet) c.args.look.now = subst (λ i. LookFits i c.args.look.now) (sym (c.self.invariant.same ∙ ap (λ (v : DeskValue). v.problem) c.self.view_is)) c.requires in
     search rules

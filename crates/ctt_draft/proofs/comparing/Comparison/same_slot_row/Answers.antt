@@ -28,6 +28,3 @@ returns g c =
     agree (slot_row c.args.slot (base_of c.args.self.now) ≡ slot_row c.args.slot c.args.self.now.sheet)
     (slot_rows_same c.args.self.now.problem (base_of c.args.self.now) c.args.self.now.sheet c.are_timetables.ensures.base c.are_timetables.ensures.sheet c.args.slot
     (λ n lt. c.loop-number.invariant n (omega (arith, lt, c.loop-number-test.false, c.courses-number-end.ensures.exact, ap course_count c.instance-instance.ensures))))
-
-pub returns-then-not-touches_slot : goal.returns-then-not-touches_slot
-returns-then-not-touches_slot g c = agree (slot_row c.args.slot (base_of c.args.self.now) ≡ slot_row c.args.slot c.args.self.now.sheet) (c.touches_slot.ensures c.if-not-touches_slot.true)

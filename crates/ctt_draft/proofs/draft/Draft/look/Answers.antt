@@ -3,8 +3,8 @@ use Rattle.ctt_edits.specs.Looks.{LookFits, shown}
 use Rattle.ctt_draft.specs.DraftValues.{present}
 use Rattle.ctt_draft.proofs.draft.Draft.look.Goals as goal
 
-pub look_in-requires : goal.look_in-requires
-look_in-requires g c κs =
+pub look-requires : goal.look-requires
+look-requires g c κs =
     let fits : LookFits (g.S.Rooms.problem c.present.result.now) c.args.look = subst (λ i. LookFits i c.args.look) (sym c.present.ensures.problem) c.requires.fits in
     search rules
 

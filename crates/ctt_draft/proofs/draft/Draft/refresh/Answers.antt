@@ -1,23 +1,21 @@
-use Rattle.std.proofs.Common.{rules, ◌≡◌, ◌∙◌, None, sym, ap, subst}
-use Rattle.ctt_board.specs.Changes.{apply_all, ChangesFit}
+use Rattle.std.proofs.Common.{◌≡◌, ◌∙◌, None, sym, ap₂}
+use Rattle.ctt_board.specs.Changes.{apply_all}
 use Rattle.ctt_draft.specs.Drafts.{calls_of, stale}
 use Rattle.ctt_draft.proofs.RefreshLemmas.{ok_of, changes_fit_now, refreshed_draft}
 use Rattle.ctt_draft.proofs.draft.Draft.refresh.Goals as goal
 
-pub changed_copy-requires : goal.changed_copy-requires
-changed_copy-requires g c κs =
+pub apply_all-requires-clause-fit : goal.apply_all-requires-clause-fit
+apply_all-requires-clause-fit g c =
     let fresh : None ≡ stale c.args.self.now.problem c.args.self.now.base (g.S.Rooms.list c.args.sheet.now) (calls_of c.args.self.now.asked) = sym c.in_default.is ∙ ok_of _ _ c.in_ok-row.ensures.row in
-    let fit : ChangesFit (g.S.Rooms.problem c.args.sheet.now) c.deref.result.now (g.S.Rooms.list c.args.sheet.now) =
-    subst (λ xs. ChangesFit (g.S.Rooms.problem c.args.sheet.now) xs (g.S.Rooms.list c.args.sheet.now)) (sym c.deref.ensures.value)
-    (changes_fit_now _ _ _ _ _ _ _ _ c.self.invariant c.self.view_is (g.S.Rooms.list c.args.sheet.now) (g.S.Rooms.problem c.args.sheet.now) c.lawful.ensures c.requires fresh) in
-    search rules
+    rw (c.deref.ensures.value, c.in_ok-present.ensures.0, c.in_ok-present.ensures.1)
+    (changes_fit_now _ _ _ _ _ _ _ _ c.self.invariant c.self.view_is (g.S.Rooms.list c.args.sheet.now) (g.S.Rooms.problem c.args.sheet.now) c.lawful.ensures c.requires fresh)
 
 pub invariant_of-self : goal.invariant_of-self
 invariant_of-self g c =
     let fresh : None ≡ stale c.args.self.now.problem c.args.self.now.base (g.S.Rooms.list c.args.sheet.now) (calls_of c.args.self.now.asked) = sym c.in_default.is ∙ ok_of _ _ c.in_ok-row.ensures.row in
-    (refreshed_draft _ _ _ _ _ _ _ _ c.self.invariant c.self.view_is (g.S.Rooms.list c.args.sheet.now) (g.S.Rooms.problem c.args.sheet.now) _ _ c.lawful.ensures c.requires fresh c.in_ok-self-inside.ensures.problem (c.in_ok-self-inside.ensures.list ∙ ap (λ xs. apply_all xs (g.S.Rooms.list c.args.sheet.now)) c.deref.ensures.value)).0
+    (refreshed_draft _ _ _ _ _ _ _ _ c.self.invariant c.self.view_is (g.S.Rooms.list c.args.sheet.now) (g.S.Rooms.problem c.args.sheet.now) _ _ c.lawful.ensures c.requires fresh (c.apply_all.ensures.problem ∙ c.in_ok-present.ensures.0) (c.apply_all.ensures.list ∙ ap₂ apply_all c.deref.ensures.value c.in_ok-present.ensures.1)).0
 
 pub returns-clause-ok : goal.returns-clause-ok
 returns-clause-ok g c =
     let fresh : None ≡ stale c.args.self.now.problem c.args.self.now.base (g.S.Rooms.list c.args.sheet.now) (calls_of c.args.self.now.asked) = sym c.in_default.is ∙ ok_of _ _ c.in_ok-row.ensures.row in
-    (fresh, (refreshed_draft _ _ _ _ _ _ _ _ c.self.invariant c.self.view_is (g.S.Rooms.list c.args.sheet.now) (g.S.Rooms.problem c.args.sheet.now) _ _ c.lawful.ensures c.requires fresh c.in_ok-self-inside.ensures.problem (c.in_ok-self-inside.ensures.list ∙ ap (λ xs. apply_all xs (g.S.Rooms.list c.args.sheet.now)) c.deref.ensures.value)).1)
+    (fresh, (refreshed_draft _ _ _ _ _ _ _ _ c.self.invariant c.self.view_is (g.S.Rooms.list c.args.sheet.now) (g.S.Rooms.problem c.args.sheet.now) _ _ c.lawful.ensures c.requires fresh (c.apply_all.ensures.problem ∙ c.in_ok-present.ensures.0) (c.apply_all.ensures.list ∙ ap₂ apply_all c.deref.ensures.value c.in_ok-present.ensures.1)).1)

@@ -1,6 +1,6 @@
-use Rattle.std.proofs.Common.{rules}
-use Rattle.ctt_text.proofs.NumberedLemmas.{number_within}
+use Rattle.std.proofs.Common.{◌∙◌}
+use Rattle.ctt_text.proofs.NameLemmas.{is_placed}
 use Rattle.ctt_text.proofs.names.Names.number.Goals as goal
 
-pub returns-clause-within : goal.returns-clause-within
-returns-clause-within c = number_within c.args.self.now c.args.name.now c.copied.result (search rules)
+pub returns-clause-number : goal.returns-clause-number
+returns-clause-number c = rw (← c.self.view_is) (c.get_index_of.ensures.index ∙ is_placed c.args.name.now c.self.inside.names.keys)

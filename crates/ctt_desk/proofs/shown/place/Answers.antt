@@ -1,5 +1,0 @@
-use Rattle.ctt_desk.proofs.PublishedLemmas.{comes}
-use Rattle.ctt_desk.proofs.shown.place.Goals as goal
-
-pub reader-requires : goal.reader-requires
-reader-requires g c = λ x views h. comes _ _ _ _ _ views h

@@ -1,0 +1,34 @@
+use Rattle.std.proofs.Common.{rules, ◌<◌}
+use Rattle.ctt_text.specs.Problem.{course_count, slot_count, teacher_count, curriculum_count}
+use Rattle.ctt_edits.specs.Edits.{EditFits}
+use Rattle.ctt_edits.proofs.showing.look.Goals as goal
+
+pub own_cost-requires : goal.own_cost-requires
+own_cost-requires g c κs =
+    let fits : c.in-CourseCost.course < course_count (g.S.Rooms.problem c.args.sheet.now) = rw c.in-CourseCost.is at c.requires in
+    search rules
+
+pub price_reply-requires : goal.price_reply-requires
+price_reply-requires g c κs =
+    let fits : EditFits (g.S.Rooms.problem c.args.sheet.now) c.in-Price.edit = rw c.in-Price.is at c.requires in
+    search rules
+
+pub teacher_row-requires : goal.teacher_row-requires
+teacher_row-requires g c κs =
+    let fits : c.in-Teacher.teacher < teacher_count (g.S.Rooms.problem c.args.sheet.now) = rw c.in-Teacher.is at c.requires in
+    search rules
+
+pub curriculum_row-requires : goal.curriculum_row-requires
+curriculum_row-requires g c κs =
+    let fits : c.in-Curriculum.curriculum < curriculum_count (g.S.Rooms.problem c.args.sheet.now) = rw c.in-Curriculum.is at c.requires in
+    search rules
+
+pub course_row-requires : goal.course_row-requires
+course_row-requires g c κs =
+    let fits : c.in-Course.course < course_count (g.S.Rooms.problem c.args.sheet.now) = rw c.in-Course.is at c.requires in
+    search rules
+
+pub slot_row-requires : goal.slot_row-requires
+slot_row-requires g c κs =
+    let fits : c.in-Slot.slot < slot_count (g.S.Rooms.problem c.args.sheet.now) = rw c.in-Slot.is at c.requires in
+    search rules
