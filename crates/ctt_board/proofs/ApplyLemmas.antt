@@ -6,7 +6,6 @@ use Rattle.ctt_text.specs.Timetable.{before, with}
 use Rattle.ctt_text.specs.declared.placed.Placed.{Placed}
 use Rattle.ctt_rules.proofs.ListLemmas.{filter_within}
 use Rattle.ctt_board.specs.Changes.{apply_at, apply}
-use Rattle.ctt_board.specs.Laws.{ChangesLeaveOthers}
 use Rattle.ctt_board.specs.declared.cell.Cell.{Cell}
 use Rattle.ctt_board.proofs.PutLemmas.{filter_filter, filter-put_yes, filter-put_no}
 use Rattle.ctt_board.proofs.OrderLemmas.{before_goes, InOrder, InOrder-with, InOrder-without}
@@ -57,3 +56,15 @@ untouched_at p c s r t e = outside_at (λ l. p l.course) c s r t (λ l course sl
 pub untouched_slot_at : (p : ℕ → Bool) (c s : ℕ) (r : Option ℕ) (t : List Placed) → p s ≡ false → filter (λ l. p l.slot) (apply_at c s r t) ≡ filter (λ l. p l.slot) t
 untouched_slot_at p c s r t e = outside_at (λ l. p l.slot) c s r t (λ l course slot. ap p slot ∙ e)
 
+-- and without the courses, or the slots, of all cells
+pub untouched_apply : (p : ℕ → Bool) (cells : List Cell) (t : List Placed) → list_any (λ x. p x.course) cells ≡ false → filter (λ l. p l.course) (apply cells t) ≡ filter (λ l. p l.course) t
+untouched_apply p [] t h = refl
+untouched_apply p (x ∷ xs) t h =
+    let parts = or_parts (p x.course) (list_any (λ x. p x.course) xs) h in
+    untouched_apply p xs (apply_at x.course x.slot x.room t) parts.1 ∙ untouched_at p x.course x.slot x.room t parts.0
+
+pub untouched_slot_apply : (p : ℕ → Bool) (cells : List Cell) (t : List Placed) → list_any (λ x. p x.slot) cells ≡ false → filter (λ l. p l.slot) (apply cells t) ≡ filter (λ l. p l.slot) t
+untouched_slot_apply p [] t h = refl
+untouched_slot_apply p (x ∷ xs) t h =
+    let parts = or_parts (p x.slot) (list_any (λ x. p x.slot) xs) h in
+    untouched_slot_apply p xs (apply_at x.course x.slot x.room t) parts.1 ∙ untouched_slot_at p x.course x.slot x.room t parts.0

@@ -1,5 +1,5 @@
 -- A desk by its value: what it keeps, its answers, and how it goes on. It knows no run; a law says that it answers as the run says.
-use Rattle.std.specs.Prelude.{ℕ, ◌+◌, ◌≡◌, ◌⊎◌, true, List, [], ◌∷◌, ◌++◌, length, take, Option, Some, None, slice_index_or, slice_set, IfSome}
+use Rattle.std.specs.Prelude.{ℕ, ◌+◌, ◌^◌, ◌<◌, ◌≡◌, ◌⊎◌, true, List, [], ◌∷◌, ◌++◌, length, take, Option, Some, None, slice_index_or, slice_set, IfSome}
 use Rattle.ctt_text.specs.Problem.{Problem}
 use Rattle.ctt_text.specs.declared.placed.Placed.{Placed}
 use Rattle.ctt_rules.specs.Hard.{Lawful}
@@ -106,10 +106,10 @@ abbrev pub IsAnswerTo : DeskValue → Event → Answer → Type 0
 IsAnswerTo v event answer = (answer ≡ answer_of v event) ⊎ ((answer ≡ NoMemory) × (may_want event (answer_of v event) ≡ true))
 
 -- what a desk keeps to: its timetable and its open drafts are of its instance, and its opening is lawful
-pub record IsDesk (i sheet_problem : Problem) (opening : List Placed) (drafts : List (Option DraftValue)) (planners : ℕ) : Type 0 where
+pub record IsDesk (i sheet_problem : Problem) (opening : List Placed) (drafts : List (Option DraftValue)) : Type 0 where
   pub same : sheet_problem ≡ i
   pub opening_lawful : Lawful i opening
-  pub counted : length drafts ≡ planners
+  pub few : length drafts < 2 ^ 16
   pub drafts_of : (p : ℕ) → IfSome (draft_at drafts p) (λ d. d.problem ≡ i)
 
 -- there is a draft, which can be settled

@@ -143,11 +143,12 @@ plain i t0 past (Refresh p) = refresh_answer i t0 past (draft p past)
 plain i t0 past (Abandon p) = abandon_answer (draft p past)
 plain i t0 past (Show look) = Replied (shown i (now i t0 past) look)
 
--- whether memory may be wanted for an event that has this answer: never to give a draft up, nor to say that there is one already, or none
+-- whether memory may be wanted for an event that has this answer: never to give a draft up, nor to say that there is one already, or none, or that it is stale
 abbrev pub may_want : Event → Answer → Bool
 may_want (Abandon p) a = false
 may_want _ AlreadyOpen = false
 may_want _ NoDraft = false
+may_want _ (Stale row) = false
 may_want _ _ = true
 
 -- the answer is that of a plain desk, or want of memory where it may come

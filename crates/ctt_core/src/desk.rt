@@ -34,7 +34,6 @@ pub struct Desk<'i, S: Timetable> {
     sheet: S,
     journal: Vec<JournalEntry>,
     drafts: Vec<Option<Draft<'i, S>>>,
-    planners: u16,
 }
 
 // A derived `Drop` is proved anew in each crate above.
@@ -46,7 +45,6 @@ impl<'i, S: Timetable> Drop for Desk<'i, S> {
             sheet: _,
             journal: _,
             drafts: _,
-            planners: _,
         } = self;
     }
 }
@@ -65,7 +63,7 @@ impl<'i, S: Timetable> Model for Desk<'i, S> {
     } };
 
     ghost invariant = { λ d.
-        IsDesk d.instance.now (S.problem d.sheet) d.opening.items d.drafts.items d.planners };
+        IsDesk d.instance.now (S.problem d.sheet) d.opening.items d.drafts.items };
 }
 
 /// No draft for each of so many planners.
@@ -110,7 +108,6 @@ impl<'i, S: Sheet<'i>> Desk<'i, S> {
             sheet,
             journal: Vec::new(alloc),
             drafts,
-            planners,
         })
     }
 
@@ -125,7 +122,7 @@ impl<'i, S: Sheet<'i>> Desk<'i, S> {
     pub fn planners(&self) -> u16
         ensures { result ≡ length self.now.drafts }
     {
-        self.planners
+        self.drafts.len() as u16
     }
 
     /// The lectures, by course and slot.

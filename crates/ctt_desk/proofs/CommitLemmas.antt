@@ -6,14 +6,7 @@ use Rattle.ctt_text.specs.declared.placed.Placed.{Placed}
 use Rattle.ctt_rules.specs.Hard.{Lawful}
 use Rattle.ctt_board.specs.Changes.{apply_all, ChangesFit}
 use Rattle.ctt_board.specs.declared.cell.Cell.{Cell}
-use Rattle.std.specs.List.{find}
-use Rattle.ctt_edits.specs.Calls.{row}
-use Rattle.ctt_edits.specs.declared.call.Call.{Call}
-use Rattle.ctt_edits.specs.declared.row.Row.{Row}
-use Rattle.ctt_draft.specs.Drafts.{calls_of, replies_in, replies, whole, changes, stale, differs, all_reads}
-use Rattle.ctt_draft.specs.Laws.{DraftFrame, SettlingFits}
-use Rattle.ctt_board.proofs.SameLemmas.{agree}
-use Rattle.ctt_draft.proofs.FrameLemmas.{differs_by}
+use Rattle.ctt_draft.specs.Drafts.{calls_of, replies_in, replies, whole, changes}
 use Rattle.ctt_draft.specs.DraftValues.{DraftValue, IsTold, Settles}
 use Rattle.ctt_core.specs.Runs.{after, Legal}
 use Rattle.ctt_core.specs.declared.journal.JournalEntry.{JournalEntry}
@@ -48,18 +41,3 @@ stands_more i j k t0 t u h f made s leads legal same is lawful = record {
 
 pub and_some : {A : Type 0} (P : A → Type 0) (o : Option A) (x : A) → o ≡ Some x → P x → IsSomeAnd o P
 and_some {A} P o x is h = let Q : Option A → Type 0 = λ p. IsSomeAnd p P in subst Q (sym is) h
-
--- nothing differs from itself
-none_differs : (t : List Placed) (rows : List Row) → find (differs t t) rows ≡ None
-none_differs t [] = refl
-none_differs t (r ∷ rows) = rw (sym (differs_by true t t r (agree (row r t ≡ row r t) refl))) (none_differs t rows)
-
--- a draft is not stale on its own base
-pub stale_on_base : (i : Problem) (base : List Placed) (calls : List Call) → stale i base base calls ≡ None
-stale_on_base i base calls = none_differs base (all_reads i calls)
-
--- and can be settled there
-pub settles_on_base : (d : DraftValue) → DraftFrame → SettlingFits → Lawful d.problem d.base → IsTold d.problem d.base d.asked → Settles d d.base
-settles_on_base d frame fitting lawful told =
-    let fresh = stale_on_base d.problem d.base (calls_of d.asked) in
-    record { fit = fitting d.problem d.base d.base (calls_of d.asked) lawful lawful told.fit fresh; same = frame d.problem d.base d.base (calls_of d.asked) lawful lawful told.fit fresh }

@@ -60,4 +60,4 @@ IsNotHis journal p committed old new count =
 abbrev pub IsCause : Problem → List Placed → List JournalEntry → ℕ → ℕ → List JournalEntry → List JournalEntry → DraftValue → Cause → Type 0
 IsCause i opening journal p committed old new d (NotYours count) = IsNotHis journal p committed old new count
 IsCause i opening journal p committed old new d (Stale row) = IsSeen journal old new × IsHis journal p committed × (stale i d.base (after i opening journal) (calls_of d.asked) ≡ Some row)
-IsCause i opening journal p committed old new d NoMemory = (new ≡ old) × IsFreshAt i opening journal p committed d
+IsCause i opening journal p committed old new d NoMemory = (new ≡ old) × IsPrefix old journal × IsFreshAt i opening journal p committed d

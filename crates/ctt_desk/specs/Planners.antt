@@ -89,6 +89,13 @@ pub record IsAccepted (i : Problem) (opening : List Placed) (d : DraftingValue) 
   pub counted : length (own d.planner.number f) ≡ d.planner.committed + 1
   pub planner : q ≡ record { number = d.planner.number; committed = d.planner.committed + 1; front = f }
 
+-- no row that the draft d read differs after some legal history, which begins with all that its planner has seen
+pub record IsFreshSomewhere (i : Problem) (opening : List Placed) (d : DraftingValue) : Type 0 where
+  pub history : List JournalEntry
+  pub legal : Legal i opening history
+  pub begins : IsPrefix d.planner.front history
+  pub fresh : stale i d.base (after i opening history) (calls_of d.asked) ≡ None
+
 -- the draft d was refused: its planner, who is q now, had seen more drafts than the journal has, namely count, and his front is as it was; or the journal, which q has seen, has so many drafts of his, and not as many as he committed
 pub record IsForeign (i : Problem) (opening : List Placed) (d : DraftingValue) (q : PlannerValue) (count : ℕ) : Type 0 where
   pub planner : Grows i opening d.planner q

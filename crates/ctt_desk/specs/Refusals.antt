@@ -3,7 +3,7 @@ use Rattle.std.specs.Prelude.{◌≡◌, List}
 use Rattle.ctt_text.specs.Problem.{Problem}
 use Rattle.ctt_text.specs.declared.placed.Placed.{Placed}
 use Rattle.ctt_desk.specs.Histories.{IsHis}
-use Rattle.ctt_desk.specs.Planners.{PlannerValue, DraftingValue, Grows, IsForeign, IsStale}
+use Rattle.ctt_desk.specs.Planners.{PlannerValue, DraftingValue, Grows, IsForeign, IsFreshSomewhere, IsStale}
 use Rattle.ctt_desk.specs.declared.refusal.Refusal.{Refusal}
 use Rattle.ctt_desk.specs.declared.refusal.Refusal.TheVariants.{NotYours, Stale, NoMemory}
 use Rattle.ctt_desk.specs.declared.refusal.RefreshRefusal.{RefreshRefusal}
@@ -15,12 +15,12 @@ use Rattle.ctt_desk.specs.declared.shared_fault.SharedFault.TheVariants.{Unlawfu
 abbrev pub IsRefused : {X Y : Type 0} → Problem → List Placed → DraftingValue → Refusal X Y → Type 0
 IsRefused i opening d (NotYours q count) = IsForeign i opening d q count
 IsRefused i opening d (Stale q row) = IsStale i opening d q row × IsHis q.front q.number q.committed
-IsRefused i opening d (NoMemory back) = back ≡ d
+IsRefused i opening d (NoMemory back) = (back ≡ d) × IsFreshSomewhere i opening d
 
 -- why a draft was not brought up to date, and what is left
 abbrev pub IsNotRefreshed : {X Y : Type 0} → Problem → List Placed → DraftingValue → RefreshRefusal X Y → Type 0
 IsNotRefreshed i opening d (NotEntered back) = back ≡ d
-IsNotRefreshed i opening d (NotRefreshed back) = back ≡ d
+IsNotRefreshed i opening d (NotRefreshed back) = (back ≡ d) × IsFreshSomewhere i opening d
 IsNotRefreshed i opening d (Outdated q row) = IsStale i opening d q row
 
 -- what has become of the planner p where he could not read: without a place he is as before, and where memory was wanted he has seen more

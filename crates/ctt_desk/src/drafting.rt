@@ -23,7 +23,7 @@ use std::marker::Model;
 #[derive(Drop)]
 pub struct Drafting<'i, S: Timetable, J: Naming> {
     pub(crate) planner: Planner<S, J>,
-    pub(crate) draft: Box<Draft<'i, S>>,
+    pub(crate) draft: Draft<'i, S>,
 }
 
 impl<'i, S: Timetable, J: Naming> Model for Drafting<'i, S, J> {
@@ -35,12 +35,12 @@ impl<'i, S: Timetable, J: Naming> Model for Drafting<'i, S, J> {
 
     ghost view = { λ d. record {
       planner = d.planner;
-      base = d.draft.value.base;
-      asked = d.draft.value.asked;
+      base = d.draft.base;
+      asked = d.draft.asked;
     } };
 
-    ghost invariant = { λ d. (d.draft.value.problem ≡ J.problem)
-        × (d.draft.value.base ≡ after J.problem J.opening d.planner.front) };
+    ghost invariant = { λ d. (d.draft.problem ≡ J.problem)
+        × (d.draft.base ≡ after J.problem J.opening d.planner.front) };
 }
 
 /// A copy of the calls of a draft with their replies.

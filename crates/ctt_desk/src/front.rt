@@ -108,17 +108,6 @@ impl<J: Naming> Front<J> {
         self.drafts <= other.drafts
     }
 
-    /// Whether the other front is this one: it is where it is as long.
-    pub(crate) fn is(&self, other: &Self) -> bool
-        ensures same { IsTrue result → self.now ≡ other.now }
-        ensures as_long { IsTrue result ↔ (length self.now ≡ length other.now) }
-        ensures legal { Legal J.problem J.opening self.now }
-    {
-        let mut both = self.seen.again();
-        both.learn(&other.seen);
-        self.drafts == other.drafts
-    }
-
     /// The longer of two fronts, which begins with the other.
     pub(crate) fn longer(&self, other: &Self) -> Self
         ensures one { (result ≡ self.now) ⊎ (result ≡ other.now) }

@@ -2,7 +2,6 @@
 //! lock.
 #![tactic(auto)]
 
-mod base;
 mod book;
 mod closed;
 mod committing;

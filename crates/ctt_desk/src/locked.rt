@@ -2,13 +2,12 @@
 
 ghost use Rattle.std.specs.Prelude.{◌≡◌, ◌++◌, ◌∷◌, [], ◌<◌, None, Some, IfOk, IfErr};
 ghost use mathlib.Core.List.{IsPrefix};
-ghost use Rattle.ctt_draft.specs.Drafts.{calls_of, changes, stale};
-ghost use Rattle.ctt_draft.specs.DraftValues.{IsTold, Settles};
+ghost use Rattle.ctt_draft.specs.Drafts.{calls_of, stale};
+ghost use Rattle.ctt_draft.specs.DraftValues.{Settles};
 ghost use Rattle.ctt_core.specs.Runs.{after, Legal};
 ghost use Rattle.ctt_desk.specs.Histories.{entry_of, Counted, IsFreshAt, IsCause};
 ghost use Rattle.ctt_desk.specs.declared.locked.Cause.TheVariants.{NoMemory as OutOfMemory};
 
-use crate::base::settles_on_base;
 use crate::closed::Closed;
 use crate::front::{Front, Head, extended};
 use crate::naming::Naming;
@@ -95,17 +94,6 @@ fn put_back<S: Timetable, J: Naming>(slot: &mut Option<Publisher<S, J>>, publish
     let None = before else { unreachable!() };
 }
 
-/// Finishes a draft.
-fn finish<'i, S: Sheet<'i>>(draft: Box<Draft<'i, S>>) -> Work
-    ensures asked { result.asked.items ≡ draft.entry.value.asked }
-    ensures changes { result.changes.items
-        ≡ changes draft.entry.value.problem draft.entry.value.base
-        (calls_of draft.entry.value.asked) }
-    ensures told { IsTold draft.entry.value.problem draft.entry.value.base draft.entry.value.asked }
-{
-    Box::into_inner(draft).finish()
-}
-
 impl<S: Timetable, J: Naming> Locked<S, J> {
     /// A desk that opens so, with an empty journal, and whose opening is published.
     pub(crate) fn new(
@@ -168,23 +156,22 @@ impl<'i, S: Sheet<'i>, J: Naming> Locked<S, J> {
         number: PlannerNo,
         committed: u64,
         front: &mut Front<J>,
-        draft: Box<Draft<'i, S>>,
-    ) -> Result<(), (Box<Draft<'i, S>>, Cause)>
-        requires problem { draft.value.problem ≡ J.problem }
-        requires base { draft.value.base ≡ after J.problem J.opening front.old }
+        draft: Draft<'i, S>,
+    ) -> Result<(), (Draft<'i, S>, Cause)>
+        requires problem { draft.problem ≡ J.problem }
         requires planner { number < J.planners }
         ensures legal { Legal J.problem J.opening self.old }
         ensures fresh { IfOk result (λ _.
-            IsFreshAt J.problem J.opening self.old number committed draft.entry.value) }
+            IsFreshAt J.problem J.opening self.old number committed draft.entry) }
         ensures journal { IfOk result (λ _.
-            self.new ≡ self.old ++ entry_of number draft.entry.value.asked ∷ []) }
+            self.new ≡ self.old ++ entry_of number draft.entry.asked ∷ []) }
         ensures front { IfOk result (λ _. front.new ≡ self.new) }
         ensures begins { IfOk result (λ _. IsPrefix front.old self.old) }
         ensures seen { Legal J.problem J.opening front.new }
         ensures err { IfErr result (λ refused. (self.new ≡ self.old)
-            × (refused.0.value ≡ draft.entry.value)
+            × (refused.0 ≡ draft.entry)
             × IsCause J.problem J.opening self.old number committed front.old front.new
-            draft.entry.value refused.1) }
+            draft.entry refused.1) }
     {
         if !front.begins(&self.front) {
             return Err((draft, Cause::NotYours(self.front.len())));
@@ -194,7 +181,7 @@ impl<'i, S: Sheet<'i>, J: Naming> Locked<S, J> {
             *front = self.front.again();
             return Err((draft, Cause::NotYours(count)));
         }
-        match self.stale(&draft, front) {
+        match self.stale(&draft) {
             None => {
                 self.accept(rt, number, draft)?;
                 *front = self.front.again();
@@ -207,21 +194,15 @@ impl<'i, S: Sheet<'i>, J: Naming> Locked<S, J> {
         }
     }
 
-    /// The least row that a draft read and that has changed since the history on which it stands.
-    /// Where that is the journal there is nothing to compare.
-    fn stale(&self, draft: &Draft<'i, S>, front: &Front<J>) -> Option<Row>
-        requires problem { draft.now.problem ≡ J.problem }
-        requires base { draft.now.base ≡ after J.problem J.opening front.now }
+    /// The least row that a draft read and that is another one in the timetable now.
+    fn stale(&self, draft: &Draft<'i, S>) -> Option<Row>
+        requires { draft.now.problem ≡ J.problem }
         ensures row { result
             ≡ stale J.problem draft.now.base (after J.problem J.opening self.now)
             (calls_of draft.now.asked) }
         ensures fresh { result ≡ None → Settles draft.now (after J.problem J.opening self.now) }
     {
         let sheet = &self.sheet;
-        if front.is(&self.front) {
-            settles_on_base(draft);
-            return None;
-        }
         draft.stale(sheet).unwrap()
     }
 
@@ -231,15 +212,15 @@ impl<'i, S: Sheet<'i>, J: Naming> Locked<S, J> {
         &mut self,
         rt: &R,
         number: PlannerNo,
-        draft: Box<Draft<'i, S>>,
-    ) -> Result<(), (Box<Draft<'i, S>>, Cause)>
-        requires problem { draft.value.problem ≡ J.problem }
+        draft: Draft<'i, S>,
+    ) -> Result<(), (Draft<'i, S>, Cause)>
+        requires problem { draft.problem ≡ J.problem }
         requires planner { number < J.planners }
-        requires settles { Settles draft.value (after J.problem J.opening self.old) }
+        requires settles { Settles draft (after J.problem J.opening self.old) }
         ensures journal { IfOk result (λ _.
-            self.new ≡ self.old ++ entry_of number draft.entry.value.asked ∷ []) }
+            self.new ≡ self.old ++ entry_of number draft.entry.asked ∷ []) }
         ensures err { IfErr result (λ refused. (self.new ≡ self.old)
-            × (refused.0.value ≡ draft.entry.value) × (refused.1 ≡ OutOfMemory)) }
+            × (refused.0 ≡ draft.entry) × (refused.1 ≡ OutOfMemory)) }
     {
         if self.journal.reserve(1).is_err() {
             return Err((draft, Cause::NoMemory));
@@ -248,7 +229,7 @@ impl<'i, S: Sheet<'i>, J: Naming> Locked<S, J> {
         let Some(front) = extended(&self.front, &self.head, number, &draft) else {
             return Err((draft, Cause::NoMemory));
         };
-        let work = finish(draft);
+        let work = draft.finish();
         work.settle(&mut self.sheet);
         self.sheet.lawful();
         let Work { mut asked, changes } = work;

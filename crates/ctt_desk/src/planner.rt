@@ -208,13 +208,12 @@ impl<'i, S: Sheet<'i>, J: Naming> Planner<S, J> {
 fn draft_on<'i, S: Sheet<'i>, J: Naming>(
     alloc: Global,
     shown: &Shown<S, J>,
-) -> Result<Box<Draft<'i, S>>, NoMemory>
-    ensures problem { IfOk result (λ draft. draft.value.problem ≡ shown.now.problem) }
-    ensures base { IfOk result (λ draft. draft.value.base ≡ shown.now.list) }
-    ensures asked { IfOk result (λ draft. draft.value.asked ≡ []) }
+) -> Result<Draft<'i, S>, NoMemory>
+    ensures problem { IfOk result (λ draft. draft.problem ≡ shown.now.problem) }
+    ensures base { IfOk result (λ draft. draft.base ≡ shown.now.list) }
+    ensures asked { IfOk result (λ draft. draft.asked ≡ []) }
 {
-    let draft = Draft::open(alloc, &shown.sheet)?;
-    Ok(Box::new(alloc, draft)?)
+    Draft::open(alloc, &shown.sheet)
 }
 
 /// What a look shows of a sheet.

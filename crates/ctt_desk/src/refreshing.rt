@@ -1,15 +1,12 @@
 //! Refreshes.
 
-ghost use Rattle.std.specs.Prelude.{◌≡◌, IfOk, IfErr, OnErr};
-ghost use Rattle.ctt_core.specs.Runs.{after};
+ghost use Rattle.std.specs.Prelude.{◌≡◌, None, IfOk, IfErr, OnErr};
 ghost use Rattle.ctt_draft.specs.Drafts.{calls_of, stale};
 ghost use Rattle.ctt_draft.specs.DraftValues.{refreshed};
 ghost use Rattle.ctt_desk.specs.Planners.{IsRefreshed};
 ghost use Rattle.ctt_desk.specs.Refusals.{IsNotRefreshed};
 
-use crate::base::settles_on_base;
 use crate::drafting::Drafting;
-use crate::front::Front;
 use crate::naming::Naming;
 use crate::planner::Planner;
 use crate::refusal::RefreshRefusal;
@@ -19,24 +16,19 @@ use ctt_draft::Draft;
 use ctt_edits::Row;
 use ctt_text::{NoMemory, let_go};
 
-/// Brings a draft up to date with a published timetable, as `Draft::refresh` does. Where that is
-/// the one on which the draft stands there is nothing to do.
+/// Brings a draft up to date with a published timetable.
 fn refresh_on<'i, S: Sheet<'i>, J: Naming>(
     draft: &mut Draft<'i, S>,
-    front: &Front<J>,
     shown: &Shown<S, J>,
 ) -> Result<Option<Row>, NoMemory>
-    requires problem { draft.old.problem ≡ J.problem }
-    requires base { draft.old.base ≡ after J.problem J.opening front.now }
+    requires { draft.old.problem ≡ J.problem }
     ensures ok { IfOk result (λ found.
         (found ≡ stale J.problem draft.old.base shown.now.list (calls_of draft.old.asked))
         × (draft.new ≡ refreshed draft.old shown.now.list found)) }
     ensures err { OnErr result (draft.new ≡ draft.old) }
+    ensures fresh { OnErr result
+        (stale J.problem draft.old.base shown.now.list (calls_of draft.old.asked) ≡ None) }
 {
-    if front.is(&shown.front) {
-        settles_on_base(draft);
-        return Ok(None);
-    }
     draft.refresh(&shown.sheet)
 }
 
@@ -58,7 +50,7 @@ impl<'i, S: Sheet<'i>, J: Naming> Drafting<'i, S, J> {
                 Err(RefreshRefusal::NoPlace(Drafting { planner, draft }))
             }
             Ok((visit, seen)) => {
-                let found = refresh_on(&mut draft, &planner.front, visit.get());
+                let found = refresh_on(&mut draft, visit.get());
                 planner.place = Some(visit.leave());
                 match found {
                     Ok(None) => {

@@ -36,13 +36,17 @@ impl<'i, S: Sheet<'i>> Draft<'i, S> {
 
     /// Brings the draft up to date: where none of the rows that it read differs on a sheet, that sheet's
     /// timetable is its base from now on, and its calls stay what they are. Else the least row that differs
-    /// is told, and the draft stays as it was, as it does where memory is wanted.
+    /// is told, and the draft stays as it was, as it does where memory is wanted. That is the case of a
+    /// draft alone that is not stale.
     pub fn refresh(&mut self, sheet: &S) -> Result<Option<Row>, NoMemory>
         requires { S.problem sheet.now ≡ self.old.problem }
         ensures ok { IfOk result (λ found.
             (found ≡ stale self.old.problem self.old.base (S.list sheet.now)
             (calls_of self.old.asked)) × (self.new ≡ refreshed self.old (S.list sheet.now) found)) }
         ensures err { OnErr result (self.new ≡ self.old) }
+        ensures fresh { OnErr result
+            (stale self.old.problem self.old.base (S.list sheet.now) (calls_of self.old.asked)
+            ≡ None) }
     {
         sheet.lawful();
         if let Some(row) = self.stale(sheet)? {

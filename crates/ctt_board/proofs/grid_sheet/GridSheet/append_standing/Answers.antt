@@ -25,8 +25,8 @@ append_column-requires-clause-within c =
     let stands : (n : ℕ) → is_marked c.args.standing.now n ≡ is_some (room_at n c.args.slot (listed i c.self.inside.tables.rooms)) = λ n. c.requires.standing n ∙ ap (λ (b : Board). is_some (room_at n c.args.slot b.list)) (sym c.self.view_is) in
     column_within i (listed i c.self.inside.tables.rooms) c.args.slot c.self.invariant.tables_are.lawful c.self.inside.tables.rooms c.self.invariant.tables_are.rooms_are slot (λ n. is_marked c.args.standing.now n) stands
 
-pub returns-clause-row : goal.returns-clause-row
-returns-clause-row c =
+pub returns : goal.returns
+returns c =
     let i = c.self.inside.instance.now in
     let t = listed i c.self.inside.tables.rooms in
     let are = c.self.invariant.tables_are.rooms_are in

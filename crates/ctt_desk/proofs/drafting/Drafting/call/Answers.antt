@@ -4,5 +4,5 @@ use Rattle.ctt_desk.proofs.drafting.Drafting.call.Goals as goal
 
 pub call-requires : goal.call-requires
 call-requires g c κs =
-    let fits : CallFits c.self.inside.draft.value.problem c.args.call = subst (λ i. CallFits i c.args.call) (sym c.self.invariant.0) c.requires in
+    let fits : CallFits c.self.inside.draft.problem c.args.call = subst (λ i. CallFits i c.args.call) (sym c.self.invariant.0) c.requires in
     search rules

@@ -30,8 +30,8 @@ same_draft n k f p d number committed front = ap (λ x. draft_of x d) (same_plan
 
 pub commit-outcome-requires : goal.commit-outcome-requires
 commit-outcome-requires g c κs =
-    let of : c.self.inside.draft.value.problem ≡ g.J.Naming.problem = c.self.invariant.0 in
-    let on : c.self.inside.draft.value.base ≡ after g.J.Naming.problem g.J.Naming.opening c.front-front.result = c.self.invariant.1 ∙ ap (after g.J.Naming.problem g.J.Naming.opening) (sym c.front-front.ensures.same) in
+    let of : c.self.inside.draft.problem ≡ g.J.Naming.problem = c.self.invariant.0 in
+    let on : c.self.inside.draft.base ≡ after g.J.Naming.problem g.J.Naming.opening c.front-front.result = c.self.invariant.1 ∙ ap (after g.J.Naming.problem g.J.Naming.opening) (sym c.front-front.ensures.same) in
     let one : c.number-number.result < g.J.Naming.planners = omega (arith, c.number-number.ensures.number, c.number-number.ensures.of_desk) in
     search rules
 
@@ -44,7 +44,7 @@ returns-in-Ok-clause-ok g c =
     let committed = c.committed-committed.ensures.committed in
     let front = c.front-front.ensures.same in
     let p = c.self.inside.planner in
-    let d = c.self.inside.draft.value in
+    let d = c.self.inside.draft in
     let v = draft_of (planner_of n k c.front-front.result) d in
     let f : c.accepted.result.1 ≡ c.commit-outcome.new.front = c.accepted.ensures.receipt in
     let least : k ≤ length (own n c.front-front.result) = had n k p c.front-front.result number committed front c.committed-committed.ensures.seen in

@@ -21,7 +21,7 @@ pub new-update-requires : goal.new-update-requires
 new-update-requires g c =
     let i = g.J.Naming.problem in
     let t0 = g.J.Naming.opening in
-    let d = c.args.draft.value in
+    let d = c.args.draft in
     let before : List JournalEntry = c.again.result in
     let is : before ≡ c.args.self.now = c.again.ensures.same ∙ c.self.invariant.2 ∙ c.self.view_is in
     let settles : Settles d (after i t0 before) = subst (λ (j : List JournalEntry). Settles d (after i t0 j)) (sym is) c.requires.settles in
@@ -33,7 +33,7 @@ pub invariant_of-self-2 : goal.invariant_of-self-2
 invariant_of-self-2 g c =
     let i = g.J.Naming.problem in
     let t0 = g.J.Naming.opening in
-    let d = c.args.draft.value in
+    let d = c.args.draft in
     let e : JournalEntry = entry_of c.args.number d.asked in
     let h : List JournalEntry = c.self.inside.journal.items in
     let all : List JournalEntry = c.push.new.self.items in
