@@ -11,7 +11,7 @@ use Rattle.ctt_edits.proofs.showing.gather.Goals as goal
 pub loop-number-init : goal.loop-number-init
 loop-number-init g c =
     let t : List Placed = g.S.Rooms.list c.args.sheet.now in
-    (sym (part_none (is_marked c.args.courses.now) t), omega arith)
+    (c.new-list.ensures.items ∙ sym (part_none (is_marked c.args.courses.now) t), omega arith)
 
 pub loop-number-preserved : goal.loop-number-preserved
 loop-number-preserved g c =

@@ -24,11 +24,7 @@ curriculum_row-requires g c κs =
     search rules
 
 pub course_row-requires : goal.course_row-requires
-course_row-requires g c κs =
-    let fits : c.in-Course.course < course_count (g.S.Rooms.problem c.args.sheet.now) = rw c.in-Course.is at c.requires in
-    search rules
+course_row-requires g c = rw c.in-Course.is at c.requires
 
 pub slot_row-requires : goal.slot_row-requires
-slot_row-requires g c κs =
-    let fits : c.in-Slot.slot < slot_count (g.S.Rooms.problem c.args.sheet.now) = rw c.in-Slot.is at c.requires in
-    search rules
+slot_row-requires g c = rw c.in-Slot.is at c.requires
