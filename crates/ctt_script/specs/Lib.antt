@@ -3,6 +3,7 @@ pub mod AnswerText
 pub mod Answering
 pub mod CallPlaces
 pub mod Entries
+pub mod JournalLaws
 pub mod JournalPlaces
 pub mod JournalText
 pub mod JournalWords

@@ -9,6 +9,7 @@ mod gathered;
 mod journal;
 mod journal_fault;
 mod kinds;
+pub mod laws;
 mod lines;
 mod places;
 mod replies;
