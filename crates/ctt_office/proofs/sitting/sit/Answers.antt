@@ -1,27 +1,29 @@
-use Rattle.std.proofs.Common.{refl}
+use Rattle.std.proofs.Common.{◌∙◌, ap, refl}
 use Rattle.std.proofs.lemmas.Result.{IfErr-at_err, IfOk-at_ok}
+use Rattle.ctt_desk.specs.Planners.{PlannerValue}
 use Rattle.ctt_office.specs.Lines.{coming}
 use Rattle.ctt_office.proofs.SittingLemmas.{breaks_off, ends_by, leaves_by, sits_down, sits_on}
 use Rattle.ctt_office.proofs.sitting.sit.Goals as goal
 
 pub loop-init : goal.loop-init
-loop-init g c = sits_down _ _ c.args.seat (coming c.args.lines.now) (g.O.Sink.taken c.args.out.now) (coming c.args.lines.now) refl
+loop-init g c = sits_down _ _ _ _ c.args.seat (coming c.args.lines.now) (g.O.Sink.taken c.args.out.now) (coming c.args.lines.now) refl
 
 pub returns-in-Err-clause-sat : goal.returns-in-Err-clause-sat
 returns-in-Err-clause-sat g c =
-    ends_by _ _ c.args.seat c.loop.seat (coming c.args.lines.now) (g.O.Sink.taken c.args.out.now) (g.O.Sink.taken c.loop.out) (coming c.loop.lines) c.next_line.new.lines.has_failed c.in-Err.why c.loop.invariant c.in-Err.ensures.end
+    ends_by _ _ _ _ c.args.seat c.loop.seat (coming c.args.lines.now) (g.O.Sink.taken c.args.out.now) (g.O.Sink.taken c.loop.out) (coming c.loop.lines) c.next_line.new.lines.has_failed c.in-Err.end c.loop.invariant c.in-Err.ensures.end c.leave.ensures
 
 pub returns-then-is_last-clause-sat : goal.returns-then-is_last-clause-sat
 returns-then-is_last-clause-sat g c =
-    leaves_by _ _ c.args.seat c.loop.seat c.serve-next.result.0 (coming c.args.lines.now) (g.O.Sink.taken c.args.out.now) (g.O.Sink.taken c.loop.out) (g.O.Sink.taken c.serve-next.new.out)
-    (coming c.loop.lines) (coming c.next_line.new.lines) c.in-Ok.line c.loop.invariant c.in-Ok.ensures.asked (IfOk-at_ok _ c.in-Ok-served.is c.serve-next.ensures.told) (c.is_last-is_last.ensures.yes c.if-is_last.true)
+    leaves_by _ _ _ _ c.args.seat c.loop.seat c.serve-next.result.0 (coming c.args.lines.now) (g.O.Sink.taken c.args.out.now) (g.O.Sink.taken c.loop.out) (g.O.Sink.taken c.serve-next.new.out)
+    (coming c.loop.lines) (coming c.next_line.new.lines) c.in-Ok.line c.loop.invariant c.in-Ok.ensures.asked (IfOk-at_ok _ c.in-Ok-served.is c.serve-next.ensures.told) (c.is_last-is_last.ensures.yes c.if-is_last.true) c.leave.ensures
 
 pub loop-preserved : goal.loop-preserved
 loop-preserved g c =
-    sits_on _ _ c.args.seat c.loop.seat c.serve-next.result.0 (coming c.args.lines.now) (g.O.Sink.taken c.args.out.now) (g.O.Sink.taken c.loop.out) (g.O.Sink.taken c.serve-next.new.out)
+    sits_on _ _ _ _ c.args.seat c.loop.seat c.serve-next.result.0 (coming c.args.lines.now) (g.O.Sink.taken c.args.out.now) (g.O.Sink.taken c.loop.out) (g.O.Sink.taken c.serve-next.new.out)
     (coming c.loop.lines) (coming c.next_line.new.lines) c.in-Ok.line c.loop.invariant c.in-Ok.ensures.asked (IfOk-at_ok _ c.in-Ok-served.is c.serve-next.ensures.told) (c.is_last-is_last.ensures.no c.if-is_last.false)
 
 pub returns-in-Err-served-clause-sat : goal.returns-in-Err-served-clause-sat
 returns-in-Err-served-clause-sat g c =
-    breaks_off _ _ c.args.seat c.loop.seat c.serve-next.result.0 (coming c.args.lines.now) (g.O.Sink.taken c.args.out.now) (g.O.Sink.taken c.loop.out) (g.O.Sink.taken c.serve-next.new.out)
-    (coming c.loop.lines) (coming c.next_line.new.lines) c.in-Ok.line c.in-Err-served.why c.loop.invariant c.in-Ok.ensures.asked (IfErr-at_err _ c.in-Err-served.is c.serve-next.ensures.cut)
+    breaks_off _ _ _ _ c.args.seat c.loop.seat c.serve-next.result.0 (coming c.args.lines.now) (g.O.Sink.taken c.args.out.now) (g.O.Sink.taken c.loop.out) (g.O.Sink.taken c.serve-next.new.out)
+    (coming c.loop.lines) (coming c.next_line.new.lines) c.in-Ok.line c.in-Err-served.cut c.loop.invariant c.in-Ok.ensures.asked (IfErr-at_err _ c.in-Err-served.is c.serve-next.ensures.cut) c.leave.ensures
+    (λ same. ap (λ (p : PlannerValue). p.committed) c.leave.ensures ∙ c.serve-next.ensures.unheard (c.in-Err-served.is ∙ ap _ same))
