@@ -16,27 +16,25 @@ use Rattle.ctt_desk.specs.declared.refusal.RefreshRefusal.TheVariants as unrefre
 use Rattle.ctt_desk.specs.declared.shared_fault.SharedFault.{SharedFault}
 use Rattle.ctt_desk.specs.declared.shared_fault.SharedFault.TheVariants as shared
 use Rattle.ctt_crew.specs.Attended.{leaver}
-use Rattle.ctt_crew.specs.Seats.{Abandons, Asks, Commits, IsUntold, Opens, Refreshes, Shows, Takes, seat_refused, seat_unrefreshed}
+use Rattle.ctt_crew.specs.Seats.{Abandons, Asks, Commits, Opens, Refreshes, Shows, Takes, seat_refused, seat_unrefreshed}
 use Rattle.ctt_crew.specs.declared.seat.Seat.{Seat}
 use Rattle.ctt_crew.specs.declared.seat.Seat.TheVariants.{Drafting, Free}
 use Rattle.ctt_crew.specs.declared.seat.Told.{Told}
 use Rattle.ctt_office.specs.SeatAnswers.{IsUncommitted}
 
+-- a planner who could not read
+unread : (i : Problem) (t0 : List Placed) (p q : PlannerValue) (fault : SharedFault) → IsUnread i t0 p q fault → q.committed ≡ p.committed
+unread i t0 p q (shared.Unlawful at fault) why = absurd why
+unread i t0 p q shared.NoPlace why = ap (λ (r : PlannerValue). r.committed) why
+unread i t0 p q shared.NoMemory why = why.committed
+
 module _ {X Y : Type 0} (i : Problem) (t0 : List Placed) where
   as_before : (before after : Seat X Y) → after ≡ before → IsUncommitted before after
   as_before before after same = ap (λ (s : Seat X Y). (leaver s).committed) same
 
-  untold : (p q : PlannerValue) (told : Told) → IsUntold i t0 p q told → q.committed ≡ p.committed
-  untold p q told is = by is.0 is.1
-    where
-      by : (fault : SharedFault) → IsUnread i t0 p q fault → q.committed ≡ p.committed
-      by (shared.Unlawful at fault) why = absurd why
-      by shared.NoPlace why = ap (λ (r : PlannerValue). r.committed) why
-      by shared.NoMemory why = why.committed
-
   opens : (before after : Seat X Y) (told : Told) → Opens i t0 before after told → IsUncommitted before after
   opens (Free p) (Drafting d) told is = is.0.planner.committed
-  opens (Free p) (Free q) told is = untold p q told is
+  opens (Free p) (Free q) told is = unread i t0 p q is.0 is.1
   opens (Drafting d) after told is = as_before (Drafting d) after is.0
 
   asks : (call : Call) (before after : Seat X Y) (told : Told) → Asks i call before after told → IsUncommitted before after
@@ -74,7 +72,7 @@ module _ {X Y : Type 0} (i : Problem) (t0 : List Placed) where
   shows : (look : Look) (before after : Seat X Y) (told : Told) → Shows i t0 look before after told → IsUncommitted before after
   shows look (Free p) (Drafting d) told is = absurd is
   shows look (Free p) (Free q) told (inl is) = is.1.planner.committed
-  shows look (Free p) (Free q) told (inr is) = untold p q told is
+  shows look (Free p) (Free q) told (inr is) = unread i t0 p q is.0 is.1
   shows look (Drafting d) after told is = as_before (Drafting d) after is.0
 
   -- a step that is no commit

@@ -1,5 +1,5 @@
 -- What a reader of lines gives next.
-use Rattle.std.proofs.Common.{◌≡◌, ℕ, ◌+◌, ◌-◌, ◌<◌, Bool, false, List, [], ◌∷◌, ◌++◌, length, take, drop, Option, Some, None, refl, sym, ap, subst, ◌∙◌, arith, append_assoc, append-nil, inl, inr}
+use Rattle.std.proofs.Common.{◌≡◌, ℕ, ◌+◌, ◌-◌, ◌<◌, ◌≤◌, Bool, false, List, [], ◌∷◌, ◌++◌, length, take, drop, Option, Some, None, refl, sym, ap, subst, ◌∙◌, arith, append_assoc, append-nil, inl, inr}
 use Rattle.std.specs.Io.KnownBytes.{Consumes, IsAtEnd, Keeps, prepend_known}
 use Rattle.std.proofs.KnownBytes.{Consumes-kept, Consumes-nil, Consumes-trans}
 use Rattle.std.proofs.lemmas.List.{drop-drop, length-append, length-drop, take_all}
@@ -150,15 +150,16 @@ none_taken k xs = let none : k - k ≡ 0 = omega arith in ap (λ j. take j xs) n
 
 -- ---- what was read
 
--- the bytes that were read so far end no line, with those that were held at first, and no read failed
+-- the bytes that were read so far end no line, with those that were held at first; no read failed, and each gave some
 pub record HasRead (old now : ReaderValue) : Type 0 where
   pub read : List ℕ
   pub unended : IsOpen (old.held ++ read)
   pub given : Consumes old.left now.left read
   pub unfailed : now.has_failed ≡ old.has_failed
+  pub few : now.pulls ≤ old.pulls + length read
 
 pub reads_none : (old : ReaderValue) → IsOpen old.held → HasRead old old
-reads_none old unended = record { read = []; unended = subst IsOpen (sym (append-nil old.held)) unended; given = Consumes-nil old.left; unfailed = refl }
+reads_none old unended = record { read = []; unended = subst IsOpen (sym (append-nil old.held)) unended; given = Consumes-nil old.left; unfailed = refl; few = omega arith }
 
 open_after : (xs ys : List ℕ) → IsOpen (xs ++ ys) → IsOpen ys
 open_after [] ys both = both
@@ -174,11 +175,12 @@ reads_more old now new is grown unended same = record {
   unended = open_all old.held is.read grown.0 now.held is.unended (subst IsOpen grown.1 unended);
   given = Consumes-trans old.left now.left new.left is.read grown.0 is.given grown.2;
   unfailed = same ∙ is.unfailed;
+  few = (let more = length-append is.read grown.0 in let first = is.few in let more_reads = grown.3 in omega (arith, more, first, more_reads));
 }
 
 -- what is held is let go
 pub reads_still : (old now : ReaderValue) → HasRead old now → HasRead old (record now { line = []; held = [] })
-reads_still old now is = record { read = is.read; unended = is.unended; given = is.given; unfailed = is.unfailed }
+reads_still old now is = record { read = is.read; unended = is.unended; given = is.given; unfailed = is.unfailed; few = is.few }
 
 -- what is read at most once from there on is so from the first on
 pub once_from : {R : Type 0} (left : R → Option (List ℕ)) (has_failed : R → Bool) (pulls : R → ℕ) (old now : ReaderValue) (reads : ℕ) → HasRead old now → IsReadOnce left has_failed pulls now reads
@@ -189,5 +191,6 @@ once_from left has_failed pulls old now reads is once = (
   open_all old.held is.read once.1 now.held is.unended once.2,
   Consumes-trans old.left now.left (left once.0) is.read once.1 is.given once.3,
   once.4 ∙ is.unfailed,
-  once.5,
+  (let more = length-append is.read once.1 in let first = is.few in let more_reads = once.5 in omega (arith, more, first, more_reads)),
+  once.6,
 )

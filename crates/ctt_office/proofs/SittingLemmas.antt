@@ -1,17 +1,20 @@
 -- A planner at a seat, line by line.
-use Rattle.std.proofs.Common.{◌≡◌, ◌≢◌, ◌∙◌, ◌⊎◌, inl, inr, Bool, true, ℕ, List, [], ◌∷◌, ◌++◌, take, Option, Some, None, refl, sym, ap, subst, append_assoc, append-nil}
+use Rattle.std.proofs.Common.{◌≡◌, ◌≢◌, ◌∙◌, ◌⊎◌, inl, inr, Bool, true, false, nat_le, if◌then◌else◌, arith, length, ℕ, List, [], ◌∷◌, ◌++◌, take, Option, Some, None, refl, sym, ap, subst, append_assoc, append-nil}
+use Rattle.std.proofs.lemmas.Bool.{le-leb, leb-true}
 use Rattle.std.proofs.KnownBytes.{Appends-kept, Appends-nil, Appends-trans}
 use Rattle.std.specs.Io.KnownBytes.{Appends, IsAtEnd}
 use Rattle.ctt_devices.specs.Output.{AppendsFront}
-use Rattle.ctt_office.specs.Lines.{Gives, IsFirstLine}
+use Rattle.ctt_text.specs.Problem.{Problem}
+use Rattle.ctt_office.specs.Lines.{Gives, IsFirstLine, IsLong, IsShort}
 use Rattle.ctt_office.specs.SeatAnswers.{Tells}
+use Rattle.ctt_office.specs.SeatText.{asked_by, seat_line}
 use Rattle.ctt_office.specs.Sittings.{AreAnswered, EndsAt, GoOn, IsBroken, IsCut, IsCutShort, IsSat, IsSitting}
 use Rattle.ctt_office.specs.declared.seat_line.SeatLine.{SeatLine}
-use Rattle.ctt_office.specs.declared.seat_line.SeatLine.TheVariants.{Leave}
+use Rattle.ctt_office.specs.declared.seat_line.SeatLine.TheVariants.{Bad, Leave}
 use Rattle.ctt_office.specs.declared.sitting.Ending.{Ending}
 use Rattle.ctt_office.specs.declared.sitting.Ending.TheVariants.{Broken, Ended, Left, NoMemory}
 
-module _ {T : Type 0} (asked : List ℕ → SeatLine) (Is : SeatLine → T → T → List ℕ → Type 0) (Gone Unheard : T → Type 0) where
+module _ {T : Type 0} (asked : List ℕ → SeatLine) (Is : SeatLine → T → T → List ℕ → Type 0) where
   -- one line more is answered
   more_answered : (bytes : List ℕ) (first seat : T) (lines : List (List ℕ)) (answers rest line after answer : List ℕ) (next : T) → AreAnswered asked Is bytes first lines answers rest seat → IsFirstLine line after rest
       → Is (asked line) seat next answer → AreAnswered asked Is bytes first (lines ++ line ∷ []) (answers ++ answer) after next
@@ -74,6 +77,7 @@ module _ {T : Type 0} (asked : List ℕ → SeatLine) (Is : SeatLine → T → T
         );
       }
 
+module _ {T : Type 0} (asked : List ℕ → SeatLine) (Is : SeatLine → T → T → List ℕ → Type 0) (Gone Unheard : T → Type 0) where
   -- a line by which he leaves is answered, and he has left
   pub leaves_by : (before seat next : T) (left old mid new still later : Option (List ℕ)) (line : SeatLine) → IsSitting asked Is before left old mid still seat → Gives (λ bytes. line ≡ asked bytes) still later
       → Tells (Is line seat next) mid new → line ≡ Leave → Gone next → IsSat asked Is Gone Unheard before left old new Left
@@ -81,7 +85,7 @@ module _ {T : Type 0} (asked : List ℕ → SeatLine) (Is : SeatLine → T → T
       record { answers = sits.answers ++ tells.0; told = Appends-trans old mid new sits.answers tells.0 sits.told tells.2; served = tt }
   leaves_by before seat next (Some bytes) old mid new still later line sits gives tells leaves gone =
       let so_far = sits.served in
-      let got = given line so_far.1 still later so_far.2 gives in
+      let got = given asked Is line so_far.1 still later so_far.2 gives in
       record {
         answers = sits.answers ++ tells.0;
         told = Appends-trans old mid new sits.answers tells.0 sits.told tells.2;
@@ -89,7 +93,7 @@ module _ {T : Type 0} (asked : List ℕ → SeatLine) (Is : SeatLine → T → T
           so_far.0 ++ got.0 ∷ [],
           got.1,
           next,
-          more_answered bytes before seat so_far.0 sits.answers so_far.1 got.0 got.1 tells.0 next so_far.3 got.4 (subst (λ l. Is l seat next tells.0) got.3 tells.1),
+          more_answered asked Is bytes before seat so_far.0 sits.answers so_far.1 got.0 got.1 tells.0 next so_far.3 got.4 (subst (λ l. Is l seat next tells.0) got.3 tells.1),
           (so_far.0, got.0, refl, so_far.4, sym got.3 ∙ leaves),
           gone,
         );
@@ -133,7 +137,7 @@ module _ {T : Type 0} (asked : List ℕ → SeatLine) (Is : SeatLine → T → T
       record { answers = sits.answers; part = take front.0 answer; told = Appends-trans old mid new sits.answers (take front.0 answer) sits.told front.1; served = tt }
   cut_off before seat next (Some bytes) old mid new still later line sits gives answer is front gone =
       let so_far = sits.served in
-      let got = given line so_far.1 still later so_far.2 gives in
+      let got = given asked Is line so_far.1 still later so_far.2 gives in
       record {
         answers = sits.answers;
         part = take front.0 answer;
@@ -156,3 +160,25 @@ read_failed known failed why Q end same = inl (subst (EndsAt known failed) same 
 
 pub write_failed : (failed : Bool) (why : Ending) (P : Type 0) → IsBroken failed why → why ≡ Broken → P ⊎ (failed ≡ true)
 write_failed failed why P is same = inr (subst (IsBroken failed) same is)
+
+-- what is lost in front is such a line in another way too
+pub gives_also : (P Q : List ℕ → Type 0) (old new : Option (List ℕ)) → ((line : List ℕ) → P line → Q line) → Gives P old new → Gives Q old new
+gives_also P Q None new also gives = tt
+gives_also P Q (Some all) None also gives = absurd gives
+gives_also P Q (Some all) (Some rest) also gives = (gives.0, also gives.0 gives.1, gives.2)
+
+-- what a line asks for that is not too long
+pub asks_short : (i : Problem) (p : ℕ) (line given : List ℕ) (what : SeatLine) → what ≡ seat_line i p given → given ≡ line → IsShort line → what ≡ asked_by i p line
+asks_short i p line given what is same short = by (nat_le (length line) 65536) refl
+  where
+    by : (b : Bool) → nat_le (length line) 65536 ≡ b → what ≡ (if b then seat_line i p line else Bad)
+    by true e = is ∙ ap (seat_line i p) same
+    by false e = (let within = le-leb (length line) 65536 short in cc)
+
+-- one that is too long asks for nothing that is known
+pub asks_long : (i : Problem) (p : ℕ) (line : List ℕ) → IsLong line → Bad ≡ asked_by i p line
+asks_long i p line long = by (nat_le (length line) 65536) refl
+  where
+    by : (b : Bool) → nat_le (length line) 65536 ≡ b → Bad ≡ (if b then seat_line i p line else Bad)
+    by true e = (let within = leb-true (length line) 65536 e in absurd (omega (arith, within, long)))
+    by false e = refl

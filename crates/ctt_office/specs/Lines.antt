@@ -53,13 +53,13 @@ GivesNext End old new = IsAtEnd (coming old)
 abbrev pub HasLine : List ℕ → Type 0
 HasLine held = ¬ IsOpen held
 
--- bytes were read after those that were held
+-- bytes were read after those that were held, by no more reads than they are
 abbrev pub IsGrown : ReaderValue → ReaderValue → Type 0
-IsGrown old new = (piece : List ℕ) × (new.held ≡ old.held ++ piece) × Consumes old.left new.left piece
+IsGrown old new = (piece : List ℕ) × (new.held ≡ old.held ++ piece) × Consumes old.left new.left piece × (new.pulls ≤ old.pulls + length piece)
 
--- so often it is read from: at most once more than a source from which bytes were read that end no line, with those that were held, and of which no read failed meanwhile
+-- so often it is read from: at most once more than a source from which bytes were read that end no line, with those that were held, of which no read failed meanwhile, and each gave some
 abbrev pub IsReadOnce : {R : Type 0} → (R → Option (List ℕ)) → (R → Bool) → (R → ℕ) → ReaderValue → ℕ → Type 0
-IsReadOnce {R} left has_failed pulls old reads = (source : R) × (read : List ℕ) × IsOpen (old.held ++ read) × Consumes old.left (left source) read × (has_failed source ≡ old.has_failed) × (reads ≤ pulls source + 1)
+IsReadOnce {R} left has_failed pulls old reads = (source : R) × (read : List ℕ) × IsOpen (old.held ++ read) × Consumes old.left (left source) read × (has_failed source ≡ old.has_failed) × (pulls source ≤ old.pulls + length read) × (reads ≤ pulls source + 1)
 
 -- a read has failed, none is tried any more, and no line is at hand
 abbrev pub IsShut : ReaderValue → Type 0

@@ -134,7 +134,7 @@ impl<R: Source> LineReader<R> {
     fn pull(&mut self) -> Result<bool, Failed>
         requires open { IsOpen self.old.held }
         requires short { IsShort self.old.held }
-        ensures grown { OnOk result (IsGrown self.old self.new) }
+        ensures grown { result ≡ Ok true → IsGrown self.old self.new }
         ensures coming { OnOk result (Keeps (coming self.old) (coming self.new)) }
         ensures line { self.old.line ≡ [] → self.new.line ≡ [] }
         ensures end { result ≡ Ok false

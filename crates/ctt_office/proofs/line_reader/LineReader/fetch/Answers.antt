@@ -1,4 +1,4 @@
-use Rattle.std.proofs.Common.{ap, subst, sym}
+use Rattle.std.proofs.Common.{◌≡◌, Ok, ap, rules, subst, sym, true}
 use Rattle.std.proofs.KnownBytes.{Keeps-trans}
 use Rattle.std.specs.Io.KnownBytes.{Keeps}
 use Rattle.ctt_office.specs.Lines.{IsOpen, IsReadOnce, ReaderValue, coming}
@@ -32,8 +32,9 @@ returns-in-Some-find-clause-once g c =
 pub loop-preserved : goal.loop-preserved
 loop-preserved g c =
     let old = c.args.self.now in
+    let some : c.pull.result ≡ Ok true = search rules in
     let none = c.in_default.ensures.none in
     let keeps = Keeps-trans (coming old) (coming c.loop.self) (coming c.pull.new.self) c.loop.invariant.3 c.in_ok-pull.ensures.coming in
-    let read = reads_more old c.loop.self c.pull.new.self c.loop.invariant.4 c.in_ok-pull.ensures.grown none.1 c.in_ok-pull.ensures.unmarked in
+    let read = reads_more old c.loop.self c.pull.new.self c.loop.invariant.4 (c.pull.ensures.grown some) none.1 c.in_ok-pull.ensures.unmarked in
     let all = subst (λ (r : ReaderValue). IsOpen r.held × Keeps (coming old) (coming r) × HasRead old r) (sym none.0) (none.1, keeps, read) in
     (tt, tt, all.0, all.1, all.2)

@@ -1,4 +1,4 @@
-use Rattle.std.proofs.Common.{◌≡◌, ◌∙◌, drop, rules, sym, subst}
+use Rattle.std.proofs.Common.{◌≡◌, ◌∙◌, Ok, drop, rules, sym, subst, true}
 use Rattle.ctt_office.specs.Lines.{IsOpen, IsReadOnce}
 use Rattle.ctt_office.proofs.NextLemmas.{HasRead, IsPast, all_behind, ends_behind, forgets, goes_on, none_taken, once_from, reads_more, reads_on, reads_still}
 use Rattle.ctt_office.proofs.line_reader.LineReader.pass_long.Goals as goal
@@ -36,10 +36,11 @@ returns-in-Some-first_end-clause-once g c =
 pub loop-preserved : goal.loop-preserved
 loop-preserved g c =
     let old = c.args.self.now in
+    let some : c.pull.result ≡ Ok true = search rules in
     let empty : IsPast old c.forget.new.self = subst (IsPast old) (sym c.forget.ensures) (forgets old c.loop.self c.loop.invariant.2) in
     let past : IsPast old c.pull.new.self = reads_on old c.forget.new.self c.pull.new.self empty c.in_ok-pull.ensures.coming in
     let read : HasRead old c.forget.new.self = subst (HasRead old) (sym c.forget.ensures) (reads_still old c.loop.self c.loop.invariant.3) in
     let here : c.pull.new.self.held ≡ drop c.self.inside.given c.self.inside.held.items = search rules in
     let unended : IsOpen c.pull.new.self.held =
     subst IsOpen (all_behind c.deref.result.now c.self.inside.held.items c.self.inside.given c.deref.ensures.value ∙ sym here) c.in_default.ensures.none in
-    (tt, tt, goes_on old c.pull.new.self past unended, reads_more old c.forget.new.self c.pull.new.self read c.in_ok-pull.ensures.grown unended c.in_ok-pull.ensures.unmarked)
+    (tt, tt, goes_on old c.pull.new.self past unended, reads_more old c.forget.new.self c.pull.new.self read (c.pull.ensures.grown some) unended c.in_ok-pull.ensures.unmarked)
