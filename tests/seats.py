@@ -297,7 +297,7 @@ def how_ended(desk, played):
             return "collected"
     if desk.is_front(played):
         return "stopped"
-    return f"{played.met}: {played.again} typed again, {played.answers!r}, {played.left!r}"
+    return f"{played.met.strip()}: {played.again} typed again, {played.answers!r}, {played.left!r}"
 
 
 with tempfile.TemporaryDirectory() as room:
