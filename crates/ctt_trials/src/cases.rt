@@ -16,6 +16,8 @@ pub(crate) enum Way {
     List(On),
     /// On grid sheets.
     Grid(On),
+    /// As a script, which is run on grid sheets.
+    Script(Told),
 }
 
 /// How a case is played without a sheet.
@@ -42,16 +44,20 @@ pub(crate) enum On {
     Step,
     /// Its lines as events, all at once.
     Run,
-    /// Its lines as a text, whose answers are a text.
-    Text,
-    /// Its lines as a text, whose journal is told.
-    Journal,
-    /// Its lines as a text, whose answers are not passed on.
-    Unflushed,
     /// Its lines are the text of a journal, which is audited.
     Audit,
     /// Its lines are the text of a journal, and what this leaves is told.
     Left,
+}
+
+/// What is told of a script that is run.
+pub(crate) enum Told {
+    /// Its answers, and what it leaves.
+    Answers,
+    /// How long its answers are, and its journal.
+    Journal,
+    /// That its answers are not passed on.
+    Unflushed,
 }
 
 /// One way in which a case is played.
@@ -95,7 +101,6 @@ fn play_on<'i, S: Sheet<'i>>(script: &Script<'i>, story: &mut Story, on: &On) {
         On::Lines | On::Placement => sheets::play::<S>(script, story, on),
         On::Draft | On::LongDraft => drafts::play::<S>(script, story, on),
         On::Step | On::Run => desks::play::<S>(script, story, on),
-        On::Text | On::Journal | On::Unflushed => scripts::play::<S>(script, story, on),
         On::Audit | On::Left => {
             journals::read_text::<S>(script, story, on, script.lines.as_bytes());
         }
@@ -108,6 +113,7 @@ fn play_once(script: &Script, story: &mut Story, way: &Way) {
         Way::Plain(plain) => play_plain(script, story, plain),
         Way::List(on) => play_on::<ListSheet>(script, story, on),
         Way::Grid(on) => play_on::<GridSheet>(script, story, on),
+        Way::Script(told) => scripts::play(script, story, told),
     }
 }
 

@@ -1,6 +1,6 @@
 //! The tables of all cases.
 
-use crate::cases::{Case, On, Plain, Play, Way};
+use crate::cases::{Case, On, Plain, Play, Told, Way};
 use crate::texts::{CLASH, JOURNAL, NOTHING, SOLUTION, TOP, WITHOUT_TOP};
 use crate::worked::*;
 
@@ -62,21 +62,20 @@ const LONG_DRAFT: &[Play] = plays![
     Way::Grid(On::LongDraft) => "on the grid sheet",
 ];
 
-/// A script by step, at once and as a text, on desks of both kinds of sheets; and its journal.
+/// A script by step and at once on desks of both kinds of sheets, and as a text; and its journal.
 const DESK: &[Play] = plays![
     Way::List(On::Step) => "",
     Way::Grid(On::Step) => "on the grid sheet",
     Way::List(On::Run) => "at once",
     Way::Grid(On::Run) => "at once on the grid sheet",
-    Way::List(On::Text) => "as a script",
-    Way::Grid(On::Text) => "as a script on the grid sheet",
-    Way::Grid(On::Journal) => "",
+    Way::Script(Told::Answers) => "as a script",
+    Way::Script(Told::Journal) => "",
 ];
 
 /// Lines that are no events, by step and as a text.
 const BAD: &[Play] = plays![
     Way::Grid(On::Step) => "",
-    Way::Grid(On::Text) => "as a script",
+    Way::Script(Told::Answers) => "as a script",
 ];
 
 /// A journal is audited.
@@ -92,11 +91,11 @@ const LEFT: &[Play] = plays![
 const UNLAWFUL: &[Play] = plays![
     Way::Grid(On::Step) => "",
     Way::Grid(On::Audit) => "",
-    Way::Grid(On::Text) => "",
+    Way::Script(Told::Answers) => "",
 ];
 
 /// A script whose answers are not passed on.
-const UNFLUSHED: &[Play] = plays![Way::Grid(On::Unflushed) => ""];
+const UNFLUSHED: &[Play] = plays![Way::Script(Told::Unflushed) => ""];
 
 /// Reports, lines on one sheet, and drafts by themselves.
 const ON_SHEETS: &[Case] = &[
