@@ -46,17 +46,31 @@ fn tell_left<'i>(
     }
 }
 
+/// How many bytes of the answers are taken.
+fn room_for(told: &Told) -> usize {
+    match told {
+        Told::Cut => 3,
+        _ => usize::MAX,
+    }
+}
+
 /// Plays a script. Its answers are told, and what it leaves; or only how long they are, and its journal.
 pub(crate) fn play(script: &Script, story: &mut Story, told: &Told) {
     let here = story.len();
     story.is_deaf = matches!(told, Told::Unflushed);
+    story.room = room_for(told);
     match ran(script, story) {
         Ok(desk) => {
             tell_left(&desk, story, told, script, here);
             let_go(desk);
         }
         Err(ScriptFault::Unlawful(at, fault)) => story.unlawful(script.small, at, fault),
-        Err(ScriptFault::Write) => story.say("not passed on"),
+        Err(ScriptFault::Write) => {
+            if matches!(told, Told::Cut) {
+                story.bytes(b"\n");
+            }
+            story.say("not passed on");
+        }
         Err(_fault) => story.no_memory(),
     }
 }
