@@ -117,21 +117,20 @@ fn place_geo<'i, S: Sheet<'i>>(story: &mut Story, sheet: &mut S) {
     }
 }
 
-/// Tells whether a sheet accepts a change of one cell.
-fn tell_accepted<'i, S: Sheet<'i>>(
-    story: &mut Story,
-    sheet: &S,
-    course: u16,
-    slot: u16,
-    room: Option<RoomNo>,
-) {
-    let cell = Cell {
+/// A cell in which a lecture is added in room A, or removed.
+fn cell(course: u16, slot: u16, is_added: bool) -> Cell {
+    let room = if is_added { Some(RoomNo::new(0)) } else { None };
+    Cell {
         course: CourseNo::new(course),
         slot: SlotNo::new(slot),
         room,
-    };
-    tell_cells(story, &[cell]);
-    if let Some(change) = Change::of(&[cell]) {
+    }
+}
+
+/// Tells whether a sheet accepts a change of these cells.
+fn tell_accepted<'i, S: Sheet<'i>>(story: &mut Story, sheet: &S, cells: &[Cell]) {
+    tell_cells(story, cells);
+    if let Some(change) = Change::of(cells) {
         story.count("accepts", u64::from(sheet.accepts(&change)));
     }
 }
@@ -139,10 +138,9 @@ fn tell_accepted<'i, S: Sheet<'i>>(
 /// Tells whether a sheet accepts a third course in a room that is taken, the removal of a lecture, and a course that is not
 /// there.
 fn tell_all_accepted<'i, S: Sheet<'i>>(story: &mut Story, sheet: &S) {
-    let room = Some(RoomNo::new(0));
-    tell_accepted(story, sheet, 2, 1, room);
-    tell_accepted(story, sheet, 1, 5, None);
-    tell_accepted(story, sheet, 3, 1, room);
+    tell_accepted(story, sheet, &[cell(2, 1, true)]);
+    tell_accepted(story, sheet, &[cell(1, 5, false)]);
+    tell_accepted(story, sheet, &[cell(3, 1, true)]);
 }
 
 /// Plays lines or a placement on a sheet that has the lectures of a script at first.
