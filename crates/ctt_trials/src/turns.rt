@@ -1,6 +1,6 @@
 //! The planners of a shared desk in their seats, and what they do there by turns.
 
-ghost use Rattle.std.specs.Prelude.{◌≡◌};
+ghost use Rattle.std.specs.Prelude.{◌≡◌, IfSome};
 ghost use Rattle.ctt_core.specs.Runs.{EventFits};
 
 use crate::story::Story;
@@ -154,10 +154,20 @@ fn learn<'i, S: Timetable, J: Naming>(
     place: usize,
     receipt: &Option<Receipt<J>>,
 ) {
-    if let (Some(Some(Seat::Free(planner))), Some(receipt)) = (places.get_mut(place), receipt) {
+    let Some(receipt) = receipt else {
+        return;
+    };
+    if let Some(Some(Seat::Free(planner))) = places.get_mut(place) {
         planner.learn(receipt);
         tell_planner(story, planner);
     }
+}
+
+/// What a planner's line asks for.
+fn event_of(small: &Instance, words: &[u8]) -> Option<Event>
+    ensures { IfSome result (EventFits small.now 64) }
+{
+    read_own_line(small, PlannerNo::new(0), words)
 }
 
 /// The planner of a place does what his line says, once more where memory is wanted: besides the lines of a crew, `learn` and
@@ -177,7 +187,7 @@ fn take_turn<'i, S: Sheet<'i>, J: Naming, R: Wait>(
     if words == b"leave".as_slice() {
         return drop(take_at(&mut seats.places, place));
     }
-    let Some(event) = read_own_line(here.small, PlannerNo::new(0), words) else {
+    let Some(event) = event_of(here.small, words) else {
         return story.bad_line(words);
     };
     if !answers(here, seats, story, place, &event) {
