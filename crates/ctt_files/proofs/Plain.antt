@@ -114,7 +114,7 @@ file_plain held name fault is = subst IsPlain (sym is.is) (input_plain name is.m
 
 -- memory may be wanted for any file
 pub memory_of_file : (held : Held) (name : String Global) (fault : Fault) → fault ≡ NoMemory → IsOfFile held name fault
-memory_of_file held name fault is = record { met = input.NoMemory; is = is; cause = tt; }
+memory_of_file held name fault is = record { met = input.NoMemory; is = is; cause = tt }
 
 module _ {E : Type 0} (told : E → Fault) (Meets : List ℕ → E → Type 0) (IsNone : List ℕ → Type 0) (is_plain : (met : E) → IsPlain (told met)) where
   text_plain : (text : List ℕ) (fault : Fault) → IsNoText told Meets IsNone text fault → IsPlain fault
