@@ -2,12 +2,14 @@
 use Rattle.std.proofs.Common.{◌≡◌, ◌∙◌, ◌+◌, ◌<◌, ◌++◌, ◌∷◌, List, [], ℕ, zero, suc, append-nil, length, map, zip, refl, ap, arith, sym, subst, Result, Ok, Err}
 use Rattle.std.specs.Prelude.{IfErr, IfOk, IsOkAnd}
 use Rattle.std.proofs.lemmas.List.{length-append, map-append}
+use Rattle.std.proofs.lemmas.List.Elements.{All-nil}
+use mathlib.Core.List.{IsPrefix}
 use Rattle.ctt_text.specs.Problem.{Problem}
 use Rattle.ctt_text.specs.declared.placed.Placed.{Placed}
 use Rattle.ctt_core.specs.Runs.{Legal}
 use Rattle.ctt_core.specs.declared.journal.JournalEntry.{JournalEntry}
-use Rattle.ctt_desk.specs.Planners.{new_planner, new_planners}
-use Rattle.ctt_crew.specs.Attended.{AreAttended, IsCrewText}
+use Rattle.ctt_desk.specs.Planners.{PlannerValue, new_planner, new_planners}
+use Rattle.ctt_crew.specs.Attended.{AreAttended, IsClosing, IsCrewText}
 use Rattle.ctt_crew.specs.CrewText.{IsCrewFault, added_fault, closing_text, report_fault}
 use Rattle.ctt_crew.specs.declared.crew_fault.CrewFault.{CrewFault}
 
@@ -41,12 +43,17 @@ report_fits (Ok a) n fault fits is = subst (IsCrewFault n) (sym is) tt
 report_fits (Err told) n fault fits is = subst (IsCrewFault n) (sym is) fits
 
 -- the report of the answers to some scripts
-pub is_crew_text : {A E : Type 0} (answers : Result A E) (texts : A → List (List ℕ)) (problem : Problem) (opening : List Placed) (scripts : List (List ℕ)) (text : List ℕ)
-    → IfOk answers (λ a. AreAttended problem opening (zip (new_planners (length scripts)) scripts) (texts a))
-    → IsOkAnd answers (λ a. (history : List JournalEntry) × Legal problem opening history × (text ≡ closing_text problem opening (texts a) history)) → IsCrewText problem opening scripts text
-is_crew_text (Ok a) texts problem opening scripts text attended told = record { answers = texts a; attended = attended; history = told.0; legal = told.1; is = told.2 }
-is_crew_text (Err e) texts problem opening scripts text attended told = absurd told
+pub is_crew_text : {A E : Type 0} (done : Result A E) (planners : A → List PlannerValue) (texts : A → List (List ℕ)) (problem : Problem) (opening : List Placed) (scripts : List (List ℕ)) (text : List ℕ)
+    → IfOk done (λ a. AreAttended problem opening (zip (new_planners (length scripts)) scripts) (planners a) (texts a))
+    → IsOkAnd done (λ a. IsClosing problem opening (planners a) (texts a) text) → IsCrewText problem opening scripts text
+is_crew_text (Ok a) planners texts problem opening scripts text attended closes = record { planners = planners a; answers = texts a; attended = attended; closes = closes }
+is_crew_text (Err e) planners texts problem opening scripts text attended closes = absurd closes
 
 -- that of nobody
 pub is_closing_text : (problem : Problem) (opening : List Placed) (history : List JournalEntry) (text : List ℕ) → Legal problem opening history → text ≡ closing_text problem opening [] history → IsCrewText problem opening [] text
-is_closing_text problem opening history text legal is = record { answers = []; attended = tt; history = history; legal = legal; is = is }
+is_closing_text problem opening history text legal is = record {
+  planners = [];
+  answers = [];
+  attended = tt;
+  closes = record { history = history; legal = legal; begins = All-nil (λ (p : PlannerValue). IsPrefix p.front history); is = is };
+}
