@@ -1,12 +1,9 @@
 -- What layers above rest on.
-use Rattle.std.specs.Prelude.{ℕ, ◌≡◌, ◌*◌, ◌≤◌, ◌<◌, ◌^◌, false, ◌==◌, List, length}
-use Rattle.std.specs.List.{list_any}
+use Rattle.std.specs.Prelude.{◌*◌, ◌≤◌, ◌<◌, ◌^◌, List, length}
 use Rattle.ctt_text.specs.Problem.{Problem, IsProblem, course_count, slot_count}
-use Rattle.ctt_text.specs.Timetable.{IsTimetable, course_row, slot_row}
+use Rattle.ctt_text.specs.Timetable.{IsTimetable}
 use Rattle.ctt_text.specs.declared.placed.Placed.{Placed}
 use Rattle.ctt_rules.specs.Penalty.{penalty, total}
-use Rattle.ctt_board.specs.Changes.{apply}
-use Rattle.ctt_board.specs.declared.cell.Cell.{Cell}
 
 -- a timetable is no longer than its table
 abbrev pub LengthIsBounded : Type 0
