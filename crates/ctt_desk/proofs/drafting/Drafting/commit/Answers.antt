@@ -4,7 +4,7 @@ use Rattle.ctt_core.specs.declared.journal.JournalEntry.{JournalEntry}
 use Rattle.ctt_core.specs.Runs.{after, Legal}
 use Rattle.ctt_desk.specs.Histories.{own, IsNotHis}
 use Rattle.ctt_desk.specs.Planners.{PlannerValue, DraftingValue, seen_up_to}
-use Rattle.ctt_desk.proofs.OwnLemmas.{accepted, own_seen}
+use Rattle.ctt_desk.proofs.OwnLemmas.{accepted, foreign, own_seen}
 use Rattle.ctt_desk.proofs.drafting.Drafting.commit.Goals as goal
 
 -- the planner by what his methods say of him, with this front
@@ -68,3 +68,17 @@ seeing-requires-after_bounds g c κs within =
     let cause : IsNotHis c.deref_mut.result.now n k c.front-front.result f c.in-NotYours.count = search rules in
     let least : k ≤ length (own n c.front-front.result) = had n k c.self.inside.planner c.front-front.result number committed c.front-front.ensures.same c.committed-committed.ensures.seen in
     subst (λ (x : PlannerValue). x.committed ≤ length (own x.number f)) (sym (told n k c.self.inside.planner f number committed)) (own_seen n k c.in-NotYours.count c.deref_mut.result.now c.front-front.result f cause least)
+
+pub returns-in-NotYours-clause-err : goal.returns-in-NotYours-clause-err
+returns-in-NotYours-clause-err g c =
+    let n = c.number-number.result in
+    let k = c.committed-committed.result in
+    let number = c.number-number.ensures.number in
+    let committed = c.committed-committed.ensures.committed in
+    let p = c.self.inside.planner in
+    let d = c.self.inside.draft in
+    let v = draft_of (planner_of n k c.front-front.result) d in
+    let f = c.commit-outcome.new.front in
+    let cause : IsNotHis c.deref_mut.result.now n k c.front-front.result f c.in-NotYours.count = search rules in
+    foreign g.J.Naming.problem g.J.Naming.opening v c.args.self c.seeing.result c.deref_mut.result.now f c.in-NotYours.count
+    (same_draft n k c.front-front.result p d number committed c.front-front.ensures.same ∙ c.self.view_is) cause (c.seeing.ensures ∙ told n k p f number committed) c.in-Err.ensures.seen
