@@ -1,11 +1,10 @@
 -- What a planner has seen he has seen for good.
-use Rattle.std.proofs.Common.{◌≡◌, ◌∙◌, ◌++◌, ℕ, List, [], ◌∷◌, append_assoc, inl, inr, refl, ap, sym, subst, Option, Some, None, Result, Ok, Err}
+use Rattle.std.proofs.Common.{◌≡◌, ◌∙◌, ◌++◌, ℕ, List, [], ◌∷◌, append_assoc, inl, inr, ap, sym, subst, Option, Some, None, Result, Ok, Err}
 use mathlib.Core.List.{IsPrefix}
 use Rattle.ctt_text.specs.Problem.{Problem}
 use Rattle.ctt_text.specs.declared.placed.Placed.{Placed}
 use Rattle.ctt_edits.specs.declared.call.Call.{Call}
 use Rattle.ctt_edits.specs.declared.looks.Look.{Look}
-use Rattle.ctt_core.specs.declared.answer.Answer.TheVariants as answer
 use Rattle.ctt_core.specs.declared.event.Event.{Event}
 use Rattle.ctt_core.specs.declared.event.Event.TheVariants.{Open, Ask, Commit, Refresh, Abandon, Show}
 use Rattle.ctt_core.specs.declared.journal.JournalEntry.{JournalEntry}
@@ -21,7 +20,7 @@ use Rattle.ctt_desk.specs.declared.shared_fault.SharedFault.TheVariants.{Unlawfu
 use Rattle.ctt_desk.proofs.PrefixLemmas.{prefix_self, prefix_trans}
 use Rattle.ctt_crew.specs.Attended.{AnswersItems, leaver}
 use Rattle.ctt_crew.specs.Laws.{CommitsStay, SeenStays}
-use Rattle.ctt_crew.specs.Seats.{Abandons, AnswersLine, Asks, Commits, IsTold, Opens, Refreshes, Shows, Takes, seat_refused, seat_unrefreshed}
+use Rattle.ctt_crew.specs.Seats.{Abandons, AnswersLine, Asks, Commits, Opens, Refreshes, Shows, Takes, seat_refused, seat_unrefreshed}
 use Rattle.ctt_crew.specs.declared.seat.Seat.{Seat}
 use Rattle.ctt_crew.specs.declared.seat.Seat.TheVariants.{Free, Drafting}
 use Rattle.ctt_crew.specs.declared.seat.Told.{Told}
