@@ -1,12 +1,20 @@
 #!/usr/bin/env bash
 # Refuses requests for memory, by a `malloc` in front of the C library's.
 #
-# Of the trials each request is refused alone, from the first on until a run meets no refusal. Each run has to print what the trials
-# print with memory, but for the number of calls that were made again: which is at least 1, unless the request only gave memory back.
-# Of the program each request of some runs is refused, alone and with all after it: it has to end with status 3 and 'timedesk: no
-# memory' and store nothing. It may end as it does with memory where the request only gave memory back, or is one of those of `collect`:
-# that asks for room for as many elements as may come, and where this is refused for one. Of these there are so many as stand below:
-# the words of the command line are collected twice, and `clap` collects the letters of each two words that it compares.
+# Of the trials each request is refused alone, from the first on until a run meets no refusal. Each
+# run has to print what the trials print with memory, but for the number of calls that were made
+# again, which is at least 1.
+# Of the program each request of some runs is refused, alone and with all after it: it has to end
+# with status 3 and 'timedesk: no memory' and store nothing.
+#
+# Two calls alone can do without what they ask for. Of the program their requests are listed, in
+# order and by size: each of these, and no other, has to end as with memory if it is refused alone.
+# - `collect` asks for room for all elements that may come, and, if that is refused, for one: so the
+#   first of the two may be refused. `owned_words` collects the words of the command line, `serve`
+#   slices of them, and `clap` the letters of a word that it does not know and of the name of each
+#   command, to find one that is like it (`chars_of` of `strsim`).
+# - A desk that accepts a draft cuts the list of its calls to its length (`shrink_to_fit`): if that
+#   is refused, the list stays as it is. In the trials no other request may be done without.
 #
 # Each line of a crew's planner stands twice in his script. One of them may be answered 'no memory': if it is the first of the two, the
 # second has its answer, and all others are as with memory. The crew may also end with status 3 and 'timedesk: no thread', where the
@@ -28,6 +36,11 @@ compiler=$(command -v cc || command -v gcc || command -v clang) || {
 "$compiler" -O1 -shared -fPIC -o "$room/refuse.so" "$here/tests/refuse.c" -ldl || exit 1
 cp -- "$here"/examples/*.ctt "$here"/examples/*.sol "$here"/examples/*.txt "$room"
 cd -- "$room" || exit 1
+# the sizes in bytes of an element of each list
+word_size=24
+slice_size=16
+letter_size=4
+call_size=56
 head -n 4 s.sol >s0.sol
 printf '%s\n' 'journal 1' 'entry 0 2' 'place top A 0 1' 'refused roomtaken geo' 'slot 0 0' 'lectures 1 alg A 0 0' END. >told
 echo 'Barred: 2 alg A top A END.' >barred
@@ -41,23 +54,52 @@ lanes=$(nproc)
 
 # Runs the trials with each request refused whose number is that of the lane, or so many more, and notes how each run ended.
 lane() {
-    local number printed told kind
+    local number printed told met
     for ((number = $1; ; number += lanes)); do
         printed=$(LD_PRELOAD=$room/refuse.so MET=met.$1 REFUSE=$number "$trials" 2>/dev/null && echo done)
-        kind=
-        read -r kind <"met.$1"
-        [ -n "$kind" ] || break
+        met=$(<"met.$1")
+        [ -n "$met" ] || break
         told=${printed##*again }
         if [ "${printed%again *}" != "$wanted" ] || [[ ! $told =~ ^[0-9]+$'\n'done$ ]]; then
             echo "FAILED: the trials, request $number"
         elif [[ $told != 0* ]]; then
             echo again
-        elif [ "$kind" = less ]; then
-            echo back
+        elif [[ $met =~ ^less\ ([0-9]+)$ ]] && ((BASH_REMATCH[1] % call_size == 0)); then
+            echo cut
         else
-            echo "FAILED: the trials, request $number, which could be done without"
+            echo "FAILED: the trials, request $number ($met), which could be done without"
         fi
     done
+}
+
+# What `collect` asks for, by the number and the size of the elements: room for 4 at least.
+collected() {
+    echo "more $(($2 * ($1 < 4 ? 4 : $1)))"
+}
+
+# What `chars_of` asks for: it guesses one letter for four bytes, and doubles the room until all fit.
+letters() {
+    local room
+    for ((room = 4; ; room *= 2)); do
+        collected "$room" "$letter_size"
+        ((room < ${#1})) || break
+    done
+}
+
+# What can be done without, if the program is given these words and has left its journal.
+dispensable() {
+    local name
+    collected $(($# + 1)) "$word_size"
+    collected $(($# + 1)) "$slice_size"
+    if [ "$1" = frobnicate ]; then
+        for name in $names; do
+            letters "$1"
+            letters "$name"
+        done
+    fi
+    if [ -e journal ]; then
+        awk -v size="$call_size" '$1 == "entry" { print "less", size * $3 }' journal
+    fi
 }
 
 # How many runs were noted as this.
@@ -76,20 +118,22 @@ wait
 cat lane.* | grep FAILED | head -n 20
 passed=$(noted -v FAILED)
 failed=$(noted FAILED)
-echo "the trials met $((passed + failed)) refusals: $(noted again) calls were made again, $(noted back) requests gave memory back"
+echo "the trials met $((passed + failed)) refusals: \
+$(noted again) calls were made again, $(noted cut) lists of calls were not cut"
 
 of_trials=$((passed + failed))
-spared=0
+done_without=0
 made_again=0
+names=$("$program" --help | sed -n '/^Commands:$/,/^$/s/^  \([a-z]*\) .*/\1/p')
 for words in 'check small.ctt s.sol --json --barred barred' 'check small.ctt small.ctt' \
     'check small.ctt s.sol --explain' 'check small.ctt s.sol --explain --json' 'week small.ctt s.sol' 'week small.ctt s.sol --course geo' \
     'page small.ctt s.sol' \
     'run small.ctt refreshed --barred barred --journal journal' 'audit small.ctt told --start s0.sol' \
     'journal small.ctt torn' 'list small.ctt told --start s0.sol' 'crew small.ctt twice' frobnicate; do
+    rm -f journal
     "$program" $words >out 2>err
     wanted=$?
-    spare=2
-    [ "$words" = frobnicate ] && spare=45
+    mapfile -t without < <(dispensable $words)
     for later in '' REFUSE_LATER=1; do
         for ((number = 1; ; number++)); do
             rm -f journal
@@ -114,21 +158,26 @@ for words in 'check small.ctt s.sol --json --barred barred' 'check small.ctt sma
                     print i == n ? "no memory" : i == n + 1 && n % 2 == 0 ? line[n] : line[i] }' out | cmp -s - out.now; then
                 made_again=$((made_again + 1))
                 passed=$((passed + 1))
-            elif [ "$is_same" = yes ] && [ -z "$later" ] && grep -q more met && [ "$spare" -gt 0 ]; then
-                spare=$((spare - 1))
-                spared=$((spared + 1))
+            elif [ "$is_same" = yes ] && [ -z "$later" ] && [ "$(<met)" = "${without[0]-}" ]; then
+                without=("${without[@]:1}")
+                done_without=$((done_without + 1))
                 passed=$((passed + 1))
-            elif { [ "$status" = 3 ] && [ ! -s out.now ] && [ ! -e journal ] && [ "$(<err.now)" = 'timedesk: no memory' ]; } \
-                || { [ "$is_same" = yes ] && ! grep -q more met; }; then
+            elif [ "$status" = 3 ] && [ ! -s out.now ] && [ ! -e journal ] \
+                && [ "$(<err.now)" = 'timedesk: no memory' ]; then
                 passed=$((passed + 1))
             else
                 failed=$((failed + 1))
-                echo "FAILED: $words, request $number $later: status $status"
+                echo "FAILED: $words, request $number $later ($(head -n 1 met)): status $status"
             fi
         done
     done
+    if [ "${#without[@]}" != 0 ]; then
+        failed=$((failed + 1))
+        echo "FAILED: $words: it was not done without these requests: ${without[*]}"
+    fi
 done
-echo "the program met $((passed + failed - of_trials)) more, of which $spared were for room by a guess; $made_again lines of a crew were made again"
+echo "the program met $((passed + failed - of_trials)) more: $done_without could be done without, \
+$made_again lines of a crew were made again"
 
 echo "$passed passed, $failed failed"
 [ "$failed" = 0 ]

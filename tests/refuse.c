@@ -1,9 +1,12 @@
-/* Refuses requests for memory: the REFUSEth, and with REFUSE_LATER each one behind it too. Each that is refused is noted in the file MET. */
+/* Refuses requests for memory: the REFUSEth, and with REFUSE_LATER each one after it too. Each that
+ * is refused is noted in the file MET, on a line of its own, by its size: as `less` if it asks that
+ * a block be cut, and else as `more`. */
 #define _GNU_SOURCE
 #include <dlfcn.h>
 #include <fcntl.h>
 #include <malloc.h>
 #include <stdatomic.h>
+#include <stdio.h>
 #include <stdlib.h>
 #include <unistd.h>
 
@@ -27,20 +30,24 @@ __attribute__((constructor)) static void begin(void) {
     atomic_store(&asked, 0);
 }
 
-/* whether the request is refused: which kind it is is noted, since the program may end without a word to the C library */
-static int refused(const char kind[5]) {
+/* whether a request is refused: it is noted at once, since the program may end without a word to
+ * the C library */
+static int refused(const char *kind, size_t size) {
+    char line[32];
     long now = atomic_fetch_add(&asked, 1) + 1;
     if (number == 0 || (later ? now < number : now != number)) {
         return 0;
     }
-    if (met >= 0 && write(met, kind, 5) != 5) {
+    int length = snprintf(line, sizeof line, "%s %zu\n", kind, size);
+    if (met >= 0 && write(met, line, (size_t)length) != length) {
         _exit(99);
     }
     return 1;
 }
 
-void *malloc(size_t size) { return next_malloc && !refused("more\n") ? next_malloc(size) : 0; }
+void *malloc(size_t size) { return next_malloc && !refused("more", size) ? next_malloc(size) : 0; }
 
 void *realloc(void *old, size_t size) {
-    return refused(old && size <= malloc_usable_size(old) ? "less\n" : "more\n") ? 0 : next_realloc(old, size);
+    const char *kind = old && size <= malloc_usable_size(old) ? "less" : "more";
+    return refused(kind, size) ? 0 : next_realloc(old, size);
 }

@@ -346,6 +346,16 @@ reports 'a teacher twice in a slot' 'alg A 0 0 top B 0 0' 3 1 0 0 15 10 2 0 27 n
 reports 'a lecture too many' 'top B 0 0 top B 0 1' 5 0 0 0 20 15 0 0 35 no no
 reports 'each of two lectures of a curriculum in one slot' 'alg A 0 1 geo B 0 1' 3 1 0 0 5 10 4 0 19 no no
 reports 'three lectures in a room' 'alg B 0 1 geo B 0 1 top B 0 1' 2 2 0 2 10 5 4 0 19 no no
+# the solution of the examples, cut off after each of its lectures
+# shellcheck disable=SC2207
+lines=($(cat s.sol))
+cuts() { reports "a solution of $1 words" "${lines[*]:0:$1}" "${@:2}"; }
+cuts 0 5 0 0 0 0 20 0 0 20 yes no
+cuts 4 4 0 0 0 5 15 2 0 22 yes no
+cuts 8 3 0 0 0 5 10 4 1 20 yes no
+cuts 12 2 0 0 0 5 5 2 1 13 yes no
+cuts 16 1 0 0 0 5 5 4 1 15 yes no
+cuts 20 0 0 0 0 15 0 4 1 20 yes yes
 run 'help' 0 "$help" '' --help
 run 'help of a command' 0 "$check_help" '' check --help
 run 'help of week' 0 "$week_help" '' week --help
@@ -369,9 +379,9 @@ run 'a solution with a repeated lecture' 1 '' 'timedesk: solution S8 8
 printf 'alg A \xff 0' >bytes.sol
 run 'a solution that is not UTF-8' 1 '' 'timedesk: solution S1 6
 ' check small.ctt bytes.sol
-# an instance and a solution cut off behind each of their words: a solution may end behind every fourth
+# an instance and a solution cut off after each of their words: after every fourth a solution is the shorter one
 # shellcheck disable=SC2207
-words=($(cat small.ctt)) lines=($(cat s.sol))
+words=($(cat small.ctt))
 for ((count = 0; count < ${#words[@]}; count++)); do
     echo "${words[@]:0:count}" >told.ctt
     run "an instance of $count words" 1 '' "timedesk: instance I2 $((count + 1))"$'\n' check told.ctt s.sol
@@ -586,6 +596,8 @@ committed 1
 stale slot 0 2
 costs 10 15 0 0
 ' '' run small.ctt phantom.txt
+cp -- "$here/crates/ctt_tool/data/row9.txt" .
+run 'the stored run' 0 "$(<"$here/crates/ctt_tool/stdout")"$'\n' '' run small.ctt row9.txt
 # planner 0 has looked at a slot in which planner 1 then places a lecture
 looked='0 open -> opened
 0 slot 0 2 -> lectures 0

@@ -10,6 +10,12 @@ or 'no place', is typed again. The answers and the minutes have to be those with
 'timedesk: no memory', or 'timedesk: no thread' where the system wanted the memory for it, or says which seat it could not
 open: then what was answered, and the minutes, are a front of that, and what was told as committed is in the minutes.
 
+Two calls alone can do without what they ask for, and each request is known by its size. `collect`
+asks for room for all words of the command line, and, if that is refused, for one: `owned_words` and
+`serve` call it, and the first of the two requests of each, and no other, has to end as with memory.
+A desk that accepts a draft cuts the list of its calls to its length (`shrink_to_fit`): if that is
+refused, the list stays as it is.
+
 It needs a C compiler. PROGRAM names another program. The last line is 'N passed, M failed'.
 """
 import concurrent.futures
@@ -51,8 +57,9 @@ show cost
 SEATS = ("0", "1", "2", "3")
 IDLE, LAST = SEATS[2:]
 WANTS = (b"no memory\n", b"no place\n")
-# of so many runs a desk may end as it does with memory though none was given: the room was asked for by a guess
-SPARE = 2
+# the sizes in bytes of a word of the command line as `owned_words` and as `serve` collect it, and
+# of a draft's call; a list has room for 4 at least
+WORD_SIZES, CALL_SIZE, LEAST = (24, 16), 56, 4
 # what a desk says that ends for want of memory; a seat whose file could not be opened for it says that
 SAID = rb"timedesk: no (memory|thread)\n"
 SAID_BEFORE = SAID + rb"|timedesk: cannot (read .*/[0-9]\.in|write)\n"
@@ -154,6 +161,7 @@ class Played:
         minutes = os.path.join(folder, "minutes")
         paths = [seat.path for seat in seats.values()]
         command = [PROGRAM, "desk", words[0], *paths, *words[1:], "--minutes", minutes]
+        self.words = len(command)
         env = {**os.environ, "MET": os.path.join(folder, "met"), **marks}
         desk = subprocess.Popen(command, env=env, stdout=subprocess.PIPE, stderr=subprocess.PIPE)
         self.answers, self.again = [], 0
@@ -171,7 +179,16 @@ class Played:
         for seat in seats.values():
             os.close(seat.answers)
         self.left = (desk.returncode, printed, said, held(minutes))
-        self.met = held(env["MET"])
+        self.met = held(env["MET"]).decode()
+
+    def collected(self):
+        """The requests of `collect` for room for all words of the command line."""
+        return [f"more {size * max(LEAST, self.words)}\n" for size in WORD_SIZES]
+
+    def cut(self):
+        """The requests that cut the list of an accepted draft."""
+        counts = re.findall(rb"^entry \d+ (\d+)$", self.left[-1], re.M)
+        return {f"less {CALL_SIZE * int(count)}\n" for count in counts}
 
     @staticmethod
     def all_sit(seats, desk):
@@ -264,21 +281,29 @@ def refuse(desk, made, first, step):
         played = desk.play(number, LD_PRELOAD=made)
         if not played.met:
             return ended
-        if desk.is_right(played) and played.again == 1:
-            ended.append((number, "again"))
-        elif desk.is_right(played) and played.again == 0:
-            ended.append((number, "spare" if b"more" in played.met else "back"))
-        elif desk.is_front(played):
-            ended.append((number, "stopped"))
-        else:
-            ended.append((number, f"{played.again} lines typed again, {played.answers!r}, {played.left!r}"))
+        ended.append((number, how_ended(desk, played), played.met))
         number += step
+
+
+def how_ended(desk, played):
+    """How a run ended of which a request was refused: by one of the words that are counted, or else
+    all that was played."""
+    if desk.is_right(played) and played.again == 1:
+        return "again"
+    if desk.is_right(played) and played.again == 0:
+        if played.met in played.cut():
+            return "uncut"
+        if played.met in played.collected():
+            return "collected"
+    if desk.is_front(played):
+        return "stopped"
+    return f"{played.met.strip()}: {played.again} typed again, {played.answers!r}, {played.left!r}"
 
 
 with tempfile.TemporaryDirectory() as room:
     shim = build(room, "refuse")
     lanes = os.cpu_count() or 1
-    noted = {"again": 0, "back": 0, "stopped": 0, "spare": 0, "wrong": 0}
+    noted = {"again": 0, "uncut": 0, "stopped": 0, "collected": 0, "wrong": 0}
     for number, (name, *rest) in enumerate(worked_desks()):
         own = os.path.join(room, f"desk{number}")
         os.mkdir(own)
@@ -288,10 +313,11 @@ with tempfile.TemporaryDirectory() as room:
         check(f"{name}: end", played.left, desk.left)
         with concurrent.futures.ThreadPoolExecutor(lanes) as pool:
             runs = list(pool.map(lambda first: refuse(desk, shim, first, lanes), range(1, lanes + 1)))
-        spared = 0
-        for request, how in sorted(sum(runs, [])):
-            spared += how == "spare"
-            check(f"{name}, request {request}", "" if how in noted and spared <= SPARE else how, "")
+        ended = sorted(sum(runs, []))
+        collected = [met for _, how, met in ended if how == "collected"]
+        check(f"{name}: requests of `collect`", collected, played.collected())
+        for request, how, _ in ended:
+            check(f"{name}, request {request}", "" if how in noted else how, "")
             noted[how if how in noted else "wrong"] += 1
     print(", ".join(f"{how} {count}" for how, count in noted.items()))
 end()

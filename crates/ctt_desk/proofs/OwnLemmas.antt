@@ -1,17 +1,16 @@
 -- What a history has of one planner, and what an accepted commit makes of it.
-use Rattle.std.proofs.Common.{◌≡◌, ◌==◌, ◌+◌, ◌≤◌, ℕ, cond, List, [], ◌∷◌, ◌++◌, length, take, None, Some, inl, inr, refl, sym, ap, ◌∙◌, subst, arith, eq-eqb, length-append}
+use Rattle.std.proofs.Common.{◌≡◌, ◌==◌, ◌+◌, ◌≤◌, ℕ, cond, List, [], ◌∷◌, ◌++◌, length, take, None, inl, inr, refl, sym, ap, ◌∙◌, subst, arith, eq-eqb, length-append}
 use Rattle.std.proofs.lemmas.List.{append-nil, take_all}
 use Rattle.std.proofs.lemmas.List.Elements.{filter-append}
 use mathlib.Core.List.{IsPrefix}
 use Rattle.ctt_text.specs.Problem.{Problem}
 use Rattle.ctt_text.specs.declared.placed.Placed.{Placed}
-use Rattle.ctt_edits.specs.declared.row.Row.{Row}
 use Rattle.ctt_draft.specs.Drafts.{calls_of, stale}
 use Rattle.ctt_draft.specs.declared.asked.Asked.{Asked}
 use Rattle.ctt_core.specs.Runs.{after, Legal}
 use Rattle.ctt_core.specs.declared.journal.JournalEntry.{JournalEntry}
-use Rattle.ctt_desk.specs.Histories.{own, entry_of, IsHis, IsNotHis, IsSeen}
-use Rattle.ctt_desk.specs.Planners.{PlannerValue, DraftingValue, Grows, IsAccepted, IsForeign, IsStale, seen_up_to}
+use Rattle.ctt_desk.specs.Histories.{own, entry_of, IsNotHis}
+use Rattle.ctt_desk.specs.Planners.{PlannerValue, DraftingValue, Grows, IsAccepted, IsForeign, seen_up_to}
 use Rattle.ctt_desk.proofs.PrefixLemmas.{prefix_self}
 
 nothing : {A : Type 0} (xs : List A) → length xs ≡ 0 → xs ≡ []
@@ -78,18 +77,6 @@ foreign i t0 v d q j f count is (inr w) becomes legal = subst (λ (x : DraftingV
     λ e. w.2 (e ∙ ap (λ (x : PlannerValue). x.committed) becomes),
   );
 })
-
-pub outdated : (i : Problem) (t0 : List Placed) (v d : DraftingValue) (q : PlannerValue) (j f : List JournalEntry) (row : Row) → v ≡ d → IsSeen j v.planner.front f → IsHis j v.planner.number v.planner.committed → stale i v.base (after i t0 j) (calls_of v.asked) ≡ Some row → q ≡ seen_up_to v.planner f → Legal i t0 f → IsStale i t0 d q row × IsHis q.front q.number q.committed
-outdated i t0 v d q j f row is seen his differs becomes legal =
-    let here : IsStale i t0 v q row = record {
-      planner = grown i t0 v.planner q f becomes seen.1 legal;
-      differs = subst (λ (l : List JournalEntry). stale i v.base (after i t0 l) (calls_of v.asked) ≡ Some row) (sym (ap (λ (x : PlannerValue). x.front) becomes ∙ seen.0)) differs;
-    }
-    in
-    let mine : IsHis f v.planner.number v.planner.committed = subst (λ (l : List JournalEntry). IsHis l v.planner.number v.planner.committed) (sym seen.0) his in (
-      subst (λ (x : DraftingValue). IsStale i t0 x q row) is here,
-      subst (λ (x : PlannerValue). IsHis x.front x.number x.committed) (sym becomes) mine,
-    )
 
 -- and why it is accepted
 pub accepted : (i : Problem) (t0 : List Placed) (v d : DraftingValue) (q : PlannerValue) (j f : List JournalEntry) → v ≡ d → f ≡ j ++ entry_of v.planner.number v.asked ∷ [] → IsPrefix v.planner.front j → length (own v.planner.number j) ≡ v.planner.committed → v.planner.committed ≤ length (own v.planner.number v.planner.front) → Legal i t0 f → stale i v.base (after i t0 j) (calls_of v.asked) ≡ None

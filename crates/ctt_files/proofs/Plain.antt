@@ -10,7 +10,9 @@ use Rattle.ctt_text.specs.declared.fault.ReadFault.{ReadFault}
 use Rattle.ctt_text.specs.declared.fault.ReadFault.TheVariants as instance
 use Rattle.ctt_text.specs.declared.fault.SolutionFault.{SolutionFault}
 use Rattle.ctt_text.specs.declared.fault.SolutionFault.TheVariants as solution
-use Rattle.ctt_files.specs.Faults.{IfUnwritten, fault_of_barred, fault_of_instance, fault_of_solution}
+use Rattle.ctt_devices.specs.declared.input.InputFault.{InputFault}
+use Rattle.ctt_devices.specs.declared.input.InputFault.TheVariants as input
+use Rattle.ctt_files.specs.Faults.{IfUnwritten, fault_of_barred, fault_of_input, fault_of_instance, fault_of_solution}
 use Rattle.ctt_files.specs.Refusals.{IsNoText, IsOfBarred, IsOfFile, IsOfFiles, IsOfInstance, IsOfInstanceIn, IsOfInstanceOr, IsOfSolution, IsOfStart, IsOfText}
 use Rattle.ctt_files.specs.Texts.{Held, Holds, IsInstanceIn}
 use Rattle.ctt_files.specs.declared.fault.Fault.{Fault}
@@ -102,8 +104,17 @@ barred_plain (barred.UnknownCourse word) = tt
 barred_plain (barred.UnknownRoom word) = tt
 barred_plain barred.NoMemory = tt
 
+input_plain : (name : String Global) (met : InputFault) → IsPlain (fault_of_input name met)
+input_plain name input.Read = tt
+input_plain name input.TooLong = tt
+input_plain name input.NoMemory = tt
+
 pub file_plain : (held : Held) (name : String Global) (fault : Fault) → IsOfFile held name fault → IsPlain fault
-file_plain held name fault is = ⊎_elim (λ same. subst IsPlain (sym same) tt) (λ other. ⊎_elim (λ long. subst IsPlain (sym long.0) tt) (λ same. subst IsPlain (sym same) tt) other) is
+file_plain held name fault is = subst IsPlain (sym is.is) (input_plain name is.met)
+
+-- memory may be wanted for any file
+pub memory_of_file : (held : Held) (name : String Global) (fault : Fault) → fault ≡ NoMemory → IsOfFile held name fault
+memory_of_file held name fault is = record { met = input.NoMemory; is = is; cause = tt; }
 
 module _ {E : Type 0} (told : E → Fault) (Meets : List ℕ → E → Type 0) (IsNone : List ℕ → Type 0) (is_plain : (met : E) → IsPlain (told met)) where
   text_plain : (text : List ℕ) (fault : Fault) → IsNoText told Meets IsNone text fault → IsPlain fault

@@ -1,6 +1,10 @@
 -- The faults of the program: their numbers and their statuses.
 use Rattle.std.specs.Prelude.{◌≡◌, ◌++◌, ℕ, List, codes}
+use Rattle.std.specs.Global.{Global}
 use Rattle.std.specs.String.{string_bytes}
+use Rattle.std.specs.declared.string.String.{String}
+use Rattle.ctt_devices.specs.declared.input.InputFault.{InputFault}
+use Rattle.ctt_devices.specs.declared.input.InputFault.TheVariants as input
 use Rattle.ctt_text.specs.declared.fault.ReadFault.{ReadFault}
 use Rattle.ctt_text.specs.declared.fault.ReadFault.TheVariants as instance
 use Rattle.ctt_text.specs.declared.fault.SolutionFault.{SolutionFault}
@@ -45,6 +49,12 @@ fault_of_barred (barred.TooLarge word) = Barred 5 word
 fault_of_barred (barred.UnknownCourse word) = Barred 6 word
 fault_of_barred (barred.UnknownRoom word) = Barred 7 word
 fault_of_barred barred.NoMemory = NoMemory
+
+-- the fault of the file of this name, by that of reading it
+abbrev pub fault_of_input : String Global → InputFault → Fault
+fault_of_input name input.Read = CannotRead name
+fault_of_input name input.TooLong = TooLong name
+fault_of_input name input.NoMemory = NoMemory
 
 -- 1 where a text is refused, or has no such name, 2 where the words are refused, and 3 where the machine failed
 abbrev pub status_of : Fault → ℕ

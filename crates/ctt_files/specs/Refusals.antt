@@ -1,23 +1,37 @@
 -- Why a text is not taken: the file in which the fault lies, and what stands in its text.
-use Rattle.std.specs.Prelude.{◌≡◌, ◌⊎◌, ◌<◌, ℕ, List, [], ◌∷◌, Option, Some, None, length}
+use Rattle.std.specs.Prelude.{◌≡◌, ◌⊎◌, ◌<◌, ℕ, List, [], ◌∷◌, Option, Some, None, IfSome, length}
 use Rattle.std.specs.Global.{Global}
+use Rattle.std.specs.String.{string_bytes}
 use Rattle.std.specs.declared.string.String.{String}
 use Rattle.ctt_text.specs.BarredLaws.{IsBarredCauseOf}
 use Rattle.ctt_text.specs.InstanceLaws.{IsCauseOf}
 use Rattle.ctt_text.specs.Problem.{Problem}
 use Rattle.ctt_text.specs.SolutionLaws.{IsSolutionCauseOf}
-use Rattle.ctt_files.specs.Faults.{fault_of_barred, fault_of_instance, fault_of_solution, status_of}
+use Rattle.ctt_devices.specs.declared.input.InputFault.{InputFault}
+use Rattle.ctt_devices.specs.declared.input.InputFault.TheVariants as input
+use Rattle.ctt_files.specs.Faults.{fault_of_barred, fault_of_input, fault_of_instance, fault_of_solution, status_of}
 use Rattle.ctt_files.specs.Texts.{Held, Holds, IsInstanceIn, IsInstanceText, IsNoBarred, IsNoInstance, IsNoSolution}
 use Rattle.ctt_files.specs.declared.fault.Fault.{Fault}
-use Rattle.ctt_files.specs.declared.fault.Fault.TheVariants.{CannotRead, NoMemory, TooLong}
+use Rattle.ctt_files.specs.declared.fault.Fault.TheVariants.{NoMemory, TooLong}
 
 -- this file has more bytes than are taken
 abbrev pub IsTooLong : Held → String Global → Fault → Type 0
 IsTooLong held name fault = (fault ≡ TooLong name) × Holds held name (λ text. 67108864 < length text)
 
--- this file cannot be read, or it is too long, or its bytes find no room
+-- only a file with more bytes than are taken is too long
+abbrev pub IsInputCause : Option (List ℕ) → InputFault → Type 0
+IsInputCause bytes input.TooLong = IfSome bytes (λ text. 67108864 < length text)
+IsInputCause bytes met = Unit {0}
+
+-- reading the file of this name, of these bytes if they are known, met a fault, and it is reported as this one
+pub record IsOfInput (bytes : Option (List ℕ)) (name : String Global) (fault : Fault) : Type 0 where
+  pub met : InputFault
+  pub is : fault ≡ fault_of_input name met
+  pub cause : IsInputCause bytes met
+
+-- the fault lies in reading this file
 abbrev pub IsOfFile : Held → String Global → Fault → Type 0
-IsOfFile held name fault = (fault ≡ CannotRead name) ⊎ (IsTooLong held name fault ⊎ (fault ≡ NoMemory))
+IsOfFile held name = IsOfInput (held (string_bytes name)) name
 
 -- reading the text meets the fault, and where that is no want of memory the text is none of its kind
 pub record IsNoText {E : Type 0} (told : E → Fault) (Meets : List ℕ → E → Type 0) (IsNone : List ℕ → Type 0) (text : List ℕ) (fault : Fault) : Type 0 where

@@ -1,9 +1,11 @@
 //! Files by name.
 
-ghost use Rattle.std.specs.Prelude.{◌≡◌, ◌≢◌, ◌≤◌, length, map, false, Some, None, OnOk, IfOk, IfErr, IfSome, vec_len};
+ghost use Rattle.std.specs.Prelude.{◌≡◌, ◌≢◌, ◌≤◌, ◌↔◌, length, map, false, true, Some, None, Err, OnOk, IfOk, IfErr, IfSome, vec_len};
 ghost use Rattle.std.specs.String.{string_bytes};
-ghost use Rattle.ctt_files.specs.Refusals.{IsOfFile, IsOfFiles};
+ghost use Rattle.ctt_files.specs.Faults.{fault_of_input};
+ghost use Rattle.ctt_files.specs.Refusals.{IsOfFile, IsOfFiles, IsOfInput};
 ghost use Rattle.ctt_files.specs.Texts.{HoldInTurn};
+ghost use Rattle.ctt_files.specs.declared.fault.Fault.TheVariants.{CannotRead};
 
 use crate::fault::Fault;
 use ctt_devices::{Device, Failed, INPUT_LIMIT, InputFault, Source, put_whole, read_all};
@@ -72,7 +74,33 @@ impl<'r, R: rt::Files> Files for SystemFiles<'r, R> {
     }
 }
 
-/// All bytes of a file, of which no read is tried again.
+/// The fault of the file of this name, by that of reading it.
+fn fault_of(name: String, met: InputFault) -> Fault
+    ensures { result ≡ fault_of_input name met }
+{
+    match met {
+        InputFault::Read => Fault::CannotRead(name),
+        InputFault::TooLong => Fault::TooLong(name),
+        InputFault::NoMemory => Fault::NoMemory,
+    }
+}
+
+/// All bytes that are left of the file of this name, of which no read is tried again.
+fn read_input<R: Source>(alloc: Global, input: &mut R, name: String) -> Result<Vec<u8>, Fault>
+    requires { R.has_failed input.old ≡ false }
+
+    ensures all { IfOk result (λ bytes. IfSome (R.left input.old) (λ left. bytes.items ≡ left)) }
+    ensures short { IfOk result (λ bytes. vec_len bytes ≤ 67108864) }
+    ensures unread { (result ≡ Err (CannotRead name)) ↔ (R.has_failed input.new ≡ true) }
+    ensures cause { IfErr result (IsOfInput (R.left input.old) name) }
+{
+    match read_all(alloc, input, INPUT_LIMIT) {
+        Ok(bytes) => Ok(bytes),
+        Err(met) => Err(fault_of(name, met)),
+    }
+}
+
+/// All bytes of a file.
 pub fn read_file<F: Files>(alloc: Global, files: &mut F, name: String) -> Result<Vec<u8>, Fault>
     ensures all { IfOk result (λ bytes.
         IfSome (F.held files.old (string_bytes name)) (λ held. bytes.items ≡ held)) }
@@ -80,14 +108,9 @@ pub fn read_file<F: Files>(alloc: Global, files: &mut F, name: String) -> Result
     ensures short { IfOk result (λ bytes. vec_len bytes ≤ 67108864) }
     ensures cause { IfErr result (IsOfFile (F.held files.old) name) }
 {
-    let Ok(mut input) = files.fetch(&name) else {
-        return Err(Fault::CannotRead(name));
-    };
-    match read_all(alloc, &mut input, INPUT_LIMIT) {
-        Ok(bytes) => Ok(bytes),
-        Err(InputFault::Read) => Err(Fault::CannotRead(name)),
-        Err(InputFault::TooLong) => Err(Fault::TooLong(name)),
-        Err(InputFault::NoMemory) => Err(Fault::NoMemory),
+    match files.fetch(&name) {
+        Ok(mut input) => read_input(alloc, &mut input, name),
+        Err(_) => Err(fault_of(name, InputFault::Read)),
     }
 }
 

@@ -6,5 +6,6 @@ pub mod Cells
 pub mod GridTexts
 pub mod Report
 pub mod Sections
+pub mod Style
 pub mod Page
 pub mod Laws

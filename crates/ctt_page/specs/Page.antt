@@ -8,31 +8,32 @@ use Rattle.ctt_page.specs.Escape.{escaped}
 use Rattle.ctt_page.specs.GridTexts.{grids}
 use Rattle.ctt_page.specs.Report.{report}
 use Rattle.ctt_page.specs.Sections.{sections}
+use Rattle.ctt_page.specs.Style.{style}
 use Rattle.ctt_page.specs.Weeks.{by_slot}
 
--- what stands before the report: what a browser has to know, the name of the instance, and links to the
--- parts of the page
+-- what stands before the report: what a browser has to know, the name of the instance, how the page looks,
+-- and links to the parts of the page
 unfoldable pub page_head : List ℕ → List ℕ → List ℕ
-page_head style name = codes "<!DOCTYPE html>\n<html lang='en'><head><meta charset='utf-8'>\n<meta name='viewport' content='width=device-width, initial-scale=1'>\n<title>"
+page_head look name = codes "<!DOCTYPE html>\n<html lang='en'><head><meta charset='utf-8'>\n<meta name='viewport' content='width=device-width, initial-scale=1'>\n<title>"
     ++ (escaped name
     ++ (codes "</title><style>"
-    ++ (style
+    ++ (look
     ++ (codes "</style></head>\n<body><h1><bdi>"
     ++ (escaped name
     ++ codes "</bdi></h1>\n<nav><a href='#report'>Report</a> <a href='#findings'>Findings</a> <a href='#curricula'>Curricula</a> <a href='#teachers'>Teachers</a> <a href='#rooms'>Rooms</a></nav>\n")))))
 
 -- the page, of a timetable that is lawful or not, and complete or not
-unfoldable pub page : List ℕ → Bool → Bool → Problem → List Placed → List ℕ
-page style lawful complete i t = page_head style i.name
+unfoldable pub page : Bool → Bool → Problem → List Placed → List ℕ
+page lawful complete i t = page_head style i.name
     ++ (report (has_barred i) (hard_counts i t) (penalty i t) lawful complete
     ++ (sections i t
     ++ (grids i (by_slot (slot_count i) t)
     ++ codes "</body></html>\n")))
 
--- the bytes are the page in this style, with the two judgements on the timetable
-pub record IsPage (style : List ℕ) (i : Problem) (t : List Placed) (bytes : List ℕ) : Type 0 where
+-- the bytes are the page, with the two judgements on the timetable
+pub record IsPage (i : Problem) (t : List Placed) (bytes : List ℕ) : Type 0 where
   pub lawful : Bool
   pub complete : Bool
   pub is_lawful : IsTrue lawful ↔ Lawful i t
   pub is_complete : IsTrue complete ↔ Complete i t
-  pub shown : bytes ≡ page style lawful complete i t
+  pub shown : bytes ≡ page lawful complete i t

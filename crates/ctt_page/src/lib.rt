@@ -15,4 +15,3 @@ mod week;
 
 pub use grid::Grid;
 pub use page::page_text;
-pub use style::STYLE;

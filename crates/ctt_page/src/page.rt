@@ -11,15 +11,15 @@ use crate::escape::Escaped;
 use crate::grids::push_grids;
 use crate::report::push_report;
 use crate::sections::push_sections;
-use crate::style::STYLE;
+use crate::style::style;
 use crate::week::Week;
 use ctt_rules::assess;
 use ctt_text::{Instance, NoMemory, Placed};
 use std::alloc::{AllocError, Global};
 use std::fmt::Write;
 
-/// Adds what stands before the report: what a browser has to know, the name of the instance, and links to
-/// the parts of the page.
+/// Adds what stands before the report: what a browser has to know, the name of the instance, the style, and
+/// links to the parts of the page.
 #[tactic(auto, unfolding(crate::specs::Page::page_head))]
 fn push_head(page: &mut String, style: &str, name: &str) -> Result<(), AllocError>
     ensures { OnOk result (string_bytes page.new
@@ -64,11 +64,11 @@ pub fn page_text(
 ) -> Result<String, NoMemory>
     requires { IsTimetable instance.now timetable.now }
     ensures { IfOk result (λ page.
-        IsPage STYLE.now instance.now timetable.now (string_bytes page)) }
+        IsPage instance.now timetable.now (string_bytes page)) }
 {
     let assessment = assess(instance, timetable);
     let mut page = String::new(alloc);
-    push_head(&mut page, STYLE, instance.name())?;
+    push_head(&mut page, style(), instance.name())?;
     push_report(&mut page, instance.has_barred(), &assessment)?;
     push_sections(alloc, &mut page, instance, timetable)?;
     push_week(alloc, &mut page, instance, timetable)?;

@@ -1,9 +1,12 @@
 //! How the page looks.
 
+ghost use Rattle.std.specs.Prelude.{◌≡◌};
+ghost use Rattle.ctt_page.specs.Style.{style as style_text};
+
 /// The style of the page: by the system's colours, light or dark; a grid that is wider than the window is
 /// moved sideways in its own box, past its periods; the links to the parts stay in sight, and a link to a cell
 /// shows its grid round it; on paper no grid is cut in two, if it fits on a sheet.
-pub const STYLE: &str = "
+const STYLE: &str = "
 :root { color-scheme: light dark; --broken: #b00020; --costs: #7a4f00; }
 @media (prefers-color-scheme: dark) { :root { --broken: #ff9a9a; --costs: #f0c060; } }
 body { background: Canvas; color: CanvasText; font: 100%/1.4 system-ui, sans-serif;
@@ -35,3 +38,11 @@ td:target { outline-offset: -3px; scroll-margin: 40vh 7rem; }
   section div { overflow: visible; }
 }
 ";
+
+/// The style of the page.
+#[tactic(auto, unfolding(crate::specs::Style::style))]
+pub(crate) fn style() -> &'static str
+    ensures { result.now ≡ style_text }
+{
+    STYLE
+}

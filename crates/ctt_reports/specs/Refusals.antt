@@ -8,9 +8,10 @@ use Rattle.ctt_files.specs.Refusals.{IsOfInstanceOr, IsOfSolution}
 use Rattle.ctt_files.specs.Texts.{Held}
 use Rattle.ctt_files.specs.declared.fault.Fault.{Fault}
 use Rattle.ctt_files.specs.declared.fault.Fault.TheVariants.{CannotWrite, NoCourse, NoCurriculum, NoRoom, NoTeacher}
+use Rattle.ctt_week.specs.declared.selection.Selection.{Selection}
 use Rattle.ctt_words.specs.declared.job.Whose.{Whose}
 use Rattle.ctt_words.specs.declared.job.Whose.TheVariants.{Course, Curriculum, Room, Teacher}
-use Rattle.ctt_reports.specs.Subjects.{numbered}
+use Rattle.ctt_reports.specs.Subjects.{IsSelection, numbered}
 
 -- that there is none of this name
 abbrev pub no_name : Whose → Fault
@@ -24,10 +25,11 @@ abbrev pub IsNoName : Problem → Option Whose → Fault → Type 0
 IsNoName i None fault = ⊥
 IsNoName i (Some whose) fault = (numbered i whose ≡ None) × (fault ≡ no_name whose)
 
--- behind the instance the fault lies in what is named, if something is, or in the solution
+-- once the instance is read the fault is that the instance does not have what is named; only if it has it,
+-- or nothing is named, the fault lies in the solution
 abbrev pub IsOfSubject : Option Whose → String Global → Held → Problem → Fault → Type 0
-IsOfSubject None solution held problem fault = IsOfSolution solution held problem fault
-IsOfSubject (Some whose) solution held problem fault = IsNoName problem (Some whose) fault ⊎ IsOfSolution solution held problem fault
+IsOfSubject whose solution held problem fault = IsNoName problem whose fault
+    ⊎ ((selection : Option Selection) × IsSelection problem whose selection × IsOfSolution solution held problem fault)
 
 -- why each command is refused
 abbrev pub IsOfWeek : Held → String Global → Option (String Global) → Option Whose → String Global → Fault → Type 0

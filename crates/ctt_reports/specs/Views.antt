@@ -5,7 +5,6 @@ use Rattle.std.specs.Io.KnownBytes.{Appends}
 use Rattle.std.specs.declared.string.String.{String}
 use Rattle.ctt_files.specs.Texts.{Held}
 use Rattle.ctt_page.specs.Page.{IsPage}
-use Rattle.ctt_page.specs.declared.style.TheConstants.{STYLE}
 use Rattle.ctt_week.specs.Week.{week}
 use Rattle.ctt_words.specs.declared.job.Whose.{Whose}
 use Rattle.ctt_reports.specs.Subjects.{Shows}
@@ -18,4 +17,4 @@ PrintsWeek instance barred whose solution held old new =
 -- the page is printed
 abbrev pub PrintsPage : String Global → Option (String Global) → String Global → Held → Option (List ℕ) → Option (List ℕ) → Type 0
 PrintsPage instance barred solution held old new =
-    Shows (λ problem selection. IsPage STYLE.now problem) instance barred None solution held (Appends old new)
+    Shows (λ problem selection. IsPage problem) instance barred None solution held (Appends old new)

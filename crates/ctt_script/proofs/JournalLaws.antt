@@ -1,6 +1,5 @@
 -- Words spell one journal, or break its form at one place.
 use Rattle.std.proofs.Common.{◌≡◌, ◌⊎◌, ◌∙◌, ℕ, List, Ok, Err, inl, inr, sym}
-use Rattle.ctt_text.specs.Problem.{Problem}
 use Rattle.ctt_text.proofs.FormLaws.{answer_breaks, breaks_answer, breaks_once, answered, ok_same, ok_is_err}
 use Rattle.ctt_core.specs.declared.journal.JournalEntry.{JournalEntry}
 use Rattle.ctt_script.specs.declared.journal_fault.JournalFault.{JournalFault}

@@ -1,15 +1,16 @@
-//! Three planners of one desk of grid sheets. Two of them commit fifty-one drafts each, on threads of their own, and the
-//! third one then learns their last receipts. Each entry is where its receipt says, and all three see what was placed.
+//! Planners of one desk of grid sheets, of whom two commit drafts by turns, on threads of their own: each entry is where its
+//! receipt says. A third planner may then learn their last receipts, and all three see what was placed.
 
 ghost use Rattle.ctt_desk.specs.Names.{IsNamed};
 
-use crate::desks::{accepted, drafted, empty, expect_seen, has_list, is_entry, place};
+use crate::desks::{accepted, costs, drafted, empty, expect_seen, is_entry, is_left, place};
 use crate::small::{geo_second, small_instance, top_third};
 use crate::stopped::Stopped;
 use ctt_board::{GridSheet, Sheet, Timetable};
 use ctt_core::{JournalEntry, PlannerNo};
 use ctt_desk::{Closed, Named, Naming, Opened, Planner, Receipt, SharedDesk};
 use ctt_edits::{Call, Edit};
+use ctt_rules::Cost;
 use ctt_text::{Instance, Placed, let_go};
 use std::alloc::Global;
 use std::marker::{Brand, PhantomData};
@@ -17,14 +18,32 @@ use std::process::Abort;
 use std::sync::{Mutex, MutexGuard, Wait};
 use std::thread::{Threads, join};
 
-/// How many drafts two planners commit.
-const DRAFTS: u64 = 102;
+/// What is played at a desk.
+#[derive(Clone, Copy)]
+struct Plan<'a> {
+    /// How many planners the desk has. The last two of them commit drafts.
+    planners: u16,
+    /// How many drafts each of the two commits.
+    drafts: usize,
+    /// The lectures that these leave.
+    left: &'a [Placed],
+    /// What these cost.
+    costs: Cost,
+}
 
 /// A planner who has committed his drafts, with the last receipt.
 #[derive(Drop)]
 struct Committed<S: Timetable, J: Naming> {
     planner: Planner<S, J>,
     receipt: Receipt<J>,
+}
+
+/// The numbers of a planner's receipts, in the order of his drafts, with the lecture that these place and drop.
+#[derive(Drop)]
+struct Numbers {
+    planner: PlannerNo,
+    lecture: Placed,
+    list: Vec<u64>,
 }
 
 /// Commits a draft of one edit.
@@ -48,26 +67,29 @@ fn edit_of(turn: usize, lecture: &Placed) -> Edit {
     }
 }
 
-/// A planner commits 51 drafts of one edit, of which the last one places a lecture. The receipts' numbers are noted.
+/// A planner commits drafts of one edit, at least one. The receipts' numbers are noted.
 fn commit_all<'i, S: Sheet<'i>, J: Naming, R: Wait>(
     rt: &R,
     desk: &SharedDesk<S, J>,
     planner: Planner<S, J>,
-    lecture: &Placed,
-    numbers: &mut Vec<u64>,
+    drafts: usize,
+    numbers: &mut Numbers,
 ) -> Option<Committed<S, J>> {
-    let mut planner = planner;
-    for turn in 0..50 {
-        let done = commit_edit(rt, desk, planner, edit_of(turn, lecture))?;
-        numbers.push(done.receipt.number()).ok()?;
-        planner = done.planner;
+    let mut last = commit_edit(rt, desk, planner, edit_of(0, &numbers.lecture))?;
+    numbers.list.push(last.receipt.number()).ok()?;
+    for turn in 1..drafts {
+        let Committed {
+            planner,
+            receipt: _,
+        } = last;
+        last = commit_edit(rt, desk, planner, edit_of(turn, &numbers.lecture))?;
+        numbers.list.push(last.receipt.number()).ok()?;
     }
-    let done = commit_edit(rt, desk, planner, place(lecture))?;
-    numbers.push(done.receipt.number()).ok()?;
-    Some(done)
+    Some(last)
 }
 
-/// A planner at a desk, with the lecture that is placed and removed, and where planners go when they are done.
+/// A planner at a desk, with the lecture that is placed and removed, in how many drafts, and where planners go when they are
+/// done.
 #[derive(Drop)]
 struct Turn<'a, 'i, J: Naming> {
     alloc: Global,
@@ -75,19 +97,25 @@ struct Turn<'a, 'i, J: Naming> {
     done: &'a Mutex<Vec<Committed<GridSheet<'i>, J>>>,
     planner: Planner<GridSheet<'i>, J>,
     lecture: Placed,
+    drafts: usize,
 }
 
 /// What the planner of a turn does. Answers the receipts' numbers.
-fn take_turn<'a, 'i, J: Naming, R: Wait>(rt: &R, turn: Turn<'a, 'i, J>) -> Option<Vec<u64>> {
+fn take_turn<'a, 'i, J: Naming, R: Wait>(rt: &R, turn: Turn<'a, 'i, J>) -> Option<Numbers> {
     let Turn {
         alloc,
         desk,
         done,
         planner,
         lecture,
+        drafts,
     } = turn;
-    let mut numbers = Vec::new(alloc);
-    let one = commit_all::<GridSheet<'i>, J, R>(rt, desk, planner, &lecture, &mut numbers)?;
+    let mut numbers = Numbers {
+        planner: planner.number(),
+        lecture,
+        list: Vec::new(alloc),
+    };
+    let one = commit_all::<GridSheet<'i>, J, R>(rt, desk, planner, drafts, &mut numbers)?;
     let mut done = done.lock(rt);
     let pushed = done.push(one);
     MutexGuard::unlock(done);
@@ -102,13 +130,15 @@ fn both_work<'i, J: Naming + Send + Sync, R: Threads + Wait + Sync>(
     desk: &SharedDesk<GridSheet<'i>, J>,
     done: &Mutex<Vec<Committed<GridSheet<'i>, J>>>,
     planners: &mut Vec<Planner<GridSheet<'i>, J>>,
-) -> Option<(Vec<u64>, Vec<u64>)> {
+    drafts: usize,
+) -> Option<(Numbers, Numbers)> {
     let top = Turn {
         alloc,
         desk,
         done,
         planner: planners.pop()?,
         lecture: top_third(),
+        drafts,
     };
     let geo = Turn {
         alloc,
@@ -116,33 +146,45 @@ fn both_work<'i, J: Naming + Send + Sync, R: Threads + Wait + Sync>(
         done,
         planner: planners.pop()?,
         lecture: geo_second(),
+        drafts,
     };
     let (one, two) = join(rt, || take_turn(rt, geo), || take_turn(rt, top));
     one.zip(two)
 }
 
-/// A planner sees both lectures.
-fn sees_both<'i, S: Sheet<'i>, J: Naming, R: Abort>(
+/// A planner sees lectures, each in a draft and in a look at the timetable.
+fn sees_all<'i, S: Sheet<'i>, J: Naming, R: Abort>(
     rt: &R,
     planner: Planner<S, J>,
+    lectures: &[Placed],
 ) -> Option<Planner<S, J>> {
-    let planner = expect_seen(rt, planner, &geo_second())?;
-    expect_seen(rt, planner, &top_third())
+    let mut planner = planner;
+    for lecture in lectures {
+        planner = expect_seen(rt, planner, lecture)?;
+    }
+    Some(planner)
 }
 
-/// The planner who is left learns the last receipts of the others, who come back to him, and all see what was placed.
+/// The planner who is left, if there is one, learns the last receipts of the others, who come back to him, and all see what
+/// was placed.
 fn all_see<'i, S: Sheet<'i>, J: Naming, R: Abort>(
     rt: &R,
     planners: &mut Vec<Planner<S, J>>,
     done: Vec<Committed<S, J>>,
+    plan: &Plan,
 ) -> Option<()> {
-    let mut learner = planners.pop()?;
+    let mut learner = planners.pop();
     for one in done {
-        learner.learn(&one.receipt);
-        planners.push(sees_both(rt, one.planner)?).ok()?;
+        if let Some(learner) = &mut learner {
+            learner.learn(&one.receipt);
+        }
+        planners.push(sees_all(rt, one.planner, plan.left)?).ok()?;
     }
-    assert_eq!(rt; learner.seen(), DRAFTS);
-    planners.push(sees_both(rt, learner)?).ok()
+    if let Some(learner) = learner {
+        assert_eq!(rt; learner.seen(), (plan.drafts as u64).saturating_mul(2));
+        planners.push(sees_all(rt, learner, plan.left)?).ok()?;
+    }
+    Some(())
 }
 
 /// The same, over grid sheets.
@@ -150,8 +192,9 @@ fn all_see_on_grid<'i, J: Naming, R: Abort>(
     rt: &R,
     planners: &mut Vec<Planner<GridSheet<'i>, J>>,
     done: Vec<Committed<GridSheet<'i>, J>>,
+    plan: &Plan,
 ) -> Option<()> {
-    all_see::<GridSheet<'i>, J, R>(rt, planners, done)
+    all_see::<GridSheet<'i>, J, R>(rt, planners, done, plan)
 }
 
 /// The entry with this number, from 1.
@@ -160,51 +203,70 @@ fn entry_at(journal: &[JournalEntry], number: u64) -> Option<&JournalEntry> {
     journal.get(usize::try_from(before).ok()?)
 }
 
-/// Whether the receipts' numbers ascend, and each entry is where its receipt says.
-fn stands_in(
-    journal: &[JournalEntry],
-    planner: PlannerNo,
-    numbers: &[u64],
-    lecture: &Placed,
-) -> bool {
-    let mut last = 0;
-    for (turn, number) in numbers.iter().enumerate() {
+/// Whether a planner has so many receipts, and the entry at the number of each is his draft.
+fn stands_in(journal: &[JournalEntry], numbers: &Numbers, drafts: usize) -> bool {
+    for (turn, number) in numbers.list.iter().enumerate() {
         let Some(entry) = entry_at(journal, *number) else {
             return false;
         };
-        if *number <= last || !is_entry(entry, planner, edit_of(turn, lecture)) {
+        if !is_entry(entry, numbers.planner, edit_of(turn, &numbers.lecture)) {
             return false;
         }
-        last = *number;
+    }
+    numbers.list.len() == drafts
+}
+
+/// How often a number stands in a list.
+fn count_of(list: &[u64], number: u64) -> u64 {
+    let mut count = 0u64;
+    for one in list {
+        if *one == number {
+            count = count.saturating_add(1);
+        }
+    }
+    count
+}
+
+/// Whether each number from 1 to the last one comes once in the receipts of two planners.
+fn come_once(one: &Numbers, two: &Numbers, last: u64) -> bool {
+    for number in 1..=last {
+        let count = count_of(&one.list, number).saturating_add(count_of(&two.list, number));
+        if count != 1 {
+            return false;
+        }
     }
     true
 }
 
-/// Whether a closed desk has the entries of both planners where the receipts say, and both lectures. A number that came
-/// twice, or none at all, would be another planner's entry.
+/// Whether a closed desk has the entries of both planners where the receipts say, each number once, and the lectures that are
+/// left.
 fn is_of_both<S: Timetable, J: Naming>(
     closed: &Closed<S, J>,
-    numbers: &(Vec<u64>, Vec<u64>),
+    numbers: &(Numbers, Numbers),
+    plan: &Plan,
 ) -> bool {
     let journal = closed.journal();
     let (one, two) = numbers;
-    journal.len() == 102
-        && one.len() == 51
-        && two.len() == 51
-        && stands_in(journal, PlannerNo::new(1), one, &geo_second())
-        && stands_in(journal, PlannerNo::new(2), two, &top_third())
-        && has_list(closed, &[geo_second(), top_third()])
+    let both = plan.drafts.saturating_mul(2);
+    one.planner == PlannerNo::new(plan.planners.saturating_sub(2))
+        && two.planner == PlannerNo::new(plan.planners.saturating_sub(1))
+        && journal.len() == both
+        && come_once(one, two, both as u64)
+        && stands_in(journal, one, plan.drafts)
+        && stands_in(journal, two, plan.drafts)
+        && is_left(closed, plan.left, plan.costs)
 }
 
 /// Stops where a desk was not closed with all planners, or does not have the entries of both.
 fn expect_both<S: Timetable, J: Naming>(
     rt: &impl Abort,
     closed: Result<Closed<S, J>, Closed<S, J>>,
-    numbers: Option<(Vec<u64>, Vec<u64>)>,
+    numbers: Option<(Numbers, Numbers)>,
+    plan: &Plan,
 ) -> Result<(), Stopped> {
     match (closed, numbers) {
         (Ok(closed), Some(numbers)) => {
-            assert!(rt; is_of_both(&closed, &numbers));
+            assert!(rt; is_of_both(&closed, &numbers, plan));
             Ok(())
         }
         (Ok(_closed), None) => Err(Stopped::TurnRefused),
@@ -212,13 +274,14 @@ fn expect_both<S: Timetable, J: Naming>(
     }
 }
 
-/// Two planners work at once, and a third one learns what they did: every receipt's number comes once, its entry stands
-/// there, and the journal begins with what each planner has seen.
+/// Two planners work at once, and all see what they did: every receipt's number comes once, its entry stands there, and the
+/// journal begins with what each planner has seen.
 fn played<'i, J: Naming + Send + Sync, R: Threads + Wait + Abort + Sync>(
     rt: &R,
     alloc: Global,
     opened: Opened<GridSheet<'i>>,
     count: u16,
+    plan: &Plan,
 ) -> Result<(), Stopped>
     requires { IsNamed J.problem J.opening J.planners J.book opened count }
 {
@@ -231,13 +294,13 @@ fn played<'i, J: Naming + Send + Sync, R: Threads + Wait + Abort + Sync>(
         return Err(Stopped::NoDesk);
     };
     let done = Mutex::new(Vec::new(alloc));
-    let numbers = both_work(rt, alloc, &desk, &done, &mut planners);
-    let seen = all_see_on_grid(rt, &mut planners, done.into_inner());
+    let numbers = both_work(rt, alloc, &desk, &done, &mut planners, plan.drafts);
+    let seen = all_see_on_grid(rt, &mut planners, done.into_inner(), plan);
     let handed = planners.len();
     let closed = desk.close(rt, planners.as_mut_slice());
     let_go(planners);
-    assert_eq!(rt; handed, 3);
-    let left = expect_both::<GridSheet, J>(rt, closed, numbers);
+    assert_eq!(rt; handed, usize::from(count));
+    let left = expect_both::<GridSheet, J>(rt, closed, numbers, plan);
     seen.ok_or(Stopped::TurnRefused).and(left)
 }
 
@@ -245,15 +308,43 @@ fn played_on_grid<'i, R: Threads + Wait + Abort + Sync>(
     rt: &R,
     alloc: Global,
     small: &'i Instance,
+    plan: &Plan,
 ) -> Result<(), Stopped> {
     let opened = empty::<GridSheet>(alloc, small).ok_or(Stopped::NoDesk)?;
-    played::<Brand, R>(rt, alloc, opened, 3)
+    played::<Brand, R>(rt, alloc, opened, plan.planners, plan)
+}
+
+/// Plays a plan on the small instance.
+fn expect_played<R: Threads + Wait + Abort + Sync>(
+    rt: &R,
+    alloc: Global,
+    plan: &Plan,
+) -> Result<(), Stopped> {
+    let small = small_instance(alloc)?;
+    let played = played_on_grid(rt, alloc, &small, plan);
+    let_go(small);
+    played
 }
 
 #[test]
+fn hundred_commits_on_two_threads(rt: HostRuntime) -> Result<(), Stopped> {
+    let plan = Plan {
+        planners: 2,
+        drafts: 50,
+        left: &[],
+        costs: costs(0, 20, 0, 0),
+    };
+    expect_played(&rt, rt.alloc(), &plan)
+}
+
+/// The last drafts place both lectures.
+#[test]
 fn commits_on_two_threads_are_learnt(rt: HostRuntime) -> Result<(), Stopped> {
-    let small = small_instance(rt.alloc())?;
-    let played = played_on_grid(&rt, rt.alloc(), &small);
-    let_go(small);
-    played
+    let plan = Plan {
+        planners: 3,
+        drafts: 51,
+        left: &[geo_second(), top_third()],
+        costs: costs(10, 10, 2, 0),
+    };
+    expect_played(&rt, rt.alloc(), &plan)
 }

@@ -8,6 +8,7 @@ use ctt_board::{Sheet, Timetable};
 use ctt_core::{JournalEntry, PlannerNo};
 use ctt_desk::{Closed, Drafting, Naming, Opened, Planner, Receipt, SharedDesk};
 use ctt_edits::{Call, Edit, Look, Reply};
+use ctt_rules::Cost;
 use ctt_text::{Instance, Placed};
 use std::alloc::Global;
 use std::process::Abort;
@@ -75,13 +76,24 @@ pub(crate) fn is_entry(entry: &JournalEntry, planner: PlannerNo, edit: Edit) -> 
     }
 }
 
-/// Whether a closed desk has these lectures.
-pub(crate) fn has_list<S: Timetable, J: Naming>(
+/// Costs.
+pub(crate) fn costs(capacity: u64, days: u64, compactness: u64, stability: u64) -> Cost {
+    Cost {
+        capacity,
+        days,
+        compactness,
+        stability,
+    }
+}
+
+/// Whether a closed desk has these lectures, which cost so much.
+pub(crate) fn is_left<S: Timetable, J: Naming>(
     closed: &Closed<S, J>,
     lectures: &[Placed],
+    costs: Cost,
 ) -> bool {
     match closed.list() {
-        Ok(list) => list.as_slice() == lectures,
+        Ok(list) => list.as_slice() == lectures && closed.cost() == costs,
         Err(_) => false,
     }
 }

@@ -10,7 +10,7 @@ use Rattle.ctt_files.specs.Faults.{IfUnwritten}
 use Rattle.ctt_files.specs.Texts.{Held, Holds, IsStart}
 use Rattle.ctt_files.specs.declared.fault.Fault.{Fault}
 use Rattle.ctt_files.specs.declared.fault.Fault.TheVariants.{NoMemory}
-use Rattle.ctt_files.proofs.Plain.{IsPlain, plain_written}
+use Rattle.ctt_files.proofs.Plain.{IsPlain, memory_of_file, plain_written}
 use Rattle.ctt_tool.specs.Desks.{PrintsLast, SaysLast, TellsLast}
 use Rattle.ctt_tool.specs.Refusals.{IsLeftFault, IsNoMinutes, IsOfAudited, IsOfMinutes, IsOfWork, IsUnread, IsUnreadAt, IsUnreadOf}
 use Rattle.ctt_tool.specs.Texts.{IsJournalText}
@@ -30,13 +30,13 @@ pub left_in : (problem : Problem) (journal : String Global) (start : Option (Str
     → IsStart problem held start lectures → IsLeftFault problem lectures fault → IsOfAudited journal start held problem fault
 left_in problem journal start held entries lectures fault is_journal is_start (inl refused) =
     inr (entries, is_journal, inr (refused.0, refused.1, record { lectures = lectures; is_start = is_start; refused = refused.2 }, refused.3))
-left_in problem journal start held entries lectures fault is_journal is_start (inr memory) = inl (inl (inr (inr memory)))
+left_in problem journal start held entries lectures fault is_journal is_start (inr memory) = inl (inl (memory_of_file held journal fault memory))
 
 -- why minutes are not printed, by their file
 pub minutes_in : (problem : Problem) (minutes : String Global) (held : Held) (text : List ℕ) (fault : Fault) → Holds held minutes (λ bytes. text ≡ bytes) → IsNoMinutes problem text fault ⊎ (fault ≡ NoMemory)
     → IsOfMinutes minutes held problem fault
 minutes_in problem minutes held text fault told (inl met) = inr (text, told, met)
-minutes_in problem minutes held text fault told (inr memory) = inl (inr (inr memory))
+minutes_in problem minutes held text fault told (inr memory) = inl (memory_of_file held minutes fault memory)
 
 -- a seat that has a place is one of the seats
 pub unread_in : (seats : List (String Global)) (at : ℕ) (seat : String Global) (fault : Fault) → at < length seats → seat ≡ get_or seats at seat → IsUnreadAt (string_bytes seat) fault → IsUnread seats fault

@@ -68,7 +68,7 @@ pub fn fetch_entries<F: Files>(
     }
 }
 
-/// What is found of the journal in a file. The file of the start is read behind that of the journal, and refused behind it.
+/// What is found of the journal in a file. The start is read after the journal, and refused after it.
 fn fetch_verdict<'i, S: Sheet<'i>, F: Files>(
     alloc: Global,
     files: &mut F,
@@ -119,7 +119,7 @@ fn audit_on<'i, S: Sheet<'i>, F: Files, W: Sink>(
     print_verdict(alloc, out, instance, verdict)
 }
 
-/// Audits a journal of an instance, and prints whether its entries were told what their drafts are told
+/// Audits a journal of an instance, and prints whether its entries were answered as their drafts are
 /// when they are run whole, one after another. Each text is given by the name of its file.
 pub fn audit<F: Files, W: Sink>(
     alloc: Global,

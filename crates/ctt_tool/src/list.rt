@@ -16,7 +16,8 @@ use ctt_files::{Fault, Files, Outcome, fetch_instance, fetch_start, print};
 use ctt_text::{Instance, Placed, let_go, write_solution};
 use std::alloc::Global;
 
-/// Prints the timetable that entries leave on the opening with these lectures, or what an audit finds.
+/// Prints the timetable that entries leave on the opening with these lectures, or what an audit
+/// finds.
 fn print_left<'i, S: Sheet<'i>, W: Sink>(
     alloc: Global,
     out: &mut W,
@@ -45,8 +46,8 @@ fn print_left<'i, S: Sheet<'i>, W: Sink>(
     }
 }
 
-/// Prints the timetable after the journal in a file on this kind of sheet, or what an audit finds. The file of the start
-/// is read behind that of the journal.
+/// Prints the timetable after the journal in a file on this kind of sheet, or what an audit finds.
+/// The start is read after the journal.
 fn list_on<'i, S: Sheet<'i>, F: Files, W: Sink>(
     alloc: Global,
     files: &mut F,
@@ -77,8 +78,8 @@ fn list_on<'i, S: Sheet<'i>, F: Files, W: Sink>(
     printed
 }
 
-/// Prints the timetable after a journal of an instance as a solution, where the audit agrees. Each text is given by the
-/// name of its file.
+/// Prints the timetable after a journal of an instance as a solution, if the audit agrees. Each text
+/// is given by the name of its file.
 pub fn list<F: Files, W: Sink>(
     alloc: Global,
     files: &mut F,

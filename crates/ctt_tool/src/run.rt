@@ -40,8 +40,8 @@ fn fault_of_run(alloc: Global, instance: &Instance, fault: ScriptFault, script: 
     }
 }
 
-/// Runs a script on a desk that opens with these lectures, and prints the answers. The script is read
-/// from a file of this name.
+/// Runs a script on a desk that opens with these lectures, and prints the answers. The script is
+/// read from a file of this name.
 fn answer<'i, R: Source, W: Sink>(
     alloc: Global,
     instance: &'i Instance,
@@ -74,7 +74,8 @@ fn answer<'i, R: Source, W: Sink>(
     }
 }
 
-/// Stores the journal of these entries where a file is given for it, with which a run is done. No other file is written.
+/// Stores the journal of these entries if a file is given for it, which ends a run. No other file is
+/// written.
 fn store_journal<F: Files>(
     alloc: Global,
     files: &mut F,
@@ -101,8 +102,8 @@ fn store_journal<F: Files>(
     }
 }
 
-/// Runs the script in a file on a desk. The file is opened first, then the one of
-/// the start is read, and then the script.
+/// Runs the script in a file on a desk. The file is opened first, then the start is read, and then
+/// the script.
 fn run_on<F: Files, W: Sink>(
     alloc: Global,
     files: &mut F,
@@ -135,8 +136,8 @@ fn run_on<F: Files, W: Sink>(
     store_journal(alloc, files, instance, journal, desk.journal())
 }
 
-/// Runs a script on a desk of an instance, and prints the answers; then stores the journal of the drafts
-/// that were accepted, where a file is given for it. Each text is given by the name of its file.
+/// Runs a script on a desk of an instance, and prints the answers; then stores the journal of the
+/// drafts that were accepted, if a file is given for it. Each text is given by the name of its file.
 pub fn run<F: Files, W: Sink>(
     alloc: Global,
     files: &mut F,

@@ -4,6 +4,7 @@ use crate::cases::play_cases;
 use crate::story::Story;
 use crate::tables::{BARRED, OTHER_BARRED};
 use ctt_text::{BarredFault, Instance, read_barred};
+use std::sync::Wait;
 
 /// Files that are refused, and one that bars room A for top.
 const FILES: &[&str] = &[
@@ -44,10 +45,10 @@ fn tell_read(story: &mut Story, small: &mut Instance, files: &[&str]) {
 }
 
 /// What is played before and behind files of barred rooms.
-pub(crate) fn play(story: &mut Story, small: &mut Instance) {
+pub(crate) fn play<R: Wait>(story: &mut Story, rt: &R, small: &mut Instance) {
     story.say("files of barred rooms");
     tell_read(story, small, FILES);
-    play_cases(story, small, BARRED);
+    play_cases(story, rt, small, BARRED);
     tell_read(story, small, OTHER_FILES);
-    play_cases(story, small, OTHER_BARRED);
+    play_cases(story, rt, small, OTHER_BARRED);
 }

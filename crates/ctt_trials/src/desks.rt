@@ -1,4 +1,4 @@
-//! A script as events on a desk that keeps its journal: one by one, and at once. What the desk leaves is told.
+//! A script as events on a desk: one by one, and at once. What the desk leaves is told.
 
 ghost use Rattle.std.specs.Prelude.{IsTrue};
 ghost use Rattle.std.specs.List.{AllByRecursion as Each};
@@ -8,22 +8,17 @@ use crate::cases::{On, Script};
 use crate::story::Story;
 use ctt_board::Sheet;
 use ctt_core::{Desk, DeskFault, Event};
-use ctt_draft::KeepAll;
 use ctt_script::{Lines, PLANNERS, read_line};
 use ctt_text::{Instance, NoMemory, let_go};
 
 /// Tells the lectures and the cost of a desk, and how many entries its journal has.
-pub(crate) fn tell_desk<'i, S: Sheet<'i>>(desk: &Desk<'i, S, KeepAll>, story: &mut Story) {
+pub(crate) fn tell_desk<'i, S: Sheet<'i>>(desk: &Desk<'i, S>, story: &mut Story) {
     story.timetable(desk.instance(), desk.list(), desk.cost());
     story.count("entries", desk.journal().len() as u64);
 }
 
 /// Tells what a desk answers to an event, and answers whether it was told: want of memory is not.
-fn tells_step<'i, S: Sheet<'i>>(
-    desk: &mut Desk<'i, S, KeepAll>,
-    story: &mut Story,
-    event: &Event,
-) -> bool {
+fn tells_step<'i, S: Sheet<'i>>(desk: &mut Desk<'i, S>, story: &mut Story, event: &Event) -> bool {
     if !event.fits(desk.instance(), desk.planners()) {
         return false;
     }
@@ -69,11 +64,7 @@ fn all_fit(events: &[Event], instance: &Instance, planners: u16) -> bool
 
 /// Tells what a desk answers to events at once. Where an event wants memory those behind it meet another desk than they
 /// should: then the case is played again.
-fn tell_answers<'i, S: Sheet<'i>>(
-    desk: &mut Desk<'i, S, KeepAll>,
-    story: &mut Story,
-    events: &[Event],
-) {
+fn tell_answers<'i, S: Sheet<'i>>(desk: &mut Desk<'i, S>, story: &mut Story, events: &[Event]) {
     if !all_fit(events, desk.instance(), desk.planners()) {
         return story.say("unfit");
     }
@@ -86,7 +77,7 @@ fn tell_answers<'i, S: Sheet<'i>>(
 
 /// Plays a script on a desk event by event, each once more where memory is wanted, or at once, and tells what the desk then has.
 fn play_at<'i, S: Sheet<'i>>(
-    desk: &mut Desk<'i, S, KeepAll>,
+    desk: &mut Desk<'i, S>,
     story: &mut Story,
     on: &On,
     script: &Script<'i>,
@@ -109,7 +100,7 @@ fn play_at<'i, S: Sheet<'i>>(
 
 /// Plays a script event by event, or at once.
 pub(crate) fn play<'i, S: Sheet<'i>>(script: &Script<'i>, story: &mut Story, on: &On) {
-    match Desk::<S, KeepAll>::new(story.alloc(), script.small, script.opening, PLANNERS) {
+    match Desk::<S>::new(story.alloc(), script.small, script.opening, PLANNERS) {
         Ok(mut desk) => {
             play_at(&mut desk, story, on, script);
             let_go(desk);

@@ -7,13 +7,13 @@ use crate::sheets::{call_of, tell_cells, tell_sheet};
 use crate::story::Story;
 use ctt_board::Sheet;
 use ctt_core::{Answer, placed};
-use ctt_draft::{Draft, KeepAll, replay};
+use ctt_draft::{Draft, replay};
 use ctt_edits::Reply;
 use ctt_text::{NoMemory, let_go};
 use std::alloc::Global;
 
 /// Opens a draft on a sheet.
-fn open<'i, S: Sheet<'i>>(alloc: Global, sheet: &S) -> Result<Draft<'i, S, KeepAll>, NoMemory>
+fn open<'i, S: Sheet<'i>>(alloc: Global, sheet: &S) -> Result<Draft<'i, S>, NoMemory>
     ensures { IfOk result (λ draft. draft.problem ≡ S.problem sheet.now) }
 {
     Draft::open(alloc, sheet)
@@ -21,7 +21,7 @@ fn open<'i, S: Sheet<'i>>(alloc: Global, sheet: &S) -> Result<Draft<'i, S, KeepA
 
 /// What a draft answers to the call of a line. Where that is want of memory, it is asked again.
 fn ask<'i, S: Sheet<'i>>(
-    draft: &mut Draft<'i, S, KeepAll>,
+    draft: &mut Draft<'i, S>,
     story: &mut Story,
     line: &str,
 ) -> Result<Reply, NoMemory>
@@ -41,7 +41,7 @@ fn ask<'i, S: Sheet<'i>>(
 }
 
 /// Asks a draft what a line says, and tells the answer.
-fn tell_asked<'i, S: Sheet<'i>>(draft: &mut Draft<'i, S, KeepAll>, story: &mut Story, line: &str)
+fn tell_asked<'i, S: Sheet<'i>>(draft: &mut Draft<'i, S>, story: &mut Story, line: &str)
     ensures { draft.new.problem ≡ draft.old.problem }
 {
     let small = draft.instance();
@@ -50,7 +50,7 @@ fn tell_asked<'i, S: Sheet<'i>>(draft: &mut Draft<'i, S, KeepAll>, story: &mut S
 }
 
 /// Asks a draft a thousand times, by turns to place geo and to drop it again, and tells how many bytes that is answered.
-fn ask_often<'i, S: Sheet<'i>>(draft: &mut Draft<'i, S, KeepAll>, story: &mut Story)
+fn ask_often<'i, S: Sheet<'i>>(draft: &mut Draft<'i, S>, story: &mut Story)
     ensures { draft.new.problem ≡ draft.old.problem }
 {
     let here = story.len();
@@ -62,7 +62,7 @@ fn ask_often<'i, S: Sheet<'i>>(draft: &mut Draft<'i, S, KeepAll>, story: &mut St
 }
 
 /// Tells whether a draft is stale against a sheet.
-fn tell_stale<'i, S: Sheet<'i>>(draft: &Draft<'i, S, KeepAll>, story: &mut Story, sheet: &S)
+fn tell_stale<'i, S: Sheet<'i>>(draft: &Draft<'i, S>, story: &mut Story, sheet: &S)
     requires { S.problem sheet.now ≡ draft.now.problem }
 {
     match draft.stale(sheet) {
@@ -73,7 +73,7 @@ fn tell_stale<'i, S: Sheet<'i>>(draft: &Draft<'i, S, KeepAll>, story: &mut Story
 }
 
 /// Makes the changes of a draft again on a copy of a sheet.
-fn tell_replayed<'i, S: Sheet<'i>>(draft: &Draft<'i, S, KeepAll>, story: &mut Story, sheet: &S) {
+fn tell_replayed<'i, S: Sheet<'i>>(draft: &Draft<'i, S>, story: &mut Story, sheet: &S) {
     match sheet.copy() {
         Ok(mut copy) => {
             story.count("replayed", u64::from(replay(draft.changes(), &mut copy)));
@@ -84,20 +84,20 @@ fn tell_replayed<'i, S: Sheet<'i>>(draft: &Draft<'i, S, KeepAll>, story: &mut St
 }
 
 /// Tells the cells that a draft would put back, and how many changes and calls it has.
-fn tell_work<'i, S: Sheet<'i>>(draft: &Draft<'i, S, KeepAll>, story: &mut Story) {
+fn tell_work<'i, S: Sheet<'i>>(draft: &Draft<'i, S>, story: &mut Story) {
     tell_cells(story, draft.undo());
     story.count("changes", draft.changes().len() as u64);
     story.count("calls", draft.asked().len() as u64);
 }
 
 /// Ends a draft, and settles it on a sheet, unless it is stale there.
-fn settle<'i, S: Sheet<'i>>(draft: Draft<'i, S, KeepAll>, story: &mut Story, sheet: &mut S)
+fn settle<'i, S: Sheet<'i>>(draft: Draft<'i, S>, story: &mut Story, sheet: &mut S)
     requires { S.problem sheet.old ≡ draft.problem }
 {
     match draft.stale(sheet) {
         Ok(None) => {
             let work = draft.finish();
-            story.count("calls", work.asked.len());
+            story.count("calls", work.asked.len() as u64);
             story.count("changes", work.changes.len() as u64);
             work.settle(sheet);
             let_go(work);
@@ -113,7 +113,7 @@ fn settle<'i, S: Sheet<'i>>(draft: Draft<'i, S, KeepAll>, story: &mut Story, she
 /// What is asked of a draft on an empty sheet: a thousand calls, or to look at a slot and to place geo, where another sheet has
 /// top in that slot.
 fn ask_all<'i, S: Sheet<'i>>(
-    draft: &mut Draft<'i, S, KeepAll>,
+    draft: &mut Draft<'i, S>,
     story: &mut Story,
     on: &On,
     sheet: &S,

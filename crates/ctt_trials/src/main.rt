@@ -9,11 +9,13 @@ mod desks;
 mod drafts;
 mod journals;
 mod scripts;
+mod shared;
 mod sheets;
 mod shown;
 mod story;
 mod tables;
 mod texts;
+mod turns;
 mod worked;
 
 use cases::play_cases;
@@ -21,8 +23,9 @@ use ctt_devices::{Device, INPUT_LIMIT, read_all};
 use ctt_text::{Instance, let_go, read_instance};
 use std::alloc::Global;
 use std::process::ExitCode;
+use std::sync::Wait;
 use story::Story;
-use tables::{of_texts, on_desks, on_sheets, refreshed_desks, refusing_desks};
+use tables::{of_texts, on_desks, on_shared_desks, on_sheets, refreshed_desks, refusing_desks};
 use texts::SMALL;
 
 /// The small instance, read from a device.
@@ -32,15 +35,16 @@ fn small_instance(alloc: Global) -> Option<Instance> {
 }
 
 /// All that is played.
-fn play(story: &mut Story) {
+fn play<R: Wait>(story: &mut Story, rt: &R) {
     match small_instance(story.alloc()) {
         Some(mut small) => {
-            play_cases(story, &small, on_sheets());
-            play_cases(story, &small, on_desks());
-            play_cases(story, &small, refreshed_desks());
-            play_cases(story, &small, refusing_desks());
-            play_cases(story, &small, of_texts());
-            barred::play(story, &mut small);
+            play_cases(story, rt, &small, on_sheets());
+            play_cases(story, rt, &small, on_desks());
+            play_cases(story, rt, &small, refreshed_desks());
+            play_cases(story, rt, &small, refusing_desks());
+            play_cases(story, rt, &small, of_texts());
+            play_cases(story, rt, &small, on_shared_desks());
+            barred::play(story, rt, &mut small);
             let_go(small);
         }
         None => story.no_memory(),
@@ -63,9 +67,9 @@ fn main(rt: HostRuntime) -> ExitCode {
     let Some(mut story) = new_story(rt.alloc()) else {
         return ExitCode::from(3);
     };
-    play(&mut story);
+    play(&mut story, &rt);
     if story.takes_back(0) {
-        play(&mut story);
+        play(&mut story, &rt);
     }
     let mut out = Device::new(rt.stdout());
     ExitCode::from(if story.write(&mut out) { 0 } else { 3 })

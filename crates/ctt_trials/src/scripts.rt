@@ -4,64 +4,73 @@
 ghost use Rattle.std.specs.Prelude.{IfOk};
 ghost use Rattle.ctt_script.specs.Entries.{IsWritable};
 
-use crate::cases::{On, Script};
+use crate::cases::{Script, Told};
 use crate::desks::tell_desk;
 use crate::journals::tell_journal;
 use crate::story::Story;
-use ctt_board::Sheet;
+use ctt_board::GridSheet;
 use ctt_core::Desk;
 use ctt_devices::Device;
-use ctt_draft::KeepAll;
 use ctt_script::{ScriptFault, run_script};
 use ctt_text::let_go;
 
 /// Runs the lines of a script, whose answers are told.
-fn ran<'i, S: Sheet<'i>>(
-    script: &Script<'i>,
-    story: &mut Story,
-) -> Result<Desk<'i, S, KeepAll>, ScriptFault>
+fn ran<'i>(script: &Script<'i>, story: &mut Story) -> Result<Desk<'i, GridSheet<'i>>, ScriptFault>
     ensures { IfOk result (λ desk. IsWritable script.now.small.now desk.journal) }
 {
     let mut reader = Device::new(script.lines.as_bytes());
-    run_script::<S, KeepAll, Device<&[u8]>, Story>(
+    run_script(
         story.alloc(),
         script.small,
         script.opening,
         &mut reader,
         story,
-        &mut None,
     )
 }
 
 /// Tells what a desk has, or only how long its answers are, which were told from a place on, and its journal.
-fn tell_left<'i, S: Sheet<'i>>(
-    desk: &Desk<'i, S, KeepAll>,
+fn tell_left<'i>(
+    desk: &Desk<'i, GridSheet<'i>>,
     story: &mut Story,
-    on: &On,
+    told: &Told,
     script: &Script<'i>,
     here: usize,
 )
     requires { IsWritable script.now.small.now desk.now.journal }
 {
-    if matches!(on, On::Journal) {
+    if matches!(told, Told::Journal) {
         story.measure(here);
-        tell_journal::<S>(script, story, desk.journal());
+        tell_journal::<GridSheet>(script, story, desk.journal());
     } else {
         tell_desk(desk, story);
     }
 }
 
+/// How many bytes of the answers are taken.
+fn room_for(told: &Told) -> usize {
+    match told {
+        Told::Cut => 3,
+        _ => usize::MAX,
+    }
+}
+
 /// Plays a script. Its answers are told, and what it leaves; or only how long they are, and its journal.
-pub(crate) fn play<'i, S: Sheet<'i>>(script: &Script<'i>, story: &mut Story, on: &On) {
+pub(crate) fn play(script: &Script, story: &mut Story, told: &Told) {
     let here = story.len();
-    story.is_deaf = matches!(on, On::Unflushed);
-    match ran::<S>(script, story) {
+    story.is_deaf = matches!(told, Told::Unflushed);
+    story.room = room_for(told);
+    match ran(script, story) {
         Ok(desk) => {
-            tell_left(&desk, story, on, script, here);
+            tell_left(&desk, story, told, script, here);
             let_go(desk);
         }
         Err(ScriptFault::Unlawful(at, fault)) => story.unlawful(script.small, at, fault),
-        Err(ScriptFault::Write) => story.say("not passed on"),
+        Err(ScriptFault::Write) => {
+            if matches!(told, Told::Cut) {
+                story.bytes(b"\n");
+            }
+            story.say("not passed on");
+        }
         Err(_fault) => story.no_memory(),
     }
 }

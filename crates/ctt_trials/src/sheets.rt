@@ -6,7 +6,7 @@ ghost use Rattle.ctt_edits.specs.Calls.{CallFits};
 
 use crate::cases::{On, Script};
 use crate::story::Story;
-use ctt_board::{Cell, Sheet};
+use ctt_board::{Cell, Change, Sheet};
 use ctt_core::{Event, PlannerNo, placed};
 use ctt_edits::{Call, Edit, Look, Row, check, look, reads};
 use ctt_script::{Lines, read_own_line};
@@ -41,7 +41,7 @@ pub(crate) fn tell_cells(story: &mut Story, cells: &[Cell]) {
     }
 }
 
-/// Makes an edit on a sheet, and tells that it is done, or in full its change, and what that costs less.
+/// Makes an edit on a sheet, and tells that it is done, or in full its change, and by how much that changes the penalty.
 fn make<'i, S: Sheet<'i>>(story: &mut Story, sheet: &mut S, edit: &Edit, in_full: bool) {
     if !edit.fits(sheet.instance()) {
         return story.say("unfit");
@@ -50,7 +50,7 @@ fn make<'i, S: Sheet<'i>>(story: &mut Story, sheet: &mut S, edit: &Edit, in_full
         Ok(change) => {
             if in_full {
                 tell_cells(story, change.cells());
-                story.count("less", sheet.delta(&change).unsigned_abs());
+                story.difference("delta", sheet.delta(&change));
             } else {
                 story.say("done");
             }
@@ -85,11 +85,15 @@ fn answer_lines<'i, S: Sheet<'i>>(script: &Script<'i>, story: &mut Story, sheet:
     tell_sheet(story, sheet);
 }
 
-/// Tells the rows of a lecture on a sheet, and the sheet.
+/// Tells the room of a lecture on a sheet, how many lectures its course has, its rows, and the sheet.
 fn tell_lecture<'i, S: Sheet<'i>>(story: &mut Story, sheet: &S, lecture: &Placed) {
     if !lecture_fits(sheet, lecture) {
         return story.say("unfit");
     }
+    if let Some(room) = sheet.room_at(lecture.course, lecture.slot) {
+        story.count("room", u64::from(room.get()));
+    }
+    story.count("count", u64::from(sheet.count(lecture.course)));
     story.lectures(sheet.instance(), sheet.course_row(lecture.course));
     story.lectures(sheet.instance(), sheet.slot_row(lecture.slot));
     tell_sheet(story, sheet);
@@ -113,11 +117,38 @@ fn place_geo<'i, S: Sheet<'i>>(story: &mut Story, sheet: &mut S) {
     }
 }
 
+/// A cell in which a lecture is added in room A, or removed.
+fn cell(course: u16, slot: u16, is_added: bool) -> Cell {
+    let room = if is_added { Some(RoomNo::new(0)) } else { None };
+    Cell {
+        course: CourseNo::new(course),
+        slot: SlotNo::new(slot),
+        room,
+    }
+}
+
+/// Tells whether a sheet accepts a change of these cells.
+fn tell_accepted<'i, S: Sheet<'i>>(story: &mut Story, sheet: &S, cells: &[Cell]) {
+    tell_cells(story, cells);
+    if let Some(change) = Change::of(cells) {
+        story.count("accepts", u64::from(sheet.accepts(&change)));
+    }
+}
+
+/// Tells whether a sheet accepts a third course in a room that is taken, the removal of a lecture, and a course that is not
+/// there.
+fn tell_all_accepted<'i, S: Sheet<'i>>(story: &mut Story, sheet: &S) {
+    tell_accepted(story, sheet, &[cell(2, 1, true)]);
+    tell_accepted(story, sheet, &[cell(1, 5, false)]);
+    tell_accepted(story, sheet, &[cell(3, 1, true)]);
+}
+
 /// Plays lines or a placement on a sheet that has the lectures of a script at first.
 pub(crate) fn play<'i, S: Sheet<'i>>(script: &Script<'i>, story: &mut Story, on: &On) {
     match placed::<S>(story.alloc(), script.small, script.opening) {
         Ok(mut sheet) => match on {
             On::Placement => place_geo(story, &mut sheet),
+            On::Accepted => tell_all_accepted(story, &sheet),
             _ => answer_lines(script, story, &mut sheet),
         },
         Err(_fault) => story.no_memory(),

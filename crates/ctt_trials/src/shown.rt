@@ -1,7 +1,8 @@
-//! A timetable that is shown: its reports, and its text.
+//! A timetable that is shown: its reports, and its text. An input that is read whole.
 
 use crate::cases::Script;
 use crate::story::Story;
+use ctt_devices::{Device, InputFault, read_all};
 use ctt_findings::{report_json, report_text};
 use ctt_text::{read_solution, write_solution};
 
@@ -31,5 +32,18 @@ pub(crate) fn play_written(script: &Script, story: &mut Story) {
             tell_read(script, story, &text);
         }
         Err(_no_memory) => story.no_memory(),
+    }
+}
+
+/// An input that is read whole, of at most four bytes.
+pub(crate) fn play_input(script: &Script, story: &mut Story) {
+    match read_all(story.alloc(), &mut Device::new(script.lines.as_bytes()), 4) {
+        Ok(bytes) => {
+            story.bytes(&bytes);
+            story.say("");
+        }
+        Err(InputFault::TooLong) => story.say("too long"),
+        Err(InputFault::Read) => story.say("not read"),
+        Err(InputFault::NoMemory) => story.no_memory(),
     }
 }

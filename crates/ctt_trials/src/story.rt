@@ -3,11 +3,11 @@
 ghost use Rattle.std.specs.Prelude.{◌↔◌, IsTrue, None};
 ghost use Rattle.ctt_script.specs.Entries.{AnswerFits};
 
-use ctt_core::Answer;
+use ctt_core::{Answer, JournalEntry};
 use ctt_devices::{Failed, Sink, put_all};
 use ctt_edits::{EditFault, Lectures, Reply, Row};
 use ctt_rules::Cost;
-use ctt_script::write_answer;
+use ctt_script::{write_answer, write_entry};
 use ctt_text::{Instance, NoMemory, Placed};
 use std::alloc::Global;
 
@@ -27,6 +27,8 @@ pub(crate) struct Story {
     is_lost: bool,
     /// Whether it passes on nothing, as a writer.
     pub(crate) is_deaf: bool,
+    /// How many bytes more it takes, as a writer.
+    pub(crate) room: usize,
     failed: bool,
 }
 
@@ -60,6 +62,7 @@ impl Story {
             is_wanting: false,
             is_lost: false,
             is_deaf: false,
+            room: usize::MAX,
             failed: false,
         })
     }
@@ -142,6 +145,12 @@ impl Story {
         self.bytes(b"\n");
     }
 
+    /// Tells a line of a word and a difference.
+    pub(crate) fn difference(&mut self, word: &str, number: i64) {
+        let is_written = writeln!(self.line, "{word} {number}").is_ok();
+        self.end_line(is_written);
+    }
+
     /// Tells how many bytes were told from a place on, in their place.
     pub(crate) fn measure(&mut self, from: usize) {
         let told = self.text.len().saturating_sub(from);
@@ -179,6 +188,19 @@ impl Story {
         for answer in answers {
             self.answer(instance, answer);
         }
+    }
+
+    /// Tells an entry of a journal.
+    pub(crate) fn entry(&mut self, instance: &Instance, entry: &JournalEntry) {
+        let is_written = entry.asked.fits(instance)
+            && write_entry(
+                &mut self.line,
+                instance,
+                entry.planner,
+                entry.asked.as_slice(),
+            )
+            .is_ok();
+        self.end_line(is_written);
     }
 
     /// Tells a reply.
@@ -253,10 +275,17 @@ impl Sink for Story {
     ghost taken = { λ story. None };
 
     fn put(&mut self, bytes: &[u8]) -> Result<usize, Failed> {
+        let taken = bytes.len().min(self.room);
+        if taken == 0 && !bytes.is_empty() {
+            self.failed = true;
+            return Err(Failed);
+        }
         let failed = self.failed;
-        self.bytes(bytes);
+        let room = self.room - taken;
+        self.bytes(&bytes[..taken]);
         self.failed = failed;
-        Ok(bytes.len())
+        self.room = room;
+        Ok(taken)
     }
 
     fn flush(&mut self) -> Result<(), Failed> {

@@ -1,6 +1,6 @@
 //! The tables of all cases.
 
-use crate::cases::{Case, On, Plain, Play, Way};
+use crate::cases::{Case, On, Plain, Play, Told, Way};
 use crate::texts::{CLASH, JOURNAL, NOTHING, SOLUTION, TOP, WITHOUT_TOP};
 use crate::worked::*;
 
@@ -47,6 +47,18 @@ const PLACEMENT: &[Play] = plays![
     Way::Grid(On::Placement) => "on the grid sheet",
 ];
 
+/// Which changes are accepted, on both kinds of sheets.
+const ACCEPTED: &[Play] = plays![
+    Way::List(On::Accepted) => "",
+    Way::Grid(On::Accepted) => "on the grid sheet",
+];
+
+/// An input that is read whole.
+const INPUT: &[Play] = plays![Way::Plain(Plain::Input) => ""];
+
+/// At a desk that planners share.
+const SHARED: &[Play] = plays![Way::Shared => ""];
+
 /// The rows that a line reads.
 const ROWS: &[Play] = plays![Way::Plain(Plain::Rows) => ""];
 
@@ -62,21 +74,20 @@ const LONG_DRAFT: &[Play] = plays![
     Way::Grid(On::LongDraft) => "on the grid sheet",
 ];
 
-/// A script by step, at once and as a text, on desks of both kinds of sheets; and its journal.
+/// A script by step and at once on desks of both kinds of sheets, and as a text; and its journal.
 const DESK: &[Play] = plays![
     Way::List(On::Step) => "",
     Way::Grid(On::Step) => "on the grid sheet",
     Way::List(On::Run) => "at once",
     Way::Grid(On::Run) => "at once on the grid sheet",
-    Way::List(On::Text) => "as a script",
-    Way::Grid(On::Text) => "as a script on the grid sheet",
-    Way::Grid(On::Journal) => "",
+    Way::Script(Told::Answers) => "as a script",
+    Way::Script(Told::Journal) => "",
 ];
 
 /// Lines that are no events, by step and as a text.
 const BAD: &[Play] = plays![
     Way::Grid(On::Step) => "",
-    Way::Grid(On::Text) => "as a script",
+    Way::Script(Told::Answers) => "as a script",
 ];
 
 /// A journal is audited.
@@ -92,11 +103,14 @@ const LEFT: &[Play] = plays![
 const UNLAWFUL: &[Play] = plays![
     Way::Grid(On::Step) => "",
     Way::Grid(On::Audit) => "",
-    Way::Grid(On::Text) => "",
+    Way::Script(Told::Answers) => "",
 ];
 
 /// A script whose answers are not passed on.
-const UNFLUSHED: &[Play] = plays![Way::Grid(On::Unflushed) => ""];
+const UNFLUSHED: &[Play] = plays![Way::Script(Told::Unflushed) => ""];
+
+/// A script of whose answers three bytes are taken.
+const CUT: &[Play] = plays![Way::Script(Told::Cut) => ""];
 
 /// Reports, lines on one sheet, and drafts by themselves.
 const ON_SHEETS: &[Case] = &[
@@ -115,6 +129,7 @@ const ON_SHEETS: &[Case] = &[
     case!("a drop", SOLUTION, DROP, LINES),
     case!("a room that is taken", WITHOUT_TOP, ROOM_TAKEN, LINES),
     case!("one placement", NOTHING, "", PLACEMENT),
+    case!("changes that are accepted", SOLUTION, "", ACCEPTED),
     case!("price place alg B 0 0", NOTHING, PRICE, ROWS),
     case!("swap geo 0 1 top 0 2", NOTHING, SWAP, ROWS),
     case!("drafts", TOP, "", DRAFT),
@@ -159,6 +174,21 @@ const REFUSING_DESKS: &[Case] = &[
     case!("a refused edit", WITHOUT_TOP, REFUSED, DESK),
 ];
 
+/// Desks that planners share on one thread.
+const ON_SHARED_DESKS: &[Case] = &[
+    case!("a receipt is learnt", NOTHING, LEARNT, SHARED),
+    case!("all see a commit", NOTHING, ALL_SEE, SHARED),
+    case!("a draft is dropped", NOTHING, DROPPED, SHARED),
+    case!(
+        "refreshed between planners",
+        NOTHING,
+        REFRESHED_BETWEEN,
+        SHARED
+    ),
+    case!("stale between planners", NOTHING, STALE_BETWEEN, SHARED),
+    case!("an unlawful opening of a shared desk", CLASH, "", SHARED),
+];
+
 /// Journals, and answers that are not passed on.
 const TEXTS: &[Case] = &[
     case!("another reply", WITHOUT_TOP, OTHER_JOURNAL, AUDIT),
@@ -177,6 +207,14 @@ const TEXTS: &[Case] = &[
         PHANTOM,
         UNFLUSHED
     ),
+    case!(
+        "answers of which three bytes are taken",
+        NOTHING,
+        OUT_OF_TURN,
+        CUT
+    ),
+    case!("an input of four bytes", NOTHING, "four", INPUT),
+    case!("an input of five bytes", NOTHING, "fives", INPUT),
     case!("a journal that agrees", NOTHING, OTHER_JOURNAL, AUDIT),
 ];
 
@@ -210,6 +248,11 @@ pub(crate) fn refreshed_desks() -> &'static [Case] {
 /// Lines that are no events, and desks that meet what stands in a slot.
 pub(crate) fn refusing_desks() -> &'static [Case] {
     REFUSING_DESKS
+}
+
+/// Desks that planners share on one thread.
+pub(crate) fn on_shared_desks() -> &'static [Case] {
+    ON_SHARED_DESKS
 }
 
 /// Journals, and answers that are not passed on.

@@ -201,6 +201,7 @@ place alg B 0 0
 price place alg A 1 1
 move geo 0 1 B 0 1
 move geo 0 0 B 0 1
+move geo 0 0 B 0 0
 swap alg 0 0 alg 1 0
 swap geo 0 0 top 0 2
 ";
@@ -235,3 +236,58 @@ pub(crate) const OTHER_JOURNAL: &str = "journal 1 entry 0 1 place top A 0 1 done
 
 /// A journal of a draft in which top was placed in room B.
 pub(crate) const TOP_JOURNAL: &str = "journal 1 entry 0 1 place top B 0 2 done END.";
+
+/// At a shared desk a planner commits, and another one learns his receipt, looks and opens a draft.
+pub(crate) const LEARNT: &str = "0 open
+0 place geo A 0 1
+0 commit
+0 open
+0 slot 0 1
+1 learn
+1 show slot 0 1
+1 open
+1 slot 0 1
+";
+
+/// A planner has seen that a slot is empty, which another one fills. Two more planners, who learnt nothing, see that.
+pub(crate) const ALL_SEE: &str = "0 open
+1 open
+0 slot 0 2
+1 place top B 0 2
+1 commit
+0 commit
+2 show slot 0 2
+3 open
+3 slot 0 2
+3 abandon
+";
+
+/// A planner goes, with a draft open, before another one opens his.
+pub(crate) const DROPPED: &str = "0 open
+0 place geo A 0 1
+0 leave
+1 open
+1 place top B 0 2
+1 commit
+";
+
+/// A planner brings his draft up to date, and sees what another one placed.
+pub(crate) const REFRESHED_BETWEEN: &str = "0 open
+1 open
+0 place geo A 0 1
+1 place top B 0 2
+1 commit
+0 refresh
+0 slot 0 2
+0 commit
+";
+
+/// The same, but he has seen that the slot was empty.
+pub(crate) const STALE_BETWEEN: &str = "0 open
+1 open
+0 place geo A 0 1
+0 slot 0 2
+1 place top B 0 2
+1 commit
+0 refresh
+";

@@ -23,7 +23,7 @@ returns c =
       is_complete = c.assess-assessment.ensures.complete;
       shown = five_pieces (string_bytes c.new-page.result) (string_bytes c.push_head.new.page) (string_bytes c.push_report.new.page) (string_bytes c.push_sections.new.page) (string_bytes c.push_week.new.page) (string_bytes c.push_str.new.self)
           _ (report (has_barred i) (hard_counts i t) (penalty i t) judged.lawful judged.complete) (sections i t) (grids i (by_slot (slot_count i) t)) (codes "</body></html>\n")
-          c.new-page.ensures.bytes (rw c.name.ensures at c.in_ok-push_head.ensures)
+          c.new-page.ensures.bytes (rw (c.style.ensures, c.name.ensures) at c.in_ok-push_head.ensures)
           (rw (c.has_barred.ensures, c.assess-assessment.ensures.hard, c.assess-assessment.ensures.cost) at c.in_ok-push_report.ensures)
           c.in_ok-push_sections.ensures c.in_ok-push_week.ensures c.in_ok-push_str.ensures.bytes;
     }

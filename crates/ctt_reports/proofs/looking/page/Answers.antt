@@ -1,7 +1,6 @@
 use Rattle.std.proofs.Common.{None, refl, string_bytes, subst, sym}
 use Rattle.ctt_files.proofs.Plain.{on_ok_weaker, passed_plain}
 use Rattle.ctt_page.specs.Page.{IsPage}
-use Rattle.ctt_page.specs.declared.style.TheConstants.{STYLE}
 use Rattle.ctt_reports.specs.Refusals.{IsOfPage}
 use Rattle.ctt_reports.proofs.LookLemmas.{look_plain}
 use Rattle.ctt_reports.proofs.looking.page.Goals as goal
@@ -23,6 +22,6 @@ returns-clause-prints g c =
       timetable = subject.timetable.items;
       is_solution = c.in_ok-subject.ensures.spelled;
       bytes = c.as_bytes.result.now;
-      is_text = subst (IsPage STYLE.now subject.instance subject.timetable.items) (sym c.as_bytes.ensures.value) (subst (λ t. IsPage STYLE.now subject.instance t (string_bytes c.in_ok-text.field-0)) c.deref.ensures.value c.in_ok-text.ensures);
+      is_text = subst (IsPage subject.instance subject.timetable.items) (sym c.as_bytes.ensures.value) (subst (λ t. IsPage subject.instance t (string_bytes c.in_ok-text.field-0)) c.deref.ensures.value c.in_ok-text.ensures);
       taken = printed;
     }) c.print.ensures.printed

@@ -1,10 +1,10 @@
+use Rattle.std.proofs.Common.{inr}
 use Rattle.ctt_files.proofs.Plain.{passed_on}
 use Rattle.ctt_reports.specs.Refusals.{IsOfSubject}
-use Rattle.ctt_reports.proofs.LookLemmas.{of_solution}
 use Rattle.ctt_reports.proofs.subject.fetch_behind.Goals as goal
 
 pub returns-in_err-timetable-clause-cause : goal.returns-in_err-timetable-clause-cause
 returns-in_err-timetable-clause-cause g c =
     let held = g.F.Files.held c.args.files.now in
     passed_on c.from_residual-in_err-timetable.result c.in_err-timetable.field-0.0 (IsOfSubject c.args.whose c.args.solution held c.args.instance.now) c.from_residual-in_err-timetable.ensures.1
-    (of_solution c.args.whose c.args.solution held c.args.instance.now c.in_err-timetable.field-0.0 c.in_err-timetable.ensures.cause)
+    (inr (c.in_ok-selection.selection, c.in_ok-selection.ensures.found, c.in_err-timetable.ensures.cause))

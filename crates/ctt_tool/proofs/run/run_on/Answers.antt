@@ -22,10 +22,10 @@ use Rattle.ctt_tool.proofs.Desks.{answer_in, journal_stored, others_kept, told_t
 use Rattle.ctt_tool.proofs.run.run_on.Goals as goal
 
 pub answer-requires : goal.answer-requires
-answer-requires g c κs =
-    let fit : Each (Fits c.args.instance.now) c.deref-2.result.now = subst (Each (Fits c.args.instance.now)) (sym c.deref-2.ensures.value) c.in_ok-lectures.ensures.fit in
-    let unread : g.F.Input.Source.has_failed c.in-Ok.input ≡ false = c.in-Ok.ensures.unmarked in
-    search rules
+answer-requires g c = record {
+  fit = subst (Each (Fits c.args.instance.now)) (sym c.deref-2.ensures.value) c.in_ok-lectures.ensures.fit;
+  unread = c.in-Ok.ensures.unmarked;
+}
 
 pub returns-in_err-lectures-clause-cause : goal.returns-in_err-lectures-clause-cause
 returns-in_err-lectures-clause-cause g c =

@@ -1,0 +1,128 @@
+//! A desk that planners share, played on one thread.
+
+ghost use Rattle.std.specs.Prelude.{◌≡◌, IfOk};
+ghost use Rattle.ctt_desk.specs.Names.{IsNamed};
+
+use crate::cases::Script;
+use crate::story::Story;
+use crate::turns::{Here, leave, sit, take_turns, tell_planner};
+use ctt_board::{GridSheet, Sheet, Timetable};
+use ctt_desk::{Closed, Named, Naming, Opened, Planner, SharedDesk, SharedFault};
+use ctt_text::{Instance, let_go};
+use std::alloc::Global;
+use std::marker::{Brand, PhantomData};
+use std::sync::Wait;
+
+/// How many planners a desk has.
+const PLANNERS: u16 = 4;
+
+/// The opening of a desk.
+fn opened<'i, S: Sheet<'i>>(script: &Script<'i>, alloc: Global) -> Result<Opened<S>, SharedFault>
+    ensures { IfOk result (λ opened. opened.problem ≡ script.now.small.now) }
+{
+    Opened::<S>::new(alloc, script.small, script.opening)
+}
+
+/// The planners take the turns of a script at their desk. They come back from their seats.
+fn play_at<'i, S: Sheet<'i>, J: Naming, R: Wait>(
+    here: &Here<'i, '_, S, J, R>,
+    story: &mut Story,
+    planners: Vec<Planner<S, J>>,
+    lines: &str,
+) -> Vec<Planner<S, J>>
+    requires { J.problem ≡ here.now.small.now }
+{
+    let mut seats = sit(story, planners);
+    take_turns(here, &mut seats, story, lines);
+    leave(seats, story)
+}
+
+/// Tells the lectures of a closed desk, what they cost, and its journal.
+fn tell_closed<S: Timetable, J: Naming>(
+    story: &mut Story,
+    small: &Instance,
+    closed: &Closed<S, J>,
+) {
+    story.timetable(small, closed.list(), closed.cost());
+    for entry in closed.journal() {
+        story.entry(small, entry);
+    }
+}
+
+/// Closes a desk with its planners, and tells what it left, and how many drafts each of them has seen, and committed.
+fn close<S: Timetable, J: Naming, R: Wait>(
+    story: &mut Story,
+    rt: &R,
+    desk: SharedDesk<S, J>,
+    planners: &mut [Planner<S, J>],
+    small: &Instance,
+) {
+    match desk.close(rt, planners) {
+        Ok(closed) => {
+            story.count("closed with planners", planners.len() as u64);
+            tell_closed(story, small, &closed);
+            let_go(closed);
+        }
+        Err(closed) => {
+            story.say("not closed");
+            let_go(closed);
+        }
+    }
+    for planner in planners {
+        story.pair("planner", u64::from(planner.number().get()));
+        story.bytes(b" ");
+        tell_planner(story, planner);
+    }
+}
+
+/// Plays a script on a desk that is made for it.
+fn play_named<'i, S: Sheet<'i>, J: Naming, R: Wait>(
+    script: &Script<'i>,
+    story: &mut Story,
+    rt: &R,
+    named: Named<S, J>,
+)
+    requires { J.problem ≡ script.now.small.now }
+{
+    match SharedDesk::<S, J>::new(rt, named) {
+        Ok((desk, all)) => {
+            let here = Here {
+                rt,
+                desk: &desk,
+                small: script.small,
+            };
+            let mut planners = play_at(&here, story, all, script.lines);
+            close(story, rt, desk, planners.as_mut_slice(), script.small);
+            let_go(planners);
+        }
+        Err(_fault) => story.no_memory(),
+    }
+}
+
+/// Plays a script on a desk of which is known which one it is.
+fn play_opened<'i, J: Naming, R: Wait>(
+    script: &Script<'i>,
+    story: &mut Story,
+    rt: &R,
+    opened: Opened<GridSheet<'i>>,
+    count: u16,
+)
+    requires named { IsNamed J.problem J.opening J.planners J.book opened count }
+    requires problem { opened.problem ≡ script.now.small.now }
+{
+    let named = Named {
+        opened,
+        count,
+        name: PhantomData,
+    };
+    play_named::<GridSheet, J, R>(script, story, rt, named);
+}
+
+/// Plays a script on a desk of grid sheets.
+pub(crate) fn play<R: Wait>(script: &Script, story: &mut Story, rt: &R) {
+    match opened::<GridSheet>(script, story.alloc()) {
+        Ok(opened) => play_opened::<Brand, R>(script, story, rt, opened, PLANNERS),
+        Err(SharedFault::Unlawful(at, fault)) => story.unlawful(script.small, at, fault),
+        Err(SharedFault::NoPlace | SharedFault::NoMemory) => story.no_memory(),
+    }
+}
