@@ -1,13 +1,15 @@
-//! Planners of one desk of grid sheets, of whom two commit drafts by turns, on threads of their own: each entry is where its
-//! receipt says. A third planner may then learn their last receipts, and all three see what was placed.
+//! Planners of one desk of grid sheets, of whom two commit drafts by turns, on threads of their
+//! own: each entry is where its receipt says. A third planner may then learn their last receipts,
+//! and all three see what was placed.
 
 ghost use Rattle.ctt_desk.specs.Names.{IsNamed};
 
-use crate::desks::{accepted, costs, drafted, empty, expect_seen, is_entry, is_left, place};
+use crate::desks::{accepted, costs, drafted, empty, expect_seen, is_left};
+use crate::numbers::{Numbers, come_once, edit_of, stands_in};
 use crate::small::{geo_second, small_instance, top_third};
 use crate::stopped::Stopped;
 use ctt_board::{GridSheet, Sheet, Timetable};
-use ctt_core::{JournalEntry, PlannerNo};
+use ctt_core::PlannerNo;
 use ctt_desk::{Closed, Named, Naming, Opened, Planner, Receipt, SharedDesk};
 use ctt_edits::{Call, Edit};
 use ctt_rules::Cost;
@@ -38,14 +40,6 @@ struct Committed<S: Timetable, J: Naming> {
     receipt: Receipt<J>,
 }
 
-/// The numbers of a planner's receipts, in the order of his drafts, with the lecture that these place and drop.
-#[derive(Drop)]
-struct Numbers {
-    planner: PlannerNo,
-    lecture: Placed,
-    list: Vec<u64>,
-}
-
 /// Commits a draft of one edit.
 fn commit_edit<'i, S: Sheet<'i>, J: Naming, R: Wait>(
     rt: &R,
@@ -56,15 +50,6 @@ fn commit_edit<'i, S: Sheet<'i>, J: Naming, R: Wait>(
     let (drafting, _reply) = drafted(planner, Call::Edit(edit))?;
     let (planner, receipt) = accepted(rt, desk, drafting)?;
     Some(Committed { planner, receipt })
-}
-
-/// The placing of a lecture and its removal, by turns.
-fn edit_of(turn: usize, lecture: &Placed) -> Edit {
-    if turn % 2 == 0 {
-        place(lecture)
-    } else {
-        Edit::Drop(lecture.course, lecture.slot)
-    }
 }
 
 /// A planner commits drafts of one edit, at least one. The receipts' numbers are noted.
@@ -88,8 +73,8 @@ fn commit_all<'i, S: Sheet<'i>, J: Naming, R: Wait>(
     Some(last)
 }
 
-/// A planner at a desk, with the lecture that is placed and removed, in how many drafts, and where planners go when they are
-/// done.
+/// A planner at a desk, with the lecture that is placed and removed, in how many drafts, and where
+/// planners go when they are done.
 #[derive(Drop)]
 struct Turn<'a, 'i, J: Naming> {
     alloc: Global,
@@ -165,8 +150,8 @@ fn sees_all<'i, S: Sheet<'i>, J: Naming, R: Abort>(
     Some(planner)
 }
 
-/// The planner who is left, if there is one, learns the last receipts of the others, who come back to him, and all see what
-/// was placed.
+/// The planner who is left, if there is one, learns the last receipts of the others, who come back
+/// to him, and all see what was placed.
 fn all_see<'i, S: Sheet<'i>, J: Naming, R: Abort>(
     rt: &R,
     planners: &mut Vec<Planner<S, J>>,
@@ -197,49 +182,8 @@ fn all_see_on_grid<'i, J: Naming, R: Abort>(
     all_see::<GridSheet<'i>, J, R>(rt, planners, done, plan)
 }
 
-/// The entry with this number, from 1.
-fn entry_at(journal: &[JournalEntry], number: u64) -> Option<&JournalEntry> {
-    let before = number.checked_sub(1)?;
-    journal.get(usize::try_from(before).ok()?)
-}
-
-/// Whether a planner has so many receipts, and the entry at the number of each is his draft.
-fn stands_in(journal: &[JournalEntry], numbers: &Numbers, drafts: usize) -> bool {
-    for (turn, number) in numbers.list.iter().enumerate() {
-        let Some(entry) = entry_at(journal, *number) else {
-            return false;
-        };
-        if !is_entry(entry, numbers.planner, edit_of(turn, &numbers.lecture)) {
-            return false;
-        }
-    }
-    numbers.list.len() == drafts
-}
-
-/// How often a number stands in a list.
-fn count_of(list: &[u64], number: u64) -> u64 {
-    let mut count = 0u64;
-    for one in list {
-        if *one == number {
-            count = count.saturating_add(1);
-        }
-    }
-    count
-}
-
-/// Whether each number from 1 to the last one comes once in the receipts of two planners.
-fn come_once(one: &Numbers, two: &Numbers, last: u64) -> bool {
-    for number in 1..=last {
-        let count = count_of(&one.list, number).saturating_add(count_of(&two.list, number));
-        if count != 1 {
-            return false;
-        }
-    }
-    true
-}
-
-/// Whether a closed desk has the entries of both planners where the receipts say, each number once, and the lectures that are
-/// left.
+/// Whether a closed desk has the entries of both planners where the receipts say, each number once,
+/// and the lectures that are left.
 fn is_of_both<S: Timetable, J: Naming>(
     closed: &Closed<S, J>,
     numbers: &(Numbers, Numbers),
@@ -274,8 +218,8 @@ fn expect_both<S: Timetable, J: Naming>(
     }
 }
 
-/// Two planners work at once, and all see what they did: every receipt's number comes once, its entry stands there, and the
-/// journal begins with what each planner has seen.
+/// Two planners work at once, and all see what they did: every receipt's number comes once, its
+/// entry stands there, and the journal begins with what each planner has seen.
 fn played<'i, J: Naming + Send + Sync, R: Threads + Wait + Abort + Sync>(
     rt: &R,
     alloc: Global,

@@ -9,6 +9,8 @@ mod desk_tests;
 #[cfg(test)]
 mod desks;
 #[cfg(test)]
+mod numbers;
+#[cfg(test)]
 mod small;
 #[cfg(test)]
 mod stopped;
