@@ -15,7 +15,7 @@ use Rattle.ctt_office.specs.declared.office_fault.OfficeFault.TheVariants as off
 use Rattle.ctt_files.specs.Refusals.{IsNoText, IsOfFiles, IsOfInstanceOr, IsOfStart, IsOfText, IsTooLong}
 use Rattle.ctt_files.specs.Texts.{Held, Holds, IsStart}
 use Rattle.ctt_files.specs.declared.fault.Fault.{Fault}
-use Rattle.ctt_files.specs.declared.fault.Fault.TheVariants.{BadSeats, CannotRead, CannotWrite, MinutesExist, NoMemory, NoPlace, NoThread, TooLong, TooManyScripts}
+use Rattle.ctt_files.specs.declared.fault.Fault.TheVariants.{BadSeats, CannotRead, CannotWrite, MinutesExist, NoMemory, NoPlace, NoThread, NotYours, TooLong, TooManyScripts}
 use Rattle.ctt_tool.specs.Faults.{IsOpeningFault, fault_of_journal}
 use Rattle.ctt_tool.specs.Seats.{AreBadSeats}
 use Rattle.ctt_tool.specs.Texts.{IsJournalText, IsNoJournal, IsUnlawfulStart}
@@ -49,9 +49,9 @@ abbrev pub IsOfAudited : String Global → Option (String Global) → Held → P
 IsOfAudited journal start held problem fault = IsOfJournal journal held problem fault
     ⊎ ((entries : List JournalEntry) × Holds held journal (λ text. IsJournalText problem text entries) × IsOfOpening start held problem fault)
 
--- a planner had no place, or no thread, or memory was wanted
+-- a planner had no place, or no thread, or had seen more than the desk has, or memory was wanted
 abbrev pub IsOfWork : Fault → Type 0
-IsOfWork fault = (fault ≡ NoPlace) ⊎ ((fault ≡ NoThread) ⊎ (fault ≡ NoMemory))
+IsOfWork fault = (fault ≡ NoPlace) ⊎ ((fault ≡ NoThread) ⊎ ((fault ≡ NotYours) ⊎ (fault ≡ NoMemory)))
 
 -- the fault lies in a script's file, or in the work of the crew
 abbrev pub IsOfScripts : List (String Global) → Held → Problem → Fault → Type 0

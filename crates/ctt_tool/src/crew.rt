@@ -29,6 +29,7 @@ fn refused_crew(fault: CrewFault) -> Fault
     match fault {
         CrewFault::NoPlace => Fault::NoPlace,
         CrewFault::NoThread(_) => Fault::NoThread,
+        CrewFault::NotYours => Fault::NotYours,
         CrewFault::NoMemory => Fault::NoMemory,
     }
 }
