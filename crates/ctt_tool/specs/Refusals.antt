@@ -49,13 +49,17 @@ abbrev pub IsOfAudited : String Global → Option (String Global) → Held → P
 IsOfAudited journal start held problem fault = IsOfJournal journal held problem fault
     ⊎ ((entries : List JournalEntry) × Holds held journal (λ text. IsJournalText problem text entries) × IsOfOpening start held problem fault)
 
--- a planner had no place, or no thread, or had seen more than the desk has, or memory was wanted
+-- a planner had no place, or no thread, or memory was wanted
 abbrev pub IsOfWork : Fault → Type 0
-IsOfWork fault = (fault ≡ NoPlace) ⊎ ((fault ≡ NoThread) ⊎ ((fault ≡ NotYours) ⊎ (fault ≡ NoMemory)))
+IsOfWork fault = (fault ≡ NoPlace) ⊎ ((fault ≡ NoThread) ⊎ (fault ≡ NoMemory))
+
+-- so, or a planner of a crew had seen more drafts than its desk has
+abbrev pub IsOfCrewWork : Fault → Type 0
+IsOfCrewWork fault = IsOfWork fault ⊎ (fault ≡ NotYours)
 
 -- the fault lies in a script's file, or in the work of the crew
 abbrev pub IsOfScripts : List (String Global) → Held → Problem → Fault → Type 0
-IsOfScripts names held problem fault = IsOfFiles names held fault ⊎ IsOfWork fault
+IsOfScripts names held problem fault = IsOfFiles names held fault ⊎ IsOfCrewWork fault
 
 -- why each command is refused; a crew also for more than 64 scripts
 abbrev pub IsOfRun : Held → String Global → Option (String Global) → String Global → Option (String Global) → Fault → Type 0
