@@ -203,8 +203,7 @@ impl<'i, 'x, J: Naming> Promised<'i, 'x, J> {
 }
 
 impl<'i, 'x, J: Naming> Promise<Result<(Planner<GridSheet<'i>, J>, String), NoMemory>>
-    for Promised<'i, 'x, J>
-{
+    for Promised<'i, 'x, J> {
     ghost kept_by = { λ p r. IfOk r (λ done.
         IsAttended J.problem J.opening p done.0 (string_bytes done.1)) };
 }

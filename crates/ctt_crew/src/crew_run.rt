@@ -26,10 +26,7 @@ fn joined<'i, 'x, J: Naming, R: Threads>(
     rt: &R,
     alloc: Global,
     threads: Vec<
-        PromisedHandle<
-            Result<(Planner<GridSheet<'i>, J>, String), NoMemory>,
-            Promised<'i, 'x, J>,
-        >,
+        PromisedHandle<Result<(Planner<GridSheet<'i>, J>, String), NoMemory>, Promised<'i, 'x, J>>,
     >,
 ) -> Result<(Vec<Planner<GridSheet<'i>, J>>, Vec<String>), CrewFault>
     ensures attended { IfOk result (λ done. AreAttended J.problem J.opening
