@@ -112,7 +112,10 @@ fn report_after<S: Timetable, J: Naming, R: Wait>(
     let closed = closed_after(rt, desk, planners.as_mut_slice())?;
     let report = closing_report(alloc, &closed, answers);
     let_go(closed);
-    Ok(report?)
+    match report {
+        Ok(text) => Ok(text),
+        Err(_) => Err(CrewFault::NoMemory),
+    }
 }
 
 /// Ends a desk, and gives what its planners wrote, if each of them came to the end of his script.

@@ -33,8 +33,8 @@ loop-thread-preserved g c =
     let step : into_iter_items c.loop-thread.thread-iterator ≡ c.in-Some.thread ∷ into_iter_items c.next.new.self = search rules in
     let so_far = subst (λ ts. AreAttending i t0 all (map (λ h. h.promise) ts) planners texts) step c.loop-thread.invariant in
     let more : c.push.new.self.items ≡ planners ++ q ∷ [] = search rules in
-    let grown : map string_bytes c.push-2.new.self.items ≡ texts ++ text ∷ [] = ap (map string_bytes) c.in_ok-push-2.ensures.items ∙ map-append string_bytes c.loop-thread.answers.items (c.in_ok-planner.text ∷ []) in
-    subst (λ ps. AreAttending i t0 all left ps (map string_bytes c.push-2.new.self.items)) (sym more)
+    let grown : map string_bytes c.push-in-loop-thread.new.self.items ≡ texts ++ text ∷ [] = ap (map string_bytes) c.in_ok-push-2.ensures.items ∙ map-append string_bytes c.loop-thread.answers.items (c.in_ok-planner.text ∷ []) in
+    subst (λ ps. AreAttending i t0 all left ps (map string_bytes c.push-in-loop-thread.new.self.items)) (sym more)
     (subst (AreAttending i t0 all left (planners ++ q ∷ [])) (sym grown) (one_attended i t0 all c.in-Some.thread.promise left planners texts q text so_far c.in_ok-planner.ensures))
 
 pub returns-clause-attended : goal.returns-clause-attended

@@ -1,8 +1,0 @@
-use Rattle.std.proofs.Common.{◌≡◌, ◌++◌, map, string_bytes}
-use Rattle.std.specs.Vec.Iter.{into_iter_items}
-use Rattle.ctt_crew.specs.CrewText.{planners_text}
-use Rattle.ctt_crew.proofs.crew_run.crew_report.Given as goal
-
--- what was written, and the answers of the planners still to come, are those of all
-abbrev pub invariant-loop-planner : goal.invariant-loop-planner
-invariant-loop-planner l = string_bytes l.text ++ planners_text l.planner-iterator.count (map string_bytes (into_iter_items l.planner-iterator.iter)) ≡ planners_text 0 (map string_bytes l.fn.answers.items)
