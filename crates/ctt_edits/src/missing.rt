@@ -14,10 +14,8 @@ pub(crate) fn missing<'i, S: Sheet<'i>>(alloc: Global, sheet: &S) -> Result<Shor
         courses ≡ missing (S.problem sheet.now) (S.list sheet.now)) }
 {
     let instance = sheet.instance();
-    let end = instance.courses();
     let mut list = Vec::new(alloc);
-    let mut number = 0;
-    while number < end {
+    for number in 0..instance.courses() {
         let course = CourseNo::new(number);
         let has = instance.lectures(course);
         let placed = sheet.count(course);
@@ -27,7 +25,6 @@ pub(crate) fn missing<'i, S: Sheet<'i>>(alloc: Global, sheet: &S) -> Result<Shor
                 missing: has - placed,
             })?;
         }
-        number += 1;
     }
     Ok(Shortfalls::new(list))
 }

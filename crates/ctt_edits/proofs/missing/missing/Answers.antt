@@ -9,7 +9,7 @@ pub loop-number-preserved : goal.loop-number-preserved
 loop-number-preserved g c =
     let i : Problem = g.S.Rooms.problem c.args.sheet.now in
     let t : List Placed = g.S.Rooms.list c.args.sheet.now in
-    let within : c.loop-number.number + 1 ≤ course_count i = omega (arith, c.loop-number-test.true, c.courses-end.ensures.exact, ap course_count c.instance-instance.ensures) in
+    let within : c.loop-number.number + 1 ≤ course_count i = omega (arith, c.loop-number-test.true, c.courses-number-end.ensures.exact, ap course_count c.instance-instance.ensures) in
     elim c.if-placed-has.branch [
       | then-placed-has+in_ok-push w ↦ (
         missing_more i c.instance-instance.result.now t c.loop-number.number c.new-course.result c.lectures-has.result c.count-placed.result c.instance-instance.ensures c.new-course.ensures c.lectures-has.ensures.exact c.count-placed.ensures
