@@ -1,4 +1,4 @@
-use Rattle.std.proofs.Common.{◌≡◌, ◌≤◌, ◌-◌, map}
+use Rattle.std.proofs.Common.{◌≡◌, ◌≤◌, map}
 use Rattle.ctt_text.specs.Lists.{below}
 use Rattle.ctt_text.specs.Problem.{course_count}
 use Rattle.ctt_edits.specs.Missing.{is_short, shortfall}
