@@ -52,7 +52,7 @@ fn first_dearer(list: &[PricedEdit], new: &PricedEdit) -> Option<usize>
 
 /// The index at which a new edit is inserted: that of the first that is dearer, or the end.
 fn insertion_point(list: &[PricedEdit], new: &PricedEdit) -> usize
-    ensures place { result ≡ position_or_len (is_cheaper new.now) list.now }
+    ensures index { result ≡ position_or_len (is_cheaper new.now) list.now }
     ensures within { result ≤ length list.now }
 {
     match first_dearer(list, new) {
@@ -66,8 +66,8 @@ fn insertion_point(list: &[PricedEdit], new: &PricedEdit) -> usize
 fn insert_by_price(list: &mut Vec<PricedEdit>, count: u16, new: PricedEdit) -> Result<(), NoMemory>
     ensures { OnOk result (list.new.items ≡ take count (put is_cheaper new list.old.items)) }
 {
-    let place = insertion_point(list.as_slice(), &new);
-    list.insert(place, new)?;
+    let index = insertion_point(list.as_slice(), &new);
+    list.insert(index, new)?;
     list.truncate(count as usize);
     Ok(())
 }
