@@ -12,7 +12,8 @@ use Rattle.ctt_text.proofs.TimetableLemmas.{Each-map, Each-append}
 use Rattle.ctt_board.proofs.PutLemmas.{put_is}
 use Rattle.ctt_edits.specs.Candidates.{first_choices, second_choices, edit_by, edits_with, edits_by, n_cheapest}
 use Rattle.ctt_edits.specs.Edits.{EditFits, edit_fault}
-use Rattle.ctt_edits.specs.Patterns.{FitsIfGiven, IsRoomIfGiven, PatternFits, choices, edits_of, with_price, feasible, is_cheaper, by_price, cheapest}
+use Rattle.ctt_edits.specs.Patterns.{FitsIfGiven, IsRoomIfGiven, PatternFits, choices, edits_of, with_price, feasible, is_cheaper, cheapest}
+use Rattle.ctt_edits.proofs.PriceOrder.{inserted}
 use Rattle.ctt_edits.specs.declared.edit.Edit.{Edit}
 use Rattle.ctt_edits.specs.declared.edit.Edit.TheVariants.{Place, Move, Swap, Reroom}
 use Rattle.ctt_edits.specs.declared.pattern.Pattern.{Pattern}
@@ -43,7 +44,7 @@ put_front lt x (suc n) (y ∷ ys) = elim (cases_Bool (lt x y)) [
 ]
 
 -- the cheapest of all are those of the cheapest so far and of the others
-n_cheapest_is : (n : ℕ) (list xs : List PricedEdit) → n_cheapest n (take n list) xs ≡ take n (by_price list xs)
+n_cheapest_is : (n : ℕ) (list xs : List PricedEdit) → n_cheapest n (take n list) xs ≡ take n (inserted list xs)
 n_cheapest_is n list [] = refl
 n_cheapest_is n list (x ∷ xs) = ap (λ ls. n_cheapest n ls xs) (put_front is_cheaper x n list) ∙ n_cheapest_is n (put is_cheaper x list) xs
 

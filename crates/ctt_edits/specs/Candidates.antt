@@ -1,6 +1,6 @@
 -- The edits of a pattern choice by choice, and the n cheapest of a list to which more are added.
 use Rattle.std.specs.Prelude.{ℕ, List, [], ◌∷◌, map, take, Some, None}
-use Rattle.std.specs.List.{flat_map}
+use Rattle.std.specs.List.{flat_map, fold}
 use Rattle.ctt_text.specs.Lists.{put}
 use Rattle.ctt_text.specs.Problem.{Problem, course_count, slot_count, room_count}
 use Rattle.ctt_edits.specs.Patterns.{choices, is_cheaper}
@@ -40,5 +40,4 @@ edits_by p xs ys = flat_map (edits_with p ys) xs
 
 -- the n cheapest of a list and of more edits, which are inserted one by one
 abbrev pub n_cheapest : ℕ → List PricedEdit → List PricedEdit → List PricedEdit
-n_cheapest n list [] = list
-n_cheapest n list (x ∷ xs) = n_cheapest n (take n (put is_cheaper x list)) xs
+n_cheapest n list more = fold (λ cheapest x. take n (put is_cheaper x cheapest)) list more
