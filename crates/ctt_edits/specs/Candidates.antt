@@ -1,5 +1,5 @@
 -- The edits of a pattern choice by choice, and the n cheapest of a list to which more are added.
-use Rattle.std.specs.Prelude.{ℕ, ◌-◌, List, [], ◌∷◌, map, take, Some, None}
+use Rattle.std.specs.Prelude.{ℕ, ◌-◌, List, map, take, Some, None}
 use Rattle.std.specs.List.{flat_map, fold, range_with_len}
 use Rattle.ctt_text.specs.Lists.{put}
 use Rattle.ctt_text.specs.Problem.{Problem, course_count, slot_count, room_count}

@@ -1,5 +1,5 @@
 -- What layers above rest on.
-use Rattle.std.specs.Prelude.{ℕ, ℤ, ◌≡◌, ◌<◌, ◌≤◌, true, false, List, [], filter, Some, None, is_none, Ok, Err}
+use Rattle.std.specs.Prelude.{ℕ, ℤ, ◌≡◌, ◌<◌, ◌≤◌, true, false, List, filter, Some, None, is_none, Ok, Err}
 use Rattle.std.specs.Ordering.{int_eq}
 use Rattle.std.specs.List.{list_any, AllByRecursion as Each}
 use Rattle.ctt_text.specs.Lists.{has, Pairwise}

@@ -1,4 +1,4 @@
-use Rattle.std.proofs.Common.{rules, ◌∙◌, ◌+◌, ◌-◌, List, ℕ, subst}
+use Rattle.std.proofs.Common.{rules, ◌∙◌, ◌+◌, List, ℕ, subst}
 use Rattle.std.specs.List.{AllByRecursion as Each}
 use Rattle.ctt_text.specs.Problem.{Problem}
 use Rattle.ctt_text.proofs.ListLaws.{Each-front, Each-rest}

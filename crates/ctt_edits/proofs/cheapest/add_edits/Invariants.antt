@@ -1,4 +1,4 @@
-use Rattle.std.proofs.Common.{◌≡◌, ◌-◌}
+use Rattle.std.proofs.Common.{◌≡◌}
 use Rattle.std.specs.List.{AllByRecursion as Each}
 use Rattle.ctt_edits.specs.Candidates.{from_to, edits_by, n_cheapest}
 use Rattle.ctt_edits.specs.Edits.{EditFits}
