@@ -26,7 +26,7 @@ has_second c d cs = or_right (c == d) (has d (d ∷ cs)) (has_first d cs)
 abbrev pub AgreeAt : Edit → List Placed → List Placed → Type 0
 AgreeAt e t u = AgreeOn (λ c. has c (edit_courses e)) (λ s. has s (edit_slots e)) t u
 
-room_same : (c s : ℕ) (t u : List Placed) → course_row c t ≡ course_row c u → room_at c s t ≡ room_at c s u
+pub room_same : (c s : ℕ) (t u : List Placed) → course_row c t ≡ course_row c u → room_at c s t ≡ room_at c s u
 room_same c s t u e = ap (λ ls. room_of (find (λ l. l.slot == s) ls)) e
 
 try_same : (i : Problem) (c s r : ℕ) (t u : List Placed) → course_row c t ≡ course_row c u → slot_row s t ≡ slot_row s u → try_fault i t c s r ≡ try_fault i u c s r

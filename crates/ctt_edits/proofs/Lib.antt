@@ -8,7 +8,13 @@ mod PastLemmas
 pub mod ReadLemmas
 pub mod FrameLemmas
 pub mod PriceFrame
+pub mod PatternFrame
+pub mod PatternReads
 pub mod CallLemmas
+pub mod CheapestLemmas
+pub mod PriceOrder
+pub mod PatternFaults
+pub mod MissingLemmas
 pub mod ReplyLemmas
 pub mod SameLemmas
 pub mod TableLemmas

@@ -4,12 +4,8 @@ use Rattle.std.specs.List.{list_any, AllByRecursion as Each}
 use Rattle.std.proofs.lemmas.Bool.{ne_eqb}
 use Rattle.ctt_text.specs.Lists.{has}
 use Rattle.ctt_text.specs.Problem.{Problem, IsProblem, AreMembers, course_count, slot_count, mates}
-use Rattle.ctt_edits.specs.Calls.{edit_courses, edit_slots, look_reads_slot}
+use Rattle.ctt_edits.specs.Calls.{edit_courses, edit_slots, with_mates}
 use Rattle.ctt_edits.specs.Edits.{EditFits}
-use Rattle.ctt_edits.specs.Looks.{LookFits}
-use Rattle.ctt_edits.specs.declared.looks.Look.{Look}
-use Rattle.ctt_edits.specs.declared.looks.Look.TheVariants.{Course, Slot, Teacher, Curriculum, CourseCost, Price}
-use Rattle.ctt_edits.specs.declared.looks.Look.TheVariants.{Cost as WholeCost}
 use Rattle.ctt_edits.specs.declared.edit.Edit.{Edit}
 use Rattle.ctt_edits.specs.declared.edit.Edit.TheVariants.{Place, Move, Swap, Reroom, Drop}
 
@@ -58,17 +54,18 @@ slots_past i e n h le = has_past (slot_count i) n (edit_slots e) le (slots_fit i
 pub price_past : (i : Problem) (e : Edit) (n : ℕ) → IsProblem i → EditFits i e → course_count i ≤ n → (has n (edit_courses e) || list_any (λ c. mates i c n) (edit_courses e)) ≡ false
 price_past i e n p h le = ap₂ (λ a b. a || b) (courses_past i e n h le) (all_past i n (edit_courses e) p le)
 
--- nor a slot of a look
-pub look_slots_past : (i : Problem) (look : Look) (n : ℕ) → LookFits i look → slot_count i ≤ n → look_reads_slot look n ≡ false
-look_slots_past i (Course c) n h le = refl
-look_slots_past i (Slot s) n h le = ne_eqb n s (λ e. omega (arith, e, le, h))
-look_slots_past i (Teacher t) n h le = refl
-look_slots_past i (Curriculum q) n h le = refl
-look_slots_past i (CourseCost c) n h le = refl
-look_slots_past i WholeCost n h le = refl
-look_slots_past i (Price e) n h le = slots_past i e n h le
+-- nor one course, and nor a curriculum mate of it
+pub one_past : (i : Problem) (c n : ℕ) → IsProblem i → c < course_count i → course_count i ≤ n → with_mates i (c ∷ []) n ≡ false
+one_past i c n p lt le = ap₂ (λ a b. a || b) (has_past (course_count i) n (c ∷ []) le (lt, tt)) (all_past i n (c ∷ []) p le)
 
 -- what is marked besides
 pub no_more : (a b : Bool) → b ≡ false → (a || b) ≡ a
 no_more true b e = refl
 no_more false b e = e
+
+-- what is marked in two steps
+pub mates_of_one : (a b m : Bool) → ((a || b) || m) ≡ (a || (b || (m || false)))
+mates_of_one true b m = refl
+mates_of_one false true m = refl
+mates_of_one false false true = refl
+mates_of_one false false false = refl

@@ -1,5 +1,6 @@
 -- What a call is told on a lawful timetable fits, and is short.
-use Rattle.std.proofs.Common.{◌≡◌, ℕ, pos, ◌-ℤ◌, ◌<◌, ◌≤◌, Bool, true, false, List, [], ◌∷◌, length, Option, Some, None, refl, arith, inl, inr}
+use Rattle.std.proofs.Common.{◌≡◌, ℕ, zero, suc, pos, ◌-ℤ◌, ◌<◌, ◌≤◌, Bool, true, false, List, [], ◌∷◌, length, map, take, Option, Some, None, is_none, refl, arith, inl, inr}
+use Rattle.std.proofs.lemmas.List.{append-nil, map-append, length-map, length-append}
 use Rattle.std.proofs.lemmas.Int.{ints}
 use Rattle.std.specs.Prelude.{unsigned_abs, IfSome, filter, ◌==◌}
 use Rattle.std.specs.List.{AllByRecursion as Each}
@@ -8,35 +9,57 @@ use Rattle.std.proofs.lemmas.Bool.{cases_Bool}
 use Rattle.ctt_text.specs.Problem.{Problem, IsProblem, course_count, slot_count, room_count, clash}
 use Rattle.ctt_text.specs.Timetable.{Fits, slot_row, without, before}
 use Rattle.ctt_text.specs.declared.placed.Placed.{Placed}
+use Rattle.ctt_text.specs.Lists.{below, put}
 use Rattle.ctt_text.proofs.LectureLaws.{Each-put}
+use Rattle.ctt_text.proofs.TimetableLemmas.{Each-append}
 use Rattle.ctt_rules.specs.Hard.{Lawful}
 use Rattle.ctt_rules.specs.Penalty.{penalty, course_cost, total}
 use Rattle.ctt_rules.specs.declared.cost.Cost.{Cost}
 use Rattle.ctt_rules.proofs.ListLemmas.{Each-filter}
-use Rattle.ctt_rules.proofs.TimetableLemmas.{few_lectures}
+use Rattle.ctt_rules.proofs.TimetableLemmas.{few_lectures, lectures_small}
 use Rattle.ctt_board.specs.Changes.{room_at, apply_at}
 use Rattle.ctt_board.proofs.CostLemmas.{course_cost_small, penalty_small}
 use Rattle.ctt_edits.specs.declared.edit.Edit.{Edit}
 use Rattle.ctt_edits.specs.declared.edit.Edit.TheVariants.{Place, Move, Swap, Reroom, Drop}
 use Rattle.ctt_edits.specs.declared.looks.Look.{Look}
-use Rattle.ctt_edits.specs.declared.looks.Look.TheVariants.{Course, Slot, Teacher, Curriculum, CourseCost, Price}
+use Rattle.ctt_edits.specs.declared.looks.Look.TheVariants.{Course, Slot, Teacher, Curriculum, CourseCost, Price, Missing, Cheapest}
 use Rattle.ctt_edits.specs.declared.looks.Look.TheVariants.{Cost as WholeCost}
 use Rattle.ctt_edits.specs.declared.call.Call.{Call}
 use Rattle.ctt_edits.specs.declared.call.Call.TheVariants.{Look as Looks, Edit as Edits}
 use Rattle.ctt_edits.specs.declared.fault.EditFault.{EditFault}
 use Rattle.ctt_edits.specs.declared.fault.EditFault.TheVariants.{NotPlaced, SameSlot, SameCourse, AlreadyThere, CourseFull, Unavailable, Barred, Clash, RoomTaken}
 use Rattle.ctt_edits.specs.declared.reply.Reply.{Reply}
-use Rattle.ctt_edits.specs.declared.reply.Reply.TheVariants.{Done, Price as Priced}
+use Rattle.ctt_edits.specs.declared.reply.Reply.TheVariants.{Done, Price as Priced, Missing as AreMissing, Edits as AreCheapest}
 use Rattle.ctt_edits.specs.Edits.{EditFits, or_else, fault_if, first_course, try_fault, try_room_of, edit_fault, edited}
 use Rattle.ctt_edits.specs.Looks.{LookFits, told_or, price, shown}
 use Rattle.ctt_edits.specs.Calls.{CallFits, reply}
 use Rattle.ctt_edits.proofs.EditLemmas.{room_fits, edits_keep_lawful}
-use Rattle.ctt_edits.specs.Fitting.{FaultFits, IsAmount, CostFits, AreFew, IsReply}
+use Rattle.ctt_edits.specs.Fitting.{FaultFits, IsAmount, CostFits, AreFew, ShortfallFits, PricedFits, IsReply}
 use Rattle.ctt_edits.specs.Laws.{RepliesFit}
+use Rattle.ctt_edits.specs.Missing.{is_short, shortfall, missing}
+use Rattle.ctt_edits.specs.Patterns.{PatternFits, pattern_fault, edits_of, feasible, is_cheaper, by_price, cheapest}
+use Rattle.ctt_edits.specs.declared.pattern.Pattern.{Pattern}
+use Rattle.ctt_edits.specs.declared.pattern.Pattern.TheVariants.{Place as AnyPlace, Move as AnyMove, Swap as AnySwap, Reroom as AnyReroom}
+use Rattle.ctt_edits.specs.declared.priced_edit.PricedEdit.{PricedEdit}
+use Rattle.ctt_edits.proofs.CheapestLemmas.{edits_fit}
 
 length-filter : {X : Type 0} (p : X → Bool) (xs : List X) → length (filter p xs) ≤ length xs
 length-filter p [] = omega arith
 length-filter p (x ∷ xs) = elim (cases_Bool (p x)) [ inl b ↦ rw b (omega (arith, length-filter p xs)) | inr b ↦ rw b (omega (arith, length-filter p xs)) ]
+
+Each-take : {X : Type 0} (P : X → Type 0) (n : ℕ) (xs : List X) → Each P xs → Each P (take n xs)
+Each-take P zero xs h = tt
+Each-take P (suc n) [] h = tt
+Each-take P (suc n) (x ∷ xs) h = (h.0, Each-take P n xs h.1)
+
+length-take_most : {X : Type 0} (n : ℕ) (xs : List X) → length (take n xs) ≤ n
+length-take_most zero xs = omega arith
+length-take_most (suc n) [] = omega arith
+length-take_most (suc n) (x ∷ xs) = omega (arith, length-take_most n xs)
+
+none_is : {X : Type 0} (o : Option X) → is_none o ≡ true → o ≡ None
+none_is None h = refl
+none_is (Some x) h = cc
 
 -- the difference of two amounts
 difference_small : (a b n : ℕ) → a ≤ n → b ≤ n → unsigned_abs (pos a -ℤ pos b) ≤ n
@@ -100,6 +123,12 @@ module _ (i : Problem) where
       (try_fits (without c s t) (fits_without t c s l.timetable.fits) c s r)
   edit_fits t (Drop c s) l f = if_fits _ NotPlaced tt
 
+  pattern_fault_fits : (t : List Placed) (p : Pattern) → MayFit i (pattern_fault i t p)
+  pattern_fault_fits t (AnyPlace c s r) = if_fits _ CourseFull tt
+  pattern_fault_fits t (AnyMove c s s2 r) = if_fits _ NotPlaced tt
+  pattern_fault_fits t (AnySwap c s) = if_fits _ NotPlaced tt
+  pattern_fault_fits t (AnyReroom c s r) = if_fits _ NotPlaced tt
+
   told_fits : (o : Option EditFault) (answer : Reply) → MayFit i o → (o ≡ None → IsReply i answer) → IsReply i (told_or o answer)
   told_fits None answer h k = k refl
   told_fits (Some f) answer h k = (h.fits, tt)
@@ -120,6 +149,43 @@ module _ (i : Problem) where
         let small_after : total (penalty i (edited t e)) ≤ 9223372036854775807 = omega (arith, penalty_small i is (edited t e) after.timetable) in
         difference_small (total (penalty i (edited t e))) (total (penalty i t)) 9223372036854775807 small_after small
 
+    short_fits : (n : ℕ) → n ≤ course_count i → Each (ShortfallFits i) (map (shortfall i t) (below (is_short i t) n))
+    short_fits zero le = tt
+    short_fits (suc n) le = elim (cases_Bool (is_short i t n)) [
+      | inl b ↦ rw (b, map-append (shortfall i t) (below (is_short i t) n) (n ∷ [])) (Each-append (ShortfallFits i) (map (shortfall i t) (below (is_short i t) n)) (shortfall i t n ∷ []) (short_fits n (omega (arith, le))) ((omega (arith, le), omega (arith, lectures_small i is n)), tt))
+      | inr b ↦ rw (b, append-nil (below (is_short i t) n)) (short_fits n (omega (arith, le)))
+    ]
+
+    short_few : (n : ℕ) → length (below (is_short i t) n) ≤ n
+    short_few zero = omega arith
+    short_few (suc n) = elim (cases_Bool (is_short i t n)) [
+      | inl b ↦ rw (b, length-append (below (is_short i t) n) (n ∷ [])) (omega (arith, short_few n))
+      | inr b ↦ rw (b, append-nil (below (is_short i t) n)) (omega (arith, short_few n))
+    ]
+
+    missing_fits : IsReply i (AreMissing (missing i t))
+    missing_fits = (short_fits (course_count i) (omega arith), few)
+      where
+        few : length (map (shortfall i t) (below (is_short i t) (course_count i))) ≤ 999999999
+        few = rw (length-map (below (is_short i t) (course_count i)) (shortfall i t)) (omega (arith, short_few (course_count i), is.courses_few))
+
+    feasible_fit : (es : List Edit) → Each (EditFits i) es → Each (PricedFits i) (feasible i t es)
+    feasible_fit [] f = tt
+    feasible_fit (e ∷ es) f = elim (cases_Bool (is_none (edit_fault i t e))) [
+      | inl b ↦ rw b ((f.0, price_fits e f.0 (none_is (edit_fault i t e) b)), feasible_fit es f.1)
+      | inr b ↦ rw b (feasible_fit es f.1)
+    ]
+
+    ordered_fit : (xs ys : List PricedEdit) → Each (PricedFits i) xs → Each (PricedFits i) ys → Each (PricedFits i) (by_price xs ys)
+    ordered_fit xs [] h k = h
+    ordered_fit xs (y ∷ ys) h k = ordered_fit (put is_cheaper y xs) ys (Each-put (PricedFits i) is_cheaper y xs k.0 h) k.1
+
+    cheapest_fits : (n : ℕ) (p : Pattern) → n ≤ 1000 → PatternFits i p → IsReply i (AreCheapest (cheapest i t n p))
+    cheapest_fits n p le f = (
+      Each-take (PricedFits i) n (by_price [] (feasible i t (edits_of i p))) (ordered_fit [] (feasible i t (edits_of i p)) tt (feasible_fit (edits_of i p) (edits_fit i p f))),
+      omega (arith, length-take_most n (by_price [] (feasible i t (edits_of i p))), le),
+    )
+
     look_fits : (look : Look) → LookFits i look → IsReply i (shown i t look)
     look_fits (Course c) f = part_fits _
     look_fits (Slot s) f = part_fits _
@@ -127,6 +193,8 @@ module _ (i : Problem) where
     look_fits (Curriculum q) f = part_fits _
     look_fits (CourseCost c) f = (cost_fits (course_cost i t c) (omega (arith, course_cost_small i is t lawful.timetable c)), tt)
     look_fits (Price e) f = told_fits (edit_fault i t e) (Priced (price i t e)) (edit_fits t e lawful f) (λ none. (price_fits e f none, tt))
+    look_fits Missing f = missing_fits
+    look_fits (Cheapest n p) f = told_fits (pattern_fault i t p) (AreCheapest (cheapest i t n p)) (pattern_fault_fits t p) (λ none. cheapest_fits n p f.0 f.1)
     look_fits WholeCost f = (cost_fits (penalty i t) (omega (arith, penalty_small i is t lawful.timetable)), tt)
 
     reply_fits : (call : Call) → CallFits i call → IsReply i (reply i t call)

@@ -36,3 +36,23 @@ same_lists answer xs ys us vs e k l = (
   (λ h. sym k ∙ same_list_true xs ys (sym e ∙ h) ∙ l),
   (λ h. e ∙ subst (λ zs. same_list xs zs ≡ true) (k ∙ h ∙ sym l) (itself xs)),
 )
+
+-- a test of two lists, by a test of two elements that holds of equal ones alone
+module _ {X : Type 0} (same : X → X → Bool) (holds : (x y : X) → same x y ≡ true → x ≡ y) (always : (x : X) → same x x ≡ true) where
+  each_true : (xs ys : List X) → pointwise same xs ys ≡ true → xs ≡ ys
+  each_true [] [] h = refl
+  each_true [] (y ∷ ys) h = cc
+  each_true (x ∷ xs) [] h = cc
+  each_true (x ∷ xs) (y ∷ ys) h =
+      let parts = and_parts (same x y) (pointwise same xs ys) h in
+      ap₂ (λ z zs. z ∷ zs) (holds x y parts.0) (each_true xs ys parts.1)
+
+  each_itself : (xs : List X) → pointwise same xs xs ≡ true
+  each_itself [] = refl
+  each_itself (x ∷ xs) = rw (always x) (each_itself xs)
+
+  pub same_by : (answer : Bool) (xs ys us vs : List X) → answer ≡ pointwise same xs ys → xs ≡ us → ys ≡ vs → IsTrue answer ↔ (us ≡ vs)
+  same_by answer xs ys us vs e k l = (
+    (λ h. sym k ∙ each_true xs ys (sym e ∙ h) ∙ l),
+    (λ h. e ∙ subst (λ zs. pointwise same xs zs ≡ true) (k ∙ h ∙ sym l) (each_itself xs)),
+  )

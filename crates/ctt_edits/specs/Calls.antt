@@ -14,10 +14,12 @@ use Rattle.ctt_edits.specs.declared.edit.Edit.{Edit}
 use Rattle.ctt_edits.specs.declared.edit.Edit.TheVariants.{Place, Move, Swap, Reroom, Drop}
 use Rattle.ctt_edits.specs.declared.fault.EditFault.{EditFault}
 use Rattle.ctt_edits.specs.declared.looks.Look.{Look}
-use Rattle.ctt_edits.specs.declared.looks.Look.TheVariants.{Course, Slot, Teacher, Curriculum, CourseCost, Price}
+use Rattle.ctt_edits.specs.declared.looks.Look.TheVariants.{Course, Slot, Teacher, Curriculum, CourseCost, Price, Missing, Cheapest}
 use Rattle.ctt_edits.specs.declared.looks.Look.TheVariants.{Cost as WholeCost}
 use Rattle.ctt_edits.specs.declared.call.Call.{Call}
 use Rattle.ctt_edits.specs.declared.call.Call.TheVariants.{Look as Looks, Edit as Edits}
+use Rattle.ctt_edits.specs.declared.pattern.Pattern.{Pattern}
+use Rattle.ctt_edits.specs.declared.pattern.Pattern.TheVariants.{Place as AnyPlace, Move as AnyMove, Swap as AnySwap, Reroom as AnyReroom}
 use Rattle.ctt_edits.specs.declared.row.Row.{Row}
 use Rattle.ctt_edits.specs.declared.row.Row.TheVariants.{Course as CourseRow, Slot as SlotRow}
 
@@ -55,7 +57,28 @@ edit_slots (Swap c s d s2) = s ∷ s2 ∷ []
 edit_slots (Reroom c s r) = s ∷ []
 edit_slots (Drop c s) = []
 
--- the courses and the slots whose rows a look reads; a price needs those of the curriculum mates too
+-- courses with their curriculum mates
+abbrev pub with_mates : Problem → List ℕ → ℕ → Bool
+with_mates i cs x = has x cs || list_any (λ c. mates i c x) cs
+
+-- the courses and the slots whose rows the prices of a pattern's edits read
+abbrev pub pattern_reads_course : Problem → Pattern → ℕ → Bool
+pattern_reads_course i (AnyPlace c s r) x = with_mates i (c ∷ []) x
+pattern_reads_course i (AnyMove c s s2 r) x = with_mates i (c ∷ []) x
+pattern_reads_course i (AnySwap c s) x = true
+pattern_reads_course i (AnyReroom c s r) x = with_mates i (c ∷ []) x
+
+abbrev pub is_choice : Option ℕ → ℕ → Bool
+is_choice None x = true
+is_choice (Some y) x = has x (y ∷ [])
+
+abbrev pub pattern_reads_slot : Pattern → ℕ → Bool
+pattern_reads_slot (AnyPlace c s r) x = is_choice s x
+pattern_reads_slot (AnyMove c s s2 r) x = is_choice s2 x
+pattern_reads_slot (AnySwap c s) x = true
+pattern_reads_slot (AnyReroom c s r) x = is_choice (Some s) x
+
+-- the courses and the slots whose rows a look reads
 abbrev pub look_reads_course : Problem → Look → ℕ → Bool
 look_reads_course i (Course c) x = x == c
 look_reads_course i (Slot s) x = false
@@ -63,7 +86,9 @@ look_reads_course i (Teacher h) x = (course_of i x).teacher == h
 look_reads_course i (Curriculum q) x = has x (members i q)
 look_reads_course i (CourseCost c) x = x == c
 look_reads_course i WholeCost x = true
-look_reads_course i (Price e) x = has x (edit_courses e) || list_any (λ c. mates i c x) (edit_courses e)
+look_reads_course i (Price e) x = with_mates i (edit_courses e) x
+look_reads_course i Missing x = true
+look_reads_course i (Cheapest n p) x = pattern_reads_course i p x
 
 abbrev pub look_reads_slot : Look → ℕ → Bool
 look_reads_slot (Course c) x = false
@@ -73,6 +98,8 @@ look_reads_slot (Curriculum q) x = false
 look_reads_slot (CourseCost c) x = false
 look_reads_slot WholeCost x = false
 look_reads_slot (Price e) x = has x (edit_slots e)
+look_reads_slot Missing x = false
+look_reads_slot (Cheapest n p) x = pattern_reads_slot p x
 
 abbrev pub reads_course : Problem → Call → ℕ → Bool
 reads_course i (Looks look) x = look_reads_course i look x

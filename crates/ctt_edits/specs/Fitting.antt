@@ -4,10 +4,13 @@ use Rattle.std.specs.List.{AllByRecursion as Each}
 use Rattle.ctt_text.specs.Problem.{Problem, course_count}
 use Rattle.ctt_text.specs.Timetable.{Fits}
 use Rattle.ctt_rules.specs.declared.cost.Cost.{Cost}
+use Rattle.ctt_edits.specs.Edits.{EditFits}
 use Rattle.ctt_edits.specs.declared.fault.EditFault.{EditFault}
 use Rattle.ctt_edits.specs.declared.fault.EditFault.TheVariants.{Clash, RoomTaken}
+use Rattle.ctt_edits.specs.declared.priced_edit.PricedEdit.{PricedEdit}
 use Rattle.ctt_edits.specs.declared.reply.Reply.{Reply}
-use Rattle.ctt_edits.specs.declared.reply.Reply.TheVariants.{Done, Refused, Lectures, Costs, Price}
+use Rattle.ctt_edits.specs.declared.reply.Reply.TheVariants.{Done, Refused, Lectures, Costs, Price, Missing, Edits}
+use Rattle.ctt_edits.specs.declared.shortfall.Shortfall.{Shortfall}
 
 -- the course that it names, if it names one, is one of the instance
 abbrev pub FaultFits : Problem → EditFault → Type 0
@@ -23,6 +26,14 @@ IsAmount n = n ≤ 9223372036854775807
 abbrev pub CostFits : Cost → Type 0
 CostFits c = IsAmount c.capacity × IsAmount c.days × IsAmount c.compactness × IsAmount c.stability
 
+-- a course of the instance, of which at most 999,999,999 lectures are missing
+abbrev pub ShortfallFits : Problem → Shortfall → Type 0
+ShortfallFits i s = (s.course < course_count i) × (s.missing ≤ 999999999)
+
+-- an edit of the instance, with a price of 63 bits without its sign
+abbrev pub PricedFits : Problem → PricedEdit → Type 0
+PricedFits i p = EditFits i p.edit × IsAmount (unsigned_abs p.price)
+
 -- its numbers are those of the instance, and its amounts have 63 bits, a price without its sign
 abbrev pub ReplyFits : Problem → Reply → Type 0
 ReplyFits i Done = Unit {0}
@@ -30,6 +41,8 @@ ReplyFits i (Refused f) = FaultFits i f
 ReplyFits i (Lectures ls) = Each (Fits i) ls
 ReplyFits i (Costs c) = CostFits c
 ReplyFits i (Price p) = IsAmount (unsigned_abs p)
+ReplyFits i (Missing courses) = Each (ShortfallFits i) courses
+ReplyFits i (Edits edits) = Each (PricedFits i) edits
 
 -- so few that a file can give their number
 abbrev pub AreFew : {A : Type 0} → List A → Type 0
@@ -37,6 +50,8 @@ AreFew list = length list ≤ 999999999
 
 abbrev pub IsShortReply : Reply → Type 0
 IsShortReply (Lectures ls) = AreFew ls
+IsShortReply (Missing courses) = AreFew courses
+IsShortReply (Edits edits) = AreFew edits
 IsShortReply reply = Unit {0}
 
 -- a reply that fits and is short

@@ -1,13 +1,14 @@
 -- What layers above rest on.
-use Rattle.std.specs.Prelude.{ℕ, ◌≡◌, ◌<◌, ◌≤◌, true, List, Some, None, Ok, Err}
-use Rattle.std.specs.List.{AllByRecursion as Each}
-use Rattle.ctt_text.specs.Lists.{Pairwise}
-use Rattle.ctt_text.specs.Problem.{Problem, IsProblem, course_count, slot_count, clash}
+use Rattle.std.specs.Prelude.{ℕ, ℤ, ◌≡◌, ◌<◌, ◌≤◌, true, false, List, [], filter, Some, None, is_none, Ok, Err}
+use Rattle.std.specs.Ordering.{int_eq}
+use Rattle.std.specs.List.{list_any, AllByRecursion as Each}
+use Rattle.ctt_text.specs.Lists.{has, Pairwise}
+use Rattle.ctt_text.specs.Problem.{Problem, IsProblem, course_count, slot_count, room_count, clash}
 use Rattle.ctt_text.specs.Timetable.{Ascending, Fits, IsTimetable}
 use Rattle.ctt_text.specs.declared.placed.Placed.{Placed}
 use Rattle.ctt_rules.specs.Hard.{Lawful}
 use Rattle.ctt_board.specs.Changes.{room_at, ChangeFits}
-use Rattle.ctt_edits.specs.Calls.{CallFits, reply, cells_of, reads, Agree, RowBefore}
+use Rattle.ctt_edits.specs.Calls.{CallFits, reply, cells_of, edit_courses, edit_slots, with_mates, pattern_reads_course, pattern_reads_slot, reads, Agree, RowBefore}
 use Rattle.ctt_edits.specs.declared.call.Call.{Call}
 use Rattle.ctt_edits.specs.declared.edit.Edit.{Edit}
 use Rattle.ctt_edits.specs.declared.fault.EditFault.{EditFault}
@@ -15,7 +16,20 @@ use Rattle.ctt_edits.specs.declared.fault.EditFault.TheVariants.{Clash}
 use Rattle.ctt_edits.specs.Fitting.{FaultFits, IsReply}
 use Rattle.ctt_edits.specs.Edits.{EditFits, try_fault, edit_fault, edited, change}
 use Rattle.ctt_edits.specs.Openings.{opening}
+use Rattle.ctt_edits.specs.Patterns.{PatternFits, pattern_fault, edits_of, is_cheaper, by_price}
 use Rattle.ctt_edits.specs.Table.{outcome, by_table}
+use Rattle.ctt_edits.specs.declared.pattern.Pattern.{Pattern}
+use Rattle.ctt_edits.specs.declared.priced_edit.PricedEdit.{PricedEdit}
+
+-- the order by price is a stable sort: prices ascend, and the edits of one price are those of the list, in its order
+abbrev pub PricesAscend : Type 0
+PricesAscend = (list : List PricedEdit) → Pairwise (λ x y. is_cheaper y x ≡ false) (by_price [] list)
+    × ((price : ℤ) → filter (λ x. int_eq x.price price) (by_price [] list) ≡ filter (λ x. int_eq x.price price) list)
+
+-- if a pattern has a fault, each of its edits is refused
+abbrev pub PatternFaultStands : Type 0
+PatternFaultStands = (i : Problem) (t : List Placed) (p : Pattern) (fault : EditFault) → PatternFits i p → pattern_fault i t p ≡ Some fault
+    → Each (λ e. is_none (edit_fault i t e) ≡ false) (edits_of i p)
 
 -- an edit without a fault keeps a timetable lawful
 abbrev pub EditsKeepLawful : Type 0
@@ -34,6 +48,12 @@ ClashIsLeast = (i : Problem) (t : List Placed) (c s r d : ℕ) → Ascending t �
 abbrev pub CallFrame : Type 0
 CallFrame = (i : Problem) (t u : List Placed) (call : Call) → Lawful i t → Lawful i u → CallFits i call → Agree t u (reads i call)
     → (reply i t call ≡ reply i u call) × (cells_of i t call ≡ cells_of i u call)
+
+-- if there is a room and a slot, a pattern reads the rows that the prices of its edits read, and no others
+abbrev pub PatternReads : Type 0
+PatternReads = (i : Problem) (p : Pattern) → PatternFits i p → 0 < room_count i → 0 < slot_count i
+    → ((c : ℕ) → c < course_count i → pattern_reads_course i p c ≡ list_any (λ e. with_mates i (edit_courses e) c) (edits_of i p))
+    × ((s : ℕ) → s < slot_count i → pattern_reads_slot p s ≡ list_any (λ e. has s (edit_slots e)) (edits_of i p))
 
 -- the rows that a call reads ascend, each once
 abbrev pub ReadsAscend : Type 0

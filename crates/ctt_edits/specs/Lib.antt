@@ -1,4 +1,7 @@
 pub mod Edits
+pub mod Patterns
+pub mod Candidates
+pub mod Missing
 pub mod Looks
 pub mod Calls
 pub mod RowSets

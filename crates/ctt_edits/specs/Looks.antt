@@ -1,17 +1,19 @@
 -- What the looks show.
-use Rattle.std.specs.Prelude.{ℕ, ◌<◌, ℤ, List, filter, ◌==◌, Option, Some, None, Result, Ok, Err}
+use Rattle.std.specs.Prelude.{ℕ, ◌<◌, ◌≤◌, ℤ, List, filter, ◌==◌, Option, Some, None, Result, Ok, Err}
 use Rattle.ctt_text.specs.Problem.{Problem, course_of, members, course_count, slot_count, teacher_count, curriculum_count}
 use Rattle.ctt_text.specs.Timetable.{course_row, slot_row}
 use Rattle.ctt_text.specs.declared.placed.Placed.{Placed}
 use Rattle.ctt_rules.specs.Penalty.{penalty, course_cost, lectures_of}
 use Rattle.ctt_board.specs.Boards.{delta}
 use Rattle.ctt_edits.specs.Edits.{EditFits, edit_fault, change}
+use Rattle.ctt_edits.specs.Missing.{missing}
+use Rattle.ctt_edits.specs.Patterns.{PatternFits, pattern_fault, cheapest}
 use Rattle.ctt_edits.specs.declared.edit.Edit.{Edit}
 use Rattle.ctt_edits.specs.declared.fault.EditFault.{EditFault}
 use Rattle.ctt_edits.specs.declared.reply.Reply.{Reply}
-use Rattle.ctt_edits.specs.declared.reply.Reply.TheVariants.{Refused, Lectures, Costs, Price as Priced}
+use Rattle.ctt_edits.specs.declared.reply.Reply.TheVariants.{Refused, Lectures, Costs, Price as Priced, Missing as AreMissing, Edits as AreCheapest}
 use Rattle.ctt_edits.specs.declared.looks.Look.{Look}
-use Rattle.ctt_edits.specs.declared.looks.Look.TheVariants.{Course, Slot, Teacher, Curriculum, CourseCost, Price}
+use Rattle.ctt_edits.specs.declared.looks.Look.TheVariants.{Course, Slot, Teacher, Curriculum, CourseCost, Price, Missing, Cheapest}
 use Rattle.ctt_edits.specs.declared.looks.Look.TheVariants.{Cost as WholeCost}
 
 -- refused where there is a fault
@@ -19,7 +21,7 @@ abbrev pub told_or : Option EditFault → Reply → Reply
 told_or None answer = answer
 told_or (Some f) answer = Refused f
 
--- its number is one of the instance
+-- its numbers are those of the instance, and at most 1,000 edits are asked for
 abbrev pub LookFits : Problem → Look → Type 0
 LookFits i (Course c) = c < course_count i
 LookFits i (Slot s) = s < slot_count i
@@ -28,6 +30,8 @@ LookFits i (Curriculum q) = q < curriculum_count i
 LookFits i (CourseCost c) = c < course_count i
 LookFits i (Price e) = EditFits i e
 LookFits i WholeCost = Unit {0}
+LookFits i Missing = Unit {0}
+LookFits i (Cheapest n p) = (n ≤ 1000) × PatternFits i p
 
 -- the lectures of a teacher's courses
 abbrev pub teacher_row : Problem → ℕ → List Placed → List Placed
@@ -53,3 +57,5 @@ shown i t (Curriculum q) = Lectures (lectures_of (members i q) t)
 shown i t (CourseCost c) = Costs (course_cost i t c)
 shown i t (Price e) = told_or (edit_fault i t e) (Priced (price i t e))
 shown i t WholeCost = Costs (penalty i t)
+shown i t Missing = AreMissing (missing i t)
+shown i t (Cheapest n p) = told_or (pattern_fault i t p) (AreCheapest (cheapest i t n p))

@@ -1,6 +1,6 @@
 //! Laws of edits, for the layers above. None of these functions computes anything.
 
-ghost use Rattle.ctt_edits.specs.Laws.{EditsKeepLawful, EditsFit, ClashIsLeast, CallFrame, ReadsAscend, RepliesFit, EditIsTable, OpeningIsLawful, OpeningFaultsFit, RoomsDetermine};
+ghost use Rattle.ctt_edits.specs.Laws.{EditsKeepLawful, EditsFit, ClashIsLeast, CallFrame, PricesAscend, PatternFaultStands, PatternReads, ReadsAscend, RepliesFit, EditIsTable, OpeningIsLawful, OpeningFaultsFit, RoomsDetermine};
 
 /// An edit that has no fault keeps a timetable lawful.
 pub fn edits_keep_lawful()
@@ -21,6 +21,23 @@ pub fn clash_is_least()
 /// What a call answers, and what it changes, depends on the rows that it reads, and on nothing else.
 pub fn call_frame()
     ensures { CallFrame }
+{}
+
+/// The order by price is a stable sort: prices ascend, and the edits of one price are those of the
+/// list, in its order.
+pub fn prices_ascend()
+    ensures { PricesAscend }
+{}
+
+/// If a pattern has a fault, each of its edits is refused.
+pub fn pattern_fault_stands()
+    ensures { PatternFaultStands }
+{}
+
+/// A look at the cheapest edits of a pattern reads the rows that the prices of its edits read, and no
+/// others.
+pub fn pattern_reads()
+    ensures { PatternReads }
 {}
 
 /// The rows that a call reads ascend, each once.

@@ -2,17 +2,22 @@
 #![tactic(auto)]
 
 mod call;
+mod cheapest;
 mod checking;
 mod edit;
 mod fault;
 pub mod laws;
 mod lectures;
 mod looks;
+mod missing;
+mod pattern;
+mod priced_edit;
 mod pricing;
 mod reading;
 mod reply;
 mod row;
 mod rows_read;
+mod shortfall;
 mod showing;
 
 pub use call::Call;
@@ -21,9 +26,12 @@ pub use edit::Edit;
 pub use fault::EditFault;
 pub use lectures::Lectures;
 pub use looks::Look;
+pub use pattern::Pattern;
+pub use priced_edit::{PricedEdit, PricedEdits};
 pub use pricing::price;
 pub use reading::reads;
 pub use reply::Reply;
 pub use row::Row;
 pub use rows_read::RowsRead;
+pub use shortfall::{Shortfall, Shortfalls};
 pub use showing::look;

@@ -5,13 +5,15 @@ ghost use Rattle.std.specs.List.{list_any, AllByRecursion as Each};
 ghost use Rattle.ctt_text.specs.Lists.{has};
 ghost use Rattle.ctt_text.specs.Marks.{is_marked};
 ghost use Rattle.ctt_text.specs.Problem.{course_of, course_count, slot_count, teacher_count, mates};
-ghost use Rattle.ctt_edits.specs.Calls.{CallFits, edit_courses, edit_slots, look_reads_course, look_reads_slot, reads_course, reads_slot, reads};
+ghost use Rattle.ctt_edits.specs.Calls.{CallFits, with_mates, is_choice, pattern_reads_course, pattern_reads_slot, edit_courses, edit_slots, look_reads_course, look_reads_slot, reads_course, reads_slot, reads};
 ghost use Rattle.ctt_edits.specs.Edits.{EditFits};
 ghost use Rattle.ctt_edits.specs.Looks.{LookFits};
+ghost use Rattle.ctt_edits.specs.Patterns.{FitsIfGiven, PatternFits};
 
 use crate::call::Call;
 use crate::edit::Edit;
 use crate::looks::Look;
+use crate::pattern::Pattern;
 use crate::row::Row;
 use crate::rows_read::RowsRead;
 use ctt_text::{CourseNo, Instance, Marks, NoMemory, SlotNo, TeacherNo};
@@ -114,12 +116,81 @@ fn mark_mates_of_edit(instance: &Instance, edit: &Edit, marks: &mut Marks)
 fn mark_courses_of_price(instance: &Instance, edit: &Edit, marks: &mut Marks)
     requires { EditFits instance.now edit.now }
     ensures { (n : ℕ) → is_marked marks.new n
-        ≡ (is_marked marks.old n
-        || (has n (edit_courses edit.now)
-        || list_any (λ c. mates instance.now c n) (edit_courses edit.now))) }
+        ≡ (is_marked marks.old n || with_mates instance.now (edit_courses edit.now) n) }
 {
     mark_courses_of_edit(instance, edit, marks);
     mark_mates_of_edit(instance, edit, marks);
+}
+
+/// Marks a course and its curriculum mates.
+fn mark_with_mates(instance: &Instance, course: CourseNo, marks: &mut Marks)
+    requires { course < course_count instance.now }
+    ensures marked { (n : ℕ) → is_marked marks.new n
+        ≡ (is_marked marks.old n || with_mates instance.now (course ∷ []) n) }
+    ensures past { (n : ℕ) → course_count instance.now ≤ n
+        → is_marked marks.new n ≡ is_marked marks.old n }
+{
+    instance.limits_hold();
+    mark_course(instance, course, marks);
+    mark_mates(instance, course, marks);
+}
+
+/// Marks the courses whose rows the prices of a pattern's edits read.
+fn mark_courses_of_pattern(instance: &Instance, pattern: &Pattern, marks: &mut Marks)
+    requires { PatternFits instance.now pattern.now }
+    ensures marked { (n : ℕ) → n < course_count instance.now
+        → is_marked marks.new n
+        ≡ (is_marked marks.old n || pattern_reads_course instance.now pattern.now n) }
+    ensures past { (n : ℕ) → course_count instance.now ≤ n
+        → is_marked marks.new n ≡ is_marked marks.old n }
+{
+    match *pattern {
+        Pattern::Place(course, ..) | Pattern::Move(course, ..) | Pattern::Reroom(course, ..) => {
+            mark_with_mates(instance, course, marks)
+        }
+        Pattern::Swap(..) => mark_all(instance, marks),
+    }
+}
+
+/// Marks all slots.
+fn mark_all_slots(instance: &Instance, marks: &mut Marks)
+    ensures marked { (n : ℕ) → n < slot_count instance.now
+        → is_marked marks.new n ≡ (is_marked marks.old n || true) }
+    ensures past { (n : ℕ) → slot_count instance.now ≤ n
+        → is_marked marks.new n ≡ is_marked marks.old n }
+{
+    marks.mark_below(instance.slots() as usize);
+}
+
+/// Marks the given slot, or all slots if none is given.
+fn mark_choice(instance: &Instance, slot: Option<SlotNo>, marks: &mut Marks)
+    requires { FitsIfGiven (slot_count instance.now) slot }
+    ensures marked { (n : ℕ) → n < slot_count instance.now
+        → is_marked marks.new n ≡ (is_marked marks.old n || is_choice slot n) }
+    ensures past { (n : ℕ) → slot_count instance.now ≤ n
+        → is_marked marks.new n ≡ is_marked marks.old n }
+{
+    match slot {
+        Some(slot) => mark_slot(instance, slot, marks),
+        None => mark_all_slots(instance, marks),
+    }
+}
+
+/// Marks the slots whose rows the prices of a pattern's edits read.
+fn mark_slots_of_pattern(instance: &Instance, pattern: &Pattern, marks: &mut Marks)
+    requires { PatternFits instance.now pattern.now }
+    ensures marked { (n : ℕ) → n < slot_count instance.now
+        → is_marked marks.new n ≡ (is_marked marks.old n || pattern_reads_slot pattern.now n) }
+    ensures past { (n : ℕ) → slot_count instance.now ≤ n
+        → is_marked marks.new n ≡ is_marked marks.old n }
+{
+    match *pattern {
+        Pattern::Place(_, slot, _) | Pattern::Move(_, _, slot, _) => {
+            mark_choice(instance, slot, marks)
+        }
+        Pattern::Reroom(_, slot, _) => mark_choice(instance, Some(slot), marks),
+        Pattern::Swap(..) => mark_all_slots(instance, marks),
+    }
 }
 
 /// Marks the courses whose rows a look reads.
@@ -139,8 +210,9 @@ fn mark_courses_of_look(instance: &Instance, look: &Look, marks: &mut Marks)
         Look::Curriculum(curriculum) => {
             mark_courses(instance, instance.members(curriculum), marks)
         }
-        Look::Cost => mark_all(instance, marks),
+        Look::Cost | Look::Missing => mark_all(instance, marks),
         Look::Price(edit) => mark_courses_of_price(instance, &edit, marks),
+        Look::Cheapest(_, pattern) => mark_courses_of_pattern(instance, &pattern, marks),
     }
 }
 
@@ -164,17 +236,22 @@ fn mark_slots_of_edit(instance: &Instance, edit: &Edit, marks: &mut Marks)
 /// Marks the slots whose rows a look reads.
 fn mark_slots_of_look(instance: &Instance, look: &Look, marks: &mut Marks)
     requires { LookFits instance.now look.now }
-    ensures { (n : ℕ) → is_marked marks.new n
-        ≡ (is_marked marks.old n || look_reads_slot look.now n) }
+    ensures marked { (n : ℕ) → n < slot_count instance.now
+        → is_marked marks.new n ≡ (is_marked marks.old n || look_reads_slot look.now n) }
+    ensures past { (n : ℕ) → slot_count instance.now ≤ n
+        → is_marked marks.new n ≡ is_marked marks.old n }
 {
+    instance.limits_hold();
     match *look {
         Look::Slot(slot) => mark_slot(instance, slot, marks),
         Look::Price(edit) => mark_slots_of_edit(instance, &edit, marks),
+        Look::Cheapest(_, pattern) => mark_slots_of_pattern(instance, &pattern, marks),
         Look::Course(_)
         | Look::Teacher(_)
         | Look::Curriculum(_)
         | Look::CourseCost(_)
-        | Look::Cost => {}
+        | Look::Cost
+        | Look::Missing => {}
     }
 }
 

@@ -3,10 +3,12 @@
 ghost use Rattle.std.specs.Prelude.{◌≡◌, ◌↔◌, IfOk, IsTrue};
 ghost use Rattle.std.specs.List.{AllByRecursion as Each};
 ghost use Rattle.ctt_text.specs.Timetable.{Fits};
-ghost use Rattle.ctt_edits.specs.Fitting.{CostFits, ReplyFits};
+ghost use Rattle.ctt_edits.specs.Fitting.{CostFits, ShortfallFits, PricedFits, ReplyFits};
 
 use crate::fault::EditFault;
 use crate::lectures::Lectures;
+use crate::priced_edit::{PricedEdit, PricedEdits};
+use crate::shortfall::{Shortfall, Shortfalls};
 use ctt_rules::Cost;
 use ctt_text::{Instance, NoMemory, Placed};
 
@@ -23,6 +25,10 @@ pub enum Reply {
     Costs(Cost),
     /// What the edit would add to the penalty.
     Price(i64),
+    /// The courses of which lectures are missing, ascending.
+    Missing(Shortfalls),
+    /// The edits that were asked for, the cheapest first.
+    Edits(PricedEdits),
 }
 
 impl Reply {
@@ -36,6 +42,8 @@ impl Reply {
             Reply::Lectures(lectures) => Ok(Reply::Lectures(lectures.copy()?)),
             Reply::Costs(cost) => Ok(Reply::Costs(*cost)),
             Reply::Price(price) => Ok(Reply::Price(*price)),
+            Reply::Missing(courses) => Ok(Reply::Missing(courses.copy()?)),
+            Reply::Edits(edits) => Ok(Reply::Edits(edits.copy()?)),
         }
     }
 
@@ -49,6 +57,8 @@ impl Reply {
             (Reply::Lectures(lectures), Reply::Lectures(others)) => lectures.is_same(others),
             (Reply::Costs(cost), Reply::Costs(other_cost)) => cost == other_cost,
             (Reply::Price(price), Reply::Price(other_price)) => price == other_price,
+            (Reply::Missing(courses), Reply::Missing(others)) => courses.is_same(others),
+            (Reply::Edits(edits), Reply::Edits(others)) => edits.is_same(others),
             _ => false,
         }
     }
@@ -64,18 +74,35 @@ impl Reply {
             Reply::Lectures(lectures) => all_fit(instance, lectures.as_slice()),
             Reply::Costs(cost) => cost_fits(cost),
             Reply::Price(price) => price.unsigned_abs() <= GREATEST,
+            Reply::Missing(courses) => shortfalls_fit(instance, courses.as_slice()),
+            Reply::Edits(edits) => priced_fit(instance, edits.as_slice()),
         }
     }
 }
 
 /// The greatest amount that a reply may tell.
-const GREATEST: u64 = 9_223_372_036_854_775_807;
+pub(crate) const GREATEST: u64 = 9_223_372_036_854_775_807;
 
 /// Whether all lectures are of the instance.
 fn all_fit(instance: &Instance, lectures: &[Placed]) -> bool
     ensures { IsTrue result ↔ Each (Fits instance.now) lectures.now }
 {
     lectures.iter().all(|lecture| lecture.fits(instance))
+}
+
+/// Whether all courses are of the instance, and at most 999,999,999 lectures of each are missing.
+fn shortfalls_fit(instance: &Instance, courses: &[Shortfall]) -> bool
+    ensures { IsTrue result ↔ Each (ShortfallFits instance.now) courses.now }
+{
+    courses.iter().all(|short| short.fits(instance))
+}
+
+/// Whether all edits are of the instance, and no price without its sign is above the greatest
+/// amount.
+fn priced_fit(instance: &Instance, edits: &[PricedEdit]) -> bool
+    ensures { IsTrue result ↔ Each (PricedFits instance.now) edits.now }
+{
+    edits.iter().all(|priced| priced.fits(instance))
 }
 
 /// Whether each of the four costs is at most the greatest amount.

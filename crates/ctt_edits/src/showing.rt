@@ -6,11 +6,15 @@ ghost use Rattle.ctt_text.specs.Problem.{course_count, teacher_count, curriculum
 ghost use Rattle.ctt_rules.specs.Penalty.{course_cost, lectures_of};
 ghost use Rattle.ctt_edits.specs.Edits.{EditFits, edit_fault};
 ghost use Rattle.ctt_edits.specs.Looks.{LookFits, price, teacher_row, told_or, shown};
-ghost use Rattle.ctt_edits.specs.declared.reply.Reply.TheVariants.{Price as Priced};
+ghost use Rattle.ctt_edits.specs.Patterns.{PatternFits, pattern_fault, cheapest};
+ghost use Rattle.ctt_edits.specs.declared.reply.Reply.TheVariants.{Price as Priced, Edits as AreCheapest};
 
+use crate::cheapest::{cheapest, pattern_fault};
 use crate::edit::Edit;
 use crate::lectures::Lectures;
 use crate::looks::Look;
+use crate::missing::missing;
+use crate::pattern::Pattern;
 use crate::pricing::price;
 use crate::reading::{mark_courses, mark_taught};
 use crate::reply::Reply;
@@ -96,6 +100,24 @@ fn price_reply<'i, S: Sheet<'i>>(sheet: &S, edit: &Edit) -> Reply
     }
 }
 
+/// The cheapest edits of a pattern, or its fault.
+fn cheapest_reply<'i, S: Sheet<'i>>(
+    alloc: Global,
+    sheet: &S,
+    count: u16,
+    pattern: &Pattern,
+) -> Result<Reply, NoMemory>
+    requires { PatternFits (S.problem sheet.now) pattern.now }
+    ensures { IfOk result (λ reply.
+        reply ≡ told_or (pattern_fault (S.problem sheet.now) (S.list sheet.now) pattern.now)
+        (AreCheapest (cheapest (S.problem sheet.now) (S.list sheet.now) count pattern.now))) }
+{
+    if let Some(fault) = pattern_fault(sheet, pattern) {
+        return Ok(Reply::Refused(fault));
+    }
+    Ok(Reply::Edits(cheapest(alloc, sheet, count, pattern)?))
+}
+
 /// What a look shows.
 pub fn look<'i, S: Sheet<'i>>(alloc: Global, sheet: &S, look: &Look) -> Result<Reply, NoMemory>
     requires { LookFits (S.problem sheet.now) look.now }
@@ -110,6 +132,8 @@ pub fn look<'i, S: Sheet<'i>>(alloc: Global, sheet: &S, look: &Look) -> Result<R
         Look::CourseCost(course) => return Ok(Reply::Costs(own_cost(sheet, course)?)),
         Look::Cost => return Ok(Reply::Costs(sheet.cost())),
         Look::Price(edit) => return Ok(price_reply(sheet, &edit)),
+        Look::Missing => return Ok(Reply::Missing(missing(alloc, sheet)?)),
+        Look::Cheapest(count, pattern) => return cheapest_reply(alloc, sheet, count, &pattern),
     };
     Ok(Reply::Lectures(Lectures::new(list)))
 }

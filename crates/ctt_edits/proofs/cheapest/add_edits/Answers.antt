@@ -1,0 +1,30 @@
+use Rattle.std.proofs.Common.{rules, ◌∙◌, ◌+◌, ◌-◌, List, ℕ, subst}
+use Rattle.std.specs.List.{range_with_len, AllByRecursion as Each}
+use Rattle.ctt_text.specs.Problem.{Problem}
+use Rattle.ctt_text.specs.declared.placed.Placed.{Placed}
+use Rattle.ctt_edits.specs.Candidates.{edits_with, edits_by}
+use Rattle.ctt_edits.specs.Edits.{EditFits}
+use Rattle.ctt_edits.specs.declared.edit.Edit.{Edit}
+use Rattle.ctt_edits.proofs.CheapestLemmas.{by_more, n_cheapest_parts, Each-front, Each-back}
+use Rattle.ctt_edits.proofs.cheapest.add_edits.Goals as goal
+
+pub add_edits_with-requires : goal.add_edits_with-requires
+add_edits_with-requires g c κs =
+    let i : Problem = g.S.Rooms.problem c.args.sheet.now in
+    let ys : List ℕ = range_with_len c.args.second_bounds.0 (c.args.second_bounds.1 - c.args.second_bounds.0) in
+    let rest : List Edit = edits_by c.args.pattern.now (range_with_len (c.loop-first.first + 1) (c.args.bounds.1 - (c.loop-first.first + 1))) ys in
+    let more = by_more c.args.pattern.now ys c.loop-first.first c.args.bounds.1 c.loop-first-test.true in
+    let fits : Each (EditFits i) (edits_with c.args.pattern.now ys c.loop-first.first) = Each-front (EditFits i) (edits_with c.args.pattern.now ys c.loop-first.first) rest (subst (Each (EditFits i)) more c.loop-first.invariant.1) in
+    search rules
+
+pub loop-first-preserved : goal.loop-first-preserved
+loop-first-preserved g c =
+    let i : Problem = g.S.Rooms.problem c.args.sheet.now in
+    let t : List Placed = g.S.Rooms.list c.args.sheet.now in
+    let ys : List ℕ = range_with_len c.args.second_bounds.0 (c.args.second_bounds.1 - c.args.second_bounds.0) in
+    let here : List Edit = edits_with c.args.pattern.now ys c.loop-first.first in
+    let rest : List Edit = edits_by c.args.pattern.now (range_with_len (c.loop-first.first + 1) (c.args.bounds.1 - (c.loop-first.first + 1))) ys in
+    let more = by_more c.args.pattern.now ys c.loop-first.first c.args.bounds.1 c.loop-first-test.true in (
+      n_cheapest_parts i t c.args.count c.loop-first.list.items c.add_edits_with.new.list.items _ here rest more c.in_ok-add_edits_with.ensures ∙ c.loop-first.invariant.0,
+      Each-back (EditFits i) here rest (subst (Each (EditFits i)) more c.loop-first.invariant.1),
+    )

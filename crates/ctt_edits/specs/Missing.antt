@@ -1,0 +1,19 @@
+-- The lectures that are missing.
+use Rattle.std.specs.Prelude.{ℕ, ◌-◌, Bool, List, length, map, nat_lt}
+use Rattle.ctt_text.specs.Lists.{below}
+use Rattle.ctt_text.specs.Problem.{Problem, course_of, course_count}
+use Rattle.ctt_text.specs.Timetable.{course_row}
+use Rattle.ctt_text.specs.declared.placed.Placed.{Placed}
+use Rattle.ctt_edits.specs.declared.shortfall.Shortfall.{Shortfall}
+
+-- fewer lectures of the course are placed than it has
+abbrev pub is_short : Problem → List Placed → ℕ → Bool
+is_short i t c = nat_lt (length (course_row c t)) (course_of i c).lectures
+
+-- how many lectures of the course are missing
+abbrev pub shortfall : Problem → List Placed → ℕ → Shortfall
+shortfall i t c = record { course = c; missing = (course_of i c).lectures - length (course_row c t) }
+
+-- the courses of which lectures are missing, ascending
+abbrev pub missing : Problem → List Placed → List Shortfall
+missing i t = map (shortfall i t) (below (is_short i t) (course_count i))

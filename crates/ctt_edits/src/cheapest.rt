@@ -1,0 +1,161 @@
+//! The cheapest edits of a pattern.
+
+ghost use Rattle.std.specs.Prelude.{◌≡◌, ◌≤◌, ◌-◌, [], ◌∷◌, length, take, IfOk, OnOk};
+ghost use Rattle.std.specs.List.{range_with_len, position_or_len, AllByRecursion as Each};
+ghost use Rattle.ctt_text.specs.Lists.{put};
+ghost use Rattle.ctt_edits.specs.Candidates.{edits_with, edits_by, n_cheapest};
+ghost use Rattle.ctt_edits.specs.Edits.{EditFits};
+ghost use Rattle.ctt_edits.specs.Patterns.{PatternFits, pattern_fault, feasible, is_cheaper, cheapest};
+
+use crate::edit::Edit;
+use crate::fault::EditFault;
+use crate::pattern::Pattern;
+use crate::priced_edit::{PricedEdit, PricedEdits};
+use crate::pricing::price;
+use ctt_board::Sheet;
+use ctt_text::NoMemory;
+use std::alloc::Global;
+
+/// Why each edit of a pattern is refused, if one reason holds for all of them: the lecture that it
+/// names is not there, or all lectures of its course are placed.
+pub(crate) fn pattern_fault<'i, S: Sheet<'i>>(sheet: &S, pattern: &Pattern) -> Option<EditFault>
+    requires { PatternFits (S.problem sheet.now) pattern.now }
+    ensures { result ≡ pattern_fault (S.problem sheet.now) (S.list sheet.now) pattern.now }
+{
+    match *pattern {
+        Pattern::Place(course, ..) => {
+            if sheet.count(course) >= sheet.instance().lectures(course) {
+                return Some(EditFault::CourseFull);
+            }
+            None
+        }
+        Pattern::Move(course, slot, ..)
+        | Pattern::Swap(course, slot)
+        | Pattern::Reroom(course, slot, _) => {
+            if sheet.room_at(course, slot).is_none() {
+                return Some(EditFault::NotPlaced);
+            }
+            None
+        }
+    }
+}
+
+/// Whether an edit is cheaper than another.
+fn is_cheaper(edit: &PricedEdit, other: &PricedEdit) -> bool
+    ensures { result ≡ is_cheaper edit.now other.now }
+{
+    edit.price < other.price
+}
+
+/// The index of the first edit that is dearer than a new one, or the length of the list.
+#[tactic(auto, using(crate::proofs::CheapestLemmas::found_at, crate::proofs::CheapestLemmas::found_nowhere))]
+fn insertion_point(list: &[PricedEdit], new: &PricedEdit) -> usize
+    ensures place { result ≡ position_or_len (is_cheaper new.now) list.now }
+    ensures within { result ≤ length list.now }
+{
+    for (place, other) in list.iter().enumerate() {
+        if is_cheaper(new, other) {
+            return place;
+        }
+    }
+    list.len()
+}
+
+/// Inserts an edit before the first that is dearer, and cuts the list to the count.
+#[tactic(auto, using(crate::proofs::CheapestLemmas::inserted_is))]
+fn insert_by_price(list: &mut Vec<PricedEdit>, count: u16, new: PricedEdit) -> Result<(), NoMemory>
+    ensures { OnOk result (list.new.items ≡ take count (put is_cheaper new list.old.items)) }
+{
+    let place = insertion_point(list.as_slice(), &new);
+    list.insert(place, new)?;
+    list.truncate(count as usize);
+    Ok(())
+}
+
+/// Inserts an edit, if it has no fault.
+fn add_edit<'i, S: Sheet<'i>>(
+    list: &mut Vec<PricedEdit>,
+    sheet: &S,
+    count: u16,
+    edit: &Edit,
+) -> Result<(), NoMemory>
+    requires { EditFits (S.problem sheet.now) edit.now }
+    ensures { OnOk result (list.new.items
+        ≡ n_cheapest count list.old.items
+        (feasible (S.problem sheet.now) (S.list sheet.now) (edit.now ∷ []))) }
+{
+    match price(sheet, edit) {
+        Ok(price) => insert_by_price(list, count, PricedEdit { edit: *edit, price }),
+        Err(_) => Ok(()),
+    }
+}
+
+/// Inserts the edits of a pattern that have one first choice.
+fn add_edits_with<'i, S: Sheet<'i>>(
+    list: &mut Vec<PricedEdit>,
+    sheet: &S,
+    count: u16,
+    pattern: &Pattern,
+    first: u16,
+    bounds: (u16, u16),
+) -> Result<(), NoMemory>
+    requires { Each (EditFits (S.problem sheet.now))
+        (edits_with pattern.now (range_with_len bounds.0 (bounds.1 - bounds.0)) first) }
+    ensures { OnOk result (list.new.items
+        ≡ n_cheapest count list.old.items
+        (feasible (S.problem sheet.now) (S.list sheet.now)
+        (edits_with pattern.now (range_with_len bounds.0 (bounds.1 - bounds.0)) first))) }
+{
+    let (mut second, end) = bounds;
+    while second < end {
+        add_edit(list, sheet, count, &pattern.edit(first, second))?;
+        second += 1;
+    }
+    Ok(())
+}
+
+/// Inserts the edits of a pattern.
+fn add_edits<'i, S: Sheet<'i>>(
+    list: &mut Vec<PricedEdit>,
+    sheet: &S,
+    count: u16,
+    pattern: &Pattern,
+    bounds: (u16, u16),
+    second_bounds: (u16, u16),
+) -> Result<(), NoMemory>
+    requires { Each (EditFits (S.problem sheet.now))
+        (edits_by pattern.now (range_with_len bounds.0 (bounds.1 - bounds.0))
+        (range_with_len second_bounds.0 (second_bounds.1 - second_bounds.0))) }
+    ensures { OnOk result (list.new.items
+        ≡ n_cheapest count list.old.items
+        (feasible (S.problem sheet.now) (S.list sheet.now)
+        (edits_by pattern.now (range_with_len bounds.0 (bounds.1 - bounds.0))
+        (range_with_len second_bounds.0 (second_bounds.1 - second_bounds.0))))) }
+{
+    let (mut first, end) = bounds;
+    while first < end {
+        add_edits_with(list, sheet, count, pattern, first, second_bounds)?;
+        first += 1;
+    }
+    Ok(())
+}
+
+/// The cheapest of the edits that a pattern stands for and that have no fault, at most `count`, the
+/// cheapest first. The list never holds more than `count + 1` edits.
+pub(crate) fn cheapest<'i, S: Sheet<'i>>(
+    alloc: Global,
+    sheet: &S,
+    count: u16,
+    pattern: &Pattern,
+) -> Result<PricedEdits, NoMemory>
+    requires { PatternFits (S.problem sheet.now) pattern.now }
+    ensures { IfOk result (λ edits.
+        edits ≡ cheapest (S.problem sheet.now) (S.list sheet.now) count pattern.now) }
+{
+    let instance = sheet.instance();
+    let mut list = Vec::new(alloc);
+    let bounds = pattern.first_bounds(instance);
+    let second_bounds = pattern.second_bounds(instance);
+    add_edits(&mut list, sheet, count, pattern, bounds, second_bounds)?;
+    Ok(PricedEdits::new(list))
+}

@@ -1,0 +1,145 @@
+//! Edits in which a part is left open.
+
+ghost use Rattle.std.specs.Prelude.{◌≡◌, ◌↔◌, ◌-◌, IsTrue};
+ghost use Rattle.std.specs.List.{range_with_len};
+ghost use Rattle.ctt_text.specs.Problem.{slot_count, room_count};
+ghost use Rattle.ctt_edits.specs.Patterns.{FitsIfGiven, IsRoomIfGiven, PatternFits, choices};
+ghost use Rattle.ctt_edits.specs.Candidates.{edit_by, first_choices, second_choices};
+
+use crate::edit::Edit;
+use ctt_text::{CourseNo, Instance, RoomNo, SlotNo};
+
+/// The word of a pattern's text that stands for any room, or for any slot or lecture.
+const ANY: &str = "*";
+
+/// An edit in which the new slot, the room or the other lecture may be left open. It stands for all
+/// edits that fill it in.
+#[derive(Clone, Copy, PartialEq, Eq)]
+pub enum Pattern {
+    /// A lecture of the course comes into the slot, or any slot, and the room, or any room.
+    Place(CourseNo, Option<SlotNo>, Option<RoomNo>),
+    /// The lecture of the course in the first slot comes into the second slot, or any slot, and the
+    /// room, or any room.
+    Move(CourseNo, SlotNo, Option<SlotNo>, Option<RoomNo>),
+    /// The lecture of the course in the slot and any other lecture take each other's slot and room.
+    Swap(CourseNo, SlotNo),
+    /// The lecture of the course in the slot comes into the room, or any room.
+    Reroom(CourseNo, SlotNo, Option<RoomNo>),
+}
+
+/// Whether a slot, if it is given, is one of the instance.
+fn slot_fits(instance: &Instance, slot: &Option<SlotNo>) -> bool
+    ensures { IsTrue result ↔ FitsIfGiven (slot_count instance.now) slot.now }
+{
+    match slot {
+        Some(slot) => slot.fits(instance),
+        None => true,
+    }
+}
+
+/// Whether a room, if it is given, is one of the instance, and its name does not stand for any room.
+fn room_fits(instance: &Instance, room: &Option<RoomNo>) -> bool
+    ensures { IsTrue result ↔ IsRoomIfGiven instance.now room.now }
+{
+    match room {
+        Some(room) => room.fits(instance) && instance.room_name(*room) != ANY,
+        None => true,
+    }
+}
+
+/// The first slot that the choice allows, and the number past the last one.
+fn slot_bounds(instance: &Instance, slot: Option<SlotNo>) -> (u16, u16)
+    requires { FitsIfGiven (slot_count instance.now) slot }
+    ensures { range_with_len result.0 (result.1 - result.0) ≡ choices (slot_count instance.now) slot }
+{
+    let end = instance.slots();
+    match slot {
+        Some(slot) => (slot.get(), slot.get() + 1),
+        None => (0, end),
+    }
+}
+
+/// The first room that the choice allows, and the number past the last one.
+fn room_bounds(instance: &Instance, room: Option<RoomNo>) -> (u16, u16)
+    requires { IsRoomIfGiven instance.now room }
+    ensures { range_with_len result.0 (result.1 - result.0) ≡ choices (room_count instance.now) room }
+{
+    let end = instance.rooms();
+    match room {
+        Some(room) => (room.get(), room.get() + 1),
+        None => (0, end),
+    }
+}
+
+impl Pattern {
+    /// Whether its numbers are those of the instance, and a given room is not named `*`.
+    pub fn fits(&self, instance: &Instance) -> bool
+        ensures { IsTrue result ↔ PatternFits instance.now self.now }
+    {
+        match self {
+            Pattern::Place(course, slot, room) => {
+                course.fits(instance) && slot_fits(instance, slot) && room_fits(instance, room)
+            }
+            Pattern::Move(course, slot, target, room) => {
+                course.fits(instance)
+                    && slot.fits(instance)
+                    && slot_fits(instance, target)
+                    && room_fits(instance, room)
+            }
+            Pattern::Swap(course, slot) => course.fits(instance) && slot.fits(instance),
+            Pattern::Reroom(course, slot, room) => {
+                course.fits(instance) && slot.fits(instance) && room_fits(instance, room)
+            }
+        }
+    }
+
+    /// The first choices, of a slot or another course: the least number, and the one past the greatest.
+    pub(crate) fn first_bounds(&self, instance: &Instance) -> (u16, u16)
+        requires { PatternFits instance.now self.now }
+        ensures { range_with_len result.0 (result.1 - result.0) ≡ first_choices instance.now self.now }
+    {
+        match *self {
+            Pattern::Place(_, slot, _) | Pattern::Move(_, _, slot, _) => slot_bounds(
+                instance, slot,
+            ),
+            Pattern::Swap(..) => (0, instance.courses()),
+            Pattern::Reroom(_, slot, _) => slot_bounds(instance, Some(slot)),
+        }
+    }
+
+    /// The second choices, of a room or the other slot: the least number, and the one past the
+    /// greatest.
+    pub(crate) fn second_bounds(&self, instance: &Instance) -> (u16, u16)
+        requires { PatternFits instance.now self.now }
+        ensures { range_with_len result.0 (result.1 - result.0) ≡ second_choices instance.now self.now }
+    {
+        match *self {
+            Pattern::Place(_, _, room)
+            | Pattern::Move(_, _, _, room)
+            | Pattern::Reroom(_, _, room) => room_bounds(instance, room),
+            Pattern::Swap(..) => (0, instance.slots()),
+        }
+    }
+
+    /// The edit that fills it in with these choices.
+    pub(crate) fn edit(&self, first: u16, second: u16) -> Edit
+        ensures { result ≡ edit_by self.now first second }
+    {
+        match *self {
+            Pattern::Place(course, ..) => Edit::Place(
+                course,
+                SlotNo::new(first),
+                RoomNo::new(second),
+            ),
+            Pattern::Move(course, slot, ..) => {
+                Edit::Move(course, slot, SlotNo::new(first), RoomNo::new(second))
+            }
+            Pattern::Swap(course, slot) => {
+                Edit::Swap(course, slot, CourseNo::new(first), SlotNo::new(second))
+            }
+            Pattern::Reroom(course, ..) => {
+                Edit::Reroom(course, SlotNo::new(first), RoomNo::new(second))
+            }
+        }
+    }
+}

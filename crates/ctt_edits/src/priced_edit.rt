@@ -1,0 +1,105 @@
+//! Edits with their prices.
+
+ghost use Rattle.std.specs.Prelude.{◌≡◌, ◌↔◌, ◌++◌, ◌∷◌, [], IfOk, OnOk, IsTrue};
+ghost use Rattle.ctt_edits.specs.Fitting.{PricedFits};
+
+use crate::edit::Edit;
+use crate::reply::GREATEST;
+use ctt_text::{Instance, NoMemory};
+use std::alloc::Global;
+use std::marker::Model;
+
+/// An edit with what it would add to the penalty.
+#[derive(Clone, Copy, PartialEq, Eq)]
+pub struct PricedEdit {
+    /// The edit.
+    pub edit: Edit,
+    /// The penalty after it minus the penalty before it.
+    pub price: i64,
+}
+
+impl PricedEdit {
+    /// Whether its edit is of the instance, and its price without its sign is at most
+    /// 9,223,372,036,854,775,807.
+    pub fn fits(&self, instance: &Instance) -> bool
+        ensures { IsTrue result ↔ PricedFits instance.now self.now }
+    {
+        self.edit.fits(instance) && self.price.unsigned_abs() <= GREATEST
+    }
+}
+
+/// Adds an element to a list.
+fn add<T: Copy>(list: &mut Vec<T>, one: &T) -> Result<(), NoMemory>
+    ensures { OnOk result (list.new.items ≡ list.old.items ++ one.now ∷ []) }
+{
+    list.push(*one)?;
+    Ok(())
+}
+
+/// A list of edits with their prices; contracts see the list.
+pub struct PricedEdits {
+    list: Vec<PricedEdit>,
+}
+
+// A derived `Drop` is proved anew in each crate above.
+impl Drop for PricedEdits {
+    fn drop(self) {
+        let PricedEdits { list: _ } = self;
+    }
+}
+
+impl Model for PricedEdits {
+    ghost use Rattle.std.specs.Prelude.{List};
+    ghost use Rattle.ctt_edits.specs.declared.priced_edit.PricedEdit.{PricedEdit};
+
+    ghost Value = { List PricedEdit };
+
+    ghost view = { λ p. p.list.items };
+}
+
+impl PricedEdits {
+    /// The edits of a list.
+    pub fn new(list: Vec<PricedEdit>) -> Self
+        ensures { result ≡ list.items }
+    {
+        PricedEdits { list }
+    }
+
+    /// No edits.
+    pub fn none(alloc: Global) -> Self
+        ensures { result ≡ [] }
+    {
+        PricedEdits {
+            list: Vec::new(alloc),
+        }
+    }
+
+    /// Adds an edit with its price.
+    pub fn push(&mut self, priced: &PricedEdit) -> Result<(), NoMemory>
+        ensures { OnOk result (self.new ≡ self.old ++ priced.now ∷ []) }
+    {
+        add(&mut self.list, priced)
+    }
+
+    /// The list.
+    pub fn as_slice(&self) -> &[PricedEdit]
+        ensures { result.now ≡ self.now }
+    {
+        self.list.as_slice()
+    }
+
+    /// The same edits.
+    pub(crate) fn copy(&self) -> Result<Self, NoMemory>
+        ensures { IfOk result (λ edits. edits ≡ self.now) }
+    {
+        let list = self.list.as_slice().to_vec(*self.list.allocator())?;
+        Ok(PricedEdits { list })
+    }
+
+    /// Whether these are the same edits with the same prices.
+    pub(crate) fn is_same(&self, other: &PricedEdits) -> bool
+        ensures { IsTrue result ↔ (self.now ≡ other.now) }
+    {
+        self.list.as_slice() == other.list.as_slice()
+    }
+}
