@@ -1,13 +1,14 @@
 -- The edits of a pattern one by one, and the cheapest of those that came so far.
-use Rattle.std.proofs.Common.{◌≡◌, ℕ, zero, suc, ◌+◌, ◌-◌, ◌<◌, ◌≤◌, Bool, true, false, List, [], ◌∷◌, ◌++◌, length, map, take, get_or, is_none, Option, Some, None, refl, ◌∙◌, sym, ap, ap₂, subst, arith, inl, inr}
+use Rattle.std.proofs.Common.{◌≡◌, ℕ, zero, suc, ◌+◌, ◌-◌, ◌<◌, ◌≤◌, Bool, List, [], ◌∷◌, ◌++◌, map, take, is_none, Option, Some, None, refl, ◌∙◌, sym, ap, ap₂, subst, arith, inl, inr}
 use Rattle.std.specs.List.{flat_map, insert, position_or_len, range_with_len, AllByRecursion as Each}
 use Rattle.std.proofs.lemmas.Bool.{cases_Bool}
+use Rattle.std.proofs.Math.Seq.{take-nil}
 use Rattle.std.proofs.lemmas.List.{append-nil}
-use Rattle.std.proofs.lemmas.List.Sums.{position_or_len_is}
 use Rattle.ctt_text.specs.Lists.{put}
 use Rattle.ctt_text.specs.Problem.{Problem, course_count, slot_count, room_count}
 use Rattle.ctt_text.specs.declared.placed.Placed.{Placed}
-use Rattle.ctt_text.proofs.TimetableLemmas.{Each-append}
+use Rattle.ctt_text.proofs.ListLaws.{Each-mapped}
+use Rattle.ctt_text.proofs.TimetableLemmas.{Each-map, Each-append}
 use Rattle.ctt_board.proofs.PutLemmas.{put_is}
 use Rattle.ctt_edits.specs.Candidates.{first_choices, second_choices, edit_by, edits_with, edits_by, n_cheapest}
 use Rattle.ctt_edits.specs.Edits.{EditFits, edit_fault}
@@ -21,12 +22,6 @@ use Rattle.ctt_edits.specs.declared.priced_edit.PricedEdit.{PricedEdit}
 -- an edit inserted where the search for its place stops
 pub inserted_is : (x : PricedEdit) (xs : List PricedEdit) → insert xs (position_or_len (is_cheaper x) xs) x ≡ put is_cheaper x xs
 inserted_is x xs = sym (put_is is_cheaper x xs)
-
-pub found_at : (x : PricedEdit) (xs : List PricedEdit) (i : ℕ) (d : PricedEdit) → i < length xs → ((k : ℕ) (e : PricedEdit) → k < i → is_cheaper x (get_or xs k e) ≡ false) → is_cheaper x (get_or xs i d) ≡ true → i ≡ position_or_len (is_cheaper x) xs
-found_at x xs i d lt h e = sym (position_or_len_is (is_cheaper x) xs i d (omega arith) (λ k less. h k d less) (λ less. e))
-
-pub found_nowhere : (x : PricedEdit) (xs : List PricedEdit) (i : ℕ) → i ≡ length xs → ((k : ℕ) (e : PricedEdit) → k < i → is_cheaper x (get_or xs k e) ≡ false) → i ≡ position_or_len (is_cheaper x) xs
-found_nowhere x xs i same h = sym (position_or_len_is (is_cheaper x) xs i x (omega arith) (λ k less. h k x less) (λ less. absurd (omega arith)))
 
 -- what is cut off a list makes no difference to a shorter front
 take_again : {X : Type 0} (n : ℕ) (xs : List X) → take n (take (suc n) xs) ≡ take n xs
@@ -51,10 +46,6 @@ put_front lt x (suc n) (y ∷ ys) = elim (cases_Bool (lt x y)) [
 n_cheapest_is : (n : ℕ) (list xs : List PricedEdit) → n_cheapest n (take n list) xs ≡ take n (by_price list xs)
 n_cheapest_is n list [] = refl
 n_cheapest_is n list (x ∷ xs) = ap (λ ls. n_cheapest n ls xs) (put_front is_cheaper x n list) ∙ n_cheapest_is n (put is_cheaper x list) xs
-
-take_none : {X : Type 0} (n : ℕ) → ◌≡◌ {A = List X} (take n []) []
-take_none zero = refl
-take_none (suc n) = refl
 
 n_cheapest_append : (n : ℕ) (list xs ys : List PricedEdit) → n_cheapest n list (xs ++ ys) ≡ n_cheapest n (n_cheapest n list xs) ys
 n_cheapest_append n list [] ys = refl
@@ -100,15 +91,6 @@ by_end p ys a b le = ap (flat_map (edits_with p ys)) (range_end a b le)
 pub n_cheapest_end : (i : Problem) (t : List Placed) (n : ℕ) (list first : List PricedEdit) (rest all : List Edit) → rest ≡ [] → n_cheapest n list (feasible i t rest) ≡ n_cheapest n first (feasible i t all) → list ≡ n_cheapest n first (feasible i t all)
 n_cheapest_end i t n list first rest all none same = ap (λ es. n_cheapest n list (feasible i t es)) (sym none) ∙ same
 
--- each edit in two parts
-pub Each-front : {X : Type 0} (P : X → Type 0) (xs ys : List X) → Each P (xs ++ ys) → Each P xs
-Each-front P [] ys h = tt
-Each-front P (x ∷ xs) ys h = (h.0, Each-front P xs ys h.1)
-
-pub Each-back : {X : Type 0} (P : X → Type 0) (xs ys : List X) → Each P (xs ++ ys) → Each P ys
-Each-back P [] ys h = h
-Each-back P (x ∷ xs) ys h = Each-back P xs ys h.1
-
 -- the edits of a pattern, choice by choice
 pub edits_are : (i : Problem) (p : Pattern) → edits_by p (first_choices i p) (second_choices i p) ≡ edits_of i p
 edits_are i (AnyPlace c s r) = refl
@@ -120,16 +102,12 @@ edits_are i (AnyReroom c s r) = append-nil (map (λ y. Reroom c s y) (choices (r
 pub cheapest_is : (i : Problem) (t : List Placed) (n : ℕ) (p : Pattern) (list : List PricedEdit) (xs ys : List ℕ) → xs ≡ first_choices i p → ys ≡ second_choices i p → list ≡ n_cheapest n [] (feasible i t (edits_by p xs ys)) → list ≡ cheapest i t n p
 cheapest_is i t n p list xs ys first second is =
     is ∙ ap₂ (λ a b. n_cheapest n [] (feasible i t (edits_by p a b))) first second ∙ ap (λ es. n_cheapest n [] (feasible i t es)) (edits_are i p)
-    ∙ ap (λ ls. n_cheapest n ls (feasible i t (edits_of i p))) (sym (take_none n)) ∙ n_cheapest_is n [] (feasible i t (edits_of i p))
+    ∙ ap (λ ls. n_cheapest n ls (feasible i t (edits_of i p))) (sym (take-nil n)) ∙ n_cheapest_is n [] (feasible i t (edits_of i p))
 
 -- what holds of each of the edits, by what holds of each choice
-Each-map_of : {X Y : Type 0} (Q : X → Type 0) (P : Y → Type 0) (f : X → Y) (xs : List X) → Each Q xs → ((x : X) → Q x → P (f x)) → Each P (map f xs)
-Each-map_of Q P f [] h k = tt
-Each-map_of Q P f (x ∷ xs) h k = (k x h.0, Each-map_of Q P f xs h.1 k)
-
 Each-pairs : {X Y Z : Type 0} (Q : X → Type 0) (R : Y → Type 0) (P : Z → Type 0) (f : X → Y → Z) (xs : List X) (ys : List Y) → Each Q xs → Each R ys → ((x : X) (y : Y) → Q x → R y → P (f x y)) → Each P (flat_map (λ x. map (f x) ys) xs)
 Each-pairs Q R P f [] ys h k g = tt
-Each-pairs Q R P f (x ∷ xs) ys h k g = Each-append P (map (f x) ys) (flat_map (λ x. map (f x) ys) xs) (Each-map_of R P (f x) ys k (λ y r. g x y h.0 r)) (Each-pairs Q R P f xs ys h.1 k g)
+Each-pairs Q R P f (x ∷ xs) ys h k g = Each-append P (map (f x) ys) (flat_map (λ x. map (f x) ys) xs) (Each-mapped P (f x) ys (Each-map R (λ y. P (f x y)) (λ y r. g x y h.0 r) ys k)) (Each-pairs Q R P f xs ys h.1 k g)
 
 -- a choice: below n, and the one that is given if one is
 abbrev pub InChoices : ℕ → Option ℕ → ℕ → Type 0
@@ -169,7 +147,7 @@ pub each_edit : (i : Problem) (p : Pattern) (P : Edit → Type 0) → PatternFit
 each_edit i (AnyPlace c s r) P f g = Each-pairs (InChoices (slot_count i) s) (InChoices (room_count i) r) P (Place c) (choices (slot_count i) s) (choices (room_count i) r) (each_choice (slot_count i) s f.1) (each_room i r f.2) g
 each_edit i (AnyMove c s s2 r) P f g = Each-pairs (InChoices (slot_count i) s2) (InChoices (room_count i) r) P (Move c s) (choices (slot_count i) s2) (choices (room_count i) r) (each_choice (slot_count i) s2 f.2) (each_room i r f.3) g
 each_edit i (AnySwap c s) P f g = Each-pairs (InChoices (course_count i) None) (InChoices (slot_count i) None) P (Swap c s) (choices (course_count i) None) (choices (slot_count i) None) (each_choice (course_count i) None tt) (each_choice (slot_count i) None tt) g
-each_edit i (AnyReroom c s r) P f g = Each-map_of (InChoices (room_count i) r) P (Reroom c s) (choices (room_count i) r) (each_room i r f.2) (λ y k. g s y refl k)
+each_edit i (AnyReroom c s r) P f g = Each-mapped P (Reroom c s) (choices (room_count i) r) (Each-map (InChoices (room_count i) r) (λ y. P (Reroom c s y)) (λ y k. g s y refl k) (choices (room_count i) r) (each_room i r f.2))
 
 pub edit_fits : (i : Problem) (p : Pattern) (x y : ℕ) → PatternFits i p → FirstOf i p x → SecondOf i p y → EditFits i (edit_by p x y)
 edit_fits i (AnyPlace c s r) x y f a b = (f.0, choice_within (slot_count i) s x a, choice_within (room_count i) r y b)

@@ -2,6 +2,7 @@
 use Rattle.std.proofs.Common.{◌≡◌, ℕ, zero, suc, ◌+◌, ◌<◌, ◌≤◌, Bool, true, false, ◌==◌, List, [], ◌∷◌, ◌++◌, map, Option, Some, None, refl, ◌∙◌, sym, ap, arith, inl, inr}
 use Rattle.std.specs.List.{flat_map, list_any, range_with_len, AllByRecursion as Each}
 use Rattle.std.proofs.lemmas.Bool.{cases_Bool, cases_eq, eq-eqb, ne_eqb, or_left, or_right}
+use Rattle.std.proofs.lemmas.List.Folds.{list_any-append}
 use Rattle.ctt_text.specs.Lists.{has}
 use Rattle.ctt_text.specs.Problem.{Problem, course_count, slot_count, room_count, mates}
 use Rattle.ctt_edits.specs.Calls.{edit_courses, edit_slots, with_mates, is_choice, pattern_reads_course, pattern_reads_slot}
@@ -28,15 +29,10 @@ equal_any false f xs h k = sym (none_passes f xs h)
 
 -- one that passes, in either part of a list
 any_front : {X : Type 0} (f : X → Bool) (xs ys : List X) → list_any f xs ≡ true → list_any f (xs ++ ys) ≡ true
-any_front f [] ys h = cc
-any_front f (x ∷ xs) ys h = elim (cases_Bool (f x)) [
-  | inl b ↦ or_left (f x) (list_any f (xs ++ ys)) b
-  | inr b ↦ or_right (f x) (list_any f (xs ++ ys)) (any_front f xs ys (rw b at h))
-]
+any_front f xs ys h = list_any-append f xs ys ∙ or_left (list_any f xs) (list_any f ys) h
 
 any_back : {X : Type 0} (f : X → Bool) (xs ys : List X) → list_any f ys ≡ true → list_any f (xs ++ ys) ≡ true
-any_back f [] ys h = h
-any_back f (x ∷ xs) ys h = or_right (f x) (list_any f (xs ++ ys)) (any_back f xs ys h)
+any_back f xs ys h = list_any-append f xs ys ∙ or_right (list_any f xs) (list_any f ys) h
 
 -- a number that is there, and is not the first, is behind it
 has_rest : (z y : ℕ) (zs : List ℕ) → (z ≡ y → ⊥) → has y (z ∷ zs) ≡ true → has y zs ≡ true

@@ -1,6 +1,6 @@
 -- What a call is told on a lawful timetable fits, and is short.
 use Rattle.std.proofs.Common.{◌≡◌, ℕ, zero, suc, pos, ◌-ℤ◌, ◌<◌, ◌≤◌, Bool, true, false, List, [], ◌∷◌, length, map, take, Option, Some, None, is_none, refl, arith, inl, inr}
-use Rattle.std.proofs.lemmas.List.{append-nil, map-append, length-map, length-append}
+use Rattle.std.proofs.lemmas.List.{append-nil, map-append, length-map, length-append, length-take}
 use Rattle.std.proofs.lemmas.Int.{ints}
 use Rattle.std.specs.Prelude.{unsigned_abs, IfSome, filter, ◌==◌}
 use Rattle.std.specs.List.{AllByRecursion as Each}
@@ -15,7 +15,7 @@ use Rattle.ctt_text.proofs.TimetableLemmas.{Each-append}
 use Rattle.ctt_rules.specs.Hard.{Lawful}
 use Rattle.ctt_rules.specs.Penalty.{penalty, course_cost, total}
 use Rattle.ctt_rules.specs.declared.cost.Cost.{Cost}
-use Rattle.ctt_rules.proofs.ListLemmas.{Each-filter}
+use Rattle.ctt_rules.proofs.ListLemmas.{Each-filter, Each-take}
 use Rattle.ctt_rules.proofs.TimetableLemmas.{few_lectures, lectures_small}
 use Rattle.ctt_board.specs.Changes.{room_at, apply_at}
 use Rattle.ctt_board.proofs.CostLemmas.{course_cost_small, penalty_small}
@@ -47,15 +47,8 @@ length-filter : {X : Type 0} (p : X → Bool) (xs : List X) → length (filter p
 length-filter p [] = omega arith
 length-filter p (x ∷ xs) = elim (cases_Bool (p x)) [ inl b ↦ rw b (omega (arith, length-filter p xs)) | inr b ↦ rw b (omega (arith, length-filter p xs)) ]
 
-Each-take : {X : Type 0} (P : X → Type 0) (n : ℕ) (xs : List X) → Each P xs → Each P (take n xs)
-Each-take P zero xs h = tt
-Each-take P (suc n) [] h = tt
-Each-take P (suc n) (x ∷ xs) h = (h.0, Each-take P n xs h.1)
-
 length-take_most : {X : Type 0} (n : ℕ) (xs : List X) → length (take n xs) ≤ n
-length-take_most zero xs = omega arith
-length-take_most (suc n) [] = omega arith
-length-take_most (suc n) (x ∷ xs) = omega (arith, length-take_most n xs)
+length-take_most n xs = omega (arith, length-take n xs)
 
 none_is : {X : Type 0} (o : Option X) → is_none o ≡ true → o ≡ None
 none_is None h = refl

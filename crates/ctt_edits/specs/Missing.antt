@@ -6,13 +6,17 @@ use Rattle.ctt_text.specs.Timetable.{course_row}
 use Rattle.ctt_text.specs.declared.placed.Placed.{Placed}
 use Rattle.ctt_edits.specs.declared.shortfall.Shortfall.{Shortfall}
 
+-- how many lectures of the course are not placed
+abbrev pub missing_of : Problem → List Placed → ℕ → ℕ
+missing_of i t c = (course_of i c).lectures - length (course_row c t)
+
 -- fewer lectures of the course are placed than it has
 abbrev pub is_short : Problem → List Placed → ℕ → Bool
 is_short i t c = nat_lt (length (course_row c t)) (course_of i c).lectures
 
--- how many lectures of the course are missing
+-- the course with how many of its lectures are missing
 abbrev pub shortfall : Problem → List Placed → ℕ → Shortfall
-shortfall i t c = record { course = c; missing = (course_of i c).lectures - length (course_row c t) }
+shortfall i t c = record { course = c; missing = missing_of i t c }
 
 -- the courses of which lectures are missing, ascending
 abbrev pub missing : Problem → List Placed → List Shortfall

@@ -1,7 +1,7 @@
 //! The cheapest edits of a pattern.
 
 ghost use Rattle.std.specs.Prelude.{◌≡◌, ◌≤◌, ◌-◌, [], ◌∷◌, length, take, IfOk, OnOk};
-ghost use Rattle.std.specs.List.{range_with_len, position_or_len, AllByRecursion as Each};
+ghost use Rattle.std.specs.List.{range_with_len, position, position_or_len, AllByRecursion as Each};
 ghost use Rattle.ctt_text.specs.Lists.{put};
 ghost use Rattle.ctt_edits.specs.Candidates.{edits_with, edits_by, n_cheapest};
 ghost use Rattle.ctt_edits.specs.Edits.{EditFits};
@@ -24,18 +24,14 @@ pub(crate) fn pattern_fault<'i, S: Sheet<'i>>(sheet: &S, pattern: &Pattern) -> O
 {
     match *pattern {
         Pattern::Place(course, ..) => {
-            if sheet.count(course) >= sheet.instance().lectures(course) {
-                return Some(EditFault::CourseFull);
-            }
-            None
+            let is_full = sheet.count(course) >= sheet.instance().lectures(course);
+            is_full.then_some(EditFault::CourseFull)
         }
         Pattern::Move(course, slot, ..)
         | Pattern::Swap(course, slot)
         | Pattern::Reroom(course, slot, _) => {
-            if sheet.room_at(course, slot).is_none() {
-                return Some(EditFault::NotPlaced);
-            }
-            None
+            let is_missing = sheet.room_at(course, slot).is_none();
+            is_missing.then_some(EditFault::NotPlaced)
         }
     }
 }
@@ -47,18 +43,22 @@ fn is_cheaper(edit: &PricedEdit, other: &PricedEdit) -> bool
     edit.price < other.price
 }
 
-/// The index of the first edit that is dearer than a new one, or the length of the list.
-#[tactic(auto, using(crate::proofs::CheapestLemmas::found_at, crate::proofs::CheapestLemmas::found_nowhere))]
+/// The index of the first edit that is dearer than a new one.
+fn first_dearer(list: &[PricedEdit], new: &PricedEdit) -> Option<usize>
+    ensures { result ≡ position (is_cheaper new.now) list.now }
+{
+    list.iter().position(|other| is_cheaper(new, other))
+}
+
+/// The index at which a new edit is inserted: that of the first that is dearer, or the end.
 fn insertion_point(list: &[PricedEdit], new: &PricedEdit) -> usize
-    ensures place { result ≡ position_or_len (is_cheaper new.now) list.now }
+    ensures index { result ≡ position_or_len (is_cheaper new.now) list.now }
     ensures within { result ≤ length list.now }
 {
-    for (place, other) in list.iter().enumerate() {
-        if is_cheaper(new, other) {
-            return place;
-        }
+    match first_dearer(list, new) {
+        Some(index) => index,
+        None => list.len(),
     }
-    list.len()
 }
 
 /// Inserts an edit before the first that is dearer, and cuts the list to the count.
@@ -66,8 +66,8 @@ fn insertion_point(list: &[PricedEdit], new: &PricedEdit) -> usize
 fn insert_by_price(list: &mut Vec<PricedEdit>, count: u16, new: PricedEdit) -> Result<(), NoMemory>
     ensures { OnOk result (list.new.items ≡ take count (put is_cheaper new list.old.items)) }
 {
-    let place = insertion_point(list.as_slice(), &new);
-    list.insert(place, new)?;
+    let index = insertion_point(list.as_slice(), &new);
+    list.insert(index, new)?;
     list.truncate(count as usize);
     Ok(())
 }
@@ -106,10 +106,9 @@ fn add_edits_with<'i, S: Sheet<'i>>(
         (feasible (S.problem sheet.now) (S.list sheet.now)
         (edits_with pattern.now (range_with_len bounds.0 (bounds.1 - bounds.0)) first))) }
 {
-    let (mut second, end) = bounds;
-    while second < end {
+    let (start, end) = bounds;
+    for second in start..end {
         add_edit(list, sheet, count, &pattern.edit(first, second))?;
-        second += 1;
     }
     Ok(())
 }
@@ -132,10 +131,9 @@ fn add_edits<'i, S: Sheet<'i>>(
         (edits_by pattern.now (range_with_len bounds.0 (bounds.1 - bounds.0))
         (range_with_len second_bounds.0 (second_bounds.1 - second_bounds.0))))) }
 {
-    let (mut first, end) = bounds;
-    while first < end {
+    let (start, end) = bounds;
+    for first in start..end {
         add_edits_with(list, sheet, count, pattern, first, second_bounds)?;
-        first += 1;
     }
     Ok(())
 }

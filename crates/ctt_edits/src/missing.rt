@@ -1,33 +1,35 @@
 //! The courses of which lectures are missing.
 
-ghost use Rattle.std.specs.Prelude.{◌≡◌, IfOk};
-ghost use Rattle.ctt_edits.specs.Missing.{missing};
+ghost use Rattle.std.specs.Prelude.{◌≡◌, ◌<◌, IfOk};
+ghost use Rattle.ctt_text.specs.Problem.{course_count};
+ghost use Rattle.ctt_edits.specs.Missing.{missing_of, missing};
 
 use crate::shortfall::{Shortfall, Shortfalls};
 use ctt_board::Sheet;
 use ctt_text::{CourseNo, NoMemory};
 use std::alloc::Global;
 
+/// How many lectures of a course are not placed.
+fn missing_of<'i, S: Sheet<'i>>(sheet: &S, course: CourseNo) -> u32
+    requires { course < course_count (S.problem sheet.now) }
+    ensures { result ≡ missing_of (S.problem sheet.now) (S.list sheet.now) course }
+{
+    let lectures = sheet.instance().lectures(course);
+    lectures.saturating_sub(sheet.count(course))
+}
+
 /// The courses with fewer lectures placed than they have, ascending, with how many are missing.
 pub(crate) fn missing<'i, S: Sheet<'i>>(alloc: Global, sheet: &S) -> Result<Shortfalls, NoMemory>
     ensures { IfOk result (λ courses.
         courses ≡ missing (S.problem sheet.now) (S.list sheet.now)) }
 {
-    let instance = sheet.instance();
-    let end = instance.courses();
     let mut list = Vec::new(alloc);
-    let mut number = 0;
-    while number < end {
+    for number in 0..sheet.instance().courses() {
         let course = CourseNo::new(number);
-        let has = instance.lectures(course);
-        let placed = sheet.count(course);
-        if placed < has {
-            list.push(Shortfall {
-                course,
-                missing: has - placed,
-            })?;
+        let missing = missing_of(sheet, course);
+        if missing > 0 {
+            list.push(Shortfall { course, missing })?;
         }
-        number += 1;
     }
     Ok(Shortfalls::new(list))
 }

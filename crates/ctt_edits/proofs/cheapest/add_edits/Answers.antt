@@ -1,11 +1,12 @@
 use Rattle.std.proofs.Common.{rules, ◌∙◌, ◌+◌, ◌-◌, List, ℕ, subst}
 use Rattle.std.specs.List.{range_with_len, AllByRecursion as Each}
 use Rattle.ctt_text.specs.Problem.{Problem}
+use Rattle.ctt_text.proofs.ListLaws.{Each-front, Each-rest}
 use Rattle.ctt_text.specs.declared.placed.Placed.{Placed}
 use Rattle.ctt_edits.specs.Candidates.{edits_with, edits_by}
 use Rattle.ctt_edits.specs.Edits.{EditFits}
 use Rattle.ctt_edits.specs.declared.edit.Edit.{Edit}
-use Rattle.ctt_edits.proofs.CheapestLemmas.{by_more, n_cheapest_parts, Each-front, Each-back}
+use Rattle.ctt_edits.proofs.CheapestLemmas.{by_more, n_cheapest_parts}
 use Rattle.ctt_edits.proofs.cheapest.add_edits.Goals as goal
 
 pub add_edits_with-requires : goal.add_edits_with-requires
@@ -26,5 +27,5 @@ loop-first-preserved g c =
     let rest : List Edit = edits_by c.args.pattern.now (range_with_len (c.loop-first.first + 1) (c.args.bounds.1 - (c.loop-first.first + 1))) ys in
     let more = by_more c.args.pattern.now ys c.loop-first.first c.args.bounds.1 c.loop-first-test.true in (
       n_cheapest_parts i t c.args.count c.loop-first.list.items c.add_edits_with.new.list.items _ here rest more c.in_ok-add_edits_with.ensures ∙ c.loop-first.invariant.0,
-      Each-back (EditFits i) here rest (subst (Each (EditFits i)) more c.loop-first.invariant.1),
+      Each-rest (EditFits i) here rest (subst (Each (EditFits i)) more c.loop-first.invariant.1),
     )

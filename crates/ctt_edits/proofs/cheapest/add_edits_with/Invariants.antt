@@ -10,6 +10,3 @@ invariant-loop-second g l =
     (n_cheapest l.count l.list.items (feasible (g.S.Rooms.problem l.sheet) (g.S.Rooms.list l.sheet) (edits_with l.pattern (range_with_len l.second (l.end - l.second)) l.first))
     ≡ n_cheapest l.count l.fn.list.items (feasible (g.S.Rooms.problem l.sheet) (g.S.Rooms.list l.sheet) (edits_with l.pattern (range_with_len l.fn.bounds.0 (l.fn.bounds.1 - l.fn.bounds.0)) l.first)))
     × Each (EditFits (g.S.Rooms.problem l.sheet)) (edits_with l.pattern (range_with_len l.second (l.end - l.second)) l.first)
-
-abbrev pub decreases-loop-second : goal.decreases-loop-second
-decreases-loop-second g l = l.end - l.second

@@ -1,4 +1,4 @@
-use Rattle.std.proofs.Common.{◌≡◌, ◌≤◌, ◌-◌, map}
+use Rattle.std.proofs.Common.{◌≡◌, ◌≤◌, map}
 use Rattle.ctt_text.specs.Lists.{below}
 use Rattle.ctt_text.specs.Problem.{course_count}
 use Rattle.ctt_edits.specs.Missing.{is_short, shortfall}
@@ -8,6 +8,3 @@ abbrev pub invariant-loop-number : goal.invariant-loop-number
 invariant-loop-number g l =
     (l.list.items ≡ map (shortfall (g.S.Rooms.problem l.sheet) (g.S.Rooms.list l.sheet)) (below (is_short (g.S.Rooms.problem l.sheet) (g.S.Rooms.list l.sheet)) l.number))
     × (l.number ≤ course_count (g.S.Rooms.problem l.sheet))
-
-abbrev pub decreases-loop-number : goal.decreases-loop-number
-decreases-loop-number g l = l.end - l.number

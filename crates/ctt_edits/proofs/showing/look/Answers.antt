@@ -1,6 +1,7 @@
-use Rattle.std.proofs.Common.{rules, ◌<◌}
+use Rattle.std.proofs.Common.{rules, ◌≤◌, ◌<◌}
 use Rattle.ctt_text.specs.Problem.{course_count, teacher_count, curriculum_count}
 use Rattle.ctt_edits.specs.Edits.{EditFits}
+use Rattle.ctt_edits.specs.Patterns.{PatternFits}
 use Rattle.ctt_edits.proofs.showing.look.Goals as goal
 
 pub own_cost-requires : goal.own_cost-requires
@@ -28,3 +29,8 @@ course_row-requires g c = rw c.in-Course.is at c.requires
 
 pub slot_row-requires : goal.slot_row-requires
 slot_row-requires g c = rw c.in-Slot.is at c.requires
+
+pub cheapest_reply-requires : goal.cheapest_reply-requires
+cheapest_reply-requires g c κs =
+    let fits : (c.in-Cheapest.count ≤ 1000) × PatternFits (g.S.Rooms.problem c.args.sheet.now) c.in-Cheapest.pattern = rw c.in-Cheapest.is at c.requires in
+    search rules
