@@ -10,9 +10,10 @@ use Rattle.ctt_text.specs.declared.placed.Placed.{Placed}
 use Rattle.ctt_text.proofs.ListLaws.{Each-mapped}
 use Rattle.ctt_text.proofs.TimetableLemmas.{Each-map, Each-append}
 use Rattle.ctt_board.proofs.PutLemmas.{put_is}
-use Rattle.ctt_edits.specs.Candidates.{first_choices, second_choices, edit_by, edits_with, edits_by, n_cheapest}
+use Rattle.ctt_edits.specs.Candidates.{from_to, first_choices, second_choices, edit_by, edits_with, edits_by, n_cheapest}
 use Rattle.ctt_edits.specs.Edits.{EditFits, edit_fault}
-use Rattle.ctt_edits.specs.Patterns.{FitsIfGiven, IsRoomIfGiven, PatternFits, choices, edits_of, with_price, feasible, is_cheaper, by_price, cheapest}
+use Rattle.ctt_edits.specs.Patterns.{FitsIfGiven, IsRoomIfGiven, PatternFits, choices, edits_of, with_price, feasible, is_cheaper, cheapest}
+use Rattle.ctt_edits.proofs.PriceOrder.{inserted}
 use Rattle.ctt_edits.specs.declared.edit.Edit.{Edit}
 use Rattle.ctt_edits.specs.declared.edit.Edit.TheVariants.{Place, Move, Swap, Reroom}
 use Rattle.ctt_edits.specs.declared.pattern.Pattern.{Pattern}
@@ -43,7 +44,7 @@ put_front lt x (suc n) (y ∷ ys) = elim (cases_Bool (lt x y)) [
 ]
 
 -- the cheapest of all are those of the cheapest so far and of the others
-n_cheapest_is : (n : ℕ) (list xs : List PricedEdit) → n_cheapest n (take n list) xs ≡ take n (by_price list xs)
+n_cheapest_is : (n : ℕ) (list xs : List PricedEdit) → n_cheapest n (take n list) xs ≡ take n (inserted list xs)
 n_cheapest_is n list [] = refl
 n_cheapest_is n list (x ∷ xs) = ap (λ ls. n_cheapest n ls xs) (put_front is_cheaper x n list) ∙ n_cheapest_is n (put is_cheaper x list) xs
 
@@ -64,27 +65,27 @@ n_cheapest_parts i t n list after all es fs cut is =
     ap (λ xs. n_cheapest n xs (feasible i t fs)) is ∙ sym (n_cheapest_append n list (feasible i t es) (feasible i t fs)) ∙ ap (n_cheapest n list) (sym (feasible_append i t es fs)) ∙ ap (λ es. n_cheapest n list (feasible i t es)) (sym cut)
 
 -- numbers from one on
-range_more : (a b : ℕ) → a < b → range_with_len a (b - a) ≡ a ∷ range_with_len (a + 1) (b - (a + 1))
+range_more : (a b : ℕ) → a < b → from_to a b ≡ a ∷ from_to (a + 1) b
 range_more a b lt =
     let one_more : b - a ≡ suc (b - (a + 1)) = omega (arith, lt) in
     ap (range_with_len a) one_more
 
-range_end : (a b : ℕ) → b ≤ a → range_with_len a (b - a) ≡ []
+range_end : (a b : ℕ) → b ≤ a → from_to a b ≡ []
 range_end a b le =
     let none : b - a ≡ 0 = omega (arith, le) in
     ap (range_with_len a) none
 
 -- the next of the edits with one first choice, and with several
-pub with_more : (p : Pattern) (x a b : ℕ) → a < b → edits_with p (range_with_len a (b - a)) x ≡ (edit_by p x a ∷ []) ++ edits_with p (range_with_len (a + 1) (b - (a + 1))) x
+pub with_more : (p : Pattern) (x a b : ℕ) → a < b → edits_with p (from_to a b) x ≡ (edit_by p x a ∷ []) ++ edits_with p (from_to (a + 1) b) x
 with_more p x a b lt = ap (map (edit_by p x)) (range_more a b lt)
 
-pub with_end : (p : Pattern) (x a b : ℕ) → b ≤ a → edits_with p (range_with_len a (b - a)) x ≡ []
+pub with_end : (p : Pattern) (x a b : ℕ) → b ≤ a → edits_with p (from_to a b) x ≡ []
 with_end p x a b le = ap (map (edit_by p x)) (range_end a b le)
 
-pub by_more : (p : Pattern) (ys : List ℕ) (a b : ℕ) → a < b → edits_by p (range_with_len a (b - a)) ys ≡ edits_with p ys a ++ edits_by p (range_with_len (a + 1) (b - (a + 1))) ys
+pub by_more : (p : Pattern) (ys : List ℕ) (a b : ℕ) → a < b → edits_by p (from_to a b) ys ≡ edits_with p ys a ++ edits_by p (from_to (a + 1) b) ys
 by_more p ys a b lt = ap (flat_map (edits_with p ys)) (range_more a b lt)
 
-pub by_end : (p : Pattern) (ys : List ℕ) (a b : ℕ) → b ≤ a → edits_by p (range_with_len a (b - a)) ys ≡ []
+pub by_end : (p : Pattern) (ys : List ℕ) (a b : ℕ) → b ≤ a → edits_by p (from_to a b) ys ≡ []
 by_end p ys a b le = ap (flat_map (edits_with p ys)) (range_end a b le)
 
 -- nothing more comes

@@ -71,7 +71,7 @@ module _ (i : Problem) (t u : List Placed) (h : IsTimetable i t) (k : IsTimetabl
   ]
 
   pub cheapest_same_of : (p : Pattern) (n : ℕ) → PatternFits i p → AgreeFor i p t u → cheapest i t n p ≡ cheapest i u n p
-  cheapest_same_of p n f a = ap (λ xs. take n (by_price [] xs)) (feasible_same (edits_of i p) (each_edit i p (SameTold i t u) f (λ x y first second. same_told (edit_by p x y) (edit_fits i p x y f first second) (agree_priced i p t u x y first a))))
+  cheapest_same_of p n f a = ap (λ xs. take n (by_price xs)) (feasible_same (edits_of i p) (each_edit i p (SameTold i t u) f (λ x y first second. same_told (edit_by p x y) (edit_fits i p x y f first second) (agree_priced i p t u x y first a))))
 
 pub cheapest_same : (i : Problem) (p : Pattern) (n : ℕ) (t u : List Placed) → IsTimetable i t → IsTimetable i u → PatternFits i p → AgreeFor i p t u → cheapest i t n p ≡ cheapest i u n p
 cheapest_same i p n t u h k f a = cheapest_same_of i t u h k p n f a

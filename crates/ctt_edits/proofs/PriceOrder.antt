@@ -1,7 +1,7 @@
 -- Edits in order of price.
 use Rattle.std.proofs.Common.{◌≡◌, ℤ, Bool, true, false, List, [], ◌∷◌, ◌++◌, refl, ◌∙◌, sym, ap, arith, inl, inr}
 use Rattle.std.specs.Int.Signed.{lt_z}
-use Rattle.std.specs.List.{filter, AllByRecursion as Each}
+use Rattle.std.specs.List.{filter, fold, AllByRecursion as Each}
 use Rattle.std.specs.Ordering.{int_eq}
 use Rattle.std.proofs.lemmas.Bool.{cases_Bool}
 use Rattle.std.proofs.lemmas.Int.{ints}
@@ -9,7 +9,7 @@ use Rattle.std.proofs.lemmas.List.{append-nil, append_assoc}
 use Rattle.ctt_text.specs.Lists.{Pairwise, put}
 use Rattle.ctt_board.proofs.PutLemmas.{filter-put_no, filter-put_yes, Pairwise-put}
 use Rattle.ctt_edits.specs.Laws.{PricesAscend}
-use Rattle.ctt_edits.specs.Patterns.{is_cheaper, by_price}
+use Rattle.ctt_edits.specs.Patterns.{is_cheaper}
 use Rattle.ctt_edits.specs.declared.priced_edit.PricedEdit.{PricedEdit}
 
 -- neither is dearer than the next
@@ -36,7 +36,11 @@ put_ascends x list h =
     (each (λ y. is_cheaper x y ≡ true → is_cheaper y x ≡ false) (λ y. less_not_more x.price y.price) list)
     (each (λ y. is_cheaper x y ≡ false → is_cheaper x y ≡ false) (λ y k. k) list) h
 
-ascends : (list xs : List PricedEdit) → Ascends list → Ascends (by_price list xs)
+-- more edits inserted in a list
+abbrev pub inserted : List PricedEdit → List PricedEdit → List PricedEdit
+inserted list xs = fold (λ ls x. put is_cheaper x ls) list xs
+
+ascends : (list xs : List PricedEdit) → Ascends list → Ascends (inserted list xs)
 ascends list [] h = h
 ascends list (x ∷ xs) h = ascends (put is_cheaper x list) xs (put_ascends x list h)
 
@@ -66,7 +70,7 @@ module _ (v : ℤ) where
   front : (x : PricedEdit) (xs : List PricedEdit) → filter has_price (x ∷ []) ++ filter has_price xs ≡ filter has_price (x ∷ xs)
   front x xs = elim (cases_Bool (has_price x)) [ inl b ↦ rw b refl | inr b ↦ rw b refl ]
 
-  same_price : (list xs : List PricedEdit) → Ascends list → filter has_price (by_price list xs) ≡ filter has_price list ++ filter has_price xs
+  same_price : (list xs : List PricedEdit) → Ascends list → filter has_price (inserted list xs) ≡ filter has_price list ++ filter has_price xs
   same_price list [] h = sym (append-nil (filter has_price list))
   same_price list (x ∷ xs) h =
       same_price (put is_cheaper x list) xs (put_ascends x list h)

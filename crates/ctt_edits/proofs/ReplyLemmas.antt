@@ -42,6 +42,7 @@ use Rattle.ctt_edits.specs.declared.pattern.Pattern.{Pattern}
 use Rattle.ctt_edits.specs.declared.pattern.Pattern.TheVariants.{Place as AnyPlace, Move as AnyMove, Swap as AnySwap, Reroom as AnyReroom}
 use Rattle.ctt_edits.specs.declared.priced_edit.PricedEdit.{PricedEdit}
 use Rattle.ctt_edits.proofs.CheapestLemmas.{edits_fit}
+use Rattle.ctt_edits.proofs.PriceOrder.{inserted}
 
 length-filter : {X : Type 0} (p : X → Bool) (xs : List X) → length (filter p xs) ≤ length xs
 length-filter p [] = omega arith
@@ -169,14 +170,14 @@ module _ (i : Problem) where
       | inr b ↦ rw b (feasible_fit es f.1)
     ]
 
-    ordered_fit : (xs ys : List PricedEdit) → Each (PricedFits i) xs → Each (PricedFits i) ys → Each (PricedFits i) (by_price xs ys)
+    ordered_fit : (xs ys : List PricedEdit) → Each (PricedFits i) xs → Each (PricedFits i) ys → Each (PricedFits i) (inserted xs ys)
     ordered_fit xs [] h k = h
     ordered_fit xs (y ∷ ys) h k = ordered_fit (put is_cheaper y xs) ys (Each-put (PricedFits i) is_cheaper y xs k.0 h) k.1
 
     cheapest_fits : (n : ℕ) (p : Pattern) → n ≤ 1000 → PatternFits i p → IsReply i (AreCheapest (cheapest i t n p))
     cheapest_fits n p le f = (
-      Each-take (PricedFits i) n (by_price [] (feasible i t (edits_of i p))) (ordered_fit [] (feasible i t (edits_of i p)) tt (feasible_fit (edits_of i p) (edits_fit i p f))),
-      omega (arith, length-take_most n (by_price [] (feasible i t (edits_of i p))), le),
+      Each-take (PricedFits i) n (by_price (feasible i t (edits_of i p))) (ordered_fit [] (feasible i t (edits_of i p)) tt (feasible_fit (edits_of i p) (edits_fit i p f))),
+      omega (arith, length-take_most n (by_price (feasible i t (edits_of i p))), le),
     )
 
     look_fits : (look : Look) → LookFits i look → IsReply i (shown i t look)

@@ -68,6 +68,7 @@ pattern_reads_course i (AnyMove c s s2 r) x = with_mates i (c ∷ []) x
 pattern_reads_course i (AnySwap c s) x = true
 pattern_reads_course i (AnyReroom c s r) x = with_mates i (c ∷ []) x
 
+-- the given number, or each number if none is given
 abbrev pub is_choice : Option ℕ → ℕ → Bool
 is_choice None x = true
 is_choice (Some y) x = has x (y ∷ [])

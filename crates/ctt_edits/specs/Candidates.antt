@@ -1,6 +1,6 @@
 -- The edits of a pattern choice by choice, and the n cheapest of a list to which more are added.
-use Rattle.std.specs.Prelude.{ℕ, List, [], ◌∷◌, map, take, Some, None}
-use Rattle.std.specs.List.{flat_map}
+use Rattle.std.specs.Prelude.{ℕ, ◌-◌, List, map, take, Some, None}
+use Rattle.std.specs.List.{flat_map, fold, range_with_len}
 use Rattle.ctt_text.specs.Lists.{put}
 use Rattle.ctt_text.specs.Problem.{Problem, course_count, slot_count, room_count}
 use Rattle.ctt_edits.specs.Patterns.{choices, is_cheaper}
@@ -9,6 +9,10 @@ use Rattle.ctt_edits.specs.declared.edit.Edit.TheVariants.{Place, Move, Swap, Re
 use Rattle.ctt_edits.specs.declared.pattern.Pattern.{Pattern}
 use Rattle.ctt_edits.specs.declared.pattern.Pattern.TheVariants.{Place as AnyPlace, Move as AnyMove, Swap as AnySwap, Reroom as AnyReroom}
 use Rattle.ctt_edits.specs.declared.priced_edit.PricedEdit.{PricedEdit}
+
+-- the numbers from a on and below b
+abbrev pub from_to : ℕ → ℕ → List ℕ
+from_to a b = range_with_len a (b - a)
 
 -- the first choices, of a slot or another course
 abbrev pub first_choices : Problem → Pattern → List ℕ
@@ -40,5 +44,4 @@ edits_by p xs ys = flat_map (edits_with p ys) xs
 
 -- the n cheapest of a list and of more edits, which are inserted one by one
 abbrev pub n_cheapest : ℕ → List PricedEdit → List PricedEdit → List PricedEdit
-n_cheapest n list [] = list
-n_cheapest n list (x ∷ xs) = n_cheapest n (take n (put is_cheaper x list)) xs
+n_cheapest n list more = fold (λ cheapest x. take n (put is_cheaper x cheapest)) list more

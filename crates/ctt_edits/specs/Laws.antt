@@ -1,5 +1,5 @@
 -- What layers above rest on.
-use Rattle.std.specs.Prelude.{ℕ, ℤ, ◌≡◌, ◌<◌, ◌≤◌, true, false, List, [], filter, Some, None, is_none, Ok, Err}
+use Rattle.std.specs.Prelude.{ℕ, ℤ, ◌≡◌, ◌<◌, ◌≤◌, true, false, List, filter, Some, None, is_none, Ok, Err}
 use Rattle.std.specs.Ordering.{int_eq}
 use Rattle.std.specs.List.{list_any, AllByRecursion as Each}
 use Rattle.ctt_text.specs.Lists.{has, Pairwise}
@@ -23,8 +23,8 @@ use Rattle.ctt_edits.specs.declared.priced_edit.PricedEdit.{PricedEdit}
 
 -- the order by price is a stable sort: prices ascend, and the edits of one price are those of the list, in its order
 abbrev pub PricesAscend : Type 0
-PricesAscend = (list : List PricedEdit) → Pairwise (λ x y. is_cheaper y x ≡ false) (by_price [] list)
-    × ((price : ℤ) → filter (λ x. int_eq x.price price) (by_price [] list) ≡ filter (λ x. int_eq x.price price) list)
+PricesAscend = (list : List PricedEdit) → Pairwise (λ x y. is_cheaper y x ≡ false) (by_price list)
+    × ((price : ℤ) → filter (λ x. int_eq x.price price) (by_price list) ≡ filter (λ x. int_eq x.price price) list)
 
 -- if a pattern has a fault, each of its edits is refused
 abbrev pub PatternFaultStands : Type 0

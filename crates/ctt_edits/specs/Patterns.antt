@@ -2,7 +2,7 @@
 use Rattle.std.specs.Prelude.{ℕ, ◌<◌, ◌≡◌, Bool, false, List, [], ◌∷◌, length, map, take, filter, nat_le, slice_index_or, codes, Option, Some, None, is_none}
 use Rattle.std.specs.Str.{bytes_eq}
 use Rattle.std.specs.Int.Signed.{lt_z}
-use Rattle.std.specs.List.{flat_map, range_with_len}
+use Rattle.std.specs.List.{flat_map, fold, range_with_len}
 use Rattle.ctt_text.specs.Lists.{put}
 use Rattle.ctt_text.specs.Problem.{Problem, course_of, course_count, slot_count, room_count}
 use Rattle.ctt_text.specs.Timetable.{course_row}
@@ -65,11 +65,10 @@ feasible i t es = map (with_price i t) (filter (λ e. is_none (edit_fault i t e)
 abbrev pub is_cheaper : PricedEdit → PricedEdit → Bool
 is_cheaper x y = lt_z x.price y.price
 
--- more edits inserted in a list, each before the first that is dearer: so prices ascend, and edits of one price stay in order
-abbrev pub by_price : List PricedEdit → List PricedEdit → List PricedEdit
-by_price list [] = list
-by_price list (x ∷ xs) = by_price (put is_cheaper x list) xs
+-- each edit inserted before the first that is dearer: so prices ascend, and edits of one price stay in order
+abbrev pub by_price : List PricedEdit → List PricedEdit
+by_price edits = fold (λ list x. put is_cheaper x list) [] edits
 
 -- the n cheapest feasible edits of a pattern, or all if there are fewer
 abbrev pub cheapest : Problem → List Placed → ℕ → Pattern → List PricedEdit
-cheapest i t n p = take n (by_price [] (feasible i t (edits_of i p)))
+cheapest i t n p = take n (by_price (feasible i t (edits_of i p)))

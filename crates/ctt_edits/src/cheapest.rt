@@ -1,9 +1,9 @@
 //! The cheapest edits of a pattern.
 
-ghost use Rattle.std.specs.Prelude.{◌≡◌, ◌≤◌, ◌-◌, [], ◌∷◌, length, take, IfOk, OnOk};
-ghost use Rattle.std.specs.List.{range_with_len, position, position_or_len, AllByRecursion as Each};
+ghost use Rattle.std.specs.Prelude.{◌≡◌, ◌≤◌, [], ◌∷◌, length, take, IfOk, OnOk};
+ghost use Rattle.std.specs.List.{position, position_or_len, AllByRecursion as Each};
 ghost use Rattle.ctt_text.specs.Lists.{put};
-ghost use Rattle.ctt_edits.specs.Candidates.{edits_with, edits_by, n_cheapest};
+ghost use Rattle.ctt_edits.specs.Candidates.{from_to, edits_with, edits_by, n_cheapest};
 ghost use Rattle.ctt_edits.specs.Edits.{EditFits};
 ghost use Rattle.ctt_edits.specs.Patterns.{PatternFits, pattern_fault, feasible, is_cheaper, cheapest};
 
@@ -15,6 +15,7 @@ use crate::pricing::price;
 use ctt_board::Sheet;
 use ctt_text::NoMemory;
 use std::alloc::Global;
+use std::ops::Range;
 
 /// Why each edit of a pattern is refused, if one reason holds for all of them: the lecture that it
 /// names is not there, or all lectures of its course are placed.
@@ -97,17 +98,16 @@ fn add_edits_with<'i, S: Sheet<'i>>(
     count: u16,
     pattern: &Pattern,
     first: u16,
-    bounds: (u16, u16),
+    seconds: &Range<u16>,
 ) -> Result<(), NoMemory>
     requires { Each (EditFits (S.problem sheet.now))
-        (edits_with pattern.now (range_with_len bounds.0 (bounds.1 - bounds.0)) first) }
+        (edits_with pattern.now (from_to seconds.now.start seconds.now.end) first) }
     ensures { OnOk result (list.new.items
         ≡ n_cheapest count list.old.items
         (feasible (S.problem sheet.now) (S.list sheet.now)
-        (edits_with pattern.now (range_with_len bounds.0 (bounds.1 - bounds.0)) first))) }
+        (edits_with pattern.now (from_to seconds.now.start seconds.now.end) first))) }
 {
-    let (start, end) = bounds;
-    for second in start..end {
+    for second in seconds.start..seconds.end {
         add_edit(list, sheet, count, &pattern.edit(first, second))?;
     }
     Ok(())
@@ -119,21 +119,20 @@ fn add_edits<'i, S: Sheet<'i>>(
     sheet: &S,
     count: u16,
     pattern: &Pattern,
-    bounds: (u16, u16),
-    second_bounds: (u16, u16),
+    firsts: &Range<u16>,
+    seconds: &Range<u16>,
 ) -> Result<(), NoMemory>
     requires { Each (EditFits (S.problem sheet.now))
-        (edits_by pattern.now (range_with_len bounds.0 (bounds.1 - bounds.0))
-        (range_with_len second_bounds.0 (second_bounds.1 - second_bounds.0))) }
+        (edits_by pattern.now (from_to firsts.now.start firsts.now.end)
+        (from_to seconds.now.start seconds.now.end)) }
     ensures { OnOk result (list.new.items
         ≡ n_cheapest count list.old.items
         (feasible (S.problem sheet.now) (S.list sheet.now)
-        (edits_by pattern.now (range_with_len bounds.0 (bounds.1 - bounds.0))
-        (range_with_len second_bounds.0 (second_bounds.1 - second_bounds.0))))) }
+        (edits_by pattern.now (from_to firsts.now.start firsts.now.end)
+        (from_to seconds.now.start seconds.now.end)))) }
 {
-    let (start, end) = bounds;
-    for first in start..end {
-        add_edits_with(list, sheet, count, pattern, first, second_bounds)?;
+    for first in firsts.start..firsts.end {
+        add_edits_with(list, sheet, count, pattern, first, seconds)?;
     }
     Ok(())
 }
@@ -152,8 +151,8 @@ pub(crate) fn cheapest<'i, S: Sheet<'i>>(
 {
     let instance = sheet.instance();
     let mut list = Vec::new(alloc);
-    let bounds = pattern.first_bounds(instance);
-    let second_bounds = pattern.second_bounds(instance);
-    add_edits(&mut list, sheet, count, pattern, bounds, second_bounds)?;
+    let firsts = pattern.first_choices(instance);
+    let seconds = pattern.second_choices(instance);
+    add_edits(&mut list, sheet, count, pattern, &firsts, &seconds)?;
     Ok(PricedEdits::new(list))
 }

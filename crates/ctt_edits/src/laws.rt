@@ -34,8 +34,8 @@ pub fn pattern_fault_stands()
     ensures { PatternFaultStands }
 {}
 
-/// A look at the cheapest edits of a pattern reads the rows that the prices of its edits read, and no
-/// others.
+/// A look at the cheapest edits of a pattern reads the rows that the prices of its edits read, and
+/// no others.
 pub fn pattern_reads()
     ensures { PatternReads }
 {}

@@ -1,13 +1,13 @@
 //! Edits in which a part is left open.
 
 ghost use Rattle.std.specs.Prelude.{◌≡◌, ◌↔◌, ◌-◌, IsTrue};
-ghost use Rattle.std.specs.List.{range_with_len};
 ghost use Rattle.ctt_text.specs.Problem.{slot_count, room_count};
 ghost use Rattle.ctt_edits.specs.Patterns.{FitsIfGiven, IsRoomIfGiven, PatternFits, choices};
-ghost use Rattle.ctt_edits.specs.Candidates.{edit_by, first_choices, second_choices};
+ghost use Rattle.ctt_edits.specs.Candidates.{from_to, edit_by, first_choices, second_choices};
 
 use crate::edit::Edit;
 use ctt_text::{CourseNo, Instance, RoomNo, SlotNo};
+use std::ops::Range;
 
 /// The word of a pattern's text that stands for any room, or for any slot or lecture.
 const ANY: &str = "*";
@@ -37,7 +37,7 @@ fn slot_fits(instance: &Instance, slot: &Option<SlotNo>) -> bool
     }
 }
 
-/// Whether a room, if it is given, is one of the instance, and its name does not stand for any room.
+/// Whether a room, if it is given, is one of the instance and not named `*`.
 fn room_fits(instance: &Instance, room: &Option<RoomNo>) -> bool
     ensures { IsTrue result ↔ IsRoomIfGiven instance.now room.now }
 {
@@ -47,27 +47,27 @@ fn room_fits(instance: &Instance, room: &Option<RoomNo>) -> bool
     }
 }
 
-/// The first slot that the choice allows, and the number past the last one.
-fn slot_bounds(instance: &Instance, slot: Option<SlotNo>) -> (u16, u16)
+/// The given slot, or all slots if none is given.
+fn slot_choices(instance: &Instance, slot: Option<SlotNo>) -> Range<u16>
     requires { FitsIfGiven (slot_count instance.now) slot }
-    ensures { range_with_len result.0 (result.1 - result.0) ≡ choices (slot_count instance.now) slot }
+    ensures { from_to result.start result.end ≡ choices (slot_count instance.now) slot }
 {
     let end = instance.slots();
     match slot {
-        Some(slot) => (slot.get(), slot.get() + 1),
-        None => (0, end),
+        Some(slot) => slot.get()..slot.get() + 1,
+        None => 0..end,
     }
 }
 
-/// The first room that the choice allows, and the number past the last one.
-fn room_bounds(instance: &Instance, room: Option<RoomNo>) -> (u16, u16)
+/// The given room, or all rooms if none is given.
+fn room_choices(instance: &Instance, room: Option<RoomNo>) -> Range<u16>
     requires { IsRoomIfGiven instance.now room }
-    ensures { range_with_len result.0 (result.1 - result.0) ≡ choices (room_count instance.now) room }
+    ensures { from_to result.start result.end ≡ choices (room_count instance.now) room }
 {
     let end = instance.rooms();
     match room {
-        Some(room) => (room.get(), room.get() + 1),
-        None => (0, end),
+        Some(room) => room.get()..room.get() + 1,
+        None => 0..end,
     }
 }
 
@@ -93,31 +93,30 @@ impl Pattern {
         }
     }
 
-    /// The first choices, of a slot or another course: the least number, and the one past the greatest.
-    pub(crate) fn first_bounds(&self, instance: &Instance) -> (u16, u16)
+    /// The numbers of the new slots, or of a swap's other courses.
+    pub(crate) fn first_choices(&self, instance: &Instance) -> Range<u16>
         requires { PatternFits instance.now self.now }
-        ensures { range_with_len result.0 (result.1 - result.0) ≡ first_choices instance.now self.now }
+        ensures { from_to result.start result.end ≡ first_choices instance.now self.now }
     {
         match *self {
-            Pattern::Place(_, slot, _) | Pattern::Move(_, _, slot, _) => slot_bounds(
+            Pattern::Place(_, slot, _) | Pattern::Move(_, _, slot, _) => slot_choices(
                 instance, slot,
             ),
-            Pattern::Swap(..) => (0, instance.courses()),
-            Pattern::Reroom(_, slot, _) => slot_bounds(instance, Some(slot)),
+            Pattern::Swap(..) => 0..instance.courses(),
+            Pattern::Reroom(_, slot, _) => slot_choices(instance, Some(slot)),
         }
     }
 
-    /// The second choices, of a room or the other slot: the least number, and the one past the
-    /// greatest.
-    pub(crate) fn second_bounds(&self, instance: &Instance) -> (u16, u16)
+    /// The numbers of the rooms, or of a swap's other slots.
+    pub(crate) fn second_choices(&self, instance: &Instance) -> Range<u16>
         requires { PatternFits instance.now self.now }
-        ensures { range_with_len result.0 (result.1 - result.0) ≡ second_choices instance.now self.now }
+        ensures { from_to result.start result.end ≡ second_choices instance.now self.now }
     {
         match *self {
             Pattern::Place(_, _, room)
             | Pattern::Move(_, _, _, room)
-            | Pattern::Reroom(_, _, room) => room_bounds(instance, room),
-            Pattern::Swap(..) => (0, instance.slots()),
+            | Pattern::Reroom(_, _, room) => room_choices(instance, room),
+            Pattern::Swap(..) => 0..instance.slots(),
         }
     }
 

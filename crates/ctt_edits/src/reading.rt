@@ -163,7 +163,7 @@ fn mark_all_slots(instance: &Instance, marks: &mut Marks)
 }
 
 /// Marks the given slot, or all slots if none is given.
-fn mark_choice(instance: &Instance, slot: Option<SlotNo>, marks: &mut Marks)
+fn mark_slot_choice(instance: &Instance, slot: Option<SlotNo>, marks: &mut Marks)
     requires { FitsIfGiven (slot_count instance.now) slot }
     ensures marked { (n : ℕ) → n < slot_count instance.now
         → is_marked marks.new n ≡ (is_marked marks.old n || is_choice slot n) }
@@ -186,9 +186,9 @@ fn mark_slots_of_pattern(instance: &Instance, pattern: &Pattern, marks: &mut Mar
 {
     match *pattern {
         Pattern::Place(_, slot, _) | Pattern::Move(_, _, slot, _) => {
-            mark_choice(instance, slot, marks)
+            mark_slot_choice(instance, slot, marks)
         }
-        Pattern::Reroom(_, slot, _) => mark_choice(instance, Some(slot), marks),
+        Pattern::Reroom(_, slot, _) => mark_slot_choice(instance, Some(slot), marks),
         Pattern::Swap(..) => mark_all_slots(instance, marks),
     }
 }
