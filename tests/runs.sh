@@ -646,6 +646,49 @@ drop geo 1 2
 done
 END.
 '
+day 'looks at what is best and missing, in a draft and beside it' '--start s.sol' 'journal 3
+entry 1 1
+reroom alg B 0 0
+done
+entry 0 3
+cheapest 2 place top * 1 1
+refused full
+drop top 0 2
+done
+cheapest 2 place top * 1 1
+prices 2 5 place top B 1 1 20 place top A 1 1
+entry 3 1
+place top B 0 1
+done
+END.
+' <<'DAY'
+0 open -> opened
+0 peek missing -> missing 0
+0 peek cost -> costs 15 0 4 1
+0 peek cheapest 3 move geo 1 2 * * * -> prices 3 -4 move geo 1 2 A 1 1 -3 move geo 1 2 B 1 1 -2 move geo 1 2 A 0 2
+1 peek cost -> no draft
+1 open -> opened
+1 reroom alg B 0 0 -> done
+1 commit -> committed 1
+0 cheapest 2 place top * 1 1 -> refused full
+0 peek cheapest 5 reroom alg * 0 0 -> prices 2 -6 reroom alg B 0 0 0 reroom alg A 0 0
+0 drop top 0 2 -> done
+0 peek missing -> missing 1 top 1
+0 cheapest 2 place top * 1 1 -> prices 2 5 place top B 1 1 20 place top A 1 1
+0 cheapest 1001 move geo 1 2 * * * -> bad line
+0 cheapest 2 move geo 1 2 * * 1 -> bad line
+0 cheapest 2 drop geo 1 2 -> bad line
+0 commit -> committed 2
+show missing -> missing 1 top 1
+show cheapest 2 swap geo 1 2 * * * -> prices 1 7 swap geo 1 2 alg 1 0
+2 open -> opened
+2 missing -> missing 1 top 1
+2 cheapest 4 move alg 1 0 B * * -> prices 2 -4 move alg 1 0 B 1 1 3 move alg 1 0 B 0 2
+3 open -> opened
+3 place top B 0 1 -> done
+3 commit -> committed 3
+2 commit -> stale course top
+DAY
 day 'commit order' '--start s0.sol' "journal 2
 entry 1 1
 place top B 1 2

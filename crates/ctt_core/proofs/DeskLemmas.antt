@@ -8,17 +8,18 @@ use Rattle.ctt_rules.specs.Hard.{Lawful}
 use Rattle.ctt_edits.specs.Calls.{reply}
 use Rattle.ctt_edits.specs.Looks.{shown}
 use Rattle.ctt_edits.specs.declared.call.Call.{Call}
+use Rattle.ctt_edits.specs.declared.looks.Look.{Look}
 use Rattle.ctt_edits.specs.declared.reply.Reply.{Reply}
 use Rattle.ctt_edits.specs.declared.row.Row.{Row}
 use Rattle.ctt_draft.specs.Drafts.{calls_of, whole, stale}
 use Rattle.ctt_core.specs.declared.event.Event.{Event}
-use Rattle.ctt_core.specs.declared.event.Event.TheVariants.{Open, Ask, Commit, Refresh, Abandon, Show}
+use Rattle.ctt_core.specs.declared.event.Event.TheVariants.{Open, Ask, Peek, Commit, Refresh, Abandon, Show}
 use Rattle.ctt_core.specs.declared.answer.Answer.{Answer}
 use Rattle.ctt_core.specs.declared.answer.Answer.TheVariants.{Opened, AlreadyOpen, NoDraft, Replied, Committed, Refreshed, Stale, Abandoned, NoMemory}
 use Rattle.ctt_core.specs.declared.journal.JournalEntry.{JournalEntry}
 use Rattle.ctt_draft.specs.DraftValues.{DraftValue}
-use Rattle.ctt_core.specs.Runs.{after, Legal, Turn, OpenDraft, ask, begin, renew, turned, commits, draft, entry, entered, accepted_of, now, base, open_answer, ask_answer, acceptance, commit_answer, renewal, refresh_answer, abandon_answer, plain, may_want, IsRight, Right, EventFits, RunFits}
-use Rattle.ctt_core.specs.Desks.{DeskValue, draft_at, kept, StandsAt, to_open, to_ask, to_commit, to_refresh, to_abandon, answer_of, with_draft, with_call, with_base, settled, goes_on, IsAnswerTo, SameDesk}
+use Rattle.ctt_core.specs.Runs.{after, Legal, Turn, OpenDraft, ask, begin, renew, turned, commits, draft, entry, entered, accepted_of, now, base, open_answer, ask_answer, peek_answer, acceptance, commit_answer, renewal, refresh_answer, abandon_answer, plain, may_want, IsRight, Right, EventFits, RunFits}
+use Rattle.ctt_core.specs.Desks.{DeskValue, draft_at, kept, StandsAt, to_open, to_ask, to_peek, to_commit, to_refresh, to_abandon, answer_of, with_draft, with_call, with_base, settled, goes_on, IsAnswerTo, SameDesk}
 use Rattle.ctt_core.specs.Laws.{Stands, Serial, DeskIsPlain, DeskIsSerial}
 use Rattle.ctt_core.proofs.RunLemmas.{Good, GoodDraft, right_is_good, after-push, headline}
 
@@ -30,6 +31,10 @@ to_open_is i t0 h (Some d) = refl
 to_ask_is : (i : Problem) (t0 : List Placed) (past : List Turn) (call : Call) (o : Option OpenDraft) → to_ask call (kept i t0 (accepted_of past) o) ≡ ask_answer i t0 past call o
 to_ask_is i t0 past call None = refl
 to_ask_is i t0 past call (Some d) = refl
+
+to_peek_is : (i : Problem) (t0 : List Placed) (past : List Turn) (look : Look) (o : Option OpenDraft) → to_peek look (kept i t0 (accepted_of past) o) ≡ peek_answer i t0 past look o
+to_peek_is i t0 past look None = refl
+to_peek_is i t0 past look (Some d) = refl
 
 to_commit_is : (v : DeskValue) (past : List Turn) (o : Option OpenDraft) → v.list ≡ now v.problem v.opening past → length v.journal ≡ commits past → to_commit v (kept v.problem v.opening (accepted_of past) o) ≡ commit_answer v.problem v.opening past o
 to_commit_is v past None e k = refl
@@ -46,6 +51,7 @@ to_abandon_is i t0 h (Some d) = refl
 answer_is : (v : DeskValue) (past : List Turn) (event : Event) → commits past ≡ length (accepted_of past) → StandsAt v past → answer_of v event ≡ plain v.problem v.opening past event
 answer_is v past (Open p) n s = ap to_open (s.drafts p) ∙ to_open_is v.problem v.opening (accepted_of past) (draft p past)
 answer_is v past (Ask p call) n s = ap (to_ask call) (s.drafts p) ∙ to_ask_is v.problem v.opening past call (draft p past)
+answer_is v past (Peek p look) n s = ap (to_peek look) (s.drafts p) ∙ to_peek_is v.problem v.opening past look (draft p past)
 answer_is v past (Commit p) n s = ap (to_commit v) (s.drafts p) ∙ to_commit_is v past (draft p past) s.list (ap length s.journal ∙ sym n)
 answer_is v past (Refresh p) n s = ap (to_refresh v) (s.drafts p) ∙ to_refresh_is v past (draft p past) s.list
 answer_is v past (Abandon p) n s = ap to_abandon (s.drafts p) ∙ to_abandon_is v.problem v.opening (accepted_of past) (draft p past)
@@ -166,6 +172,7 @@ commit_any v past p (Some d) lt e g s = commit_goes v past p (commits past + 1) 
 plain_goes : (v : DeskValue) (past : List Turn) (event : Event) → EventFits v.problem (length v.drafts) event → Good v.problem v.opening (accepted_of past) (commits past) (λ p. draft p past) → StandsAt v past → StandsAt (goes_on v event (plain v.problem v.opening past event)) (record { event = event; answer = plain v.problem v.opening past event } ∷ past)
 plain_goes v past (Open p) f g s = open_goes v past p (draft p past) f g.counted s
 plain_goes v past (Ask p call) f g s = ask_goes v past p call (draft p past) f.0 refl s
+plain_goes v past (Peek p look) f g s = stays v past (Peek p look) (plain v.problem v.opening past (Peek p look)) v.drafts refl s s.drafts
 plain_goes v past (Commit p) f g s = commit_any v past p (draft p past) f refl g s
 plain_goes v past (Refresh p) f g s = refresh_any v past p (draft p past) f refl g.counted s
 plain_goes v past (Abandon p) f g s = abandon_goes v past p (draft p past) f s
@@ -174,6 +181,7 @@ plain_goes v past (Show look) f g s = stays v past (Show look) (plain v.problem 
 no_memory_goes : (v : DeskValue) (past : List Turn) (event : Event) → StandsAt v past → StandsAt (goes_on v event NoMemory) (record { event = event; answer = NoMemory } ∷ past)
 no_memory_goes v past (Open p) s = stays v past (Open p) NoMemory v.drafts refl s s.drafts
 no_memory_goes v past (Ask p call) s = stays v past (Ask p call) NoMemory v.drafts refl s s.drafts
+no_memory_goes v past (Peek p look) s = stays v past (Peek p look) NoMemory v.drafts refl s s.drafts
 no_memory_goes v past (Commit p) s = stays v past (Commit p) NoMemory v.drafts refl s s.drafts
 no_memory_goes v past (Refresh p) s = stays v past (Refresh p) NoMemory v.drafts refl s s.drafts
 no_memory_goes v past (Abandon p) s = stays v past (Abandon p) NoMemory v.drafts refl s s.drafts
@@ -236,6 +244,15 @@ same_after v (Abandon p) (Committed n) = same v
 same_after v (Abandon p) Refreshed = same v
 same_after v (Abandon p) (Stale row) = same v
 same_after v (Abandon p) NoMemory = same v
+same_after v (Peek p look) Opened = same v
+same_after v (Peek p look) AlreadyOpen = same v
+same_after v (Peek p look) NoDraft = same v
+same_after v (Peek p look) (Replied told) = same v
+same_after v (Peek p look) (Committed n) = same v
+same_after v (Peek p look) Refreshed = same v
+same_after v (Peek p look) (Stale row) = same v
+same_after v (Peek p look) Abandoned = same v
+same_after v (Peek p look) NoMemory = same v
 same_after v (Show look) Opened = same v
 same_after v (Show look) AlreadyOpen = same v
 same_after v (Show look) NoDraft = same v

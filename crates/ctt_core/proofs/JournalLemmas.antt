@@ -7,6 +7,7 @@ use Rattle.ctt_text.specs.declared.placed.Placed.{Placed}
 use Rattle.ctt_text.proofs.TimetableLemmas.{Each-map}
 use Rattle.ctt_rules.specs.Hard.{Lawful}
 use Rattle.ctt_edits.specs.declared.call.Call.{Call}
+use Rattle.ctt_edits.specs.declared.looks.Look.{Look}
 use Rattle.ctt_edits.specs.declared.reply.Reply.{Reply}
 use Rattle.ctt_edits.specs.declared.row.Row.{Row}
 use Rattle.ctt_edits.specs.Calls.{CallFits, reply}
@@ -18,11 +19,11 @@ use Rattle.ctt_draft.specs.Drafts.{calls_of, replies_in, replies, whole, after_c
 use Rattle.ctt_draft.proofs.CallRuns.{lawful_after_call, lawful_whole}
 use Rattle.ctt_core.specs.declared.event.Event.{Event}
 use Rattle.ctt_draft.specs.DraftValues.{IsTold}
-use Rattle.ctt_core.specs.declared.event.Event.TheVariants.{Open, Ask, Commit, Refresh, Abandon, Show}
+use Rattle.ctt_core.specs.declared.event.Event.TheVariants.{Open, Ask, Peek, Commit, Refresh, Abandon, Show}
 use Rattle.ctt_core.specs.declared.answer.Answer.{Answer}
 use Rattle.ctt_core.specs.declared.answer.Answer.TheVariants.{Opened, AlreadyOpen, NoDraft, Replied, Committed, Refreshed, Stale, Abandoned, NoMemory}
 use Rattle.ctt_core.specs.declared.journal.JournalEntry.{JournalEntry}
-use Rattle.ctt_core.specs.Runs.{Legal, Turn, OpenDraft, ask, begin, renew, turned, is_commit, commits, draft, entry, entered, accepted_of, now, base, open_answer, ask_answer, acceptance, commit_answer, renewal, refresh_answer, abandon_answer, plain, IsRight, Right, EventFits, RunFits}
+use Rattle.ctt_core.specs.Runs.{Legal, Turn, OpenDraft, ask, begin, renew, turned, is_commit, commits, draft, entry, entered, accepted_of, now, base, open_answer, ask_answer, peek_answer, acceptance, commit_answer, renewal, refresh_answer, abandon_answer, plain, IsRight, Right, EventFits, RunFits}
 use Rattle.ctt_core.specs.Entries.{EntryFits}
 use Rattle.ctt_core.specs.Audits.{IsVerdict}
 use Rattle.ctt_core.specs.Laws.{Serial, JournalAgrees}
@@ -121,6 +122,10 @@ module _ (i : Problem) (t0 : List Placed) (n m : ℕ) (past : List Turn) (s : Ar
     open_drafts = ended q;
   }
 
+  peek_leaves : (q : ℕ) (look : Look) (o : Option OpenDraft) → Leaves (Peek q look) (peek_answer i t0 past look o)
+  peek_leaves q look None = stays (Peek q look) NoDraft refl same_drafts
+  peek_leaves q look (Some d) = stays (Peek q look) (Replied (shown i (whole i (base i t0 past d) (calls_of d.asked)) look)) refl same_drafts
+
   commit_leaves : (q : ℕ) (o : Option OpenDraft) → q < n → Leaves (Commit q) (commit_answer i t0 past o)
   commit_leaves q None lt = stays (Commit q) NoDraft refl same_drafts
   commit_leaves q (Some d) lt = acceptance_leaves q (stale i (base i t0 past d) (now i t0 past) (calls_of d.asked)) lt
@@ -140,6 +145,7 @@ module _ (i : Problem) (t0 : List Placed) (n m : ℕ) (past : List Turn) (s : Ar
   plain_leaves : (event : Event) → EventFits i n event → Leaves event (plain i t0 past event)
   plain_leaves (Open q) f = open_leaves q (draft q past)
   plain_leaves (Ask q call) f = ask_leaves q call (draft q past)
+  plain_leaves (Peek q look) f = peek_leaves q look (draft q past)
   plain_leaves (Commit q) f = commit_leaves q (draft q past) f
   plain_leaves (Refresh q) f = refresh_leaves q (draft q past)
   plain_leaves (Abandon q) f = abandon_leaves q (draft q past)
@@ -148,6 +154,7 @@ module _ (i : Problem) (t0 : List Placed) (n m : ℕ) (past : List Turn) (s : Ar
   no_memory_leaves : (event : Event) → Leaves event NoMemory
   no_memory_leaves (Open q) = stays (Open q) NoMemory refl same_drafts
   no_memory_leaves (Ask q call) = stays (Ask q call) NoMemory refl same_drafts
+  no_memory_leaves (Peek q look) = stays (Peek q look) NoMemory refl same_drafts
   no_memory_leaves (Commit q) = stays (Commit q) NoMemory refl same_drafts
   no_memory_leaves (Refresh q) = stays (Refresh q) NoMemory refl same_drafts
   no_memory_leaves (Abandon q) = stays (Abandon q) NoMemory refl same_drafts

@@ -8,18 +8,19 @@ use Rattle.ctt_text.specs.declared.placed.Placed.{Placed}
 use Rattle.ctt_rules.specs.Hard.{Lawful}
 use Rattle.ctt_edits.specs.Calls.{CallFits, reply}
 use Rattle.ctt_edits.specs.declared.call.Call.{Call}
+use Rattle.ctt_edits.specs.declared.looks.Look.{Look}
 use Rattle.ctt_edits.specs.declared.reply.Reply.{Reply}
 use Rattle.ctt_edits.specs.declared.row.Row.{Row}
 use Rattle.ctt_draft.specs.Drafts.{calls_of, replies_in, replies, whole, stale}
 use Rattle.ctt_draft.specs.declared.asked.Asked.{Asked}
 use Rattle.ctt_core.specs.declared.event.Event.{Event}
-use Rattle.ctt_core.specs.declared.event.Event.TheVariants.{Open, Ask, Commit, Refresh, Abandon, Show}
+use Rattle.ctt_core.specs.declared.event.Event.TheVariants.{Open, Ask, Peek, Commit, Refresh, Abandon, Show}
 use Rattle.ctt_core.specs.declared.answer.Answer.{Answer}
 use Rattle.ctt_core.specs.declared.answer.Answer.TheVariants.{Stale, NoMemory}
 use Rattle.ctt_core.specs.declared.journal.JournalEntry.{JournalEntry}
 use Rattle.ctt_draft.proofs.CallRuns.{lawful_whole, replies-push}
 use Rattle.ctt_draft.proofs.FrameLemmas.{draft_frame}
-use Rattle.ctt_core.specs.Runs.{after, Legal, Turn, OpenDraft, ask, renew, turned, is_commit, commits, draft, entry, entered, accepted_of, now, base, open_answer, ask_answer, acceptance, commit_answer, renewal, refresh_answer, abandon_answer, plain, IsRight, Right, EventFits, RunFits}
+use Rattle.ctt_core.specs.Runs.{after, Legal, Turn, OpenDraft, ask, renew, turned, is_commit, commits, draft, entry, entered, accepted_of, now, base, open_answer, ask_answer, peek_answer, acceptance, commit_answer, renewal, refresh_answer, abandon_answer, plain, IsRight, Right, EventFits, RunFits}
 use Rattle.ctt_core.specs.Laws.{Headline, OntoJoins, AfterJoins, LegalJoins}
 
 pub Each-join : {X : Type 0} (P : X → Type 0) (xs ys : List X) → Each P xs → Each P ys → Each P (xs ++ ys)
@@ -177,6 +178,10 @@ ask_counts : (i : Problem) (t0 : List Placed) (past : List Turn) (call : Call) (
 ask_counts i t0 past call None = refl
 ask_counts i t0 past call (Some d) = refl
 
+peek_counts : (i : Problem) (t0 : List Placed) (past : List Turn) (look : Look) (o : Option OpenDraft) → is_commit (peek_answer i t0 past look o) ≡ 0
+peek_counts i t0 past look None = refl
+peek_counts i t0 past look (Some d) = refl
+
 renewal_counts : (o : Option Row) → is_commit (renewal o) ≡ 0
 renewal_counts None = refl
 renewal_counts (Some row) = refl
@@ -193,6 +198,7 @@ plain_turn : (i : Problem) (t0 : List Placed) (past : List Turn) (n : ℕ) (even
     Good i t0 (accepted_of past ++ entered event (plain i t0 past event) past) (commits past + is_commit (plain i t0 past event)) (λ p. turned p (commits past) event (plain i t0 past event) (draft p past))
 plain_turn i t0 past n (Open q) f l g = rw (open_counts (draft q past)) (kept i t0 (accepted_of past) (commits past) (λ p. draft p past) (λ p. turned p (commits past) (Open q) (open_answer (draft q past)) (draft p past)) g (open_turn i t0 past q (draft q past) g))
 plain_turn i t0 past n (Ask q call) f l g = rw (ask_counts i t0 past call (draft q past)) (kept i t0 (accepted_of past) (commits past) (λ p. draft p past) (λ p. turned p (commits past) (Ask q call) (ask_answer i t0 past call (draft q past)) (draft p past)) g (ask_turn i t0 past q call (draft q past) refl f.1 g))
+plain_turn i t0 past n (Peek q look) f l g = rw (peek_counts i t0 past look (draft q past)) (kept i t0 (accepted_of past) (commits past) (λ p. draft p past) (λ p. draft p past) g g.good)
 plain_turn i t0 past n (Commit q) f l g = commit_any i t0 past q (draft q past) refl l g
 plain_turn i t0 past n (Refresh q) f l g = rw (refresh_counts i t0 past (draft q past)) (kept i t0 (accepted_of past) (commits past) (λ p. draft p past) (λ p. turned p (commits past) (Refresh q) (refresh_answer i t0 past (draft q past)) (draft p past)) g (refresh_any i t0 past q (draft q past) refl l g))
 plain_turn i t0 past n (Abandon q) f l g = rw (abandon_counts (draft q past)) (kept i t0 (accepted_of past) (commits past) (λ p. draft p past) (λ p. turned p (commits past) (Abandon q) (abandon_answer (draft q past)) (draft p past)) g (abandon_turn i t0 past q (draft q past) g))
@@ -202,6 +208,7 @@ no_memory_turn : (i : Problem) (t0 : List Placed) (past : List Turn) (event : Ev
     Good i t0 (accepted_of past ++ entered event NoMemory past) (commits past + 0) (λ p. turned p (commits past) event NoMemory (draft p past))
 no_memory_turn i t0 past (Open q) g = kept i t0 (accepted_of past) (commits past) (λ p. draft p past) (λ p. draft p past) g g.good
 no_memory_turn i t0 past (Ask q call) g = kept i t0 (accepted_of past) (commits past) (λ p. draft p past) (λ p. draft p past) g g.good
+no_memory_turn i t0 past (Peek q look) g = kept i t0 (accepted_of past) (commits past) (λ p. draft p past) (λ p. draft p past) g g.good
 no_memory_turn i t0 past (Commit q) g = kept i t0 (accepted_of past) (commits past) (λ p. draft p past) (λ p. draft p past) g g.good
 no_memory_turn i t0 past (Refresh q) g = kept i t0 (accepted_of past) (commits past) (λ p. draft p past) (λ p. draft p past) g g.good
 no_memory_turn i t0 past (Abandon q) g = kept i t0 (accepted_of past) (commits past) (λ p. draft p past) (λ p. draft p past) g g.good

@@ -6,11 +6,12 @@ use Rattle.ctt_rules.specs.Hard.{Lawful}
 use Rattle.ctt_edits.specs.Calls.{reply}
 use Rattle.ctt_edits.specs.Looks.{shown}
 use Rattle.ctt_edits.specs.declared.call.Call.{Call}
+use Rattle.ctt_edits.specs.declared.looks.Look.{Look}
 use Rattle.ctt_edits.specs.declared.reply.Reply.{Reply}
 use Rattle.ctt_draft.specs.Drafts.{calls_of, whole, stale}
 use Rattle.ctt_draft.specs.DraftValues.{DraftValue, present, asked_more, refreshed, Settles}
 use Rattle.ctt_core.specs.declared.event.Event.{Event}
-use Rattle.ctt_core.specs.declared.event.Event.TheVariants.{Open, Ask, Commit, Refresh, Abandon, Show}
+use Rattle.ctt_core.specs.declared.event.Event.TheVariants.{Open, Ask, Peek, Commit, Refresh, Abandon, Show}
 use Rattle.ctt_core.specs.declared.answer.Answer.{Answer}
 use Rattle.ctt_core.specs.declared.answer.Answer.TheVariants.{Opened, AlreadyOpen, NoDraft, Replied, Committed, Refreshed, Stale, Abandoned, NoMemory}
 use Rattle.ctt_core.specs.declared.journal.JournalEntry.{JournalEntry}
@@ -47,6 +48,10 @@ abbrev pub to_ask : Call → Option DraftValue → Answer
 to_ask call None = NoDraft
 to_ask call (Some d) = Replied (reply d.problem (present d) call)
 
+abbrev pub to_peek : Look → Option DraftValue → Answer
+to_peek look None = NoDraft
+to_peek look (Some d) = Replied (shown d.problem (present d) look)
+
 abbrev pub to_commit : DeskValue → Option DraftValue → Answer
 to_commit v None = NoDraft
 to_commit v (Some d) = acceptance (length v.journal + 1) (stale d.problem d.base v.list (calls_of d.asked))
@@ -62,6 +67,7 @@ to_abandon (Some d) = Abandoned
 abbrev pub answer_of : DeskValue → Event → Answer
 answer_of v (Open p) = to_open (draft_at v.drafts p)
 answer_of v (Ask p call) = to_ask call (draft_at v.drafts p)
+answer_of v (Peek p look) = to_peek look (draft_at v.drafts p)
 answer_of v (Commit p) = to_commit v (draft_at v.drafts p)
 answer_of v (Refresh p) = to_refresh v (draft_at v.drafts p)
 answer_of v (Abandon p) = to_abandon (draft_at v.drafts p)

@@ -6,12 +6,13 @@ use Rattle.ctt_text.specs.declared.placed.Placed.{Placed}
 use Rattle.ctt_edits.specs.Calls.{CallFits, reply}
 use Rattle.ctt_edits.specs.Looks.{LookFits, shown}
 use Rattle.ctt_edits.specs.declared.call.Call.{Call}
+use Rattle.ctt_edits.specs.declared.looks.Look.{Look}
 use Rattle.ctt_edits.specs.declared.reply.Reply.{Reply}
 use Rattle.ctt_edits.specs.declared.row.Row.{Row}
 use Rattle.ctt_draft.specs.Drafts.{calls_of, replies_in, replies, whole, stale}
 use Rattle.ctt_draft.specs.declared.asked.Asked.{Asked}
 use Rattle.ctt_core.specs.declared.event.Event.{Event}
-use Rattle.ctt_core.specs.declared.event.Event.TheVariants.{Open, Ask, Commit, Refresh, Abandon, Show}
+use Rattle.ctt_core.specs.declared.event.Event.TheVariants.{Open, Ask, Peek, Commit, Refresh, Abandon, Show}
 use Rattle.ctt_core.specs.declared.answer.Answer.{Answer}
 use Rattle.ctt_core.specs.declared.answer.Answer.TheVariants.{Opened, AlreadyOpen, NoDraft, Replied, Committed, Refreshed, Stale, Abandoned, NoMemory}
 use Rattle.ctt_core.specs.declared.journal.JournalEntry.{JournalEntry}
@@ -111,6 +112,11 @@ abbrev pub ask_answer : Problem → List Placed → List Turn → Call → Optio
 ask_answer i t0 past call None = NoDraft
 ask_answer i t0 past call (Some d) = Replied (reply i (whole i (base i t0 past d) (calls_of d.asked)) call)
 
+-- .. to a look at the draft: what it shows at the end of the draft, on the base ..
+abbrev pub peek_answer : Problem → List Placed → List Turn → Look → Option OpenDraft → Answer
+peek_answer i t0 past look None = NoDraft
+peek_answer i t0 past look (Some d) = Replied (shown i (whole i (base i t0 past d) (calls_of d.asked)) look)
+
 -- .. to a commit: the number of accepted drafts, or the stale row ..
 abbrev pub acceptance : ℕ → Option Row → Answer
 acceptance n None = Committed n
@@ -138,6 +144,7 @@ abandon_answer (Some d) = Abandoned
 abbrev pub plain : Problem → List Placed → List Turn → Event → Answer
 plain i t0 past (Open p) = open_answer (draft p past)
 plain i t0 past (Ask p call) = ask_answer i t0 past call (draft p past)
+plain i t0 past (Peek p look) = peek_answer i t0 past look (draft p past)
 plain i t0 past (Commit p) = commit_answer i t0 past (draft p past)
 plain i t0 past (Refresh p) = refresh_answer i t0 past (draft p past)
 plain i t0 past (Abandon p) = abandon_answer (draft p past)
@@ -164,6 +171,7 @@ Right i t0 (turn ∷ past) = IsRight i t0 past turn.event turn.answer × Right i
 abbrev pub EventFits : Problem → ℕ → Event → Type 0
 EventFits i n (Open p) = p < n
 EventFits i n (Ask p call) = (p < n) × CallFits i call
+EventFits i n (Peek p look) = (p < n) × LookFits i look
 EventFits i n (Commit p) = p < n
 EventFits i n (Refresh p) = p < n
 EventFits i n (Abandon p) = p < n

@@ -11,7 +11,7 @@ pub enum Answer {
     AlreadyOpen,
     /// The planner has no open draft.
     NoDraft,
-    /// What the call was told.
+    /// What the call, or the look, was told.
     Replied(Reply),
     /// The draft was accepted: the number of drafts that are accepted by now.
     Committed(u64),

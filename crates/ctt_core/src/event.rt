@@ -14,6 +14,8 @@ pub enum Event {
     Open(PlannerNo),
     /// The planner makes a call in his draft.
     Ask(PlannerNo, Call),
+    /// The planner looks at his draft. It is no call: nothing is kept of it.
+    Peek(PlannerNo, Look),
     /// The planner wants his draft accepted.
     Commit(PlannerNo),
     /// The planner wants his draft brought up to date.
@@ -35,6 +37,7 @@ impl Event {
             | Event::Refresh(planner)
             | Event::Abandon(planner) => planner.fits(planners),
             Event::Ask(planner, call) => planner.fits(planners) && call.fits(instance),
+            Event::Peek(planner, look) => planner.fits(planners) && look.fits(instance),
             Event::Show(look) => look.fits(instance),
         }
     }

@@ -6,7 +6,7 @@ use Rattle.ctt_edits.specs.declared.call.Call.{Call}
 use Rattle.ctt_edits.specs.declared.looks.Look.{Look}
 use Rattle.ctt_core.specs.declared.answer.Answer.TheVariants as answer
 use Rattle.ctt_core.specs.declared.event.Event.{Event}
-use Rattle.ctt_core.specs.declared.event.Event.TheVariants.{Open, Ask, Commit, Refresh, Abandon, Show}
+use Rattle.ctt_core.specs.declared.event.Event.TheVariants.{Open, Ask, Peek, Commit, Refresh, Abandon, Show}
 use Rattle.ctt_core.specs.declared.journal.JournalEntry.{JournalEntry}
 use Rattle.ctt_desk.specs.Planners.{PlannerValue, DraftingValue}
 use Rattle.ctt_desk.specs.Refusals.{IsNotRefreshed, IsRefused}
@@ -15,7 +15,7 @@ use Rattle.ctt_desk.specs.declared.refusal.Refusal.TheVariants as refusal
 use Rattle.ctt_desk.specs.declared.refusal.RefreshRefusal.{RefreshRefusal}
 use Rattle.ctt_desk.specs.declared.refusal.RefreshRefusal.TheVariants as unrefreshed
 use Rattle.ctt_crew.specs.Attended.{AnswersItems, Attends, IsAttended, leaver}
-use Rattle.ctt_crew.specs.Seats.{Abandons, AnswersLine, Asks, Commits, IsTold, Opens, Refreshes, Shows, Takes, seat_refused, seat_unrefreshed, told_refused, told_unrefreshed}
+use Rattle.ctt_crew.specs.Seats.{Abandons, AnswersLine, Asks, Commits, IsTold, Opens, Peeks, Refreshes, Shows, Takes, seat_refused, seat_unrefreshed, told_refused, told_unrefreshed}
 use Rattle.ctt_crew.specs.declared.seat.Seat.{Seat}
 use Rattle.ctt_crew.specs.declared.seat.Seat.TheVariants.{Free, Drafting}
 use Rattle.ctt_crew.specs.declared.seat.Told.{Told}
@@ -73,9 +73,14 @@ module _ {X Y : Type 0} where
   shows i t0 look (Free p) (Free q) is h = h
   shows i t0 look (Drafting d) after is h = told (Drafting d) after (Answered answer.AlreadyOpen) is h
 
+  peeks : (i : Problem) (look : Look) (before : Seat X Y) (is : Told) → Peeks i look before is → Peeks i look (plain before) is
+  peeks i look (Free p) is h = h
+  peeks i look (Drafting d) is h = h
+
   takes : (i : Problem) (t0 : List Placed) (event : Event) (before after : Seat X Y) (is : Told) → Takes i t0 event before after is → Takes i t0 event (plain before) (plain after) is
   takes i t0 (Open p) before after is h = opens i t0 before after is h
   takes i t0 (Ask p call) before after is h = asks i call before after is h
+  takes i t0 (Peek p look) before after is h = (ap plain h.0, peeks i look before is h.1)
   takes i t0 (Commit p) before after is h = (h.0, commits i t0 before after h.0 h.1, h.2)
   takes i t0 (Refresh p) before after is h = refreshes i t0 before after is h
   takes i t0 (Abandon p) before after is h = abandons before after is h

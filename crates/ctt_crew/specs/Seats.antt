@@ -3,12 +3,13 @@ use Rattle.std.specs.Prelude.{◌≡◌, ◌⊎◌, ◌++◌, ℕ, List, [], len
 use Rattle.ctt_text.specs.Problem.{Problem}
 use Rattle.ctt_text.specs.declared.placed.Placed.{Placed}
 use Rattle.ctt_edits.specs.Calls.{reply}
+use Rattle.ctt_edits.specs.Looks.{shown}
 use Rattle.ctt_edits.specs.declared.call.Call.{Call}
 use Rattle.ctt_edits.specs.declared.looks.Look.{Look}
 use Rattle.ctt_edits.specs.declared.reply.Reply.{Reply}
 use Rattle.ctt_core.specs.declared.answer.Answer.TheVariants as answer
 use Rattle.ctt_core.specs.declared.event.Event.{Event}
-use Rattle.ctt_core.specs.declared.event.Event.TheVariants.{Open, Ask, Commit, Refresh, Abandon, Show}
+use Rattle.ctt_core.specs.declared.event.Event.TheVariants.{Open, Ask, Peek, Commit, Refresh, Abandon, Show}
 use Rattle.ctt_core.specs.declared.journal.JournalEntry.{JournalEntry}
 use Rattle.ctt_desk.specs.Histories.{entry_of}
 use Rattle.ctt_desk.specs.Planners.{PlannerValue, DraftingValue, IsAccepted, IsOpen, IsRefreshed, IsViewed, asked_also, present_of}
@@ -45,6 +46,11 @@ Asks i call (Free p) after told = IsTold (Free p) after (Answered answer.NoDraft
 Asks i call (Drafting d) after told =
     ((r : Reply) × (r ≡ reply i (present_of i d) call) × (after ≡ Drafting (asked_also d call r)) × (told ≡ Answered (answer.Replied r)))
     ⊎ IsTold (Drafting d) after (Answered answer.NoMemory) told
+
+-- a draft is looked at, or there is no memory for it; nothing changes
+abbrev pub Peeks : {X Y : Type 0} → Problem → Look → Seat X Y → Told → Type 0
+Peeks i look (Free p) told = told ≡ Answered answer.NoDraft
+Peeks i look (Drafting d) told = ((r : Reply) × (r ≡ shown i (present_of i d) look) × (told ≡ Answered (answer.Replied r))) ⊎ (told ≡ Answered answer.NoMemory)
 
 -- a refusal leaves a planner, or his draft, and he is told it
 abbrev pub seat_refused : {X Y : Type 0} → Refusal X Y → Seat X Y
@@ -100,6 +106,7 @@ Shows i t0 look (Drafting d) after told = IsTold (Drafting d) after (Answered an
 abbrev pub Takes : {X Y : Type 0} → Problem → List Placed → Event → Seat X Y → Seat X Y → Told → Type 0
 Takes i t0 (Open p) before after told = Opens i t0 before after told
 Takes i t0 (Ask p call) before after told = Asks i call before after told
+Takes i t0 (Peek p look) before after told = (after ≡ before) × Peeks i look before told
 Takes i t0 (Commit p) before after told = (outcome : Result (List JournalEntry) Told) × Commits i t0 before after outcome × (told ≡ told_of outcome)
 Takes i t0 (Refresh p) before after told = Refreshes i t0 before after told
 Takes i t0 (Abandon p) before after told = Abandons before after told

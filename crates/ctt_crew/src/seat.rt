@@ -6,7 +6,7 @@ ghost use Rattle.ctt_edits.specs.Looks.{LookFits};
 ghost use Rattle.ctt_core.specs.Runs.{EventFits};
 ghost use Rattle.ctt_crew.specs.CrewText.{ToldFits, told_unread};
 ghost use Rattle.ctt_crew.specs.Attended.{leaver};
-ghost use Rattle.ctt_crew.specs.Seats.{Abandons, Asks, Commits, Opens, Refreshes, Shows, Takes, draft_text, open_entry, told_of};
+ghost use Rattle.ctt_crew.specs.Seats.{Abandons, Asks, Commits, Opens, Peeks, Refreshes, Shows, Takes, draft_text, open_entry, told_of};
 
 use ctt_board::{Sheet, Timetable};
 use ctt_core::{Answer, Event};
@@ -103,6 +103,21 @@ impl<'i, S: Sheet<'i>, J: Naming> Seat<'i, S, J> {
         match self {
             Seat::Free(_) => Told::Answer(Answer::NoDraft),
             Seat::Drafting(drafting) => match drafting.call(call) {
+                Ok(reply) => Told::Answer(Answer::Replied(reply)),
+                Err(_) => Told::Answer(Answer::NoMemory),
+            },
+        }
+    }
+
+    /// Looks at the draft. It is no call: nothing is kept of it.
+    fn peek(&self, look: &Look) -> Told
+        requires { LookFits J.problem look.now }
+        ensures fits { ToldFits J.problem result }
+        ensures peeks { Peeks J.problem look.now self.now result }
+    {
+        match self {
+            Seat::Free(_) => Told::Answer(Answer::NoDraft),
+            Seat::Drafting(drafting) => match drafting.peek(look) {
                 Ok(reply) => Told::Answer(Answer::Replied(reply)),
                 Err(_) => Told::Answer(Answer::NoMemory),
             },
@@ -208,6 +223,10 @@ impl<'i, S: Sheet<'i>, J: Naming> Seat<'i, S, J> {
                 let mut seat = self;
                 let told = seat.ask(call);
                 (seat, told)
+            }
+            Event::Peek(_, look) => {
+                let told = self.peek(&look);
+                (self, told)
             }
             Event::Commit(_) => {
                 let (seat, outcome) = self.commit(rt, desk);

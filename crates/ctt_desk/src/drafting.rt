@@ -4,6 +4,7 @@ ghost use Rattle.std.specs.Prelude.{◌≡◌, IfOk, OnErr};
 ghost use Rattle.std.specs.List.{AllByRecursion as Each};
 ghost use Rattle.ctt_edits.specs.Calls.{CallFits, reply};
 ghost use Rattle.ctt_edits.specs.Fitting.{IsReply};
+ghost use Rattle.ctt_edits.specs.Looks.{LookFits, shown};
 ghost use Rattle.ctt_draft.specs.Drafts.{AskedFits};
 ghost use Rattle.ctt_desk.specs.Histories.{entry_of};
 ghost use Rattle.ctt_desk.specs.Planners.{present_of, asked_also};
@@ -13,7 +14,7 @@ use crate::planner::Planner;
 use ctt_board::{Sheet, Timetable};
 use ctt_core::JournalEntry;
 use ctt_draft::{AskedCalls, Draft};
-use ctt_edits::{Call, Reply, laws};
+use ctt_edits::{Call, Look, Reply, laws};
 use ctt_text::{Instance, NoMemory, let_go};
 use std::alloc::Global;
 use std::marker::Model;
@@ -78,6 +79,20 @@ impl<'i, S: Sheet<'i>, J: Naming> Drafting<'i, S, J> {
         self.draft.instance().limits_hold();
         self.draft.lawful();
         self.draft.call(call)
+    }
+
+    /// What a look shows in the draft, where nobody else's work is seen. It is no call: nothing is
+    /// stored of it.
+    pub fn peek(&self, look: &Look) -> Result<Reply, NoMemory>
+        requires { LookFits J.problem look.now }
+        ensures shown { IfOk result (λ told.
+            told ≡ shown J.problem (present_of J.problem self.now) look.now) }
+        ensures fits { IfOk result (IsReply J.problem) }
+    {
+        laws::replies_fit();
+        self.draft.instance().limits_hold();
+        self.draft.lawful();
+        self.draft.peek(look)
     }
 
     /// Gives the draft up. It takes no memory.

@@ -219,6 +219,15 @@ impl<'i, S: Sheet<'i>> Draft<'i, S> {
         }
     }
 
+    /// What a look shows on the timetable as the calls leave it. It is no call: nothing is stored of
+    /// it, and no rows are read for it.
+    pub fn peek(&self, look: &Look) -> Result<Reply, NoMemory>
+        requires { LookFits self.now.problem look.now }
+        ensures { IfOk result (λ told. told ≡ shown self.now.problem (present self.now) look.now) }
+    {
+        ctt_edits::look(*self.changes.allocator(), self.present(), look)
+    }
+
     /// Computes nothing: its contract says that the base, and the timetable that the calls leave, are
     /// lawful, and that each call fits and was told what it is told on the base.
     pub fn lawful(&self)

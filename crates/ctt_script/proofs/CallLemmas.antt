@@ -1,27 +1,32 @@
 -- What the words of a call give fits the instance.
-use Rattle.std.proofs.Common.{◌≡◌, ℕ, ◌<◌, List, length, Bool, true, false, cond, Option, Some, None, refl, subst, mul_comm}
-use Rattle.std.specs.Prelude.{nat_lt}
+use Rattle.std.proofs.Common.{◌≡◌, ℕ, ◌<◌, List, [], length, Bool, true, false, cond, Option, Some, None, refl, ◌∙◌, ap, subst, mul_comm, arith}
+use Rattle.std.specs.Prelude.{nat_lt, slice_index_or, codes}
+use Rattle.std.specs.Option.{option_map}
 use Rattle.std.specs.Str.{bytes_eq}
 use Rattle.std.proofs.lemmas.Bool.{ltb-true, and_parts}
 use Rattle.std.proofs.lemmas.Nat.{mul-add-lt}
 use Rattle.ctt_text.specs.Numbers.{is_number, value}
-use Rattle.ctt_text.specs.Places.{known_name}
+use Rattle.ctt_text.specs.Places.{known_name, exactly, fixed}
 use Rattle.ctt_text.specs.Problem.{Problem, IsProblem, is_among, place_of, number_in, slot_of, course_count, room_count, slot_count, teacher_count, curriculum_count}
-use Rattle.ctt_text.proofs.ListLaws.{place_below}
+use Rattle.std.proofs.lemmas.List.Sums.{passes_at_first}
+use Rattle.ctt_text.proofs.ListLaws.{place_below, bytes_sound}
 use Rattle.ctt_edits.specs.Edits.{EditFits}
 use Rattle.ctt_edits.specs.Looks.{LookFits}
 use Rattle.ctt_edits.specs.Calls.{CallFits}
+use Rattle.ctt_edits.specs.Patterns.{FitsIfGiven, IsRoomIfGiven, PatternFits}
 use Rattle.ctt_script.specs.declared.journal_fault.JournalFault.{JournalFault}
 use Rattle.ctt_script.specs.declared.journal_fault.JournalFault.TheVariants.{BadWord}
 use Rattle.ctt_script.specs.declared.kinds.EditKind.{EditKind}
 use Rattle.ctt_script.specs.declared.kinds.EditKind.TheVariants as edit
 use Rattle.ctt_script.specs.declared.kinds.LookKind.{LookKind}
 use Rattle.ctt_script.specs.declared.kinds.LookKind.TheVariants as look
+use Rattle.ctt_script.specs.declared.kinds.PatternKind.{PatternKind}
+use Rattle.ctt_script.specs.declared.kinds.PatternKind.TheVariants as pattern
 use Rattle.ctt_script.specs.declared.kinds.CallKind.{CallKind}
 use Rattle.ctt_script.specs.declared.kinds.CallKind.TheVariants as kind
 use Rattle.ctt_script.specs.Amounts.{number_below}
-use Rattle.ctt_script.specs.JournalWords.{word}
-use Rattle.ctt_script.specs.CallPlaces.{course, room, teacher, curriculum, slot, edit_after, edit_form, look_after, look_form, call_after, call_form}
+use Rattle.ctt_script.specs.JournalWords.{word, label}
+use Rattle.ctt_script.specs.CallPlaces.{course, room, teacher, curriculum, slot, edit_after, edit_form, any_or, room_choice, slot_after, slot_choice, pattern_after, pattern_form, look_after, look_form, call_after, call_form}
 use Rattle.ctt_text.proofs.FormLaws.{Yields, yields_done, yields_bind}
 use Rattle.ctt_text.proofs.PlaceLaws.{yields_word}
 
@@ -50,6 +55,27 @@ module _ {A : Type 0} (P : A → Type 0) (meaning : List ℕ → Option A) (othe
 -- a word of which nothing needs to be known
 pub yields_any : {A : Type 0} (meaning : List ℕ → Option A) (otherwise : A) → Yields (λ _. Unit {0}) (word meaning otherwise)
 yields_any meaning otherwise = yields_meaning (λ _. Unit {0}) meaning otherwise (λ w a h. tt)
+
+-- a fixed word
+yields_label : (text : List ℕ) → Yields (λ _. Unit {0}) (label text)
+unfolding fixed
+yields_label text = yields_any (exactly text) tt
+
+-- a name that is not `*` is that of no room named so
+not_star : (names : List (List ℕ)) (w : List ℕ) (n : ℕ) → bytes_eq w (codes "*") ≡ false → number_in names w ≡ Some n → bytes_eq (slice_index_or names n []) (codes "*") ≡ false
+not_star names w n other h =
+    let known = when (is_among names w) (place_of names w) n h in
+    let same : w ≡ slice_index_or names n [] = bytes_sound w _ (passes_at_first (bytes_eq w) names [] (place_below (bytes_eq w) names known.0)) ∙ ap (λ k. slice_index_or names k []) known.1 in
+    subst (λ v. bytes_eq v (codes "*") ≡ false) same other
+
+-- a number below a limit, or any
+below_choice : (limit : ℕ) (w : List ℕ) (o : Option ℕ) → any_or (number_below limit) w ≡ Some o → FitsIfGiven limit o
+below_choice limit w o h = by (bytes_eq w (codes "*")) (number_below limit w) refl h
+  where
+    by : (b : Bool) (m : Option ℕ) → number_below limit w ≡ m → cond b (Some None) (option_map Some m) ≡ Some o → FitsIfGiven limit o
+    by true m k h = let same : None ≡ o = cc in subst (FitsIfGiven limit) same tt
+    by false None k h = cc
+    by false (Some n) k h = let same : Some n ≡ o = cc in subst (FitsIfGiven limit) same (is_below limit w n k)
 
 module _ (i : Problem) (is : IsProblem i) where
   pub yields_course : Yields (λ c. c < course_count i) (course i)
@@ -100,6 +126,51 @@ module _ (i : Problem) (is : IsProblem i) where
   unfolding edit_form
   yields_edit = yields_bind _ (EditFits i) _ _ (yields_any _ _) (λ k t. yields_edit_after k)
 
+  -- a room, or any
+  room_chosen : (w : List ℕ) (o : Option ℕ) → any_or (number_in i.room_names) w ≡ Some o → IsRoomIfGiven i o
+  room_chosen w o h = by (bytes_eq w (codes "*")) (number_in i.room_names w) refl refl h
+    where
+      by : (b : Bool) (m : Option ℕ) → bytes_eq w (codes "*") ≡ b → number_in i.room_names w ≡ m → cond b (Some None) (option_map Some m) ≡ Some o → IsRoomIfGiven i o
+      by true m e k h = let same : None ≡ o = cc in subst (IsRoomIfGiven i) same tt
+      by false None e k h = cc
+      by false (Some r) e k h = let same : Some r ≡ o = cc in subst (IsRoomIfGiven i) same (subst (λ n. r < n) is.rooms_named (name_below i.room_names w r k), not_star i.room_names w r e k)
+
+  yields_room_choice : Yields (IsRoomIfGiven i) (room_choice i)
+  unfolding room_choice
+  yields_room_choice = yields_meaning _ _ None room_chosen
+
+  -- a slot, or any
+  yields_slot_after : (day : Option ℕ) → FitsIfGiven i.days day → Yields (FitsIfGiven (slot_count i)) (slot_after i day)
+  unfolding slot_after
+  yields_slot_after None d = yields_bind (λ _. Unit {0}) (FitsIfGiven (slot_count i)) _ _ (yields_label (codes "*")) (λ star t. yields_done JournalFault (FitsIfGiven (slot_count i)) None tt)
+  yields_slot_after (Some day) d =
+      yields_bind (λ p. p < i.periods) (FitsIfGiven (slot_count i)) _ _ (yields_below i.periods) (λ period p.
+      yields_done JournalFault (FitsIfGiven (slot_count i)) (Some (slot_of i day period)) (subst (λ n. slot_of i day period < n) (mul_comm i.periods i.days) (mul-add-lt day i.periods period i.days d p)))
+
+  yields_slot_choice : Yields (FitsIfGiven (slot_count i)) (slot_choice i)
+  unfolding slot_choice
+  yields_slot_choice = yields_bind (FitsIfGiven i.days) (FitsIfGiven (slot_count i)) _ _ (yields_meaning _ _ None (below_choice i.days)) (λ day d. yields_slot_after day d)
+
+  yields_pattern_after : (k : PatternKind) → Yields (PatternFits i) (pattern_after i k)
+  unfolding pattern_after
+  yields_pattern_after pattern.Place =
+      yields_bind _ (PatternFits i) _ _ yields_course (λ c fc. yields_bind _ (PatternFits i) _ _ yields_room_choice (λ r fr. yields_bind _ (PatternFits i) _ _ yields_slot_choice (λ s fs.
+      yields_done JournalFault (PatternFits i) _ (fc, fs, fr))))
+  yields_pattern_after pattern.Move =
+      yields_bind _ (PatternFits i) _ _ yields_course (λ c fc. yields_bind _ (PatternFits i) _ _ yields_slot (λ s fs. yields_bind _ (PatternFits i) _ _ yields_room_choice (λ r fr. yields_bind _ (PatternFits i) _ _ yields_slot_choice (λ t ft.
+      yields_done JournalFault (PatternFits i) _ (fc, fs, ft, fr)))))
+  yields_pattern_after pattern.Swap =
+      yields_bind _ (PatternFits i) _ _ yields_course (λ c fc. yields_bind _ (PatternFits i) _ _ yields_slot (λ s fs.
+      yields_bind (λ _. Unit {0}) (PatternFits i) _ _ (yields_label (codes "*")) (λ x t. yields_bind (λ _. Unit {0}) (PatternFits i) _ _ (yields_label (codes "*")) (λ y u. yields_bind (λ _. Unit {0}) (PatternFits i) _ _ (yields_label (codes "*")) (λ z v.
+      yields_done JournalFault (PatternFits i) _ (fc, fs))))))
+  yields_pattern_after pattern.Reroom =
+      yields_bind _ (PatternFits i) _ _ yields_course (λ c fc. yields_bind _ (PatternFits i) _ _ yields_room_choice (λ r fr. yields_bind _ (PatternFits i) _ _ yields_slot (λ s fs.
+      yields_done JournalFault (PatternFits i) _ (fc, fs, fr))))
+
+  yields_pattern : Yields (PatternFits i) (pattern_form i)
+  unfolding pattern_form
+  yields_pattern = yields_bind _ (PatternFits i) _ _ (yields_any _ _) (λ k t. yields_pattern_after k)
+
   pub yields_look_after : (k : LookKind) → Yields (LookFits i) (look_after i k)
   unfolding look_after
   yields_look_after look.Course = yields_bind _ (LookFits i) _ _ yields_course (λ c f. yields_done JournalFault (LookFits i) _ f)
@@ -109,6 +180,10 @@ module _ (i : Problem) (is : IsProblem i) where
   yields_look_after look.CourseCost = yields_bind _ (LookFits i) _ _ yields_course (λ c f. yields_done JournalFault (LookFits i) _ f)
   yields_look_after look.Cost = yields_done JournalFault (LookFits i) _ tt
   yields_look_after look.Price = yields_bind _ (LookFits i) _ _ yields_edit (λ e f. yields_done JournalFault (LookFits i) _ f)
+  yields_look_after look.Missing = yields_done JournalFault (LookFits i) _ tt
+  yields_look_after look.Cheapest =
+      yields_bind (λ n. n < 1001) (LookFits i) _ _ (yields_below 1001) (λ n fn. yields_bind _ (LookFits i) _ _ yields_pattern (λ p fp.
+      yields_done JournalFault (LookFits i) _ (omega (arith, fn), fp)))
 
   pub yields_look : Yields (LookFits i) (look_form i)
   unfolding look_form

@@ -18,14 +18,14 @@ use Rattle.ctt_script.specs.declared.kinds.FaultKind.TheVariants as fault
 use Rattle.ctt_script.specs.Amounts.{is_amount, amount_of, price_of, negated}
 use Rattle.ctt_draft.specs.declared.asked.Asked.{Asked}
 use Rattle.ctt_core.specs.declared.journal.JournalEntry.{JournalEntry}
-use Rattle.ctt_edits.specs.Fitting.{FaultFits, IsAmount, AreFew, IsShortReply, IsReply}
+use Rattle.ctt_edits.specs.Fitting.{FaultFits, IsAmount, AreFew, IsShortReply, IsReply, ShortfallFits, PricedFits}
 use Rattle.ctt_draft.specs.Drafts.{AskedFits}
 use Rattle.ctt_script.specs.Entries.{IsAsked, IsEntry}
 use Rattle.ctt_script.specs.JournalWords.{label}
-use Rattle.ctt_script.specs.ReplyPlaces.{fault_after, fault_form, lecture, lectures, count, amount, costs, reply_after, reply_form}
+use Rattle.ctt_script.specs.ReplyPlaces.{fault_after, fault_form, lecture, lectures, count, amount, costs, reply_after, reply_form, shortfall, shortfalls, priced, priced_edits}
 use Rattle.ctt_script.specs.JournalPlaces.{asked_form, entry_form, journal_form}
 use Rattle.ctt_text.proofs.FormLaws.{Yields, yields_done, yields_bind, yields_list}
-use Rattle.ctt_script.proofs.CallLemmas.{when, yields_meaning, yields_any, yields_course, yields_room, yields_slot, yields_below, yields_call}
+use Rattle.ctt_script.proofs.CallLemmas.{when, yields_meaning, yields_any, yields_course, yields_room, yields_slot, yields_below, yields_call, yields_edit}
 
 amount_small : (w : List ℕ) (n : ℕ) → amount_of w ≡ Some n → IsAmount n
 amount_small w n h =
@@ -109,6 +109,28 @@ module _ (i : Problem) (is : IsProblem i) where
       let r = yields_list (lecture i) (Fits i) yields_lecture n words ls fills in
       (r.0, subst (λ k. k ≤ 999999999) (sym r.1) few))
 
+  yields_shortfall : Yields (ShortfallFits i) (shortfall i)
+  unfolding shortfall
+  yields_shortfall = yields_bind _ (ShortfallFits i) _ _ (yields_course i is) (λ c fc. yields_bind _ (ShortfallFits i) _ _ yields_count (λ n few. yields_done JournalFault (ShortfallFits i) _ (fc, few)))
+
+  yields_shortfalls : Yields (λ xs. Each (ShortfallFits i) xs × AreFew xs) (shortfalls i)
+  unfolding shortfalls
+  yields_shortfalls = yields_bind _ (λ xs. Each (ShortfallFits i) xs × AreFew xs) _ _ yields_count (λ n few words xs fills.
+      let r = yields_list (shortfall i) (ShortfallFits i) yields_shortfall n words xs fills in
+      (r.0, subst (λ k. k ≤ 999999999) (sym r.1) few))
+
+  yields_priced : Yields (PricedFits i) (priced i)
+  unfolding priced
+  yields_priced =
+      yields_bind _ (PricedFits i) _ _ (yields_meaning (λ p. IsAmount (unsigned_abs p)) price_of (pos 0) (λ w p h. price_small w p h)) (λ p fp. yields_bind _ (PricedFits i) _ _ (yields_edit i is) (λ e fe.
+      yields_done JournalFault (PricedFits i) _ (fe, fp)))
+
+  yields_priced_edits : Yields (λ xs. Each (PricedFits i) xs × AreFew xs) (priced_edits i)
+  unfolding priced_edits
+  yields_priced_edits = yields_bind _ (λ xs. Each (PricedFits i) xs × AreFew xs) _ _ yields_count (λ n few words xs fills.
+      let r = yields_list (priced i) (PricedFits i) yields_priced n words xs fills in
+      (r.0, subst (λ k. k ≤ 999999999) (sym r.1) few))
+
   yields_reply_after : (k : ReplyKind) → Yields (IsReply i) (reply_after i k)
   unfolding reply_after
   yields_reply_after reply.Done = yields_done JournalFault (IsReply i) _ (tt, tt)
@@ -116,6 +138,8 @@ module _ (i : Problem) (is : IsProblem i) where
   yields_reply_after reply.Lectures = yields_bind _ (IsReply i) _ _ yields_lectures (λ ls h. yields_done JournalFault (IsReply i) _ h)
   yields_reply_after reply.Costs = yields_bind _ (IsReply i) _ _ yields_costs (λ c h. yields_done JournalFault (IsReply i) _ (h, tt))
   yields_reply_after reply.Price = yields_bind _ (IsReply i) _ _ (yields_meaning (λ p. IsAmount (unsigned_abs p)) price_of (pos 0) (λ w p h. price_small w p h)) (λ p h. yields_done JournalFault (IsReply i) _ (h, tt))
+  yields_reply_after reply.Missing = yields_bind _ (IsReply i) _ _ yields_shortfalls (λ xs h. yields_done JournalFault (IsReply i) _ h)
+  yields_reply_after reply.Edits = yields_bind _ (IsReply i) _ _ yields_priced_edits (λ xs h. yields_done JournalFault (IsReply i) _ h)
 
   yields_reply : Yields (IsReply i) (reply_form i)
   unfolding reply_form

@@ -14,6 +14,8 @@ use Rattle.ctt_script.specs.declared.journal_fault.JournalFault.{JournalFault}
 use Rattle.ctt_script.specs.declared.journal_fault.JournalFault.TheVariants.{NotText, Missing, BadWord, NoMemory}
 use Rattle.ctt_script.specs.declared.kinds.EditKind.{EditKind}
 use Rattle.ctt_script.specs.declared.kinds.EditKind.TheVariants as edit
+use Rattle.ctt_script.specs.declared.kinds.PatternKind.{PatternKind}
+use Rattle.ctt_script.specs.declared.kinds.PatternKind.TheVariants as pattern
 use Rattle.ctt_script.specs.declared.kinds.LookKind.{LookKind}
 use Rattle.ctt_script.specs.declared.kinds.LookKind.TheVariants as look
 use Rattle.ctt_script.specs.declared.kinds.CallKind.{CallKind}
@@ -30,8 +32,8 @@ use Rattle.ctt_edits.specs.declared.call.Call.{Call}
 use Rattle.ctt_core.specs.Entries.{EntryFits}
 use Rattle.ctt_script.specs.Entries.{IsShort, IsEntry}
 use Rattle.ctt_script.specs.JournalWords.{word, missing, reads, wants_memory}
-use Rattle.ctt_script.specs.CallPlaces.{course, room, teacher, curriculum, slot, edit_after, edit_form, look_after, call_after, call_form}
-use Rattle.ctt_script.specs.ReplyPlaces.{fault_after, fault_form, lecture, lectures, count, amount, costs, reply_after, reply_form}
+use Rattle.ctt_script.specs.CallPlaces.{course, room, teacher, curriculum, slot, edit_after, edit_form, look_after, call_after, call_form, room_choice, slot_after, slot_choice, pattern_after, pattern_form}
+use Rattle.ctt_script.specs.ReplyPlaces.{fault_after, fault_form, lecture, lectures, count, amount, costs, reply_after, reply_form, shortfall, shortfalls, priced, priced_edits}
 use Rattle.ctt_script.specs.JournalPlaces.{asked_form, entry_form, journal_form}
 use Rattle.ctt_script.specs.JournalText.{JournalSpells, JournalBreaksAt, journal_answer, IsJournalCauseOf}
 use Rattle.ctt_script.proofs.CallLemmas.{yields_call}
@@ -82,8 +84,32 @@ names_edit_after i edit.Swap = names_bind _ _ (names_course i) (λ c. names_bind
 names_edit_after i edit.Reroom = names_bind _ _ (names_course i) (λ c. names_bind _ _ (names_room i) (λ r. names_bind _ _ (names_slot i) (λ s. tt)))
 names_edit_after i edit.Drop = names_bind _ _ (names_course i) (λ c. names_bind _ _ (names_slot i) (λ s. tt))
 
+names_edit : (i : Problem) → Names (edit_form i)
+unfolding edit_form
+names_edit i = names_bind _ _ (names_word _ _) (λ k. names_edit_after i k)
+
+names_room_choice : (i : Problem) → Names (room_choice i)
+unfolding room_choice
+names_room_choice i = names_word _ _
+
+names_slot_after : (i : Problem) (day : Option ℕ) → Names (slot_after i day)
+unfolding slot_after fixed
+names_slot_after i None = names_bind _ _ (names_word _ _) (λ star. tt)
+names_slot_after i (Some day) = names_bind _ _ (names_word _ _) (λ p. tt)
+
+names_slot_choice : (i : Problem) → Names (slot_choice i)
+unfolding slot_choice
+names_slot_choice i = names_bind _ _ (names_word _ _) (λ day. names_slot_after i day)
+
+names_pattern_after : (i : Problem) (k : PatternKind) → Names (pattern_after i k)
+unfolding pattern_after fixed
+names_pattern_after i pattern.Place = names_bind _ _ (names_course i) (λ c. names_bind _ _ (names_room_choice i) (λ r. names_bind _ _ (names_slot_choice i) (λ s. tt)))
+names_pattern_after i pattern.Move = names_bind _ _ (names_course i) (λ c. names_bind _ _ (names_slot i) (λ s. names_bind _ _ (names_room_choice i) (λ r. names_bind _ _ (names_slot_choice i) (λ t. tt))))
+names_pattern_after i pattern.Swap = names_bind _ _ (names_course i) (λ c. names_bind _ _ (names_slot i) (λ s. names_bind _ _ (names_word _ _) (λ x. names_bind _ _ (names_word _ _) (λ y. names_bind _ _ (names_word _ _) (λ z. tt)))))
+names_pattern_after i pattern.Reroom = names_bind _ _ (names_course i) (λ c. names_bind _ _ (names_room_choice i) (λ r. names_bind _ _ (names_slot i) (λ s. tt)))
+
 names_look_after : (i : Problem) (k : LookKind) → Names (look_after i k)
-unfolding look_after edit_form teacher curriculum known_name
+unfolding look_after edit_form pattern_form teacher curriculum known_name
 names_look_after i look.Course = names_bind _ _ (names_course i) (λ c. tt)
 names_look_after i look.Slot = names_bind _ _ (names_slot i) (λ s. tt)
 names_look_after i look.Teacher = names_bind _ _ (names_word _ _) (λ h. tt)
@@ -91,6 +117,8 @@ names_look_after i look.Curriculum = names_bind _ _ (names_word _ _) (λ q. tt)
 names_look_after i look.CourseCost = names_bind _ _ (names_course i) (λ c. tt)
 names_look_after i look.Cost = tt
 names_look_after i look.Price = names_bind _ _ (names_bind _ _ (names_word _ _) (λ k. names_edit_after i k)) (λ e. tt)
+names_look_after i look.Missing = tt
+names_look_after i look.Cheapest = names_bind _ _ (names_word _ _) (λ n. names_bind _ _ (names_bind _ _ (names_word _ _) (λ k. names_pattern_after i k)) (λ p. tt))
 
 names_call : (i : Problem) → Names (call_form i)
 unfolding call_form call_after
@@ -113,12 +141,14 @@ names_fault_after i fault.Clash = names_bind _ _ (names_course i) (λ c. tt)
 names_fault_after i fault.RoomTaken = names_bind _ _ (names_course i) (λ c. tt)
 
 names_reply_after : (i : Problem) (k : ReplyKind) → Names (reply_after i k)
-unfolding reply_after fault_form lectures count number lecture costs amount
+unfolding reply_after fault_form lectures count number lecture costs amount shortfalls shortfall priced_edits priced
 names_reply_after i reply.Done = tt
 names_reply_after i reply.Refused = names_bind _ _ (names_bind _ _ (names_word _ _) (λ k. names_fault_after i k)) (λ f. tt)
 names_reply_after i reply.Lectures = names_bind _ _ (names_bind _ _ (names_word _ _) (λ n. names_list (lecture i) n (names_bind _ _ (names_course i) (λ c. names_bind _ _ (names_room i) (λ r. names_bind _ _ (names_slot i) (λ s. tt)))))) (λ ls. tt)
 names_reply_after i reply.Costs = names_bind _ _ (names_bind _ _ (names_word _ _) (λ a. names_bind _ _ (names_word _ _) (λ b. names_bind _ _ (names_word _ _) (λ c. names_bind _ _ (names_word _ _) (λ d. tt))))) (λ c. tt)
 names_reply_after i reply.Price = names_bind _ _ (names_word _ _) (λ p. tt)
+names_reply_after i reply.Missing = names_bind _ _ (names_bind _ _ (names_word _ _) (λ n. names_list (shortfall i) n (names_bind _ _ (names_course i) (λ c. names_bind _ _ (names_word _ _) (λ m. tt))))) (λ xs. tt)
+names_reply_after i reply.Edits = names_bind _ _ (names_bind _ _ (names_word _ _) (λ n. names_list (priced i) n (names_bind _ _ (names_word _ _) (λ p. names_bind _ _ (names_edit i) (λ e. tt))))) (λ xs. tt)
 
 names_asked : (i : Problem) → Names (asked_form i)
 unfolding asked_form reply_form

@@ -1,17 +1,20 @@
 -- Reading a journal step by step.
-use Rattle.std.proofs.Common.{◌≡◌, ℕ, ◌+◌, List, [], ◌∷◌, ◌++◌, Bool, true, false, cond, Option, Some, None, Ok, Err, refl}
+use Rattle.std.proofs.Common.{◌≡◌, ℕ, ◌+◌, List, [], ◌∷◌, ◌++◌, Bool, true, false, cond, Option, Some, None, Result, Ok, Err, pos, refl, ◌∙◌, ap}
 use Rattle.std.specs.Prelude.{◌&&◌, nat_lt}
 use Rattle.ctt_text.specs.Left.{Left}
 use Rattle.ctt_text.specs.Forms.{Form, done, ◌>>=◌, one_more, read}
 use Rattle.ctt_text.specs.Numbers.{is_number, value}
 use Rattle.ctt_text.specs.Places.{one, known, known_name, number, broken_unless, meant}
-use Rattle.ctt_text.specs.Problem.{number_in}
+use Rattle.ctt_text.specs.Problem.{Problem, number_in}
+use Rattle.ctt_edits.specs.declared.priced_edit.PricedEdit.{PricedEdit}
 use Rattle.ctt_text.specs.Reading.{reading, word_at}
 use Rattle.ctt_text.proofs.Steps.{and_then, judged, told_as}
 use Rattle.ctt_text.proofs.Steps as steps
 use Rattle.ctt_script.specs.declared.journal_fault.JournalFault.{JournalFault}
 use Rattle.ctt_script.specs.declared.journal_fault.JournalFault.TheVariants.{BadWord}
-use Rattle.ctt_script.specs.Amounts.{number_below}
+use Rattle.ctt_script.specs.Amounts.{number_below, price_of}
+use Rattle.ctt_script.specs.CallPlaces.{edit_form}
+use Rattle.ctt_script.specs.ReplyPlaces.{priced}
 use Rattle.ctt_script.specs.JournalWords.{word, name, missing}
 
 pub read_word : {A : Type 0} (meaning : List ℕ → Option A) (otherwise : A) (left : Left)
@@ -52,3 +55,25 @@ read_done a left = steps.read_done missing a left
 pub read_one_more : {A : Type 0} (form : Form JournalFault A) (so_far : List A) (left : Left) → reading missing (one_more form so_far) left ≡ and_then (reading missing form left) (λ a after. Ok (so_far ++ a ∷ [], after))
 unfolding one_more read
 read_one_more form so_far left = read_bind form (λ a. done (so_far ++ a ∷ [])) left
+
+-- a step behind two others, and steps that are the same
+nested : {A B C : Type 0} (x : Result (A × Left) JournalFault) (f : A → Left → Result (B × Left) JournalFault) (g : B → Left → Result (C × Left) JournalFault) → and_then (and_then x f) g ≡ and_then x (λ a l. and_then (f a l) g)
+nested (Ok a) f g = refl
+nested (Err e) f g = refl
+
+same_then : {A B : Type 0} (x : Result (A × Left) JournalFault) (f g : A → Left → Result (B × Left) JournalFault) → ((a : A) (l : Left) → f a l ≡ g a l) → and_then x f ≡ and_then x g
+same_then (Ok a) f g h = h a.0 a.1
+same_then (Err e) f g h = refl
+
+-- a price and the edit that has it, behind those before it
+pub read_one_priced : (i : Problem) (so_far : List PricedEdit) (left : Left)
+    → reading missing (one_more (priced i) so_far) left ≡ and_then (reading missing (word price_of (pos 0)) left) (λ p after. and_then (reading missing (edit_form i) after) (λ e last. Ok (so_far ++ record { edit = e; price = p } ∷ [], last)))
+unfolding priced
+read_one_priced i so_far left =
+    read_one_more (priced i) so_far left
+    ∙ ap (λ q. and_then q (λ a after. Ok (so_far ++ a ∷ [], after))) (read_bind (word price_of (pos 0)) (λ p. edit_form i >>= λ e. done (record { edit = e; price = p })) left)
+    ∙ nested (reading missing (word price_of (pos 0)) left) _ _
+    ∙ same_then (reading missing (word price_of (pos 0)) left) _ _ (λ p after.
+    ap (λ q. and_then q (λ a rest. Ok (so_far ++ a ∷ [], rest))) (read_bind (edit_form i) (λ e. done (record { edit = e; price = p })) after)
+    ∙ nested (reading missing (edit_form i) after) _ _
+    ∙ same_then (reading missing (edit_form i) after) _ _ (λ e last. ap (λ q. and_then q (λ a rest. Ok (so_far ++ a ∷ [], rest))) (read_done (record { edit = e; price = p }) last)))

@@ -1,5 +1,5 @@
 -- The text that is written of a journal, as its words.
-use Rattle.std.proofs.Common.{◌≡◌, ℕ, suc, ◌<◌, ◌≤◌, List, [], ◌∷◌, ◌++◌, length, flat_map, Bool, true, false, not, ◌&&◌, Some, ℤ, pos, negsuc, refl, sym, ap, subst, ◌∙◌, arith, append_assoc}
+use Rattle.std.proofs.Common.{◌≡◌, ℕ, suc, ◌<◌, ◌≤◌, List, [], ◌∷◌, ◌++◌, length, flat_map, Bool, true, false, not, ◌&&◌, Option, Some, None, ℤ, pos, negsuc, refl, sym, ap, subst, ◌∙◌, arith, append_assoc}
 use Rattle.std.specs.Prelude.{codes, nat_lt, slice_index_or, unsigned_abs}
 use Rattle.std.specs.List.{list_all, AllByRecursion as Each}
 use Rattle.std.specs.Fmt.{decimal, signed_decimal}
@@ -15,7 +15,12 @@ use Rattle.ctt_text.proofs.WrittenLaws.{decimal_word, word_first, space_blank, l
 use Rattle.ctt_edits.specs.declared.edit.Edit.{Edit}
 use Rattle.ctt_edits.specs.declared.edit.Edit.TheVariants.{Place, Move, Swap, Reroom, Drop}
 use Rattle.ctt_edits.specs.declared.looks.Look.{Look}
-use Rattle.ctt_edits.specs.declared.looks.Look.TheVariants.{Course, Slot, Teacher, Curriculum, CourseCost, Cost, Price}
+use Rattle.ctt_edits.specs.declared.looks.Look.TheVariants.{Course, Slot, Teacher, Curriculum, CourseCost, Cost, Price, Missing, Cheapest}
+use Rattle.ctt_edits.specs.declared.pattern.Pattern.{Pattern}
+use Rattle.ctt_edits.specs.declared.pattern.Pattern.TheVariants.{Place as AnyPlace, Move as AnyMove, Swap as AnySwap, Reroom as AnyReroom}
+use Rattle.ctt_edits.specs.declared.priced_edit.PricedEdit.{PricedEdit}
+use Rattle.ctt_edits.specs.declared.shortfall.Shortfall.{Shortfall}
+use Rattle.ctt_edits.specs.Patterns.{FitsIfGiven, IsRoomIfGiven, PatternFits}
 use Rattle.ctt_edits.specs.declared.call.Call.{Call}
 use Rattle.ctt_edits.specs.declared.call.Call.TheVariants.{Look as Looks, Edit as Edits}
 use Rattle.ctt_edits.specs.declared.fault.EditFault.{EditFault}
@@ -23,17 +28,17 @@ use Rattle.ctt_edits.specs.declared.fault.EditFault.TheVariants.{NotPlaced, Same
 use Rattle.ctt_edits.specs.Edits.{EditFits}
 use Rattle.ctt_edits.specs.Looks.{LookFits}
 use Rattle.ctt_edits.specs.declared.reply.Reply.{Reply}
-use Rattle.ctt_edits.specs.declared.reply.Reply.TheVariants.{Done, Refused, Lectures, Costs, Price as Priced}
+use Rattle.ctt_edits.specs.declared.reply.Reply.TheVariants.{Done, Refused, Lectures, Costs, Price as Priced, Missing as AreMissing, Edits as AreCheapest}
 use Rattle.ctt_edits.specs.Calls.{CallFits}
 use Rattle.ctt_draft.specs.declared.asked.Asked.{Asked}
 use Rattle.ctt_core.specs.declared.journal.JournalEntry.{JournalEntry}
-use Rattle.ctt_edits.specs.Fitting.{FaultFits, IsAmount, ReplyFits, AreFew, IsShortReply}
+use Rattle.ctt_edits.specs.Fitting.{FaultFits, IsAmount, ShortfallFits, PricedFits, ReplyFits, AreFew, IsShortReply}
 use Rattle.ctt_draft.specs.Drafts.{AskedFits}
 use Rattle.ctt_core.specs.Entries.{EntryFits}
 use Rattle.ctt_script.specs.Entries.{IsShort, IsAsked, IsEntry}
 use Rattle.ctt_script.specs.JournalText.{JournalSpells}
-use Rattle.ctt_script.specs.WrittenWords.{course_word, room_word, day_word, period_word, edit_words, look_words, call_words, fault_words, lecture_words, reply_words, asked_words, entry_words, journal_words}
-use Rattle.ctt_script.specs.WrittenText.{line, rest_of_line, lecture_part, asked_text, entry_text, journal_text}
+use Rattle.ctt_script.specs.WrittenWords.{course_word, room_word, day_word, period_word, edit_words, room_choice_word, day_choice_word, period_choice_word, pattern_words, look_words, call_words, fault_words, lecture_words, shortfall_words, priced_words, reply_words, asked_words, entry_words, journal_words}
+use Rattle.ctt_script.specs.WrittenText.{line, rest_of_line, words_part, lecture_part, asked_text, entry_text, journal_text}
 use Rattle.ctt_script.proofs.WrittenWords.{journal_fills}
 
 -- the labels of a lecture, one behind the other
@@ -112,6 +117,18 @@ lectures_end i (l ∷ ls) =
     apart : (a b c d x : List ℕ) → (32 ∷ (a ++ (32 ∷ (b ++ (32 ∷ (c ++ (32 ∷ d))))))) ++ x ≡ 32 ∷ (a ++ (32 ∷ (b ++ (32 ∷ (c ++ (32 ∷ (d ++ x)))))))
     apart a b c d x = ap (λ q. 32 ∷ q) (append_assoc a _ x ∙ ap (λ q. a ++ 32 ∷ q) (append_assoc b _ x ∙ ap (λ q. b ++ 32 ∷ q) (append_assoc c _ x)))
 
+-- words in two parts at the end of a line
+rest_part : (ws vs : List (List ℕ)) → rest_of_line (ws ++ vs) ≡ words_part ws ++ rest_of_line vs
+rest_part [] vs = refl
+rest_part (w ∷ ws) vs = ap (λ x. 32 ∷ (w ++ x)) (rest_part ws vs) ∙ ap (λ x. 32 ∷ x) (sym (append_assoc w (words_part ws) (rest_of_line vs)))
+
+-- the words of several at the end of a line
+pub parts_end : {X : Type 0} (f : X → List (List ℕ)) (xs : List X) → rest_of_line (flat_map f xs) ≡ flat_map (λ x. words_part (f x)) xs ++ codes "\n"
+parts_end f [] = refl
+parts_end f (x ∷ xs) =
+    rest_part (f x) (flat_map f xs) ∙ ap (λ y. words_part (f x) ++ y) (parts_end f xs)
+    ∙ sym (append_assoc (words_part (f x)) (flat_map (λ y. words_part (f y)) xs) (codes "\n"))
+
 amount_word : (n : ℕ) → IsAmount n → IsWord (decimal n)
 amount_word n h = decimal_word n (omega arith)
 
@@ -152,6 +169,29 @@ module _ (i : Problem) (is : IsProblem i) (named : IsNamed i) where
   edit_are (Reroom c s r) f = (is_solid (codes "reroom") refl, (course_is c f.0, (room_is r f.2, (day_is s f.1, (period_is s f.1, tt)))))
   edit_are (Drop c s) f = (is_solid (codes "drop") refl, (course_is c f.0, (day_is s f.1, (period_is s f.1, tt))))
 
+  star_is : IsWord (codes "*")
+  unfolding is_blank solid
+  star_is = is_solid (codes "*") refl
+
+  room_choice_is : (r : Option ℕ) → IsRoomIfGiven i r → IsWord (room_choice_word i r)
+  room_choice_is None f = star_is
+  room_choice_is (Some r) f = room_is r f.0
+
+  day_choice_is : (s : Option ℕ) → FitsIfGiven (slot_count i) s → IsWord (day_choice_word i s)
+  day_choice_is None f = star_is
+  day_choice_is (Some s) f = day_is s f
+
+  period_choice_is : (s : Option ℕ) → FitsIfGiven (slot_count i) s → IsWord (period_choice_word i s)
+  period_choice_is None f = star_is
+  period_choice_is (Some s) f = period_is s f
+
+  pattern_are : (p : Pattern) → PatternFits i p → AreWords (pattern_words i p)
+  unfolding is_blank solid
+  pattern_are (AnyPlace c s r) f = (is_solid (codes "place") refl, (course_is c f.0, (room_choice_is r f.2, (day_choice_is s f.1, (period_choice_is s f.1, tt)))))
+  pattern_are (AnyMove c s s2 r) f = (is_solid (codes "move") refl, (course_is c f.0, (day_is s f.1, (period_is s f.1, (room_choice_is r f.3, (day_choice_is s2 f.2, (period_choice_is s2 f.2, tt)))))))
+  pattern_are (AnySwap c s) f = (is_solid (codes "swap") refl, (course_is c f.0, (day_is s f.1, (period_is s f.1, (star_is, (star_is, (star_is, tt)))))))
+  pattern_are (AnyReroom c s r) f = (is_solid (codes "reroom") refl, (course_is c f.0, (room_choice_is r f.2, (day_is s f.1, (period_is s f.1, tt)))))
+
   look_are : (l : Look) → LookFits i l → AreWords (look_words i l)
   unfolding is_blank solid
   look_are (Course c) f = (is_solid (codes "course") refl, (course_is c f, tt))
@@ -161,6 +201,8 @@ module _ (i : Problem) (is : IsProblem i) (named : IsNamed i) where
   look_are (CourseCost c) f = (is_solid (codes "coursecost") refl, (course_is c f, tt))
   look_are Cost f = (is_solid (codes "cost") refl, tt)
   look_are (Price e) f = (is_solid (codes "price") refl, edit_are e f)
+  look_are Missing f = (is_solid (codes "missing") refl, tt)
+  look_are (Cheapest n p) f = (is_solid (codes "cheapest") refl, (count_word n (omega (arith, f.0)), pattern_are p f.1))
 
   fault_are : (x : EditFault) → FaultFits i x → AreWords (fault_words i x)
   unfolding is_blank solid
@@ -178,6 +220,18 @@ module _ (i : Problem) (is : IsProblem i) (named : IsNamed i) where
   lectures_are [] f = tt
   lectures_are (l ∷ ls) f = (course_is l.course f.0.0, (room_is l.room f.0.2, (day_is l.slot f.0.1, (period_is l.slot f.0.1, lectures_are ls f.1))))
 
+  shortfalls_are : (xs : List Shortfall) → Each (ShortfallFits i) xs → AreWords (flat_map (shortfall_words i) xs)
+  shortfalls_are [] f = tt
+  shortfalls_are (x ∷ xs) f = (course_is x.course f.0.0, (count_word x.missing f.0.1, shortfalls_are xs f.1))
+
+  both_are : (us vs : List (List ℕ)) → AreWords us → AreWords vs → AreWords (us ++ vs)
+  both_are [] vs f g = g
+  both_are (u ∷ us) vs f g = (f.0, both_are us vs f.1 g)
+
+  priced_are : (xs : List PricedEdit) → Each (PricedFits i) xs → AreWords (flat_map (priced_words i) xs)
+  priced_are [] f = tt
+  priced_are (x ∷ xs) f = (price_word x.price f.0.1, both_are (edit_words i x.edit) (flat_map (priced_words i) xs) (edit_are x.edit f.0.0) (priced_are xs f.1))
+
   reply_are : (t : Reply) → IsShortReply t → ReplyFits i t → AreWords (reply_words i t)
   unfolding is_blank solid
   reply_are Done short f = (is_solid (codes "done") refl, tt)
@@ -185,6 +239,8 @@ module _ (i : Problem) (is : IsProblem i) (named : IsNamed i) where
   reply_are (Lectures ls) short f = (is_solid (codes "lectures") refl, (count_word (length ls) short, lectures_are ls f))
   reply_are (Costs c) short f = (is_solid (codes "costs") refl, (amount_word c.capacity f.0, (amount_word c.days f.1, (amount_word c.compactness f.2, (amount_word c.stability f.3, tt)))))
   reply_are (Priced p) short f = (is_solid (codes "price") refl, (price_word p f, tt))
+  reply_are (AreMissing xs) short f = (is_solid (codes "missing") refl, (count_word (length xs) short, shortfalls_are xs f))
+  reply_are (AreCheapest xs) short f = (is_solid (codes "prices") refl, (count_word (length xs) short, priced_are xs f))
 
   -- no call and no reply is without words
   some_edit : (e : Edit) → edit_words i e ≡ [] → ⊥
@@ -202,6 +258,8 @@ module _ (i : Problem) (is : IsProblem i) (named : IsNamed i) where
   some_look (CourseCost c) h = cc
   some_look Cost h = cc
   some_look (Price e) h = cc
+  some_look Missing h = cc
+  some_look (Cheapest n p) h = cc
 
   some_reply : (t : Reply) → reply_words i t ≡ [] → ⊥
   some_reply Done h = cc
@@ -209,6 +267,8 @@ module _ (i : Problem) (is : IsProblem i) (named : IsNamed i) where
   some_reply (Lectures ls) h = cc
   some_reply (Costs c) h = cc
   some_reply (Priced p) h = cc
+  some_reply (AreMissing xs) h = cc
+  some_reply (AreCheapest xs) h = cc
 
   -- the words of a line that is a call or a reply
   pub call_line : (c : Call) → CallFits i c → (rest : List ℕ) → words (line (call_words i c) ++ rest) ≡ call_words i c ++ words rest

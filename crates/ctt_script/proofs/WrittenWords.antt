@@ -1,8 +1,9 @@
 -- What is written of a call, a reply or a journal fills the form with it.
-use Rattle.std.proofs.Common.{◌≡◌, ℕ, suc, ◌^◌, ◌<◌, ◌≤◌, List, [], ◌∷◌, length, flat_map, true, false, Option, Some, ℤ, pos, negsuc, refl, sym, ap, subst, arith}
+use Rattle.std.proofs.Common.{◌≡◌, ℕ, suc, ◌^◌, ◌<◌, ◌≤◌, List, [], ◌∷◌, length, flat_map, true, false, Option, Some, None, ℤ, pos, negsuc, refl, sym, ap, subst, arith}
 use Rattle.std.specs.Prelude.{codes, nat_lt, nat_le, nat_eq, slice_index_or, unsigned_abs}
 use Rattle.std.specs.List.{list_all, AllByRecursion as Each}
 use Rattle.std.specs.Option.{option_map}
+use Rattle.std.specs.Str.{bytes_eq}
 use Rattle.std.specs.Fmt.{decimal, signed_decimal}
 use Rattle.std.proofs.lemmas.Bool.{lt-ltb, le-leb, and_parts}
 use Rattle.std.proofs.lemmas.Bool.Decides.{nat_tests}
@@ -23,7 +24,12 @@ use Rattle.ctt_rules.specs.declared.cost.Cost.{Cost as Cost_}
 use Rattle.ctt_edits.specs.declared.edit.Edit.{Edit}
 use Rattle.ctt_edits.specs.declared.edit.Edit.TheVariants.{Place, Move, Swap, Reroom, Drop}
 use Rattle.ctt_edits.specs.declared.looks.Look.{Look}
-use Rattle.ctt_edits.specs.declared.looks.Look.TheVariants.{Course, Slot, Teacher, Curriculum, CourseCost, Cost, Price}
+use Rattle.ctt_edits.specs.declared.looks.Look.TheVariants.{Course, Slot, Teacher, Curriculum, CourseCost, Cost, Price, Missing, Cheapest}
+use Rattle.ctt_edits.specs.declared.pattern.Pattern.{Pattern}
+use Rattle.ctt_edits.specs.declared.pattern.Pattern.TheVariants.{Place as AnyPlace, Move as AnyMove, Swap as AnySwap, Reroom as AnyReroom}
+use Rattle.ctt_edits.specs.declared.priced_edit.PricedEdit.{PricedEdit}
+use Rattle.ctt_edits.specs.declared.shortfall.Shortfall.{Shortfall}
+use Rattle.ctt_edits.specs.Patterns.{FitsIfGiven, IsRoomIfGiven, PatternFits}
 use Rattle.ctt_edits.specs.declared.call.Call.{Call}
 use Rattle.ctt_edits.specs.declared.call.Call.TheVariants.{Look as Looks, Edit as Edits}
 use Rattle.ctt_edits.specs.declared.fault.EditFault.{EditFault}
@@ -31,7 +37,7 @@ use Rattle.ctt_edits.specs.declared.fault.EditFault.TheVariants.{NotPlaced, Same
 use Rattle.ctt_edits.specs.Edits.{EditFits}
 use Rattle.ctt_edits.specs.Looks.{LookFits}
 use Rattle.ctt_edits.specs.declared.reply.Reply.{Reply}
-use Rattle.ctt_edits.specs.declared.reply.Reply.TheVariants.{Done, Refused, Lectures, Costs, Price as Priced}
+use Rattle.ctt_edits.specs.declared.reply.Reply.TheVariants.{Done, Refused, Lectures, Costs, Price as Priced, Missing as AreMissing, Edits as AreCheapest}
 use Rattle.ctt_edits.specs.Calls.{CallFits}
 use Rattle.ctt_script.specs.declared.journal_fault.JournalFault.{JournalFault}
 use Rattle.ctt_script.specs.declared.journal_fault.JournalFault.TheVariants.{BadWord}
@@ -41,18 +47,18 @@ use Rattle.ctt_script.specs.declared.kinds.CallKind.TheVariants as kind
 use Rattle.ctt_script.specs.declared.kinds.EditKind.TheVariants as edit
 use Rattle.ctt_script.specs.declared.kinds.LookKind.TheVariants as look
 use Rattle.ctt_script.specs.Amounts.{amount_of, price_of, negated, number_below}
-use Rattle.ctt_script.specs.Kinds.{edit_kind, look_kind, call_kind, reply_kind, fault_kind}
+use Rattle.ctt_script.specs.Kinds.{edit_kind, pattern_kind, look_kind, call_kind, reply_kind, fault_kind}
 use Rattle.ctt_draft.specs.declared.asked.Asked.{Asked}
 use Rattle.ctt_core.specs.declared.journal.JournalEntry.{JournalEntry}
-use Rattle.ctt_edits.specs.Fitting.{FaultFits, IsAmount, ReplyFits, AreFew, IsShortReply}
+use Rattle.ctt_edits.specs.Fitting.{FaultFits, IsAmount, ShortfallFits, PricedFits, ReplyFits, AreFew, IsShortReply}
 use Rattle.ctt_draft.specs.Drafts.{AskedFits}
 use Rattle.ctt_core.specs.Entries.{EntryFits}
 use Rattle.ctt_script.specs.Entries.{IsShort, IsAsked, IsEntry}
 use Rattle.ctt_script.specs.JournalWords.{word, label}
-use Rattle.ctt_script.specs.CallPlaces.{course, room, teacher, curriculum, slot, edit_after, edit_form, look_after, look_form, call_after, call_form}
-use Rattle.ctt_script.specs.ReplyPlaces.{fault_after, fault_form, lecture, lectures, count, amount, costs, reply_after, reply_form}
+use Rattle.ctt_script.specs.CallPlaces.{course, room, teacher, curriculum, slot, edit_after, edit_form, any_or, room_choice, slot_after, slot_choice, pattern_after, pattern_form, look_after, look_form, call_after, call_form}
+use Rattle.ctt_script.specs.ReplyPlaces.{fault_after, fault_form, lecture, lectures, count, amount, costs, shortfall, shortfalls, priced, priced_edits, reply_after, reply_form}
 use Rattle.ctt_script.specs.JournalPlaces.{asked_form, entry_form, journal_form}
-use Rattle.ctt_script.specs.WrittenWords.{course_word, room_word, day_word, period_word, edit_words, look_words, call_words, fault_words, lecture_words, reply_words, asked_words, entry_words, journal_words}
+use Rattle.ctt_script.specs.WrittenWords.{course_word, room_word, day_word, period_word, edit_words, room_choice_word, day_choice_word, period_choice_word, pattern_words, look_words, call_words, fault_words, lecture_words, shortfall_words, priced_words, reply_words, asked_words, entry_words, journal_words}
 use Rattle.ctt_text.proofs.PlaceLaws.{then_fills}
 
 -- numbers in decimal
@@ -114,8 +120,25 @@ after_word : {A B : Type 0} (meaning : List ℕ → Option A) (otherwise : A) (g
 unfolding known one ◌>>=◌
 after_word meaning otherwise g w ws a b h fills = (rw h at fills).1
 
+-- what is not left open
+any_given : {A : Type 0} (meaning : List ℕ → Option A) (w : List ℕ) (a : A) → bytes_eq w (codes "*") ≡ false → meaning w ≡ Some a → any_or meaning w ≡ Some (Some a)
+any_given meaning w a other h = rw (other, h) refl
+
+-- digits are no `*`
+no_star : (ds : List ℕ) → list_all is_digit ds ≡ true → bytes_eq ds (codes "*") ≡ false
+no_star [] digits = refl
+no_star (b ∷ bs) digits =
+    let digit : is_digit b ≡ true = (and_parts (is_digit b) (list_all is_digit bs) digits).0 in
+    let other : nat_eq b 42 ≡ false = grind (arith, nat_tests) in
+    rw other refl
+
 module _ (i : Problem) (is : IsProblem i) (named : IsNamed i) where
   module _ {B : Type 0} where
+    room_choice_then : (g : Option ℕ → Form JournalFault B) (r : Option ℕ) (ws : List (List ℕ)) (b : B) → IsRoomIfGiven i r → Fills (g r) ws b → Fills (room_choice i >>= g) (room_choice_word i r ∷ ws) b
+    unfolding room_choice
+    room_choice_then g None ws b f k = word_then (any_or (number_in i.room_names)) None g (codes "*") ws None b refl k
+    room_choice_then g (Some r) ws b f k = word_then (any_or (number_in i.room_names)) None g (room_word i r) ws (Some r) b (any_given (number_in i.room_names) (room_word i r) r f.1 (name_says i.room_names r named.rooms.0 (subst (λ n. r < n) (sym is.rooms_named) f.0))) k
+
     course_then : (g : ℕ → Form JournalFault B) (c : ℕ) (ws : List (List ℕ)) (b : B) → c < course_count i → Fills (g c) ws b → Fills (course i >>= g) (course_word i c ∷ ws) b
     unfolding course known_name
     course_then g c ws b lt k = word_then (number_in i.course_names) 0 g (course_word i c) ws c b (name_says i.course_names c named.courses.0 (subst (λ n. c < n) (sym is.courses_named) lt)) k
@@ -151,6 +174,25 @@ module _ (i : Problem) (is : IsProblem i) (named : IsNamed i) where
   edit_fills (Reroom c s r) f = word_then edit_kind _ _ _ _ _ _ refl (course_then _ c _ _ f.0 (room_then _ r _ _ f.2 (slot_then _ s _ _ f.1 refl)))
   edit_fills (Drop c s) f = word_then edit_kind _ _ _ _ _ _ refl (course_then _ c _ _ f.0 (slot_then _ s _ _ f.1 refl))
 
+  slot_choice_fills : (s : Option ℕ) → FitsIfGiven (slot_count i) s → Fills (slot_choice i) (day_choice_word i s ∷ period_choice_word i s ∷ []) s
+  unfolding slot_choice slot_after
+  slot_choice_fills None f = word_then (any_or (number_below i.days)) None _ (codes "*") _ None None refl (label_then (codes "*") _ [] None refl refl)
+  slot_choice_fills (Some s) f =
+      let at = split i is named s f in
+      word_then (any_or (number_below i.days)) None _ (day_word i s) _ (Some (day_of i s)) (Some s) (any_given (number_below i.days) (day_word i s) (day_of i s) (no_star (day_word i s) (decimal_digits (day_of i s) (omega (arith, at.small_day)))) (below_says i.days (day_of i s) at.day at.small_day))
+      (word_then (number_below i.periods) 0 _ (period_word i s) [] (period_of i s) (Some s) (below_says i.periods (period_of i s) at.period at.small_period)
+      (ap (λ n. Some n) (div-add-mod' s i.periods)))
+
+  slot_choice_then : {B : Type 0} (g : Option ℕ → Form JournalFault B) (s : Option ℕ) (ws : List (List ℕ)) (b : B) → FitsIfGiven (slot_count i) s → Fills (g s) ws b → Fills (slot_choice i >>= g) (day_choice_word i s ∷ period_choice_word i s ∷ ws) b
+  slot_choice_then g s ws b f k = fills_both (slot_choice i) g (day_choice_word i s ∷ period_choice_word i s ∷ []) ws s b (slot_choice_fills s f) k
+
+  pattern_fills : (p : Pattern) → PatternFits i p → Fills (pattern_form i) (pattern_words i p) p
+  unfolding pattern_form pattern_after pattern_kind
+  pattern_fills (AnyPlace c s r) f = word_then pattern_kind _ _ _ _ _ _ refl (course_then _ c _ _ f.0 (room_choice_then _ r _ _ f.2 (slot_choice_then _ s _ _ f.1 refl)))
+  pattern_fills (AnyMove c s s2 r) f = word_then pattern_kind _ _ _ _ _ _ refl (course_then _ c _ _ f.0 (slot_then _ s _ _ f.1 (room_choice_then _ r _ _ f.3 (slot_choice_then _ s2 _ _ f.2 refl))))
+  pattern_fills (AnySwap c s) f = word_then pattern_kind _ _ _ _ _ _ refl (course_then _ c _ _ f.0 (slot_then _ s _ _ f.1 (label_then (codes "*") _ _ _ refl (label_then (codes "*") _ _ _ refl (label_then (codes "*") _ _ _ refl refl)))))
+  pattern_fills (AnyReroom c s r) f = word_then pattern_kind _ _ _ _ _ _ refl (course_then _ c _ _ f.0 (room_choice_then _ r _ _ f.2 (slot_then _ s _ _ f.1 refl)))
+
   pub look_fills : (l : Look) → LookFits i l → Fills (look_form i) (look_words i l) l
   unfolding look_form look_after look_kind
   look_fills (Course c) f = word_then look_kind _ _ _ _ _ _ refl (course_then _ c _ _ f refl)
@@ -160,6 +202,8 @@ module _ (i : Problem) (is : IsProblem i) (named : IsNamed i) where
   look_fills (CourseCost c) f = word_then look_kind _ _ _ _ _ _ refl (course_then _ c _ _ f refl)
   look_fills Cost f = word_then look_kind _ _ _ _ _ _ refl refl
   look_fills (Price e) f = word_then look_kind _ _ _ _ _ _ refl (fills_map (edit_form i) Price (edit_words i e) e (edit_fills e f))
+  look_fills Missing f = word_then look_kind _ _ _ _ _ _ refl refl
+  look_fills (Cheapest n p) f = word_then look_kind _ _ _ _ _ _ refl (word_then (number_below 1001) 0 _ (decimal n) _ n _ (below_says 1001 n (omega (arith, f.0)) (omega (arith, f.0))) (fills_map (pattern_form i) (λ q. Cheapest n q) (pattern_words i p) p (pattern_fills p f.1)))
 
   -- an edit or a look, as a call
   call_edit : (k : EditKind) (w : List ℕ) (ws : List (List ℕ)) (e : Edit) → edit_kind w ≡ Some k → call_kind w ≡ Some (kind.Edit k) → Fills (edit_form i) (w ∷ ws) e → Fills (call_form i) (w ∷ ws) (Edits e)
@@ -184,6 +228,8 @@ module _ (i : Problem) (is : IsProblem i) (named : IsNamed i) where
   call_fills (Looks (CourseCost c)) f = call_look look.CourseCost _ _ _ refl refl (look_fills (CourseCost c) f)
   call_fills (Looks Cost) f = call_look look.Cost _ _ _ refl refl (look_fills Cost f)
   call_fills (Looks (Price e)) f = call_look look.Price _ _ _ refl refl (look_fills (Price e) f)
+  call_fills (Looks Missing) f = call_look look.Missing _ _ _ refl refl (look_fills Missing f)
+  call_fills (Looks (Cheapest n p)) f = call_look look.Cheapest _ _ _ refl refl (look_fills (Cheapest n p) f)
 
   fault_fills : (x : EditFault) → FaultFits i x → Fills (fault_form i) (fault_words i x) x
   unfolding fault_form fault_after fault_kind
@@ -209,6 +255,22 @@ module _ (i : Problem) (is : IsProblem i) (named : IsNamed i) where
   unfolding costs
   costs_fills c f = amount_then _ c.capacity _ _ f.0 (amount_then _ c.days _ _ f.1 (amount_then _ c.compactness _ _ f.2 (amount_then _ c.stability _ _ f.3 refl)))
 
+  shortfall_fills : (s : Shortfall) → ShortfallFits i s → Fills (shortfall i) (shortfall_words i s) s
+  unfolding shortfall
+  shortfall_fills s f = course_then _ s.course _ _ f.0 (count_then _ s.missing _ _ f.1 refl)
+
+  shortfalls_fills : (xs : List Shortfall) → AreFew xs → Each (ShortfallFits i) xs → Fills (shortfalls i) (decimal (length xs) ∷ flat_map (shortfall_words i) xs) xs
+  unfolding shortfalls
+  shortfalls_fills xs few f = count_then _ (length xs) _ xs few (list_fills (shortfall i) (ShortfallFits i) (shortfall_words i) shortfall_fills xs f)
+
+  priced_fills : (p : PricedEdit) → PricedFits i p → Fills (priced i) (priced_words i p) p
+  unfolding priced
+  priced_fills p f = word_then price_of _ _ (signed_decimal p.price) _ p.price p (price_says p.price f.1) (fills_map (edit_form i) (λ e. record { edit = e; price = p.price }) (edit_words i p.edit) p.edit (edit_fills p.edit f.0))
+
+  priced_edits_fills : (xs : List PricedEdit) → AreFew xs → Each (PricedFits i) xs → Fills (priced_edits i) (decimal (length xs) ∷ flat_map (priced_words i) xs) xs
+  unfolding priced_edits
+  priced_edits_fills xs few f = count_then _ (length xs) _ xs few (list_fills (priced i) (PricedFits i) (priced_words i) priced_fills xs f)
+
   pub reply_fills : (t : Reply) → IsShortReply t → ReplyFits i t → Fills (reply_form i) (reply_words i t) t
   unfolding reply_form reply_after reply_kind
   reply_fills Done short f = word_then reply_kind _ _ _ _ _ _ refl refl
@@ -216,6 +278,8 @@ module _ (i : Problem) (is : IsProblem i) (named : IsNamed i) where
   reply_fills (Lectures ls) short f = word_then reply_kind _ _ _ _ _ _ refl (fills_map (lectures i) Lectures _ ls (lectures_fills ls short f))
   reply_fills (Costs c) short f = word_then reply_kind _ _ _ _ _ _ refl (fills_map costs Costs _ c (costs_fills c f))
   reply_fills (Priced p) short f = word_then reply_kind _ _ _ _ _ _ refl (word_then price_of _ _ (signed_decimal p) [] p _ (price_says p f) refl)
+  reply_fills (AreMissing xs) short f = word_then reply_kind _ _ _ _ _ _ refl (fills_map (shortfalls i) AreMissing _ xs (shortfalls_fills xs short f))
+  reply_fills (AreCheapest xs) short f = word_then reply_kind _ _ _ _ _ _ refl (fills_map (priced_edits i) AreCheapest _ xs (priced_edits_fills xs short f))
 
   asked_fills : (s : Asked) → IsAsked i s → Fills (asked_form i) (asked_words i s) s
   unfolding asked_form

@@ -1,11 +1,15 @@
 -- The places of the words of a call.
-use Rattle.std.specs.Prelude.{ℕ}
-use Rattle.ctt_text.specs.Problem.{Problem, slot_of}
+use Rattle.std.specs.Prelude.{ℕ, List, Option, Some, None, if◌then◌else◌, codes}
+use Rattle.std.specs.Str.{bytes_eq}
+use Rattle.std.specs.Option.{option_map}
+use Rattle.ctt_text.specs.Problem.{Problem, number_in, slot_of}
 use Rattle.ctt_text.specs.Forms.{Form, done, ◌>>=◌}
 use Rattle.ctt_edits.specs.declared.edit.Edit.{Edit}
 use Rattle.ctt_edits.specs.declared.edit.Edit.TheVariants.{Place, Move, Swap, Reroom, Drop}
 use Rattle.ctt_edits.specs.declared.looks.Look.{Look}
-use Rattle.ctt_edits.specs.declared.looks.Look.TheVariants.{Course, Slot, Teacher, Curriculum, CourseCost, Cost, Price}
+use Rattle.ctt_edits.specs.declared.looks.Look.TheVariants.{Course, Slot, Teacher, Curriculum, CourseCost, Cost, Price, Missing, Cheapest}
+use Rattle.ctt_edits.specs.declared.pattern.Pattern.{Pattern}
+use Rattle.ctt_edits.specs.declared.pattern.Pattern.TheVariants.{Place as AnyPlace, Move as AnyMove, Swap as AnySwap, Reroom as AnyReroom}
 use Rattle.ctt_edits.specs.declared.call.Call.{Call}
 use Rattle.ctt_edits.specs.declared.call.Call.TheVariants.{Look as Looks, Edit as Edits}
 use Rattle.ctt_script.specs.declared.journal_fault.JournalFault.{JournalFault}
@@ -13,11 +17,13 @@ use Rattle.ctt_script.specs.declared.kinds.EditKind.{EditKind}
 use Rattle.ctt_script.specs.declared.kinds.EditKind.TheVariants as edit
 use Rattle.ctt_script.specs.declared.kinds.LookKind.{LookKind}
 use Rattle.ctt_script.specs.declared.kinds.LookKind.TheVariants as look
+use Rattle.ctt_script.specs.declared.kinds.PatternKind.{PatternKind}
+use Rattle.ctt_script.specs.declared.kinds.PatternKind.TheVariants as pattern
 use Rattle.ctt_script.specs.declared.kinds.CallKind.{CallKind}
 use Rattle.ctt_script.specs.declared.kinds.CallKind.TheVariants as kind
 use Rattle.ctt_script.specs.Amounts.{number_below}
-use Rattle.ctt_script.specs.Kinds.{edit_kind, look_kind, call_kind}
-use Rattle.ctt_script.specs.JournalWords.{word, name}
+use Rattle.ctt_script.specs.Kinds.{edit_kind, pattern_kind, look_kind, call_kind}
+use Rattle.ctt_script.specs.JournalWords.{word, name, label}
 
 -- names of the instance
 unfoldable pub course : Problem → Form JournalFault ℕ
@@ -73,6 +79,59 @@ edit_form i = do
   kind ← word edit_kind edit.Place
   edit_after i kind
 
+-- `*`, which stands for any, or what the word means else
+abbrev pub any_or : {A : Type 0} → (List ℕ → Option A) → List ℕ → Option (Option A)
+any_or meaning w = if bytes_eq w (codes "*") then Some None else option_map Some (meaning w)
+
+-- a room, or any
+unfoldable pub room_choice : Problem → Form JournalFault (Option ℕ)
+room_choice i = word (any_or (number_in i.room_names)) None
+
+-- a day and a period in the day, or `*` twice for any slot
+unfoldable pub slot_after : Problem → Option ℕ → Form JournalFault (Option ℕ)
+slot_after i None = do
+  star ← label (codes "*")
+  done None
+slot_after i (Some day) = do
+  period ← word (number_below i.periods) 0
+  done (Some (slot_of i day period))
+
+unfoldable pub slot_choice : Problem → Form JournalFault (Option ℕ)
+slot_choice i = do
+  day ← word (any_or (number_below i.days)) None
+  slot_after i day
+
+-- what follows the word of an edit pattern
+unfoldable pub pattern_after : Problem → PatternKind → Form JournalFault Pattern
+pattern_after i pattern.Place = do
+  c ← course i
+  r ← room_choice i
+  s ← slot_choice i
+  done (AnyPlace c s r)
+pattern_after i pattern.Move = do
+  c ← course i
+  s ← slot i
+  r ← room_choice i
+  s2 ← slot_choice i
+  done (AnyMove c s s2 r)
+pattern_after i pattern.Swap = do
+  c ← course i
+  s ← slot i
+  course_star ← label (codes "*")
+  day_star ← label (codes "*")
+  period_star ← label (codes "*")
+  done (AnySwap c s)
+pattern_after i pattern.Reroom = do
+  c ← course i
+  r ← room_choice i
+  s ← slot i
+  done (AnyReroom c s r)
+
+unfoldable pub pattern_form : Problem → Form JournalFault Pattern
+pattern_form i = do
+  kind ← word pattern_kind pattern.Place
+  pattern_after i kind
+
 -- what stands behind the word of a look
 unfoldable pub look_after : Problem → LookKind → Form JournalFault Look
 look_after i look.Course = do
@@ -94,6 +153,11 @@ look_after i look.Cost = done Cost
 look_after i look.Price = do
   e ← edit_form i
   done (Price e)
+look_after i look.Missing = done Missing
+look_after i look.Cheapest = do
+  n ← word (number_below 1001) 0
+  p ← pattern_form i
+  done (Cheapest n p)
 
 unfoldable pub look_form : Problem → Form JournalFault Look
 look_form i = do

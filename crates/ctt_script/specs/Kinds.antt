@@ -5,13 +5,15 @@ use Rattle.std.specs.Option.{option_map}
 use Rattle.ctt_script.specs.declared.kinds.EditKind.{EditKind}
 use Rattle.ctt_script.specs.declared.kinds.EditKind.TheVariants.{Place, Move, Swap, Reroom, Drop}
 use Rattle.ctt_script.specs.declared.kinds.LookKind.{LookKind}
-use Rattle.ctt_script.specs.declared.kinds.LookKind.TheVariants.{Course, Slot, Teacher, Curriculum, CourseCost, Cost, Price}
+use Rattle.ctt_script.specs.declared.kinds.LookKind.TheVariants.{Course, Slot, Teacher, Curriculum, CourseCost, Cost, Price, Missing, Cheapest}
+use Rattle.ctt_script.specs.declared.kinds.PatternKind.{PatternKind}
+use Rattle.ctt_script.specs.declared.kinds.PatternKind.TheVariants as pattern
 use Rattle.ctt_script.specs.declared.kinds.CallKind.{CallKind}
 use Rattle.ctt_script.specs.declared.kinds.CallKind.TheVariants.{Edit, Look}
 use Rattle.ctt_script.specs.declared.kinds.StepKind.{StepKind}
-use Rattle.ctt_script.specs.declared.kinds.StepKind.TheVariants.{Open, Commit, Refresh, Abandon, Ask}
+use Rattle.ctt_script.specs.declared.kinds.StepKind.TheVariants.{Open, Commit, Refresh, Abandon, Peek, Ask}
 use Rattle.ctt_script.specs.declared.kinds.ReplyKind.{ReplyKind}
-use Rattle.ctt_script.specs.declared.kinds.ReplyKind.TheVariants.{Done, Refused, Lectures, Costs, Price as Priced}
+use Rattle.ctt_script.specs.declared.kinds.ReplyKind.TheVariants.{Done, Refused, Lectures, Costs, Price as Priced, Missing as AreMissing, Edits as AreCheapest}
 use Rattle.ctt_script.specs.declared.kinds.FaultKind.{FaultKind}
 use Rattle.ctt_script.specs.declared.kinds.FaultKind.TheVariants.{NotPlaced, SameSlot, SameCourse, AlreadyThere, CourseFull, Unavailable, Barred, Clash, RoomTaken}
 
@@ -34,6 +36,16 @@ look_kind word =
     else if bytes_eq word (codes "coursecost") then Some CourseCost
     else if bytes_eq word (codes "cost") then Some Cost
     else if bytes_eq word (codes "price") then Some Price
+    else if bytes_eq word (codes "missing") then Some Missing
+    else if bytes_eq word (codes "cheapest") then Some Cheapest
+    else None
+
+unfoldable pub pattern_kind : List ℕ → Option PatternKind
+pattern_kind word =
+    if bytes_eq word (codes "place") then Some pattern.Place
+    else if bytes_eq word (codes "move") then Some pattern.Move
+    else if bytes_eq word (codes "swap") then Some pattern.Swap
+    else if bytes_eq word (codes "reroom") then Some pattern.Reroom
     else None
 
 abbrev pub or_look : Option EditKind → Option LookKind → Option CallKind
@@ -49,6 +61,7 @@ step_kind word =
     else if bytes_eq word (codes "commit") then Some Commit
     else if bytes_eq word (codes "refresh") then Some Refresh
     else if bytes_eq word (codes "abandon") then Some Abandon
+    else if bytes_eq word (codes "peek") then Some Peek
     else option_map Ask (call_kind word)
 
 unfoldable pub reply_kind : List ℕ → Option ReplyKind
@@ -58,6 +71,8 @@ reply_kind word =
     else if bytes_eq word (codes "lectures") then Some Lectures
     else if bytes_eq word (codes "costs") then Some Costs
     else if bytes_eq word (codes "price") then Some Priced
+    else if bytes_eq word (codes "missing") then Some AreMissing
+    else if bytes_eq word (codes "prices") then Some AreCheapest
     else None
 
 unfoldable pub fault_kind : List ℕ → Option FaultKind

@@ -7,8 +7,10 @@ use Rattle.ctt_text.specs.Forms.{Form, done, ◌>>=◌, list_of}
 use Rattle.ctt_rules.specs.declared.cost.Cost.{Cost}
 use Rattle.ctt_edits.specs.declared.fault.EditFault.{EditFault}
 use Rattle.ctt_edits.specs.declared.fault.EditFault.TheVariants.{NotPlaced, SameSlot, SameCourse, AlreadyThere, CourseFull, Unavailable, Barred, Clash, RoomTaken}
+use Rattle.ctt_edits.specs.declared.priced_edit.PricedEdit.{PricedEdit}
+use Rattle.ctt_edits.specs.declared.shortfall.Shortfall.{Shortfall}
 use Rattle.ctt_edits.specs.declared.reply.Reply.{Reply}
-use Rattle.ctt_edits.specs.declared.reply.Reply.TheVariants.{Done, Refused, Lectures, Costs, Price as Priced}
+use Rattle.ctt_edits.specs.declared.reply.Reply.TheVariants.{Done, Refused, Lectures, Costs, Price as Priced, Missing as AreMissing, Edits as AreCheapest}
 use Rattle.ctt_script.specs.declared.journal_fault.JournalFault.{JournalFault}
 use Rattle.ctt_script.specs.declared.journal_fault.JournalFault.TheVariants.{BadWord}
 use Rattle.ctt_script.specs.declared.kinds.ReplyKind.{ReplyKind}
@@ -18,7 +20,7 @@ use Rattle.ctt_script.specs.declared.kinds.FaultKind.TheVariants as fault
 use Rattle.ctt_script.specs.Amounts.{amount_of, price_of}
 use Rattle.ctt_script.specs.Kinds.{reply_kind, fault_kind}
 use Rattle.ctt_script.specs.JournalWords.{word}
-use Rattle.ctt_script.specs.CallPlaces.{course, room, slot}
+use Rattle.ctt_script.specs.CallPlaces.{course, room, slot, edit_form}
 
 -- what stands behind the word of a fault
 unfoldable pub fault_after : Problem → FaultKind → Form JournalFault EditFault
@@ -67,6 +69,30 @@ costs = do
   stability ← amount
   done (record { capacity = capacity; days = days; compactness = compactness; stability = stability })
 
+-- a course, and how many of its lectures are missing
+unfoldable pub shortfall : Problem → Form JournalFault Shortfall
+shortfall i = do
+  c ← course i
+  n ← count
+  done (record { course = c; missing = n })
+
+unfoldable pub shortfalls : Problem → Form JournalFault (List Shortfall)
+shortfalls i = do
+  n ← count
+  list_of (shortfall i) n
+
+-- a price, and the edit that has it
+unfoldable pub priced : Problem → Form JournalFault PricedEdit
+priced i = do
+  p ← word price_of (pos 0)
+  e ← edit_form i
+  done (record { edit = e; price = p })
+
+unfoldable pub priced_edits : Problem → Form JournalFault (List PricedEdit)
+priced_edits i = do
+  n ← count
+  list_of (priced i) n
+
 -- what stands behind the word of a reply
 unfoldable pub reply_after : Problem → ReplyKind → Form JournalFault Reply
 reply_after i reply.Done = done Done
@@ -82,6 +108,12 @@ reply_after i reply.Costs = do
 reply_after i reply.Price = do
   p ← word price_of (pos 0)
   done (Priced p)
+reply_after i reply.Missing = do
+  xs ← shortfalls i
+  done (AreMissing xs)
+reply_after i reply.Edits = do
+  xs ← priced_edits i
+  done (AreCheapest xs)
 
 unfoldable pub reply_form : Problem → Form JournalFault Reply
 reply_form i = do

@@ -25,6 +25,11 @@ slot_part i s = codes " " ++ (day_word i s ++ (codes " " ++ period_word i s))
 abbrev pub lecture_part : Problem → Placed → List ℕ
 lecture_part i l = codes " " ++ (course_word i l.course ++ (codes " " ++ (room_word i l.room ++ slot_part i l.slot)))
 
+-- words, each after a blank
+abbrev pub words_part : List (List ℕ) → List ℕ
+words_part [] = []
+words_part (w ∷ ws) = codes " " ++ (w ++ words_part ws)
+
 abbrev pub asked_text : Problem → Asked → List ℕ
 asked_text i s = line (call_words i s.call) ++ line (reply_words i s.reply)
 

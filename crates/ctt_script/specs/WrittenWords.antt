@@ -1,5 +1,5 @@
 -- The words that are written of calls, replies and journals.
-use Rattle.std.specs.Prelude.{ℕ, List, [], ◌∷◌, ◌++◌, flat_map, length, codes, slice_index_or}
+use Rattle.std.specs.Prelude.{ℕ, List, [], ◌∷◌, ◌++◌, flat_map, length, codes, slice_index_or, Option, Some, None}
 use Rattle.std.specs.Fmt.{decimal, signed_decimal}
 use Rattle.ctt_text.specs.Problem.{Problem, day_of, period_of}
 use Rattle.ctt_text.specs.declared.placed.Placed.{Placed}
@@ -7,13 +7,17 @@ use Rattle.ctt_rules.specs.declared.cost.Cost.{Cost}
 use Rattle.ctt_edits.specs.declared.edit.Edit.{Edit}
 use Rattle.ctt_edits.specs.declared.edit.Edit.TheVariants.{Place, Move, Swap, Reroom, Drop}
 use Rattle.ctt_edits.specs.declared.looks.Look.{Look}
-use Rattle.ctt_edits.specs.declared.looks.Look.TheVariants.{Course, Slot, Teacher, Curriculum, CourseCost, Cost as CostLook, Price}
+use Rattle.ctt_edits.specs.declared.looks.Look.TheVariants.{Course, Slot, Teacher, Curriculum, CourseCost, Cost as CostLook, Price, Missing, Cheapest}
+use Rattle.ctt_edits.specs.declared.pattern.Pattern.{Pattern}
+use Rattle.ctt_edits.specs.declared.pattern.Pattern.TheVariants.{Place as AnyPlace, Move as AnyMove, Swap as AnySwap, Reroom as AnyReroom}
+use Rattle.ctt_edits.specs.declared.priced_edit.PricedEdit.{PricedEdit}
+use Rattle.ctt_edits.specs.declared.shortfall.Shortfall.{Shortfall}
 use Rattle.ctt_edits.specs.declared.call.Call.{Call}
 use Rattle.ctt_edits.specs.declared.call.Call.TheVariants.{Look as Looks, Edit as Edits}
 use Rattle.ctt_edits.specs.declared.fault.EditFault.{EditFault}
 use Rattle.ctt_edits.specs.declared.fault.EditFault.TheVariants.{NotPlaced, SameSlot, SameCourse, AlreadyThere, CourseFull, Unavailable, Barred, Clash, RoomTaken}
 use Rattle.ctt_edits.specs.declared.reply.Reply.{Reply}
-use Rattle.ctt_edits.specs.declared.reply.Reply.TheVariants.{Done, Refused, Lectures, Costs, Price as Priced}
+use Rattle.ctt_edits.specs.declared.reply.Reply.TheVariants.{Done, Refused, Lectures, Costs, Price as Priced, Missing as AreMissing, Edits as AreCheapest}
 use Rattle.ctt_draft.specs.declared.asked.Asked.{Asked}
 use Rattle.ctt_core.specs.declared.journal.JournalEntry.{JournalEntry}
 
@@ -37,6 +41,25 @@ edit_words i (Swap c s c2 s2) = codes "swap" ∷ course_word i c ∷ day_word i 
 edit_words i (Reroom c s r) = codes "reroom" ∷ course_word i c ∷ room_word i r ∷ day_word i s ∷ period_word i s ∷ []
 edit_words i (Drop c s) = codes "drop" ∷ course_word i c ∷ day_word i s ∷ period_word i s ∷ []
 
+-- `*` for what is left open
+abbrev pub room_choice_word : Problem → Option ℕ → List ℕ
+room_choice_word i None = codes "*"
+room_choice_word i (Some r) = room_word i r
+
+abbrev pub day_choice_word : Problem → Option ℕ → List ℕ
+day_choice_word i None = codes "*"
+day_choice_word i (Some s) = day_word i s
+
+abbrev pub period_choice_word : Problem → Option ℕ → List ℕ
+period_choice_word i None = codes "*"
+period_choice_word i (Some s) = period_word i s
+
+abbrev pub pattern_words : Problem → Pattern → List (List ℕ)
+pattern_words i (AnyPlace c s r) = codes "place" ∷ course_word i c ∷ room_choice_word i r ∷ day_choice_word i s ∷ period_choice_word i s ∷ []
+pattern_words i (AnyMove c s s2 r) = codes "move" ∷ course_word i c ∷ day_word i s ∷ period_word i s ∷ room_choice_word i r ∷ day_choice_word i s2 ∷ period_choice_word i s2 ∷ []
+pattern_words i (AnySwap c s) = codes "swap" ∷ course_word i c ∷ day_word i s ∷ period_word i s ∷ codes "*" ∷ codes "*" ∷ codes "*" ∷ []
+pattern_words i (AnyReroom c s r) = codes "reroom" ∷ course_word i c ∷ room_choice_word i r ∷ day_word i s ∷ period_word i s ∷ []
+
 abbrev pub look_words : Problem → Look → List (List ℕ)
 look_words i (Course c) = codes "course" ∷ course_word i c ∷ []
 look_words i (Slot s) = codes "slot" ∷ day_word i s ∷ period_word i s ∷ []
@@ -45,6 +68,8 @@ look_words i (Curriculum q) = codes "curriculum" ∷ slice_index_or i.curriculum
 look_words i (CourseCost c) = codes "coursecost" ∷ course_word i c ∷ []
 look_words i CostLook = codes "cost" ∷ []
 look_words i (Price e) = codes "price" ∷ edit_words i e
+look_words i Missing = codes "missing" ∷ []
+look_words i (Cheapest n p) = codes "cheapest" ∷ decimal n ∷ pattern_words i p
 
 abbrev pub call_words : Problem → Call → List (List ℕ)
 call_words i (Looks l) = look_words i l
@@ -67,12 +92,20 @@ lecture_words i l = course_word i l.course ∷ room_word i l.room ∷ day_word i
 abbrev pub cost_words : Cost → List (List ℕ)
 cost_words c = codes "costs" ∷ decimal c.capacity ∷ decimal c.days ∷ decimal c.compactness ∷ decimal c.stability ∷ []
 
+abbrev pub shortfall_words : Problem → Shortfall → List (List ℕ)
+shortfall_words i s = course_word i s.course ∷ decimal s.missing ∷ []
+
+abbrev pub priced_words : Problem → PricedEdit → List (List ℕ)
+priced_words i p = signed_decimal p.price ∷ edit_words i p.edit
+
 abbrev pub reply_words : Problem → Reply → List (List ℕ)
 reply_words i Done = codes "done" ∷ []
 reply_words i (Refused f) = codes "refused" ∷ fault_words i f
 reply_words i (Lectures ls) = codes "lectures" ∷ decimal (length ls) ∷ flat_map (lecture_words i) ls
 reply_words i (Costs c) = cost_words c
 reply_words i (Priced p) = codes "price" ∷ signed_decimal p ∷ []
+reply_words i (AreMissing xs) = codes "missing" ∷ decimal (length xs) ∷ flat_map (shortfall_words i) xs
+reply_words i (AreCheapest xs) = codes "prices" ∷ decimal (length xs) ∷ flat_map (priced_words i) xs
 
 abbrev pub asked_words : Problem → Asked → List (List ℕ)
 asked_words i s = call_words i s.call ++ reply_words i s.reply

@@ -5,7 +5,7 @@ ghost use Rattle.ctt_script.specs.AnswerText.{answer_words, bad_line, row_words}
 ghost use Rattle.ctt_script.specs.Entries.{AnswerFits, RowFits};
 ghost use Rattle.ctt_script.specs.WrittenText.{line};
 
-use crate::written::write_reply;
+use crate::written_replies::write_reply;
 use ctt_core::Answer;
 use ctt_edits::Row;
 use ctt_text::{Instance, end_with_count, end_with_slot, end_with_word};

@@ -3,12 +3,14 @@
 ghost use Rattle.ctt_script.specs.JournalWords.{reads, IsRead};
 ghost use Rattle.ctt_script.specs.CallPlaces.{edit_after, edit_form, look_after, look_form, call_after, call_form};
 ghost use Rattle.ctt_script.specs.declared.kinds.EditKind.TheVariants as edit;
+ghost use Rattle.ctt_script.specs.declared.kinds.LookKind.TheVariants as look;
 
 use crate::journal_fault::JournalFault;
 use crate::kinds::{CallKind, EditKind, LookKind};
+use crate::patterns::read_pattern;
 use crate::places::{
-    read_call_kind, read_course, read_curriculum, read_edit_kind, read_look_kind, read_room,
-    read_slot, read_teacher,
+    read_call_kind, read_course, read_curriculum, read_edit_kind, read_look_kind,
+    read_number_below, read_room, read_slot, read_teacher,
 };
 use ctt_edits::{Call, Edit, Look};
 use ctt_text::{Instance, Reader};
@@ -102,6 +104,17 @@ pub(crate) fn read_edit(reader: &mut Reader, instance: &Instance) -> Result<Edit
     read_edit_after(reader, instance, kind)
 }
 
+/// What follows `cheapest`.
+#[tactic(auto, using(crate::proofs::JournalSteps::read_bind, crate::proofs::JournalSteps::read_done), unfolding(crate::specs::CallPlaces::look_after))]
+fn read_cheapest(reader: &mut Reader, instance: &Instance) -> Result<Look, JournalFault>
+    ensures { IsRead (λ look. (look, reader.new)) result
+        (reads (look_after instance.now look.Cheapest) reader.old) }
+{
+    let count = read_number_below(reader, 1001)?;
+    let pattern = read_pattern(reader, instance)?;
+    Ok(Look::Cheapest(count, pattern))
+}
+
 /// What stands behind the word of a look.
 #[tactic(auto, using(crate::proofs::JournalSteps::read_bind, crate::proofs::JournalSteps::read_done), unfolding(crate::specs::CallPlaces::look_after))]
 fn read_look_after(
@@ -120,6 +133,8 @@ fn read_look_after(
         LookKind::CourseCost => Look::CourseCost(read_course(reader, instance)?),
         LookKind::Cost => Look::Cost,
         LookKind::Price => Look::Price(read_edit(reader, instance)?),
+        LookKind::Missing => Look::Missing,
+        LookKind::Cheapest => read_cheapest(reader, instance)?,
     })
 }
 

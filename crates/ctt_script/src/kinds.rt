@@ -2,7 +2,7 @@
 
 ghost use Rattle.std.specs.Prelude.{◌≡◌};
 ghost use Rattle.std.specs.Str.{bytes_eq};
-ghost use Rattle.ctt_script.specs.Kinds.{edit_kind, look_kind, call_kind, step_kind, reply_kind, fault_kind};
+ghost use Rattle.ctt_script.specs.Kinds.{edit_kind, pattern_kind, look_kind, call_kind, step_kind, reply_kind, fault_kind};
 
 /// Which edit.
 #[derive(Clone, Copy)]
@@ -24,6 +24,17 @@ pub(crate) enum LookKind {
     CourseCost,
     Cost,
     Price,
+    Missing,
+    Cheapest,
+}
+
+/// Which edit pattern.
+#[derive(Clone, Copy)]
+pub(crate) enum PatternKind {
+    Place,
+    Move,
+    Swap,
+    Reroom,
 }
 
 /// Which call.
@@ -40,6 +51,7 @@ pub(crate) enum StepKind {
     Commit,
     Refresh,
     Abandon,
+    Peek,
     Ask(CallKind),
 }
 
@@ -51,6 +63,8 @@ pub(crate) enum ReplyKind {
     Lectures,
     Costs,
     Price,
+    Missing,
+    Edits,
 }
 
 /// Which fault of an edit.
@@ -127,6 +141,28 @@ pub(crate) fn look_kind(word: &str) -> Option<LookKind>
         Some(LookKind::Cost)
     } else if is_word(word, "price") {
         Some(LookKind::Price)
+    } else if is_word(word, "missing") {
+        Some(LookKind::Missing)
+    } else if is_word(word, "cheapest") {
+        Some(LookKind::Cheapest)
+    } else {
+        None
+    }
+}
+
+/// The edit pattern that a word begins.
+#[tactic(auto, unfolding(crate::specs::Kinds::pattern_kind))]
+pub(crate) fn pattern_kind(word: &str) -> Option<PatternKind>
+    ensures { result ≡ pattern_kind word.now }
+{
+    if is_word(word, "place") {
+        Some(PatternKind::Place)
+    } else if is_word(word, "move") {
+        Some(PatternKind::Move)
+    } else if is_word(word, "swap") {
+        Some(PatternKind::Swap)
+    } else if is_word(word, "reroom") {
+        Some(PatternKind::Reroom)
     } else {
         None
     }
@@ -157,6 +193,8 @@ pub(crate) fn step_kind(word: &str) -> Option<StepKind>
         Some(StepKind::Refresh)
     } else if is_word(word, "abandon") {
         Some(StepKind::Abandon)
+    } else if is_word(word, "peek") {
+        Some(StepKind::Peek)
     } else {
         Some(StepKind::Ask(call_kind(word)?))
     }
@@ -177,6 +215,10 @@ pub(crate) fn reply_kind(word: &str) -> Option<ReplyKind>
         Some(ReplyKind::Costs)
     } else if is_word(word, "price") {
         Some(ReplyKind::Price)
+    } else if is_word(word, "missing") {
+        Some(ReplyKind::Missing)
+    } else if is_word(word, "prices") {
+        Some(ReplyKind::Edits)
     } else {
         None
     }

@@ -2,15 +2,16 @@
 
 ghost use Rattle.ctt_text.specs.Forms.{list_of, one_more};
 ghost use Rattle.ctt_script.specs.JournalWords.{reads, IsRead, GivesRead};
-ghost use Rattle.ctt_script.specs.ReplyPlaces.{fault_after, fault_form, lecture, lectures, costs, reply_after, reply_form};
+ghost use Rattle.ctt_script.specs.ReplyPlaces.{fault_after, fault_form, lecture, lectures, costs, shortfall, shortfalls, priced, priced_edits, reply_after, reply_form};
 
+use crate::calls::read_edit;
 use crate::journal_fault::JournalFault;
 use crate::kinds::{FaultKind, ReplyKind};
 use crate::places::{
     read_amount, read_count, read_course, read_fault_kind, read_price, read_reply_kind, read_room,
     read_slot,
 };
-use ctt_edits::{EditFault, Lectures, Reply};
+use ctt_edits::{EditFault, Lectures, PricedEdit, PricedEdits, Reply, Shortfall, Shortfalls};
 use ctt_rules::Cost;
 use ctt_text::{Instance, Placed, Reader};
 use std::alloc::Global;
@@ -123,6 +124,110 @@ fn read_costs(reader: &mut Reader) -> Result<Cost, JournalFault>
     })
 }
 
+/// A course, and how many of its lectures are missing.
+#[tactic(auto, using(crate::proofs::JournalSteps::read_bind, crate::proofs::JournalSteps::read_done), unfolding(crate::specs::ReplyPlaces::shortfall))]
+fn read_shortfall(reader: &mut Reader, instance: &Instance) -> Result<Shortfall, JournalFault>
+    ensures { IsRead (λ short. (short, reader.new)) result
+        (reads (shortfall instance.now) reader.old) }
+{
+    let course = read_course(reader, instance)?;
+    let missing = read_count(reader)?;
+    Ok(Shortfall { course, missing })
+}
+
+/// One more course of which lectures are missing.
+#[tactic(auto, using(crate::proofs::JournalSteps::read_one_more))]
+fn read_one_shortfall(
+    reader: &mut Reader,
+    instance: &Instance,
+    list: &mut Vec<Shortfall>,
+) -> Result<(), JournalFault>
+    ensures { GivesRead (λ _. (list.new.items, reader.new)) result
+        (reads (one_more (shortfall instance.now) list.old.items) reader.old) }
+{
+    let one = read_shortfall(reader, instance)?;
+    list.push(one)?;
+    Ok(())
+}
+
+/// So many such courses.
+fn read_so_many_shortfall(
+    alloc: Global,
+    reader: &mut Reader,
+    instance: &Instance,
+    count: u32,
+) -> Result<Vec<Shortfall>, JournalFault>
+    ensures { GivesRead (λ list. (list.items, reader.new)) result
+        (reads (list_of (shortfall instance.now) count) reader.old) }
+{
+    let mut list = Vec::with_capacity(alloc, (count as usize).min(16))?;
+    for _ in 0..count {
+        read_one_shortfall(reader, instance, &mut list)?;
+    }
+    Ok(list)
+}
+
+/// A number, and so many courses of which lectures are missing.
+#[tactic(auto, using(crate::proofs::JournalSteps::read_bind), unfolding(crate::specs::ReplyPlaces::shortfalls))]
+fn read_shortfalls(
+    alloc: Global,
+    reader: &mut Reader,
+    instance: &Instance,
+) -> Result<Vec<Shortfall>, JournalFault>
+    ensures { GivesRead (λ list. (list.items, reader.new)) result
+        (reads (shortfalls instance.now) reader.old) }
+{
+    let count = read_count(reader)?;
+    read_so_many_shortfall(alloc, reader, instance, count)
+}
+
+/// A price, and the edit that has it, after those before it.
+#[tactic(auto, using(crate::proofs::JournalSteps::read_one_priced))]
+fn read_one_priced(
+    reader: &mut Reader,
+    instance: &Instance,
+    list: &mut PricedEdits,
+) -> Result<(), JournalFault>
+    ensures { GivesRead (λ _. (list.new, reader.new)) result
+        (reads (one_more (priced instance.now) list.old) reader.old) }
+{
+    let price = read_price(reader)?;
+    let edit = read_edit(reader, instance)?;
+    list.push(&PricedEdit { edit, price })?;
+    Ok(())
+}
+
+/// So many edits with their prices.
+fn read_so_many_priced(
+    alloc: Global,
+    reader: &mut Reader,
+    instance: &Instance,
+    count: u32,
+) -> Result<PricedEdits, JournalFault>
+    ensures { GivesRead (λ list. (list, reader.new)) result
+        (reads (list_of (priced instance.now) count) reader.old) }
+{
+    let mut list = PricedEdits::none(alloc);
+    for _ in 0..count {
+        read_one_priced(reader, instance, &mut list)?;
+    }
+    Ok(list)
+}
+
+/// A number, and so many edits with their prices.
+#[tactic(auto, using(crate::proofs::JournalSteps::read_bind), unfolding(crate::specs::ReplyPlaces::priced_edits))]
+fn read_priced_edits(
+    alloc: Global,
+    reader: &mut Reader,
+    instance: &Instance,
+) -> Result<PricedEdits, JournalFault>
+    ensures { GivesRead (λ list. (list, reader.new)) result
+        (reads (priced_edits instance.now) reader.old) }
+{
+    let count = read_count(reader)?;
+    read_so_many_priced(alloc, reader, instance, count)
+}
+
 /// What stands behind the word of a reply.
 #[tactic(auto, using(crate::proofs::JournalSteps::read_bind, crate::proofs::JournalSteps::read_done), unfolding(crate::specs::ReplyPlaces::reply_after))]
 fn read_reply_after(
@@ -142,6 +247,10 @@ fn read_reply_after(
         )?))),
         ReplyKind::Costs => Ok(Reply::Costs(read_costs(reader)?)),
         ReplyKind::Price => Ok(Reply::Price(read_price(reader)?)),
+        ReplyKind::Missing => Ok(Reply::Missing(Shortfalls::new(read_shortfalls(
+            alloc, reader, instance,
+        )?))),
+        ReplyKind::Edits => Ok(Reply::Edits(read_priced_edits(alloc, reader, instance)?)),
     }
 }
 

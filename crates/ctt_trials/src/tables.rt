@@ -119,6 +119,7 @@ const ON_SHEETS: &[Case] = &[
     case!("a swap of rooms", NOTHING, SWAP_OF_ROOMS, LINES),
     case!("the border of two days", NOTHING, BORDER, LINES),
     case!("prices and looks on the solution", SOLUTION, PRICES, LINES),
+    case!("patterns on the solution", SOLUTION, PATTERNS, LINES),
     case!(
         "edits that are refused on the solution",
         SOLUTION,
@@ -131,6 +132,7 @@ const ON_SHEETS: &[Case] = &[
     case!("one placement", NOTHING, "", PLACEMENT),
     case!("changes that are accepted", SOLUTION, "", ACCEPTED),
     case!("price place alg B 0 0", NOTHING, PRICE, ROWS),
+    case!("cheapest 1 move geo 0 1 * * *", SOLUTION, PATTERN, ROWS),
     case!("swap geo 0 1 top 0 2", NOTHING, SWAP, ROWS),
     case!("drafts", TOP, "", DRAFT),
     case!("a draft of a thousand calls", NOTHING, "", LONG_DRAFT),
@@ -143,6 +145,9 @@ const ON_DESKS: &[Case] = &[
     case!("out of turn", NOTHING, OUT_OF_TURN, DESK),
     case!("a price that changed", NOTHING, STALE_PRICE, DESK),
     case!("abandoned", NOTHING, ABANDONED, DESK),
+    case!("peeked at", NOTHING, PEEKED, DESK),
+    case!("a price that is peeked at", NOTHING, PEEKED_PRICE, DESK),
+    case!("the cheapest and the missing", NOTHING, CHEAPEST, DESK),
 ];
 
 /// Desks whose drafts are brought up to date, or left open.

@@ -25,6 +25,19 @@ pub(crate) const CHANGED_BACK: &str = "0 open
 show cost
 ";
 
+/// A planner peeks at a slot that is empty, which another one fills. He relies on nothing of it.
+pub(crate) const PEEKED: &str = "0 open
+0 peek slot 0 2
+0 place geo A 0 1
+1 open
+1 place top B 0 2
+1 commit
+0 peek slot 0 2
+0 commit
+0 peek slot 0 2
+show cost
+";
+
 pub(crate) const DROP_AND_PLACE: &str = "0 open
 1 open
 0 drop geo 1 2
@@ -55,6 +68,30 @@ pub(crate) const STALE_PRICE: &str = "0 open
 1 place geo A 0 1
 1 commit
 0 commit
+";
+
+/// The same, but the price is peeked at.
+pub(crate) const PEEKED_PRICE: &str = "0 open
+0 peek price place alg B 0 0
+1 open
+1 place geo A 0 1
+1 commit
+0 peek price place alg B 0 0
+0 place alg B 0 0
+0 commit
+";
+
+/// What is missing and cheapest, asked on an empty timetable on which another planner places.
+pub(crate) const CHEAPEST: &str = "0 open
+0 missing
+0 peek cheapest 2 place top B * *
+0 cheapest 4 place alg * 1 1
+1 open
+1 place geo A 0 1
+1 commit
+0 commit
+show cheapest 4 place top * * *
+show missing
 ";
 
 pub(crate) const REFUSED: &str = "0 open
@@ -195,6 +232,20 @@ coursecost top
 cost
 ";
 
+/// What is missing, and the cheapest edits of patterns, on the solution.
+pub(crate) const PATTERNS: &str = "missing
+cheapest 3 move geo 1 2 * * *
+cheapest 9 move geo 1 2 A * *
+cheapest 9 move geo 1 2 * 1 1
+cheapest 5 reroom alg * 0 0
+cheapest 5 reroom alg B 0 0
+cheapest 20 swap geo 0 1 * * *
+cheapest 20 swap top 0 2 * * *
+cheapest 4 place top * * *
+cheapest 4 move geo 0 0 * * *
+cheapest 0 move geo 1 2 * * *
+";
+
 /// Edits that are refused, on the solution.
 pub(crate) const REFUSED_EDITS: &str = "place alg A 1 1
 place alg B 0 0
@@ -230,6 +281,9 @@ place geo A 1 0
 
 /// What reads two courses and a slot.
 pub(crate) const PRICE: &str = "price place alg B 0 0";
+
+/// What reads a course with its curriculum mates, and all slots.
+pub(crate) const PATTERN: &str = "cheapest 1 move geo 0 1 * * *";
 
 /// A journal of a draft in which top was placed in room A.
 pub(crate) const OTHER_JOURNAL: &str = "journal 1 entry 0 1 place top A 0 1 done END.";

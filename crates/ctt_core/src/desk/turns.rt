@@ -6,7 +6,7 @@ ghost use Rattle.ctt_edits.specs.Looks.{LookFits};
 ghost use Rattle.ctt_core.specs.Runs.{EventFits};
 ghost use Rattle.ctt_core.specs.Desks.{IsAnswerTo, goes_on, draft_at, with_draft, IsFresh};
 ghost use Rattle.ctt_core.specs.declared.answer.Answer.TheVariants.{Committed, NoMemory as OutOfMemory};
-ghost use Rattle.ctt_core.specs.declared.event.Event.TheVariants.{Open, Ask, Commit, Refresh, Abandon, Show};
+ghost use Rattle.ctt_core.specs.declared.event.Event.TheVariants.{Open, Ask, Peek, Commit, Refresh, Abandon, Show};
 
 use crate::answer::Answer;
 use crate::desk::Desk;
@@ -49,6 +49,23 @@ impl<'i, S: Sheet<'i>> Desk<'i, S> {
         match draft {
             None => Answer::NoDraft,
             Some(draft) => match draft.call(call) {
+                Ok(told) => Answer::Replied(told),
+                Err(_) => Answer::NoMemory,
+            },
+        }
+    }
+
+    /// Looks at a draft. It is no call: the draft stays as it is.
+    fn peek(&mut self, planner: PlannerNo, look: &Look) -> Answer
+        requires planner { planner < length self.old.drafts }
+        requires fits { LookFits self.old.problem look.now }
+        ensures answer { IsAnswerTo self.old (Peek planner look.now) result }
+        ensures goes_on { self.new ≡ goes_on self.old (Peek planner look.now) result }
+    {
+        let place = planner.get() as usize;
+        match &self.drafts[place] {
+            None => Answer::NoDraft,
+            Some(draft) => match draft.peek(look) {
                 Ok(told) => Answer::Replied(told),
                 Err(_) => Answer::NoMemory,
             },
@@ -160,6 +177,7 @@ impl<'i, S: Sheet<'i>> Desk<'i, S> {
         match event {
             Event::Open(planner) => self.open(planner),
             Event::Ask(planner, call) => self.ask(planner, call),
+            Event::Peek(planner, look) => self.peek(planner, &look),
             Event::Commit(planner) => self.commit(planner),
             Event::Refresh(planner) => self.refresh(planner),
             Event::Abandon(planner) => self.abandon(planner),

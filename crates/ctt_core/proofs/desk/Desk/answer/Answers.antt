@@ -1,6 +1,6 @@
 use Rattle.std.proofs.Common.{rules, length, subst}
 use Rattle.ctt_core.specs.Runs.{EventFits}
-use Rattle.ctt_core.specs.declared.event.Event.TheVariants.{Open, Ask, Commit, Refresh, Abandon, Show}
+use Rattle.ctt_core.specs.declared.event.Event.TheVariants.{Open, Ask, Peek, Commit, Refresh, Abandon, Show}
 use Rattle.ctt_core.proofs.desk.Desk.answer.Goals as goal
 
 pub open-requires : goal.open-requires
@@ -11,6 +11,13 @@ open-requires g c κs =
 pub ask-requires : goal.ask-requires
 ask-requires g c κs =
     let both : EventFits c.args.self.now.problem (length c.args.self.now.drafts) (Ask c.in-Ask.planner c.in-Ask.call) = subst (EventFits c.args.self.now.problem (length c.args.self.now.drafts)) c.in-Ask.is c.requires in
+    let within = both.0 in
+    let fits = both.1 in
+    search rules
+
+pub peek-requires : goal.peek-requires
+peek-requires g c κs =
+    let both : EventFits c.args.self.now.problem (length c.args.self.now.drafts) (Peek c.in-Peek.planner c.in-Peek.look) = subst (EventFits c.args.self.now.problem (length c.args.self.now.drafts)) c.in-Peek.is c.requires in
     let within = both.0 in
     let fits = both.1 in
     search rules

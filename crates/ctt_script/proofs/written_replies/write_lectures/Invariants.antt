@@ -1,7 +1,7 @@
 use Rattle.std.proofs.Common.{◌≡◌, ◌++◌, take, length, flat_map, string_bytes, codes}
 use Rattle.std.specs.Fmt.{decimal}
 use Rattle.ctt_script.specs.WrittenText.{lecture_part}
-use Rattle.ctt_script.proofs.written.write_lectures.Given as goal
+use Rattle.ctt_script.proofs.written_replies.write_lectures.Given as goal
 
 -- the lectures so far
 abbrev pub invariant-loop-lecture : goal.invariant-loop-lecture

@@ -1,4 +1,4 @@
-use Rattle.ctt_script.proofs.written.write_look.Goals as goal
+use Rattle.ctt_script.proofs.written_calls.write_look.Goals as goal
 
 pub returns-in-Curriculum : goal.returns-in-Curriculum
 returns-in-Curriculum c = rw (c.in-Curriculum.is) (rw c.curriculum_name.ensures at c.write_named-in-Curriculum.ensures)

@@ -1,7 +1,7 @@
 use Rattle.std.proofs.Common.{arith}
 use Rattle.std.proofs.lemmas.Grind.{common_steps}
 use Rattle.ctt_script.proofs.WrittenText.{lectures_end}
-use Rattle.ctt_script.proofs.written.write_lectures.Goals as goal
+use Rattle.ctt_script.proofs.written_replies.write_lectures.Goals as goal
 
 pub returns : goal.returns
 returns c =

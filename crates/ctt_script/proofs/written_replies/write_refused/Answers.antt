@@ -5,7 +5,7 @@ use Rattle.ctt_edits.specs.declared.fault.EditFault.{EditFault}
 use Rattle.ctt_edits.specs.declared.fault.EditFault.TheVariants.{NotPlaced, SameSlot, SameCourse, AlreadyThere, CourseFull, Unavailable, Barred, Clash, RoomTaken}
 use Rattle.ctt_script.specs.WrittenText.{line}
 use Rattle.ctt_script.specs.WrittenWords.{fault_words}
-use Rattle.ctt_script.proofs.written.write_refused.Goals as goal
+use Rattle.ctt_script.proofs.written_replies.write_refused.Goals as goal
 
 refused_line : (i : Problem) (f : EditFault) → codes "refused " ++ line (fault_words i f) ≡ line (codes "refused" ∷ fault_words i f)
 refused_line i NotPlaced = refl

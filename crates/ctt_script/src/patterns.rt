@@ -1,0 +1,183 @@
+//! Reading the words of an edit pattern.
+
+ghost use Rattle.std.specs.Prelude.{◌≡◌, ◌<◌, IfOk, IfSome, None, codes};
+ghost use Rattle.ctt_text.specs.Problem.{number_in};
+ghost use Rattle.ctt_script.specs.Amounts.{number_below};
+ghost use Rattle.ctt_script.specs.JournalWords.{word, label, reads, IsRead};
+ghost use Rattle.ctt_script.specs.CallPlaces.{any_or, room_choice, slot_after, slot_choice, pattern_after, pattern_form};
+ghost use Rattle.ctt_script.specs.declared.kinds.PatternKind.TheVariants as pattern;
+
+use crate::amounts::number_below;
+use crate::journal_fault::JournalFault;
+use crate::kinds::{PatternKind, is_word};
+use crate::places::{
+    read_course, read_label, read_number_below, read_pattern_kind, read_slot, read_word,
+};
+use ctt_edits::Pattern;
+use ctt_text::{Instance, Reader, RoomNo, SlotNo};
+
+/// The room that a word names, or any for `*`.
+fn room_or_any(instance: &Instance, word: &str) -> Option<Option<RoomNo>>
+    ensures { result ≡ any_or (number_in instance.now.room_names) word.now }
+{
+    if is_word(word, "*") {
+        Some(None)
+    } else {
+        Some(Some(instance.find_room(word)?))
+    }
+}
+
+/// A room by its name, or any.
+#[tactic(auto, using(crate::proofs::JournalSteps::read_word), unfolding(crate::specs::CallPlaces::room_choice))]
+fn read_room_choice(
+    reader: &mut Reader,
+    instance: &Instance,
+) -> Result<Option<RoomNo>, JournalFault>
+    ensures { IsRead (λ room. (room, reader.new)) result
+        (reads (room_choice instance.now) reader.old) }
+{
+    let at = reader.next();
+    let word = read_word(reader)?;
+    room_or_any(instance, word).ok_or(JournalFault::BadWord(at))
+}
+
+/// The number below a limit that a word is, or any for `*`.
+fn below_or_any(word: &str, limit: u16) -> Option<Option<u16>>
+    ensures number { result ≡ any_or (number_below limit) word.now }
+    ensures small { IfSome result (λ number. IfSome number (λ n. n < limit)) }
+{
+    if is_word(word, "*") {
+        Some(None)
+    } else {
+        Some(Some(number_below(word.as_bytes(), limit)?))
+    }
+}
+
+/// A number below a limit, or any.
+#[tactic(auto, using(crate::proofs::JournalSteps::read_word))]
+fn read_below_or_any(reader: &mut Reader, limit: u16) -> Result<Option<u16>, JournalFault>
+    ensures limit { IfOk result (λ number. IfSome number (λ n. n < limit)) }
+    ensures exact { IsRead (λ number. (number, reader.new)) result
+        (reads (word (any_or (number_below limit)) None) reader.old) }
+{
+    let at = reader.next();
+    let word = read_word(reader)?;
+    below_or_any(word, limit).ok_or(JournalFault::BadWord(at))
+}
+
+/// What follows the day of a slot, or the first `*` for any slot.
+#[tactic(auto, using(crate::proofs::JournalSteps::read_bind, crate::proofs::JournalSteps::read_done), unfolding(crate::specs::CallPlaces::slot_after))]
+fn read_slot_after(
+    reader: &mut Reader,
+    instance: &Instance,
+    day: Option<u16>,
+) -> Result<Option<SlotNo>, JournalFault>
+    requires { IfSome day (λ d. d < instance.now.days) }
+    ensures { IsRead (λ slot. (slot, reader.new)) result
+        (reads (slot_after instance.now day) reader.old) }
+{
+    match day {
+        None => {
+            read_label(reader, "*")?;
+            Ok(None)
+        }
+        Some(day) => {
+            let period = read_number_below(reader, instance.periods())?;
+            Ok(Some(instance.slot_of(day, period)))
+        }
+    }
+}
+
+/// A day and a period in the day, as their slot, or any slot.
+#[tactic(auto, using(crate::proofs::JournalSteps::read_bind), unfolding(crate::specs::CallPlaces::slot_choice))]
+fn read_slot_choice(
+    reader: &mut Reader,
+    instance: &Instance,
+) -> Result<Option<SlotNo>, JournalFault>
+    ensures { IsRead (λ slot. (slot, reader.new)) result
+        (reads (slot_choice instance.now) reader.old) }
+{
+    let day = read_below_or_any(reader, instance.days())?;
+    read_slot_after(reader, instance, day)
+}
+
+/// What follows `place`.
+#[tactic(auto, using(crate::proofs::JournalSteps::read_bind, crate::proofs::JournalSteps::read_done), unfolding(crate::specs::CallPlaces::pattern_after))]
+fn read_place(reader: &mut Reader, instance: &Instance) -> Result<Pattern, JournalFault>
+    ensures { IsRead (λ pattern. (pattern, reader.new)) result
+        (reads (pattern_after instance.now pattern.Place) reader.old) }
+{
+    let course = read_course(reader, instance)?;
+    let room = read_room_choice(reader, instance)?;
+    let slot = read_slot_choice(reader, instance)?;
+    Ok(Pattern::Place(course, slot, room))
+}
+
+/// What follows `move`.
+#[tactic(auto, using(crate::proofs::JournalSteps::read_bind, crate::proofs::JournalSteps::read_done), unfolding(crate::specs::CallPlaces::pattern_after))]
+fn read_move(reader: &mut Reader, instance: &Instance) -> Result<Pattern, JournalFault>
+    ensures { IsRead (λ pattern. (pattern, reader.new)) result
+        (reads (pattern_after instance.now pattern.Move) reader.old) }
+{
+    let course = read_course(reader, instance)?;
+    let slot = read_slot(reader, instance)?;
+    let room = read_room_choice(reader, instance)?;
+    let target = read_slot_choice(reader, instance)?;
+    Ok(Pattern::Move(course, slot, target, room))
+}
+
+/// What follows `swap`.
+#[tactic(auto, using(crate::proofs::JournalSteps::read_bind, crate::proofs::JournalSteps::read_done), unfolding(crate::specs::CallPlaces::pattern_after))]
+fn read_swap(reader: &mut Reader, instance: &Instance) -> Result<Pattern, JournalFault>
+    ensures { IsRead (λ pattern. (pattern, reader.new)) result
+        (reads (pattern_after instance.now pattern.Swap) reader.old) }
+{
+    let course = read_course(reader, instance)?;
+    let slot = read_slot(reader, instance)?;
+    read_label(reader, "*")?;
+    read_label(reader, "*")?;
+    read_label(reader, "*")?;
+    Ok(Pattern::Swap(course, slot))
+}
+
+/// What follows `reroom`.
+#[tactic(auto, using(crate::proofs::JournalSteps::read_bind, crate::proofs::JournalSteps::read_done), unfolding(crate::specs::CallPlaces::pattern_after))]
+fn read_reroom(reader: &mut Reader, instance: &Instance) -> Result<Pattern, JournalFault>
+    ensures { IsRead (λ pattern. (pattern, reader.new)) result
+        (reads (pattern_after instance.now pattern.Reroom) reader.old) }
+{
+    let course = read_course(reader, instance)?;
+    let room = read_room_choice(reader, instance)?;
+    let slot = read_slot(reader, instance)?;
+    Ok(Pattern::Reroom(course, slot, room))
+}
+
+/// What follows the word of an edit pattern.
+fn read_pattern_after(
+    reader: &mut Reader,
+    instance: &Instance,
+    kind: PatternKind,
+) -> Result<Pattern, JournalFault>
+    ensures { IsRead (λ pattern. (pattern, reader.new)) result
+        (reads (pattern_after instance.now kind) reader.old) }
+{
+    match kind {
+        PatternKind::Place => read_place(reader, instance),
+        PatternKind::Move => read_move(reader, instance),
+        PatternKind::Swap => read_swap(reader, instance),
+        PatternKind::Reroom => read_reroom(reader, instance),
+    }
+}
+
+/// The words of an edit pattern.
+#[tactic(auto, using(crate::proofs::JournalSteps::read_bind), unfolding(crate::specs::CallPlaces::pattern_form))]
+pub(crate) fn read_pattern(
+    reader: &mut Reader,
+    instance: &Instance,
+) -> Result<Pattern, JournalFault>
+    ensures { IsRead (λ pattern. (pattern, reader.new)) result
+        (reads (pattern_form instance.now) reader.old) }
+{
+    let kind = read_pattern_kind(reader)?;
+    read_pattern_after(reader, instance, kind)
+}
