@@ -101,7 +101,8 @@ pub record IsForeign (i : Problem) (opening : List Placed) (d : DraftingValue) (
   pub planner : Grows i opening d.planner q
   pub other : ((count < length d.planner.front) × (q.front ≡ d.planner.front)) ⊎ ((count ≡ length (own q.number q.front)) × (count ≢ q.committed))
 
--- or q has seen the history after which this row, the least one that was read and differs, is another one
-pub record IsStale (i : Problem) (opening : List Placed) (d : DraftingValue) (q : PlannerValue) (row : Row) : Type 0 where
+-- or q has seen the history after which this row, the least one that was read and differs, is another one, and the calls of the draft come back with their replies
+pub record IsStale (i : Problem) (opening : List Placed) (d : DraftingValue) (q : PlannerValue) (row : Row) (asked : List Asked) : Type 0 where
   pub planner : Grows i opening d.planner q
   pub differs : stale i d.base (after i opening q.front) (calls_of d.asked) ≡ Some row
+  pub back : asked ≡ d.asked

@@ -4,7 +4,7 @@ ghost use Rattle.std.specs.Prelude.{IfOk, IfErr};
 ghost use Rattle.ctt_desk.specs.Planners.{IsAccepted};
 ghost use Rattle.ctt_desk.specs.Refusals.{IsRefused};
 
-use crate::drafting::Drafting;
+use crate::drafting::{Drafting, end_draft};
 use crate::locked::Cause;
 use crate::naming::Naming;
 use crate::planner::Planner;
@@ -40,8 +40,8 @@ impl<'i, S: Sheet<'i>, J: Naming> Drafting<'i, S, J> {
                     Err(Refusal::NotYours(planner.seeing(front), count))
                 }
                 Cause::Stale(row) => {
-                    let_go(draft);
-                    Err(Refusal::Stale(planner.seeing(front), row))
+                    let asked = end_draft(draft);
+                    Err(Refusal::Stale(planner.seeing(front), row, asked))
                 }
                 Cause::NoMemory => Err(Refusal::NoMemory(Drafting { planner, draft })),
             },

@@ -12,7 +12,7 @@ use crate::naming::Naming;
 use crate::planner::Planner;
 use ctt_board::{Sheet, Timetable};
 use ctt_core::JournalEntry;
-use ctt_draft::{AskedCalls, Draft};
+use ctt_draft::{AskedCalls, Draft, Work};
 use ctt_edits::{Call, Reply, laws};
 use ctt_text::{Instance, NoMemory, let_go};
 use std::alloc::Global;
@@ -54,6 +54,15 @@ fn asked_again<'i, S: Sheet<'i>>(
     draft.instance().limits_hold();
     draft.lawful();
     AskedCalls::copy_of(alloc, draft.asked())
+}
+
+/// Ends a draft, and gives its calls with their replies. It takes no memory.
+pub(crate) fn end_draft<'i, S: Sheet<'i>>(draft: Draft<'i, S>) -> AskedCalls
+    ensures { result ≡ draft.entry.asked }
+{
+    let Work { asked, changes } = draft.finish();
+    let_go(changes);
+    AskedCalls::new(asked)
 }
 
 impl<'i, S: Sheet<'i>, J: Naming> Drafting<'i, S, J> {

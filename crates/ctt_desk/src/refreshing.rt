@@ -6,7 +6,7 @@ ghost use Rattle.ctt_draft.specs.DraftValues.{refreshed};
 ghost use Rattle.ctt_desk.specs.Planners.{IsRefreshed};
 ghost use Rattle.ctt_desk.specs.Refusals.{IsNotRefreshed};
 
-use crate::drafting::Drafting;
+use crate::drafting::{Drafting, end_draft};
 use crate::naming::Naming;
 use crate::planner::Planner;
 use crate::refusal::RefreshRefusal;
@@ -14,7 +14,7 @@ use crate::shown::{Shown, enter};
 use ctt_board::{Sheet, Timetable};
 use ctt_draft::Draft;
 use ctt_edits::Row;
-use ctt_text::{NoMemory, let_go};
+use ctt_text::NoMemory;
 
 /// Brings a draft up to date with a published timetable.
 fn refresh_on<'i, S: Sheet<'i>, J: Naming>(
@@ -58,9 +58,9 @@ impl<'i, S: Sheet<'i>, J: Naming> Drafting<'i, S, J> {
                         Ok(Drafting { planner, draft })
                     }
                     Ok(Some(row)) => {
-                        let_go(draft);
+                        let asked = end_draft(draft);
                         planner.front = seen;
-                        Err(RefreshRefusal::Stale(planner, row))
+                        Err(RefreshRefusal::Stale(planner, row, asked))
                     }
                     Err(_) => Err(RefreshRefusal::NoMemory(Drafting { planner, draft })),
                 }
