@@ -43,9 +43,10 @@ pub record Grows (i : Problem) (opening : List Placed) (p q : PlannerValue) : Ty
   pub begins : IsPrefix p.front q.front
   pub legal : Legal i opening q.front
 
--- a planner with an open draft: the timetable on which it stands, its base, and the calls with their replies
+-- a planner with an open draft: the history after which its base was taken, the base, which is the timetable on which it stands, and the calls with their replies
 pub record DraftingValue : Type 0 where
   pub planner : PlannerValue
+  pub since : List JournalEntry
   pub base : List Placed
   pub asked : List Asked
 
@@ -60,6 +61,7 @@ asked_also d call told = record d { asked = d.asked ++ record { call = call; rep
 -- the planner p has seen more, and has a draft on the opening after all that he has seen, in which nothing was asked yet
 pub record IsOpen (i : Problem) (opening : List Placed) (p : PlannerValue) (d : DraftingValue) : Type 0 where
   pub planner : Grows i opening p d.planner
+  pub since : d.since ≡ d.planner.front
   pub base : d.base ≡ after i opening d.planner.front
   pub asked : d.asked ≡ []
 
@@ -72,6 +74,7 @@ pub record IsViewed (i : Problem) (opening : List Placed) (look : Look) (p q : P
 pub record IsRefreshed (i : Problem) (opening : List Placed) (d e : DraftingValue) : Type 0 where
   pub planner : Grows i opening d.planner e.planner
   pub fresh : stale i d.base (after i opening e.planner.front) (calls_of d.asked) ≡ None
+  pub since : e.since ≡ e.planner.front
   pub base : e.base ≡ after i opening e.planner.front
   pub asked : e.asked ≡ d.asked
 

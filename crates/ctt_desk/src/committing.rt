@@ -26,7 +26,11 @@ impl<'i, S: Sheet<'i>, J: Naming> Drafting<'i, S, J> {
         ensures ok { IfOk result (λ done. IsAccepted J.problem J.opening self.entry done.0 done.1) }
         ensures err { IfErr result (IsRefused J.problem J.opening self.entry) }
     {
-        let Drafting { planner, draft } = self;
+        let Drafting {
+            planner,
+            draft,
+            since,
+        } = self;
         let (number, committed) = (planner.number(), planner.committed());
         let mut front = planner.front();
         let mut locked = desk.locked.lock(rt);
@@ -43,7 +47,11 @@ impl<'i, S: Sheet<'i>, J: Naming> Drafting<'i, S, J> {
                     let asked = end_draft(draft);
                     Err(Refusal::Stale(planner.seeing(front), row, asked))
                 }
-                Cause::NoMemory => Err(Refusal::NoMemory(Drafting { planner, draft })),
+                Cause::NoMemory => Err(Refusal::NoMemory(Drafting {
+                    planner,
+                    draft,
+                    since,
+                })),
             },
         }
     }

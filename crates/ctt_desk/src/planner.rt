@@ -175,7 +175,14 @@ impl<'i, S: Sheet<'i>, J: Naming> Planner<S, J> {
                 planner.place = Some(visit.leave());
                 planner.front = seen;
                 match opened {
-                    Ok(draft) => Ok(Drafting { planner, draft }),
+                    Ok(draft) => {
+                        let since = planner.front();
+                        Ok(Drafting {
+                            planner,
+                            draft,
+                            since,
+                        })
+                    }
                     Err(_) => Err((planner, SharedFault::NoMemory)),
                 }
             }

@@ -43,26 +43,40 @@ impl<'i, S: Sheet<'i>, J: Naming> Drafting<'i, S, J> {
         let Drafting {
             mut planner,
             mut draft,
+            since,
         } = self;
         match enter(planner.place.take().unwrap(), &planner.front) {
             Err(place) => {
                 planner.place = Some(place);
-                Err(RefreshRefusal::NoPlace(Drafting { planner, draft }))
+                Err(RefreshRefusal::NoPlace(Drafting {
+                    planner,
+                    draft,
+                    since,
+                }))
             }
             Ok((visit, seen)) => {
                 let found = refresh_on(&mut draft, visit.get());
                 planner.place = Some(visit.leave());
                 match found {
                     Ok(None) => {
+                        let since = seen.again();
                         planner.front = seen;
-                        Ok(Drafting { planner, draft })
+                        Ok(Drafting {
+                            planner,
+                            draft,
+                            since,
+                        })
                     }
                     Ok(Some(row)) => {
                         let asked = end_draft(draft);
                         planner.front = seen;
                         Err(RefreshRefusal::Stale(planner, row, asked))
                     }
-                    Err(_) => Err(RefreshRefusal::NoMemory(Drafting { planner, draft })),
+                    Err(_) => Err(RefreshRefusal::NoMemory(Drafting {
+                        planner,
+                        draft,
+                        since,
+                    })),
                 }
             }
         }
