@@ -8,11 +8,12 @@ use Rattle.ctt_edits.specs.declared.call.Call.{Call}
 use Rattle.ctt_edits.specs.declared.looks.Look.{Look}
 use Rattle.ctt_edits.specs.declared.reply.Reply.{Reply}
 use Rattle.ctt_edits.specs.declared.row.Row.{Row}
-use Rattle.ctt_draft.specs.Drafts.{calls_of, whole, stale}
+use Rattle.ctt_draft.specs.Drafts.{calls_of, whole, changes, stale}
 use Rattle.ctt_draft.specs.declared.asked.Asked.{Asked}
 use Rattle.ctt_core.specs.Runs.{after, Legal}
 use Rattle.ctt_core.specs.declared.journal.JournalEntry.{JournalEntry}
 use Rattle.ctt_desk.specs.Histories.{own, entry_of}
+use Rattle.ctt_desk.specs.declared.standing.Standing.{Standing}
 
 -- a planner: the number, how many drafts were committed, and the history that was seen, the front
 pub record PlannerValue : Type 0 where
@@ -77,6 +78,19 @@ pub record IsRefreshed (i : Problem) (opening : List Placed) (d e : DraftingValu
   pub since : e.since ≡ e.planner.front
   pub base : e.base ≡ after i opening e.planner.front
   pub asked : e.asked ≡ d.asked
+
+-- the draft d is e now: its calls are those from before, and so are its base and the history after which that was taken
+pub record IsSameDraft (d e : DraftingValue) : Type 0 where
+  pub since : e.since ≡ d.since
+  pub base : e.base ≡ d.base
+  pub asked : e.asked ≡ d.asked
+
+-- the draft d is e now, whose planner has seen more: how many edits were accepted in it, how many drafts he has seen that came after its base, and the least row that it read and that differs after all that he has seen
+pub record IsStatus (i : Problem) (opening : List Placed) (d e : DraftingValue) (s : Standing) : Type 0 where
+  pub planner : Grows i opening d.planner e.planner
+  pub edits : s.edits ≡ length (changes i d.base (calls_of d.asked))
+  pub behind : length d.since + s.behind ≡ length e.planner.front
+  pub differs : s.stale ≡ stale i d.base (after i opening e.planner.front) (calls_of d.asked)
 
 -- the draft d was accepted: its planner is q now, and the receipt shows the front f
 pub record IsAccepted (i : Problem) (opening : List Placed) (d : DraftingValue) (q : PlannerValue) (f : List JournalEntry) : Type 0 where
