@@ -160,6 +160,7 @@ impl<S: Timetable, J: Naming> Planner<S, J> {
 
 impl<'i, S: Sheet<'i>, J: Naming> Planner<S, J> {
     /// Opens a draft on the timetable that was published last, which the planner has then seen.
+    #[tactic(auto, using(crate::proofs::PrefixLemmas::prefix_same))]
     pub fn open(self) -> Result<Drafting<'i, S, J>, (Self, SharedFault)>
         ensures ok { IfOk result (IsOpen J.problem J.opening self) }
         ensures err { IfErr result (λ refused.

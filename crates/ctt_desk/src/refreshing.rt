@@ -36,6 +36,7 @@ impl<'i, S: Sheet<'i>, J: Naming> Drafting<'i, S, J> {
     /// Brings the draft up to date: where no row that it read has changed since it was opened, or
     /// last refreshed, it goes on from the timetable that was published last, which the planner has
     /// then seen.
+    #[tactic(auto, using(crate::proofs::PrefixLemmas::prefix_same))]
     pub fn refresh(self) -> Result<Self, RefreshRefusal<'i, S, J>>
         ensures ok { IfOk result (IsRefreshed J.problem J.opening self.entry) }
         ensures err { IfErr result (IsNotRefreshed J.problem J.opening self.entry) }
