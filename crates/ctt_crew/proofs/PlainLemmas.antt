@@ -45,7 +45,7 @@ module _ {X Y : Type 0} where
 
   refused : (i : Problem) (t0 : List Placed) (d : DraftingValue) (after : Seat X Y) (is : Told) (why : Refusal X Y) → IsRefused i t0 d why → after ≡ seat_refused why → is ≡ told_refused why → Commits i t0 (Drafting d) (plain after) (Err is)
   refused i t0 d after is (refusal.NotYours q count) h same e = (refusal.NotYours q count, h, ap plain same, e)
-  refused i t0 d after is (refusal.Stale q row) h same e = (refusal.Stale q row, h, ap plain same, e)
+  refused i t0 d after is (refusal.Stale q row asked) h same e = (refusal.Stale q row asked, h, ap plain same, e)
   refused i t0 d after is (refusal.NoMemory back) h same e = (refusal.NoMemory back, h, ap plain same, e)
 
   commits : (i : Problem) (t0 : List Placed) (before after : Seat X Y) (outcome : Result (List JournalEntry) Told) → Commits i t0 before after outcome → Commits i t0 (plain before) (plain after) outcome
@@ -57,7 +57,7 @@ module _ {X Y : Type 0} where
   unrefreshed_so : (i : Problem) (t0 : List Placed) (d : DraftingValue) (after : Seat X Y) (is : Told) (why : RefreshRefusal X Y) → IsNotRefreshed i t0 d why → after ≡ seat_unrefreshed why → is ≡ told_unrefreshed why → Refreshes i t0 (Drafting d) (plain after) is
   unrefreshed_so i t0 d after is (unrefreshed.NoPlace back) h same e = inr (unrefreshed.NoPlace back, h, ap plain same, e)
   unrefreshed_so i t0 d after is (unrefreshed.NoMemory back) h same e = inr (unrefreshed.NoMemory back, h, ap plain same, e)
-  unrefreshed_so i t0 d after is (unrefreshed.Stale q row) h same e = inr (unrefreshed.Stale q row, h, ap plain same, e)
+  unrefreshed_so i t0 d after is (unrefreshed.Stale q row asked) h same e = inr (unrefreshed.Stale q row asked, h, ap plain same, e)
 
   refreshes : (i : Problem) (t0 : List Placed) (before after : Seat X Y) (is : Told) → Refreshes i t0 before after is → Refreshes i t0 (plain before) (plain after) is
   refreshes i t0 (Free p) after is h = told (Free p) after (Answered answer.NoDraft) is h

@@ -55,12 +55,12 @@ Peeks i look (Drafting d) told = ((r : Reply) × (r ≡ shown i (present_of i d)
 -- a refusal leaves a planner, or his draft, and he is told it
 abbrev pub seat_refused : {X Y : Type 0} → Refusal X Y → Seat X Y
 seat_refused (refusal.NotYours q count) = Free q
-seat_refused (refusal.Stale q row) = Free q
+seat_refused (refusal.Stale q row asked) = Free q
 seat_refused (refusal.NoMemory d) = Drafting d
 
 abbrev pub told_refused : {X Y : Type 0} → Refusal X Y → Told
 told_refused (refusal.NotYours q count) = NotYours count
-told_refused (refusal.Stale q row) = Answered (answer.Stale row)
+told_refused (refusal.Stale q row asked) = Answered (answer.Stale row)
 told_refused (refusal.NoMemory d) = Answered answer.NoMemory
 
 -- a draft is committed, and the history is that of the receipt; or it is refused, and he is told why
@@ -78,12 +78,12 @@ told_of (Err told) = told
 abbrev pub seat_unrefreshed : {X Y : Type 0} → RefreshRefusal X Y → Seat X Y
 seat_unrefreshed (unrefreshed.NoPlace d) = Drafting d
 seat_unrefreshed (unrefreshed.NoMemory d) = Drafting d
-seat_unrefreshed (unrefreshed.Stale q row) = Free q
+seat_unrefreshed (unrefreshed.Stale q row asked) = Free q
 
 abbrev pub told_unrefreshed : {X Y : Type 0} → RefreshRefusal X Y → Told
 told_unrefreshed (unrefreshed.NoPlace d) = NoPlace
 told_unrefreshed (unrefreshed.NoMemory d) = Answered answer.NoMemory
-told_unrefreshed (unrefreshed.Stale q row) = Answered (answer.Stale row)
+told_unrefreshed (unrefreshed.Stale q row asked) = Answered (answer.Stale row)
 
 -- a draft is brought up to date, or not
 abbrev pub Refreshes : {X Y : Type 0} → Problem → List Placed → Seat X Y → Seat X Y → Told → Type 0

@@ -137,7 +137,8 @@ impl<'i, S: Sheet<'i>, J: Naming> Seat<'i, S, J> {
             Seat::Free(planner) => (Seat::Free(planner), Err(Told::Answer(Answer::NoDraft))),
             Seat::Drafting(drafting) => match drafting.commit(rt, desk) {
                 Ok((planner, receipt)) => (Seat::Free(planner), Ok(receipt)),
-                Err(Refusal::Stale(planner, row)) => {
+                Err(Refusal::Stale(planner, row, asked)) => {
+                    let_go(asked);
                     (Seat::Free(planner), Err(Told::Answer(Answer::Stale(row))))
                 }
                 Err(Refusal::NotYours(planner, count)) => {
@@ -162,7 +163,8 @@ impl<'i, S: Sheet<'i>, J: Naming> Seat<'i, S, J> {
             Seat::Free(planner) => (Seat::Free(planner), Told::Answer(Answer::NoDraft)),
             Seat::Drafting(drafting) => match drafting.refresh() {
                 Ok(drafting) => (Seat::Drafting(drafting), Told::Answer(Answer::Refreshed)),
-                Err(RefreshRefusal::Stale(planner, row)) => {
+                Err(RefreshRefusal::Stale(planner, row, asked)) => {
+                    let_go(asked);
                     (Seat::Free(planner), Told::Answer(Answer::Stale(row)))
                 }
                 Err(RefreshRefusal::NoPlace(drafting)) => (Seat::Drafting(drafting), Told::NoPlace),

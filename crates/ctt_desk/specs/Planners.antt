@@ -8,11 +8,12 @@ use Rattle.ctt_edits.specs.declared.call.Call.{Call}
 use Rattle.ctt_edits.specs.declared.looks.Look.{Look}
 use Rattle.ctt_edits.specs.declared.reply.Reply.{Reply}
 use Rattle.ctt_edits.specs.declared.row.Row.{Row}
-use Rattle.ctt_draft.specs.Drafts.{calls_of, whole, stale}
+use Rattle.ctt_draft.specs.Drafts.{calls_of, whole, changes, stale}
 use Rattle.ctt_draft.specs.declared.asked.Asked.{Asked}
 use Rattle.ctt_core.specs.Runs.{after, Legal}
 use Rattle.ctt_core.specs.declared.journal.JournalEntry.{JournalEntry}
 use Rattle.ctt_desk.specs.Histories.{own, entry_of}
+use Rattle.ctt_desk.specs.declared.standing.Standing.{Standing}
 
 -- a planner: the number, how many drafts were committed, and the history that was seen, the front
 pub record PlannerValue : Type 0 where
@@ -43,9 +44,10 @@ pub record Grows (i : Problem) (opening : List Placed) (p q : PlannerValue) : Ty
   pub begins : IsPrefix p.front q.front
   pub legal : Legal i opening q.front
 
--- a planner with an open draft: the timetable on which it stands, its base, and the calls with their replies
+-- a planner with an open draft: the history after which its base was taken, the base, which is the timetable on which it stands, and the calls with their replies
 pub record DraftingValue : Type 0 where
   pub planner : PlannerValue
+  pub since : List JournalEntry
   pub base : List Placed
   pub asked : List Asked
 
@@ -60,6 +62,7 @@ asked_also d call told = record d { asked = d.asked ++ record { call = call; rep
 -- the planner p has seen more, and has a draft on the opening after all that he has seen, in which nothing was asked yet
 pub record IsOpen (i : Problem) (opening : List Placed) (p : PlannerValue) (d : DraftingValue) : Type 0 where
   pub planner : Grows i opening p d.planner
+  pub since : d.since ≡ d.planner.front
   pub base : d.base ≡ after i opening d.planner.front
   pub asked : d.asked ≡ []
 
@@ -72,8 +75,22 @@ pub record IsViewed (i : Problem) (opening : List Placed) (look : Look) (p q : P
 pub record IsRefreshed (i : Problem) (opening : List Placed) (d e : DraftingValue) : Type 0 where
   pub planner : Grows i opening d.planner e.planner
   pub fresh : stale i d.base (after i opening e.planner.front) (calls_of d.asked) ≡ None
+  pub since : e.since ≡ e.planner.front
   pub base : e.base ≡ after i opening e.planner.front
   pub asked : e.asked ≡ d.asked
+
+-- the draft d is e now: its calls are those from before, and so are its base and the history after which that was taken
+pub record IsSameDraft (d e : DraftingValue) : Type 0 where
+  pub since : e.since ≡ d.since
+  pub base : e.base ≡ d.base
+  pub asked : e.asked ≡ d.asked
+
+-- the draft d is e now, whose planner has seen more: how many edits were accepted in it, how many drafts he has seen that came after its base, and the least row that it read and that differs after all that he has seen
+pub record IsStatus (i : Problem) (opening : List Placed) (d e : DraftingValue) (s : Standing) : Type 0 where
+  pub planner : Grows i opening d.planner e.planner
+  pub edits : s.edits ≡ length (changes i d.base (calls_of d.asked))
+  pub behind : length d.since + s.behind ≡ length e.planner.front
+  pub differs : s.stale ≡ stale i d.base (after i opening e.planner.front) (calls_of d.asked)
 
 -- the draft d was accepted: its planner is q now, and the receipt shows the front f
 pub record IsAccepted (i : Problem) (opening : List Placed) (d : DraftingValue) (q : PlannerValue) (f : List JournalEntry) : Type 0 where
@@ -101,7 +118,8 @@ pub record IsForeign (i : Problem) (opening : List Placed) (d : DraftingValue) (
   pub planner : Grows i opening d.planner q
   pub other : ((count < length d.planner.front) × (q.front ≡ d.planner.front)) ⊎ ((count ≡ length (own q.number q.front)) × (count ≢ q.committed))
 
--- or q has seen the history after which this row, the least one that was read and differs, is another one
-pub record IsStale (i : Problem) (opening : List Placed) (d : DraftingValue) (q : PlannerValue) (row : Row) : Type 0 where
+-- or q has seen the history after which this row, the least one that was read and differs, is another one, and the calls of the draft come back with their replies
+pub record IsStale (i : Problem) (opening : List Placed) (d : DraftingValue) (q : PlannerValue) (row : Row) (asked : List Asked) : Type 0 where
   pub planner : Grows i opening d.planner q
   pub differs : stale i d.base (after i opening q.front) (calls_of d.asked) ≡ Some row
+  pub back : asked ≡ d.asked

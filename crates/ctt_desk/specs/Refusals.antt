@@ -14,14 +14,14 @@ use Rattle.ctt_desk.specs.declared.shared_fault.SharedFault.TheVariants.{Unlawfu
 -- why a draft was refused, and what is left; rows are compared only where the journal, which q has seen, has as many of his drafts as he committed
 abbrev pub IsRefused : {X Y : Type 0} → Problem → List Placed → DraftingValue → Refusal X Y → Type 0
 IsRefused i opening d (NotYours q count) = IsForeign i opening d q count
-IsRefused i opening d (Stale q row) = IsStale i opening d q row × IsHis q.front q.number q.committed
+IsRefused i opening d (Stale q row asked) = IsStale i opening d q row asked × IsHis q.front q.number q.committed
 IsRefused i opening d (NoMemory back) = (back ≡ d) × IsFreshSomewhere i opening d
 
 -- why a draft was not brought up to date, and what is left
 abbrev pub IsNotRefreshed : {X Y : Type 0} → Problem → List Placed → DraftingValue → RefreshRefusal X Y → Type 0
 IsNotRefreshed i opening d (NotEntered back) = back ≡ d
 IsNotRefreshed i opening d (NotRefreshed back) = (back ≡ d) × IsFreshSomewhere i opening d
-IsNotRefreshed i opening d (Outdated q row) = IsStale i opening d q row
+IsNotRefreshed i opening d (Outdated q row asked) = IsStale i opening d q row asked
 
 -- what has become of the planner p where he could not read: without a place he is as before, and where memory was wanted he has seen more
 abbrev pub IsUnread : Problem → List Placed → PlannerValue → PlannerValue → SharedFault → Type 0

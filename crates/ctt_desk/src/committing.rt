@@ -4,7 +4,7 @@ ghost use Rattle.std.specs.Prelude.{IfOk, IfErr};
 ghost use Rattle.ctt_desk.specs.Planners.{IsAccepted};
 ghost use Rattle.ctt_desk.specs.Refusals.{IsRefused};
 
-use crate::drafting::Drafting;
+use crate::drafting::{Drafting, end_draft};
 use crate::locked::Cause;
 use crate::naming::Naming;
 use crate::planner::Planner;
@@ -26,7 +26,11 @@ impl<'i, S: Sheet<'i>, J: Naming> Drafting<'i, S, J> {
         ensures ok { IfOk result (λ done. IsAccepted J.problem J.opening self.entry done.0 done.1) }
         ensures err { IfErr result (IsRefused J.problem J.opening self.entry) }
     {
-        let Drafting { planner, draft } = self;
+        let Drafting {
+            planner,
+            draft,
+            since,
+        } = self;
         let (number, committed) = (planner.number(), planner.committed());
         let mut front = planner.front();
         let mut locked = desk.locked.lock(rt);
@@ -40,10 +44,14 @@ impl<'i, S: Sheet<'i>, J: Naming> Drafting<'i, S, J> {
                     Err(Refusal::NotYours(planner.seeing(front), count))
                 }
                 Cause::Stale(row) => {
-                    let_go(draft);
-                    Err(Refusal::Stale(planner.seeing(front), row))
+                    let asked = end_draft(draft);
+                    Err(Refusal::Stale(planner.seeing(front), row, asked))
                 }
-                Cause::NoMemory => Err(Refusal::NoMemory(Drafting { planner, draft })),
+                Cause::NoMemory => Err(Refusal::NoMemory(Drafting {
+                    planner,
+                    draft,
+                    since,
+                })),
             },
         }
     }

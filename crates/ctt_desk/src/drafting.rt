@@ -9,26 +9,30 @@ ghost use Rattle.ctt_draft.specs.Drafts.{AskedFits};
 ghost use Rattle.ctt_desk.specs.Histories.{entry_of};
 ghost use Rattle.ctt_desk.specs.Planners.{present_of, asked_also};
 
+use crate::front::Front;
 use crate::naming::Naming;
 use crate::planner::Planner;
 use ctt_board::{Sheet, Timetable};
 use ctt_core::JournalEntry;
-use ctt_draft::{AskedCalls, Draft};
+use ctt_draft::{AskedCalls, Draft, Work};
 use ctt_edits::{Call, Look, Reply, laws};
 use ctt_text::{Instance, NoMemory, let_go};
 use std::alloc::Global;
 use std::marker::Model;
 
 /// A planner with an open draft. Contracts see the planner, the timetable on which the draft
-/// stands, and its calls with their replies. Whoever drops it abandons the draft.
+/// stands, the history after which that was taken, and its calls with their replies. Whoever drops
+/// it abandons the draft.
 #[derive(Drop)]
 pub struct Drafting<'i, S: Timetable, J: Naming> {
     pub(crate) planner: Planner<S, J>,
     pub(crate) draft: Draft<'i, S>,
+    pub(crate) since: Front<J>,
 }
 
 impl<'i, S: Timetable, J: Naming> Model for Drafting<'i, S, J> {
     ghost use Rattle.std.specs.Prelude.{◌≡◌};
+    ghost use mathlib.Core.List.{IsPrefix};
     ghost use Rattle.ctt_core.specs.Runs.{after};
     ghost use Rattle.ctt_desk.specs.Planners.{DraftingValue};
 
@@ -36,12 +40,14 @@ impl<'i, S: Timetable, J: Naming> Model for Drafting<'i, S, J> {
 
     ghost view = { λ d. record {
       planner = d.planner;
+      since = d.since;
       base = d.draft.base;
       asked = d.draft.asked;
     } };
 
     ghost invariant = { λ d. (d.draft.problem ≡ J.problem)
-        × (d.draft.base ≡ after J.problem J.opening d.planner.front) };
+        × (d.draft.base ≡ after J.problem J.opening d.since)
+        × IsPrefix d.since d.planner.front };
 }
 
 /// A copy of the calls of a draft with their replies.
@@ -55,6 +61,15 @@ fn asked_again<'i, S: Sheet<'i>>(
     draft.instance().limits_hold();
     draft.lawful();
     AskedCalls::copy_of(alloc, draft.asked())
+}
+
+/// Ends a draft, and gives its calls with their replies. It takes no memory.
+pub(crate) fn end_draft<'i, S: Sheet<'i>>(draft: Draft<'i, S>) -> AskedCalls
+    ensures { result ≡ draft.entry.asked }
+{
+    let Work { asked, changes } = draft.finish();
+    let_go(changes);
+    AskedCalls::new(asked)
 }
 
 impl<'i, S: Sheet<'i>, J: Naming> Drafting<'i, S, J> {
@@ -99,8 +114,13 @@ impl<'i, S: Sheet<'i>, J: Naming> Drafting<'i, S, J> {
     pub fn abandon(self) -> Planner<S, J>
         ensures { result ≡ self.entry.planner }
     {
-        let Drafting { planner, draft } = self;
+        let Drafting {
+            planner,
+            draft,
+            since,
+        } = self;
         let_go(draft);
+        let_go(since);
         planner
     }
 

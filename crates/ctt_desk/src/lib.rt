@@ -19,6 +19,8 @@ mod refusal;
 mod shared_desk;
 mod shared_fault;
 mod shown;
+mod standing;
+mod status;
 mod update;
 
 pub use closed::Closed;
@@ -31,3 +33,4 @@ pub use receipt::Receipt;
 pub use refusal::{RefreshRefusal, Refusal};
 pub use shared_desk::SharedDesk;
 pub use shared_fault::SharedFault;
+pub use standing::Standing;

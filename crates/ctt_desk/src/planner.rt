@@ -4,7 +4,8 @@ ghost use Rattle.std.specs.Prelude.{◌≡◌, ◌+◌, ◌<◌, ◌≤◌, ◌�
 ghost use mathlib.Core.List.{IsPrefix};
 ghost use Rattle.ctt_edits.specs.Fitting.{IsReply};
 ghost use Rattle.ctt_edits.specs.Looks.{LookFits, shown as shown_of};
-ghost use Rattle.ctt_core.specs.Runs.{Legal};
+ghost use Rattle.ctt_draft.specs.Drafts.{calls_of, stale};
+ghost use Rattle.ctt_core.specs.Runs.{after, Legal};
 ghost use Rattle.ctt_desk.specs.Histories.{own};
 ghost use Rattle.ctt_desk.specs.Planners.{new_planner, committed_more, seen_up_to, Grows, IsOpen, IsViewed};
 ghost use Rattle.ctt_desk.specs.Refusals.{IsUnread};
@@ -18,7 +19,7 @@ use crate::shown::{Place, Shown, enter};
 use ctt_board::{Sheet, Timetable};
 use ctt_core::PlannerNo;
 use ctt_draft::Draft;
-use ctt_edits::{Look, Reply, laws};
+use ctt_edits::{Look, Reply, Row, laws};
 use ctt_text::NoMemory;
 use std::alloc::Global;
 use std::marker::Model;
@@ -159,6 +160,7 @@ impl<S: Timetable, J: Naming> Planner<S, J> {
 
 impl<'i, S: Sheet<'i>, J: Naming> Planner<S, J> {
     /// Opens a draft on the timetable that was published last, which the planner has then seen.
+    #[tactic(auto, using(crate::proofs::PrefixLemmas::prefix_same))]
     pub fn open(self) -> Result<Drafting<'i, S, J>, (Self, SharedFault)>
         ensures ok { IfOk result (IsOpen J.problem J.opening self) }
         ensures err { IfErr result (λ refused.
@@ -175,7 +177,14 @@ impl<'i, S: Sheet<'i>, J: Naming> Planner<S, J> {
                 planner.place = Some(visit.leave());
                 planner.front = seen;
                 match opened {
-                    Ok(draft) => Ok(Drafting { planner, draft }),
+                    Ok(draft) => {
+                        let since = planner.front();
+                        Ok(Drafting {
+                            planner,
+                            draft,
+                            since,
+                        })
+                    }
                     Err(_) => Err((planner, SharedFault::NoMemory)),
                 }
             }
@@ -202,6 +211,37 @@ impl<'i, S: Sheet<'i>, J: Naming> Planner<S, J> {
             }
         }
     }
+
+    /// The least row that a draft read and that is another one in the timetable that was published
+    /// last, which the planner has then seen.
+    pub(crate) fn stale(&mut self, draft: &Draft<'i, S>) -> Result<Option<Row>, SharedFault>
+        requires { draft.now.problem ≡ J.problem }
+        ensures row { IfOk result (λ row. row ≡ stale J.problem draft.now.base
+            (after J.problem J.opening self.new.front) (calls_of draft.now.asked)) }
+        ensures grows { IfOk result (λ _. Grows J.problem J.opening self.old self.new) }
+        ensures err { IfErr result (IsUnread J.problem J.opening self.old self.new) }
+    {
+        match enter(self.place.take().unwrap(), &self.front) {
+            Err(place) => {
+                self.place = Some(place);
+                Err(SharedFault::NoPlace)
+            }
+            Ok((visit, seen)) => {
+                let row = stale_on(draft, visit.get());
+                self.place = Some(visit.leave());
+                self.front = seen;
+                Ok(row)
+            }
+        }
+    }
+}
+
+/// The least row that a draft read and that is another one in a published timetable.
+fn stale_on<'i, S: Sheet<'i>, J: Naming>(draft: &Draft<'i, S>, shown: &Shown<S, J>) -> Option<Row>
+    requires { draft.now.problem ≡ J.problem }
+    ensures { result ≡ stale J.problem draft.now.base shown.now.list (calls_of draft.now.asked) }
+{
+    draft.stale(&shown.sheet).unwrap()
 }
 
 /// A draft on a published timetable, in which nothing was asked yet.

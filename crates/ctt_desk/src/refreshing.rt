@@ -6,7 +6,7 @@ ghost use Rattle.ctt_draft.specs.DraftValues.{refreshed};
 ghost use Rattle.ctt_desk.specs.Planners.{IsRefreshed};
 ghost use Rattle.ctt_desk.specs.Refusals.{IsNotRefreshed};
 
-use crate::drafting::Drafting;
+use crate::drafting::{Drafting, end_draft};
 use crate::naming::Naming;
 use crate::planner::Planner;
 use crate::refusal::RefreshRefusal;
@@ -14,7 +14,7 @@ use crate::shown::{Shown, enter};
 use ctt_board::{Sheet, Timetable};
 use ctt_draft::Draft;
 use ctt_edits::Row;
-use ctt_text::{NoMemory, let_go};
+use ctt_text::NoMemory;
 
 /// Brings a draft up to date with a published timetable.
 fn refresh_on<'i, S: Sheet<'i>, J: Naming>(
@@ -36,6 +36,7 @@ impl<'i, S: Sheet<'i>, J: Naming> Drafting<'i, S, J> {
     /// Brings the draft up to date: where no row that it read has changed since it was opened, or
     /// last refreshed, it goes on from the timetable that was published last, which the planner has
     /// then seen.
+    #[tactic(auto, using(crate::proofs::PrefixLemmas::prefix_same))]
     pub fn refresh(self) -> Result<Self, RefreshRefusal<'i, S, J>>
         ensures ok { IfOk result (IsRefreshed J.problem J.opening self.entry) }
         ensures err { IfErr result (IsNotRefreshed J.problem J.opening self.entry) }
@@ -43,26 +44,40 @@ impl<'i, S: Sheet<'i>, J: Naming> Drafting<'i, S, J> {
         let Drafting {
             mut planner,
             mut draft,
+            since,
         } = self;
         match enter(planner.place.take().unwrap(), &planner.front) {
             Err(place) => {
                 planner.place = Some(place);
-                Err(RefreshRefusal::NoPlace(Drafting { planner, draft }))
+                Err(RefreshRefusal::NoPlace(Drafting {
+                    planner,
+                    draft,
+                    since,
+                }))
             }
             Ok((visit, seen)) => {
                 let found = refresh_on(&mut draft, visit.get());
                 planner.place = Some(visit.leave());
                 match found {
                     Ok(None) => {
+                        let since = seen.again();
                         planner.front = seen;
-                        Ok(Drafting { planner, draft })
+                        Ok(Drafting {
+                            planner,
+                            draft,
+                            since,
+                        })
                     }
                     Ok(Some(row)) => {
-                        let_go(draft);
+                        let asked = end_draft(draft);
                         planner.front = seen;
-                        Err(RefreshRefusal::Stale(planner, row))
+                        Err(RefreshRefusal::Stale(planner, row, asked))
                     }
-                    Err(_) => Err(RefreshRefusal::NoMemory(Drafting { planner, draft })),
+                    Err(_) => Err(RefreshRefusal::NoMemory(Drafting {
+                        planner,
+                        draft,
+                        since,
+                    })),
                 }
             }
         }

@@ -4,6 +4,7 @@ use crate::drafting::Drafting;
 use crate::naming::Naming;
 use crate::planner::Planner;
 use ctt_board::Timetable;
+use ctt_draft::AskedCalls;
 use ctt_edits::Row;
 
 /// Why a draft was not accepted.
@@ -14,8 +15,8 @@ pub enum Refusal<'i, S: Timetable, J: Naming> {
     /// draft has ended.
     NotYours(Planner<S, J>, u64),
     /// This row, the least of those that were read and have changed since the draft was opened, or
-    /// last refreshed. The draft has ended.
-    Stale(Planner<S, J>, Row),
+    /// last refreshed. The draft has ended; these are its calls with their replies, in order.
+    Stale(Planner<S, J>, Row, AskedCalls),
     /// There is not enough memory. The draft is as it was.
     NoMemory(Drafting<'i, S, J>),
 }
@@ -28,6 +29,6 @@ pub enum RefreshRefusal<'i, S: Timetable, J: Naming> {
     /// There is not enough memory. The draft is as it was.
     NoMemory(Drafting<'i, S, J>),
     /// This row, the least of those that were read and have changed since the draft was opened, or
-    /// last refreshed. The draft has ended.
-    Stale(Planner<S, J>, Row),
+    /// last refreshed. The draft has ended; these are its calls with their replies, in order.
+    Stale(Planner<S, J>, Row, AskedCalls),
 }

@@ -8,5 +8,5 @@ use Rattle.ctt_crew.proofs.seat.Seat.commit.Goals as goal
 
 pub returns-in-Err-Stale-clause-fits : goal.returns-in-Err-Stale-clause-fits
 returns-in-Err-Stale-clause-fits g c =
-    let stale : IsStale g.J.Naming.problem g.J.Naming.opening c.in-Drafting.drafting c.in-Err-Stale.planner c.in-Err-Stale.row × IsHis c.in-Err-Stale.planner.front c.in-Err-Stale.planner.number c.in-Err-Stale.planner.committed = search rules in
+    let stale : IsStale g.J.Naming.problem g.J.Naming.opening c.in-Drafting.drafting c.in-Err-Stale.planner c.in-Err-Stale.row c.in-Err-Stale.asked × IsHis c.in-Err-Stale.planner.front c.in-Err-Stale.planner.number c.in-Err-Stale.planner.committed = search rules in
     stale_row_fits g.J.Naming.problem c.in-Drafting.drafting.base (after g.J.Naming.problem g.J.Naming.opening c.in-Err-Stale.planner.front) (calls_of c.in-Drafting.drafting.asked) c.in-Err-Stale.row stale.0.differs

@@ -1,7 +1,7 @@
 use Rattle.std.proofs.Common.{rules, ◌≡◌, ◌∙◌, ◌+◌, ◌<◌, ◌≤◌, ℕ, List, length, sym, ap, ap₂, arith, subst}
 use Rattle.ctt_draft.specs.DraftValues.{DraftValue}
 use Rattle.ctt_core.specs.declared.journal.JournalEntry.{JournalEntry}
-use Rattle.ctt_core.specs.Runs.{after, Legal}
+use Rattle.ctt_core.specs.Runs.{Legal}
 use Rattle.ctt_desk.specs.Histories.{own, IsNotHis}
 use Rattle.ctt_desk.specs.Planners.{PlannerValue, DraftingValue, seen_up_to}
 use Rattle.ctt_desk.proofs.OwnLemmas.{accepted, foreign, own_seen}
@@ -20,18 +20,17 @@ same_planner n k p f number committed front = ap₂ (λ x y. planner_of x y f) n
 had : (n k : ℕ) (p : PlannerValue) (f : List JournalEntry) → n ≡ p.number → k ≡ p.committed → f ≡ p.front → p.committed ≤ length (own p.number p.front) → k ≤ length (own n f)
 had n k p f number committed front least = subst (λ (x : PlannerValue). x.committed ≤ length (own x.number x.front)) (sym (same_planner n k p f number committed front)) least
 
-abbrev draft_of : PlannerValue → DraftValue → DraftingValue
-draft_of p d = record { planner = p; base = d.base; asked = d.asked }
+abbrev draft_of : PlannerValue → List JournalEntry → DraftValue → DraftingValue
+draft_of p since d = record { planner = p; since = since; base = d.base; asked = d.asked }
 
 -- the draft by what is said of it
-same_draft : (n k : ℕ) (f : List JournalEntry) (p : PlannerValue) (d : DraftValue) → n ≡ p.number → k ≡ p.committed → f ≡ p.front
-    → draft_of (planner_of n k f) d ≡ draft_of p d
-same_draft n k f p d number committed front = ap (λ x. draft_of x d) (same_planner n k p f number committed front)
+same_draft : (n k : ℕ) (f : List JournalEntry) (p : PlannerValue) (since : List JournalEntry) (d : DraftValue) → n ≡ p.number → k ≡ p.committed → f ≡ p.front
+    → draft_of (planner_of n k f) since d ≡ draft_of p since d
+same_draft n k f p since d number committed front = ap (λ x. draft_of x since d) (same_planner n k p f number committed front)
 
 pub commit-outcome-requires : goal.commit-outcome-requires
 commit-outcome-requires g c κs =
     let of : c.self.inside.draft.problem ≡ g.J.Naming.problem = c.self.invariant.0 in
-    let on : c.self.inside.draft.base ≡ after g.J.Naming.problem g.J.Naming.opening c.front-front.result = c.self.invariant.1 ∙ ap (after g.J.Naming.problem g.J.Naming.opening) (sym c.front-front.ensures.same) in
     let one : c.number-number.result < g.J.Naming.planners = omega (arith, c.number-number.ensures.number, c.number-number.ensures.of_desk) in
     search rules
 
@@ -45,11 +44,12 @@ returns-in-Ok-clause-ok g c =
     let front = c.front-front.ensures.same in
     let p = c.self.inside.planner in
     let d = c.self.inside.draft in
-    let v = draft_of (planner_of n k c.front-front.result) d in
+    let since = c.self.inside.since in
+    let v = draft_of (planner_of n k c.front-front.result) since d in
     let f : c.accepted.result.1 ≡ c.commit-outcome.new.front = c.accepted.ensures.receipt in
     let least : k ≤ length (own n c.front-front.result) = had n k p c.front-front.result number committed front c.committed-committed.ensures.seen in
     accepted g.J.Naming.problem g.J.Naming.opening v c.args.self c.accepted.result.0 c.deref_mut.result.now c.accepted.result.1
-    (same_draft n k c.front-front.result p d number committed front ∙ c.self.view_is)
+    (same_draft n k c.front-front.result p since d number committed front ∙ c.self.view_is)
     (f ∙ h.front ∙ h.journal)
     h.begins
     h.fresh.his
@@ -77,8 +77,9 @@ returns-in-NotYours-clause-err g c =
     let committed = c.committed-committed.ensures.committed in
     let p = c.self.inside.planner in
     let d = c.self.inside.draft in
-    let v = draft_of (planner_of n k c.front-front.result) d in
+    let since = c.self.inside.since in
+    let v = draft_of (planner_of n k c.front-front.result) since d in
     let f = c.commit-outcome.new.front in
     let cause : IsNotHis c.deref_mut.result.now n k c.front-front.result f c.in-NotYours.count = search rules in
     foreign g.J.Naming.problem g.J.Naming.opening v c.args.self c.seeing.result c.deref_mut.result.now f c.in-NotYours.count
-    (same_draft n k c.front-front.result p d number committed c.front-front.ensures.same ∙ c.self.view_is) cause (c.seeing.ensures ∙ told n k p f number committed) c.in-Err.ensures.seen
+    (same_draft n k c.front-front.result p since d number committed c.front-front.ensures.same ∙ c.self.view_is) cause (c.seeing.ensures ∙ told n k p f number committed) c.in-Err.ensures.seen
