@@ -60,7 +60,7 @@ module _ {X Y : Type 0} where
 
   refused : (i : Problem) (t0 : List Placed) (d : DraftingValue) (why : Refusal X Y) → IsRefused i t0 d why → Stays (Drafting d) (seat_refused why)
   refused i t0 d (refusal.NotYours q count) h = h.planner.begins
-  refused i t0 d (refusal.Stale q row) h = h.0.planner.begins
+  refused i t0 d (refusal.Stale q row asked) h = h.0.planner.begins
   refused i t0 d (refusal.NoMemory back) h = same (Drafting d) (Drafting back) (ap Drafting h.0)
 
   commits : (i : Problem) (t0 : List Placed) (before after : Seat X Y) (outcome : Result (List JournalEntry) Told) → Commits i t0 before after outcome → Stays before after
@@ -79,7 +79,7 @@ module _ {X Y : Type 0} where
   unrefreshed_so : (i : Problem) (t0 : List Placed) (d : DraftingValue) (why : RefreshRefusal X Y) → IsNotRefreshed i t0 d why → Stays (Drafting d) (seat_unrefreshed why)
   unrefreshed_so i t0 d (unrefreshed.NoPlace back) h = same (Drafting d) (Drafting back) (ap Drafting h)
   unrefreshed_so i t0 d (unrefreshed.NoMemory back) h = same (Drafting d) (Drafting back) (ap Drafting h.0)
-  unrefreshed_so i t0 d (unrefreshed.Stale q row) h = h.planner.begins
+  unrefreshed_so i t0 d (unrefreshed.Stale q row asked) h = h.planner.begins
 
   refreshes : (i : Problem) (t0 : List Placed) (before after : Seat X Y) (is : Told) → Refreshes i t0 before after is → Stays before after
   refreshes i t0 (Free p) after is h = same (Free p) after h.0

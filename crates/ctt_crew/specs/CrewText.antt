@@ -9,7 +9,7 @@ use Rattle.ctt_core.specs.Runs.{after}
 use Rattle.ctt_core.specs.declared.event.Event.{Event}
 use Rattle.ctt_core.specs.declared.event.Event.TheVariants.{Open, Ask, Peek, Commit, Refresh, Abandon, Show}
 use Rattle.ctt_core.specs.declared.journal.JournalEntry.{JournalEntry}
-use Rattle.ctt_core.specs.declared.answer.Answer.TheVariants.{NoMemory as OutOfMemory}
+use Rattle.ctt_core.specs.declared.answer.Answer.TheVariants.{NoMemory as OutOfMemory, Stale as StaleAnswer}
 use Rattle.ctt_edits.specs.declared.call.Call.{Call}
 use Rattle.ctt_desk.specs.declared.shared_fault.SharedFault.{SharedFault}
 use Rattle.ctt_desk.specs.declared.shared_fault.SharedFault.TheVariants.{Unlawful, NoPlace as Unplaced, NoMemory}
@@ -20,11 +20,12 @@ use Rattle.ctt_script.specs.WrittenWords.{cost_words}
 use Rattle.ctt_crew.specs.declared.crew_fault.CrewFault.{CrewFault}
 use Rattle.ctt_crew.specs.declared.crew_fault.CrewFault.TheVariants as crew_fault
 use Rattle.ctt_crew.specs.declared.seat.Told.{Told}
-use Rattle.ctt_crew.specs.declared.seat.Told.TheVariants.{Answer as Answered, NotYours, NoPlace}
+use Rattle.ctt_crew.specs.declared.seat.Told.TheVariants.{Answer as Answered, NotYours, NoPlace, Stale}
 
 -- an answer that can be written
 abbrev pub ToldFits : Problem → Told → Type 0
 ToldFits i (Answered answer) = AnswerFits i answer
+ToldFits i (Stale row asked) = AnswerFits i (StaleAnswer row)
 ToldFits i (NotYours n) = Unit {0}
 ToldFits i NoPlace = Unit {0}
 
@@ -47,6 +48,7 @@ told_unread NoMemory = Answered OutOfMemory
 
 abbrev pub told_words : Problem → Told → List (List ℕ)
 told_words i (Answered answer) = answer_words i answer
+told_words i (Stale row asked) = answer_words i (StaleAnswer row)
 told_words i (NotYours n) = codes "not" ∷ codes "yours" ∷ decimal n ∷ []
 told_words i NoPlace = codes "no" ∷ codes "place" ∷ []
 

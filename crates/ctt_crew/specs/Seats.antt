@@ -12,7 +12,7 @@ use Rattle.ctt_core.specs.declared.event.Event.{Event}
 use Rattle.ctt_core.specs.declared.event.Event.TheVariants.{Open, Ask, Peek, Commit, Refresh, Abandon, Show}
 use Rattle.ctt_core.specs.declared.journal.JournalEntry.{JournalEntry}
 use Rattle.ctt_desk.specs.Histories.{entry_of}
-use Rattle.ctt_desk.specs.Planners.{PlannerValue, DraftingValue, IsAccepted, IsOpen, IsRefreshed, IsViewed, asked_also, present_of}
+use Rattle.ctt_desk.specs.Planners.{PlannerValue, DraftingValue, IsAccepted, IsOpen, IsRefreshed, IsSameDraft, IsViewed, asked_also, present_of}
 use Rattle.ctt_desk.specs.Refusals.{IsNotRefreshed, IsRefused, IsUnread}
 use Rattle.ctt_desk.specs.declared.refusal.Refusal.{Refusal}
 use Rattle.ctt_desk.specs.declared.refusal.Refusal.TheVariants as refusal
@@ -25,7 +25,7 @@ use Rattle.ctt_script.specs.WrittenText.{entry_text, line}
 use Rattle.ctt_crew.specs.declared.seat.Seat.{Seat}
 use Rattle.ctt_crew.specs.declared.seat.Seat.TheVariants.{Free, Drafting}
 use Rattle.ctt_crew.specs.declared.seat.Told.{Told}
-use Rattle.ctt_crew.specs.declared.seat.Told.TheVariants.{Answer as Answered, NotYours, NoPlace}
+use Rattle.ctt_crew.specs.declared.seat.Told.TheVariants.{Answer as Answered, NotYours, NoPlace, Stale}
 
 -- he is told this, and is as before
 abbrev pub IsTold : {X Y : Type 0} → Seat X Y → Seat X Y → Told → Told → Type 0
@@ -60,7 +60,7 @@ seat_refused (refusal.NoMemory d) = Drafting d
 
 abbrev pub told_refused : {X Y : Type 0} → Refusal X Y → Told
 told_refused (refusal.NotYours q count) = NotYours count
-told_refused (refusal.Stale q row asked) = Answered (answer.Stale row)
+told_refused (refusal.Stale q row asked) = Stale row asked
 told_refused (refusal.NoMemory d) = Answered answer.NoMemory
 
 -- a draft is committed, and the history is that of the receipt; or it is refused, and he is told why
@@ -83,7 +83,7 @@ seat_unrefreshed (unrefreshed.Stale q row asked) = Free q
 abbrev pub told_unrefreshed : {X Y : Type 0} → RefreshRefusal X Y → Told
 told_unrefreshed (unrefreshed.NoPlace d) = NoPlace
 told_unrefreshed (unrefreshed.NoMemory d) = Answered answer.NoMemory
-told_unrefreshed (unrefreshed.Stale q row asked) = Answered (answer.Stale row)
+told_unrefreshed (unrefreshed.Stale q row asked) = Stale row asked
 
 -- a draft is brought up to date, or not
 abbrev pub Refreshes : {X Y : Type 0} → Problem → List Placed → Seat X Y → Seat X Y → Told → Type 0
@@ -96,10 +96,20 @@ abbrev pub Abandons : {X Y : Type 0} → Seat X Y → Seat X Y → Told → Type
 Abandons (Free p) after told = IsTold (Free p) after (Answered answer.NoDraft) told
 Abandons (Drafting d) after told = (after ≡ Free d.planner) × (told ≡ Answered answer.Abandoned)
 
+-- the planner p, who is q now, looked at what is published, or could not read it
+abbrev pub IsLooked : Problem → List Placed → Look → PlannerValue → PlannerValue → Told → Type 0
+IsLooked i t0 look p q told = ((r : Reply) × IsViewed i t0 look p q r × (told ≡ Answered (answer.Replied r))) ⊎ IsUntold i t0 p q told
+
+-- what is published is shown, and an open draft goes on as it was
+abbrev pub Views : {X Y : Type 0} → Problem → List Placed → Look → Seat X Y → Seat X Y → Told → Type 0
+Views i t0 look (Free p) (Free q) told = IsLooked i t0 look p q told
+Views i t0 look (Drafting d) (Drafting e) told = IsSameDraft d e × IsLooked i t0 look d.planner e.planner told
+Views i t0 look _ _ told = ⊥
+
 -- what is published is shown, where no draft is open
 abbrev pub Shows : {X Y : Type 0} → Problem → List Placed → Look → Seat X Y → Seat X Y → Told → Type 0
 Shows i t0 look (Free p) (Drafting d) told = ⊥
-Shows i t0 look (Free p) (Free q) told = ((r : Reply) × IsViewed i t0 look p q r × (told ≡ Answered (answer.Replied r))) ⊎ IsUntold i t0 p q told
+Shows i t0 look (Free p) (Free q) told = IsLooked i t0 look p q told
 Shows i t0 look (Drafting d) after told = IsTold (Drafting d) after (Answered answer.AlreadyOpen) told
 
 -- an event is answered

@@ -11,7 +11,7 @@ ghost use Rattle.ctt_script.specs.WrittenText.{line};
 use crate::gate::Gate;
 use crate::seat::{Seat, Told};
 use ctt_board::{GridSheet, Sheet};
-use ctt_core::{Event, PlannerNo};
+use ctt_core::{Answer, Event, PlannerNo};
 use ctt_desk::{Naming, Planner, SharedDesk};
 use ctt_edits::Call;
 use ctt_script::{Lines, has_words, read_own_line_of, write_answer, write_bad_line};
@@ -32,6 +32,7 @@ pub fn write_told(text: &mut String, instance: &Instance, told: &Told) -> Result
 {
     match told {
         Told::Answer(answer) => write_answer(text, instance, answer),
+        Told::Stale(row, _) => write_answer(text, instance, &Answer::Stale(*row)),
         Told::NotYours(count) => writeln!(text, "not yours {count}"),
         Told::NoPlace => writeln!(text, "no place"),
     }

@@ -6,14 +6,15 @@ ghost use Rattle.ctt_edits.specs.Looks.{LookFits};
 ghost use Rattle.ctt_core.specs.Runs.{EventFits};
 ghost use Rattle.ctt_crew.specs.CrewText.{ToldFits, told_unread};
 ghost use Rattle.ctt_crew.specs.Attended.{leaver};
-ghost use Rattle.ctt_crew.specs.Seats.{Abandons, Asks, Commits, Opens, Peeks, Refreshes, Shows, Takes, draft_text, open_entry, told_of};
+ghost use Rattle.ctt_crew.specs.Seats.{Abandons, Asks, Commits, Opens, Peeks, Refreshes, Shows, Takes, Views, draft_text, open_entry, told_of};
 
 use ctt_board::{Sheet, Timetable};
 use ctt_core::{Answer, Event};
 use ctt_desk::{
     Drafting, Naming, Planner, Receipt, RefreshRefusal, Refusal, SharedDesk, SharedFault,
 };
-use ctt_edits::{Call, Look};
+use ctt_draft::AskedCalls;
+use ctt_edits::{Call, Look, Row};
 use ctt_script::write_entry;
 use ctt_text::{NoMemory, let_go};
 use std::sync::Wait;
@@ -32,6 +33,9 @@ pub enum Seat<'i, S: Timetable, J: Naming> {
 pub enum Told {
     /// As by a desk for one thread.
     Answer(Answer),
+    /// The draft was refused, since this row has changed. It has ended; its calls come back with
+    /// their replies.
+    Stale(Row, AskedCalls),
     /// He has seen more drafts than the desk has, namely this many; or it has another number of his drafts
     /// than he committed, namely this one.
     NotYours(u64),
@@ -138,8 +142,7 @@ impl<'i, S: Sheet<'i>, J: Naming> Seat<'i, S, J> {
             Seat::Drafting(drafting) => match drafting.commit(rt, desk) {
                 Ok((planner, receipt)) => (Seat::Free(planner), Ok(receipt)),
                 Err(Refusal::Stale(planner, row, asked)) => {
-                    let_go(asked);
-                    (Seat::Free(planner), Err(Told::Answer(Answer::Stale(row))))
+                    (Seat::Free(planner), Err(Told::Stale(row, asked)))
                 }
                 Err(Refusal::NotYours(planner, count)) => {
                     (Seat::Free(planner), Err(Told::NotYours(count)))
@@ -164,8 +167,7 @@ impl<'i, S: Sheet<'i>, J: Naming> Seat<'i, S, J> {
             Seat::Drafting(drafting) => match drafting.refresh() {
                 Ok(drafting) => (Seat::Drafting(drafting), Told::Answer(Answer::Refreshed)),
                 Err(RefreshRefusal::Stale(planner, row, asked)) => {
-                    let_go(asked);
-                    (Seat::Free(planner), Told::Answer(Answer::Stale(row)))
+                    (Seat::Free(planner), Told::Stale(row, asked))
                 }
                 Err(RefreshRefusal::NoPlace(drafting)) => (Seat::Drafting(drafting), Told::NoPlace),
                 Err(RefreshRefusal::NoMemory(drafting)) => {
@@ -210,6 +212,22 @@ impl<'i, S: Sheet<'i>, J: Naming> Seat<'i, S, J> {
             Seat::Drafting(drafting) => {
                 (Seat::Drafting(drafting), Told::Answer(Answer::AlreadyOpen))
             }
+        }
+    }
+
+    /// Looks at the timetable as it stands. An open draft goes on as it was.
+    pub fn view(&mut self, look: &Look) -> Told
+        requires { LookFits J.problem look.now }
+        ensures fits { ToldFits J.problem result }
+        ensures views { Views J.problem J.opening look.now self.old self.new result }
+    {
+        let seen = match self {
+            Seat::Free(planner) => planner.view(look),
+            Seat::Drafting(drafting) => drafting.view(look),
+        };
+        match seen {
+            Ok(reply) => Told::Answer(Answer::Replied(reply)),
+            Err(fault) => unread::<J>(fault),
         }
     }
 
