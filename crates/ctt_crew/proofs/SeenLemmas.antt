@@ -6,7 +6,7 @@ use Rattle.ctt_text.specs.declared.placed.Placed.{Placed}
 use Rattle.ctt_edits.specs.declared.call.Call.{Call}
 use Rattle.ctt_edits.specs.declared.looks.Look.{Look}
 use Rattle.ctt_core.specs.declared.event.Event.{Event}
-use Rattle.ctt_core.specs.declared.event.Event.TheVariants.{Open, Ask, Commit, Refresh, Abandon, Show}
+use Rattle.ctt_core.specs.declared.event.Event.TheVariants.{Open, Ask, Peek, Commit, Refresh, Abandon, Show}
 use Rattle.ctt_core.specs.declared.journal.JournalEntry.{JournalEntry}
 use Rattle.ctt_desk.specs.Histories.{entry_of}
 use Rattle.ctt_desk.specs.Planners.{PlannerValue, DraftingValue, IsAccepted}
@@ -99,6 +99,7 @@ module _ {X Y : Type 0} where
   takes : (i : Problem) (t0 : List Placed) (event : Event) (before after : Seat X Y) (is : Told) → Takes i t0 event before after is → Stays before after
   takes i t0 (Open p) before after is h = opens i t0 before after is h
   takes i t0 (Ask p call) before after is h = asks i call before after is h
+  takes i t0 (Peek p look) before after is h = same before after h.0
   takes i t0 (Commit p) before after is h = commits i t0 before after h.0 h.1
   takes i t0 (Refresh p) before after is h = refreshes i t0 before after is h
   takes i t0 (Abandon p) before after is h = abandons before after is h
