@@ -41,10 +41,14 @@ call_answered i t0 (Some (Abandon q)) call seat next old new e h = cc
 call_answered i t0 (Some (Show look)) call seat next old new e h = cc
 
 module _ (i : Problem) (t0 : List Placed) (all : List (PlannerValue × List ℕ)) where
-  -- the answers of one planner more
-  pub one_attended : (who : PlannerValue × List ℕ) (left : List (PlannerValue × List ℕ)) (texts : List (List ℕ)) (text : List ℕ) → AreAttending i t0 all (who ∷ left) texts → IsAttended i t0 who text → AreAttending i t0 all left (texts ++ text ∷ [])
-  one_attended who left texts text h is = λ more are. subst (AreAttended i t0 all) (sym (append_assoc texts (text ∷ []) more)) (h (text ∷ more) (is, are))
+  -- one planner more has left, with his answers
+  pub one_attended : (who : PlannerValue × List ℕ) (left : List (PlannerValue × List ℕ)) (planners : List PlannerValue) (texts : List (List ℕ)) (q : PlannerValue) (text : List ℕ) → AreAttending i t0 all (who ∷ left) planners texts → IsAttended i t0 who q text
+      → AreAttending i t0 all left (planners ++ q ∷ []) (texts ++ text ∷ [])
+  one_attended who left planners texts q text h is = λ others more are.
+      subst (λ ps. AreAttended i t0 all ps ((texts ++ text ∷ []) ++ more)) (sym (append_assoc planners (q ∷ []) others))
+      (subst (AreAttended i t0 all (planners ++ q ∷ others)) (sym (append_assoc texts (text ∷ []) more)) (h (q ∷ others) (text ∷ more) (is, are)))
 
   -- no planner is left
-  pub all_attended : (texts : List (List ℕ)) → AreAttending i t0 all [] texts → AreAttended i t0 all texts
-  all_attended texts h = subst (AreAttended i t0 all) (append-nil texts) (h [] tt)
+  pub all_attended : (planners : List PlannerValue) (texts : List (List ℕ)) → AreAttending i t0 all [] planners texts → AreAttended i t0 all planners texts
+  all_attended planners texts h =
+      subst (λ ps. AreAttended i t0 all ps texts) (append-nil planners) (subst (AreAttended i t0 all (planners ++ [])) (append-nil texts) (h [] [] tt))

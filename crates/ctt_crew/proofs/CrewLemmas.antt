@@ -1,14 +1,16 @@
 -- The planners of a crew.
-use Rattle.std.proofs.Common.{◌≡◌, ◌∙◌, ◌+◌, ◌<◌, ◌++◌, ◌∷◌, List, [], ℕ, zero, suc, append-nil, length, map, zip, refl, ap, arith, sym, subst, Result, Ok, Err}
+use Rattle.std.proofs.Common.{◌≡◌, ◌∙◌, ◌+◌, ◌<◌, ◌++◌, ◌∷◌, List, [], ℕ, inl, inr, zero, suc, append-nil, length, map, zip, refl, ap, arith, sym, subst, Result, Ok, Err}
 use Rattle.std.specs.Prelude.{IfErr, IfOk, IsOkAnd}
 use Rattle.std.proofs.lemmas.List.{length-append, map-append}
+use Rattle.std.proofs.lemmas.List.Elements.{All-nil}
+use mathlib.Core.List.{IsPrefix}
 use Rattle.ctt_text.specs.Problem.{Problem}
 use Rattle.ctt_text.specs.declared.placed.Placed.{Placed}
 use Rattle.ctt_core.specs.Runs.{Legal}
 use Rattle.ctt_core.specs.declared.journal.JournalEntry.{JournalEntry}
-use Rattle.ctt_desk.specs.Planners.{new_planner, new_planners}
-use Rattle.ctt_crew.specs.Attended.{AreAttended, IsCrewText}
-use Rattle.ctt_crew.specs.CrewText.{IsCrewFault, added_fault, closing_text, report_fault}
+use Rattle.ctt_desk.specs.Planners.{PlannerValue, new_planner, new_planners}
+use Rattle.ctt_crew.specs.Attended.{AreAttended, IsClosing, IsCrewText}
+use Rattle.ctt_crew.specs.CrewText.{IsCrewFault, IsReportFault, added_fault, closing_text}
 use Rattle.ctt_crew.specs.declared.crew_fault.CrewFault.{CrewFault}
 
 pub planners_many : (n : ℕ) → length (new_planners n) ≡ n
@@ -35,18 +37,24 @@ pub added_fits : {T E : Type 0} (started : Result T E) (planner n : ℕ) (fault 
 added_fits (Ok thread) planner n fault within is = subst (IsCrewFault n) (sym is) tt
 added_fits (Err refused) planner n fault within is = subst (IsCrewFault n) (sym is) within
 
--- a fault that is passed on, or want of memory, is one of the crew
-pub report_fits : {A : Type 0} (answers : Result A CrewFault) (n : ℕ) (fault : CrewFault) → IfErr answers (IsCrewFault n) → fault ≡ report_fault answers → IsCrewFault n fault
-report_fits (Ok a) n fault fits is = subst (IsCrewFault n) (sym is) tt
-report_fits (Err told) n fault fits is = subst (IsCrewFault n) (sym is) fits
+-- a fault that is passed on, or one of its end, is one of the crew
+pub report_fits : {A : Type 0} (done : Result A CrewFault) (n : ℕ) (fault : CrewFault) → IfErr done (IsCrewFault n) → IsReportFault done fault → IsCrewFault n fault
+report_fits (Ok a) n fault fits (inl is) = subst (IsCrewFault n) (sym is) tt
+report_fits (Ok a) n fault fits (inr is) = subst (IsCrewFault n) (sym is) tt
+report_fits (Err why) n fault fits is = subst (IsCrewFault n) (sym is) fits
 
 -- the report of the answers to some scripts
-pub is_crew_text : {A E : Type 0} (answers : Result A E) (texts : A → List (List ℕ)) (problem : Problem) (opening : List Placed) (scripts : List (List ℕ)) (text : List ℕ)
-    → IfOk answers (λ a. AreAttended problem opening (zip (new_planners (length scripts)) scripts) (texts a))
-    → IsOkAnd answers (λ a. (history : List JournalEntry) × Legal problem opening history × (text ≡ closing_text problem opening (texts a) history)) → IsCrewText problem opening scripts text
-is_crew_text (Ok a) texts problem opening scripts text attended told = record { answers = texts a; attended = attended; history = told.0; legal = told.1; is = told.2 }
-is_crew_text (Err e) texts problem opening scripts text attended told = absurd told
+pub is_crew_text : {A E : Type 0} (done : Result A E) (planners : A → List PlannerValue) (texts : A → List (List ℕ)) (problem : Problem) (opening : List Placed) (scripts : List (List ℕ)) (text : List ℕ)
+    → IfOk done (λ a. AreAttended problem opening (zip (new_planners (length scripts)) scripts) (planners a) (texts a))
+    → IsOkAnd done (λ a. IsClosing problem opening (planners a) (texts a) text) → IsCrewText problem opening scripts text
+is_crew_text (Ok a) planners texts problem opening scripts text attended closes = record { planners = planners a; answers = texts a; attended = attended; closes = closes }
+is_crew_text (Err e) planners texts problem opening scripts text attended closes = absurd closes
 
 -- that of nobody
 pub is_closing_text : (problem : Problem) (opening : List Placed) (history : List JournalEntry) (text : List ℕ) → Legal problem opening history → text ≡ closing_text problem opening [] history → IsCrewText problem opening [] text
-is_closing_text problem opening history text legal is = record { answers = []; attended = tt; history = history; legal = legal; is = is }
+is_closing_text problem opening history text legal is = record {
+  planners = [];
+  answers = [];
+  attended = tt;
+  closes = record { history = history; legal = legal; begins = All-nil (λ (p : PlannerValue). IsPrefix p.front history); is = is };
+}

@@ -1,3 +1,4 @@
 pub mod AttendLemmas
 pub mod CrewLemmas
 pub mod PlainLemmas
+pub mod SeenLemmas

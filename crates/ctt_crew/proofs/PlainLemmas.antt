@@ -90,8 +90,8 @@ module _ {X Y : Type 0} where
   answers_items i t0 (item ∷ items) before after old new h = (plain h.0, h.1, answers_line i t0 item before h.0 old h.1 h.2, answers_items i t0 items h.0 after h.1 new h.3)
 
   -- a planner who attends at a desk has attended
-  pub has_attended : (i : Problem) (t0 : List Placed) (script : List ℕ) (p q : PlannerValue) (text : List ℕ) (seat : Seat X Y) → seat ≡ Free p → Attends i t0 script seat q text → IsAttended i t0 (p, script) text
+  pub has_attended : (i : Problem) (t0 : List Placed) (script : List ℕ) (p q : PlannerValue) (text : List ℕ) (seat : Seat X Y) → seat ≡ Free p → Attends i t0 script seat q text → IsAttended i t0 (p, script) q text
   has_attended i t0 script p q text (Free r) same h =
       let is : r ≡ p = ap leaver same in
-      rw (sym is) (q, (plain h.0, answers_items i t0 _ (Free r) h.0 [] text h.1, h.2 ∙ sym (same_leaver h.0)))
+      rw (sym is) (plain h.0, answers_items i t0 _ (Free r) h.0 [] text h.1, h.2 ∙ sym (same_leaver h.0))
   has_attended i t0 script p q text (Drafting d) same h = cc

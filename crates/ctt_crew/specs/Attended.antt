@@ -1,5 +1,6 @@
 -- A planner follows his script, and what a crew writes of it.
-use Rattle.std.specs.Prelude.{◌≡◌, ◌++◌, ◌∷◌, ℕ, List, [], filter, length, map, zip, Option}
+use Rattle.std.specs.Prelude.{◌≡◌, ◌++◌, ◌∷◌, ℕ, All, List, [], filter, length, map, zip, Option}
+use mathlib.Core.List.{IsPrefix}
 use Rattle.ctt_text.specs.Problem.{Problem}
 use Rattle.ctt_text.specs.declared.placed.Placed.{Placed}
 use Rattle.ctt_core.specs.Runs.{Legal}
@@ -34,25 +35,30 @@ Attends {X} {Y} i t0 script before q text = (after : Seat X Y) × AnswersItems i
 abbrev pub IsAttending : {X Y : Type 0} → Problem → List Placed → ℕ → List (List ℕ) → List (List ℕ) → Seat X Y → Seat X Y → List ℕ → Type 0
 IsAttending {X} {Y} i t0 p all left before seat text = (after : Seat X Y) (new : List ℕ) → AnswersItems i t0 (own_items i p left) seat after text new → AnswersItems i t0 (own_items i p all) before after [] new
 
--- the planner p follows his script, beginning without a draft, and his answers are this text
-abbrev pub IsAttended : Problem → List Placed → PlannerValue × List ℕ → List ℕ → Type 0
-IsAttended i t0 who text = (q : PlannerValue) × Attends {X = Unit {0}} {Y = Unit {0}} i t0 who.1 (Free who.0) q text
+-- the planner follows his script, beginning without a draft: his answers are this text, and he leaves as q
+abbrev pub IsAttended : Problem → List Placed → PlannerValue × List ℕ → PlannerValue → List ℕ → Type 0
+IsAttended i t0 who q text = Attends {X = Unit {0}} {Y = Unit {0}} i t0 who.1 (Free who.0) q text
 
--- of each of these planners, with their scripts, these are the answers
-abbrev pub AreAttended : Problem → List Placed → List (PlannerValue × List ℕ) → List (List ℕ) → Type 0
-AreAttended i t0 [] [] = Unit {0}
-AreAttended i t0 [] (text ∷ texts) = ⊥
-AreAttended i t0 (who ∷ more) [] = ⊥
-AreAttended i t0 (who ∷ more) (text ∷ texts) = IsAttended i t0 who text × AreAttended i t0 more texts
+-- each of these planners, with their scripts, leaves as the planner at his place, and these are his answers
+abbrev pub AreAttended : Problem → List Placed → List (PlannerValue × List ℕ) → List PlannerValue → List (List ℕ) → Type 0
+AreAttended i t0 [] [] [] = Unit {0}
+AreAttended i t0 (who ∷ more) (q ∷ others) (text ∷ texts) = IsAttended i t0 who q text × AreAttended i t0 more others texts
+AreAttended i t0 _ _ _ = ⊥
 
--- so far: answers of those who are left, behind these, are the answers of all
-abbrev pub AreAttending : Problem → List Placed → List (PlannerValue × List ℕ) → List (PlannerValue × List ℕ) → List (List ℕ) → Type 0
-AreAttending i t0 all left texts = (more : List (List ℕ)) → AreAttended i t0 left more → AreAttended i t0 all (texts ++ more)
+-- so far: how those who are left leave, and their answers, after these, are those of all
+abbrev pub AreAttending : Problem → List Placed → List (PlannerValue × List ℕ) → List (PlannerValue × List ℕ) → List PlannerValue → List (List ℕ) → Type 0
+AreAttending i t0 all left planners texts = (others : List PlannerValue) (more : List (List ℕ)) → AreAttended i t0 left others more → AreAttended i t0 all (planners ++ others) (texts ++ more)
 
--- a crew's text: the answers to these scripts, each followed by the planner of its number, and as many drafts as some legal history on the opening has, with what the timetable costs after it
-pub record IsCrewText (problem : Problem) (opening : List Placed) (scripts : List (List ℕ)) (text : List ℕ) : Type 0 where
-  pub answers : List (List ℕ)
-  pub attended : AreAttended problem opening (zip (new_planners (length scripts)) scripts) answers
+-- these answers, and as many drafts as a legal history on the opening has, with what the timetable costs after it; the history begins with all that each of the planners has seen
+pub record IsClosing (problem : Problem) (opening : List Placed) (planners : List PlannerValue) (answers : List (List ℕ)) (text : List ℕ) : Type 0 where
   pub history : List JournalEntry
   pub legal : Legal problem opening history
+  pub begins : All (λ (p : PlannerValue). IsPrefix p.front history) planners
   pub is : text ≡ closing_text problem opening answers history
+
+-- a crew's text: the answers to these scripts, each followed by the planner of its number, and last lines whose history begins with all that each planner had seen when he left
+pub record IsCrewText (problem : Problem) (opening : List Placed) (scripts : List (List ℕ)) (text : List ℕ) : Type 0 where
+  pub planners : List PlannerValue
+  pub answers : List (List ℕ)
+  pub attended : AreAttended problem opening (zip (new_planners (length scripts)) scripts) planners answers
+  pub closes : IsClosing problem opening planners answers text

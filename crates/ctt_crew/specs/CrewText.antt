@@ -1,5 +1,5 @@
 -- What a crew is answered, and what is written of it.
-use Rattle.std.specs.Prelude.{ℕ, ◌+◌, ◌<◌, List, [], ◌∷◌, ◌++◌, codes, length, Option, Some, None, Result, Ok, Err}
+use Rattle.std.specs.Prelude.{ℕ, ◌+◌, ◌<◌, ◌≡◌, ◌⊎◌, List, [], ◌∷◌, ◌++◌, codes, length, Option, Some, None, Result, Ok, Err}
 use Rattle.std.specs.Fmt.{decimal}
 use Rattle.ctt_text.specs.Problem.{Problem}
 use Rattle.ctt_text.specs.declared.placed.Placed.{Placed}
@@ -72,6 +72,7 @@ of_shared NoMemory = crew_fault.NoMemory
 abbrev pub IsCrewFault : ℕ → CrewFault → Type 0
 IsCrewFault planners (crew_fault.NoThread p) = p < planners
 IsCrewFault planners crew_fault.NoPlace = Unit {0}
+IsCrewFault planners crew_fault.NotYours = Unit {0}
 IsCrewFault planners crew_fault.NoMemory = Unit {0}
 
 -- why a planner's thread is not added, by whether it was started
@@ -79,7 +80,11 @@ abbrev pub added_fault : {T E : Type 0} → ℕ → Result T E → CrewFault
 added_fault planner (Ok thread) = crew_fault.NoMemory
 added_fault planner (Err refused) = crew_fault.NoThread planner
 
--- why there is no report of these answers
-abbrev pub report_fault : {A : Type 0} → Result A CrewFault → CrewFault
-report_fault (Ok answers) = crew_fault.NoMemory
-report_fault (Err fault) = fault
+-- why a desk that its planners have left gives no report: one of them had seen more than it has, or memory is wanted
+abbrev pub IsEndFault : CrewFault → Type 0
+IsEndFault fault = (fault ≡ crew_fault.NotYours) ⊎ (fault ≡ crew_fault.NoMemory)
+
+-- why there is no report of what was done
+abbrev pub IsReportFault : {A : Type 0} → Result A CrewFault → CrewFault → Type 0
+IsReportFault (Ok done) fault = IsEndFault fault
+IsReportFault (Err why) fault = fault ≡ why

@@ -1,3 +1,4 @@
 pub mod Attended
 pub mod CrewText
+pub mod Laws
 pub mod Seats

@@ -173,7 +173,8 @@ pub(crate) struct GridAttendance<'i, 'x, J: Naming, G: Gate> {
     pub(crate) attendance: Attendance<'i, 'x, J, G>,
 }
 
-/// That a thread's answers are those of this planner to this script.
+/// That a thread's answers are those of this planner to this script, and that it gives him back as
+/// he left.
 #[derive(Drop)]
 pub(crate) struct Promised<'i, 'x, J: Naming> {
     planner: Snapshot<Planner<GridSheet<'i>, J>>,
@@ -201,17 +202,19 @@ impl<'i, 'x, J: Naming> Promised<'i, 'x, J> {
     }
 }
 
-impl<'i, 'x, J: Naming> Promise<Result<String, NoMemory>> for Promised<'i, 'x, J> {
-    ghost kept_by = { λ p r. IfOk r (λ text. IsAttended J.problem J.opening p (string_bytes text)) };
+impl<'i, 'x, J: Naming> Promise<Result<(Planner<GridSheet<'i>, J>, String), NoMemory>>
+    for Promised<'i, 'x, J> {
+    ghost kept_by = { λ p r. IfOk r (λ done.
+        IsAttended J.problem J.opening p done.0 (string_bytes done.1)) };
 }
 
-/// Answers the lines of the script of a planner over a grid sheet.
+/// Answers the lines of the script of a planner over a grid sheet, and gives him back.
 pub(crate) fn attend_on_grid<'i, 'x, J: Naming, R: Wait, G: Gate>(
     work: GridAttendance<'i, 'x, J, G>,
     rt: &R,
-) -> Result<String, NoMemory>
-    ensures { IfOk result (λ text. IsAttended J.problem J.opening
-        (work.entry.planner, work.entry.attendance.script.now) (string_bytes text)) }
+) -> Result<(Planner<GridSheet<'i>, J>, String), NoMemory>
+    ensures { IfOk result (λ done. IsAttended J.problem J.opening
+        (work.entry.planner, work.entry.attendance.script.now) done.0 (string_bytes done.1)) }
 {
     let GridAttendance {
         desk,
@@ -220,7 +223,5 @@ pub(crate) fn attend_on_grid<'i, 'x, J: Naming, R: Wait, G: Gate>(
     } = work;
     let number = planner.number();
     let seat = Seat::Free(planner);
-    let (planner, answers) = attend::<GridSheet<'i>, J, R, G>(attendance, rt, desk, number, seat)?;
-    let_go(planner);
-    Ok(answers)
+    attend::<GridSheet<'i>, J, R, G>(attendance, rt, desk, number, seat)
 }

@@ -16,6 +16,8 @@ pub enum CrewFault {
     NoPlace,
     /// The thread of this planner could not be started.
     NoThread(PlannerNo),
+    /// A planner had seen more drafts than the desk has.
+    NotYours,
     /// There is not enough memory.
     NoMemory,
 }

@@ -1,46 +1,46 @@
 //! A crew: planners on threads, each with a script of his own.
 
-ghost use Rattle.std.specs.Prelude.{◌≡◌, ◌≤◌, ◌<◌, ◌++◌, ◌∷◌, List, [], length, IfErr, IfOk, IsOkAnd, OnOk, map, zip, string_bytes};
-ghost use Rattle.ctt_rules.specs.declared.cost.Cost.{Cost};
-ghost use Rattle.ctt_core.specs.Runs.{Legal};
-ghost use Rattle.ctt_core.specs.declared.journal.JournalEntry.{JournalEntry};
+ghost use Rattle.std.specs.Prelude.{◌≡◌, ◌≤◌, ◌++◌, ◌∷◌, [], length, IfErr, IfOk, IsOkAnd, OnOk, map, zip, string_bytes};
 ghost use Rattle.ctt_desk.specs.Names.{IsNamed};
 ghost use Rattle.ctt_desk.specs.Planners.{new_planners};
-ghost use Rattle.ctt_crew.specs.CrewText.{IsCrewFault, added_fault, closing_text, crew_text, report_fault};
+ghost use Rattle.ctt_crew.specs.CrewText.{IsCrewFault, added_fault};
 ghost use Rattle.ctt_crew.specs.Attended.{AreAttended, IsAttended, IsCrewText};
 ghost use Rattle.ctt_crew.specs.declared.crew_fault.CrewFault.TheVariants as crew_fault;
 
 use crate::attending::{Attendance, GridAttendance, Promised, attend_on_grid};
+use crate::closing::last_report;
 use crate::crew_fault::CrewFault;
 use crate::gate::Gate;
 use ctt_board::{GridSheet, Sheet, Timetable};
 use ctt_core::PlannerNo;
-use ctt_desk::{Closed, Named, Naming, Opened, Planner, SharedDesk, SharedFault};
-use ctt_rules::Cost;
-use ctt_script::write_costs;
+use ctt_desk::{Named, Naming, Opened, Planner, SharedDesk, SharedFault};
 use ctt_text::{Instance, NoMemory, let_go};
 use std::alloc::Global;
-use std::fmt::Write;
 use std::marker::{Brand, PhantomData, Send, Sync};
 use std::sync::Wait;
 use std::thread;
 use std::thread::{PromisedHandle, Threads};
 
-/// What the threads were answered, in their order, when all of them have ended.
+/// The planners as they left, in order, and what they were answered, when all threads have ended.
 fn joined<'i, 'x, J: Naming, R: Threads>(
     rt: &R,
     alloc: Global,
-    threads: Vec<PromisedHandle<Result<String, NoMemory>, Promised<'i, 'x, J>>>,
-) -> Result<Vec<String>, CrewFault>
-    ensures attended { IfOk result (λ answers. AreAttended J.problem J.opening
-        (map (λ h. h.promise) threads.entry.items) (map string_bytes answers.items)) }
+    threads: Vec<
+        PromisedHandle<Result<(Planner<GridSheet<'i>, J>, String), NoMemory>, Promised<'i, 'x, J>>,
+    >,
+) -> Result<(Vec<Planner<GridSheet<'i>, J>>, Vec<String>), CrewFault>
+    ensures attended { IfOk result (λ done. AreAttended J.problem J.opening
+        (map (λ h. h.promise) threads.entry.items) done.0.items (map string_bytes done.1.items)) }
     ensures fault { IfErr result (λ fault. fault ≡ crew_fault.NoMemory) }
 {
+    let mut planners = Vec::with_capacity(alloc, threads.len())?;
     let mut answers = Vec::with_capacity(alloc, threads.len())?;
     for thread in threads {
-        answers.push(thread.join(rt)?)?;
+        let (planner, text) = thread.join(rt)?;
+        planners.push(planner)?;
+        answers.push(text)?;
     }
-    Ok(answers)
+    Ok((planners, answers))
 }
 
 /// Adds a planner's thread, if it was started.
@@ -59,25 +59,27 @@ fn added<T: Drop, E: Drop>(
     }
 }
 
-/// What each planner was answered, when all of them have come to the end of their scripts.
+/// The planners as they left, and what each was answered, when all of them have come to the end of
+/// their scripts.
 #[tactic(auto, using(crate::proofs::CrewLemmas::added_fits))]
 fn work_at_once<'i, 'x, J: Naming + Send + Sync, R: Threads + Wait + Sync, G: Gate>(
     rt: &R,
     alloc: Global,
     desk: &'x SharedDesk<GridSheet<'i>, J>,
     works: Vec<(Planner<GridSheet<'i>, J>, Attendance<'i, 'x, J, G>)>,
-) -> Result<Vec<String>, CrewFault>
-    ensures attended { IfOk result (λ answers. AreAttended J.problem J.opening
-        (map (λ w. (w.0, w.1.script.now)) works.entry.items) (map string_bytes answers.items)) }
+) -> Result<(Vec<Planner<GridSheet<'i>, J>>, Vec<String>), CrewFault>
+    ensures attended { IfOk result (λ done. AreAttended J.problem J.opening
+        (map (λ w. (w.0, w.1.script.now)) works.entry.items) done.0.items
+        (map string_bytes done.1.items)) }
     ensures fault { IfErr result (IsCrewFault J.planners) }
 {
     thread::scope(
         thread::scope_env(),
         rt,
-        |scope| -> Result<Vec<String>, CrewFault>
-            ensures attended { IfOk result (λ answers. AreAttended J.problem J.opening
-                (map (λ w. (w.0, w.1.script.now)) works.entry.items)
-                (map string_bytes answers.items)) }
+        |scope| -> Result<(Vec<Planner<GridSheet, J>>, Vec<String>), CrewFault>
+            ensures attended { IfOk result (λ done. AreAttended J.problem J.opening
+                (map (λ w. (w.0, w.1.script.now)) works.entry.items) done.0.items
+                (map string_bytes done.1.items)) }
             ensures fault { IfErr result (IsCrewFault J.planners) }
         {
             let mut threads = Vec::new(alloc);
@@ -89,10 +91,10 @@ fn work_at_once<'i, 'x, J: Naming + Send + Sync, R: Threads + Wait + Sync, G: Ga
                     planner,
                     attendance,
                 };
-                let attending = move || -> Result<String, NoMemory>
-                    ensures { IfOk result (λ text. IsAttended J.problem J.opening
-                        (work.entry.planner, work.entry.attendance.script.now)
-                        (string_bytes text)) }
+                let attending = move || -> Result<(Planner<GridSheet, J>, String), NoMemory>
+                    ensures { IfOk result (λ done. IsAttended J.problem J.opening
+                        (work.entry.planner, work.entry.attendance.script.now) done.0
+                        (string_bytes done.1)) }
                 { attend_on_grid(work, rt) };
                 let started = scope.spawn_with(promise, attending);
                 if let Err(fault) = added(&mut threads, started, number) {
@@ -138,54 +140,6 @@ fn attendances<'i, 'x, P: Drop, J: Naming, G: Gate>(
     Ok(works)
 }
 
-/// More bytes than the line that says a planner has, and than the two last lines of what a crew wrote have.
-const LINE: usize = 128;
-
-/// Room for the answers of all planners, each behind his line, and for the two last lines.
-fn room_for(answers: &[String]) -> usize {
-    let mut room = LINE;
-    for lines in answers {
-        room = room.saturating_add(LINE).saturating_add(lines.len());
-    }
-    room
-}
-
-/// What a crew wrote: the answers of each planner, the number of accepted drafts, and the costs.
-fn crew_report(
-    alloc: Global,
-    answers: Vec<String>,
-    entries: u64,
-    cost: &Cost,
-) -> Result<Vec<u8>, NoMemory>
-    ensures { IfOk result (λ text. text.items
-        ≡ crew_text (map string_bytes answers.items) entries cost.now) }
-{
-    // Each planner's answers are let go once they are copied, so that all of them never lie in memory twice.
-    let mut text = String::with_capacity(alloc, room_for(&answers))?;
-    for (planner, lines) in answers.into_iter().enumerate() {
-        writeln!(text, "planner {planner}")?;
-        text.push_str(&lines)?;
-    }
-    writeln!(text, "journal {entries}")?;
-    write_costs(&mut text, cost)?;
-    Ok(text.into_bytes())
-}
-
-/// What a crew wrote whose desk is closed.
-pub fn closing_report<S: Timetable, J: Naming>(
-    alloc: Global,
-    closed: &Closed<S, J>,
-    answers: Vec<String>,
-) -> Result<Vec<u8>, NoMemory>
-    ensures text { IfOk result (λ text. text.items
-        ≡ closing_text J.problem J.opening (map string_bytes answers.items) closed.now) }
-    ensures legal { Legal J.problem J.opening closed.now }
-{
-    let entries = closed.accepted();
-    let cost = closed.cost();
-    crew_report(alloc, answers, entries, &cost)
-}
-
 /// A desk of which is known which one it is, with its planners.
 fn desk_named<S: Timetable, J: Naming, R: Wait>(
     rt: &R,
@@ -197,53 +151,9 @@ fn desk_named<S: Timetable, J: Naming, R: Wait>(
     Ok(SharedDesk::new(rt, named)?)
 }
 
-/// Ends a desk whose planners are gone.
-pub fn end_desk<S: Timetable, J: Naming, R: Wait>(
-    rt: &R,
-    alloc: Global,
-    desk: SharedDesk<S, J>,
-) -> Closed<S, J> {
-    let mut none = Vec::new(alloc);
-    match desk.close(rt, none.as_mut_slice()) {
-        Ok(closed) | Err(closed) => closed,
-    }
-}
-
-/// What a crew wrote whose desk is closed, if each planner was answered.
-fn report_if_answered<S: Timetable, J: Naming>(
-    alloc: Global,
-    closed: &Closed<S, J>,
-    answers: Result<Vec<String>, CrewFault>,
-) -> Result<Vec<u8>, CrewFault>
-    ensures text { IfOk result (λ text. IsOkAnd answers (λ answers. text.items
-        ≡ closing_text J.problem J.opening (map string_bytes answers.items) closed.now)) }
-    ensures legal { OnOk result (Legal J.problem J.opening closed.now) }
-    ensures fault { IfErr result (λ fault. fault ≡ report_fault answers) }
-{
-    let answers = answers?;
-    Ok(closing_report(alloc, closed, answers)?)
-}
-
-/// Ends a desk whose planners are gone, and gives what they wrote, if each of them was answered.
-fn last_report<S: Timetable, J: Naming, R: Wait>(
-    rt: &R,
-    alloc: Global,
-    desk: SharedDesk<S, J>,
-    answers: Result<Vec<String>, CrewFault>,
-) -> Result<Vec<u8>, CrewFault>
-    ensures text { IfOk result (λ text. IsOkAnd answers (λ answers.
-        (history : List JournalEntry) × Legal J.problem J.opening history
-        × (text.items ≡ closing_text J.problem J.opening (map string_bytes answers.items) history))) }
-    ensures fault { IfErr result (λ fault. fault ≡ report_fault answers) }
-{
-    let closed = end_desk(rt, alloc, desk);
-    let report = report_if_answered(alloc, &closed, answers);
-    let_go(closed);
-    report
-}
-
-/// What each planner was answered at a desk, when all of them have come to the end of their scripts.
-fn answers_at<'i, J: Naming + Send + Sync, R: Threads + Wait + Sync, G: Gate>(
+/// The planners as they left a desk, and what each was answered, when all of them have come to the
+/// end of their scripts.
+fn attended_at<'i, J: Naming + Send + Sync, R: Threads + Wait + Sync, G: Gate>(
     rt: &R,
     alloc: Global,
     desk: &SharedDesk<GridSheet<'i>, J>,
@@ -251,11 +161,12 @@ fn answers_at<'i, J: Naming + Send + Sync, R: Threads + Wait + Sync, G: Gate>(
     planners: Vec<Planner<GridSheet<'i>, J>>,
     scripts: &[&[u8]],
     gate: &G,
-) -> Result<Vec<String>, CrewFault>
+) -> Result<(Vec<Planner<GridSheet<'i>, J>>, Vec<String>), CrewFault>
     requires problem { J.problem ≡ instance.now }
     requires counted { length planners.items ≡ length scripts.now }
-    ensures attended { IfOk result (λ answers. AreAttended J.problem J.opening
-        (zip planners.entry.items (map (λ s. s.now) scripts.now)) (map string_bytes answers.items)) }
+    ensures attended { IfOk result (λ done. AreAttended J.problem J.opening
+        (zip planners.entry.items (map (λ s. s.now) scripts.now)) done.0.items
+        (map string_bytes done.1.items)) }
     ensures fault { IfErr result (IsCrewFault J.planners) }
 {
     let works = attendances(alloc, instance, planners, scripts, gate)?;
@@ -285,8 +196,8 @@ fn crew_named<'i, J: Naming + Send + Sync, R: Threads + Wait + Sync, G: Gate>(
         name: PhantomData,
     };
     let (desk, planners) = desk_named::<GridSheet<'i>, J, R>(rt, named)?;
-    let answers = answers_at(rt, alloc, &desk, instance, planners, scripts, gate);
-    last_report::<GridSheet<'i>, J, R>(rt, alloc, desk, answers)
+    let done = attended_at(rt, alloc, &desk, instance, planners, scripts, gate);
+    last_report::<GridSheet<'i>, J, R>(rt, alloc, desk, done)
 }
 
 /// The empty timetable, as an opening.

@@ -12,7 +12,7 @@ use Rattle.ctt_text.specs.declared.fault.SolutionFault.TheVariants as solution
 use Rattle.ctt_text.specs.declared.fault.BarredFault.{BarredFault}
 use Rattle.ctt_text.specs.declared.fault.BarredFault.TheVariants as barred
 use Rattle.ctt_files.specs.declared.fault.Fault.{Fault}
-use Rattle.ctt_files.specs.declared.fault.Fault.TheVariants.{BadSeats, Barred, CannotRead, CannotWrite, Instance, Journal, MinutesExist, NoCourse, NoCurriculum, NoMemory, NoPlace, NoRoom, NoTeacher, NoThread, Opening, Solution, TooLong, TooManyScripts, Words, WordsNotText}
+use Rattle.ctt_files.specs.declared.fault.Fault.TheVariants.{BadSeats, Barred, CannotRead, CannotWrite, Instance, Journal, MinutesExist, NoCourse, NoCurriculum, NoMemory, NoPlace, NoRoom, NoTeacher, NoThread, NotYours, Opening, Solution, TooLong, TooManyScripts, Words, WordsNotText}
 
 -- the fault of an instance, by its number and the byte or the word that it names
 abbrev pub fault_of_instance : ReadFault → Fault
@@ -75,6 +75,7 @@ status_of (TooLong name) = 3
 status_of CannotWrite = 3
 status_of NoMemory = 3
 status_of NoThread = 3
+status_of NotYours = 3
 status_of NoPlace = 3
 status_of BadSeats = 2
 status_of (MinutesExist name) = 3

@@ -55,6 +55,9 @@ pub enum Fault {
     /// The thread of a planner could not be started.
     #[error("timedesk: no thread")]
     NoThread,
+    /// A planner had seen more drafts than the desk has.
+    #[error("timedesk: not yours")]
+    NotYours,
     /// A desk has more seats than are taken, or one of them twice.
     #[error("timedesk: at most 64 seats, each once")]
     BadSeats,
@@ -108,6 +111,7 @@ impl Fault {
             | Fault::NoMemory
             | Fault::NoPlace
             | Fault::NoThread
+            | Fault::NotYours
             | Fault::MinutesExist(_) => 3,
         }
     }

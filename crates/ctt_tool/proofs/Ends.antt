@@ -9,7 +9,7 @@ use Rattle.ctt_files.specs.Faults.{MayHaveWritten, status_of}
 use Rattle.ctt_files.specs.Outcomes.{outcome_status}
 use Rattle.ctt_files.specs.Texts.{Held}
 use Rattle.ctt_files.specs.declared.fault.Fault.{Fault}
-use Rattle.ctt_files.specs.declared.fault.Fault.TheVariants.{BadSeats, Barred, CannotRead, CannotWrite, Instance, Journal, MinutesExist, NoCourse, NoCurriculum, NoMemory, NoPlace, NoRoom, NoTeacher, NoThread, Opening, Solution, TooLong, TooManyScripts, Words, WordsNotText}
+use Rattle.ctt_files.specs.declared.fault.Fault.TheVariants.{BadSeats, Barred, CannotRead, CannotWrite, Instance, Journal, MinutesExist, NoCourse, NoCurriculum, NoMemory, NoPlace, NoRoom, NoTeacher, NoThread, NotYours, Opening, Solution, TooLong, TooManyScripts, Words, WordsNotText}
 use Rattle.ctt_files.specs.declared.outcome.Outcome.{Outcome}
 use Rattle.ctt_files.specs.declared.outcome.Outcome.TheVariants.{Differs, Done, Incomplete, Unlawful}
 use Rattle.ctt_files.proofs.Causes.{three_is_one}
@@ -84,6 +84,7 @@ ended_kept (Words text) status S K is kept = inl kept
 ended_kept WordsNotText status S K is kept = inl kept
 ended_kept TooManyScripts status S K is kept = inl kept
 ended_kept NoThread status S K is kept = inl kept
+ended_kept NotYours status S K is kept = inl kept
 ended_kept NoPlace status S K is kept = inl kept
 ended_kept BadSeats status S K is kept = inl kept
 ended_kept (MinutesExist name) status S K is kept = inl kept
@@ -138,6 +139,7 @@ may_is_three (Words text) may = absurd may
 may_is_three WordsNotText may = absurd may
 may_is_three TooManyScripts may = absurd may
 may_is_three NoThread may = absurd may
+may_is_three NotYours may = absurd may
 may_is_three NoPlace may = absurd may
 may_is_three BadSeats may = absurd may
 may_is_three (MinutesExist name) may = absurd may
@@ -168,6 +170,7 @@ status_between (Words text) = (omega arith, omega arith)
 status_between WordsNotText = (omega arith, omega arith)
 status_between TooManyScripts = (omega arith, omega arith)
 status_between NoThread = (omega arith, omega arith)
+status_between NotYours = (omega arith, omega arith)
 status_between NoPlace = (omega arith, omega arith)
 status_between BadSeats = (omega arith, omega arith)
 status_between (MinutesExist name) = (omega arith, omega arith)

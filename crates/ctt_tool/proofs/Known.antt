@@ -13,7 +13,7 @@ use Rattle.ctt_words.specs.declared.job.WordsFault.TheVariants.{Help, Refused}
 use Rattle.ctt_files.specs.Faults.{IfUnwritten, IsLineOf, status_of}
 use Rattle.ctt_files.specs.Texts.{Held}
 use Rattle.ctt_files.specs.declared.fault.Fault.{Fault}
-use Rattle.ctt_files.specs.declared.fault.Fault.TheVariants.{BadSeats, Barred, CannotRead, CannotWrite, Instance, Journal, MinutesExist, NoCourse, NoCurriculum, NoMemory, NoPlace, NoRoom, NoTeacher, NoThread, Opening, Solution, TooLong, TooManyScripts, Words, WordsNotText}
+use Rattle.ctt_files.specs.declared.fault.Fault.TheVariants.{BadSeats, Barred, CannotRead, CannotWrite, Instance, Journal, MinutesExist, NoCourse, NoCurriculum, NoMemory, NoPlace, NoRoom, NoTeacher, NoThread, NotYours, Opening, Solution, TooLong, TooManyScripts, Words, WordsNotText}
 use Rattle.ctt_files.proofs.Plain.{IsPlain, behind_plain, unwritten_more}
 use Rattle.ctt_reports.specs.Showings.{whose_of}
 use Rattle.ctt_reports.proofs.LookLemmas.{look_plain}
@@ -89,6 +89,7 @@ job_caused words held failed job U (Words text) is cause = job_words job held (W
 job_caused words held failed job U WordsNotText is cause = job_words job held WordsNotText tt (λ plain. absurd plain) cause.0
 job_caused words held failed job U TooManyScripts is cause = (job, is, cause.0)
 job_caused words held failed job U NoThread is cause = (job, is, cause.0)
+job_caused words held failed job U NotYours is cause = (job, is, cause.0)
 job_caused words held failed job U NoPlace is cause = (job, is, cause.0)
 job_caused words held failed job U BadSeats is cause = (job, is, cause.0)
 job_caused words held failed job U (MinutesExist name) is cause = (job, is, cause.0)
@@ -124,6 +125,7 @@ refused_two words held failed TooManyScripts has two = inr (inl (has.0, has.1, m
     many_of task (inr (inl many)) = many.1
     many_of task (inr (inr bad)) = one_is_none (ap is_many bad.0)
 refused_two words held failed NoThread has two = absurd (omega (arith, two))
+refused_two words held failed NotYours has two = absurd (omega (arith, two))
 refused_two words held failed NoPlace has two = absurd (omega (arith, two))
 refused_two words held failed (MinutesExist name) has two = absurd (omega (arith, two))
 refused_two words held failed (NoCurriculum name) has two = absurd (omega (arith, two))
@@ -152,6 +154,7 @@ asked_one words held failed (Words text) has one = absurd (omega (arith, one))
 asked_one words held failed WordsNotText has one = absurd (omega (arith, one))
 asked_one words held failed TooManyScripts has one = absurd (omega (arith, one))
 asked_one words held failed NoThread has one = absurd (omega (arith, one))
+asked_one words held failed NotYours has one = absurd (omega (arith, one))
 asked_one words held failed NoPlace has one = absurd (omega (arith, one))
 asked_one words held failed BadSeats has one = absurd (omega (arith, one))
 asked_one words held failed (MinutesExist name) has one = absurd (omega (arith, one))

@@ -11,7 +11,7 @@ use Rattle.ctt_files.specs.Texts.{Held}
 use Rattle.ctt_files.specs.declared.fault.Fault.{Fault}
 use Rattle.ctt_files.proofs.Plain.{IsPlain, file_text_plain, files_plain, plain_written, start_plain}
 use Rattle.ctt_tool.specs.Faults.{IsOpeningFault, fault_of_journal}
-use Rattle.ctt_tool.specs.Refusals.{IsOfAudited, IsOfJournal, IsOfMinutes, IsOfOpening, IsOfScript, IsOfScripts, IsOfSeats, IsOfWork, IsUnread}
+use Rattle.ctt_tool.specs.Refusals.{IsOfAudited, IsOfJournal, IsOfMinutes, IsOfOpening, IsOfScript, IsOfScripts, IsOfCrewWork, IsOfSeats, IsOfWork, IsUnread}
 
 journal_plain : (met : JournalFault) → IsPlain (fault_of_journal met)
 journal_plain (journal.NotText byte) = tt
@@ -40,8 +40,11 @@ audited_plain journal start held problem fault is = ⊎_elim (λ none. journal_f
 work_plain : (fault : Fault) → IsOfWork fault → IsPlain fault
 work_plain fault is = ⊎_elim (λ same. subst IsPlain (sym same) tt) (λ other. ⊎_elim (λ same. subst IsPlain (sym same) tt) (λ same. subst IsPlain (sym same) tt) other) is
 
+crew_work_plain : (fault : Fault) → IsOfCrewWork fault → IsPlain fault
+crew_work_plain fault is = ⊎_elim (λ work. work_plain fault work) (λ same. subst IsPlain (sym same) tt) is
+
 pub scripts_plain : (names : List (String Global)) (held : Held) (problem : Problem) (fault : Fault) → IsOfScripts names held problem fault → IsPlain fault
-scripts_plain names held problem fault is = ⊎_elim (λ files. files_plain names held fault files) (λ work. work_plain fault work) is
+scripts_plain names held problem fault is = ⊎_elim (λ files. files_plain names held fault files) (λ work. crew_work_plain fault work) is
 
 pub minutes_plain : (minutes : String Global) (held : Held) (problem : Problem) (fault : Fault) → IsOfMinutes minutes held problem fault → IsPlain fault
 minutes_plain minutes held problem fault is = file_text_plain fault_of_journal _ _ journal_plain held minutes fault is

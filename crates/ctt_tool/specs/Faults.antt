@@ -17,7 +17,7 @@ use Rattle.ctt_script.specs.declared.journal_fault.JournalFault.TheVariants as j
 use Rattle.ctt_script.specs.declared.script_fault.ScriptFault.{ScriptFault}
 use Rattle.ctt_script.specs.declared.script_fault.ScriptFault.TheVariants as script
 use Rattle.ctt_files.specs.declared.fault.Fault.{Fault}
-use Rattle.ctt_files.specs.declared.fault.Fault.TheVariants.{CannotRead, CannotWrite, Journal, NoMemory, NoPlace, NoThread, Opening, TooLong}
+use Rattle.ctt_files.specs.declared.fault.Fault.TheVariants.{CannotRead, CannotWrite, Journal, NoMemory, NoPlace, NoThread, NotYours, Opening, TooLong}
 use Rattle.ctt_files.specs.Faults.{IfUnwritten, IsLineOf, status_of}
 
 -- the fault of a journal
@@ -31,6 +31,7 @@ fault_of_journal journal.NoMemory = NoMemory
 abbrev pub fault_of_crew : CrewFault → Fault
 fault_of_crew crew.NoPlace = NoPlace
 fault_of_crew (crew.NoThread planner) = NoThread
+fault_of_crew crew.NotYours = NotYours
 fault_of_crew crew.NoMemory = NoMemory
 
 -- the line of an opening of which this lecture, counted from 1, cannot be placed

@@ -15,7 +15,7 @@ use Rattle.ctt_office.specs.declared.office_fault.OfficeFault.TheVariants as off
 use Rattle.ctt_files.specs.Refusals.{IsNoText, IsOfFiles, IsOfInstanceOr, IsOfStart, IsOfText, IsTooLong}
 use Rattle.ctt_files.specs.Texts.{Held, Holds, IsStart}
 use Rattle.ctt_files.specs.declared.fault.Fault.{Fault}
-use Rattle.ctt_files.specs.declared.fault.Fault.TheVariants.{BadSeats, CannotRead, CannotWrite, MinutesExist, NoMemory, NoPlace, NoThread, TooLong, TooManyScripts}
+use Rattle.ctt_files.specs.declared.fault.Fault.TheVariants.{BadSeats, CannotRead, CannotWrite, MinutesExist, NoMemory, NoPlace, NoThread, NotYours, TooLong, TooManyScripts}
 use Rattle.ctt_tool.specs.Faults.{IsOpeningFault, fault_of_journal}
 use Rattle.ctt_tool.specs.Seats.{AreBadSeats}
 use Rattle.ctt_tool.specs.Texts.{IsJournalText, IsNoJournal, IsUnlawfulStart}
@@ -53,9 +53,13 @@ IsOfAudited journal start held problem fault = IsOfJournal journal held problem 
 abbrev pub IsOfWork : Fault → Type 0
 IsOfWork fault = (fault ≡ NoPlace) ⊎ ((fault ≡ NoThread) ⊎ (fault ≡ NoMemory))
 
+-- so, or a planner of a crew had seen more drafts than its desk has
+abbrev pub IsOfCrewWork : Fault → Type 0
+IsOfCrewWork fault = IsOfWork fault ⊎ (fault ≡ NotYours)
+
 -- the fault lies in a script's file, or in the work of the crew
 abbrev pub IsOfScripts : List (String Global) → Held → Problem → Fault → Type 0
-IsOfScripts names held problem fault = IsOfFiles names held fault ⊎ IsOfWork fault
+IsOfScripts names held problem fault = IsOfFiles names held fault ⊎ IsOfCrewWork fault
 
 -- why each command is refused; a crew also for more than 64 scripts
 abbrev pub IsOfRun : Held → String Global → Option (String Global) → String Global → Option (String Global) → Fault → Type 0

@@ -9,7 +9,7 @@ ghost use Rattle.ctt_files.specs.declared.fault.Fault.TheVariants.{TooManyScript
 ghost use Rattle.ctt_files.specs.declared.outcome.Outcome.TheVariants.{Done};
 ghost use Rattle.ctt_tool.specs.Crews.{IsOfCrewOn, PrintsCrew};
 ghost use Rattle.ctt_tool.specs.Faults.{fault_of_crew};
-ghost use Rattle.ctt_tool.specs.Refusals.{IsOfCrew, IsOfScripts, IsOfWork};
+ghost use Rattle.ctt_tool.specs.Refusals.{IsOfCrew, IsOfCrewWork, IsOfScripts};
 
 use crate::printed::print_last;
 use ctt_crew::{CrewFault, NoGate};
@@ -29,6 +29,7 @@ fn refused_crew(fault: CrewFault) -> Fault
     match fault {
         CrewFault::NoPlace => Fault::NoPlace,
         CrewFault::NoThread(_) => Fault::NoThread,
+        CrewFault::NotYours => Fault::NotYours,
         CrewFault::NoMemory => Fault::NoMemory,
     }
 }
@@ -44,7 +45,7 @@ fn answers<R: Threads + Wait + Sync>(
     requires few { length texts.now ≤ 64 }
     ensures crew { IfOk result (λ bytes.
         IsCrewText instance.now [] (map (λ t. t.items) texts.now) bytes.items) }
-    ensures cause { IfErr result IsOfWork }
+    ensures cause { IfErr result IsOfCrewWork }
 {
     let mut scripts: Vec<&[u8]> = Vec::with_capacity(alloc, texts.len())?;
     for text in texts {

@@ -49,7 +49,8 @@ fn tell_closed<S: Timetable, J: Naming>(
     }
 }
 
-/// Closes a desk with its planners, and tells what it left, and how many drafts each of them has seen, and committed.
+/// Closes a desk with its planners, and tells what it left, and how many drafts each of them has
+/// seen, and committed.
 fn close<S: Timetable, J: Naming, R: Wait>(
     story: &mut Story,
     rt: &R,

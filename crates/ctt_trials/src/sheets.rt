@@ -41,7 +41,8 @@ pub(crate) fn tell_cells(story: &mut Story, cells: &[Cell]) {
     }
 }
 
-/// Makes an edit on a sheet, and tells that it is done, or in full its change, and by how much that changes the penalty.
+/// Makes an edit on a sheet, and tells that it is done, or in full its change, and by how much that
+/// changes the penalty.
 fn make<'i, S: Sheet<'i>>(story: &mut Story, sheet: &mut S, edit: &Edit, in_full: bool) {
     if !edit.fits(sheet.instance()) {
         return story.say("unfit");
@@ -85,7 +86,8 @@ fn answer_lines<'i, S: Sheet<'i>>(script: &Script<'i>, story: &mut Story, sheet:
     tell_sheet(story, sheet);
 }
 
-/// Tells the room of a lecture on a sheet, how many lectures its course has, its rows, and the sheet.
+/// Tells the room of a lecture on a sheet, how many lectures its course has, its rows, and the
+/// sheet.
 fn tell_lecture<'i, S: Sheet<'i>>(story: &mut Story, sheet: &S, lecture: &Placed) {
     if !lecture_fits(sheet, lecture) {
         return story.say("unfit");
@@ -135,8 +137,8 @@ fn tell_accepted<'i, S: Sheet<'i>>(story: &mut Story, sheet: &S, cells: &[Cell])
     }
 }
 
-/// Tells whether a sheet accepts a third course in a room that is taken, the removal of a lecture, and a course that is not
-/// there.
+/// Tells whether a sheet accepts a third course in a room that is taken, the removal of a lecture,
+/// and a course that is not there.
 fn tell_all_accepted<'i, S: Sheet<'i>>(story: &mut Story, sheet: &S) {
     tell_accepted(story, sheet, &[cell(2, 1, true)]);
     tell_accepted(story, sheet, &[cell(1, 5, false)]);

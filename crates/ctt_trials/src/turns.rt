@@ -20,7 +20,8 @@ pub(crate) struct Here<'i, 'x, S: Timetable, J: Naming, R: Wait> {
     pub(crate) small: &'i Instance,
 }
 
-/// The planners of a desk, each in the place with his number unless he has left it, and the receipt of the last commit.
+/// The planners of a desk, each in the place with his number unless he has left it, and the receipt
+/// of the last commit.
 #[derive(Drop)]
 pub(crate) struct Seats<'i, S: Timetable, J: Naming> {
     places: Vec<Option<Seat<'i, S, J>>>,
@@ -68,7 +69,8 @@ fn take_at<T: Drop>(places: &mut [Option<T>], place: usize) -> Option<T> {
     places.get_mut(place)?.take()
 }
 
-/// Puts a seat into a place. Where no draft is open there, it is told what the planner has seen and committed.
+/// Puts a seat into a place. Where no draft is open there, it is told what the planner has seen and
+/// committed.
 fn put_at<'i, S: Timetable, J: Naming>(
     places: &mut [Option<Seat<'i, S, J>>],
     story: &mut Story,
@@ -102,8 +104,9 @@ fn take<'i, S: Sheet<'i>, J: Naming, R: Wait>(
     (seat, Err(told))
 }
 
-/// Tells what a planner is answered, and keeps the receipt where he has one. Answers whether it was told: want of memory is
-/// not, and no more a place that was refused, since this comes of nothing else here.
+/// Tells what a planner is answered, and keeps the receipt where he has one. Answers whether it was
+/// told: want of memory is not, and no more a place that was refused, since this comes of nothing
+/// else here.
 fn tells<J: Naming>(
     story: &mut Story,
     small: &Instance,
@@ -125,8 +128,8 @@ fn tells<J: Naming>(
     }
 }
 
-/// The planner of a place does what an event says, and it is told what he is answered, if memory is not wanted. Answers
-/// whether it was told.
+/// The planner of a place does what an event says, and it is told what he is answered, if memory is
+/// not wanted. Answers whether it was told.
 fn answers<'i, S: Sheet<'i>, J: Naming, R: Wait>(
     here: &Here<'i, '_, S, J, R>,
     seats: &mut Seats<'i, S, J>,
@@ -170,8 +173,8 @@ fn event_of(small: &Instance, words: &[u8]) -> Option<Event>
     read_own_line(small, PlannerNo::new(0), words)
 }
 
-/// The planner of a place does what his line says, once more where memory is wanted: besides the lines of a crew, `learn` and
-/// `leave`, which drops him with the draft that he has open.
+/// The planner of a place does what his line says, once more where memory is wanted: besides the
+/// lines of a crew, `learn` and `leave`, which drops him with the draft that he has open.
 fn take_turn<'i, S: Sheet<'i>, J: Naming, R: Wait>(
     here: &Here<'i, '_, S, J, R>,
     seats: &mut Seats<'i, S, J>,

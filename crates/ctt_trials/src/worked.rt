@@ -249,7 +249,8 @@ pub(crate) const LEARNT: &str = "0 open
 1 slot 0 1
 ";
 
-/// A planner has seen that a slot is empty, which another one fills. Two more planners, who learnt nothing, see that.
+/// A planner has seen that a slot is empty, which another one fills. Two more planners, who learnt
+/// nothing, see that.
 pub(crate) const ALL_SEE: &str = "0 open
 1 open
 0 slot 0 2

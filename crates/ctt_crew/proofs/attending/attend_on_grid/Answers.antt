@@ -1,4 +1,5 @@
 use Rattle.std.proofs.Common.{rules, refl, string_bytes}
+use Rattle.std.proofs.lemmas.Result.{IfOk-weaker}
 use Rattle.std.proofs.Crossing.{crosses}
 use denote.Param.Send.{sendable}
 use Rattle.ctt_crew.specs.declared.seat.Seat.TheVariants.{Free}
@@ -11,4 +12,4 @@ attend-requires g c κs = (search (instance_shared, sendable, crosses) depth 60 
 
 pub returns : goal.returns
 returns g c =
-    has_attended g.J.Naming.problem g.J.Naming.opening c.args.work.attendance.script.now c.args.work.planner c.in_ok-planner.planner (string_bytes c.in_ok-planner.answers) (Free c.args.work.planner) refl c.in_ok-planner.ensures
+    IfOk-weaker c.attend.result _ _ (λ done is. has_attended g.J.Naming.problem g.J.Naming.opening c.args.work.attendance.script.now c.args.work.planner done.0 (string_bytes done.1) (Free c.args.work.planner) refl is) c.attend.ensures

@@ -12,7 +12,7 @@ use Rattle.ctt_crew.proofs.CrewLemmas.{promised_also}
 use Rattle.ctt_crew.proofs.crew_run.fn.work_at_once.scope.Goals as goal
 
 pub spawn_with-started-requires-clause-keeps : goal.spawn_with-started-requires-clause-keeps
-spawn_with-started-requires-clause-keeps g c κs within r is = subst (λ who. IfOk r (λ text. IsAttended g.J.Naming.problem g.J.Naming.opening who (string_bytes text))) (sym c.of-promise.ensures) is
+spawn_with-started-requires-clause-keeps g c κs within r is = subst (λ who. IfOk r (λ done. IsAttended g.J.Naming.problem g.J.Naming.opening who done.0 (string_bytes done.1))) (sym c.of-promise.ensures) is
 
 pub loop-planner-preserved : goal.loop-planner-preserved
 loop-planner-preserved g c =
@@ -36,6 +36,6 @@ returns g c =
     ∙ ap (map (λ w. (w.0, w.1.script.now))) all
     in
     record {
-      attended = IfOk-weaker c.joined.result _ _ (λ answers are. subst (λ ws. AreAttended i t0 ws (map string_bytes answers.items)) same are) c.joined.ensures.attended;
+      attended = IfOk-weaker c.joined.result _ _ (λ done are. subst (λ ws. AreAttended i t0 ws done.0.items (map string_bytes done.1.items)) same are) c.joined.ensures.attended;
       fault = IfErr-weaker c.joined.result _ _ (λ fault is. subst (IsCrewFault g.J.Naming.planners) (sym is) tt) c.joined.ensures.fault;
     }

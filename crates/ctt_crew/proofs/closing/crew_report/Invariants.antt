@@ -1,7 +1,7 @@
 use Rattle.std.proofs.Common.{◌≡◌, ◌++◌, map, string_bytes}
 use Rattle.std.specs.Vec.Iter.{into_iter_items}
 use Rattle.ctt_crew.specs.CrewText.{planners_text}
-use Rattle.ctt_crew.proofs.crew_run.crew_report.Given as goal
+use Rattle.ctt_crew.proofs.closing.crew_report.Given as goal
 
 -- what was written, and the answers of the planners still to come, are those of all
 abbrev pub invariant-loop-planner : goal.invariant-loop-planner

@@ -1,0 +1,139 @@
+//! The end of a crew's desk, and what the crew wrote.
+
+ghost use Rattle.std.specs.Prelude.{◌≡◌, All, IfErr, IfOk, IsOkAnd, map, string_bytes};
+ghost use mathlib.Core.List.{IsPrefix};
+ghost use Rattle.ctt_rules.specs.declared.cost.Cost.{Cost};
+ghost use Rattle.ctt_core.specs.Runs.{Legal};
+ghost use Rattle.ctt_crew.specs.CrewText.{IsEndFault, IsReportFault, closing_text, crew_text};
+ghost use Rattle.ctt_crew.specs.Attended.{IsClosing};
+ghost use Rattle.ctt_crew.specs.declared.crew_fault.CrewFault.TheVariants as crew_fault;
+
+use crate::crew_fault::CrewFault;
+use ctt_board::Timetable;
+use ctt_desk::{Closed, Naming, Planner, SharedDesk};
+use ctt_rules::Cost;
+use ctt_script::write_costs;
+use ctt_text::{NoMemory, let_go};
+use std::alloc::Global;
+use std::fmt::Write;
+use std::sync::Wait;
+
+/// More bytes than the line that says a planner has, and than the two last lines of what a crew wrote have.
+const LINE: usize = 128;
+
+/// Room for the answers of all planners, each behind his line, and for the two last lines.
+fn room_for(answers: &[String]) -> usize {
+    let mut room = LINE;
+    for lines in answers {
+        room = room.saturating_add(LINE).saturating_add(lines.len());
+    }
+    room
+}
+
+/// What a crew wrote: the answers of each planner, the number of accepted drafts, and the costs.
+fn crew_report(
+    alloc: Global,
+    answers: Vec<String>,
+    entries: u64,
+    cost: &Cost,
+) -> Result<Vec<u8>, NoMemory>
+    ensures { IfOk result (λ text. text.items
+        ≡ crew_text (map string_bytes answers.items) entries cost.now) }
+{
+    // Each planner's answers are let go once they are copied, so that all of them never lie in memory twice.
+    let mut text = String::with_capacity(alloc, room_for(&answers))?;
+    for (planner, lines) in answers.into_iter().enumerate() {
+        writeln!(text, "planner {planner}")?;
+        text.push_str(&lines)?;
+    }
+    writeln!(text, "journal {entries}")?;
+    write_costs(&mut text, cost)?;
+    Ok(text.into_bytes())
+}
+
+/// What a crew wrote whose desk is closed.
+pub fn closing_report<S: Timetable, J: Naming>(
+    alloc: Global,
+    closed: &Closed<S, J>,
+    answers: Vec<String>,
+) -> Result<Vec<u8>, NoMemory>
+    ensures text { IfOk result (λ text. text.items
+        ≡ closing_text J.problem J.opening (map string_bytes answers.items) closed.now) }
+    ensures legal { Legal J.problem J.opening closed.now }
+{
+    let entries = closed.accepted();
+    let cost = closed.cost();
+    crew_report(alloc, answers, entries, &cost)
+}
+
+/// Ends a desk whose planners are gone.
+pub fn end_desk<S: Timetable, J: Naming, R: Wait>(
+    rt: &R,
+    alloc: Global,
+    desk: SharedDesk<S, J>,
+) -> Closed<S, J> {
+    let mut none = Vec::new(alloc);
+    match desk.close(rt, none.as_mut_slice()) {
+        Ok(closed) | Err(closed) => closed,
+    }
+}
+
+/// Ends a desk that these planners have left.
+fn closed_after<S: Timetable, J: Naming, R: Wait>(
+    rt: &R,
+    desk: SharedDesk<S, J>,
+    planners: &mut [Planner<S, J>],
+) -> Result<Closed<S, J>, CrewFault>
+    ensures begins { IfOk result (λ closed. All (λ p. IsPrefix p.front closed) planners.old) }
+    ensures fault { IfErr result (λ fault. fault ≡ crew_fault.NotYours) }
+{
+    match desk.close(rt, planners) {
+        Ok(closed) => Ok(closed),
+        Err(closed) => {
+            let_go(closed);
+            Err(CrewFault::NotYours)
+        }
+    }
+}
+
+/// Ends a desk that these planners have left, and gives what they wrote.
+fn report_after<S: Timetable, J: Naming, R: Wait>(
+    rt: &R,
+    alloc: Global,
+    desk: SharedDesk<S, J>,
+    planners: Vec<Planner<S, J>>,
+    answers: Vec<String>,
+) -> Result<Vec<u8>, CrewFault>
+    ensures closes { IfOk result (λ text. IsClosing J.problem J.opening planners.items
+        (map string_bytes answers.items) text.items) }
+    ensures fault { IfErr result IsEndFault }
+{
+    let mut planners = planners;
+    let closed = closed_after(rt, desk, planners.as_mut_slice())?;
+    let report = closing_report(alloc, &closed, answers);
+    let_go(closed);
+    match report {
+        Ok(text) => Ok(text),
+        Err(_) => Err(CrewFault::NoMemory),
+    }
+}
+
+/// Ends a desk, and gives what its planners wrote, if each of them came to the end of his script.
+pub(crate) fn last_report<S: Timetable, J: Naming, R: Wait>(
+    rt: &R,
+    alloc: Global,
+    desk: SharedDesk<S, J>,
+    done: Result<(Vec<Planner<S, J>>, Vec<String>), CrewFault>,
+) -> Result<Vec<u8>, CrewFault>
+    ensures closes { IfOk result (λ text. IsOkAnd done (λ done. IsClosing J.problem J.opening
+        done.0.items (map string_bytes done.1.items) text.items)) }
+    ensures fault { IfErr result (IsReportFault done) }
+{
+    match done {
+        Ok((planners, answers)) => report_after(rt, alloc, desk, planners, answers),
+        Err(fault) => {
+            let_go(end_desk(rt, alloc, desk));
+            Err(fault)
+        }
+    }
+}
