@@ -1,4 +1,5 @@
 mod AnswerLemmas
+mod CommittedLemmas
 mod CutLemmas
 mod LeaveLemmas
 mod LineLemmas

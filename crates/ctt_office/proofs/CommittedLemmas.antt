@@ -1,0 +1,85 @@
+-- Steps by which a planner commits nothing.
+use Rattle.std.proofs.Common.{◌≡◌, ◌≢◌, ◌∙◌, inl, inr, ℕ, List, Result, Err, refl, ap, subst}
+use Rattle.ctt_text.specs.Problem.{Problem}
+use Rattle.ctt_text.specs.declared.placed.Placed.{Placed}
+use Rattle.ctt_edits.specs.declared.call.Call.{Call}
+use Rattle.ctt_edits.specs.declared.looks.Look.{Look}
+use Rattle.ctt_core.specs.declared.event.Event.{Event}
+use Rattle.ctt_core.specs.declared.event.Event.TheVariants.{Abandon, Ask, Commit, Open, Refresh, Show}
+use Rattle.ctt_core.specs.declared.journal.JournalEntry.{JournalEntry}
+use Rattle.ctt_desk.specs.Planners.{DraftingValue, PlannerValue}
+use Rattle.ctt_desk.specs.Refusals.{IsNotRefreshed, IsRefused, IsUnread}
+use Rattle.ctt_desk.specs.declared.refusal.Refusal.{Refusal}
+use Rattle.ctt_desk.specs.declared.refusal.Refusal.TheVariants as refusal
+use Rattle.ctt_desk.specs.declared.refusal.RefreshRefusal.{RefreshRefusal}
+use Rattle.ctt_desk.specs.declared.refusal.RefreshRefusal.TheVariants as unrefreshed
+use Rattle.ctt_desk.specs.declared.shared_fault.SharedFault.{SharedFault}
+use Rattle.ctt_desk.specs.declared.shared_fault.SharedFault.TheVariants as shared
+use Rattle.ctt_crew.specs.Attended.{leaver}
+use Rattle.ctt_crew.specs.Seats.{Abandons, Asks, Commits, Opens, Refreshes, Shows, Takes, seat_refused, seat_unrefreshed}
+use Rattle.ctt_crew.specs.declared.seat.Seat.{Seat}
+use Rattle.ctt_crew.specs.declared.seat.Seat.TheVariants.{Drafting, Free}
+use Rattle.ctt_crew.specs.declared.seat.Told.{Told}
+use Rattle.ctt_office.specs.SeatAnswers.{IsUncommitted}
+
+-- a planner who could not read
+unread : (i : Problem) (t0 : List Placed) (p q : PlannerValue) (fault : SharedFault) → IsUnread i t0 p q fault → q.committed ≡ p.committed
+unread i t0 p q (shared.Unlawful at fault) why = absurd why
+unread i t0 p q shared.NoPlace why = ap (λ (r : PlannerValue). r.committed) why
+unread i t0 p q shared.NoMemory why = why.committed
+
+module _ {X Y : Type 0} (i : Problem) (t0 : List Placed) where
+  as_before : (before after : Seat X Y) → after ≡ before → IsUncommitted before after
+  as_before before after same = ap (λ (s : Seat X Y). (leaver s).committed) same
+
+  opens : (before after : Seat X Y) (told : Told) → Opens i t0 before after told → IsUncommitted before after
+  opens (Free p) (Drafting d) told is = is.0.planner.committed
+  opens (Free p) (Free q) told is = unread i t0 p q is.0 is.1
+  opens (Drafting d) after told is = as_before (Drafting d) after is.0
+
+  asks : (call : Call) (before after : Seat X Y) (told : Told) → Asks i call before after told → IsUncommitted before after
+  asks call (Free p) after told is = as_before (Free p) after is.0
+  asks call (Drafting d) after told (inl is) = ap (λ (s : Seat X Y). (leaver s).committed) is.2
+  asks call (Drafting d) after told (inr is) = as_before (Drafting d) after is.0
+
+  refused : (d : DraftingValue) (why : Refusal X Y) → IsRefused i t0 d why → (leaver (seat_refused why)).committed ≡ d.planner.committed
+  refused d (refusal.NotYours q count) is = is.planner.committed
+  refused d (refusal.Stale q row) is = is.0.planner.committed
+  refused d (refusal.NoMemory back) is = ap (λ (e : DraftingValue). e.planner.committed) is.0
+
+  -- a commit that is refused
+  refuses : (before after : Seat X Y) (told : Told) → Commits i t0 before after (Err told) → IsUncommitted before after
+  refuses (Free p) after told is = as_before (Free p) after is.0
+  refuses (Drafting d) after told is = ap (λ (s : Seat X Y). (leaver s).committed) is.2 ∙ refused d is.0 is.1
+
+  pub refused_uncommitted : (before after : Seat X Y) (outcome : Result (List JournalEntry) Told) (told : Told) → outcome ≡ Err told → Commits i t0 before after outcome → IsUncommitted before after
+  refused_uncommitted before after outcome told same is = refuses before after told (subst (Commits i t0 before after) same is)
+
+  not_refreshed : (d : DraftingValue) (why : RefreshRefusal X Y) → IsNotRefreshed i t0 d why → (leaver (seat_unrefreshed why)).committed ≡ d.planner.committed
+  not_refreshed d (unrefreshed.NoPlace back) is = ap (λ (e : DraftingValue). e.planner.committed) is
+  not_refreshed d (unrefreshed.NoMemory back) is = ap (λ (e : DraftingValue). e.planner.committed) is.0
+  not_refreshed d (unrefreshed.Stale q row) is = is.planner.committed
+
+  refreshes : (before after : Seat X Y) (told : Told) → Refreshes i t0 before after told → IsUncommitted before after
+  refreshes (Free p) after told is = as_before (Free p) after is.0
+  refreshes (Drafting d) after told (inl is) = ap (λ (s : Seat X Y). (leaver s).committed) is.2 ∙ is.1.planner.committed
+  refreshes (Drafting d) after told (inr is) = ap (λ (s : Seat X Y). (leaver s).committed) is.2 ∙ not_refreshed d is.0 is.1
+
+  abandons : (before after : Seat X Y) (told : Told) → Abandons before after told → IsUncommitted before after
+  abandons (Free p) after told is = as_before (Free p) after is.0
+  abandons (Drafting d) after told is = ap (λ (s : Seat X Y). (leaver s).committed) is.0
+
+  shows : (look : Look) (before after : Seat X Y) (told : Told) → Shows i t0 look before after told → IsUncommitted before after
+  shows look (Free p) (Drafting d) told is = absurd is
+  shows look (Free p) (Free q) told (inl is) = is.1.planner.committed
+  shows look (Free p) (Free q) told (inr is) = unread i t0 p q is.0 is.1
+  shows look (Drafting d) after told is = as_before (Drafting d) after is.0
+
+  -- a step that is no commit
+  pub takes_uncommitted : (event : Event) (before after : Seat X Y) (told : Told) → ((p : ℕ) → event ≢ Commit p) → Takes i t0 event before after told → IsUncommitted before after
+  takes_uncommitted (Open p) before after told other is = opens before after told is
+  takes_uncommitted (Ask p call) before after told other is = asks call before after told is
+  takes_uncommitted (Commit p) before after told other is = absurd (other p refl)
+  takes_uncommitted (Refresh p) before after told other is = refreshes before after told is
+  takes_uncommitted (Abandon p) before after told other is = abandons before after told is
+  takes_uncommitted (Show look) before after told other is = shows look before after told is
