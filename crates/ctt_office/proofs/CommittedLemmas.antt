@@ -5,7 +5,7 @@ use Rattle.ctt_text.specs.declared.placed.Placed.{Placed}
 use Rattle.ctt_edits.specs.declared.call.Call.{Call}
 use Rattle.ctt_edits.specs.declared.looks.Look.{Look}
 use Rattle.ctt_core.specs.declared.event.Event.{Event}
-use Rattle.ctt_core.specs.declared.event.Event.TheVariants.{Abandon, Ask, Commit, Open, Refresh, Show}
+use Rattle.ctt_core.specs.declared.event.Event.TheVariants.{Abandon, Ask, Commit, Open, Peek, Refresh, Show}
 use Rattle.ctt_core.specs.declared.journal.JournalEntry.{JournalEntry}
 use Rattle.ctt_desk.specs.Planners.{DraftingValue, PlannerValue}
 use Rattle.ctt_desk.specs.Refusals.{IsNotRefreshed, IsRefused, IsUnread}
@@ -16,11 +16,11 @@ use Rattle.ctt_desk.specs.declared.refusal.RefreshRefusal.TheVariants as unrefre
 use Rattle.ctt_desk.specs.declared.shared_fault.SharedFault.{SharedFault}
 use Rattle.ctt_desk.specs.declared.shared_fault.SharedFault.TheVariants as shared
 use Rattle.ctt_crew.specs.Attended.{leaver}
-use Rattle.ctt_crew.specs.Seats.{Abandons, Asks, Commits, Opens, Refreshes, Shows, Takes, seat_refused, seat_unrefreshed}
+use Rattle.ctt_crew.specs.Seats.{Abandons, Asks, Commits, IsLooked, Opens, Refreshes, Views, seat_refused, seat_unrefreshed}
 use Rattle.ctt_crew.specs.declared.seat.Seat.{Seat}
 use Rattle.ctt_crew.specs.declared.seat.Seat.TheVariants.{Drafting, Free}
 use Rattle.ctt_crew.specs.declared.seat.Told.{Told}
-use Rattle.ctt_office.specs.SeatAnswers.{IsUncommitted}
+use Rattle.ctt_office.specs.SeatAnswers.{Does, IsUncommitted}
 
 -- a planner who could not read
 unread : (i : Problem) (t0 : List Placed) (p q : PlannerValue) (fault : SharedFault) → IsUnread i t0 p q fault → q.committed ≡ p.committed
@@ -44,7 +44,7 @@ module _ {X Y : Type 0} (i : Problem) (t0 : List Placed) where
 
   refused : (d : DraftingValue) (why : Refusal X Y) → IsRefused i t0 d why → (leaver (seat_refused why)).committed ≡ d.planner.committed
   refused d (refusal.NotYours q count) is = is.planner.committed
-  refused d (refusal.Stale q row) is = is.0.planner.committed
+  refused d (refusal.Stale q row asked) is = is.0.planner.committed
   refused d (refusal.NoMemory back) is = ap (λ (e : DraftingValue). e.planner.committed) is.0
 
   -- a commit that is refused
@@ -58,7 +58,7 @@ module _ {X Y : Type 0} (i : Problem) (t0 : List Placed) where
   not_refreshed : (d : DraftingValue) (why : RefreshRefusal X Y) → IsNotRefreshed i t0 d why → (leaver (seat_unrefreshed why)).committed ≡ d.planner.committed
   not_refreshed d (unrefreshed.NoPlace back) is = ap (λ (e : DraftingValue). e.planner.committed) is
   not_refreshed d (unrefreshed.NoMemory back) is = ap (λ (e : DraftingValue). e.planner.committed) is.0
-  not_refreshed d (unrefreshed.Stale q row) is = is.planner.committed
+  not_refreshed d (unrefreshed.Stale q row asked) is = is.planner.committed
 
   refreshes : (before after : Seat X Y) (told : Told) → Refreshes i t0 before after told → IsUncommitted before after
   refreshes (Free p) after told is = as_before (Free p) after is.0
@@ -69,17 +69,22 @@ module _ {X Y : Type 0} (i : Problem) (t0 : List Placed) where
   abandons (Free p) after told is = as_before (Free p) after is.0
   abandons (Drafting d) after told is = ap (λ (s : Seat X Y). (leaver s).committed) is.0
 
-  shows : (look : Look) (before after : Seat X Y) (told : Told) → Shows i t0 look before after told → IsUncommitted before after
-  shows look (Free p) (Drafting d) told is = absurd is
-  shows look (Free p) (Free q) told (inl is) = is.1.planner.committed
-  shows look (Free p) (Free q) told (inr is) = unread i t0 p q is.0 is.1
-  shows look (Drafting d) after told is = as_before (Drafting d) after is.0
+  looks : (look : Look) (p q : PlannerValue) (told : Told) → IsLooked i t0 look p q told → q.committed ≡ p.committed
+  looks look p q told (inl is) = is.1.planner.committed
+  looks look p q told (inr is) = unread i t0 p q is.0 is.1
+
+  views : (look : Look) (before after : Seat X Y) (told : Told) → Views i t0 look before after told → IsUncommitted before after
+  views look (Free p) (Free q) told is = looks look p q told is
+  views look (Free p) (Drafting e) told is = absurd is
+  views look (Drafting d) (Free q) told is = absurd is
+  views look (Drafting d) (Drafting e) told is = looks look d.planner e.planner told is.1
 
   -- a step that is no commit
-  pub takes_uncommitted : (event : Event) (before after : Seat X Y) (told : Told) → ((p : ℕ) → event ≢ Commit p) → Takes i t0 event before after told → IsUncommitted before after
-  takes_uncommitted (Open p) before after told other is = opens before after told is
-  takes_uncommitted (Ask p call) before after told other is = asks call before after told is
-  takes_uncommitted (Commit p) before after told other is = absurd (other p refl)
-  takes_uncommitted (Refresh p) before after told other is = refreshes before after told is
-  takes_uncommitted (Abandon p) before after told other is = abandons before after told is
-  takes_uncommitted (Show look) before after told other is = shows look before after told is
+  pub does_uncommitted : (event : Event) (before after : Seat X Y) (told : Told) → ((p : ℕ) → event ≢ Commit p) → Does i t0 event before after told → IsUncommitted before after
+  does_uncommitted (Open p) before after told other is = opens before after told is
+  does_uncommitted (Ask p call) before after told other is = asks call before after told is
+  does_uncommitted (Peek p look) before after told other is = as_before before after is.0
+  does_uncommitted (Commit p) before after told other is = absurd (other p refl)
+  does_uncommitted (Refresh p) before after told other is = refreshes before after told is
+  does_uncommitted (Abandon p) before after told other is = abandons before after told is
+  does_uncommitted (Show look) before after told other is = views look before after told is

@@ -6,18 +6,18 @@ use Rattle.ctt_text.specs.Problem.{Problem}
 use Rattle.ctt_text.specs.declared.placed.Placed.{Placed}
 use Rattle.ctt_core.specs.declared.answer.Answer.TheVariants.{NoMemory}
 use Rattle.ctt_core.specs.declared.event.Event.{Event}
-use Rattle.ctt_core.specs.declared.event.Event.TheVariants.{Abandon, Ask, Commit, Open, Refresh, Show}
+use Rattle.ctt_core.specs.declared.event.Event.TheVariants.{Abandon, Ask, Commit, Open, Peek, Refresh, Show}
 use Rattle.ctt_core.specs.declared.journal.JournalEntry.{JournalEntry}
 use Rattle.ctt_script.specs.AnswerText.{bad_line}
 use Rattle.ctt_crew.specs.Attended.{leaver}
 use Rattle.ctt_crew.specs.CrewText.{told_words}
-use Rattle.ctt_crew.specs.Seats.{Commits, Takes, told_of}
+use Rattle.ctt_crew.specs.Seats.{Commits, Takes, Views, told_of}
 use Rattle.ctt_script.specs.WrittenText.{line}
 use Rattle.ctt_crew.specs.declared.seat.Seat.{Seat}
 use Rattle.ctt_crew.specs.declared.seat.Told.{Told}
 use Rattle.ctt_crew.specs.declared.seat.Told.TheVariants.{Answer as Answered}
 use Rattle.ctt_office.specs.declared.seat_line.SeatLine.{SeatLine}
-use Rattle.ctt_office.specs.declared.seat_line.SeatLine.TheVariants.{Bad, Blank, Leave, Step}
+use Rattle.ctt_office.specs.declared.seat_line.SeatLine.TheVariants.{Bad, Blank, Help, Leave, Step}
 
 -- the line of what a planner is told
 abbrev pub told_line : Problem → Told → List ℕ
@@ -30,6 +30,14 @@ not_written = line (codes "not" ∷ codes "written" ∷ [])
 -- the line of an accepted draft, the one of this number
 abbrev pub committed_line : ℕ → List ℕ
 committed_line number = line (codes "committed" ∷ decimal number ∷ [])
+
+-- the words with which a line may begin
+abbrev pub help_words : List (List ℕ)
+help_words = codes "abandon" ∷ codes "cheapest" ∷ codes "commit" ∷ codes "cost" ∷ codes "course" ∷ codes "coursecost" ∷ codes "curriculum" ∷ codes "drop" ∷ codes "help" ∷ codes "leave" ∷ codes "missing" ∷ codes "move" ∷ codes "open"
+    ∷ codes "peek" ∷ codes "place" ∷ codes "price" ∷ codes "refresh" ∷ codes "reroom" ∷ codes "show" ∷ codes "slot" ∷ codes "swap" ∷ codes "teacher" ∷ []
+
+abbrev pub help_line : List ℕ
+help_line = line (codes "words" ∷ help_words)
 
 -- the line by which a planner is let go
 abbrev pub left_line : List ℕ
@@ -55,28 +63,40 @@ abbrev pub IsCommitAlone : {X Y : Type 0} → Problem → List Placed → Seat X
 IsCommitAlone i t0 before after answer = ((outcome : Result (List JournalEntry) Told) × Commits i t0 before after outcome × (answer ≡ told_line i (told_of outcome)))
     ⊎ ((after ≡ before) × (answer ≡ told_line i (Answered NoMemory)))
 
--- a step is done, and answered as in a crew
-abbrev pub IsCrewAnswer : {X Y : Type 0} → Problem → List Placed → Event → Seat X Y → Seat X Y → List ℕ → Type 0
-IsCrewAnswer i t0 event before after answer = (told : Told) × Takes i t0 event before after told × (answer ≡ told_line i told)
+-- an event is answered as in a crew; but what is published is shown with a draft open too, which goes on as it was
+abbrev pub Does : {X Y : Type 0} → Problem → List Placed → Event → Seat X Y → Seat X Y → Told → Type 0
+Does i t0 (Open p) before after told = Takes i t0 (Open p) before after told
+Does i t0 (Ask p call) before after told = Takes i t0 (Ask p call) before after told
+Does i t0 (Peek p look) before after told = Takes i t0 (Peek p look) before after told
+Does i t0 (Commit p) before after told = Takes i t0 (Commit p) before after told
+Does i t0 (Refresh p) before after told = Takes i t0 (Refresh p) before after told
+Does i t0 (Abandon p) before after told = Takes i t0 (Abandon p) before after told
+Does i t0 (Show look) before after told = Views i t0 look before after told
+
+-- a step is done, and its line is what the planner is told
+abbrev pub IsToldAnswer : {X Y : Type 0} → Problem → List Placed → Event → Seat X Y → Seat X Y → List ℕ → Type 0
+IsToldAnswer i t0 event before after answer = (told : Told) × Does i t0 event before after told × (answer ≡ told_line i told)
 
 -- a commit is answered, with a book of minutes and without one
 abbrev pub IsAnsweredBy : {B X Y : Type 0} → Option B → (List JournalEntry → Type 0) → Type 0 → Problem → List Placed → Seat X Y → Seat X Y → List ℕ → Type 0
 IsAnsweredBy None IsKept Failed i t0 before after answer = IsCommitAlone i t0 before after answer
 IsAnsweredBy (Some book) IsKept Failed i t0 before after answer = IsCommitAnswer IsKept Failed i t0 before after answer
 
--- a step is answered: all but commits as in a crew
+-- a step is answered: all but commits by what the planner is told
 abbrev pub IsStepAnswer : {B X Y : Type 0} → Option B → (List JournalEntry → Type 0) → Type 0 → Problem → List Placed → Event → Seat X Y → Seat X Y → List ℕ → Type 0
-IsStepAnswer book IsKept Failed i t0 (Open p) before after answer = IsCrewAnswer i t0 (Open p) before after answer
-IsStepAnswer book IsKept Failed i t0 (Ask p call) before after answer = IsCrewAnswer i t0 (Ask p call) before after answer
+IsStepAnswer book IsKept Failed i t0 (Open p) before after answer = IsToldAnswer i t0 (Open p) before after answer
+IsStepAnswer book IsKept Failed i t0 (Ask p call) before after answer = IsToldAnswer i t0 (Ask p call) before after answer
+IsStepAnswer book IsKept Failed i t0 (Peek p look) before after answer = IsToldAnswer i t0 (Peek p look) before after answer
 IsStepAnswer book IsKept Failed i t0 (Commit p) before after answer = IsAnsweredBy book IsKept Failed i t0 before after answer
-IsStepAnswer book IsKept Failed i t0 (Refresh p) before after answer = IsCrewAnswer i t0 (Refresh p) before after answer
-IsStepAnswer book IsKept Failed i t0 (Abandon p) before after answer = IsCrewAnswer i t0 (Abandon p) before after answer
-IsStepAnswer book IsKept Failed i t0 (Show look) before after answer = IsCrewAnswer i t0 (Show look) before after answer
+IsStepAnswer book IsKept Failed i t0 (Refresh p) before after answer = IsToldAnswer i t0 (Refresh p) before after answer
+IsStepAnswer book IsKept Failed i t0 (Abandon p) before after answer = IsToldAnswer i t0 (Abandon p) before after answer
+IsStepAnswer book IsKept Failed i t0 (Show look) before after answer = IsToldAnswer i t0 (Show look) before after answer
 
 -- a line is answered: by one line where it has words
 abbrev pub IsAnswer : {B X Y : Type 0} → Option B → (List JournalEntry → Type 0) → Type 0 → Problem → List Placed → SeatLine → Seat X Y → Seat X Y → List ℕ → Type 0
 IsAnswer book IsKept Failed i t0 Blank before after answer = (after ≡ before) × (answer ≡ [])
 IsAnswer book IsKept Failed i t0 Leave before after answer = (after ≡ before) × (answer ≡ left_line)
+IsAnswer book IsKept Failed i t0 Help before after answer = (after ≡ before) × (answer ≡ help_line)
 IsAnswer book IsKept Failed i t0 Bad before after answer = (after ≡ before) × (answer ≡ bad_line)
 IsAnswer book IsKept Failed i t0 (Step event) before after answer = IsStepAnswer book IsKept Failed i t0 event before after answer
 

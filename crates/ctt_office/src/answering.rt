@@ -9,7 +9,7 @@ ghost use Rattle.ctt_crew.specs.CrewText.{ToldFits};
 ghost use Rattle.ctt_crew.specs.Seats.{open_entry};
 ghost use Rattle.ctt_crew.specs.declared.seat.Told.TheVariants.{Answer as Answered};
 ghost use Rattle.ctt_office.specs.Pages.{EndsWith, HasFailed, IsInMinutes};
-ghost use Rattle.ctt_office.specs.SeatAnswers.{Adds, IsAnswer, IsCommitAlone, IsCommitAnswer, IsCrewAnswer, IsOutcomeAnswer, IsStepAnswer, IsUncommitted, committed_line, left_line, not_written, told_line};
+ghost use Rattle.ctt_office.specs.SeatAnswers.{Adds, Does, IsAnswer, IsCommitAlone, IsCommitAnswer, IsToldAnswer, IsOutcomeAnswer, IsStepAnswer, IsUncommitted, committed_line, help_line, left_line, not_written, told_line};
 ghost use Rattle.ctt_office.specs.SeatText.{LineFits};
 
 use crate::book::Book;
@@ -24,6 +24,11 @@ use ctt_text::{Instance, NoMemory as OutOfMemory, let_go};
 use itoa::Buffer;
 use std::alloc::{AllocError, Global};
 use std::sync::Wait;
+
+/// The line of the words with which a line may begin.
+const HELP: &str =
+    "words abandon cheapest commit cost course coursecost curriculum drop help leave \
+    missing move open peek place price refresh reroom show slot swap teacher\n";
 
 /// How much room is made for the line of an accepted draft.
 const COMMITTED: usize = 64;
@@ -41,6 +46,13 @@ fn write_left(text: &mut String) -> Result<(), AllocError>
     ensures { OnOk result (string_bytes text.new ≡ string_bytes text.old ++ left_line) }
 {
     text.push_str("left\n")
+}
+
+/// Adds the line of the words with which a line may begin.
+fn write_help(text: &mut String) -> Result<(), AllocError>
+    ensures { OnOk result (string_bytes text.new ≡ string_bytes text.old ++ help_line) }
+{
+    text.push_str(HELP)
 }
 
 /// Adds the line of an accepted draft, for which there is room.
@@ -169,7 +181,28 @@ fn commit_alone<'i, S: Sheet<'i>, J: Naming, R: Wait>(
     }
 }
 
-/// Does a step, and adds the line of the answer, as for a planner of a crew.
+/// Does a step. A look at what is published is shown with a draft open too, which goes on as it was.
+fn do_step<'i, S: Sheet<'i>, J: Naming, R: Wait>(
+    rt: &R,
+    desk: &SharedDesk<S, J>,
+    seat: Seat<'i, S, J>,
+    event: Event,
+) -> (Seat<'i, S, J>, Told)
+    requires { (n : ℕ) × EventFits J.problem n event }
+    ensures fits { ToldFits J.problem result.1 }
+    ensures does { Does J.problem J.opening event seat.entry result.0 result.1 }
+{
+    match event {
+        Event::Show(look) => {
+            let mut seat = seat;
+            let told = seat.view(&look);
+            (seat, told)
+        }
+        _ => seat.take(rt, desk, event),
+    }
+}
+
+/// Does a step, and adds the line of the answer.
 fn take<'i, S: Sheet<'i>, J: Naming, R: Wait>(
     rt: &R,
     desk: &SharedDesk<S, J>,
@@ -181,11 +214,11 @@ fn take<'i, S: Sheet<'i>, J: Naming, R: Wait>(
     requires same { J.problem ≡ instance.now }
     requires fits { (n : ℕ) × EventFits J.problem n event }
     ensures answered { OnOk result.1
-        (Adds (IsCrewAnswer instance.now J.opening event seat.entry result.0)
+        (Adds (IsToldAnswer instance.now J.opening event seat.entry result.0)
         (string_bytes text.old) (string_bytes text.new)) }
     ensures uncommitted { ((p : ℕ) → event ≢ Commit p) → IsUncommitted seat.entry result.0 }
 {
-    let (seat, told) = seat.take(rt, desk, event);
+    let (seat, told) = do_step(rt, desk, seat, event);
     let written = write_told(text, instance, &told);
     let_go(told);
     (seat, written)
@@ -243,6 +276,7 @@ pub(crate) fn answer<'i, S: Sheet<'i>, J: Naming, W: Durable, R: Wait>(
     match line {
         SeatLine::Blank => (seat, Ok(())),
         SeatLine::Leave => (seat, write_left(text)),
+        SeatLine::Help => (seat, write_help(text)),
         SeatLine::Bad => (seat, write_bad_line(text)),
         SeatLine::Step(event) => step(rt, alloc, desk, instance, book, seat, event, text),
     }
