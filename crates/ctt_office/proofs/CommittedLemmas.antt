@@ -28,6 +28,11 @@ unread i t0 p q (shared.Unlawful at fault) why = absurd why
 unread i t0 p q shared.NoPlace why = ap (λ (r : PlannerValue). r.committed) why
 unread i t0 p q shared.NoMemory why = why.committed
 
+-- a planner who looked at what is published, or could not read it
+looks : (i : Problem) (t0 : List Placed) (look : Look) (p q : PlannerValue) (told : Told) → IsLooked i t0 look p q told → q.committed ≡ p.committed
+looks i t0 look p q told (inl is) = is.1.planner.committed
+looks i t0 look p q told (inr is) = unread i t0 p q is.0 is.1
+
 module _ {X Y : Type 0} (i : Problem) (t0 : List Placed) where
   as_before : (before after : Seat X Y) → after ≡ before → IsUncommitted before after
   as_before before after same = ap (λ (s : Seat X Y). (leaver s).committed) same
@@ -69,15 +74,11 @@ module _ {X Y : Type 0} (i : Problem) (t0 : List Placed) where
   abandons (Free p) after told is = as_before (Free p) after is.0
   abandons (Drafting d) after told is = ap (λ (s : Seat X Y). (leaver s).committed) is.0
 
-  looks : (look : Look) (p q : PlannerValue) (told : Told) → IsLooked i t0 look p q told → q.committed ≡ p.committed
-  looks look p q told (inl is) = is.1.planner.committed
-  looks look p q told (inr is) = unread i t0 p q is.0 is.1
-
   views : (look : Look) (before after : Seat X Y) (told : Told) → Views i t0 look before after told → IsUncommitted before after
-  views look (Free p) (Free q) told is = looks look p q told is
+  views look (Free p) (Free q) told is = looks i t0 look p q told is
   views look (Free p) (Drafting e) told is = absurd is
   views look (Drafting d) (Free q) told is = absurd is
-  views look (Drafting d) (Drafting e) told is = looks look d.planner e.planner told is.1
+  views look (Drafting d) (Drafting e) told is = looks i t0 look d.planner e.planner told is.1
 
   -- a step that is no commit
   pub does_uncommitted : (event : Event) (before after : Seat X Y) (told : Told) → ((p : ℕ) → event ≢ Commit p) → Does i t0 event before after told → IsUncommitted before after
