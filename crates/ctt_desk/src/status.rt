@@ -17,14 +17,15 @@ use ctt_edits::{Look, Reply};
 
 /// How many edits were accepted in a draft.
 fn edits_in<'i, S: Sheet<'i>>(draft: &Draft<'i, S>) -> u64
-    ensures { result ≡ length (changes draft.now.problem draft.now.base (calls_of draft.now.asked)) }
+    ensures { result
+        ≡ length (changes draft.now.problem draft.now.base (calls_of draft.now.asked)) }
 {
     draft.changes().len() as u64
 }
 
 impl<'i, S: Sheet<'i>, J: Naming> Drafting<'i, S, J> {
-    /// How the draft stands beside the timetable that was published last, which the planner has then
-    /// seen. The draft goes on as it was, from the base that it had.
+    /// How the draft stands beside the timetable that was published last, which the planner has
+    /// then seen. The draft goes on as it was, from the base that it had.
     pub fn status(&mut self) -> Result<Standing, SharedFault>
         ensures ok { IfOk result (IsStatus J.problem J.opening self.old self.new) }
         ensures draft { IsSameDraft self.old self.new }
