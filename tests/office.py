@@ -165,7 +165,7 @@ ROW9 = [
     (0, "abandon", "no draft"),
     (1, "open", "opened"),
     (1, "open", "already open"),
-    (1, "show cost", "already open"),
+    (1, "show cost", "costs 10 15 0 0"),
     (1, "abandon", "abandoned"),
     (1, "frobnicate", "bad line"),
     (1, "0 open", "bad line"),
@@ -220,7 +220,7 @@ def one_seat():
     check(
         "a line of 65,536 bytes, one more, and one of blanks",
         call("desk", SMALL, "-", text=fits)[1],
-        "opened\nbad line\nbad line\nalready open\n",
+        "opened\nbad line\nbad line\ncosts 0 20 0 0\n",
     )
 
 
@@ -552,7 +552,7 @@ def office_script():
     # as Ctrl-C in the terminal of the office does, which reaches the desk too
     os.killpg(process.pid, signal.SIGINT)
     time.sleep(0.5)
-    check("who still sits is answered when the office is closed", third.communicate("show cost\nabandon\nleave\n", 20)[0], "already open\nabandoned\nleft\n")
+    check("who still sits is answered when the office is closed", third.communicate("show cost\nabandon\nleave\n", 20)[0], "costs 0 20 0 0\nabandoned\nleft\n")
     printed, _ = process.communicate(timeout=PATIENCE)
     check("the office is closed", (process.returncode, printed), (0, "journal 2\ncosts 10 10 2 0\n"))
     check("its pipes are gone", os.listdir(folder), ["office"])
