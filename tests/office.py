@@ -552,7 +552,7 @@ def office_script():
     # as Ctrl-C in the terminal of the office does, which reaches the desk too
     os.killpg(process.pid, signal.SIGINT)
     time.sleep(0.5)
-    check("who still sits is answered when the office is closed", third.communicate("show cost\nabandon\nleave\n", 20)[0], "costs 0 20 0 0\nabandoned\nleft\n")
+    check("who still sits is answered when the office is closed", third.communicate("show cost\nabandon\nleave\n", 20)[0], "costs 10 10 2 0\nabandoned\nleft\n")
     printed, _ = process.communicate(timeout=PATIENCE)
     check("the office is closed", (process.returncode, printed), (0, "journal 2\ncosts 10 10 2 0\n"))
     check("its pipes are gone", os.listdir(folder), ["office"])
