@@ -83,6 +83,7 @@ fn read_step_after(
         StepKind::Commit => Ok(Event::Commit(planner)),
         StepKind::Refresh => Ok(Event::Refresh(planner)),
         StepKind::Abandon => Ok(Event::Abandon(planner)),
+        StepKind::Status => Ok(Event::Status(planner)),
         StepKind::Peek => Ok(Event::Peek(planner, read_look(reader, instance)?)),
         StepKind::Ask(kind) => Ok(Event::Ask(planner, read_call_after(reader, instance, kind)?)),
     }
