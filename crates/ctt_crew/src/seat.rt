@@ -6,7 +6,7 @@ ghost use Rattle.ctt_edits.specs.Looks.{LookFits};
 ghost use Rattle.ctt_core.specs.Runs.{EventFits};
 ghost use Rattle.ctt_crew.specs.CrewText.{ToldFits, told_unread};
 ghost use Rattle.ctt_crew.specs.Attended.{leaver};
-ghost use Rattle.ctt_crew.specs.Seats.{Abandons, Asks, Commits, Opens, Peeks, Refreshes, Says, Shows, Takes, Views, draft_text, open_entry, told_of};
+ghost use Rattle.ctt_crew.specs.Seats.{Abandons, Asks, Commits, Opens, Peeks, Refreshes, Shows, States, Takes, Views, draft_text, open_entry, told_of};
 
 use ctt_board::{Sheet, Timetable};
 use ctt_core::{Answer, Event};
@@ -131,7 +131,7 @@ impl<'i, S: Sheet<'i>, J: Naming> Seat<'i, S, J> {
     /// Asks how the draft stands. It is no call: the draft stays as it is.
     pub fn status(&mut self) -> Told
         ensures fits { ToldFits J.problem result }
-        ensures says { Says J.problem J.opening self.old self.new result }
+        ensures states { States J.problem J.opening self.old self.new result }
     {
         match self {
             Seat::Free(_) => Told::Answer(Answer::NoDraft),

@@ -45,6 +45,7 @@ module _ (i : Problem) (is : IsProblem i) where
   yields_step n p lt step.Commit = yields_done JournalFault (EventFits i n) _ lt
   yields_step n p lt step.Refresh = yields_done JournalFault (EventFits i n) _ lt
   yields_step n p lt step.Abandon = yields_done JournalFault (EventFits i n) _ lt
+  yields_step n p lt step.Status = yields_done JournalFault (EventFits i n) _ lt
   yields_step n p lt step.Peek = yields_bind _ (EventFits i n) _ _ (yields_look i is) (λ l f. yields_done JournalFault (EventFits i n) _ (lt, f))
   yields_step n p lt (step.Ask k) = yields_bind _ (EventFits i n) _ _ (yields_call_after i is k) (λ c f. yields_done JournalFault (EventFits i n) _ (lt, f))
 

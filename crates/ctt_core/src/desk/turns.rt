@@ -50,7 +50,7 @@ impl<'i, S: Sheet<'i>> Desk<'i, S> {
         let place = planner.get() as usize;
         match &mut self.drafts[place] {
             None => Answer::NoDraft,
-            Some(open) => match open.draft.call(call) {
+            Some(drafting) => match drafting.draft.call(call) {
                 Ok(told) => Answer::Replied(told),
                 Err(_) => Answer::NoMemory,
             },
@@ -67,7 +67,7 @@ impl<'i, S: Sheet<'i>> Desk<'i, S> {
         let place = planner.get() as usize;
         match &self.drafts[place] {
             None => Answer::NoDraft,
-            Some(open) => match open.draft.peek(look) {
+            Some(drafting) => match drafting.draft.peek(look) {
                 Ok(told) => Answer::Replied(told),
                 Err(_) => Answer::NoMemory,
             },
@@ -83,10 +83,10 @@ impl<'i, S: Sheet<'i>> Desk<'i, S> {
         let place = planner.get() as usize;
         match &self.drafts[place] {
             None => Answer::NoDraft,
-            Some(open) => {
-                let stale = open.draft.stale(&self.sheet).unwrap();
-                let behind = (self.journal.len() as u64).saturating_sub(open.since);
-                Answer::Draft(Standing::of(&open.draft, behind, stale))
+            Some(drafting) => {
+                let stale = drafting.draft.stale(&self.sheet).unwrap();
+                let behind = (self.journal.len() as u64).saturating_sub(drafting.since);
+                Answer::Draft(Standing::of(&drafting.draft, behind, stale))
             }
         }
     }
@@ -155,7 +155,7 @@ impl<'i, S: Sheet<'i>> Desk<'i, S> {
         let place = planner.get() as usize;
         let found = match &self.drafts[place] {
             None => return Answer::NoDraft,
-            Some(open) => open.draft.stale(&self.sheet).unwrap(),
+            Some(drafting) => drafting.draft.stale(&self.sheet).unwrap(),
         };
         match found {
             Some(row) => {
@@ -175,14 +175,14 @@ impl<'i, S: Sheet<'i>> Desk<'i, S> {
         let place = planner.get() as usize;
         match &mut self.drafts[place] {
             None => Answer::NoDraft,
-            Some(open) => match open.draft.refresh(&self.sheet) {
+            Some(drafting) => match drafting.draft.refresh(&self.sheet) {
                 Err(_) => Answer::NoMemory,
                 Ok(Some(row)) => {
                     self.give_up(planner);
                     Answer::Stale(row)
                 }
                 Ok(None) => {
-                    open.since = self.journal.len() as u64;
+                    drafting.since = self.journal.len() as u64;
                     Answer::Refreshed
                 }
             },
