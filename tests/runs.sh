@@ -587,6 +587,12 @@ run 'a script of a crew without an end' 3 '' 'timedesk: too long /dev/zero
 # days of several planners
 head -n 4 s.sol >s0.sol
 
+run 'peeks of the examples' 0 'opened
+missing 0
+prices 2 -4 move geo 1 2 A 1 1 -3 move geo 1 2 B 1 1
+done
+committed 1
+' '' run small.ctt peek.txt --start s.sol
 run 'the script of the examples' 0 'opened
 lectures 0
 done

@@ -3,7 +3,8 @@
 
 A script is run on one thread first. Then each of its lines is typed at the seat of its planner, when the line before is
 answered; who only looks sits at the last seat. The answers have to be those of the run, and the minutes its journal. Behind
-the script a planner who did nothing yet opens a draft, and sees what the desk ends with, and the first one leaves.
+the script a planner who did nothing yet opens a draft, and sees what the desk ends with, in it and beside it, asks for help, and the
+first one leaves.
 
 Then each request for memory is refused alone, by a `malloc` in front of the C library's. A line that is answered 'no memory',
 or 'no place', is typed again. The answers and the minutes have to be those with memory. Or the desk ends with status 3 and
@@ -57,6 +58,9 @@ show cost
 SEATS = ("0", "1", "2", "3")
 IDLE, LAST = SEATS[2:]
 WANTS = (b"no memory\n", b"no place\n")
+# what a seat answers to `help`
+HELP = b"words abandon cheapest commit cost course coursecost curriculum drop help leave missing move open \
+peek place price refresh reroom show slot swap teacher\n"
 # the sizes in bytes of a word of the command line as `owned_words` and as `serve` collect it, and
 # of a draft's call; a list has room for 4 at least
 WORD_SIZES, CALL_SIZE, LEAST = (24, 16), 56, 4
@@ -235,8 +239,8 @@ class Desk:
         *self.answers, costs = done.stdout.splitlines(keepends=True)
         self.minutes = held(journal).split(b"\n", 1)[1].removesuffix(b"END.\n")
         self.lines = [seat_of(line) for line in script.splitlines()]
-        self.lines += [(IDLE, "open"), (IDLE, "cost"), (IDLE, "abandon"), (LAST, "show cost")]
-        self.answers += [b"opened\n", costs, b"abandoned\n", costs]
+        self.lines += [(IDLE, "open"), (IDLE, "cost"), (IDLE, "show cost"), (IDLE, "help"), (IDLE, "abandon"), (LAST, "show cost")]
+        self.answers += [b"opened\n", costs, costs, HELP, b"abandoned\n", costs]
         at, last, told = len(self.lines), "leave", b"left\n"
         if goes:
             at, last, told = next(k for k, (seat, _) in enumerate(self.lines) if seat != "0"), None, b""

@@ -14,8 +14,8 @@ use ctt_core::Standing;
 use ctt_edits::{Look, Reply};
 
 impl<'i, S: Sheet<'i>, J: Naming> Drafting<'i, S, J> {
-    /// How the draft stands beside the timetable that was published last, which the planner has then
-    /// seen. The draft goes on as it was, from the base that it had.
+    /// How the draft stands beside the timetable that was published last, which the planner has
+    /// then seen. The draft goes on as it was, from the base that it had.
     pub fn status(&mut self) -> Result<Standing, SharedFault>
         ensures ok { IfOk result (IsStatus J.problem J.opening self.old self.new) }
         ensures draft { IsSameDraft self.old self.new }

@@ -1,6 +1,7 @@
 mod AnswerLemmas
+mod CommittedLemmas
 mod CutLemmas
-mod LeaveLemmas
+mod WordLemmas
 mod LineLemmas
 mod NextLemmas
 mod PagesLemmas

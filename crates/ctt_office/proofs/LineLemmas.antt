@@ -1,11 +1,12 @@
 -- Lines that are cut off the front of bytes.
-use Rattle.std.proofs.Common.{◌≡◌, ℕ, suc, ◌+◌, ◌-◌, ◌<◌, ◌==◌, Bool, true, false, List, [], ◌∷◌, length, take, drop, position, Some, None, refl, sym, ap, subst, ◌∙◌, arith, not}
+use Rattle.std.proofs.Common.{◌≡◌, ℕ, suc, ◌+◌, ◌-◌, ◌<◌, ◌==◌, Bool, true, false, List, [], ◌∷◌, ◌++◌, length, take, drop, position, Option, Some, None, refl, sym, ap, subst, ◌∙◌, arith, not}
 use Rattle.std.specs.List.{position_or_len}
+use Rattle.std.specs.Prelude.{OnSome}
 use Rattle.std.proofs.lemmas.Bool.{eqb-true}
 use Rattle.std.proofs.lemmas.Grind.{common_steps}
 use Rattle.std.proofs.lemmas.List.{drop-drop}
 use Rattle.std.proofs.lemmas.List.Sums.{prefix_len-le-length}
-use Rattle.ctt_office.specs.Lines.{IsCut, IsOpen}
+use Rattle.ctt_office.specs.Lines.{HasLine, IsCut, IsOpen}
 
 none_from : (xs : List ℕ) → position_or_len (λ b. b == 10) xs ≡ length xs → IsOpen xs
 none_from [] h = tt
@@ -49,3 +50,15 @@ cut_behind xs g n is =
     let same : n ≡ g + n - g = omega arith in
     let rest : drop (n + 1) (drop g xs) ≡ drop (g + n + 1) xs = drop-drop (n + 1) g xs ∙ ap (λ k. drop k xs) (omega arith) in
     subst (λ k. IsCut (take k (drop g xs)) (drop (g + n + 1) xs) (drop g xs)) same (subst (λ r. IsCut (take n (drop g xs)) r (drop g xs)) rest is)
+
+-- bytes with such a line have one
+has_line : (line rest bytes : List ℕ) → IsCut line rest bytes → HasLine bytes
+has_line line rest bytes is none = ends line (subst IsOpen is.1 none)
+  where
+    ends : (xs : List ℕ) → IsOpen (xs ++ 10 ∷ rest) → ⊥
+    ends [] unended = cc
+    ends (x ∷ xs) unended = ends xs unended.1
+
+pub has_end : (xs : List ℕ) (end : Option ℕ) → end ≡ position (λ b. b == 10) xs → OnSome end (HasLine xs)
+has_end xs None is = tt
+has_end xs (Some n) is = has_line (take n xs) (drop (n + 1) xs) xs (cut xs n (sym is))

@@ -1,9 +1,9 @@
 -- What a reader of lines gives next.
-use Rattle.std.proofs.Common.{◌≡◌, ℕ, ◌+◌, ◌-◌, ◌<◌, false, List, [], ◌∷◌, ◌++◌, length, take, drop, Option, Some, None, refl, sym, ap, subst, ◌∙◌, arith, append_assoc, append-nil, inl, inr}
+use Rattle.std.proofs.Common.{◌≡◌, ℕ, ◌+◌, ◌-◌, ◌<◌, ◌≤◌, Bool, false, List, [], ◌∷◌, ◌++◌, length, take, drop, Option, Some, None, refl, sym, ap, subst, ◌∙◌, arith, append_assoc, append-nil, inl, inr}
 use Rattle.std.specs.Io.KnownBytes.{Consumes, IsAtEnd, Keeps, prepend_known}
 use Rattle.std.proofs.KnownBytes.{Consumes-kept, Consumes-nil, Consumes-trans}
 use Rattle.std.proofs.lemmas.List.{drop-drop, length-append, length-drop, take_all}
-use Rattle.ctt_office.specs.Lines.{Gives, GivesNext, IsCut, IsLong, IsOpen, IsShort, ReaderValue, coming}
+use Rattle.ctt_office.specs.Lines.{Gives, GivesNext, IsCut, IsGrown, IsLong, IsOpen, IsReadOnce, IsShort, ReaderValue, coming}
 use Rattle.ctt_office.specs.declared.line_reader.Next.{Next}
 use Rattle.ctt_office.specs.declared.line_reader.Next.TheVariants.{End, Line, TooLong}
 
@@ -139,7 +139,7 @@ ends_behind old now left items slice g n is held left_is slice_is cut =
     let here : IsCut (take n (drop g items)) (drop (n + 1) (drop g items)) (drop g items) = subst (λ s. IsCut (take n s) (drop (n + 1) s) s) slice_is cut in
     let rest : drop (n + 1) (drop g items) ≡ drop (g + n + 1) items = drop-drop (n + 1) g items ∙ ap (λ k. drop k items) (omega arith) in
     let there : IsCut (take n (drop g items)) (drop (g + n + 1) items) (drop g items) = subst (λ r. IsCut (take n (drop g items)) r (drop g items)) rest here in
-    let new : ReaderValue = record { line = []; held = drop (g + n + 1) items; left = left; pulls = 0; has_failed = false } in
+    let new : ReaderValue = record { line = []; held = drop (g + n + 1) items; left = left; pulls = 0; has_failed = false; is_shut = false } in
     (ends_there old now new (take n (drop g items)) is refl (subst (IsCut (take n (drop g items)) (drop (g + n + 1) items)) (sym held) there) (sym left_is)).1
 
 pub all_behind : (xs ys : List ℕ) (g : ℕ) → xs ≡ ys → take (length xs - g) (drop g xs) ≡ drop g ys
@@ -147,3 +147,50 @@ all_behind xs ys g same = let len = length-drop g xs in take_all (length xs - g)
 
 pub none_taken : (k : ℕ) (xs : List ℕ) → take (k - k) xs ≡ []
 none_taken k xs = let none : k - k ≡ 0 = omega arith in ap (λ j. take j xs) none
+
+-- ---- what was read
+
+-- the bytes that were read so far end no line, with those that were held at first; no read failed, and each gave some
+pub record HasRead (old now : ReaderValue) : Type 0 where
+  pub read : List ℕ
+  pub unended : IsOpen (old.held ++ read)
+  pub given : Consumes old.left now.left read
+  pub unfailed : now.has_failed ≡ old.has_failed
+  pub few : now.pulls ≤ old.pulls + length read
+
+pub reads_none : (old : ReaderValue) → IsOpen old.held → HasRead old old
+reads_none old unended = record { read = []; unended = subst IsOpen (sym (append-nil old.held)) unended; given = Consumes-nil old.left; unfailed = refl; few = omega arith }
+
+open_after : (xs ys : List ℕ) → IsOpen (xs ++ ys) → IsOpen ys
+open_after [] ys both = both
+open_after (x ∷ xs) ys both = open_after xs ys both.1
+
+open_all : (xs ys more held : List ℕ) → IsOpen (xs ++ ys) → IsOpen (held ++ more) → IsOpen (xs ++ (ys ++ more))
+open_all xs ys more held some both = subst IsOpen (append_assoc xs ys more) (open_both (xs ++ ys) more some (open_after held more both))
+
+-- one read more ended no line either
+pub reads_more : (old now new : ReaderValue) → HasRead old now → IsGrown now new → IsOpen new.held → new.has_failed ≡ now.has_failed → HasRead old new
+reads_more old now new is grown unended same = record {
+  read = is.read ++ grown.0;
+  unended = open_all old.held is.read grown.0 now.held is.unended (subst IsOpen grown.1 unended);
+  given = Consumes-trans old.left now.left new.left is.read grown.0 is.given grown.2;
+  unfailed = same ∙ is.unfailed;
+  few = (let more = length-append is.read grown.0 in let first = is.few in let more_reads = grown.3 in omega (arith, more, first, more_reads));
+}
+
+-- what is held is let go
+pub reads_still : (old now : ReaderValue) → HasRead old now → HasRead old (record now { line = []; held = [] })
+reads_still old now is = record { read = is.read; unended = is.unended; given = is.given; unfailed = is.unfailed; few = is.few }
+
+-- what is read at most once from there on is so from the first on
+pub once_from : {R : Type 0} (left : R → Option (List ℕ)) (has_failed : R → Bool) (pulls : R → ℕ) (old now : ReaderValue) (reads : ℕ) → HasRead old now → IsReadOnce left has_failed pulls now reads
+    → IsReadOnce left has_failed pulls old reads
+once_from left has_failed pulls old now reads is once = (
+  once.0,
+  is.read ++ once.1,
+  open_all old.held is.read once.1 now.held is.unended once.2,
+  Consumes-trans old.left now.left (left once.0) is.read once.1 is.given once.3,
+  once.4 ∙ is.unfailed,
+  (let more = length-append is.read once.1 in let first = is.few in let more_reads = once.5 in omega (arith, more, first, more_reads)),
+  once.6,
+)

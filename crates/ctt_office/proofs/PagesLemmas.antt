@@ -1,5 +1,5 @@
 -- Minutes that grow by an entry.
-use Rattle.std.proofs.Common.{◌≡◌, ◌∙◌, ◌+◌, ◌++◌, ◌∷◌, [], ℕ, List, OnErr, Option, Result, length, drop, flat_map, refl, sym, ap, subst, arith, append-nil}
+use Rattle.std.proofs.Common.{◌≡◌, ◌∙◌, ◌+◌, ◌<◌, ◌≤◌, ◌⊎◌, inl, inr, ◌++◌, ◌∷◌, [], Bool, true, false, ℕ, List, OnErr, Option, Result, length, drop, flat_map, refl, sym, ap, subst, arith, append-nil}
 use Rattle.std.proofs.KnownBytes.{Appends-kept, Appends-nil, Appends-trans}
 use Rattle.std.proofs.lemmas.List.{length-append}
 use Rattle.std.proofs.lemmas.List.Concat.{flat_map-append}
@@ -10,7 +10,7 @@ use Rattle.ctt_core.specs.declared.journal.JournalEntry.{JournalEntry}
 use Rattle.ctt_script.specs.WrittenText.{entry_text}
 use Rattle.ctt_devices.specs.Output.{AppendsFront}
 use Rattle.ctt_devices.proofs.OutputLemmas.{on_err, whole_front}
-use Rattle.ctt_office.specs.Pages.{AreMinutesOf, EndsWith}
+use Rattle.ctt_office.specs.Pages.{AreMinutesOf, AreTaken, EndsWith, IsOut}
 
 behind : {X : Type 0} (xs ys : List X) → drop (length xs) (xs ++ ys) ≡ ys
 behind [] ys = refl
@@ -41,3 +41,17 @@ nothing_of known bs = (0, Appends-nil known)
 -- where all was taken and is kept, a front was
 pub all_kept : {T E : Type 0} (synced : Result T E) (old mid new : Option (List ℕ)) (bs : List ℕ) → Appends old mid bs → Keeps mid new → OnErr synced (AppendsFront old new bs)
 all_kept synced old mid new bs all keeps = on_err synced (whole_front old new bs (Appends-kept old mid new bs all keeps))
+
+-- an entry is the last one of a history that has some
+pub has_some : (i : Problem) (history : List JournalEntry) (entry : List ℕ) → EndsWith i history entry → 0 < length history
+has_some i history entry ends =
+    let many = length-append ends.0 (ends.1 ∷ []) in
+    let whole : length history ≡ length (ends.0 ++ ends.1 ∷ []) = ap length ends.2 in
+    omega (arith, whole, many)
+
+-- a writer that takes no entry any more, or is not to have this one next, could not take one
+pub is_out : {W : Type 0} (taken : W → Option (List ℕ)) (marked : W → Bool) (i : Problem) (written history : List JournalEntry) (now : W) (failed : Bool)
+    → (failed ≡ false → AreTaken taken i written (taken now)) → (failed ≡ true → IsOut taken marked i written now) → 0 < length history → (failed ≡ true) ⊎ (length history ≤ length written) → IsOut taken marked i written now
+is_out taken marked i written history now true minutes out some why = out refl
+is_out taken marked i written history now false minutes out some (inl none) = cc
+is_out taken marked i written history now false minutes out some (inr few) = inr (minutes refl, history, some, few)

@@ -1,13 +1,16 @@
 -- A planner at a seat, line by line.
-use Rattle.std.proofs.Common.{◌≡◌, ◌≢◌, ◌∙◌, ◌⊎◌, inl, inr, Bool, true, ℕ, List, [], ◌∷◌, ◌++◌, take, Option, Some, None, refl, sym, ap, subst, append_assoc, append-nil}
+use Rattle.std.proofs.Common.{◌≡◌, ◌≢◌, ◌∙◌, ◌⊎◌, inl, inr, Bool, true, false, nat_le, if◌then◌else◌, arith, length, ℕ, List, [], ◌∷◌, ◌++◌, take, Option, Some, None, refl, sym, ap, subst, append_assoc, append-nil}
+use Rattle.std.proofs.lemmas.Bool.{le-leb, leb-true}
 use Rattle.std.proofs.KnownBytes.{Appends-kept, Appends-nil, Appends-trans}
 use Rattle.std.specs.Io.KnownBytes.{Appends, IsAtEnd}
 use Rattle.ctt_devices.specs.Output.{AppendsFront}
-use Rattle.ctt_office.specs.Lines.{Gives, IsFirstLine}
+use Rattle.ctt_text.specs.Problem.{Problem}
+use Rattle.ctt_office.specs.Lines.{Gives, IsFirstLine, IsLong, IsShort}
 use Rattle.ctt_office.specs.SeatAnswers.{Tells}
+use Rattle.ctt_office.specs.SeatText.{asked_by, seat_line}
 use Rattle.ctt_office.specs.Sittings.{AreAnswered, EndsAt, GoOn, IsBroken, IsCut, IsCutShort, IsSat, IsSitting}
 use Rattle.ctt_office.specs.declared.seat_line.SeatLine.{SeatLine}
-use Rattle.ctt_office.specs.declared.seat_line.SeatLine.TheVariants.{Leave}
+use Rattle.ctt_office.specs.declared.seat_line.SeatLine.TheVariants.{Bad, Leave}
 use Rattle.ctt_office.specs.declared.sitting.Ending.{Ending}
 use Rattle.ctt_office.specs.declared.sitting.Ending.TheVariants.{Broken, Ended, Left, NoMemory}
 
@@ -74,14 +77,15 @@ module _ {T : Type 0} (asked : List ℕ → SeatLine) (Is : SeatLine → T → T
         );
       }
 
+module _ {T : Type 0} (asked : List ℕ → SeatLine) (Is : SeatLine → T → T → List ℕ → Type 0) (Gone Unheard : T → Type 0) where
   -- a line by which he leaves is answered, and he has left
   pub leaves_by : (before seat next : T) (left old mid new still later : Option (List ℕ)) (line : SeatLine) → IsSitting asked Is before left old mid still seat → Gives (λ bytes. line ≡ asked bytes) still later
-      → Tells (Is line seat next) mid new → line ≡ Leave → IsSat asked Is before left old new Left
-  leaves_by before seat next None old mid new still later line sits gives tells leaves =
+      → Tells (Is line seat next) mid new → line ≡ Leave → Gone next → IsSat asked Is Gone Unheard before left old new Left
+  leaves_by before seat next None old mid new still later line sits gives tells leaves gone =
       record { answers = sits.answers ++ tells.0; told = Appends-trans old mid new sits.answers tells.0 sits.told tells.2; served = tt }
-  leaves_by before seat next (Some bytes) old mid new still later line sits gives tells leaves =
+  leaves_by before seat next (Some bytes) old mid new still later line sits gives tells leaves gone =
       let so_far = sits.served in
-      let got = given line so_far.1 still later so_far.2 gives in
+      let got = given asked Is line so_far.1 still later so_far.2 gives in
       record {
         answers = sits.answers ++ tells.0;
         told = Appends-trans old mid new sits.answers tells.0 sits.told tells.2;
@@ -89,8 +93,9 @@ module _ {T : Type 0} (asked : List ℕ → SeatLine) (Is : SeatLine → T → T
           so_far.0 ++ got.0 ∷ [],
           got.1,
           next,
-          more_answered bytes before seat so_far.0 sits.answers so_far.1 got.0 got.1 tells.0 next so_far.3 got.4 (subst (λ l. Is l seat next tells.0) got.3 tells.1),
+          more_answered asked Is bytes before seat so_far.0 sits.answers so_far.1 got.0 got.1 tells.0 next so_far.3 got.4 (subst (λ l. Is l seat next tells.0) got.3 tells.1),
           (so_far.0, got.0, refl, so_far.4, sym got.3 ∙ leaves),
+          gone,
         );
       }
 
@@ -98,56 +103,56 @@ module _ {T : Type 0} (asked : List ℕ → SeatLine) (Is : SeatLine → T → T
   at_end rest None same end = cc
   at_end rest (Some all) same end = (let here : all ≡ rest = cc in sym here ∙ end)
 
-  ended : (before seat : T) (left old now still : Option (List ℕ)) → IsSitting asked Is before left old now still seat → IsAtEnd still → IsSat asked Is before left old now Ended
-  ended before seat None old now still sits end = record { answers = sits.answers; told = sits.told; served = tt }
-  ended before seat (Some bytes) old now still sits end =
+  ended : (before seat : T) (left old now still : Option (List ℕ)) → IsSitting asked Is before left old now still seat → IsAtEnd still → Gone seat → IsSat asked Is Gone Unheard before left old now Ended
+  ended before seat None old now still sits end gone = record { answers = sits.answers; told = sits.told; served = tt }
+  ended before seat (Some bytes) old now still sits end gone =
       let so_far = sits.served in
-      record { answers = sits.answers; told = sits.told; served = (so_far.0, so_far.1, seat, so_far.3, (so_far.4, at_end so_far.1 still so_far.2 end)) }
+      record { answers = sits.answers; told = sits.told; served = (so_far.0, so_far.1, seat, so_far.3, (so_far.4, at_end so_far.1 still so_far.2 end), gone) }
 
   -- the lines so far are answered, and nothing behind them
-  stops : (before seat : T) (left old now still : Option (List ℕ)) → IsSitting asked Is before left old now still seat → IsCutShort asked Is before left old now
-  stops before seat None old now still sits = record { answers = sits.answers; part = []; told = subst (Appends old now) (sym (append-nil sits.answers)) sits.told; served = tt }
-  stops before seat (Some bytes) old now still sits =
+  stops : (before seat : T) (left old now still : Option (List ℕ)) → IsSitting asked Is before left old now still seat → Gone seat → IsCutShort asked Is Gone before left old now
+  stops before seat None old now still sits gone = record { answers = sits.answers; part = []; told = subst (Appends old now) (sym (append-nil sits.answers)) sits.told; served = tt }
+  stops before seat (Some bytes) old now still sits gone =
       let so_far = sits.served in
-      record { answers = sits.answers; part = []; told = subst (Appends old now) (sym (append-nil sits.answers)) sits.told; served = (so_far.0, so_far.1, seat, so_far.3, so_far.4, inl refl) }
+      record { answers = sits.answers; part = []; told = subst (Appends old now) (sym (append-nil sits.answers)) sits.told; served = (so_far.0, so_far.1, seat, so_far.3, so_far.4, inl (refl, gone)) }
 
   -- the same where memory is wanted
-  halts : (before seat : T) (left old now still : Option (List ℕ)) → IsSitting asked Is before left old now still seat → IsSat asked Is before left old now NoMemory
-  halts before seat None old now still sits = record { answers = sits.answers; told = sits.told; served = tt }
-  halts before seat (Some bytes) old now still sits =
+  halts : (before seat : T) (left old now still : Option (List ℕ)) → IsSitting asked Is before left old now still seat → Unheard seat → IsSat asked Is Gone Unheard before left old now NoMemory
+  halts before seat None old now still sits unheard = record { answers = sits.answers; told = sits.told; served = tt }
+  halts before seat (Some bytes) old now still sits unheard =
       let so_far = sits.served in
-      record { answers = sits.answers; told = sits.told; served = (so_far.0, so_far.1, seat, so_far.3, so_far.4) }
+      record { answers = sits.answers; told = sits.told; served = (so_far.0, so_far.1, seat, so_far.3, so_far.4, unheard) }
 
   -- no line comes any more
-  pub ends_by : (before seat : T) (left old now still : Option (List ℕ)) (failed : Bool) (why : Ending) → IsSitting asked Is before left old now still seat → EndsAt still failed why → IsSat asked Is before left old now why
-  ends_by before seat left old now still failed Left sits end = absurd end
-  ends_by before seat left old now still failed Ended sits end = ended before seat left old now still sits end
-  ends_by before seat left old now still failed Broken sits end = stops before seat left old now still sits
-  ends_by before seat left old now still failed NoMemory sits end = halts before seat left old now still sits
+  pub ends_by : (before seat : T) (left old now still : Option (List ℕ)) (failed : Bool) (why : Ending) → IsSitting asked Is before left old now still seat → EndsAt still failed why → Gone seat → IsSat asked Is Gone Unheard before left old now why
+  ends_by before seat left old now still failed Left sits end gone = absurd end
+  ends_by before seat left old now still failed Ended sits end gone = ended before seat left old now still sits end gone
+  ends_by before seat left old now still failed Broken sits end gone = stops before seat left old now still sits gone
+  ends_by before seat left old now still failed NoMemory sits end gone = absurd end
 
   -- a front of the answer to a line more is written
   cut_off : (before seat next : T) (left old mid new still later : Option (List ℕ)) (line : SeatLine) → IsSitting asked Is before left old mid still seat → Gives (λ bytes. line ≡ asked bytes) still later
-      → (answer : List ℕ) → Is line seat next answer → AppendsFront mid new answer → IsCutShort asked Is before left old new
-  cut_off before seat next None old mid new still later line sits gives answer is front =
+      → (answer : List ℕ) → Is line seat next answer → AppendsFront mid new answer → Gone next → IsCutShort asked Is Gone before left old new
+  cut_off before seat next None old mid new still later line sits gives answer is front gone =
       record { answers = sits.answers; part = take front.0 answer; told = Appends-trans old mid new sits.answers (take front.0 answer) sits.told front.1; served = tt }
-  cut_off before seat next (Some bytes) old mid new still later line sits gives answer is front =
+  cut_off before seat next (Some bytes) old mid new still later line sits gives answer is front gone =
       let so_far = sits.served in
-      let got = given line so_far.1 still later so_far.2 gives in
+      let got = given asked Is line so_far.1 still later so_far.2 gives in
       record {
         answers = sits.answers;
         part = take front.0 answer;
         told = Appends-trans old mid new sits.answers (take front.0 answer) sits.told front.1;
-        served = (so_far.0, so_far.1, seat, so_far.3, so_far.4, inr (got.0, got.1, next, answer, front.0, got.4, subst (λ l. Is l seat next answer) got.3 is, refl));
+        served = (so_far.0, so_far.1, seat, so_far.3, so_far.4, inr (got.0, got.1, next, answer, front.0, got.4, subst (λ l. Is l seat next answer) got.3 is, refl, gone));
       }
 
   -- an answer could not be written
   pub breaks_off : (before seat next : T) (left old mid new still later : Option (List ℕ)) (line : SeatLine) (why : Ending) → IsSitting asked Is before left old mid still seat → Gives (λ bytes. line ≡ asked bytes) still later
-      → IsCut (Is line seat next) mid new why → IsSat asked Is before left old new why
-  breaks_off before seat next left old mid new still later line Left sits gives cut = absurd cut
-  breaks_off before seat next left old mid new still later line Ended sits gives cut = absurd cut
-  breaks_off before seat next left old mid new still later line Broken sits gives cut = cut_off before seat next left old mid new still later line sits gives cut.0 cut.1 cut.2
-  breaks_off before seat next left old mid new still later line NoMemory sits gives kept =
-      halts before seat left old new still (record { answers = sits.answers; told = Appends-kept old mid new sits.answers sits.told kept; served = sits.served })
+      → IsCut (Is line seat next) mid new why → Gone next → (why ≡ NoMemory → Unheard seat) → IsSat asked Is Gone Unheard before left old new why
+  breaks_off before seat next left old mid new still later line Left sits gives cut gone unheard = absurd cut
+  breaks_off before seat next left old mid new still later line Ended sits gives cut gone unheard = absurd cut
+  breaks_off before seat next left old mid new still later line Broken sits gives cut gone unheard = cut_off before seat next left old mid new still later line sits gives cut.0 cut.1 cut.2 gone
+  breaks_off before seat next left old mid new still later line NoMemory sits gives kept gone unheard =
+      halts before seat left old new still (record { answers = sits.answers; told = Appends-kept old mid new sits.answers sits.told kept; served = sits.served }) (unheard refl)
 
 -- where a device is the cause it has failed
 pub read_failed : (known : Option (List ℕ)) (failed : Bool) (why : Ending) (Q : Type 0) → EndsAt known failed why → why ≡ Broken → (failed ≡ true) ⊎ Q
@@ -155,3 +160,25 @@ read_failed known failed why Q end same = inl (subst (EndsAt known failed) same 
 
 pub write_failed : (failed : Bool) (why : Ending) (P : Type 0) → IsBroken failed why → why ≡ Broken → P ⊎ (failed ≡ true)
 write_failed failed why P is same = inr (subst (IsBroken failed) same is)
+
+-- what is lost in front is such a line in another way too
+pub gives_also : (P Q : List ℕ → Type 0) (old new : Option (List ℕ)) → ((line : List ℕ) → P line → Q line) → Gives P old new → Gives Q old new
+gives_also P Q None new also gives = tt
+gives_also P Q (Some all) None also gives = absurd gives
+gives_also P Q (Some all) (Some rest) also gives = (gives.0, also gives.0 gives.1, gives.2)
+
+-- what a line asks for that is not too long
+pub asks_short : (i : Problem) (p : ℕ) (line given : List ℕ) (what : SeatLine) → what ≡ seat_line i p given → given ≡ line → IsShort line → what ≡ asked_by i p line
+asks_short i p line given what is same short = by (nat_le (length line) 65536) refl
+  where
+    by : (b : Bool) → nat_le (length line) 65536 ≡ b → what ≡ (if b then seat_line i p line else Bad)
+    by true e = is ∙ ap (seat_line i p) same
+    by false e = (let within = le-leb (length line) 65536 short in cc)
+
+-- one that is too long asks for nothing that is known
+pub asks_long : (i : Problem) (p : ℕ) (line : List ℕ) → IsLong line → Bad ≡ asked_by i p line
+asks_long i p line long = by (nat_le (length line) 65536) refl
+  where
+    by : (b : Bool) → nat_le (length line) 65536 ≡ b → Bad ≡ (if b then seat_line i p line else Bad)
+    by true e = (let within = leb-true (length line) 65536 e in absurd (omega (arith, within, long)))
+    by false e = refl

@@ -1,5 +1,5 @@
 -- The pages of the book of minutes.
-use Rattle.std.specs.Prelude.{ℕ, ◌≡◌, Bool, false, List, [], ◌∷◌, ◌++◌, flat_map, Option, None, Some, IfSome}
+use Rattle.std.specs.Prelude.{ℕ, ◌≡◌, ◌⊎◌, ◌<◌, ◌≤◌, Bool, true, false, length, List, [], ◌∷◌, ◌++◌, flat_map, Option, None, Some, IfSome}
 use Rattle.std.specs.Io.KnownBytes.{Appends}
 use Rattle.ctt_text.specs.Problem.{Problem}
 use Rattle.ctt_core.specs.declared.journal.JournalEntry.{JournalEntry}
@@ -33,6 +33,18 @@ AreTaken {W} taken i history now = (start : W) × AreMinutesOf i history (taken 
 -- a writer has taken the entries of the history since a start, and all that it has taken stays
 abbrev pub IsInMinutes : {W : Type 0} → (W → Option (List ℕ)) → (W → Option (List ℕ)) → Problem → List JournalEntry → Type 0
 IsInMinutes {W} taken kept i history = (now : W) × AreTaken taken i history (taken now) × Stays (kept now) (taken now)
+
+-- a writer could not take an entry: a call of it has failed, or it has the entries of a history that is no shorter than the one of which the entry is the last
+abbrev pub IsOut : {W : Type 0} → (W → Option (List ℕ)) → (W → Bool) → Problem → List JournalEntry → W → Type 0
+IsOut {W} taken marked i written now = (marked now ≡ true) ⊎ (AreTaken taken i written (taken now) × (history : List JournalEntry) × (0 < length history) × (length history ≤ length written))
+
+-- there was a writer that had taken the entries of a history
+abbrev pub IsSound : {W : Type 0} → (W → Option (List ℕ)) → Problem → Type 0
+IsSound {W} taken i = (now : W) × (written : List JournalEntry) × AreTaken taken i written (taken now)
+
+-- there was a writer that could not take an entry
+abbrev pub HasFailed : {W : Type 0} → (W → Option (List ℕ)) → (W → Bool) → Problem → Type 0
+HasFailed {W} taken marked i = (now : W) × (written : List JournalEntry) × IsOut taken marked i written now
 
 -- the history ends with this entry, as a journal has it
 abbrev pub EndsWith : Problem → List JournalEntry → List ℕ → Type 0

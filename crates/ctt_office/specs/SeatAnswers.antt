@@ -1,21 +1,23 @@
 -- What a planner at a seat is answered, and how that leaves him.
 use Rattle.std.specs.Prelude.{ℕ, ◌≡◌, ◌⊎◌, List, [], ◌∷◌, ◌++◌, codes, Option, Some, None, Result, Ok, Err}
+use Rattle.std.specs.Fmt.{decimal}
 use Rattle.std.specs.Io.KnownBytes.{Appends}
 use Rattle.ctt_text.specs.Problem.{Problem}
 use Rattle.ctt_text.specs.declared.placed.Placed.{Placed}
 use Rattle.ctt_core.specs.declared.answer.Answer.TheVariants.{NoMemory}
 use Rattle.ctt_core.specs.declared.event.Event.{Event}
-use Rattle.ctt_core.specs.declared.event.Event.TheVariants.{Abandon, Ask, Commit, Open, Refresh, Show}
+use Rattle.ctt_core.specs.declared.event.Event.TheVariants.{Abandon, Ask, Commit, Open, Peek, Refresh, Show}
 use Rattle.ctt_core.specs.declared.journal.JournalEntry.{JournalEntry}
 use Rattle.ctt_script.specs.AnswerText.{bad_line}
+use Rattle.ctt_crew.specs.Attended.{leaver}
 use Rattle.ctt_crew.specs.CrewText.{told_words}
-use Rattle.ctt_crew.specs.Seats.{Commits, Takes, told_of}
+use Rattle.ctt_crew.specs.Seats.{Commits, Takes, Views, told_of}
 use Rattle.ctt_script.specs.WrittenText.{line}
 use Rattle.ctt_crew.specs.declared.seat.Seat.{Seat}
 use Rattle.ctt_crew.specs.declared.seat.Told.{Told}
 use Rattle.ctt_crew.specs.declared.seat.Told.TheVariants.{Answer as Answered}
 use Rattle.ctt_office.specs.declared.seat_line.SeatLine.{SeatLine}
-use Rattle.ctt_office.specs.declared.seat_line.SeatLine.TheVariants.{Bad, Blank, Leave, Step}
+use Rattle.ctt_office.specs.declared.seat_line.SeatLine.TheVariants.{Bad, Blank, Help, Leave, Step}
 
 -- the line of what a planner is told
 abbrev pub told_line : Problem → Told → List ℕ
@@ -25,49 +27,82 @@ told_line i told = line (told_words i told)
 abbrev pub not_written : List ℕ
 not_written = line (codes "not" ∷ codes "written" ∷ [])
 
+-- the line of an accepted draft, the one of this number
+abbrev pub committed_line : ℕ → List ℕ
+committed_line number = line (codes "committed" ∷ decimal number ∷ [])
+
+-- the words with which a line may begin
+abbrev pub help_words : List (List ℕ)
+help_words = codes "abandon" ∷ codes "cheapest" ∷ codes "commit" ∷ codes "cost" ∷ codes "course" ∷ codes "coursecost" ∷ codes "curriculum" ∷ codes "drop" ∷ codes "help" ∷ codes "leave" ∷ codes "missing" ∷ codes "move" ∷ codes "open"
+    ∷ codes "peek" ∷ codes "place" ∷ codes "price" ∷ codes "refresh" ∷ codes "reroom" ∷ codes "show" ∷ codes "slot" ∷ codes "swap" ∷ codes "teacher" ∷ []
+
+abbrev pub help_line : List ℕ
+help_line = line (codes "words" ∷ help_words)
+
 -- the line by which a planner is let go
 abbrev pub left_line : List ℕ
 left_line = line (codes "left" ∷ [])
 
--- a commit that came to this is answered: an accepted draft by its number only where it is kept, or else as not written; a refused one by why
-abbrev pub IsOutcomeAnswer : (List JournalEntry → Type 0) → Problem → Result (List JournalEntry) Told → List ℕ → Type 0
-IsOutcomeAnswer IsKept i (Ok history) answer = (IsKept history × (answer ≡ told_line i (told_of (Ok history)))) ⊎ (answer ≡ not_written)
-IsOutcomeAnswer IsKept i (Err told) answer = answer ≡ told_line i told
+-- a commit that came to this is answered: an accepted draft by its number only if it is in the minutes, or else as not written, if an entry could not be; a refused one by why
+abbrev pub IsOutcomeAnswer : (List JournalEntry → Type 0) → Type 0 → Problem → Result (List JournalEntry) Told → List ℕ → Type 0
+IsOutcomeAnswer IsKept Failed i (Ok history) answer = (IsKept history × (answer ≡ told_line i (told_of (Ok history)))) ⊎ (Failed × (answer ≡ not_written))
+IsOutcomeAnswer IsKept Failed i (Err told) answer = answer ≡ told_line i told
 
--- no commit was tried: nothing is written any more, or memory is wanted
-abbrev pub IsUntriedAnswer : Problem → List ℕ → Type 0
-IsUntriedAnswer i answer = (answer ≡ not_written) ⊎ (answer ≡ told_line i (Answered NoMemory))
+-- no commit was tried: an entry could not be written, or memory is wanted
+abbrev pub IsUntriedAnswer : Type 0 → Problem → List ℕ → Type 0
+IsUntriedAnswer Failed i answer = (Failed × (answer ≡ not_written)) ⊎ (answer ≡ told_line i (Answered NoMemory))
 
 -- a commit is tried and answered, or not tried
-abbrev pub IsCommitAnswer : {X Y : Type 0} → (List JournalEntry → Type 0) → Problem → List Placed → Seat X Y → Seat X Y → List ℕ → Type 0
-IsCommitAnswer IsKept i t0 before after answer =
-    ((outcome : Result (List JournalEntry) Told) × Commits i t0 before after outcome × IsOutcomeAnswer IsKept i outcome answer)
-    ⊎ ((after ≡ before) × IsUntriedAnswer i answer)
+abbrev pub IsCommitAnswer : {X Y : Type 0} → (List JournalEntry → Type 0) → Type 0 → Problem → List Placed → Seat X Y → Seat X Y → List ℕ → Type 0
+IsCommitAnswer IsKept Failed i t0 before after answer =
+    ((outcome : Result (List JournalEntry) Told) × Commits i t0 before after outcome × IsOutcomeAnswer IsKept Failed i outcome answer)
+    ⊎ ((after ≡ before) × IsUntriedAnswer Failed i answer)
 
--- a step is done, and answered as in a crew
-abbrev pub IsCrewAnswer : {X Y : Type 0} → Problem → List Placed → Event → Seat X Y → Seat X Y → List ℕ → Type 0
-IsCrewAnswer i t0 event before after answer = (told : Told) × Takes i t0 event before after told × (answer ≡ told_line i told)
+-- a commit is tried and answered as in a crew, or not tried for want of memory
+abbrev pub IsCommitAlone : {X Y : Type 0} → Problem → List Placed → Seat X Y → Seat X Y → List ℕ → Type 0
+IsCommitAlone i t0 before after answer = ((outcome : Result (List JournalEntry) Told) × Commits i t0 before after outcome × (answer ≡ told_line i (told_of outcome)))
+    ⊎ ((after ≡ before) × (answer ≡ told_line i (Answered NoMemory)))
 
--- a commit of planner p is answered: where no book is kept as in a crew
-abbrev pub IsAnsweredBy : {B X Y : Type 0} → Option B → (List JournalEntry → Type 0) → Problem → List Placed → ℕ → Seat X Y → Seat X Y → List ℕ → Type 0
-IsAnsweredBy None IsKept i t0 p before after answer = IsCrewAnswer i t0 (Commit p) before after answer
-IsAnsweredBy (Some book) IsKept i t0 p before after answer = IsCommitAnswer IsKept i t0 before after answer
+-- an event is answered as in a crew; but what is published is shown with a draft open too, which goes on as it was
+abbrev pub Does : {X Y : Type 0} → Problem → List Placed → Event → Seat X Y → Seat X Y → Told → Type 0
+Does i t0 (Open p) before after told = Takes i t0 (Open p) before after told
+Does i t0 (Ask p call) before after told = Takes i t0 (Ask p call) before after told
+Does i t0 (Peek p look) before after told = Takes i t0 (Peek p look) before after told
+Does i t0 (Commit p) before after told = Takes i t0 (Commit p) before after told
+Does i t0 (Refresh p) before after told = Takes i t0 (Refresh p) before after told
+Does i t0 (Abandon p) before after told = Takes i t0 (Abandon p) before after told
+Does i t0 (Show look) before after told = Views i t0 look before after told
 
--- a step is answered: all but commits as in a crew
-abbrev pub IsStepAnswer : {B X Y : Type 0} → Option B → (List JournalEntry → Type 0) → Problem → List Placed → Event → Seat X Y → Seat X Y → List ℕ → Type 0
-IsStepAnswer book IsKept i t0 (Open p) before after answer = IsCrewAnswer i t0 (Open p) before after answer
-IsStepAnswer book IsKept i t0 (Ask p call) before after answer = IsCrewAnswer i t0 (Ask p call) before after answer
-IsStepAnswer book IsKept i t0 (Commit p) before after answer = IsAnsweredBy book IsKept i t0 p before after answer
-IsStepAnswer book IsKept i t0 (Refresh p) before after answer = IsCrewAnswer i t0 (Refresh p) before after answer
-IsStepAnswer book IsKept i t0 (Abandon p) before after answer = IsCrewAnswer i t0 (Abandon p) before after answer
-IsStepAnswer book IsKept i t0 (Show look) before after answer = IsCrewAnswer i t0 (Show look) before after answer
+-- a step is done, and its line is what the planner is told
+abbrev pub IsToldAnswer : {X Y : Type 0} → Problem → List Placed → Event → Seat X Y → Seat X Y → List ℕ → Type 0
+IsToldAnswer i t0 event before after answer = (told : Told) × Does i t0 event before after told × (answer ≡ told_line i told)
+
+-- a commit is answered, with a book of minutes and without one
+abbrev pub IsAnsweredBy : {B X Y : Type 0} → Option B → (List JournalEntry → Type 0) → Type 0 → Problem → List Placed → Seat X Y → Seat X Y → List ℕ → Type 0
+IsAnsweredBy None IsKept Failed i t0 before after answer = IsCommitAlone i t0 before after answer
+IsAnsweredBy (Some book) IsKept Failed i t0 before after answer = IsCommitAnswer IsKept Failed i t0 before after answer
+
+-- a step is answered: all but commits by what the planner is told
+abbrev pub IsStepAnswer : {B X Y : Type 0} → Option B → (List JournalEntry → Type 0) → Type 0 → Problem → List Placed → Event → Seat X Y → Seat X Y → List ℕ → Type 0
+IsStepAnswer book IsKept Failed i t0 (Open p) before after answer = IsToldAnswer i t0 (Open p) before after answer
+IsStepAnswer book IsKept Failed i t0 (Ask p call) before after answer = IsToldAnswer i t0 (Ask p call) before after answer
+IsStepAnswer book IsKept Failed i t0 (Peek p look) before after answer = IsToldAnswer i t0 (Peek p look) before after answer
+IsStepAnswer book IsKept Failed i t0 (Commit p) before after answer = IsAnsweredBy book IsKept Failed i t0 before after answer
+IsStepAnswer book IsKept Failed i t0 (Refresh p) before after answer = IsToldAnswer i t0 (Refresh p) before after answer
+IsStepAnswer book IsKept Failed i t0 (Abandon p) before after answer = IsToldAnswer i t0 (Abandon p) before after answer
+IsStepAnswer book IsKept Failed i t0 (Show look) before after answer = IsToldAnswer i t0 (Show look) before after answer
 
 -- a line is answered: by one line where it has words
-abbrev pub IsAnswer : {B X Y : Type 0} → Option B → (List JournalEntry → Type 0) → Problem → List Placed → SeatLine → Seat X Y → Seat X Y → List ℕ → Type 0
-IsAnswer book IsKept i t0 Blank before after answer = (after ≡ before) × (answer ≡ [])
-IsAnswer book IsKept i t0 Leave before after answer = (after ≡ before) × (answer ≡ left_line)
-IsAnswer book IsKept i t0 Bad before after answer = (after ≡ before) × (answer ≡ bad_line)
-IsAnswer book IsKept i t0 (Step event) before after answer = IsStepAnswer book IsKept i t0 event before after answer
+abbrev pub IsAnswer : {B X Y : Type 0} → Option B → (List JournalEntry → Type 0) → Type 0 → Problem → List Placed → SeatLine → Seat X Y → Seat X Y → List ℕ → Type 0
+IsAnswer book IsKept Failed i t0 Blank before after answer = (after ≡ before) × (answer ≡ [])
+IsAnswer book IsKept Failed i t0 Leave before after answer = (after ≡ before) × (answer ≡ left_line)
+IsAnswer book IsKept Failed i t0 Help before after answer = (after ≡ before) × (answer ≡ help_line)
+IsAnswer book IsKept Failed i t0 Bad before after answer = (after ≡ before) × (answer ≡ bad_line)
+IsAnswer book IsKept Failed i t0 (Step event) before after answer = IsStepAnswer book IsKept Failed i t0 event before after answer
+
+-- the planner has committed as many drafts as before
+abbrev pub IsUncommitted : {X Y : Type 0} → Seat X Y → Seat X Y → Type 0
+IsUncommitted before after = (leaver after).committed ≡ (leaver before).committed
 
 -- a text grows by such an answer
 abbrev pub Adds : (List ℕ → Type 0) → List ℕ → List ℕ → Type 0

@@ -7,25 +7,29 @@ use Rattle.ctt_core.specs.Runs.{EventFits}
 use Rattle.ctt_core.specs.declared.event.Event.{Event}
 use Rattle.ctt_script.specs.ScriptText.{has_words, own_item}
 use Rattle.ctt_office.specs.declared.seat_line.SeatLine.{SeatLine}
-use Rattle.ctt_office.specs.declared.seat_line.SeatLine.TheVariants.{Bad, Blank, Leave, Step}
+use Rattle.ctt_office.specs.declared.seat_line.SeatLine.TheVariants.{Bad, Blank, Help, Leave, Step}
 
--- the words are those with which a planner leaves
-abbrev pub are_leaving : List (List ℕ) → Bool
-are_leaving [] = false
-are_leaving (w ∷ []) = bytes_eq w (codes "leave")
-are_leaving (w ∷ v ∷ ws) = false
+-- the words are this one alone
+abbrev pub are_only : List ℕ → List (List ℕ) → Bool
+are_only word [] = false
+are_only word (w ∷ []) = bytes_eq w word
+are_only word (w ∷ v ∷ ws) = false
 
--- the line is the one with which a planner leaves
-abbrev pub leaves : List ℕ → Bool
-leaves line = is_utf8 line && are_leaving (words line)
+-- the line is text and has this word alone
+abbrev pub has_only : List ℕ → List ℕ → Bool
+has_only word line = is_utf8 line && are_only word (words line)
 
 abbrev pub step_of : Option Event → SeatLine
 step_of None = Bad
 step_of (Some event) = Step event
 
--- what a line of planner p asks for: nothing without words, to leave, a step, or nothing that is known
+-- what a line with words asks planner p for: to leave, help, a step, or nothing that is known
+abbrev pub worded_line : Problem → ℕ → List ℕ → SeatLine
+worded_line i p line = if has_only (codes "leave") line then Leave else (if has_only (codes "help") line then Help else step_of (own_item i p line))
+
+-- what a line of planner p asks for: nothing without words
 abbrev pub seat_line : Problem → ℕ → List ℕ → SeatLine
-seat_line i p line = if has_words line then (if leaves line then Leave else step_of (own_item i p line)) else Blank
+seat_line i p line = if has_words line then worded_line i p line else Blank
 
 -- the same; a line that is too long is a bad one
 abbrev pub asked_by : Problem → ℕ → List ℕ → SeatLine
@@ -35,5 +39,6 @@ asked_by i p line = if nat_le (length line) 65536 then seat_line i p line else B
 abbrev pub LineFits : Problem → ℕ → SeatLine → Type 0
 LineFits i p Blank = Unit {0}
 LineFits i p Leave = Unit {0}
+LineFits i p Help = Unit {0}
 LineFits i p Bad = Unit {0}
 LineFits i p (Step event) = (planners : ℕ) → p < planners → EventFits i planners event

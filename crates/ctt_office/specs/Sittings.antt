@@ -27,36 +27,36 @@ EndsBy asked Broken lines rest = GoOn asked lines
 EndsBy asked NoMemory lines rest = GoOn asked lines
 
 -- the lines that were left to be read are answered, up to the one by which the planner leaves, or to the last, or to the one before which memory is wanted, and nothing is written behind their answers
-pub record IsAnswered {T : Type 0} (asked : List ℕ → SeatLine) (Is : SeatLine → T → T → List ℕ → Type 0) (before : T) (left old new : Option (List ℕ)) (ending : Ending) : Type 0 where
+pub record IsAnswered {T : Type 0} (asked : List ℕ → SeatLine) (Is : SeatLine → T → T → List ℕ → Type 0) (Gone : T → Type 0) (before : T) (left old new : Option (List ℕ)) (ending : Ending) : Type 0 where
   pub answers : List ℕ
   pub told : Appends old new answers
-  pub served : IfSome left (λ bytes. (lines : List (List ℕ)) × (rest : List ℕ) × (after : T) × AreAnswered asked Is bytes before lines answers rest after × EndsBy asked ending lines rest)
+  pub served : IfSome left (λ bytes. (lines : List (List ℕ)) × (rest : List ℕ) × (after : T) × AreAnswered asked Is bytes before lines answers rest after × EndsBy asked ending lines rest × Gone after)
 
--- nothing, or a front of the answer to the line with which the bytes begin
-abbrev pub IsPartOfNext : {T : Type 0} → (List ℕ → SeatLine) → (SeatLine → T → T → List ℕ → Type 0) → List ℕ → T → List ℕ → Type 0
-IsPartOfNext {T} asked Is bytes before part = (part ≡ [])
-    ⊎ ((line : List ℕ) × (rest : List ℕ) × (after : T) × (answer : List ℕ) × (k : ℕ) × IsFirstLine line rest bytes × Is (asked line) before after answer × (part ≡ take k answer))
+-- nothing, or a front of the answer to the line with which the bytes begin, and the seat is left as it is then
+abbrev pub IsPartOfNext : {T : Type 0} → (List ℕ → SeatLine) → (SeatLine → T → T → List ℕ → Type 0) → (T → Type 0) → List ℕ → T → List ℕ → Type 0
+IsPartOfNext {T} asked Is Gone bytes before part = ((part ≡ []) × Gone before)
+    ⊎ ((line : List ℕ) × (rest : List ℕ) × (after : T) × (answer : List ℕ) × (k : ℕ) × IsFirstLine line rest bytes × Is (asked line) before after answer × (part ≡ take k answer) × Gone after)
 
 -- lines are answered, by none of which he leaves, and the answer to the next one is cut
-pub record IsCutShort {T : Type 0} (asked : List ℕ → SeatLine) (Is : SeatLine → T → T → List ℕ → Type 0) (before : T) (left old new : Option (List ℕ)) : Type 0 where
+pub record IsCutShort {T : Type 0} (asked : List ℕ → SeatLine) (Is : SeatLine → T → T → List ℕ → Type 0) (Gone : T → Type 0) (before : T) (left old new : Option (List ℕ)) : Type 0 where
   pub answers : List ℕ
   pub part : List ℕ
   pub told : Appends old new (answers ++ part)
-  pub served : IfSome left (λ bytes. (lines : List (List ℕ)) × (rest : List ℕ) × (after : T) × AreAnswered asked Is bytes before lines answers rest after × GoOn asked lines × IsPartOfNext asked Is rest after part)
+  pub served : IfSome left (λ bytes. (lines : List (List ℕ)) × (rest : List ℕ) × (after : T) × AreAnswered asked Is bytes before lines answers rest after × GoOn asked lines × IsPartOfNext asked Is Gone rest after part)
 
--- so he sat, and so it ended
-abbrev pub IsSat : {T : Type 0} → (List ℕ → SeatLine) → (SeatLine → T → T → List ℕ → Type 0) → T → Option (List ℕ) → Option (List ℕ) → Option (List ℕ) → Ending → Type 0
-IsSat asked Is before left old new Left = IsAnswered asked Is before left old new Left
-IsSat asked Is before left old new Ended = IsAnswered asked Is before left old new Ended
-IsSat asked Is before left old new Broken = IsCutShort asked Is before left old new
-IsSat asked Is before left old new NoMemory = IsAnswered asked Is before left old new NoMemory
+-- so he sat, and so it ended: `Gone` holds of the seat as the answered lines left it, or `Unheard` if memory is wanted for the next answer
+abbrev pub IsSat : {T : Type 0} → (List ℕ → SeatLine) → (SeatLine → T → T → List ℕ → Type 0) → (T → Type 0) → (T → Type 0) → T → Option (List ℕ) → Option (List ℕ) → Option (List ℕ) → Ending → Type 0
+IsSat asked Is Gone Unheard before left old new Left = IsAnswered asked Is Gone before left old new Left
+IsSat asked Is Gone Unheard before left old new Ended = IsAnswered asked Is Gone before left old new Ended
+IsSat asked Is Gone Unheard before left old new Broken = IsCutShort asked Is Gone before left old new
+IsSat asked Is Gone Unheard before left old new NoMemory = IsAnswered asked Is Unheard before left old new NoMemory
 
--- no line comes any more: none is left, or the reader has failed, or memory is wanted
+-- no line comes any more: none is left, or the reader has failed
 abbrev pub EndsAt : Option (List ℕ) → Bool → Ending → Type 0
 EndsAt known failed Left = ⊥
 EndsAt known failed Ended = IsAtEnd known
 EndsAt known failed Broken = failed ≡ true
-EndsAt known failed NoMemory = Unit {0}
+EndsAt known failed NoMemory = ⊥
 
 -- the writer has failed, or memory is wanted
 abbrev pub IsBroken : Bool → Ending → Type 0

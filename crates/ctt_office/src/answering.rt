@@ -1,10 +1,15 @@
 //! The answer to a line of a seat.
 
-ghost use Rattle.std.specs.Prelude.{◌≡◌, ◌++◌, ℕ, IfOk, Ok, OnOk, string_bytes};
+ghost use Rattle.std.specs.Prelude.{◌≡◌, ◌≢◌, ◌+◌, ◌≤◌, ◌++◌, ℕ, IfOk, IsOk, Ok, OnErr, OnOk, string_bytes};
+ghost use Rattle.std.specs.String.{string_capacity, string_len};
 ghost use Rattle.ctt_core.specs.Runs.{EventFits};
+ghost use Rattle.ctt_core.specs.declared.answer.Answer.TheVariants.{NoMemory};
+ghost use Rattle.ctt_core.specs.declared.event.Event.TheVariants.{Commit};
+ghost use Rattle.ctt_crew.specs.CrewText.{ToldFits};
 ghost use Rattle.ctt_crew.specs.Seats.{open_entry};
-ghost use Rattle.ctt_office.specs.Pages.{EndsWith, IsInMinutes};
-ghost use Rattle.ctt_office.specs.SeatAnswers.{Adds, IsAnswer, IsCommitAnswer, IsCrewAnswer, IsOutcomeAnswer, IsStepAnswer, left_line, not_written};
+ghost use Rattle.ctt_crew.specs.declared.seat.Told.TheVariants.{Answer as Answered};
+ghost use Rattle.ctt_office.specs.Pages.{EndsWith, HasFailed, IsInMinutes};
+ghost use Rattle.ctt_office.specs.SeatAnswers.{Adds, Does, IsAnswer, IsCommitAlone, IsCommitAnswer, IsToldAnswer, IsOutcomeAnswer, IsStepAnswer, IsUncommitted, committed_line, help_line, left_line, not_written, told_line};
 ghost use Rattle.ctt_office.specs.SeatText.{LineFits};
 
 use crate::book::Book;
@@ -15,16 +20,23 @@ use ctt_core::{Answer, Event};
 use ctt_crew::{Seat, Told, write_told};
 use ctt_desk::{Naming, Receipt, SharedDesk};
 use ctt_script::write_bad_line;
-use ctt_text::{Instance, NoMemory, let_go};
+use ctt_text::{Instance, NoMemory as OutOfMemory, let_go};
+use itoa::Buffer;
 use std::alloc::{AllocError, Global};
 use std::sync::Wait;
 
-/// How long the line of a commit's answer is at most.
-const COMMITTED: usize = 32;
+/// The line of the words with which a line may begin.
+const HELP: &str =
+    "words abandon cheapest commit cost course coursecost curriculum drop help leave \
+    missing move open peek place price refresh reroom show slot swap teacher\n";
+
+/// How much room is made for the line of an accepted draft.
+const COMMITTED: usize = 64;
 
 /// Adds the line of a draft that is not in the minutes.
 fn write_not_written(text: &mut String) -> Result<(), AllocError>
-    ensures { OnOk result (string_bytes text.new ≡ string_bytes text.old ++ not_written) }
+    ensures line { OnOk result (string_bytes text.new ≡ string_bytes text.old ++ not_written) }
+    ensures room { string_len text.old + 64 ≤ string_capacity text.old → IsOk result }
 {
     text.push_str("not written\n")
 }
@@ -36,14 +48,50 @@ fn write_left(text: &mut String) -> Result<(), AllocError>
     text.push_str("left\n")
 }
 
-/// The entry of the open draft, and room for the line of the answer: behind an accepted commit no memory is asked for.
+/// Adds the line of the words with which a line may begin.
+fn write_help(text: &mut String) -> Result<(), AllocError>
+    ensures { OnOk result (string_bytes text.new ≡ string_bytes text.old ++ help_line) }
+{
+    text.push_str(HELP)
+}
+
+/// Adds the line of an accepted draft, for which there is room.
+fn add_committed(text: &mut String, number: u64)
+    requires { string_len text.old + 64 ≤ string_capacity text.old }
+    ensures { string_bytes text.new ≡ string_bytes text.old ++ committed_line number }
+{
+    text.push_str("committed ").unwrap();
+    text.push_str(Buffer::new().format(number)).unwrap();
+    text.push('\n').unwrap();
+}
+
+/// Adds the line of a commit that was refused.
+fn write_refused(instance: &Instance, told: Told, text: &mut String) -> Result<(), AllocError>
+    requires { ToldFits instance.now told }
+    ensures { OnOk result (string_bytes text.new ≡ string_bytes text.old ++ told_line instance.now told) }
+{
+    let written = write_told(text, instance, &told);
+    let_go(told);
+    written
+}
+
+/// Adds the line of a commit that is not tried for want of memory.
+fn write_no_memory(instance: &Instance, text: &mut String) -> Result<(), AllocError>
+    ensures { OnOk result (string_bytes text.new
+        ≡ string_bytes text.old ++ told_line instance.now (Answered NoMemory)) }
+{
+    write_told(text, instance, &Told::Answer(Answer::NoMemory))
+}
+
+/// The entry of the open draft, and room for the line of the answer.
 fn entry_of<'i, S: Sheet<'i>, J: Naming>(
     alloc: Global,
     seat: &Seat<'i, S, J>,
     text: &mut String,
-) -> Result<String, NoMemory>
+) -> Result<String, OutOfMemory>
     ensures entry { IfOk result (λ entry. string_bytes entry ≡ open_entry J.problem seat.now) }
-    ensures kept { string_bytes text.new ≡ string_bytes text.old }
+    ensures same { string_bytes text.new ≡ string_bytes text.old }
+    ensures room { OnOk result (string_len text.new + 64 ≤ string_capacity text.new) }
 {
     let mut entry = String::new(alloc);
     seat.write_entry(&mut entry)?;
@@ -51,8 +99,8 @@ fn entry_of<'i, S: Sheet<'i>, J: Naming>(
     Ok(entry)
 }
 
-/// Enters a draft that was accepted last before the receipt was given, and adds the line of the answer: its number, when
-/// it is in the book.
+/// Enters a draft that was accepted last before the receipt was given, and adds the line of the answer, for which there is
+/// room: its number, if it is in the book.
 fn enter<J: Naming, W: Durable, R: Wait>(
     rt: &R,
     instance: &Instance,
@@ -60,23 +108,20 @@ fn enter<J: Naming, W: Durable, R: Wait>(
     receipt: &Receipt<J>,
     entry: &str,
     text: &mut String,
-) -> Result<(), AllocError>
-    requires { EndsWith J.problem receipt.now entry.now }
-    ensures { OnOk result
-        (Adds
-        (IsOutcomeAnswer (IsInMinutes W.Sink.taken W.kept J.problem) instance.now (Ok receipt.now))
-        (string_bytes text.old) (string_bytes text.new)) }
+)
+    requires ends { EndsWith J.problem receipt.now entry.now }
+    requires room { string_len text.old + 64 ≤ string_capacity text.old }
+    ensures { Adds (IsOutcomeAnswer (IsInMinutes W.Sink.taken W.kept J.problem)
+        (HasFailed W.Sink.taken W.Sink.has_failed J.problem) instance.now (Ok receipt.now))
+        (string_bytes text.old) (string_bytes text.new) }
 {
     match book.enter(rt, receipt, entry.as_bytes()) {
-        Ok(()) => {
-            let told = Told::Answer(Answer::Committed(receipt.number()));
-            write_told(text, instance, &told)
-        }
-        Err(_) => write_not_written(text),
+        Ok(()) => add_committed(text, receipt.number()),
+        Err(_) => write_not_written(text).unwrap(),
     }
 }
 
-/// Commits the draft, and adds the line of the answer: it is told as accepted when it is in the book.
+/// Commits the draft, and adds the line of the answer: it is reported as accepted if it is in the book.
 fn commit<'i, S: Sheet<'i>, J: Naming, W: Durable, R: Wait>(
     rt: &R,
     alloc: Global,
@@ -87,32 +132,77 @@ fn commit<'i, S: Sheet<'i>, J: Naming, W: Durable, R: Wait>(
     text: &mut String,
 ) -> (Seat<'i, S, J>, Result<(), AllocError>)
     requires { J.problem ≡ instance.now }
-    ensures { OnOk result.1
-        (Adds (IsCommitAnswer (IsInMinutes W.Sink.taken W.kept J.problem) instance.now J.opening
+    ensures answered { OnOk result.1
+        (Adds (IsCommitAnswer (IsInMinutes W.Sink.taken W.kept J.problem)
+        (HasFailed W.Sink.taken W.Sink.has_failed J.problem) instance.now J.opening
         seat.entry result.0) (string_bytes text.old) (string_bytes text.new)) }
+    ensures unanswered { OnErr result.1 (IsUncommitted seat.entry result.0) }
 {
     if book.has_failed(rt) {
         return (seat, write_not_written(text));
     }
     let Ok(entry) = entry_of(alloc, &seat, text) else {
-        let told = Told::Answer(Answer::NoMemory);
-        return (seat, write_told(text, instance, &told));
+        return (seat, write_no_memory(instance, text));
     };
     let (seat, outcome) = seat.commit(rt, desk);
     match outcome {
         Ok(receipt) => {
-            let written = enter(rt, instance, book, &receipt, &entry, text);
-            (seat, written)
+            enter(rt, instance, book, &receipt, &entry, text);
+            (seat, Ok(()))
         }
-        Err(told) => {
-            let written = write_told(text, instance, &told);
-            let_go(told);
-            (seat, written)
-        }
+        Err(told) => (seat, write_refused(instance, told, text)),
     }
 }
 
-/// Does a step, and adds the line of the answer, as for a planner of a crew.
+/// Commits the draft without a book, and adds the line of the answer.
+fn commit_alone<'i, S: Sheet<'i>, J: Naming, R: Wait>(
+    rt: &R,
+    desk: &SharedDesk<S, J>,
+    instance: &Instance,
+    seat: Seat<'i, S, J>,
+    text: &mut String,
+) -> (Seat<'i, S, J>, Result<(), AllocError>)
+    requires { J.problem ≡ instance.now }
+    ensures answered { OnOk result.1 (Adds
+        (IsCommitAlone instance.now J.opening seat.entry result.0)
+        (string_bytes text.old) (string_bytes text.new)) }
+    ensures unanswered { OnErr result.1 (IsUncommitted seat.entry result.0) }
+{
+    if text.reserve(COMMITTED).is_err() {
+        return (seat, write_no_memory(instance, text));
+    }
+    let (seat, outcome) = seat.commit(rt, desk);
+    match outcome {
+        Ok(receipt) => {
+            add_committed(text, receipt.number());
+            (seat, Ok(()))
+        }
+        Err(told) => (seat, write_refused(instance, told, text)),
+    }
+}
+
+/// Does a step. A look at what is published is shown with a draft open too, which goes on as it was.
+fn do_step<'i, S: Sheet<'i>, J: Naming, R: Wait>(
+    rt: &R,
+    desk: &SharedDesk<S, J>,
+    seat: Seat<'i, S, J>,
+    event: Event,
+) -> (Seat<'i, S, J>, Told)
+    requires { (n : ℕ) × EventFits J.problem n event }
+    ensures fits { ToldFits J.problem result.1 }
+    ensures does { Does J.problem J.opening event seat.entry result.0 result.1 }
+{
+    match event {
+        Event::Show(look) => {
+            let mut seat = seat;
+            let told = seat.view(&look);
+            (seat, told)
+        }
+        _ => seat.take(rt, desk, event),
+    }
+}
+
+/// Does a step, and adds the line of the answer.
 fn take<'i, S: Sheet<'i>, J: Naming, R: Wait>(
     rt: &R,
     desk: &SharedDesk<S, J>,
@@ -123,16 +213,18 @@ fn take<'i, S: Sheet<'i>, J: Naming, R: Wait>(
 ) -> (Seat<'i, S, J>, Result<(), AllocError>)
     requires same { J.problem ≡ instance.now }
     requires fits { (n : ℕ) × EventFits J.problem n event }
-    ensures { OnOk result.1 (Adds (IsCrewAnswer instance.now J.opening event seat.entry result.0)
+    ensures answered { OnOk result.1
+        (Adds (IsToldAnswer instance.now J.opening event seat.entry result.0)
         (string_bytes text.old) (string_bytes text.new)) }
+    ensures uncommitted { ((p : ℕ) → event ≢ Commit p) → IsUncommitted seat.entry result.0 }
 {
-    let (seat, told) = seat.take(rt, desk, event);
+    let (seat, told) = do_step(rt, desk, seat, event);
     let written = write_told(text, instance, &told);
     let_go(told);
     (seat, written)
 }
 
-/// Does a step, and adds the line of the answer. Where a book is kept accepted drafts are entered into it.
+/// Does a step, and adds the line of the answer. Accepted drafts are entered into the book, if there is one.
 fn step<'i, S: Sheet<'i>, J: Naming, W: Durable, R: Wait>(
     rt: &R,
     alloc: Global,
@@ -145,20 +237,24 @@ fn step<'i, S: Sheet<'i>, J: Naming, W: Durable, R: Wait>(
 ) -> (Seat<'i, S, J>, Result<(), AllocError>)
     requires same { J.problem ≡ instance.now }
     requires fits { (n : ℕ) × EventFits J.problem n event }
-    ensures { OnOk result.1
+    ensures answered { OnOk result.1
         (Adds (IsStepAnswer book.entry (IsInMinutes W.Sink.taken W.kept J.problem)
-        instance.now J.opening event seat.entry result.0) (string_bytes text.old) (string_bytes text.new)) }
+        (HasFailed W.Sink.taken W.Sink.has_failed J.problem) instance.now J.opening event
+        seat.entry result.0) (string_bytes text.old) (string_bytes text.new)) }
+    ensures unanswered { OnErr result.1 (IsUncommitted seat.entry result.0) }
 {
     match event {
         Event::Commit(_) => match book {
             Some(book) => commit(rt, alloc, desk, instance, book, seat, text),
-            None => take(rt, desk, instance, seat, event, text),
+            None => commit_alone(rt, desk, instance, seat, text),
         },
         _ => take(rt, desk, instance, seat, event, text),
     }
 }
 
 /// Answers a line of a seat, and adds the line of the answer, if it has one.
+///
+/// `AllocError` if there is no room for that line. An accepted draft has room.
 pub(crate) fn answer<'i, S: Sheet<'i>, J: Naming, W: Durable, R: Wait>(
     rt: &R,
     alloc: Global,
@@ -171,13 +267,16 @@ pub(crate) fn answer<'i, S: Sheet<'i>, J: Naming, W: Durable, R: Wait>(
 ) -> (Seat<'i, S, J>, Result<(), AllocError>)
     requires same { J.problem ≡ instance.now }
     requires fits { (p : ℕ) × LineFits instance.now p line }
-    ensures { OnOk result.1
-        (Adds (IsAnswer book.entry (IsInMinutes W.Sink.taken W.kept J.problem) instance.now
-        J.opening line seat.entry result.0) (string_bytes text.old) (string_bytes text.new)) }
+    ensures answered { OnOk result.1
+        (Adds (IsAnswer book.entry (IsInMinutes W.Sink.taken W.kept J.problem)
+        (HasFailed W.Sink.taken W.Sink.has_failed J.problem) instance.now J.opening line
+        seat.entry result.0) (string_bytes text.old) (string_bytes text.new)) }
+    ensures unanswered { OnErr result.1 (IsUncommitted seat.entry result.0) }
 {
     match line {
         SeatLine::Blank => (seat, Ok(())),
         SeatLine::Leave => (seat, write_left(text)),
+        SeatLine::Help => (seat, write_help(text)),
         SeatLine::Bad => (seat, write_bad_line(text)),
         SeatLine::Step(event) => step(rt, alloc, desk, instance, book, seat, event, text),
     }

@@ -4,7 +4,7 @@ ghost use Rattle.std.specs.Prelude.{◌≡◌, ◌+◌, ◌<◌, ◌≤◌, ◌�
 ghost use Rattle.std.specs.Io.KnownBytes.{Appends};
 ghost use Rattle.ctt_devices.specs.Output.{AppendsFront};
 ghost use mathlib.Core.List.{IsPrefix};
-ghost use Rattle.ctt_office.specs.Pages.{AreTaken, EndsWith, IsEntered, IsInMinutes, Stays, seen};
+ghost use Rattle.ctt_office.specs.Pages.{AreTaken, EndsWith, HasFailed, IsEntered, IsInMinutes, IsSound, Stays, seen};
 ghost use Rattle.ctt_office.specs.declared.book.Attempt.TheVariants.{Entered, Failed as NotEntered, NotYet};
 
 use crate::durable::Durable;
@@ -34,8 +34,8 @@ pub struct Pages<W: Durable, J: Naming> {
 }
 
 impl<W: Durable, J: Naming> Model for Pages<W, J> {
-    ghost use Rattle.std.specs.Prelude.{◌≡◌, false};
-    ghost use Rattle.ctt_office.specs.Pages.{AreTaken, PagesValue, seen};
+    ghost use Rattle.std.specs.Prelude.{◌≡◌, false, true};
+    ghost use Rattle.ctt_office.specs.Pages.{AreTaken, IsOut, PagesValue, seen};
 
     ghost Value = { PagesValue };
 
@@ -47,8 +47,10 @@ impl<W: Durable, J: Naming> Model for Pages<W, J> {
       marked = W.Sink.has_failed p.writer;
     } };
 
-    ghost invariant = { λ p. p.failed ≡ false
-        → AreTaken W.Sink.taken J.problem (seen p.last) (W.Sink.taken p.writer) };
+    ghost invariant = { λ p. (p.failed ≡ false
+        → AreTaken W.Sink.taken J.problem (seen p.last) (W.Sink.taken p.writer))
+        × (p.failed ≡ true
+        → IsOut W.Sink.taken W.Sink.has_failed J.problem (seen p.last) p.writer) };
 }
 
 /// Writes an entry, so that it stays.
@@ -109,6 +111,8 @@ impl<W: Durable, J: Naming> Pages<W, J> {
         ensures failed { result ≡ self.now.failed }
         ensures minutes { result ≡ false
             → AreTaken W.Sink.taken J.problem self.now.history self.now.taken }
+        ensures sound { result ≡ false → IsSound W.Sink.taken J.problem }
+        ensures cause { result ≡ true → HasFailed W.Sink.taken W.Sink.has_failed J.problem }
     {
         self.failed
     }
@@ -123,6 +127,8 @@ impl<W: Durable, J: Naming> Pages<W, J> {
         ensures kept { result ≡ Entered
             → IsInMinutes W.Sink.taken W.kept J.problem receipt.now }
         ensures failed { result ≡ NotEntered → self.new.failed ≡ true }
+        ensures out { result ≡ NotEntered
+            → HasFailed W.Sink.taken W.Sink.has_failed J.problem }
         ensures cause { result ≡ NotEntered → (self.old.failed ≡ true)
             ⊎ (length receipt.now ≤ length self.old.history) ⊎ (self.new.marked ≡ true) }
         ensures front { result ≡ NotEntered
@@ -168,14 +174,18 @@ impl<W: Durable, J: Naming> Book<W, J> {
     }
 
     /// Whether an entry could not be written.
-    pub fn has_failed<R: Wait>(&self, rt: &R) -> bool {
+    pub fn has_failed<R: Wait>(&self, rt: &R) -> bool
+        ensures sound { result ≡ false → IsSound W.Sink.taken J.problem }
+        ensures cause { result ≡ true → HasFailed W.Sink.taken W.Sink.has_failed J.problem }
+    {
         self.pages.lock(rt).has_failed()
     }
 
     /// Enters the draft that was accepted last before the receipt was given, when all before it are written.
     pub fn enter<R: Wait>(&self, rt: &R, receipt: &Receipt<J>, entry: &[u8]) -> Result<(), Failed>
         requires { EndsWith J.problem receipt.now entry.now }
-        ensures { OnOk result (IsInMinutes W.Sink.taken W.kept J.problem receipt.now) }
+        ensures entered { OnOk result (IsInMinutes W.Sink.taken W.kept J.problem receipt.now) }
+        ensures failed { OnErr result (HasFailed W.Sink.taken W.Sink.has_failed J.problem) }
     {
         let mut pages = self.pages.lock(rt);
         for _ in rt.forever() {

@@ -1,13 +1,14 @@
 //! The lines of a reader, one by one, as they come.
 
-ghost use Rattle.std.specs.Prelude.{◌≡◌, ◌<◌, ◌≤◌, ◌+◌, ◌-◌, ◌==◌, ℕ, List, [], true, false, length, drop, take, Ok, Err, Some, OnOk, IfOk, IfSome, IfNone, vec_len};
+ghost use Rattle.std.specs.Prelude.{◌≡◌, ◌<◌, ◌≤◌, ◌+◌, ◌-◌, ◌==◌, ℕ, List, [], true, false, length, drop, take, Ok, Some, OnErr, OnOk, OnSome, IfOk, IfSome, IfNone, IsErr, vec_len};
+ghost use Rattle.std.specs.Vec.{vec_capacity};
 ghost use Rattle.std.specs.Io.KnownBytes.{Keeps, IsAtEnd};
-ghost use Rattle.ctt_devices.specs.declared.input.InputFault.TheVariants.{Read};
-ghost use Rattle.ctt_office.specs.Lines.{GivesNext, HasLine, IsCut, IsLong, IsOpen, IsShort, coming};
+ghost use Rattle.ctt_office.specs.Lines.{GivesNext, HasLine, IsCut, IsGrown, IsLong, IsOpen, IsReadOnce, IsShort, IsShut, coming};
 ghost use Rattle.ctt_office.specs.declared.line_reader.Next.TheVariants.{End, Line, TooLong};
 
-use ctt_devices::{InputFault, Source};
+use ctt_devices::{Failed, Source};
 use ctt_script::line_end;
+use ctt_text::{NoMemory, let_go};
 use std::alloc::Global;
 use std::marker::Model;
 use std::sync::Wait;
@@ -17,6 +18,9 @@ pub const LINE_LIMIT: usize = 65_536;
 
 /// How many bytes are asked for at once.
 const PIECE: usize = 4096;
+
+/// How many bytes there is room for: a line that may still be short, and a piece more.
+const ROOM: usize = LINE_LIMIT + PIECE;
 
 /// What comes next.
 #[derive(Clone, Copy, PartialEq, Eq)]
@@ -29,7 +33,8 @@ pub enum Next {
     End,
 }
 
-/// A reader of which one line after the other is given. It is read from only where no whole line is at hand.
+/// A reader of which one line after the other is given. It is read from only if no whole line is at hand. Its room is
+/// made with it, so that no line wants memory.
 #[derive(Drop)]
 pub struct LineReader<R: Source> {
     source: R,
@@ -39,10 +44,13 @@ pub struct LineReader<R: Source> {
     end: usize,
     given: usize,
     is_at_end: bool,
+    /// A read has failed, and none is tried any more.
+    is_shut: bool,
 }
 
 impl<R: Source> Model for LineReader<R> {
     ghost use Rattle.std.specs.Prelude.{◌≡◌, ◌≤◌, ◌-◌, true, drop, take, vec_len};
+    ghost use Rattle.std.specs.Vec.{vec_capacity};
     ghost use Rattle.std.specs.Io.KnownBytes.{IsAtEnd};
     ghost use Rattle.ctt_office.specs.Lines.{ReaderValue};
 
@@ -54,15 +62,18 @@ impl<R: Source> Model for LineReader<R> {
       left = R.left r.source;
       pulls = R.pulls r.source;
       has_failed = R.has_failed r.source;
+      is_shut = r.is_shut;
     } };
 
     ghost invariant = { λ r. (r.start ≤ r.end) × (r.end ≤ r.given) × (r.given ≤ vec_len r.held)
-        × (r.is_at_end ≡ true → IsAtEnd (R.left r.source)) };
+        × (69632 ≤ vec_capacity r.held) × (r.is_at_end ≡ true → IsAtEnd (R.left r.source))
+        × (r.is_shut ≡ true → R.has_failed r.source ≡ true) };
 }
 
 /// Where the first line of bytes ends, if it does.
 #[tactic(auto, using(crate::proofs::LineLemmas::none_ends, crate::proofs::LineLemmas::cut))]
 fn first_end(bytes: &[u8]) -> Option<usize>
+    ensures some { OnSome result (HasLine bytes.now) }
     ensures cut { IfSome result (λ n.
         IsCut (take n bytes.now) (drop (n + 1) bytes.now) bytes.now) }
     ensures within { IfSome result (λ n. n < length bytes.now) }
@@ -74,7 +85,8 @@ fn first_end(bytes: &[u8]) -> Option<usize>
 /// Takes bytes away at the front.
 fn remove_front(bytes: &mut Vec<u8>, n: usize)
     requires { n ≤ vec_len bytes.old }
-    ensures { bytes.new.items ≡ drop n bytes.old.items }
+    ensures items { bytes.new.items ≡ drop n bytes.old.items }
+    ensures capacity { vec_capacity bytes.new ≡ vec_capacity bytes.old }
 {
     let len = bytes.len();
     bytes.as_mut_slice().copy_within(n..len, 0);
@@ -83,21 +95,31 @@ fn remove_front(bytes: &mut Vec<u8>, n: usize)
 
 impl<R: Source> LineReader<R> {
     /// A reader of which no line was given.
-    pub fn new(alloc: Global, source: R) -> Self
-        ensures line { result.line ≡ [] }
-        ensures held { result.held ≡ [] }
-        ensures left { result.left ≡ R.left source }
-        ensures pulls { result.pulls ≡ R.pulls source }
-        ensures failed { result.has_failed ≡ R.has_failed source }
+    ///
+    /// `NoMemory` if there is no room for a line and a piece more.
+    pub fn new(alloc: Global, source: R) -> Result<Self, NoMemory>
+    where
+        R: Drop,
+        ensures line { IfOk result (λ lines. lines.line ≡ []) }
+        ensures held { IfOk result (λ lines. lines.held ≡ []) }
+        ensures left { IfOk result (λ lines. lines.left ≡ R.left source) }
+        ensures pulls { IfOk result (λ lines. lines.pulls ≡ R.pulls source) }
+        ensures failed { IfOk result (λ lines. lines.has_failed ≡ R.has_failed source) }
+        ensures open { IfOk result (λ lines. lines.is_shut ≡ false) }
     {
-        LineReader {
+        let Ok(held) = Vec::with_capacity(alloc, ROOM) else {
+            let_go(source);
+            return Err(NoMemory);
+        };
+        Ok(LineReader {
             source,
-            held: Vec::new(alloc),
+            held,
             start: 0,
             end: 0,
             given: 0,
             is_at_end: false,
-        }
+            is_shut: false,
+        })
     }
 
     /// The present line, without its end.
@@ -107,15 +129,20 @@ impl<R: Source> LineReader<R> {
         &self.held[self.start..self.end]
     }
 
-    /// Reads some bytes more behind those that are held, and answers whether there were any. Only where no whole line is
+    /// Reads some bytes more after those that are held, and answers whether there were any. Only if no whole line is
     /// held.
-    fn pull(&mut self) -> Result<bool, InputFault>
+    fn pull(&mut self) -> Result<bool, Failed>
         requires open { IsOpen self.old.held }
+        requires short { IsShort self.old.held }
+        ensures grown { result ≡ Ok true → IsGrown self.old self.new }
         ensures coming { OnOk result (Keeps (coming self.old) (coming self.new)) }
         ensures line { self.old.line ≡ [] → self.new.line ≡ [] }
         ensures end { result ≡ Ok false
             → (self.new.held ≡ self.old.held) × IsAtEnd self.new.left }
-        ensures failed { result ≡ Err Read → self.new.has_failed ≡ true }
+        ensures once { IsReadOnce R.left R.has_failed R.pulls self.old self.new.pulls }
+        ensures failed { OnErr result (self.new.has_failed ≡ true) }
+        ensures unmarked { OnOk result (self.new.has_failed ≡ self.old.has_failed) }
+        ensures shut { OnErr result (IsShut self.new) }
     {
         if self.is_at_end {
             return Ok(false);
@@ -126,13 +153,14 @@ impl<R: Source> LineReader<R> {
         self.given = 0;
         let mut piece = [0u8; PIECE];
         let Ok(n) = self.source.pull(&mut piece) else {
-            return Err(InputFault::Read);
+            self.is_shut = true;
+            return Err(Failed);
         };
         if n == 0 {
             self.is_at_end = true;
             return Ok(false);
         }
-        self.held.extend_from_slice(&piece[..n])?;
+        self.held.extend_from_slice(&piece[..n]).unwrap();
         Ok(true)
     }
 
@@ -140,6 +168,7 @@ impl<R: Source> LineReader<R> {
     #[tactic(auto, using(crate::proofs::LineLemmas::cut_behind))]
     fn find(&mut self) -> Option<Next>
         ensures none { IfNone result ((self.new ≡ self.old) × IsOpen self.old.held) }
+        ensures some { OnSome result (HasLine self.old.held) }
         ensures line { result ≡ Some Line
             → IsCut self.new.line self.new.held self.old.held × IsShort self.new.line }
         ensures long { result ≡ Some TooLong → (self.new.line ≡ [])
@@ -164,7 +193,8 @@ impl<R: Source> LineReader<R> {
         requires open { IsOpen self.old.held }
         requires short { IsShort self.old.held }
         requires end { IsAtEnd self.old.left }
-        ensures { GivesNext result self.old self.new }
+        ensures next { GivesNext result self.old self.new }
+        ensures rest { self.new ≡ record self.old { line = self.new.line; held = self.new.held } }
     {
         if self.given == self.held.len() {
             return Next::End;
@@ -186,12 +216,15 @@ impl<R: Source> LineReader<R> {
     }
 
     /// Reads on to the end of a line of which so much is held that it is too long, and keeps nothing of it.
-    fn pass_long<W: Wait>(&mut self, rt: &W) -> Result<Next, InputFault>
+    fn pass_long<W: Wait>(&mut self, rt: &W) -> Result<Next, Failed>
         requires open { IsOpen self.old.held }
         requires long { IsLong self.old.held }
         ensures next { IfOk result (λ next. GivesNext next self.old self.new) }
         ensures long { IfOk result (λ next. next ≡ TooLong) }
-        ensures failed { result ≡ Err Read → self.new.has_failed ≡ true }
+        ensures once { IsReadOnce R.left R.has_failed R.pulls self.old self.new.pulls }
+        ensures failed { OnErr result (self.new.has_failed ≡ true) }
+        ensures unmarked { OnOk result (self.new.has_failed ≡ self.old.has_failed) }
+        ensures shut { OnErr result (IsShut self.new) }
     {
         for _ in rt.forever() {
             self.forget();
@@ -209,10 +242,13 @@ impl<R: Source> LineReader<R> {
     }
 
     /// Reads on until a line is at hand, or all is read.
-    fn fetch<W: Wait>(&mut self, rt: &W) -> Result<Next, InputFault>
+    fn fetch<W: Wait>(&mut self, rt: &W) -> Result<Next, Failed>
         requires { IsOpen self.old.held }
         ensures next { IfOk result (λ next. GivesNext next self.old self.new) }
-        ensures failed { result ≡ Err Read → self.new.has_failed ≡ true }
+        ensures once { IsReadOnce R.left R.has_failed R.pulls self.old self.new.pulls }
+        ensures failed { OnErr result (self.new.has_failed ≡ true) }
+        ensures unmarked { OnOk result (self.new.has_failed ≡ self.old.has_failed) }
+        ensures shut { OnErr result (IsShut self.new) }
     {
         for _ in rt.forever() {
             if self.held.len() - self.given > LINE_LIMIT {
@@ -228,16 +264,25 @@ impl<R: Source> LineReader<R> {
         unreachable!()
     }
 
-    /// The next line that comes. Bytes behind the last end of a line are a line too. Nothing is read where a line is at
-    /// hand.
-    pub fn next<W: Wait>(&mut self, rt: &W) -> Result<Next, InputFault>
+    /// The next line that comes. Bytes after the last end of a line are a line too.
+    ///
+    /// `Failed` if a read fails, and from then on, if no line is at hand, without another read. It takes no memory.
+    pub fn next<W: Wait>(&mut self, rt: &W) -> Result<Next, Failed>
         ensures next { IfOk result (λ next. GivesNext next self.old self.new) }
         ensures at_hand { HasLine self.old.held → self.new.pulls ≡ self.old.pulls }
-        ensures failed { result ≡ Err Read → self.new.has_failed ≡ true }
+        ensures once { IsOpen self.old.held
+            → IsReadOnce R.left R.has_failed R.pulls self.old self.new.pulls }
+        ensures failed { OnErr result (self.new.has_failed ≡ true) }
+        ensures unmarked { OnOk result (self.new.has_failed ≡ self.old.has_failed) }
+        ensures shut { OnErr result (IsShut self.new) }
+        ensures stays { IsShut self.old → IsErr result × (self.new ≡ self.old) }
     {
-        match self.find() {
-            Some(next) => Ok(next),
-            None => self.fetch(rt),
+        if let Some(held) = self.find() {
+            return Ok(held);
         }
+        if self.is_shut {
+            return Err(Failed);
+        }
+        self.fetch(rt)
     }
 }

@@ -1,11 +1,12 @@
 //! A desk with its seats, from its opening until all have left.
 
-ghost use Rattle.std.specs.Prelude.{◌≡◌, ◌≤◌, ◌<◌, ◌+◌, ℕ, [], Ok, length, map, IfErr, IfOk, OnOk, string_bytes};
+ghost use Rattle.std.specs.Prelude.{◌≡◌, ◌≤◌, ◌<◌, ◌+◌, ℕ, [], Err, Ok, is_some, length, map, IfErr, IfOk, IfSome, OnOk, string_bytes};
 ghost use Rattle.ctt_desk.specs.Names.{IsNamed};
 ghost use Rattle.ctt_desk.specs.Planners.{new_planners};
 ghost use Rattle.ctt_crew.specs.Attended.{IsCrewText};
 ghost use Rattle.ctt_office.specs.OfficeFaults.{IsOfficeFault, first_fault};
-ghost use Rattle.ctt_office.specs.declared.office_fault.OfficeFault.TheVariants.{NoMemory as OutOfMemory};
+ghost use Rattle.ctt_office.specs.Pages.{HasFailed, IsSound};
+ghost use Rattle.ctt_office.specs.declared.office_fault.OfficeFault.TheVariants.{NoMemory as OutOfMemory, NotWritten};
 
 use crate::book::Book;
 use crate::doors::Doors;
@@ -212,18 +213,29 @@ fn checked<J: Naming, W: Durable, R: Wait>(
     ended: Result<(), OfficeFault>,
 ) -> Result<(), OfficeFault>
     ensures well { OnOk result (ended ≡ Ok tt) }
+    ensures sound { OnOk result (IfSome book.entry (λ _. IsSound W.Sink.taken J.problem)) }
+    ensures first { IfErr ended (λ fault. result ≡ Err fault) }
+    ensures failed { OnOk ended (IfErr result (λ fault. (fault ≡ NotWritten)
+        × HasFailed W.Sink.taken W.Sink.has_failed J.problem)) }
     ensures fault { (seats : ℕ) → IfErr ended (IsOfficeFault seats)
         → IfErr result (IsOfficeFault seats) }
 {
     ended?;
     match book {
-        Some(book) if book.has_failed(rt) => Err(OfficeFault::NotWritten),
-        _ => Ok(()),
+        Some(book) => {
+            if book.has_failed(rt) {
+                return Err(OfficeFault::NotWritten);
+            }
+            Ok(())
+        }
+        None => Ok(()),
     }
 }
 
 /// A book on the writer, where one is given.
-fn book_on<W: Durable, J: Naming>(minutes: Option<W>) -> Option<Book<W, J>> {
+fn book_on<W: Durable, J: Naming>(minutes: Option<W>) -> Option<Book<W, J>>
+    ensures { is_some result ≡ is_some minutes }
+{
     match minutes {
         Some(writer) => Some(Book::new(writer)),
         None => None,
@@ -245,6 +257,7 @@ fn keep_named<'i, J: Naming + Send + Sync, D: Doors, W: Durable + Send, R: Threa
     requires problem { opened.problem ≡ instance.now }
     requires counted { length names.now ≡ count }
     ensures text { IfOk result (λ text. IsCrewText J.problem J.opening [] text.items) }
+    ensures sound { OnOk result (IfSome minutes (λ _. IsSound W.Sink.taken J.problem)) }
     ensures fault { IfErr result (IsOfficeFault (length names.now)) }
 {
     let named = Named {
@@ -276,6 +289,7 @@ pub fn keep_desk<'i, D: Doors, W: Durable + Send, R: Threads + Wait + Sync>(
     requires some { 1 ≤ length names.now }
     requires few { length names.now ≤ 64 }
     ensures text { IfOk result (λ text. IsCrewText instance.now opened.entry.list [] text.items) }
+    ensures sound { OnOk result (IfSome minutes (λ _. IsSound W.Sink.taken instance.now)) }
     ensures fault { IfErr result (IsOfficeFault (length names.now)) }
 {
     let count = names.len() as u16;

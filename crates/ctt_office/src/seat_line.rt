@@ -1,7 +1,7 @@
 //! What a line of a seat asks for.
 
 ghost use Rattle.std.specs.Prelude.{◌≡◌};
-ghost use Rattle.ctt_office.specs.SeatText.{LineFits, leaves, seat_line};
+ghost use Rattle.ctt_office.specs.SeatText.{LineFits, has_only, seat_line};
 
 use ctt_core::{Event, PlannerNo};
 use ctt_script::{has_words, is_word, read_own_line};
@@ -14,22 +14,24 @@ pub enum SeatLine {
     Blank,
     /// To leave.
     Leave,
+    /// The words with which a line may begin.
+    Help,
     /// A step of the planner, or a look.
     Step(Event),
     /// Nothing that is known.
     Bad,
 }
 
-/// Whether a line is the one with which a planner leaves.
-fn is_leave(line: &[u8]) -> bool
-    ensures { result ≡ leaves line.now }
+/// Whether a line has this word alone.
+fn has_only(known: &str, line: &[u8]) -> bool
+    ensures { result ≡ has_only known.now line.now }
 {
     let Ok(text) = str::from_utf8(line) else {
         return false;
     };
     let mut reader = Reader::new(text);
     match reader.word() {
-        Some(word) => reader.is_at_end() && is_word(word, "leave"),
+        Some(first) => reader.is_at_end() && is_word(first, known),
         None => false,
     }
 }
@@ -42,8 +44,11 @@ pub fn read_seat_line(instance: &Instance, planner: PlannerNo, line: &[u8]) -> S
     if !has_words(line) {
         return SeatLine::Blank;
     }
-    if is_leave(line) {
+    if has_only("leave", line) {
         return SeatLine::Leave;
+    }
+    if has_only("help", line) {
+        return SeatLine::Help;
     }
     match read_own_line(instance, planner, line) {
         Some(event) => SeatLine::Step(event),

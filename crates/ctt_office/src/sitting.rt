@@ -1,15 +1,16 @@
 //! A planner at a seat: his lines, each answered before the next one is read.
 
-ghost use Rattle.std.specs.Prelude.{◌≡◌, ◌≢◌, ◌⊎◌, ℕ, true, false, IfErr, IfOk, OnErr, OnOk};
+ghost use Rattle.std.specs.Prelude.{◌≡◌, ◌≢◌, ◌⊎◌, ℕ, true, false, Err, IfErr, IfOk, OnErr, OnOk};
 ghost use Rattle.std.specs.Io.KnownBytes.{Appends};
 ghost use Rattle.ctt_devices.specs.Output.{AppendsFront};
 ghost use Rattle.ctt_office.specs.Lines.{Gives, coming};
-ghost use Rattle.ctt_office.specs.Pages.{IsInMinutes};
-ghost use Rattle.ctt_office.specs.SeatAnswers.{IsAnswer, Tells};
+ghost use Rattle.ctt_crew.specs.Attended.{leaver};
+ghost use Rattle.ctt_office.specs.Pages.{HasFailed, IsInMinutes};
+ghost use Rattle.ctt_office.specs.SeatAnswers.{IsAnswer, IsUncommitted, Tells};
 ghost use Rattle.ctt_office.specs.SeatText.{LineFits, asked_by};
 ghost use Rattle.ctt_office.specs.Sittings.{EndsAt, IsBroken, IsCut, IsSat};
 ghost use Rattle.ctt_office.specs.declared.seat_line.SeatLine.TheVariants.{Leave};
-ghost use Rattle.ctt_office.specs.declared.sitting.Ending.TheVariants.{Broken};
+ghost use Rattle.ctt_office.specs.declared.sitting.Ending.TheVariants.{Broken, NoMemory};
 
 use crate::answering::answer;
 use crate::book::Book;
@@ -22,8 +23,8 @@ use ctt_board::{GridSheet, Sheet, Timetable};
 use ctt_core::PlannerNo;
 use ctt_crew::Seat;
 use ctt_desk::{Naming, Planner, SharedDesk};
-use ctt_devices::{Failed, InputFault, Sink, Source, put_whole};
-use ctt_text::{Instance, NoMemory, let_go};
+use ctt_devices::{Failed, Sink, Source, put_whole};
+use ctt_text::{Instance, let_go};
 use std::alloc::Global;
 use std::marker::PhantomData;
 use std::sync::Wait;
@@ -37,7 +38,7 @@ pub(crate) enum Ending {
     Ended,
     /// One of his devices failed.
     Broken,
-    /// No memory was left for a line or its answer.
+    /// No memory was left for an answer.
     NoMemory,
 }
 
@@ -82,8 +83,7 @@ fn next_line<I: Source, R: Wait>(
         Ok(Next::Line) => Ok(read_seat_line(instance, planner, lines.line())),
         Ok(Next::TooLong) => Ok(SeatLine::Bad),
         Ok(Next::End) => Err(Ending::Ended),
-        Err(InputFault::Read) => Err(Ending::Broken),
-        Err(InputFault::TooLong | InputFault::NoMemory) => Err(Ending::NoMemory),
+        Err(_) => Err(Ending::Broken),
     }
 }
 
@@ -103,11 +103,14 @@ fn serve<'i, S: Sheet<'i>, J: Naming, W: Durable, O: Sink, R: Wait>(
     requires fits { (p : ℕ) × LineFits instance.now p line.now }
     ensures told { OnOk result.1
         (Tells (IsAnswer book.entry (IsInMinutes W.Sink.taken W.kept J.problem)
-        instance.now J.opening line.now seat.entry result.0) (O.taken out.old) (O.taken out.new)) }
+        (HasFailed W.Sink.taken W.Sink.has_failed J.problem) instance.now J.opening line.now
+        seat.entry result.0) (O.taken out.old) (O.taken out.new)) }
     ensures cut { IfErr result.1
         (IsCut (IsAnswer book.entry (IsInMinutes W.Sink.taken W.kept J.problem)
-        instance.now J.opening line.now seat.entry result.0) (O.taken out.old) (O.taken out.new)) }
+        (HasFailed W.Sink.taken W.Sink.has_failed J.problem) instance.now J.opening line.now
+        seat.entry result.0) (O.taken out.old) (O.taken out.new)) }
     ensures broken { IfErr result.1 (IsBroken (O.has_failed out.new)) }
+    ensures unheard { result.1 ≡ Err NoMemory → IsUncommitted seat.entry result.0 }
 {
     let mut text = String::new(alloc);
     let (seat, written) = answer(rt, alloc, desk, instance, book, seat, *line, &mut text);
@@ -131,8 +134,8 @@ fn is_last(line: &SeatLine) -> bool
     }
 }
 
-/// Answers the lines of a planner at his seat until he leaves, or they end, or one of his devices fails. An open draft is
-/// then given up.
+/// Answers the lines of a planner at his seat until he leaves, or they end, or one of his devices fails, or memory is
+/// wanted for an answer. He then leaves his seat, and an open draft is given up.
 #[tactic(auto, using(crate::proofs::SittingLemmas::read_failed, crate::proofs::SittingLemmas::write_failed))]
 fn sit<'i, S: Sheet<'i>, J: Naming, W: Durable, I: Source, O: Sink, R: Wait>(
     rt: &R,
@@ -144,23 +147,22 @@ fn sit<'i, S: Sheet<'i>, J: Naming, W: Durable, I: Source, O: Sink, R: Wait>(
     seat: Seat<'i, S, J>,
     lines: &mut LineReader<I>,
     out: &mut O,
-) -> Ending
+) -> (Planner<S, J>, Ending)
     requires { J.problem ≡ instance.now }
     ensures sat { IsSat (asked_by instance.now number)
-        (IsAnswer book.entry (IsInMinutes W.Sink.taken W.kept J.problem) instance.now
-        J.opening)
-        seat.entry (coming lines.old) (O.taken out.old) (O.taken out.new) result }
-    ensures broken { result ≡ Broken
+        (IsAnswer book.entry (IsInMinutes W.Sink.taken W.kept J.problem)
+        (HasFailed W.Sink.taken W.Sink.has_failed J.problem) instance.now J.opening)
+        (λ after. result.0 ≡ leaver after)
+        (λ after. result.0.committed ≡ (leaver after).committed)
+        seat.entry (coming lines.old) (O.taken out.old) (O.taken out.new) result.1 }
+    ensures broken { result.1 ≡ Broken
         → (lines.new.has_failed ≡ true) ⊎ (O.has_failed out.new ≡ true) }
 {
     let mut seat = seat;
     for _ in rt.forever() {
         let line = match next_line(rt, instance, number, lines) {
             Ok(line) => line,
-            Err(why) => {
-                let_go(seat);
-                return why;
-            }
+            Err(end) => return (seat.leave(), end),
         };
         let is_last = is_last(&line);
         let (next, served) = serve(rt, alloc, desk, instance, book, seat, &line, out);
@@ -168,14 +170,10 @@ fn sit<'i, S: Sheet<'i>, J: Naming, W: Durable, I: Source, O: Sink, R: Wait>(
         match served {
             Ok(()) => {
                 if is_last {
-                    let_go(seat);
-                    return Ending::Left;
+                    return (seat.leave(), Ending::Left);
                 }
             }
-            Err(why) => {
-                let_go(seat);
-                return why;
-            }
+            Err(cut) => return (seat.leave(), cut),
         }
     }
     unreachable!()
@@ -205,11 +203,17 @@ fn open_and_sit<'i, 'x, S: Sheet<'i>, J: Naming, D: Doors, W: Durable, R: Wait>(
         let_go(planner);
         return Err(SeatFault::CannotWrite);
     };
-    let mut lines = LineReader::new(alloc, input);
+    let Ok(mut lines) = LineReader::new(alloc, input) else {
+        let_go(out);
+        let_go(planner);
+        return Err(SeatFault::NoMemory);
+    };
     let seat = Seat::Free(planner);
-    match sit(
+    let (planner, ending) = sit(
         rt, alloc, desk, instance, book, number, seat, &mut lines, &mut out,
-    ) {
+    );
+    let_go(planner);
+    match ending {
         Ending::Left | Ending::Ended | Ending::Broken => Ok(()),
         Ending::NoMemory => Err(SeatFault::NoMemory),
     }

@@ -252,7 +252,11 @@ fn write_look(text: &mut String, instance: &Instance, look: &Look) -> Result<(),
 }
 
 /// Adds the line of a call.
-pub(crate) fn write_call(text: &mut String, instance: &Instance, call: &Call) -> Result<(), AllocError>
+pub(crate) fn write_call(
+    text: &mut String,
+    instance: &Instance,
+    call: &Call,
+) -> Result<(), AllocError>
     requires { CallFits instance.now call.now }
     ensures { OnOk result (string_bytes text.new
         ≡ string_bytes text.old ++ line (call_words instance.now call.now)) }

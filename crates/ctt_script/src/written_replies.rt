@@ -13,9 +13,7 @@ use crate::gathered::add_lecture;
 use crate::written_calls::{push_edit, write_named};
 use ctt_edits::{EditFault, PricedEdit, Reply, Shortfall};
 use ctt_rules::Cost;
-use ctt_text::{
-    Gathered, Instance, Placed, end_with_count, end_with_word, push_count, push_word,
-};
+use ctt_text::{Gathered, Instance, Placed, end_with_count, end_with_word, push_count, push_word};
 use itoa::Buffer;
 use std::alloc::AllocError;
 

@@ -120,6 +120,7 @@ fn tells<J: Naming>(
             story.tells(small, Answer::Committed(number))
         }
         Err(Told::Answer(answer)) => story.tells(small, answer),
+        Err(Told::Stale(row, _)) => story.tells(small, Answer::Stale(row)),
         Err(Told::NoPlace) => false,
         Err(Told::NotYours(count)) => {
             story.count("not yours", count);

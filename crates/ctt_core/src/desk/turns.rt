@@ -65,12 +65,13 @@ impl<'i, S: Sheet<'i>> Desk<'i, S> {
         ensures goes_on { self.new ≡ goes_on self.old (Peek planner look.now) result }
     {
         let place = planner.get() as usize;
-        match &self.drafts[place] {
-            None => Answer::NoDraft,
-            Some(drafting) => match drafting.draft.peek(look) {
-                Ok(told) => Answer::Replied(told),
-                Err(_) => Answer::NoMemory,
-            },
+        let told = match &self.drafts[place] {
+            None => return Answer::NoDraft,
+            Some(drafting) => drafting.draft.peek(look),
+        };
+        match told {
+            Ok(told) => Answer::Replied(told),
+            Err(_) => Answer::NoMemory,
         }
     }
 

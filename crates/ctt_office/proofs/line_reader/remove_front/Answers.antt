@@ -4,8 +4,8 @@ use Rattle.std.proofs.lemmas.List.{with_items_is, places}
 use Rattle.std.proofs.lemmas.List.Edits.{take-paste}
 use Rattle.ctt_office.proofs.line_reader.remove_front.Goals as goal
 
-pub returns : goal.returns
-returns c =
+pub returns-clause-items : goal.returns-clause-items
+returns-clause-items c =
     let all = c.as_mut_slice.result.now in
     let left = c.len-len.result - c.args.n in
     let long : length all ≡ c.len-len.result = search rules in

@@ -18,7 +18,7 @@ told_fits i t look (Err e) is fits = tt
 
 pub peek-requires : goal.peek-requires
 peek-requires g c κs =
-    let fits : LookFits c.self.inside.draft.value.problem c.args.look.now = subst (λ i. LookFits i c.args.look.now) (sym c.self.invariant.0) c.requires in
+    let fits : LookFits c.self.inside.draft.problem c.args.look.now = subst (λ i. LookFits i c.args.look.now) (sym c.self.invariant.0) c.requires in
     search rules
 
 pub returns-clause-fits : goal.returns-clause-fits
