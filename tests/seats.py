@@ -60,7 +60,7 @@ IDLE, LAST = SEATS[2:]
 WANTS = (b"no memory\n", b"no place\n")
 # what a seat answers to `help`
 HELP = b"words abandon cheapest commit cost course coursecost curriculum drop help leave missing move open \
-peek place price refresh reroom show slot swap teacher\n"
+peek place price refresh reroom show slot status swap teacher\n"
 # the sizes in bytes of a word of the command line as `owned_words` and as `serve` collect it, and
 # of a draft's call; a list has room for 4 at least
 WORD_SIZES, CALL_SIZE, LEAST = (24, 16), 56, 4

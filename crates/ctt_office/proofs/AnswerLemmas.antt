@@ -6,7 +6,7 @@ use Rattle.ctt_text.specs.Problem.{Problem}
 use Rattle.ctt_text.specs.declared.placed.Placed.{Placed}
 use Rattle.ctt_edits.specs.declared.looks.Look.{Look}
 use Rattle.ctt_core.specs.declared.event.Event.{Event}
-use Rattle.ctt_core.specs.declared.event.Event.TheVariants.{Abandon, Ask, Commit, Open, Peek, Refresh, Show}
+use Rattle.ctt_core.specs.declared.event.Event.TheVariants.{Abandon, Ask, Commit, Open, Peek, Refresh, Show, Status}
 use Rattle.ctt_core.specs.declared.journal.JournalEntry.{JournalEntry}
 use Rattle.ctt_desk.specs.Histories.{entry_of}
 use Rattle.ctt_crew.specs.Seats.{Commits, Takes, open_entry}
@@ -36,6 +36,7 @@ module _ {X Y : Type 0} (i : Problem) (t0 : List Placed) where
   no_commit book IsKept Failed (Open p) before after answer other is = is
   no_commit book IsKept Failed (Ask p call) before after answer other is = is
   no_commit book IsKept Failed (Peek p look) before after answer other is = is
+  no_commit book IsKept Failed (Status p) before after answer other is = is
   no_commit book IsKept Failed (Commit p) before after answer other is = absurd (other p refl)
   no_commit book IsKept Failed (Refresh p) before after answer other is = is
   no_commit book IsKept Failed (Abandon p) before after answer other is = is
@@ -46,6 +47,7 @@ module _ {X Y : Type 0} (i : Problem) (t0 : List Placed) where
   no_show (Open p) before after told other is = is
   no_show (Ask p call) before after told other is = is
   no_show (Peek p look) before after told other is = is
+  no_show (Status p) before after told other is = is
   no_show (Commit p) before after told other is = is
   no_show (Refresh p) before after told other is = is
   no_show (Abandon p) before after told other is = is

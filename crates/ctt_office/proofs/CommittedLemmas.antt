@@ -5,7 +5,7 @@ use Rattle.ctt_text.specs.declared.placed.Placed.{Placed}
 use Rattle.ctt_edits.specs.declared.call.Call.{Call}
 use Rattle.ctt_edits.specs.declared.looks.Look.{Look}
 use Rattle.ctt_core.specs.declared.event.Event.{Event}
-use Rattle.ctt_core.specs.declared.event.Event.TheVariants.{Abandon, Ask, Commit, Open, Peek, Refresh, Show}
+use Rattle.ctt_core.specs.declared.event.Event.TheVariants.{Abandon, Ask, Commit, Open, Peek, Refresh, Show, Status}
 use Rattle.ctt_core.specs.declared.journal.JournalEntry.{JournalEntry}
 use Rattle.ctt_desk.specs.Planners.{DraftingValue, PlannerValue}
 use Rattle.ctt_desk.specs.Refusals.{IsNotRefreshed, IsRefused, IsUnread}
@@ -16,7 +16,7 @@ use Rattle.ctt_desk.specs.declared.refusal.RefreshRefusal.TheVariants as unrefre
 use Rattle.ctt_desk.specs.declared.shared_fault.SharedFault.{SharedFault}
 use Rattle.ctt_desk.specs.declared.shared_fault.SharedFault.TheVariants as shared
 use Rattle.ctt_crew.specs.Attended.{leaver}
-use Rattle.ctt_crew.specs.Seats.{Abandons, Asks, Commits, IsLooked, Opens, Refreshes, Views, seat_refused, seat_unrefreshed}
+use Rattle.ctt_crew.specs.Seats.{Abandons, Asks, Commits, IsLooked, Opens, Refreshes, States, Views, seat_refused, seat_unrefreshed}
 use Rattle.ctt_crew.specs.declared.seat.Seat.{Seat}
 use Rattle.ctt_crew.specs.declared.seat.Seat.TheVariants.{Drafting, Free}
 use Rattle.ctt_crew.specs.declared.seat.Told.{Told}
@@ -80,11 +80,18 @@ module _ {X Y : Type 0} (i : Problem) (t0 : List Placed) where
   views look (Drafting d) (Free q) told is = absurd is
   views look (Drafting d) (Drafting e) told is = looks i t0 look d.planner e.planner told is.1
 
+  states : (before after : Seat X Y) (told : Told) → States i t0 before after told → IsUncommitted before after
+  states (Free p) after told is = as_before (Free p) after is.0
+  states (Drafting d) (Drafting e) told (same, inl is) = is.1.planner.committed
+  states (Drafting d) (Drafting e) told (same, inr is) = unread i t0 d.planner e.planner is.0 is.1
+  states (Drafting d) (Free q) told is = absurd is
+
   -- a step that is no commit
   pub does_uncommitted : (event : Event) (before after : Seat X Y) (told : Told) → ((p : ℕ) → event ≢ Commit p) → Does i t0 event before after told → IsUncommitted before after
   does_uncommitted (Open p) before after told other is = opens before after told is
   does_uncommitted (Ask p call) before after told other is = asks call before after told is
   does_uncommitted (Peek p look) before after told other is = as_before before after is.0
+  does_uncommitted (Status p) before after told other is = states before after told is
   does_uncommitted (Commit p) before after told other is = absurd (other p refl)
   does_uncommitted (Refresh p) before after told other is = refreshes before after told is
   does_uncommitted (Abandon p) before after told other is = abandons before after told is

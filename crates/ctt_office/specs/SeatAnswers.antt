@@ -6,7 +6,7 @@ use Rattle.ctt_text.specs.Problem.{Problem}
 use Rattle.ctt_text.specs.declared.placed.Placed.{Placed}
 use Rattle.ctt_core.specs.declared.answer.Answer.TheVariants.{NoMemory}
 use Rattle.ctt_core.specs.declared.event.Event.{Event}
-use Rattle.ctt_core.specs.declared.event.Event.TheVariants.{Abandon, Ask, Commit, Open, Peek, Refresh, Show}
+use Rattle.ctt_core.specs.declared.event.Event.TheVariants.{Abandon, Ask, Commit, Open, Peek, Refresh, Show, Status}
 use Rattle.ctt_core.specs.declared.journal.JournalEntry.{JournalEntry}
 use Rattle.ctt_script.specs.AnswerText.{bad_line}
 use Rattle.ctt_crew.specs.Attended.{leaver}
@@ -34,7 +34,7 @@ committed_line number = line (codes "committed" ∷ decimal number ∷ [])
 -- the words with which a line may begin
 abbrev pub help_words : List (List ℕ)
 help_words = codes "abandon" ∷ codes "cheapest" ∷ codes "commit" ∷ codes "cost" ∷ codes "course" ∷ codes "coursecost" ∷ codes "curriculum" ∷ codes "drop" ∷ codes "help" ∷ codes "leave" ∷ codes "missing" ∷ codes "move" ∷ codes "open"
-    ∷ codes "peek" ∷ codes "place" ∷ codes "price" ∷ codes "refresh" ∷ codes "reroom" ∷ codes "show" ∷ codes "slot" ∷ codes "swap" ∷ codes "teacher" ∷ []
+    ∷ codes "peek" ∷ codes "place" ∷ codes "price" ∷ codes "refresh" ∷ codes "reroom" ∷ codes "show" ∷ codes "slot" ∷ codes "status" ∷ codes "swap" ∷ codes "teacher" ∷ []
 
 abbrev pub help_line : List ℕ
 help_line = line (codes "words" ∷ help_words)
@@ -68,6 +68,7 @@ abbrev pub Does : {X Y : Type 0} → Problem → List Placed → Event → Seat 
 Does i t0 (Open p) before after told = Takes i t0 (Open p) before after told
 Does i t0 (Ask p call) before after told = Takes i t0 (Ask p call) before after told
 Does i t0 (Peek p look) before after told = Takes i t0 (Peek p look) before after told
+Does i t0 (Status p) before after told = Takes i t0 (Status p) before after told
 Does i t0 (Commit p) before after told = Takes i t0 (Commit p) before after told
 Does i t0 (Refresh p) before after told = Takes i t0 (Refresh p) before after told
 Does i t0 (Abandon p) before after told = Takes i t0 (Abandon p) before after told
@@ -87,6 +88,7 @@ abbrev pub IsStepAnswer : {B X Y : Type 0} → Option B → (List JournalEntry �
 IsStepAnswer book IsKept Failed i t0 (Open p) before after answer = IsToldAnswer i t0 (Open p) before after answer
 IsStepAnswer book IsKept Failed i t0 (Ask p call) before after answer = IsToldAnswer i t0 (Ask p call) before after answer
 IsStepAnswer book IsKept Failed i t0 (Peek p look) before after answer = IsToldAnswer i t0 (Peek p look) before after answer
+IsStepAnswer book IsKept Failed i t0 (Status p) before after answer = IsToldAnswer i t0 (Status p) before after answer
 IsStepAnswer book IsKept Failed i t0 (Commit p) before after answer = IsAnsweredBy book IsKept Failed i t0 before after answer
 IsStepAnswer book IsKept Failed i t0 (Refresh p) before after answer = IsToldAnswer i t0 (Refresh p) before after answer
 IsStepAnswer book IsKept Failed i t0 (Abandon p) before after answer = IsToldAnswer i t0 (Abandon p) before after answer

@@ -28,7 +28,7 @@ use std::sync::Wait;
 /// The line of the words with which a line may begin.
 const HELP: &str =
     "words abandon cheapest commit cost course coursecost curriculum drop help leave \
-    missing move open peek place price refresh reroom show slot swap teacher\n";
+    missing move open peek place price refresh reroom show slot status swap teacher\n";
 
 /// How much room is made for the line of an accepted draft.
 const COMMITTED: usize = 64;
