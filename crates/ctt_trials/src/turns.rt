@@ -9,7 +9,7 @@ use ctt_core::{Answer, Event, PlannerNo};
 use ctt_crew::{Seat, Told};
 use ctt_desk::{Naming, Planner, Receipt, SharedDesk};
 use ctt_script::{Lines, read_own_line};
-use ctt_text::Instance;
+use ctt_text::{Instance, let_go};
 use std::sync::Wait;
 
 /// A desk with its instance.
@@ -120,7 +120,10 @@ fn tells<J: Naming>(
             story.tells(small, Answer::Committed(number))
         }
         Err(Told::Answer(answer)) => story.tells(small, answer),
-        Err(Told::Stale(row, _)) => story.tells(small, Answer::Stale(row)),
+        Err(Told::Stale(row, asked)) => {
+            let_go(asked);
+            story.tells(small, Answer::Stale(row))
+        }
         Err(Told::NoPlace) => false,
         Err(Told::NotYours(count)) => {
             story.count("not yours", count);
