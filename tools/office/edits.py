@@ -74,22 +74,6 @@ def read_prices(answer: str) -> Optional[list[tuple[int, str]]]:
     return found
 
 
-def inverse(edit: str, room: str) -> str:
-    """The edit that takes another one back, given the room that its lecture had before."""
-    words = words_of(edit)
-    kind = words[0]
-    if kind == "place":
-        return " ".join(["drop", words[1], *words[3:5]])
-    if kind == "drop":
-        return " ".join(["place", words[1], room, *words[2:4]])
-    if kind == "reroom":
-        return " ".join(["reroom", words[1], room, *words[3:5]])
-    if kind == "swap":
-        # after it the first course stands in the slot of the second one, and the other way round
-        return " ".join(["swap", words[1], *words[5:7], words[4], *words[2:4]])
-    return " ".join(["move", words[1], *words[5:7], room, *words[2:4]])
-
-
 @dataclass
 class Story:
     """What is known of a seat by the lines that were typed at it and their answers."""
