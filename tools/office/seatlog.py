@@ -10,6 +10,7 @@ from __future__ import annotations
 
 import os
 from dataclasses import dataclass, field
+from typing import Optional
 
 from office.edits import Story, is_edit
 from office.folder import read_text
@@ -73,6 +74,8 @@ class SeatPast:
     commits: dict[int, tuple[str, str]] = field(default_factory=dict)
     # the answer that was given when the unfinished edits of an earlier day were offered
     offer: str = ""
+    # what the timetable cost at the base of the open draft
+    base: Optional[int] = None
 
     def take(self, line: str) -> None:
         """Takes up a line of the log."""
@@ -98,6 +101,8 @@ class SeatPast:
             self.name = rest
         elif word == "offer":
             self.offer = rest
+        elif word == "base":
+            self.base = int(rest)
         elif word == "unsent" and self.waiting:
             # the last lines were never sent: their client died before
             del self.waiting[-int(rest):]
