@@ -1,4 +1,5 @@
 """Offices for the tests: each in a folder of its own, with the program that is tested. PROGRAM names another one."""
+import contextlib
 import os
 import shutil
 import signal
@@ -17,6 +18,9 @@ SMALL = os.path.join(HERE, "examples/small.ctt")
 SMALL_SOL = os.path.join(HERE, "examples/s.sol")
 COMP07 = os.path.join(HERE, "examples/comp07.ctt")
 COMP07_SOL = os.path.join(HERE, "examples/comp07.sol")
+# a desk that answers as issue 55 says; PLANNING names another program that does
+PLANNING = os.path.abspath(os.environ.get("PLANNING", os.path.join(HERE, "tests/client/fake_desk.py")))
+os.environ["PROGRAM"] = PROGRAM
 # what takes longer hangs
 PATIENCE = 60
 
@@ -105,6 +109,35 @@ class OfficeTest(unittest.TestCase):
         status, printed, said = self.office("sit", self.path(day), str(planner), *words, text=text)
         self.assertEqual((status, said), (0, ""))
         return printed.split("\n")[:-1]
+
+    def seat(self, day, planner, name="anna"):
+        """A seat of an open office, in this process."""
+        from office.folder import Day
+        from office.seat import Seat
+
+        seat = Seat(Day(self.path(day)), planner, name)
+        self.addCleanup(self.leave, seat)
+        return seat
+
+    @staticmethod
+    def leave(seat):
+        """Goes away from a seat, if one sits there still."""
+        with contextlib.suppress(OSError):
+            seat.go()
+
+    def planning(self, day, planner, name="anna"):
+        """A planner who has sat down."""
+        from office.planning import Planning
+
+        planning = Planning(self.seat(day, planner, name))
+        planning.begin()
+        return planning
+
+    def listed(self, day):
+        """The lectures that the program prints for what a day has left."""
+        self.assertEqual(self.office("close", self.path(day), "--wait", "0")[0], 0)
+        with open(self.path(f"{day}/end.sol"), "rb") as file:
+            return file.read().decode()
 
     def desk_of(self, day):
         """The number of the desk's process."""

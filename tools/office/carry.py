@@ -5,7 +5,7 @@ from typing import Dict, List, NamedTuple, Optional, Tuple
 
 from office.edits import read_prices
 from office.planning import Planning
-from office.reasons import move_reason, swap_reason
+from office.reasons import move_reason, short_reason, swap_reason
 from office.text import signed
 from office.timetable import Lecture, Slot
 from office.words import words_of
@@ -106,13 +106,16 @@ class Carry:
         return bool(self.lecture and offer and slot == self.slot and offer.about == self.lecture.room)
 
     def price_text(self, slot: Slot) -> str:
-        """The cell's line for a slot: the price and the room or partner, or a sign that it cannot be."""
+        """The cell's line for a slot: the price and the room or partner, or why it cannot be."""
         if slot in self.offers and self.offers[slot]:
             offer = self.offers[slot][0]
             return f"{signed(offer.price)} {offer.about}"
-        if self.is_whole:
-            return "-"
-        return "?" if self.kind != SWAP else "- ?"
+        if not self.is_whole:
+            return "?"
+        if self.kind == SWAP:
+            return "no swap"
+        timetable = self.planning.known.present()
+        return short_reason(timetable, self.course, self.slot, slot)
 
     def reason(self, slot: Slot) -> str:
         """Why nothing is offered at a slot."""

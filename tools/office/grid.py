@@ -136,10 +136,8 @@ def cell_lines(view: View, cell: Cell, slot: Slot, cursor: Slot, carry: Optional
     name = name_in_cell(view, cell)
     style = "mine" if cell.is_mine else "others" if cell.is_others else ""
     if carry is not None:
-        below = carry.price_text(slot) if not (cell.is_closed and slot not in carry.offers) else "closed"
-        below_style = "dim" if below[0] in "-c?" else "good" if below.startswith("-") else "points"
-        if slot in carry.offers and carry.offers[slot]:
-            below_style = "good" if carry.offers[slot][0].price < 0 else "points"
+        below, offers = carry.price_text(slot), carry.offers.get(slot)
+        below_style = "dim" if not offers else "good" if offers[0].price < 0 else "points"
     else:
         below = cell.signs or ("closed" if cell.is_closed else "" if name else ".")
         below_style = "points" if cell.signs else "dim"

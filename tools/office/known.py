@@ -3,7 +3,7 @@ from __future__ import annotations
 
 from typing import Iterable, List, Optional, Tuple
 
-from office.edits import LENGTHS, Redone
+from office.edits import LENGTHS, WANTS, Redone
 from office.instance import Instance
 from office.timetable import Timetable, read_lectures
 from office.words import words_of
@@ -38,6 +38,9 @@ class Known:
     def hear(self, line: str, answer: str) -> bool:
         """Takes up a line with its answer, and answers whether it is the one that was expected, as far as one was."""
         kind, *rest = words_of(line)
+        if answer in WANTS or answer.startswith("bad line"):
+            # nothing has changed by it
+            return True
         if kind in LENGTHS:
             return self._hear_edit(line, answer)
         if kind == "undo":

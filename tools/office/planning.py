@@ -182,6 +182,9 @@ class Planning:
             self.notice = "No draft is open: nothing to commit."
             return
         count = len(self.edits())
+        if not count:
+            self.notice = "Your draft has no edits: nothing to commit."
+            return
         answer = self.turn("commit")
         if answer.startswith("committed "):
             self.notice = f"Committed as draft {answer[10:]}: {counted(count, 'edit')}, on the disk."

@@ -61,6 +61,19 @@ def move_reason(timetable: Timetable, course: str, old: Optional[Slot], slot: Sl
     return "; ".join(faults) if len(faults) < 3 else "each room is taken or barred then"
 
 
+def short_reason(timetable: Timetable, course: str, old: Optional[Slot], slot: Slot) -> str:
+    """The same in two words, for a cell of which it is known that no room serves."""
+    room = next(iter(timetable.instance.rooms), "")
+    left = timetable.take(course, old) if old else None
+    fault = timetable.placing_fault(course, slot, room) or ""
+    if old and left is not None:
+        timetable.put(course, old, left)
+    kind, *other = words_of(fault) or [""]
+    if kind == "clash":
+        return f"clash {other[0]}"
+    return {"unavailable": "closed", "already": "has one", "full": "full"}.get(kind, "no room")
+
+
 def swap_reason(timetable: Timetable, course: str, old: Slot, slot: Slot) -> Optional[str]:
     """Why a lecture cannot be swapped with one in another slot; None if it can."""
     first = None

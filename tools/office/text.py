@@ -40,16 +40,19 @@ def fit(text: str, columns: int) -> str:
 
 
 def wrap(text: str, columns: int) -> list[str]:
-    """A text in lines of so many columns, parted at blanks; a word that is too long is cut."""
+    """A text in lines of so many columns, parted at blanks; a word that is too long is cut. Each line begins as far to the right as
+    the text does."""
+    indent = " " * min(len(text) - len(text.lstrip(" ")), columns // 2)
+    room = columns - len(indent)
     lines, line = [], ""
-    for word in text.split(" "):
+    for word in text.strip(" ").split(" "):
         longer = f"{line} {word}" if line else word
-        if line and width(longer) > columns:
+        if line and width(longer) > room:
             lines.append(line)
             line = word
         else:
             line = longer
-    return [cut(each, columns) for each in [*lines, line]]
+    return [indent + cut(each, room) for each in [*lines, line]]
 
 
 def counted(number: int, word: str) -> str:
