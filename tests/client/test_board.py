@@ -12,6 +12,7 @@ from drawn import draw_instance, draw_solution  # noqa: E402
 from rules import Instance as Plain  # noqa: E402
 
 from office.board import Board  # noqa: E402
+from office.grid import View  # noqa: E402
 from office.instance import read_instance  # noqa: E402
 from office.text import cut, fit, shown, width, wrap  # noqa: E402
 from office.timetable import Timetable  # noqa: E402
@@ -111,6 +112,7 @@ class Shown(OfficeTest):
             widths = [sum(width(text) for text, _ in row) for row in board.rows(24, 80)]
             self.assertEqual(len(set(widths[4:10])), 1)
             self.assertLessEqual(max(widths), 80)
+        board.show_view(View("curriculum", "一年"))
         self.assertIn("数学の時間", text_of(board))
         self.assertEqual(board.planning.missing(), {})
 

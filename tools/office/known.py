@@ -62,8 +62,11 @@ class Known:
         return answer == ("done" if fault is None else f"refused {fault}")
 
     def _hear_undo(self, answer: str) -> bool:
+        if answer == "no draft":
+            return self.draft is None
         if not answer.startswith("done "):
-            return not self.made or answer.startswith("refused ")
+            # all may have been taken back, or somebody stands in the way
+            return True
         return self._hear_edit(answer[5:], "done")
 
     def _hear_look(self, timetable: Optional[Timetable], look: str, answer: str) -> bool:
