@@ -78,6 +78,7 @@ class FakeDesk:
         self.costs = Costs(instance)
         self.newest = Timetable(instance, start)
         self.count = 0
+        self.is_full = False
         self.drafts, self.ended = [None] * planners, [None] * planners
 
     def answer(self, planner, line):
@@ -227,17 +228,23 @@ class FakeDesk:
     def commit(self, planner, draft):
         if not draft:
             return "no draft"
+        if self.is_full:
+            return "not written"
         self.drafts[planner] = None
         row = self.stale(draft)
         if row:
             self.ended[planner] = draft.edits()
             return f"stale {row}"
+        calls = "".join(f"{call}\n{answer}\n" for call, answer in draft.calls)
+        try:
+            with open(self.minutes, "a") as file:
+                file.write(f"entry {planner} {len(draft.calls)}\n{calls}")
+        except OSError:
+            self.is_full = True
+            return "not written"
         for edit in draft.edits():
             self.newest.make(edit)
         self.count += 1
-        calls = "".join(f"{call}\n{answer}\n" for call, answer in draft.calls)
-        with open(self.minutes, "a") as file:
-            file.write(f"entry {planner} {len(draft.calls)}\n{calls}")
         return f"committed {self.count}"
 
     def refresh(self, planner, draft):

@@ -168,6 +168,12 @@ class Story:
         if answer.startswith("stale "):
             self._end(keeps=True)
 
+    def _status(self, answer: str) -> None:
+        if answer.startswith("draft "):
+            self._is_open_after_all()
+        elif answer == "no draft":
+            self._end(keeps=True)
+
     def _abandon(self, answer: str) -> None:
         if answer == "abandoned":
             self._end(keeps=False)
@@ -184,4 +190,5 @@ TURNS = {
     "refresh": Story._refresh,
     "abandon": Story._abandon,
     "leave": Story._leave,
+    "status": Story._status,
 }

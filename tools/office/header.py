@@ -19,8 +19,6 @@ def draft_text(planning: Planning) -> str:
         saved = planning.base_total - sum(planning.costs().values())
         parts.append(f"saves {saved}" if saved >= 0 else f"costs {-saved} more")
     parts.append(f"{planning.behind()} accepted since")
-    if planning.behind() and planning.foretold:
-        parts.append(f"stale: {planning.foretold}")
     return ", ".join(parts)
 
 
@@ -31,17 +29,30 @@ def cost_text(planning: Planning) -> str:
     return f"cost {sum(costs.values())}: {parts}; missing {sum(missing.values())}"
 
 
+def missing_text(planning: Planning, view: View) -> str:
+    """How many lectures are missing in a week."""
+    instance = planning.instance
+    courses = {
+        "curriculum": instance.curricula.get(view.name, []),
+        "teacher": instance.teachers.get(view.name, []),
+        "course": [view.name],
+    }.get(view.kind, [])
+    missing = planning.missing()
+    count = sum(missing.get(course, 0) for course in courses)
+    return f": {counted(count, 'lecture')} missing" if count else ""
+
+
 def head_rows(planning: Planning, carry: Optional[Carry], view: View, width: int) -> List[Row]:
     seat = planning.seat
     who = f" seat {seat.planner} {shown(seat.name)}: {draft_text(planning)}"
-    title = f" week of {shown(view.title())}"
+    title = f" week of {shown(view.title())}{missing_text(planning, view)}"
     if carry is not None:
         title = f" {shown(carry.course)} is picked up{' to swap' if carry.kind == SWAP else ''}; {title.strip()}"
-    return [
-        [(fit(who, width), "head")],
-        [(fit(f" {cost_text(planning)}", width), "head")],
-        [(fit(title, width), "title")],
-    ]
+    last: Row = [(fit(title, width), "title")]
+    if planning.is_open and planning.foretold:
+        told = f"stale by now: {shown(planning.foretold)} has changed; c says who "
+        last = [(fit(title, max(0, width - len(told))), "title"), (told, "bad")]
+    return [[(fit(who, width), "head")], [(fit(f" {cost_text(planning)}", width), "head")], last]
 
 
 def course_text(planning: Planning, name: str) -> str:

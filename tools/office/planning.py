@@ -209,8 +209,8 @@ class Planning:
             self.stale_row = answer[6:]
             self.notice = f"Stale: {self.stale_row} has changed. Your edits are kept: r makes them again."
         elif answer == "not written":
+            self.read_again()
             self.notice = "Not written: the disk is full, or fails. Your edits are in the log; tell the office."
-            self.read_anew()
         else:
             self.notice = answer_in_words(answer)
 
@@ -266,7 +266,11 @@ class Planning:
                 return
 
     def read_anew(self) -> None:
-        """Reads everything anew, as the desk has it."""
+        """Reads everything anew, as the desk has it, and says so."""
+        self.read_again()
+        self.alarm = DIFFERS
+
+    def read_again(self) -> None:
         self._told.clear()
         self.read_newest()
         if self.seat.ask("status") == "no draft":
@@ -275,7 +279,6 @@ class Planning:
         else:
             self.known.draft = self.read_all("peek")
             self.known.base = self.known.base or self.known.draft.copy()
-        self.alarm = DIFFERS
 
     def tick(self) -> bool:
         """Looks whether others were accepted, and what a commit would be told by now; answers whether there is news."""

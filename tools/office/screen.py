@@ -50,7 +50,11 @@ def styles() -> Dict[str, int]:
 
 
 class Gone(Exception):
-    """The terminal is gone, or the planner is sent away."""
+    """The terminal is gone."""
+
+
+class Closed(Exception):
+    """The office has closed."""
 
 
 class Screen:
@@ -95,8 +99,6 @@ class Screen:
         board, seat = self.board, self.board.planning.seat
         key = self.key()
         if key == "resize":
-            with contextlib.suppress(curses.error):
-                curses.resize_term(*os.get_terminal_size())
             self.window.clear()
         elif key:
             board.press(key)
@@ -109,7 +111,7 @@ class Screen:
             board.tick()
             at = seat.day.closes_at()
             if at is not None and time.time() > at and not board.is_dead:
-                raise Gone
+                raise Closed
 
     def go_on(self) -> None:
         """Paints, and takes keys, until the planner leaves."""
@@ -143,6 +145,8 @@ def sit_at_screen(day: Day, planner: int, name: Optional[str]) -> int:
         curses.wrapper(show_board, board)
     except (Gone, KeyboardInterrupt):
         said.append("you went away")
+    except Closed:
+        said.append("the office has closed")
     except (DeskEnded, NoAnswer):
         said.append("the desk has ended; what was told as committed is on the disk, and open edits are offered again")
         return 3
