@@ -99,6 +99,8 @@ class Board:
     def press(self, key: str) -> None:
         """Does what a key means."""
         self.planning.alarm = ""
+        if self.carry is None and self.overlay is None:
+            self.planning.notice = ""
         if self.overlay is not None:
             front = self.overlay
             if front.press(key) and self.overlay is front:
