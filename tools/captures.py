@@ -1,8 +1,10 @@
 #!/usr/bin/env python3
-"""Plays a day in an office, and puts what its planners see into docs/OFFICE.md and README.md, in place of what stands there.
+"""Plays a day in an office, and puts what its planners see into docs/OFFICE.md and README.md, in
+place of what stands there.
 
-With `--check` nothing is written: the pictures that are others now are named, and the status is 1 if there are any. A picture is the
-block behind a line `<!-- picture: NAME -->`. Times are those of a day that was made up. TIMEDESK names the program for the desk.
+With `--check` nothing is written: the pictures that are others now are named, and the status is 1
+if there are any. A picture is the block behind a line `<!-- picture: NAME -->`. Times are those of
+a day that was made up. TIMEDESK names the program for the desk.
 """
 import os
 import re
@@ -47,11 +49,20 @@ class Play:
         self.pictures[name] = lines_of(without_times(text))
 
     def office(self, *words, text=""):
-        done = subprocess.run([OFFICE, *words], input=text, capture_output=True, text=True, cwd=self.folder, timeout=60)
+        done = subprocess.run(
+            [OFFICE, *words],
+            input=text,
+            capture_output=True,
+            text=True,
+            cwd=self.folder,
+            timeout=60,
+        )
         return done.stdout
 
     def sit(self, planner, name):
-        return self.terminals.open(["env", "-C", self.folder, OFFICE, "sit", "monday", planner, "--name", name])
+        return self.terminals.open(
+            ["env", "-C", self.folder, OFFICE, "sit", "monday", planner, "--name", name]
+        )
 
     def take(self, name, terminal, wanted):
         """Keeps what a terminal shows as soon as it shows a text."""
@@ -89,8 +100,21 @@ def take_pictures():
     """The pictures of a day, by their names."""
     with tempfile.TemporaryDirectory() as folder:
         examples = os.path.join(HERE, "examples")
-        words = ["open", "monday", f"{examples}/comp07.ctt", "3", "--start", f"{examples}/comp07.sol"]
-        office = subprocess.Popen([OFFICE, *words], cwd=folder, stdout=subprocess.DEVNULL, stderr=subprocess.PIPE, text=True)
+        words = [
+            "open",
+            "monday",
+            f"{examples}/comp07.ctt",
+            "3",
+            "--start",
+            f"{examples}/comp07.sol",
+        ]
+        office = subprocess.Popen(
+            [OFFICE, *words],
+            cwd=folder,
+            stdout=subprocess.DEVNULL,
+            stderr=subprocess.PIPE,
+            text=True,
+        )
         play = Play(folder)
         try:
             if "open, seats" in office.stderr.readline():

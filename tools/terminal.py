@@ -24,7 +24,9 @@ class Terminals:
     def tmux(self, *words):
         done = subprocess.run(
             ["tmux", "-u", "-f", "/dev/null", "-S", self.socket, *words],
-            capture_output=True, env=self.environment, timeout=60,
+            capture_output=True,
+            env=self.environment,
+            timeout=60,
         )
         return done.stdout.decode()
 
@@ -32,8 +34,22 @@ class Terminals:
         """A terminal in which a command runs. What it says when it has ended stays to be seen."""
         name = name or f"t{self.count}"
         self.count += 1
-        self.tmux("new-session", "-d", "-s", name, "-x", str(self.columns), "-y", str(self.lines), "--", "sh", "-c",
-                  '"$@"; echo "ended $?"; exec sleep 600', "sh", *words)
+        self.tmux(
+            "new-session",
+            "-d",
+            "-s",
+            name,
+            "-x",
+            str(self.columns),
+            "-y",
+            str(self.lines),
+            "--",
+            "sh",
+            "-c",
+            '"$@"; echo "ended $?"; exec sleep 600',
+            "sh",
+            *words,
+        )
         return Terminal(self, name)
 
     def end(self):
@@ -58,7 +74,8 @@ class Terminal:
         return self.server.tmux("capture-pane", "-p", *options, "-t", self.name)
 
     def wait(self, wanted, seconds=30):
-        """Waits until a text is seen, and answers all that is seen then; or what was seen at last."""
+        """Waits until a text is seen, and answers all that is seen then; or what was seen at
+        last."""
         until = time.monotonic() + seconds
         seen = self.text()
         while wanted not in seen and time.monotonic() < until:

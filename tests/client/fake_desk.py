@@ -1,6 +1,7 @@
 #!/usr/bin/env python3
-"""A desk that answers as issue 55 says, in plain Python, for tests of the screen: `cheapest`, `missing`, `peek`, `status`, `redo`,
-`undo`, `help`, and `show` with a draft open. Any other command than `desk` is one of PROGRAM.
+"""A desk that answers as issue 55 says, in plain Python, for tests of the screen: `cheapest`,
+`missing`, `peek`, `status`, `redo`, `undo`, `help`, and `show` with a draft open. Any other command
+than `desk` is one of PROGRAM.
 """
 import contextlib
 import os
@@ -10,57 +11,19 @@ import sys
 HERE = os.path.dirname(os.path.dirname(os.path.dirname(os.path.abspath(__file__))))
 sys.path.insert(0, os.path.join(HERE, "tools"))
 
+from fake_costs import Costs  # noqa: E402
 from office.edits import LENGTHS  # noqa: E402
 from office.instance import COMMANDS, read_instance, read_solution  # noqa: E402
 from office.timetable import Timetable  # noqa: E402
 
 PROGRAM = os.environ.get("PROGRAM", os.path.join(HERE, "crates/ctt_tool/out/ctt_tool"))
+# what stands behind the first word of a look or an edit: a course, a room, a teacher, a curriculum,
+# a day, a period
+FORMS = dict(
+    course="c", slot="dp", teacher="t", curriculum="q", coursecost="c", cost="", missing=""
+)
+FORMS.update(place="crdp", move="cdprdp", swap="cdpcdp", reroom="crdp", drop="cdp")
 TURNS = ("open", "commit", "refresh", "abandon", "status", "redo", "undo", "help", "leave")
-
-
-class Costs:
-    """The four costs of a timetable, and what an edit adds to their sum."""
-
-    def __init__(self, instance):
-        self.instance = instance
-
-    def of_course(self, t, name):
-        course, row = self.instance.courses[name], t.by_course[name]
-        capacity = sum(max(0, course.students - self.instance.rooms[room]) for room in row.values())
-        days = 5 * max(0, course.minimum_days - len({day for day, _ in row}))
-        return [capacity, days, 0, max(0, len(set(row.values())) - 1)]
-
-    def alone(self, t, curriculum):
-        """Two points for each lecture of a curriculum that stands alone."""
-        slots = [slot for member in self.instance.curricula[curriculum] for slot in t.by_course[member]]
-        return 2 * sum((day, at - 1) not in slots and (day, at + 1) not in slots for day, at in slots)
-
-    def whole(self, t):
-        found = [sum(kind) for kind in zip([0] * 4, *(self.of_course(t, name) for name in self.instance.courses))]
-        found[2] = sum(self.alone(t, curriculum) for curriculum in self.instance.curricula)
-        return found
-
-    def course(self, t, name):
-        """What a course costs by itself: of its curricula those of which it is alone a member do not count otherwise."""
-        found = self.of_course(t, name)
-        for curriculum in self.instance.curricula_of[name]:
-            slots = [slot for member in self.instance.curricula[curriculum] for slot in t.by_course[member]]
-            own = t.by_course[name]
-            found[2] += 2 * sum((day, at - 1) not in slots and (day, at + 1) not in slots for day, at in own)
-        return found
-
-    def near(self, t, courses):
-        curricula = {q for course in courses for q in self.instance.curricula_of[course]}
-        return sum(sum(self.of_course(t, course)) for course in courses) + sum(self.alone(t, q) for q in curricula)
-
-    def price(self, t, edit):
-        words = edit.split()
-        courses = {words[1], words[4]} if words[0] == "swap" else {words[1]}
-        before = self.near(t, courses)
-        back = t.make(edit)
-        after = self.near(t, courses)
-        t.make(back)
-        return after - before
 
 
 class FakeDraft:
@@ -69,7 +32,9 @@ class FakeDraft:
         self.calls, self.backs, self.courses, self.slots = [], [], set(), set()
 
     def edits(self):
-        return [call for call, answer in self.calls if answer == "done" and call.split()[0] in LENGTHS]
+        return [
+            call for call, answer in self.calls if answer == "done" and call.split()[0] in LENGTHS
+        ]
 
 
 class FakeDesk:
@@ -100,10 +65,6 @@ class FakeDesk:
     def bad_word(self, words):
         """The place of the first word that cannot stand."""
         at = 1 if words[0] in ("show", "peek") and len(words) > 1 else 0
-        kinds = {
-            "course": "c", "slot": "dp", "teacher": "t", "curriculum": "q", "coursecost": "c", "cost": "", "missing": "",
-            "place": "crdp", "move": "cdprdp", "swap": "cdpcdp", "reroom": "crdp", "drop": "cdp",
-        }
         if words[at] in TURNS and at == 0:
             return 1 if len(words) > 1 else None
         star = words[at] == "cheapest"
@@ -114,10 +75,9 @@ class FakeDesk:
             at += 1
         elif words[at] == "price":
             at += 1
-        if at >= len(words) or words[at] not in kinds:
+        if at >= len(words) or words[at] not in FORMS:
             return at
-        form = kinds[words[at]]
-        for k, what in enumerate(form):
+        for what in FORMS[words[at]]:
             at += 1
             if at >= len(words) or not self.is_of(words[at], what, star):
                 return at
@@ -128,8 +88,11 @@ class FakeDesk:
         if star and word == "*":
             return True
         if what in "dp":
-            return word.isdigit() and int(word) < (instance.days if what == "d" else instance.periods)
-        return word in {"c": instance.courses, "r": instance.rooms, "t": instance.teachers, "q": instance.curricula}[what]
+            return word.isdigit() and int(word) < (
+                instance.days if what == "d" else instance.periods
+            )
+        names = {"c": instance.courses, "r": instance.rooms, "t": instance.teachers}
+        return word in names.get(what, instance.curricula)
 
     def look(self, t, words):
         kind = words[0]
@@ -138,21 +101,33 @@ class FakeDesk:
         if kind == "coursecost":
             return "costs " + " ".join(map(str, self.costs.course(t, words[1])))
         if kind == "missing":
-            short = [(name, t.missing(name)) for name in self.instance.courses if t.missing(name) > 0]
-            return " ".join(["missing", str(len(short)), *(f"{name} {count}" for name, count in short)])
+            short = [
+                (name, t.missing(name)) for name in self.instance.courses if t.missing(name) > 0
+            ]
+            return " ".join(
+                ["missing", str(len(short)), *(f"{name} {count}" for name, count in short)]
+            )
         if kind == "price":
             fault = t.fault(" ".join(words[1:]))
-            return f"refused {fault}" if fault else f"price {self.costs.price(t, ' '.join(words[1:]))}"
+            return (
+                f"refused {fault}" if fault else f"price {self.costs.price(t, ' '.join(words[1:]))}"
+            )
         if kind == "cheapest":
             return self.cheapest(t, int(words[1]), words[2:])
         lectures = t.look(" ".join(words))
-        return " ".join(["lectures", str(len(lectures)), *(lecture.words() for lecture in lectures)])
+        return " ".join(
+            ["lectures", str(len(lectures)), *(lecture.words() for lecture in lectures)]
+        )
 
     def pattern_edits(self, t, words):
         kind, course = words[:2]
         slots = [(str(d), str(p)) for d, p in self.instance.slots()]
         if kind == "swap" and words[4] == "*":
-            return [" ".join([*words[:4], other, d, p]) for other in self.instance.courses for d, p in slots]
+            return [
+                " ".join([*words[:4], other, d, p])
+                for other in self.instance.courses
+                for d, p in slots
+            ]
         if kind == "swap":
             return [" ".join(words)]
         at = 4 if kind == "move" else 2
@@ -167,7 +142,11 @@ class FakeDesk:
         at = 3 if kind == "reroom" else 2
         if kind != "place" and t.room_at(course, (int(words[at]), int(words[at + 1]))) is None:
             return "refused notplaced"
-        found = [(self.costs.price(t, edit), edit) for edit in self.pattern_edits(t, words) if t.fault(edit) is None]
+        found = [
+            (self.costs.price(t, edit), edit)
+            for edit in self.pattern_edits(t, words)
+            if t.fault(edit) is None
+        ]
         found.sort(key=lambda pair: pair[0])
         found = found[:count]
         return " ".join(["prices", str(len(found)), *(f"{price} {edit}" for price, edit in found)])
@@ -191,7 +170,12 @@ class FakeDesk:
         if kind == "price":
             kind, rest = rest[0], rest[1:]
             self.read(draft, [kind, *rest])
-            draft.courses.update(mate for course in rest if course in instance.mates for mate in instance.mates[course])
+            draft.courses.update(
+                mate
+                for course in rest
+                if course in instance.mates
+                for mate in instance.mates[course]
+            )
         elif kind in LENGTHS:
             draft.courses.update([rest[0], rest[3]] if kind == "swap" else [rest[0]])
             ends = {"place": [2], "move": [4], "swap": [1, 4], "reroom": [2], "drop": []}[kind]
@@ -212,7 +196,10 @@ class FakeDesk:
     def stale(self, draft):
         """The least row that a draft depends on and that has changed."""
         for course in self.instance.courses:
-            if course in draft.courses and draft.base.by_course[course] != self.newest.by_course[course]:
+            if (
+                course in draft.courses
+                and draft.base.by_course[course] != self.newest.by_course[course]
+            ):
                 return f"course {course}"
         for slot in self.instance.slots():
             if slot in draft.slots and draft.base.by_slot[slot] != self.newest.by_slot[slot]:
@@ -269,7 +256,8 @@ class FakeDesk:
         if not draft:
             return "no draft"
         row = self.stale(draft)
-        return f"draft {len(draft.edits())} {self.count - draft.count} {'stale ' + row if row else 'fresh'}"
+        state = f"stale {row}" if row else "fresh"
+        return f"draft {len(draft.edits())} {self.count - draft.count} {state}"
 
     def redo(self, planner, draft):
         if draft:

@@ -1,4 +1,5 @@
-"""Offices for the tests: each in a folder of its own, with the program that is tested. PROGRAM names another one."""
+"""Offices for the tests: each in a folder of its own, with the program that is tested. PROGRAM
+names another one."""
 import contextlib
 import os
 import shutil
@@ -12,14 +13,18 @@ import unittest
 sys.dont_write_bytecode = True
 HERE = os.path.dirname(os.path.dirname(os.path.dirname(os.path.abspath(__file__))))
 sys.path.insert(0, os.path.join(HERE, "tools"))
-PROGRAM = os.path.abspath(os.environ.get("PROGRAM", os.path.join(HERE, "crates/ctt_tool/out/ctt_tool")))
+PROGRAM = os.path.abspath(
+    os.environ.get("PROGRAM", os.path.join(HERE, "crates/ctt_tool/out/ctt_tool"))
+)
 OFFICE = os.path.join(HERE, "office")
 SMALL = os.path.join(HERE, "examples/small.ctt")
 SMALL_SOL = os.path.join(HERE, "examples/s.sol")
 COMP07 = os.path.join(HERE, "examples/comp07.ctt")
 COMP07_SOL = os.path.join(HERE, "examples/comp07.sol")
 # a desk that answers as issue 55 says; PLANNING names another program that does
-PLANNING = os.path.abspath(os.environ.get("PLANNING", os.path.join(HERE, "tests/client/fake_desk.py")))
+PLANNING = os.path.abspath(
+    os.environ.get("PLANNING", os.path.join(HERE, "tests/client/fake_desk.py"))
+)
 os.environ["PROGRAM"] = PROGRAM
 # what takes longer hangs
 PATIENCE = 60
@@ -66,7 +71,12 @@ class OfficeTest(unittest.TestCase):
     def office(self, *words, text=""):
         """A command of the office to its end: status, what it prints, what it says."""
         done = subprocess.run(
-            [OFFICE, *words], input=text, capture_output=True, text=True, env=self.environment, timeout=PATIENCE
+            [OFFICE, *words],
+            input=text,
+            capture_output=True,
+            text=True,
+            env=self.environment,
+            timeout=PATIENCE,
         )
         return done.returncode, done.stdout, done.stderr
 

@@ -19,8 +19,33 @@ from office.timetable import Timetable  # noqa: E402
 
 DAYS = int(os.environ.get("DAYS", "20"))
 STEPS = int(os.environ.get("STEPS", "500"))
-KEYS = ["up", "down", "left", "right", "tab", "backtab"] * 3 + ["enter"] * 12 + ["b"] * 6 + ["s", "x", "m", "u", "escape", "w"] * 2
-KEYS += ["v", "e", "c", "c", "f", "r", "a", "y", "n", ":", "?", "o", "p", "backspace", "pageup", "pagedown", "\u6570", "resize", ""]
+KEYS = (
+    ["up", "down", "left", "right", "tab", "backtab"] * 3
+    + ["enter"] * 12
+    + ["b"] * 6
+    + ["s", "x", "m", "u", "escape", "w"] * 2
+)
+KEYS += [
+    "v",
+    "e",
+    "c",
+    "c",
+    "f",
+    "r",
+    "a",
+    "y",
+    "n",
+    ":",
+    "?",
+    "o",
+    "p",
+    "backspace",
+    "pageup",
+    "pagedown",
+    "\u6570",
+    "resize",
+    "",
+]
 SIZES = [(24, 80), (60, 200), (10, 40), (24, 41), (5, 20), (33, 97), (1, 1)]
 
 
@@ -37,13 +62,19 @@ class Drawn(OfficeTest):
             text, barred = draw_instance(draw)
             plain = Plain(text, barred)
             files = []
-            for name, held in (("drawn.ctt", text), ("drawn.sol", draw_solution(draw, plain)), ("drawn.barred", barred)):
+            for name, held in (
+                ("drawn.ctt", text),
+                ("drawn.sol", draw_solution(draw, plain)),
+                ("drawn.barred", barred),
+            ):
                 if held is not None:
                     with open(self.path(name), "wb") as file:
                         file.write(held)
                     files.append(self.path(name))
             options = ["--start", files[1]] + (["--barred", files[2]] if barred is not None else [])
-            run = subprocess.run([PROGRAM, "run", files[0], os.devnull, *options], capture_output=True)
+            run = subprocess.run(
+                [PROGRAM, "run", files[0], os.devnull, *options], capture_output=True
+            )
             if plain.courses and run.returncode == 0:
                 return files[0], options
 
@@ -91,8 +122,12 @@ class Shown(OfficeTest):
     program = PLANNING
 
     def test_widths(self):
-        self.assertEqual([width(text) for text in ("abc", "数学", "e\u0301", "ﷺ", "a\u200bb")], [3, 4, 1, 1, 2])
-        self.assertEqual([fit("数学a", n) for n in (1, 2, 3, 4, 5, 6)], ["~", "~ ", "数~", "数~ ", "数学a", "数学a "])
+        self.assertEqual(
+            [width(text) for text in ("abc", "数学", "e\u0301", "ﷺ", "a\u200bb")], [3, 4, 1, 1, 2]
+        )
+        self.assertEqual(
+            [fit("数学a", n) for n in (1, 2, 3, 4, 5, 6)], ["~", "~ ", "数~", "数~ ", "数学a", "数学a "]
+        )
         self.assertEqual(cut("abc", 0), "")
         self.assertEqual(wrap("  aa bb cc", 7), ["  aa bb", "  cc"])
         self.assertEqual(shown("a\x1b[2Jb"), "a\ufffd[2Jb")
@@ -100,7 +135,13 @@ class Shown(OfficeTest):
     def test_wide_names(self):
         with open(SMALL) as file:
             text = file.read()
-        for old, new in (("alg", "数学の時間"), ("geo", "Géométrie"), ("top", "🎓"), ("q1", "一年"), ("t1", "e\u0301a")):
+        for old, new in (
+            ("alg", "数学の時間"),
+            ("geo", "Géométrie"),
+            ("top", "🎓"),
+            ("q1", "一年"),
+            ("t1", "e\u0301a"),
+        ):
             text = text.replace(old, new)
         instance = self.write("wide.ctt", text)
         self.open("day", instance, "1")
@@ -117,7 +158,8 @@ class Shown(OfficeTest):
         self.assertEqual(board.planning.missing(), {})
 
     def test_cheapest_place_in_under_ten_keys(self):
-        """Who has seen no page finds the cheapest place of a lecture by what the screen says, and commits it."""
+        """Who has seen no page finds the cheapest place of a lecture by what the screen says, and
+        commits it."""
         self.open("day", COMP07, "1", "--start", COMP07_SOL)
         board = Board(self.planning("day", 0))
         board.begin()
@@ -132,8 +174,15 @@ class Shown(OfficeTest):
         self.open("day", SMALL, "1", "--start", SMALL_SOL)
         board = Board(self.planning("day", 0))
         board.begin()
-        for line, answer in [("course geo", "no draft"), ("open", "opened"), ("drop geo 1 2", "done"), ("cost", "costs 15 0 2 1"),
-                             ("frob", "bad line 1 frob"), ("undo", "done place geo A 1 2"), ("commit", "committed 1")]:
+        for line, answer in [
+            ("course geo", "no draft"),
+            ("open", "opened"),
+            ("drop geo 1 2", "done"),
+            ("cost", "costs 15 0 2 1"),
+            ("frob", "bad line 1 frob"),
+            ("undo", "done place geo A 1 2"),
+            ("commit", "committed 1"),
+        ]:
             for key in [":", *line, "enter"]:
                 board.press(key)
             self.assertIn(f"{line}: {answer}", text_of(board))
@@ -142,7 +191,9 @@ class Shown(OfficeTest):
             board.press(key)
         self.assertTrue(board.is_done)
         board.planning.seat.go()
-        self.assertEqual(self.sit("day", 0, "show course geo\n"), ["lectures 2 geo A 0 1 geo A 1 2"])
+        self.assertEqual(
+            self.sit("day", 0, "show course geo\n"), ["lectures 2 geo A 0 1 geo A 1 2"]
+        )
 
     def test_asks_before_it_gives_up(self):
         self.open("day", SMALL, "1", "--start", SMALL_SOL)
@@ -162,13 +213,31 @@ class Shown(OfficeTest):
         board = Board(self.seat_of_any_desk("day"))
         board.begin()
         times = []
-        for key in ["right", "down", "enter", "b", "tab", "escape", "w", "right", "w", "w", "w", "left", "s", "escape"] * 5:
+        for key in [
+            "right",
+            "down",
+            "enter",
+            "b",
+            "tab",
+            "escape",
+            "w",
+            "right",
+            "w",
+            "w",
+            "w",
+            "left",
+            "s",
+            "escape",
+        ] * 5:
             begun = time.perf_counter()
             board.press(key)
             board.rows(24, 80)
             times.append(time.perf_counter() - begun)
         times.sort()
-        print(f"a key at comp07 size: middle {times[len(times) // 2] * 1000:.1f} ms, longest {times[-1] * 1000:.1f} ms")
+        print(
+            f"a key at comp07 size: middle {times[len(times) // 2] * 1000:.1f} ms, "
+            f"longest {times[-1] * 1000:.1f} ms"
+        )
         # a machine that has other work to do is slower; what is measured alone is in docs/OFFICE.md
         self.assertLess(times[len(times) // 2], 0.05)
 

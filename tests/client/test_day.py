@@ -4,7 +4,17 @@ import signal
 import stat
 import time
 
-from support import COMP07, COMP07_SOL, PATIENCE, PROGRAM, SMALL, SMALL_SOL, OfficeTest, is_alive, wait_until
+from support import (
+    COMP07,
+    COMP07_SOL,
+    PATIENCE,
+    PROGRAM,
+    SMALL,
+    SMALL_SOL,
+    OfficeTest,
+    is_alive,
+    wait_until,
+)
 
 # a program that is slow at one step; at its seats it does not answer
 SLOW = """#!/bin/sh
@@ -34,10 +44,16 @@ class Refusals(OfficeTest):
         bad = self.write("bad", "geo A 0 1 geo")
         clash = self.write("clash", "alg A 0 1\ngeo B 0 1\n")
         nowhere = self.path("nowhere")
-        self.refused([nowhere, "2"], 3, f"office: cannot read {nowhere}: No such file or directory\n")
+        self.refused(
+            [nowhere, "2"], 3, f"office: cannot read {nowhere}: No such file or directory\n"
+        )
         self.refused([self.room, "2"], 3, f"office: cannot read {self.room}: Is a directory\n")
         self.refused([bad, "2"], 1, "timedesk: instance I3 1\n")
-        self.refused([SMALL, "2", "--start", nowhere], 3, f"office: cannot read {nowhere}: No such file or directory\n")
+        self.refused(
+            [SMALL, "2", "--start", nowhere],
+            3,
+            f"office: cannot read {nowhere}: No such file or directory\n",
+        )
         self.refused([SMALL, "2", "--start", bad], 1, "timedesk: solution S2 6\n")
         self.refused([SMALL, "2", "--start", clash], 1, "timedesk: opening 2 clash alg\n")
         self.refused([SMALL, "2", "--barred", bad], 1, "timedesk: barred B3 1\n")
@@ -46,14 +62,30 @@ class Refusals(OfficeTest):
         self.refused(["--after", nowhere], 3, f"office: {nowhere} is not the folder of a day\n")
 
     def test_words(self):
-        for words in [["x"], [SMALL], [SMALL, "x"], [SMALL, "2", "--after", "x"], [SMALL, "2", "--minutes", "x"], []]:
+        for words in [
+            ["x"],
+            [SMALL],
+            [SMALL, "x"],
+            [SMALL, "2", "--after", "x"],
+            [SMALL, "2", "--minutes", "x"],
+            [],
+        ]:
             self.assertEqual(self.office("open", self.path("day"), *words)[:2], (2, ""))
-        for words in [["frob"], [], ["sit", "x"], ["sit", "x", "64"], ["--unproved", "sit", "x", "0"], ["close"]]:
+        for words in [
+            ["frob"],
+            [],
+            ["sit", "x"],
+            ["sit", "x", "64"],
+            ["--unproved", "sit", "x", "0"],
+            ["close"],
+        ]:
             self.assertEqual(self.office(*words)[:2], (2, ""))
         self.assertEqual(self.office("--help")[0], 0)
         for command in ("status", "close", "log"):
             found = self.office(command, self.path("x"))
-            self.assertEqual(found, (3, "", f"office: {self.path('x')} is not the folder of a day\n"))
+            self.assertEqual(
+                found, (3, "", f"office: {self.path('x')} is not the folder of a day\n")
+            )
 
     def test_no_program(self):
         self.environment["TIMEDESK"] = self.path("nowhere")
@@ -116,7 +148,9 @@ class Signals(OfficeTest):
                 self.assertEqual(office.wait(PATIENCE), 0)
                 self.assertEqual(office.stdout.read(), "journal 0\ncosts 0 20 0 0\n")
                 self.assertFalse(is_alive(desk))
-                self.assertEqual(self.left_in(day), ["day.json", "instance.ctt", "minutes", "names", "office"])
+                self.assertEqual(
+                    self.left_in(day), ["day.json", "instance.ctt", "minutes", "names", "office"]
+                )
 
     def test_twice_while_somebody_sits(self):
         office = self.open("day", SMALL, "1")
@@ -130,7 +164,9 @@ class Signals(OfficeTest):
         office.send_signal(signal.SIGINT)
         office.wait(PATIENCE)
         self.assertEqual(sitter.wait(PATIENCE), 3)
-        self.assertEqual([name for name in self.left_in("day") if name.endswith((".in", ".out"))], [])
+        self.assertEqual(
+            [name for name in self.left_in("day") if name.endswith((".in", ".out"))], []
+        )
 
     def test_terminal_closes(self):
         office = self.open("day", SMALL, "1")
@@ -144,11 +180,19 @@ class Days(OfficeTest):
 
     def test_two_days_and_a_crash(self):
         office = self.open("monday", COMP07, "2", "--start", COMP07_SOL)
-        self.sit("monday", 0, "open\nmove c0109 4 1 r04 4 3\ncommit\nopen\ndrop c0109 4 3\n", "--name", "anna")
+        self.sit(
+            "monday",
+            0,
+            "open\nmove c0109 4 1 r04 4 3\ncommit\nopen\ndrop c0109 4 3\n",
+            "--name",
+            "anna",
+        )
         self.sit("monday", 1, "open\nswap c0110 4 2 c0014 4 2\ncommit\n", "--name", "ben")
         os.kill(self.desk_of("monday"), signal.SIGKILL)
         self.assertEqual(office.wait(PATIENCE), 0)
-        self.assertIn("the desk has ended by SIGKILL; what was committed is in", office.stderr.read())
+        self.assertIn(
+            "the desk has ended by SIGKILL; what was committed is in", office.stderr.read()
+        )
         printed = self.office("status", self.path("monday"))[1]
         self.assertIn("monday: no desk: it has ended, or was killed", printed)
         self.assertIn("2 drafts accepted; minutes are written", printed)
@@ -156,11 +200,17 @@ class Days(OfficeTest):
         self.assertEqual(self.office("open", self.path("x"), "--after", self.path("monday"))[0], 3)
         status, printed, said = self.office("close", self.path("monday"))
         self.assertEqual((status, said), (0, ""))
-        self.assertTrue(printed.startswith("monday: 2 drafts accepted, the audit agrees\ncost before 8847 "))
+        self.assertTrue(
+            printed.startswith("monday: 2 drafts accepted, the audit agrees\ncost before 8847 ")
+        )
         self.open("tuesday", "--after", self.path("monday"))
-        with open(self.path("tuesday/start.sol")) as start, open(self.path("monday/end.sol")) as end:
+        with open(self.path("tuesday/start.sol")) as start, open(
+            self.path("monday/end.sol")
+        ) as end:
             self.assertEqual(start.read(), end.read())
-        self.assertEqual(self.sit("tuesday", 1, "show course c0014\n")[0].split()[:2], ["lectures", "4"])
+        self.assertEqual(
+            self.sit("tuesday", 1, "show course c0014\n")[0].split()[:2], ["lectures", "4"]
+        )
         self.assertIn("monday: closed", self.office("status", self.path("monday"))[1])
 
     def test_office_is_killed(self):
@@ -169,7 +219,9 @@ class Days(OfficeTest):
         sitter = self.start("sit", self.path("day"), "0")
         sitter.stdin.write("open\nplace geo A 0 1\ncommit\n")
         sitter.stdin.flush()
-        self.assertEqual([sitter.stdout.readline() for _ in range(3)], ["opened\n", "done\n", "committed 1\n"])
+        self.assertEqual(
+            [sitter.stdout.readline() for _ in range(3)], ["opened\n", "done\n", "committed 1\n"]
+        )
         office.kill()
         office.wait()
         sitter.stdin.write("show cost\n")
@@ -177,7 +229,9 @@ class Days(OfficeTest):
         self.assertEqual(sitter.stdout.readline(), "costs 0 15 2 0\n")
         self.assertTrue(is_alive(desk))
         status, printed, _ = self.office("close", self.path("day"), "--wait", "1")
-        self.assertEqual((status, printed.split("\n")[1]), (0, "day: 1 drafts accepted, the audit agrees"))
+        self.assertEqual(
+            (status, printed.split("\n")[1]), (0, "day: 1 drafts accepted, the audit agrees")
+        )
         self.assertFalse(is_alive(desk))
         self.assertEqual(sitter.wait(PATIENCE), 0)
 
@@ -202,7 +256,9 @@ class Days(OfficeTest):
         self.environment["TIMEDESK"] = self.write("limited", LIMITED.format(program=PROGRAM), 0o755)
         office = self.open("day", SMALL, "1")
         text = "open\nplace geo A 0 1\ncommit\n" + "open\ncost\ncommit\n" * 30
-        answers = [answer for answer in self.sit("day", 0, text) if answer.startswith(("committed", "not"))]
+        answers = [
+            answer for answer in self.sit("day", 0, text) if answer.startswith(("committed", "not"))
+        ]
         count = answers.index("not written")
         self.assertGreater(count, 1)
         self.assertEqual(set(answers[count:]), {"not written"})
@@ -215,62 +271,31 @@ class Days(OfficeTest):
         self.end(self.open("monday", SMALL, "1", "--start", SMALL_SOL))
         self.assertEqual(self.office("close", self.path("monday"))[0], 0)
         with open(SMALL) as file:
-            text = file.read().replace("Constraints: 1", "Constraints: 2").replace("geo 0 0\n", "geo 0 0 alg 1 0\n")
+            text = (
+                file.read()
+                .replace("Constraints: 1", "Constraints: 2")
+                .replace("geo 0 0\n", "geo 0 0 alg 1 0\n")
+            )
         changed = self.write("changed.ctt", text)
         if self.office_can_mend():
-            office = self.start("open", self.path("tuesday"), "--after", self.path("monday"), "--instance", changed)
-            self.assertEqual(office.stderr.readline(), "timedesk: set aside alg B 1 0 unavailable\n")
+            office = self.start(
+                "open", self.path("tuesday"), "--after", self.path("monday"), "--instance", changed
+            )
+            self.assertEqual(
+                office.stderr.readline(), "timedesk: set aside alg B 1 0 unavailable\n"
+            )
             self.assertIn("open, seats 0 to 0", office.stderr.readline())
         else:
-            found = self.office("open", self.path("tuesday"), "--after", self.path("monday"), "--instance", changed)
-            said = "office: this timedesk has no `mend` yet, so a changed instance cannot follow a day\n"
+            found = self.office(
+                "open", self.path("tuesday"), "--after", self.path("monday"), "--instance", changed
+            )
+            said = (
+                "office: this timedesk has no `mend` yet, "
+                "so a changed instance cannot follow a day\n"
+            )
             self.assertEqual(found, (3, "", said))
             self.assertFalse(os.path.exists(self.path("tuesday")))
 
     def office_can_mend(self):
         with os.popen(f"{self.program} --help") as help_text:
             return "\n  mend " in help_text.read()
-
-
-class Seats(OfficeTest):
-    """Who sits, and what is in the logs."""
-
-    def test_log(self):
-        self.open("day", SMALL, "2")
-        self.sit("day", 1, "open\nplace geo A 0 1\nplace alg A 0 1\nslot 0 1\ncommit\n", "--name", "Ben  Ö\n")
-        self.sit("day", 0, "open\nplace top B 0 2\n", "--name", "anna")
-        self.sit("day", 0, "commit\n", "--name", "carla")
-        self.assertEqual(stat.S_IMODE(os.stat(self.path("day/0.log")).st_mode), 0o600)
-        self.assertEqual(stat.S_IMODE(os.stat(self.path("day/1.log")).st_mode), 0o600)
-        status, printed, _ = self.office("log", self.path("day"))
-        self.assertEqual(status, 0)
-        self.assertRegex(
-            printed,
-            r"^1 planner 1 Ben Ö, 20\d\d-\d\d-\d\d \d\d:\d\d:\d\d\n    place geo A 0 1\n"
-            r"2 planner 0 carla, 20\d\d-\d\d-\d\d \d\d:\d\d:\d\d\n    place top B 0 2\n$",
-        )
-        self.assertTrue(self.office("log", self.path("day"), "top")[1].startswith("2 planner 0 carla"))
-        self.assertEqual(self.office("log", self.path("day"), "alg"), (0, "", ""))
-        self.assertEqual(self.office("log", self.path("day"), "x"), (1, "", "office: the instance has no course x\n"))
-
-    def test_answers_under_way(self):
-        """Who is killed between a line and its answer: the next one at the seat finds the answer."""
-        self.open("day", SMALL, "1")
-        self.sit("day", 0, "open\n")
-        with open(self.path("day/0.log"), "a") as log:
-            log.write("2026-11-28T12:00:00.000+0000 > place geo A 0 1\n2026-11-28T12:00:00.000+0000 > commit\n")
-        with open(self.path("day/0.in"), "w") as lines:
-            lines.write("place geo A 0 1\npla")
-        self.assertEqual(self.sit("day", 0, "slot 0 1\n")[0], "done")
-        self.assertEqual(self.sit("day", 0, "commit\n"), ["committed 1"])
-
-    def test_status_names_who_sits(self):
-        self.open("day", SMALL, "2")
-        sitter = self.start("sit", self.path("day"), "1", "--name", "ben")
-        sitter.stdin.write("show cost\n")
-        sitter.stdin.flush()
-        sitter.stdout.readline()
-        printed = self.office("status", self.path("day"))[1]
-        self.assertRegex(printed, r"1 +ben +\d\d:\d\d +none +\d\d:\d\d:\d\d +0\n")
-        status, _, said = self.office("sit", self.path("day"), "1")
-        self.assertEqual((status, said[:40]), (3, "office: ben sits at seat 1, since " + said[34:40]))

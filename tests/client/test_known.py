@@ -34,7 +34,10 @@ class Drawn:
         self.barred = self.write(test, "drawn.barred", barred) if barred is not None else None
         start = self.write(test, "drawn.sol", draw_solution(self.draw, plain))
         self.options = ["--barred", self.barred] if barred is not None else []
-        run = subprocess.run([PROGRAM, "run", *self.words, os.devnull, "--start", start, *self.options], capture_output=True)
+        run = subprocess.run(
+            [PROGRAM, "run", *self.words, os.devnull, "--start", start, *self.options],
+            capture_output=True,
+        )
         self.start = start if run.returncode == 0 else None
         if self.start:
             self.options += ["--start", start]
@@ -47,7 +50,8 @@ class Drawn:
         return test.path(name)
 
     def slot(self):
-        return f"{self.draw.randrange(self.instance.days)} {self.draw.randrange(self.instance.periods)}"
+        day, period = map(self.draw.randrange, (self.instance.days, self.instance.periods))
+        return f"{day} {period}"
 
     def lecture(self, known):
         """A course and a slot: of a lecture that is placed, or any."""
@@ -59,7 +63,9 @@ class Drawn:
 
     def edit(self, known):
         kind = self.draw.choice(("place", "place", "move", "swap", "reroom", "drop"))
-        room, course = self.draw.choice(list(self.instance.rooms)), self.draw.choice(list(self.instance.courses))
+        room, course = self.draw.choice(list(self.instance.rooms)), self.draw.choice(
+            list(self.instance.courses)
+        )
         if kind == "place":
             return f"place {course} {room} {self.slot()}"
         one = self.lecture(known)
@@ -74,9 +80,17 @@ class Drawn:
 
     def look(self):
         instance = self.instance
-        kinds = {"course": instance.courses, "teacher": instance.teachers, "curriculum": instance.curricula}
+        kinds = {
+            "course": instance.courses,
+            "teacher": instance.teachers,
+            "curriculum": instance.curricula,
+        }
         kind = self.draw.choice([kind for kind in kinds if kinds[kind]] + ["slot"])
-        return f"slot {self.slot()}" if kind == "slot" else f"{kind} {self.draw.choice(list(kinds[kind]))}"
+        return (
+            f"slot {self.slot()}"
+            if kind == "slot"
+            else f"{kind} {self.draw.choice(list(kinds[kind]))}"
+        )
 
     def line(self, known):
         way = self.draw.random()
@@ -95,11 +109,13 @@ class Scripts(OfficeTest):
     """What is known of drafts, beside the answers of `run`."""
 
     def play(self, seed):
-        """Draws a script line by line; what was expected is compared with what the whole script is answered."""
+        """Draws a script line by line; what was expected is compared with what the whole script is
+        answered."""
         drawn = Drawn(self, seed)
         start = read_solution(drawn.start) if drawn.start else []
         lines = []
-        # the program answers the script so far: each line is drawn by what is known after the answers before
+        # the program answers the script so far: each line is drawn by what is known after the
+        # answers before
         ask = self.desk(drawn)
         knowns = [Known(drawn.instance, start) for _ in range(PLANNERS)]
         for _ in range(60):
@@ -110,7 +126,9 @@ class Scripts(OfficeTest):
                 continue
             answer = ask(planner, line)
             edits = list(knowns[planner].made)
-            self.assertTrue(knowns[planner].hear(line, answer), (seed, planner, line, answer, lines))
+            self.assertTrue(
+                knowns[planner].hear(line, answer), (seed, planner, line, answer, lines)
+            )
             if answer.startswith("committed "):
                 for known in knowns:
                     self.assertTrue(known.accept(edits), (seed, line, edits))
@@ -118,7 +136,8 @@ class Scripts(OfficeTest):
         return drawn, lines, knowns
 
     def desk(self, drawn):
-        """A desk with a seat for each planner, in a folder of its own; it answers a line at a time."""
+        """A desk with a seat for each planner, in a folder of its own; it answers a line at a
+        time."""
         folder = self.path("seats")
         os.mkdir(folder)
         seats = [os.path.join(folder, str(planner)) for planner in range(PLANNERS)]
@@ -128,7 +147,9 @@ class Scripts(OfficeTest):
         minutes = os.path.join(folder, "minutes")
         words = [PROGRAM, "desk", *drawn.words, *seats, *drawn.options, "--minutes", minutes]
         process = subprocess.Popen(words, stdout=subprocess.DEVNULL)
-        ends = [(open(seat + ".in", "wb", buffering=0), open(seat + ".out", "rb")) for seat in seats]
+        ends = [
+            (open(seat + ".in", "wb", buffering=0), open(seat + ".out", "rb")) for seat in seats
+        ]
 
         def ask(planner, line):
             ends[planner][0].write(line.encode() + b"\n")
@@ -153,35 +174,51 @@ class Scripts(OfficeTest):
                 self.check_minutes(drawn, lines, knowns[0])
 
     def check_minutes(self, drawn, lines, known):
-        """The minutes lead to the newest timetable, and `list` prints the same one; `run` answers the script as the desk."""
+        """The minutes lead to the newest timetable, and `list` prints the same one; `run` answers
+        the script as the desk."""
         minutes = Minutes(self.minutes)
         start = read_solution(drawn.start) if drawn.start else []
         newest = Known(drawn.instance, start)
         for entry in minutes.read_on():
             self.assertTrue(newest.accept(entry.edits()))
         self.assertTrue(newest.newest.same_as(known.newest))
-        script = "".join(line + "\n" if line.startswith("show") else f"{p} {line}\n" for p, line, _ in lines)
+        script = "".join(
+            line + "\n" if line.startswith("show") else f"{p} {line}\n" for p, line, _ in lines
+        )
         path, journal = self.path("script"), self.path("journal")
         with open(path, "w") as file:
             file.write(script)
         done = subprocess.run(
-            [PROGRAM, "run", *drawn.words, path, *drawn.options, "--journal", journal], capture_output=True, check=True
+            [PROGRAM, "run", *drawn.words, path, *drawn.options, "--journal", journal],
+            capture_output=True,
+            check=True,
         )
         self.assertEqual(done.stdout.decode(), "".join(answer + "\n" for _, _, answer in lines))
-        listed = subprocess.run([PROGRAM, "list", *drawn.words, journal, *drawn.options], capture_output=True, check=True)
-        self.assertEqual(listed.stdout.decode(), "".join(one.words() + "\n" for one in newest.newest.lectures()))
+        listed = subprocess.run(
+            [PROGRAM, "list", *drawn.words, journal, *drawn.options],
+            capture_output=True,
+            check=True,
+        )
+        self.assertEqual(
+            listed.stdout.decode(), "".join(one.words() + "\n" for one in newest.newest.lectures())
+        )
 
 
 class Reading(OfficeTest):
     """Answers and logs by themselves."""
 
     def test_answers(self):
-        self.assertEqual(read_prices("prices 2 -4 move geo 1 2 A 1 1 7 swap a 0 0 b 1 1"),
-                         [(-4, "move geo 1 2 A 1 1"), (7, "swap a 0 0 b 1 1")])
+        self.assertEqual(
+            read_prices("prices 2 -4 move geo 1 2 A 1 1 7 swap a 0 0 b 1 1"),
+            [(-4, "move geo 1 2 A 1 1"), (7, "swap a 0 0 b 1 1")],
+        )
         self.assertEqual(read_prices("prices 0"), [])
         self.assertIsNone(read_prices("refused full"))
         told = "redone 1 of 3 refused 2 move c 4 1 r 4 3 roomtaken d refused 3 drop e 0 0 notplaced"
-        self.assertEqual(Redone.read(told), Redone(1, 3, [(2, "move c 4 1 r 4 3", "roomtaken d"), (3, "drop e 0 0", "notplaced")]))
+        self.assertEqual(
+            Redone.read(told),
+            Redone(1, 3, [(2, "move c 4 1 r 4 3", "roomtaken d"), (3, "drop e 0 0", "notplaced")]),
+        )
         self.assertIsNone(Redone.read("nothing to redo"))
         self.assertEqual(courses_of("swap a 0 0 b 1 1"), ["a", "b"])
         self.assertTrue(is_edit("  drop a 0 0"))
@@ -206,8 +243,13 @@ class Reading(OfficeTest):
     def test_story(self):
         story = Story()
         day = [
-            ("open", "opened"), ("place geo A 0 1", "done"), ("place alg A 0 1", "refused clash geo"), ("drop geo 0 1", "done"),
-            ("undo", "done place geo A 0 1"), ("slot 0 0", "lectures 0"), ("reroom geo B 0 1", "done"),
+            ("open", "opened"),
+            ("place geo A 0 1", "done"),
+            ("place alg A 0 1", "refused clash geo"),
+            ("drop geo 0 1", "done"),
+            ("undo", "done place geo A 0 1"),
+            ("slot 0 0", "lectures 0"),
+            ("reroom geo B 0 1", "done"),
             ("commit", "stale slot 0 1"),
         ]
         for line, answer in day:
@@ -231,6 +273,10 @@ class Reading(OfficeTest):
         self.assertFalse(minutes.has_grown())
 
     def test_timetable_of_an_empty_instance(self):
-        path = self.write("empty", "Name: x Courses: 0 Rooms: 0 Days: 1 Periods_per_day: 1 Curricula: 0 Constraints: 0 COURSES: "
-                          "ROOMS: CURRICULA: UNAVAILABILITY_CONSTRAINTS: END.")
+        path = self.write(
+            "empty",
+            "Name: x Courses: 0 Rooms: 0 Days: 1 Periods_per_day: 1 "
+            "Curricula: 0 Constraints: 0 COURSES: "
+            "ROOMS: CURRICULA: UNAVAILABILITY_CONSTRAINTS: END.",
+        )
         self.assertEqual(Timetable(read_instance(path)).lectures(), [])

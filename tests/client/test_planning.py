@@ -52,7 +52,9 @@ class Planners(OfficeTest):
         self.assertIn("Committed as draft 2", anna.notice)
         with open(self.path("day/minutes")) as file:
             minutes = file.read()
-        self.assertEqual(minutes, f"entry 1 1\nswap c0110 4 2 c0014 4 2\ndone\nentry 0 1\n{BEST}\ndone\n")
+        self.assertEqual(
+            minutes, f"entry 1 1\nswap c0110 4 2 c0014 4 2\ndone\nentry 0 1\n{BEST}\ndone\n"
+        )
         self.assertEqual((anna.alarm, ben.alarm), ("", ""))
 
     def test_stale_and_redo(self):
@@ -123,7 +125,9 @@ class Planners(OfficeTest):
         self.assertEqual(carry.best(), (4, 3))
         self.assertEqual(carry.told((4, 3)), "-257 in r04 (1 of 3; Tab for the next)")
         self.assertEqual(carry.told((0, 0)), "cannot stand there: c0109 is unavailable then")
-        self.assertEqual(carry.told((3, 0)), "cannot stand there: its teacher t067 teaches c0120 then")
+        self.assertEqual(
+            carry.told((3, 0)), "cannot stand there: its teacher t067 teaches c0120 then"
+        )
         carry.begin_at((4, 1))
         self.assertTrue(carry.is_in_place((4, 1)))
         swap = Carry(anna, SWAP, "c0109", lecture)
@@ -134,7 +138,8 @@ class Planners(OfficeTest):
         self.assertEqual(len(anna.minutes.entries), 0)
 
     def test_others_at_the_same_seat(self):
-        """A line at the seat of which the client does not know: it reads everything anew, and says so."""
+        """A line at the seat of which the client does not know: it reads everything anew, and says
+        so."""
         anna, ben = self.two()
         anna.edit(BEST)
         with open(self.path("day/0.in"), "w") as lines:
@@ -143,7 +148,9 @@ class Planners(OfficeTest):
         anna.edit("reroom c0049 r04 0 0")
         self.assertEqual(anna.alarm, "")
         anna._told.clear()
-        self.assertEqual([one.slot for one in anna.lectures("course c0109")], [(0, 3), (1, 4), (2, 4), (3, 2)])
+        self.assertEqual(
+            [one.slot for one in anna.lectures("course c0109")], [(0, 3), (1, 4), (2, 4), (3, 2)]
+        )
         self.assertIn("everything was read anew", anna.alarm)
         self.assertIsNone(anna.known.present().room_at("c0109", (4, 3)))
 

@@ -32,33 +32,44 @@ class Screens(OfficeTest):
     def test_day_of_two(self):
         """Two planners at two screens, from open to close; the journal agrees."""
         self.open("day", COMP07, "2", "--start", COMP07_SOL)
-        anna, ben = self.sit_down("day", 0, "--name", "anna"), self.sit_down("day", 1, "--name", "ben")
-        self.sees(anna, "seat 0 anna: no draft open", "cost 8847: capacity 8030, days 0, compactness 708, stability 109; missing 0")
+        anna = self.sit_down("day", 0, "--name", "anna")
+        ben = self.sit_down("day", 1, "--name", "ben")
+        costs = "cost 8847: capacity 8030, days 0, compactness 708, stability 109; missing 0"
+        self.sees(anna, "seat 0 anna: no draft open", costs)
         anna.press(*TO_BEST)
-        self.sees(anna, "c0109 is picked up", "Cheapest: -257 in r04, day 4, period 3: b goes there.", "clash c0120", "closed")
+        cheapest = "Cheapest: -257 in r04, day 4, period 3: b goes there."
+        self.sees(anna, "c0109 is picked up", cheapest, "clash c0120", "closed")
         anna.press("b", "Enter")
-        self.sees(anna, f"Done: {BEST}.", "draft open: 1 edit, saves 257, 0 accepted since", ">*r04")
+        self.sees(anna, f"Done: {BEST}.", "draft open: 1 edit, saves 257, 0 accepted since", "*r04")
         ben.press("v", *"c0014", "Enter", "s")
         self.sees(ben, "c0014 is picked up to swap")
         ben.press("b", "Enter", "c")
         self.sees(ben, "Committed as draft 1: 1 edit, on the disk.")
         self.sees(anna, "1 accepted since")
+        self.take_out_and_back(anna)
+        anna.press("c")
+        self.sees(anna, "Committed as draft 2: 1 edit, on the disk.")
+        for terminal in (anna, ben):
+            terminal.press("q")
+            self.sees(terminal, "ended 0")
+        status, printed, _ = self.office("close", self.path("day"))
+        line = printed.split("\n")[1]
+        self.assertEqual((status, line), (0, "day: 2 drafts accepted, the audit agrees"))
+        self.assertRegex(
+            self.office("log", self.path("day"))[1],
+            r"1 planner 1 ben, [-0-9 :]+\n    swap c0014.*\n"
+            rf"2 planner 0 anna, [-0-9 :]+\n    {BEST}\n",
+        )
+
+    def take_out_and_back(self, anna):
+        """A lecture is taken out, and the edit is taken back."""
         anna.press("x")
         self.sees(anna, "missing 1", "draft open: 2 edits")
         anna.press("u")
         self.sees(anna, "missing 0", "draft open: 1 edit,", "Taken back, by place c0109 r04 4 3.")
         anna.press("e")
         self.sees(anna, "The edits of your draft: 1", f"1. {BEST}")
-        anna.press("q", "c")
-        self.sees(anna, "Committed as draft 2: 1 edit, on the disk.")
         anna.press("q")
-        ben.press("q")
-        self.sees(anna, "ended 0")
-        self.sees(ben, "ended 0")
-        status, printed, _ = self.office("close", self.path("day"))
-        self.assertEqual((status, printed.split("\n")[1]), (0, "day: 2 drafts accepted, the audit agrees"))
-        log = self.office("log", self.path("day"))[1]
-        self.assertRegex(log, rf"1 planner 1 ben, [-0-9 :]+\n    swap c0014.*\n2 planner 0 anna, [-0-9 :]+\n    {BEST}\n")
 
     def test_stale_and_redo(self):
         self.open("day", COMP07, "2", "--start", COMP07_SOL)
@@ -71,9 +82,19 @@ class Screens(OfficeTest):
         self.sit("day", 1, "open\nmove c0109 4 1 r09 4 2\ncommit\n", "--name", "ben")
         self.sees(anna, "stale by now: course c0109 has changed")
         anna.press("c")
-        self.sees(anna, "Your draft is stale: nothing is lost", "draft 1, planner 1 (ben), ", "  move c0109 4 1 r09 4 2", f"  {BEST}")
+        self.sees(
+            anna,
+            "Your draft is stale: nothing is lost",
+            "draft 1, planner 1 (ben), ",
+            "  move c0109 4 1 r09 4 2",
+            f"  {BEST}",
+        )
         anna.press("r")
-        self.sees(anna, "1 of 2 edits made again, none committed yet.", f"1. {BEST}: no lecture of c0109 stands there any more")
+        self.sees(
+            anna,
+            "1 of 2 edits made again, none committed yet.",
+            f"1. {BEST}: no lecture of c0109 stands there any more",
+        )
         self.assertEqual(self.sit("day", 1, "show course c0049\n")[0].count("r04"), 0)
         anna.press("q", "c")
         self.sees(anna, "Committed as draft 2: 1 edit, on the disk.")
@@ -90,7 +111,9 @@ class Screens(OfficeTest):
         self.sees(anna, "Your draft is as you left it: 1 edit.", "draft open: 1 edit, saves 257")
         # the terminal is closed under it
         anna.close()
-        self.assertTrue(wait_until(lambda: " nobody " in self.office("status", self.path("day"))[1]))
+        self.assertTrue(
+            wait_until(lambda: " nobody " in self.office("status", self.path("day"))[1])
+        )
         anna = self.sit_down("day", 0)
         self.sees(anna, "draft open: 1 edit, saves 257")
         anna.press("c")
@@ -105,7 +128,13 @@ class Screens(OfficeTest):
         anna.press("x")
         self.sees(anna, "draft open: 1 edit")
         os.kill(self.desk_of("day"), signal.SIGKILL)
-        self.sees(anna, "The desk has ended", "Your accepted drafts are on the disk: 1.", "  drop c0109 4 3", "offered again")
+        self.sees(
+            anna,
+            "The desk has ended",
+            "Your accepted drafts are on the disk: 1.",
+            "  drop c0109 4 3",
+            "offered again",
+        )
         anna.press("c", "q")
         self.sees(anna, "ended 0")
         office.wait(30)
@@ -114,7 +143,9 @@ class Screens(OfficeTest):
         anna = self.sit_down("next", 0)
         self.sees(anna, "1 edit of day not accepted: make them again?", "drop c0109 4 3")
         anna.press("y")
-        self.sees(anna, "1 of 1 edits made again, none committed yet.", "draft open: 1 edit", "missing 1")
+        self.sees(
+            anna, "1 of 1 edits made again, none committed yet.", "draft open: 1 edit", "missing 1"
+        )
 
     def test_sizes(self):
         self.open("day", COMP07, "1", "--start", COMP07_SOL)
@@ -168,7 +199,9 @@ class Screens(OfficeTest):
         self.assertEqual(closing.wait(30), 0)
 
     def test_full_disk(self):
-        self.environment["TIMEDESK"] = self.write("limited", LIMITED.format(program=self.program).replace("600, 600", "150, 150"), 0o755)
+        self.environment["TIMEDESK"] = self.write(
+            "limited", LIMITED.format(program=self.program).replace("600, 600", "150, 150"), 0o755
+        )
         self.open("day", SMALL, "1", "--start", SMALL_SOL)
         anna = self.sit_down("day", 0)
         self.sees(anna, "no draft open")
@@ -189,13 +222,14 @@ class Screens(OfficeTest):
         self.sees(ben, "office: anna sits at seat 0, since ", "ended 3")
 
     def test_any_keys(self):
-        """Five hundred keys, as fast as they come: the screen is there, and shows what the desk has."""
+        """Five hundred keys, as fast as they come: the screen is there, and shows what the desk
+        has."""
         self.open("day", SMALL, "1", "--start", SMALL_SOL)
         anna = self.sit_down("day", 0)
         self.sees(anna, "no draft open")
         draw = random.Random(7)
-        keys = ["Up", "Down", "Left", "Right", "Tab", "BTab", "Enter", "Enter", "Enter", "b", "s", "x", "m", "u", "w", "v", "e", "c", "f",
-                "r", "a", "y", "?", ":", "Escape", "BSpace", "PPage", "数"]
+        keys = "Up Down Left Right Tab BTab Enter Enter Enter b s x m u w v e c f r a y ? :"
+        keys = [*keys.split(), "Escape", "BSpace", "PPage", "数"]
         for _ in range(50):
             self.terminals.tmux("send-keys", "-t", anna.name, *draw.choices(keys, k=10))
         anna.press("Escape")

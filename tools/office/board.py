@@ -5,18 +5,26 @@ import time
 from typing import Callable, Dict, List, Optional
 
 from office.carry import MOVE, PLACE, SWAP, Carry
-from office.earlier import Earlier
+from office.draft_keys import DraftKeys
 from office.grid import Row, View, all_views, grid_rows, told_of_view
 from office.header import detail_rows, head_rows, key_rows
 from office.help import help_lines
+from office.instance import Course
 from office.overlays import Chooser, Overlay, Page, Typed
 from office.planning import Planning
-from office.reasons import reason
 from office.text import fit, shown, wrap
 from office.timetable import Lecture, Slot
 
 # rows above the grid, and below it
 ABOVE, BELOW = 3, 7
+
+
+def missing_text(course: Course, count: int) -> str:
+    """A course of which lectures are missing, in a list of those."""
+    return (
+        f"{course.name}: {count} of {course.lectures} missing, "
+        f"{course.students} students, {course.teacher}"
+    )
 
 
 class Board:
@@ -32,28 +40,34 @@ class Board:
         self.is_done = False
         # the desk has ended: nothing more can be done
         self.is_dead = False
+        self.drafts = DraftKeys(self)
         self.actions: Dict[str, Callable[[], None]] = {
-            "enter": self.pick_up, "s": self.swap, "m": self.list_missing, "x": self.take_out, "v": self.choose_view,
-            "w": self.next_week, "u": self.undo, "e": self.list_edits, "c": self.commit, "f": self.refresh, "r": self.redo,
-            "a": self.ask_abandon, ":": self.type_line, "?": self.show_help, "q": self.leave, "tab": self.next_lecture,
-            "escape": self.lay_down, "b": self.go_to_best, "backtab": self.last_choice,
+            "enter": self.pick_up,
+            "s": self.swap,
+            "m": self.list_missing,
+            "x": self.take_out,
+            "v": self.choose_view,
+            "w": self.next_week,
+            "u": self.drafts.undo,
+            "e": self.drafts.list_edits,
+            "c": self.drafts.commit,
+            "f": self.drafts.refresh,
+            "r": self.drafts.redo,
+            "a": self.drafts.ask_abandon,
+            ":": self.drafts.type_line,
+            "?": self.show_help,
+            "q": self.leave,
+            "tab": self.next_lecture,
+            "escape": self.lay_down,
+            "b": self.go_to_best,
+            "backtab": self.last_choice,
         }
 
     def begin(self) -> None:
         """Shows the week with which one begins, and offers edits of an earlier day."""
         self.planning.begin()
         self.show_view(self.view)
-        earlier = Earlier(self.planning)
-        if earlier.edits:
-            self.overlay = Page(
-                earlier.title(), earlier.edits, {"y": lambda: self.take_up(earlier), "n": earlier.decline},
-                "y makes them again in a draft, n never asks again, Escape asks the next time",
-            )
-
-    def take_up(self, earlier: Earlier) -> None:
-        refused = earlier.take_up()
-        if refused:
-            self.overlay = Page(self.planning.notice, refused)
+        self.drafts.offer_earlier()
 
     # what is seen
 
@@ -69,10 +83,14 @@ class Board:
         if self.overlay is not None and not isinstance(self.overlay, Typed):
             return self.overlay.rows(height, width)[:height]
         rows = head_rows(self.planning, self.carry, self.view, width)
-        rows += grid_rows(self.planning, self.view, self.cursor, self.carry, height - ABOVE - BELOW, width)
+        rows += grid_rows(
+            self.planning, self.view, self.cursor, self.carry, height - ABOVE - BELOW, width
+        )
         rows = rows[: height - BELOW]
         rows += [[("", "")]] * (height - BELOW - len(rows))
-        rows += detail_rows(self.planning, self.view, self.cursor, self.lecture(), self.carry, width)
+        rows += detail_rows(
+            self.planning, self.view, self.cursor, self.lecture(), self.carry, width
+        )
         rows += self.message_rows(width)
         if isinstance(self.overlay, Typed):
             return rows + key_rows(self.carry, width)[:1] + self.overlay.rows(1, width)
@@ -81,7 +99,8 @@ class Board:
     def message_rows(self, width: int) -> List[Row]:
         """Two rows: what the last step has to say, and what else is to be known."""
         lines = wrap(shown(self.planning.notice), width - 2)[:2]
-        style = "bad" if self.planning.notice.startswith(("Refused", "Stale", "Not written")) else "said"
+        is_bad = self.planning.notice.startswith(("Refused", "Stale", "Not written"))
+        style = "bad" if is_bad else "said"
         rows: List[Row] = [[(fit(f" {line}", width), style)] for line in lines]
         urgent = self.planning.alarm or self.closing_text()
         if urgent:
@@ -92,7 +111,8 @@ class Board:
         at = self.planning.seat.day.closes_at()
         if at is None:
             return ""
-        return f"The office closes in {max(0, round(at - time.time()))} s: commit now, or your edits are offered again."
+        seconds = max(0, round(at - time.time()))
+        return f"The office closes in {seconds} s: commit now, or your edits are offered again."
 
     # keys
 
@@ -132,7 +152,8 @@ class Board:
         return True
 
     def show_view(self, view: View) -> None:
-        """Shows a week, with the cursor at its first lecture, or where it was if a lecture is picked up."""
+        """Shows a week, with the cursor at its first lecture, or where it was if a lecture is
+        picked up."""
         self.view = view
         lectures = told_of_view(self.planning, view)
         if lectures and not self.carry and all(one.slot != self.cursor for one in lectures):
@@ -143,19 +164,26 @@ class Board:
         self.overlay = Chooser("Whose week?", choices, self.show_view)
 
     def next_week(self) -> None:
-        """The week of the course at the cursor, of its teacher, its room, and its curricula, in turn."""
+        """The week of the course at the cursor, of its teacher, its room, and its curricula, in
+        turn."""
         lecture = self.lecture()
         if lecture is None:
             self.planning.notice = "No lecture stands here."
             return
         instance = self.planning.instance
-        turns = [View("course", lecture.course), View("teacher", instance.courses[lecture.course].teacher)]
-        turns += [View("room", lecture.room)] + [View("curriculum", name) for name in instance.curricula_of[lecture.course]]
+        turns = [
+            View("course", lecture.course),
+            View("teacher", instance.courses[lecture.course].teacher),
+        ]
+        turns += [View("room", lecture.room)] + [
+            View("curriculum", name) for name in instance.curricula_of[lecture.course]
+        ]
         at = turns.index(self.view) if self.view in turns else -1
         self.view = turns[(at + 1) % len(turns)]
 
     def next_lecture(self) -> None:
-        """The next offer of a slot, if a lecture is picked up; else the next lecture of the week."""
+        """The next offer of a slot, if a lecture is picked up; else the next lecture of the
+        week."""
         if self.carry:
             self.carry.choice += 1
             return
@@ -196,9 +224,15 @@ class Board:
         """Asks anew what is offered, if the lecture is still there."""
         carry = self.carry
         assert carry is not None
-        if carry.lecture and self.planning.known.present().room_at(carry.course, carry.lecture.slot) != carry.lecture.room:
+        if (
+            carry.lecture
+            and self.planning.known.present().room_at(carry.course, carry.lecture.slot)
+            != carry.lecture.room
+        ):
             self.carry = None
-            self.planning.notice = f"Somebody has changed {carry.course}: it is not picked up any more."
+            self.planning.notice = (
+                f"Somebody has changed {carry.course}: it is not picked up any more."
+            )
             return
         self.carry = Carry(self.planning, carry.kind, carry.course, carry.lecture)
         self.carry.choice = carry.choice
@@ -212,7 +246,9 @@ class Board:
             offer = self.carry.offers[best][0]
             what = "with" if self.carry.kind == SWAP else "in"
             where = f"day {best[0]}, period {best[1]}"
-            self.planning.notice = f"Cheapest: {offer.price:+d} {what} {offer.about}, {where}: b goes there."
+            self.planning.notice = (
+                f"Cheapest: {offer.price:+d} {what} {offer.about}, {where}: b goes there."
+            )
 
     def go_to_best(self) -> None:
         best = self.carry.best() if self.carry else None
@@ -249,7 +285,7 @@ class Board:
     def list_missing(self) -> None:
         courses = self.planning.instance.courses
         choices = [
-            (f"{name}: {count} of {courses[name].lectures} missing, {courses[name].students} students, {courses[name].teacher}", name)
+            (missing_text(courses[name], count), name)
             for name, count in self.planning.missing().items()
         ]
         if choices:
@@ -263,67 +299,6 @@ class Board:
         self.carry = Carry(self.planning, PLACE, course, None)
         self.say_best()
 
-    # the draft
-
-    def undo(self) -> None:
-        self.carry = None
-        self.planning.undo()
-
-    def list_edits(self) -> None:
-        edits = self.planning.edits()
-        self.overlay = Page(f"The edits of your draft: {len(edits)}", [f"{n}. {edit}" for n, edit in enumerate(edits, 1)])
-
-    def commit(self) -> None:
-        self.carry = None
-        self.planning.commit()
-        self.explain_stale()
-
-    def refresh(self) -> None:
-        self.carry = None
-        self.planning.refresh()
-        self.explain_stale()
-
-    def explain_stale(self) -> None:
-        """Says who changed what, and offers to make the edits again."""
-        planning = self.planning
-        row, planning.stale_row = planning.stale_row, ""
-        if not row:
-            return
-        edits = planning.seat.story.ended
-        lines = [f"{row} is another one now:", *planning.who_changed(row), ""]
-        lines += ["Your edits:", *(f"  {edit}" for edit in edits), "", "r makes them again on the newest timetable. Nothing is committed by it."]
-        self.overlay = Page("Your draft is stale: nothing is lost", lines, {"r": self.redo}, "r makes them again, Escape later")
-
-    def redo(self) -> None:
-        self.carry = None
-        redone = self.planning.redo()
-        if redone is not None and redone.refused:
-            lines = [f"{n}. {edit}: {reason(self.planning.instance, edit, fault)}" for n, edit, fault in redone.refused]
-            self.overlay = Page(self.planning.notice, ["These were refused:", *lines])
-
-    def ask_abandon(self) -> None:
-        if not self.planning.is_open:
-            self.planning.notice = "No draft is open."
-            return
-        edits = [f"  {edit}" for edit in self.planning.edits()]
-        self.overlay = Page("Give up these edits?", edits, {"y": self.abandon}, "y gives them up, Escape keeps them")
-
-    def abandon(self) -> None:
-        self.carry = None
-        self.planning.abandon()
-
-    def type_line(self) -> None:
-        self.overlay = Typed(":", self.send_line)
-
-    def send_line(self, line: str) -> None:
-        words = line.split()
-        if words == ["leave"]:
-            self.leave()
-        elif words:
-            self.carry = None
-            self.planning.type_line(" ".join(words))
-            self.explain_stale()
-
     def show_help(self) -> None:
         self.overlay = Page("Keys", help_lines())
 
@@ -333,11 +308,4 @@ class Board:
     def desk_ended(self) -> None:
         """What is left to say when the desk has ended."""
         self.is_dead = True
-        story = self.planning.seat.story
-        accepted = ", ".join(map(str, story.accepted)) or "none"
-        lines = [f"Your accepted drafts are on the disk: {accepted}."]
-        open_edits = story.unfinished()
-        if open_edits:
-            lines += ["These edits were not accepted. They are in the log, and offered again after the next opening:"]
-            lines += [f"  {edit}" for edit in open_edits]
-        self.overlay = Page("The desk has ended", lines, {"q": self.leave}, "q leaves")
+        self.overlay = Page("The desk has ended", self.drafts.left(), {"q": self.leave}, "q leaves")

@@ -16,7 +16,8 @@ MOVE, SWAP, PLACE = "move", "swap", "place"
 
 
 class Offer(NamedTuple):
-    """An edit that would be accepted, with its price and the room or the course that it is about."""
+    """An edit that would be accepted, with its price and the room or the course that it is
+    about."""
 
     price: int
     edit: str
@@ -34,7 +35,9 @@ def offer_of(price: int, edit: str) -> Tuple[Slot, Offer]:
 class Carry:
     """What is offered for a lecture that is placed, or for a missing one."""
 
-    def __init__(self, planning: Planning, kind: str, course: str, lecture: Optional[Lecture]) -> None:
+    def __init__(
+        self, planning: Planning, kind: str, course: str, lecture: Optional[Lecture]
+    ) -> None:
         self.planning = planning
         self.kind, self.course, self.lecture = kind, course, lecture
         self.slot: Optional[Slot] = lecture.slot if lecture else None
@@ -66,7 +69,8 @@ class Carry:
                 self.offers[slot].append(offer)
 
     def at(self, slot: Slot) -> List[Offer]:
-        """What is offered at a slot, cheapest first. What the one answer had no place for is asked alone."""
+        """What is offered at a slot, cheapest first. What the one answer had no place for is asked
+        alone."""
         if slot not in self.offers and not self.is_whole and self.kind != SWAP:
             self._ask_slot(slot)
         return self.offers.get(slot, [])
@@ -96,14 +100,18 @@ class Carry:
 
     def best(self) -> Optional[Slot]:
         """The slot with the cheapest offer; of several the first one."""
-        elsewhere = {slot: offers for slot, offers in self.offers.items() if offers and slot != self.slot}
+        elsewhere = {
+            slot: offers for slot, offers in self.offers.items() if offers and slot != self.slot
+        }
         found = elsewhere or {slot: offers for slot, offers in self.offers.items() if offers}
         return min(sorted(found), key=lambda slot: found[slot][0].price) if found else None
 
     def is_in_place(self, slot: Slot) -> bool:
         """Whether the chosen offer leaves everything as it is."""
         offer = self.chosen(slot)
-        return bool(self.lecture and offer and slot == self.slot and offer.about == self.lecture.room)
+        return bool(
+            self.lecture and offer and slot == self.slot and offer.about == self.lecture.room
+        )
 
     def price_text(self, slot: Slot) -> str:
         """The cell's line for a slot: the price and the room or partner, or why it cannot be."""
@@ -134,7 +142,11 @@ class Carry:
         if offer is None:
             return f"cannot stand there: {self.reason(slot)}"
         what = {MOVE: "in", PLACE: "in", SWAP: "with"}[self.kind]
-        more = f" ({self.choice % len(offers) + 1} of {len(offers)}; Tab for the next)" if len(offers) > 1 else ""
+        more = (
+            f" ({self.choice % len(offers) + 1} of {len(offers)}; Tab for the next)"
+            if len(offers) > 1
+            else ""
+        )
         if self.is_in_place(slot):
             return f"stays where it is{more}"
         return f"{signed(offer.price)} {what} {offer.about}{more}"

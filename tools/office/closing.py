@@ -1,5 +1,5 @@
-"""`office close`: tells those who sit, waits for the desk, and writes what the day leaves. After a crash it writes the same of what
-the minutes hold."""
+"""`office close`: tells those who sit, waits for the desk, and writes what the day leaves. After a
+crash it writes the same of what the minutes hold."""
 from __future__ import annotations
 
 import contextlib
@@ -44,7 +44,10 @@ def end_office(day: Day, seconds: float) -> None:
             send(number, signal.SIGTERM)
         time.sleep(0.5)
     if day.is_open():
-        raise Refused(f"the office in {day.path} does not end: its processes are {' '.join(map(str, numbers))}")
+        raise Refused(
+            f"the office in {day.path} does not end: its processes are "
+            + " ".join(map(str, numbers))
+        )
 
 
 def send(number: int, sign: int) -> None:

@@ -11,7 +11,8 @@ from office.text import counted
 
 
 def unfinished_before(day: Day, planner: int) -> Tuple[str, List[str]]:
-    """The name of the last day before this one at which the seat was used, and what it left unfinished."""
+    """The name of the last day before this one at which the seat was used, and what it left
+    unfinished."""
     seen = {day.path}
     while True:
         try:

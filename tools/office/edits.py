@@ -39,8 +39,8 @@ def take_fault(words: list[str]) -> tuple[str, list[str]]:
 
 @dataclass(frozen=True)
 class Redone:
-    """The answer of `redo`: how many edits were made again of how many, and those that were left out, each with its number (from
-    1), its words and the fault."""
+    """The answer of `redo`: how many edits were made again of how many, and those that were left
+    out, each with its number (from 1), its words and the fault."""
 
     made: int
     of: int
@@ -138,7 +138,9 @@ class Story:
         redone = Redone.read(answer)
         if redone is not None:
             left_out = {number for number, _, _ in redone.refused}
-            made = [edit for number, edit in enumerate(self.ended_made, 1) if number not in left_out]
+            made = [
+                edit for number, edit in enumerate(self.ended_made, 1) if number not in left_out
+            ]
             self._begin(made, list(made))
         elif answer == "already open":
             self._is_open_after_all()
@@ -160,7 +162,8 @@ class Story:
         elif answer.startswith("stale "):
             self._end(keeps=True)
         elif answer == "not written":
-            # the first draft that is told so has ended, a later one is open still: the next answer says which
+            # the first draft that is told so has ended, a later one is open still: the next answer
+            # says which
             self._end(keeps=True)
             self.is_full = True
 

@@ -1,4 +1,5 @@
-"""The folder of a day: the names of its files, what is known of the day, and who holds its locks."""
+"""The folder of a day: the names of its files, what is known of the day, and who holds its
+locks."""
 from __future__ import annotations
 
 import fcntl
@@ -61,7 +62,8 @@ class Day:
         self.name = os.path.basename(os.path.abspath(path))
         # what is known of the day from its opening on
         self.facts_file = self.file("day.json")
-        # the office holds the lock of this file, which has its number, the desk's, and how far it is
+        # the office holds the lock of this file, which has its number, the desk's, and how far it
+        # is
         self.office = self.file("office")
         # when the seats are closed, as long as the office is closing
         self.closing = self.file("closing")

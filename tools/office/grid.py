@@ -2,14 +2,15 @@
 from __future__ import annotations
 
 from dataclasses import dataclass, field
-from typing import Dict, List, NamedTuple, Optional, Tuple
+from typing import Dict, Iterable, List, NamedTuple, Optional, Tuple
 
 from office.carry import Carry
 from office.planning import Planning
 from office.text import fit, shown
 from office.timetable import Lecture, Slot, Timetable
 
-# a piece of a row with its style: "", "head", "mine", "others", "points", "good", "bad", "dim", "cursor"
+# a piece of a row with its style: "", "head", "mine", "others", "points", "good", "bad", "dim",
+# "cursor"
 Row = List[Tuple[str, str]]
 LABEL = 4
 NARROWEST = 13
@@ -39,7 +40,12 @@ class Cell:
 
 def all_views(planning: Planning) -> List[View]:
     instance = planning.instance
-    named = {"curriculum": instance.curricula, "teacher": instance.teachers, "room": instance.rooms, "course": instance.courses}
+    named: Dict[str, Iterable[str]] = {
+        "curriculum": instance.curricula,
+        "teacher": instance.teachers,
+        "room": instance.rooms,
+        "course": instance.courses,
+    }
     return [View(kind, name) for kind in KINDS for name in named[kind]]
 
 
@@ -90,14 +96,18 @@ def cells_of(planning: Planning, view: View) -> Dict[Slot, Cell]:
     known, instance = planning.known, planning.instance
     present = by_slot(told_of_view(planning, view))
     closed = instance.closed[view.name] if view.kind == "course" else set()
-    cells = {slot: Cell(present.get(slot, []), is_closed=slot in closed) for slot in instance.slots()}
+    cells = {
+        slot: Cell(present.get(slot, []), is_closed=slot in closed) for slot in instance.slots()
+    }
     if known.base is not None:
         base, newest = by_slot(of_view(known.base, view)), by_slot(of_view(known.newest, view))
         for slot, cell in cells.items():
             cell.is_mine = base.get(slot) != present.get(slot)
             cell.is_others = base.get(slot) != newest.get(slot)
     for cell in cells.values():
-        cell.signs = " ".join(filter(None, (signs_of(planning, view, one) for one in cell.lectures)))
+        cell.signs = " ".join(
+            filter(None, (signs_of(planning, view, one) for one in cell.lectures))
+        )
     return cells
 
 
@@ -129,10 +139,14 @@ def window_of(planning: Planning, cursor: Slot, height: int, width: int) -> Wind
     return Window(range(first_day, first_day + days), range(first, first + periods), column)
 
 
-def cell_lines(view: View, cell: Cell, slot: Slot, cursor: Slot, carry: Optional[Carry], column: int) -> List[Tuple[str, str]]:
+def cell_lines(
+    view: View, cell: Cell, slot: Slot, cursor: Slot, carry: Optional[Carry], column: int
+) -> List[Tuple[str, str]]:
     """The two lines of a cell, each with its style. Each colour has a sign, too."""
     pointer = ">" if slot == cursor else "^" if carry and slot == carry.slot else " "
-    mark = {(True, True): "%", (True, False): "*", (False, True): "~"}.get((cell.is_mine, cell.is_others), " ")
+    mark = {(True, True): "%", (True, False): "*", (False, True): "~"}.get(
+        (cell.is_mine, cell.is_others), " "
+    )
     name = name_in_cell(view, cell)
     style = "mine" if cell.is_mine else "others" if cell.is_others else ""
     if carry is not None:
@@ -150,14 +164,19 @@ def cell_lines(view: View, cell: Cell, slot: Slot, cursor: Slot, carry: Optional
     ]
 
 
-def grid_rows(planning: Planning, view: View, cursor: Slot, carry: Optional[Carry], height: int, width: int) -> List[Row]:
+def grid_rows(
+    planning: Planning, view: View, cursor: Slot, carry: Optional[Carry], height: int, width: int
+) -> List[Row]:
     """The grid of a week in so many rows and columns."""
     window = window_of(planning, cursor, height, width)
     cells = cells_of(planning, view)
     days = "".join(fit(f"  day {day}", window.column) for day in window.days)
     rows: List[Row] = [[(" " * LABEL + days, "head")]]
     for period in window.periods:
-        both = [cell_lines(view, cells[day, period], (day, period), cursor, carry, window.column) for day in window.days]
+        both = [
+            cell_lines(view, cells[day, period], (day, period), cursor, carry, window.column)
+            for day in window.days
+        ]
         rows.append([(f"{period:>3} ", "head"), *(lines[0] for lines in both)])
         rows.append([(" " * LABEL, ""), *(lines[1] for lines in both)])
     return rows

@@ -47,7 +47,8 @@ def head_rows(planning: Planning, carry: Optional[Carry], view: View, width: int
     who = f" seat {seat.planner} {shown(seat.name)}: {draft_text(planning)}"
     title = f" week of {shown(view.title())}{missing_text(planning, view)}"
     if carry is not None:
-        title = f" {shown(carry.course)} is picked up{' to swap' if carry.kind == SWAP else ''}; {title.strip()}"
+        what = "picked up to swap" if carry.kind == SWAP else "picked up"
+        title = f" {shown(carry.course)} is {what};{title}"
     last: Row = [(fit(title, width), "title")]
     if planning.is_open and planning.foretold:
         told = f"stale by now: {shown(planning.foretold)} has changed; c says who "
@@ -72,7 +73,8 @@ def points_text(planning: Planning, name: str) -> str:
     costs = read_costs(planning.look(f"coursecost {name}"))
     told = ", ".join(f"{kind} {points}" for kind, points in costs.items() if points)
     curricula = " ".join(planning.instance.curricula_of[name])
-    return f"costs {told or 'nothing'}; {f'curricula {curricula}' if curricula else 'in no curriculum'}"
+    told_curricula = f"curricula {curricula}" if curricula else "in no curriculum"
+    return f"costs {told or 'nothing'}; {told_curricula}"
 
 
 def room_text(planning: Planning, lecture: Lecture) -> str:

@@ -85,7 +85,8 @@ def read_instance(path: str, barred: Optional[str] = None) -> Instance:
     courses, rooms, days, periods, curricula, constraints = (int(reader.headed()) for _ in range(6))
     reader.word()
     listed = [
-        Course(reader.word(), reader.word(), reader.number(), reader.number(), reader.number()) for _ in range(courses)
+        Course(reader.word(), reader.word(), reader.number(), reader.number(), reader.number())
+        for _ in range(courses)
     ]
     reader.word()
     seats = {reader.word(): reader.number() for _ in range(rooms)}

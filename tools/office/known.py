@@ -1,4 +1,5 @@
-"""What a planner's client knows of the newest timetable and of its draft, by the answers of the desk and by the minutes."""
+"""What a planner's client knows of the newest timetable and of its draft, by the answers of the
+desk and by the minutes."""
 from __future__ import annotations
 
 from typing import Iterable, List, Optional, Tuple
@@ -36,7 +37,8 @@ class Known:
         return True
 
     def hear(self, line: str, answer: str) -> bool:
-        """Takes up a line with its answer, and answers whether it is the one that was expected, as far as one was."""
+        """Takes up a line with its answer, and answers whether it is the one that was expected, as
+        far as one was."""
         kind, *rest = words_of(line)
         if answer in WANTS or answer.startswith("bad line"):
             # nothing has changed by it

@@ -43,7 +43,8 @@ class Minutes:
         return self.size() > self._at
 
     def read_on(self) -> list[Entry]:
-        """The entries that are there since the last time. What is torn at the end is left for the next time."""
+        """The entries that are there since the last time. What is torn at the end is left for the
+        next time."""
         try:
             with open(self.path, "rb") as file:
                 file.seek(self._at)

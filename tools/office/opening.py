@@ -1,4 +1,5 @@
-"""`office open`: all is checked first, then the desk is started, and only when each seat answers is the office said to be open."""
+"""`office open`: all is checked first, then the desk is started, and only when each seat answers is
+the office said to be open."""
 from __future__ import annotations
 
 import contextlib
@@ -26,14 +27,17 @@ NO_MEND = 2
 class Plan:
     """What a day is opened with."""
 
-    def __init__(self, day: Day, planners: int, instance: str, start: Optional[str], barred: Optional[str]) -> None:
+    def __init__(
+        self, day: Day, planners: int, instance: str, start: Optional[str], barred: Optional[str]
+    ) -> None:
         self.day = day
         self.planners = planners
         self.instance = instance
         self.start = start
         self.barred = barred
         self.after: Optional[Day] = None
-        # the start is the end of another day under another instance: what cannot stand any more is set aside
+        # the start is the end of another day under another instance: what cannot stand any more is
+        # set aside
         self.mends = False
         self.program = ["timedesk"]
 
@@ -44,7 +48,9 @@ def say(*words: str) -> None:
         print("office:", *words, file=sys.stderr, flush=True)
 
 
-def plan_after(day: Day, before: Day, planners: Optional[int], instance: Optional[str], barred: Optional[str]) -> Plan:
+def plan_after(
+    day: Day, before: Day, planners: Optional[int], instance: Optional[str], barred: Optional[str]
+) -> Plan:
     """The plan of a day that begins with what another one has left."""
     facts = before.facts()
     if before.is_open():
@@ -52,7 +58,9 @@ def plan_after(day: Day, before: Day, planners: Optional[int], instance: Optiona
     if not os.path.exists(before.end):
         raise Refused(f"{before.path} is not closed yet: office close {before.path}")
     kept = before.barred if os.path.exists(before.barred) else None
-    plan = Plan(day, planners or facts["planners"], instance or before.instance, before.end, barred or kept)
+    plan = Plan(
+        day, planners or facts["planners"], instance or before.instance, before.end, barred or kept
+    )
     plan.after, plan.mends, plan.program = before, instance is not None, facts["program"]
     return plan
 
@@ -90,7 +98,8 @@ class Opening:
         self.lock, self.made = claim(self.day)
 
     def open(self) -> int:
-        """Opens the office, and keeps it until it is closed. Until it is open, a refusal or a signal leaves nothing of it."""
+        """Opens the office, and keeps it until it is closed. Until it is open, a refusal or a
+        signal leaves nothing of it."""
         desk = None
         try:
             self.note("", "checking")
@@ -112,7 +121,8 @@ class Opening:
         os.ftruncate(self.lock, len(text))
 
     def prepare(self) -> None:
-        """Builds the program if need be, copies the files, and has them checked as they were copied."""
+        """Builds the program if need be, copies the files, and has them checked as they were
+        copied."""
         plan, day = self.plan, self.day
         if self.run(*plan.program, "--help") != 0:
             raise Refused("there is no program to run a desk with")
@@ -156,7 +166,8 @@ class Opening:
         write_whole(target, text)
 
     def mend(self, solution: str) -> None:
-        """Makes the start of what an earlier day has left; what cannot stand any more is listed by the program."""
+        """Makes the start of what an earlier day has left; what cannot stand any more is listed by
+        the program."""
         day = self.day
         words = [*self.plan.program, "mend", day.instance, solution, *day.barred_words()]
         with open(day.start, "wb") as start, open(day.file("aside"), "w+b") as aside:
@@ -164,7 +175,9 @@ class Opening:
             aside.seek(0)
             said = aside.read()
         if status == NO_MEND:
-            raise Refused("this timedesk has no `mend` yet, so a changed instance cannot follow a day")
+            raise Refused(
+                "this timedesk has no `mend` yet, so a changed instance cannot follow a day"
+            )
         with contextlib.suppress(OSError):
             sys.stderr.write(said.decode(errors="replace"))
             sys.stderr.flush()
@@ -175,7 +188,15 @@ class Opening:
         plan, day = self.plan, self.day
         paths = [day.seat(planner) for planner in range(plan.planners)]
         self.seats.make(paths)
-        words = [*plan.program, "desk", day.instance, *paths, *day.start_words(), "--minutes", day.minutes]
+        words = [
+            *plan.program,
+            "desk",
+            day.instance,
+            *paths,
+            *day.start_words(),
+            "--minutes",
+            day.minutes,
+        ]
         # the desk has the lock too: as long as it goes on, no other office opens here
         desk = processes.start(words, None, keep=[self.lock])
         self.note(str(desk.pid), "starting")
@@ -189,13 +210,23 @@ class Opening:
         if desk.poll() is not None:
             raise Silent(desk.returncode if desk.returncode > 0 else 3)
         if not all(answer.startswith(b"costs ") for answer in answers):
-            raise Refused(f"the desk does not answer as it should: {answers[0].decode(errors='replace')}")
+            raise Refused(
+                f"the desk does not answer as it should: {answers[0].decode(errors='replace')}"
+            )
         self.note(str(desk.pid), "open")
 
     def forget(self) -> None:
         """Removes what was made, before the office is open."""
         day = self.day
-        made = [day.instance, day.start, day.barred, day.minutes, day.facts_file, day.names, day.file("aside")]
+        made = [
+            day.instance,
+            day.start,
+            day.barred,
+            day.minutes,
+            day.facts_file,
+            day.names,
+            day.file("aside"),
+        ]
         for path in [*made, day.office]:
             for ending in ("", ".new"):
                 with contextlib.suppress(FileNotFoundError):
@@ -209,7 +240,10 @@ class Opening:
         """Keeps the office until the desk has ended, and answers with its status."""
         day = self.day
         last = self.plan.planners - 1
-        say(f"open, seats 0 to {last}: office sit {day.path} PLANNER; Ctrl-C, or office close {day.path}, closes it")
+        say(
+            f"open, seats 0 to {last}: office sit {day.path} PLANNER; "
+            f"Ctrl-C, or office close {day.path}, closes it"
+        )
         try:
             while desk.poll() is None and not self.signals.count:
                 self.signals.wait(60.0)
@@ -223,12 +257,19 @@ class Opening:
             self.note("", "closed")
             os.close(self.lock)
         if desk.returncode < 0 and not self.signals.count:
-            say(f"the desk has ended {processes.how_ended(desk.returncode)}; what was committed is in {day.minutes}")
-        say(f"closed; office close {day.path} writes the journal of the day and the timetable that it leaves")
+            say(
+                f"the desk has ended {processes.how_ended(desk.returncode)}; "
+                f"what was committed is in {day.minutes}"
+            )
+        say(
+            f"closed; office close {day.path} writes the journal of the day "
+            "and the timetable that it leaves"
+        )
         return max(0, desk.returncode)
 
     def close(self, desk: subprocess.Popen[bytes]) -> None:
-        """Lets the desk end, and those who sit for some time; then, or when a second signal comes, the desk is ended."""
+        """Lets the desk end, and those who sit for some time; then, or when a second signal comes,
+        the desk is ended."""
         day, signals = self.day, self.signals
         until = day.closes_at()
         if until is None:

@@ -1,4 +1,5 @@
-"""What stands in front of the grid for a while: lists to choose from, pages to read, a question, a line to type."""
+"""What stands in front of the grid for a while: lists to choose from, pages to read, a question, a
+line to type."""
 from __future__ import annotations
 
 from typing import Callable, Generic, List, Optional, Sequence, Tuple, TypeVar
@@ -58,13 +59,19 @@ class Chooser(Overlay, Generic[Choice]):
     def rows(self, height: int, width: int) -> List[Row]:
         found, room = self.found(), max(1, height - 4)
         first = max(0, min(self.at - room // 2, len(found) - room))
-        rows: List[Row] = [[(fit(f" {self.title}", width), "head")], [(fit(f" > {shown(self.typed)}_", width), "")]]
+        rows: List[Row] = [
+            [(fit(f" {self.title}", width), "head")],
+            [(fit(f" > {shown(self.typed)}_", width), "")],
+        ]
         for place, (text, _) in enumerate(found[first : first + room], first):
             is_at = place == self.at
-            rows.append([(fit(f" {'>' if is_at else ' '} {shown(text)}", width), "cursor" if is_at else "")])
+            rows.append(
+                [(fit(f" {'>' if is_at else ' '} {shown(text)}", width), "cursor" if is_at else "")]
+            )
         if not found:
             rows.append([(fit("   nothing has these letters", width), "dim")])
-        last = f" {len(found)} of {len(self.choices)}   letters narrow the list, Enter chooses, Escape goes back"
+        keys = "letters narrow the list, Enter chooses, Escape goes back"
+        last = f" {len(found)} of {len(self.choices)}   {keys}"
         return rows + [[("", "")]] * (height - len(rows) - 1) + [[(fit(last, width), "head")]]
 
 
@@ -72,7 +79,11 @@ class Page(Overlay):
     """Lines to read. `keys` are what the last line says, and what may follow."""
 
     def __init__(
-        self, title: str, lines: List[str], answers: Optional[dict] = None, last: str = "any key goes back"
+        self,
+        title: str,
+        lines: List[str],
+        answers: Optional[dict] = None,
+        last: str = "any key goes back",
     ) -> None:
         self.title, self.lines, self.last = title, lines, last
         # what a key does; a page without such keys goes by any key
@@ -95,7 +106,11 @@ class Page(Overlay):
         rows: List[Row] = [[(fit(f" {self.title}", width), "head")], [("", "")]]
         rows += [[(fit(f" {line}", width), "")] for line in lines[self.at : self.at + room]]
         more = " (down for more) " if self.at + room < len(lines) else ""
-        return rows[: height - 1] + [[("", "")]] * (height - len(rows) - 1) + [[(fit(f" {self.last}{more}", width), "head")]]
+        return (
+            rows[: height - 1]
+            + [[("", "")]] * (height - len(rows) - 1)
+            + [[(fit(f" {self.last}{more}", width), "head")]]
+        )
 
 
 class Typed(Overlay):

@@ -1,4 +1,5 @@
-"""The named pipes of the seats: the office holds the ends that a planner has too, so that he may go away and come back."""
+"""The named pipes of the seats: the office holds the ends that a planner has too, so that he may go
+away and come back."""
 from __future__ import annotations
 
 import contextlib
@@ -24,7 +25,8 @@ class HeldSeat:
                 os.remove(seat + ending)
             os.mkfifo(seat + ending)
             os.chmod(seat + ending, 0o660)
-        # a pipe that is opened at both ends waits for nobody, and takes a line before the desk has opened it
+        # a pipe that is opened at both ends waits for nobody, and takes a line before the desk has
+        # opened it
         self.both: Optional[int] = os.open(seat + ".in", os.O_RDWR)
         self.lines = os.open(seat + ".in", os.O_WRONLY)
         self.answers = os.open(seat + ".out", os.O_RDONLY | os.O_NONBLOCK)
@@ -70,8 +72,8 @@ class HeldSeats:
             os.write(seat.lines, line + b"\n")
 
     def hear(self, signals: Signals, goes_on: Callable[[], bool]) -> list[bytes]:
-        """The first line that each seat answers. It is waited for as long as the desk goes on and no signal comes; until then an
-        answer is empty."""
+        """The first line that each seat answers. It is waited for as long as the desk goes on and
+        no signal comes; until then an answer is empty."""
         heard = {seat.answers: b"" for seat in self.held}
         waiting = set(heard)
         while waiting and goes_on() and not signals.count:

@@ -18,6 +18,7 @@ from office.timetable import Lecture, Timetable, read_lectures
 from office.words import words_of
 
 COSTS = ("capacity", "days", "compactness", "stability")
+NOT_WRITTEN = "Not written: the disk is full, or fails. Your edits are in the log; tell the office."
 DIFFERS = "The desk answered otherwise than expected: everything was read anew."
 
 
@@ -41,10 +42,12 @@ class Planning:
         self.alarm = ""
         # answers to looks, until something changes
         self._told: Dict[str, str] = {}
-        # how many drafts were accepted before the draft was opened, and what the timetable cost then
+        # how many drafts were accepted before the draft was opened, and what the timetable cost
+        # then
         self.opened_at = 0
         self.base_total: Optional[int] = None
-        # the row for which a commit was or, by the last status, would be told that the draft is stale
+        # the row for which a commit was or, by the last status, would be told that the draft is
+        # stale
         self.stale_row = ""
         self.foretold = ""
 
@@ -67,7 +70,8 @@ class Planning:
         return len(self.minutes.entries) - self.opened_at
 
     def look(self, words: str) -> str:
-        """What a look is told: of the draft if one is open, without becoming part of it; else of the newest timetable."""
+        """What a look is told: of the draft if one is open, without becoming part of it; else of
+        the newest timetable."""
         line = f"{'peek' if self.is_open else 'show'} {words}"
         if line not in self._told:
             self._told[line] = self.ask(line)
@@ -112,7 +116,8 @@ class Planning:
         self.notice = f"Your draft is as you left it: {counted(len(self.edits()), 'edit')}."
 
     def ask(self, line: str) -> str:
-        """Sends a line and takes up its answer. If it is not as expected, everything is read anew."""
+        """Sends a line and takes up its answer. If it is not as expected, everything is read
+        anew."""
         answer = self.seat.ask(line)
         expected = self.known.hear(line, answer)
         if not expected and line.startswith("show ") and self.read_minutes():
@@ -142,7 +147,8 @@ class Planning:
         return self.is_open
 
     def _stand_anew(self) -> None:
-        """Reads the draft on the base that it has now, and what the newest timetable costs, which is noted in the log, too."""
+        """Reads the draft on the base that it has now, and what the newest timetable costs, which
+        is noted in the log, too."""
         self.known.draft = self.read_all("peek")
         if not self.known.made:
             self.known.base = self.known.draft.copy()
@@ -187,7 +193,9 @@ class Planning:
             return
         answer = self.turn("commit")
         if answer.startswith("committed "):
-            self.notice = f"Committed as draft {answer[10:]}: {counted(count, 'edit')}, on the disk."
+            self.notice = (
+                f"Committed as draft {answer[10:]}: {counted(count, 'edit')}, on the disk."
+            )
         else:
             self._turned_down(answer)
 
@@ -207,10 +215,12 @@ class Planning:
         """A commit or a refresh that did not succeed."""
         if answer.startswith("stale "):
             self.stale_row = answer[6:]
-            self.notice = f"Stale: {self.stale_row} has changed. Your edits are kept: r makes them again."
+            self.notice = (
+                f"Stale: {self.stale_row} has changed. Your edits are kept: r makes them again."
+            )
         elif answer == "not written":
             self.read_again()
-            self.notice = "Not written: the disk is full, or fails. Your edits are in the log; tell the office."
+            self.notice = NOT_WRITTEN
         else:
             self.notice = answer_in_words(answer)
 
@@ -221,7 +231,8 @@ class Planning:
             self.notice = f"The draft is given up: {counted(count, 'edit')}."
 
     def redo(self) -> Optional[Redone]:
-        """Makes the edits of a stale draft again on the newest timetable; nothing is committed by it."""
+        """Makes the edits of a stale draft again on the newest timetable; nothing is committed by
+        it."""
         answer = self.turn("redo")
         redone = Redone.read(answer)
         if redone is None:
@@ -232,7 +243,8 @@ class Planning:
         return redone
 
     def make_again(self, edits: List[str]) -> List[str]:
-        """Makes edits of an earlier day in a draft, and answers those that were refused, with the reason."""
+        """Makes edits of an earlier day in a draft, and answers those that were refused, with the
+        reason."""
         refused = [self.notice for edit in edits if not self.edit(edit)]
         made = len(edits) - len(refused)
         self.notice = f"{made} of {len(edits)} edits made again, none committed yet."
@@ -281,7 +293,8 @@ class Planning:
             self.known.base = self.known.base or self.known.draft.copy()
 
     def tick(self) -> bool:
-        """Looks whether others were accepted, and what a commit would be told by now; answers whether there is news."""
+        """Looks whether others were accepted, and what a commit would be told by now; answers
+        whether there is news."""
         if not self.minutes.has_grown() or not self.read_minutes():
             return False
         if self.is_open:

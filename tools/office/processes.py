@@ -17,7 +17,8 @@ class Stopped(Exception):
 
 
 class Signals:
-    """Ctrl-C and TERM are counted, and wake whoever waits. The office goes on when its terminal closes."""
+    """Ctrl-C and TERM are counted, and wake whoever waits. The office goes on when its terminal
+    closes."""
 
     def __init__(self) -> None:
         self.count = 0
@@ -34,7 +35,8 @@ class Signals:
         self.count += 1
 
     def wait(self, seconds: float, *ends: int) -> list[int]:
-        """Waits so long, or until a signal comes or one of the ends can be read; these are answered."""
+        """Waits so long, or until a signal comes or one of the ends can be read; these are
+        answered."""
         found = select.select([self._woken, *ends], [], [], max(0.0, seconds))[0]
         if self._woken in found:
             with contextlib.suppress(BlockingIOError):
@@ -74,7 +76,9 @@ def end(child: subprocess.Popen[bytes]) -> None:
             return
 
 
-def run(signals: Signals, words: Sequence[str], stdout: Any = subprocess.DEVNULL, **more: Any) -> int:
+def run(
+    signals: Signals, words: Sequence[str], stdout: Any = subprocess.DEVNULL, **more: Any
+) -> int:
     """Runs a child to its end, and answers its status. It is ended if Ctrl-C or TERM comes."""
     signals.check()
     child = start(words, stdout, **more)
@@ -102,4 +106,8 @@ def now() -> str:
     """The time of this moment as it is written in logs, with the zone of this machine."""
     whole = time.time()
     local = time.localtime(whole)
-    return time.strftime("%Y-%m-%dT%H:%M:%S", local) + f".{int(whole % 1 * 1000):03d}" + time.strftime("%z", local)
+    return (
+        time.strftime("%Y-%m-%dT%H:%M:%S", local)
+        + f".{int(whole % 1 * 1000):03d}"
+        + time.strftime("%z", local)
+    )

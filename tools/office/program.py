@@ -26,7 +26,8 @@ def program_words(unproved: bool) -> list[str]:
 
 
 def output(words: list[str], quiet: bool = False) -> tuple[int, bytes]:
-    """The status of a command and what it prints. What it says goes where the office's goes, or nowhere."""
+    """The status of a command and what it prints. What it says goes where the office's goes, or
+    nowhere."""
     try:
         done = subprocess.run(
             words,
@@ -52,7 +53,9 @@ class Left:
         return output([*self.program, *words], self.quiet)
 
     def write_journal(self, path: str) -> None:
-        status, text = self.run("journal", self.day.instance, self.day.minutes, *self.day.barred_words())
+        status, text = self.run(
+            "journal", self.day.instance, self.day.minutes, *self.day.barred_words()
+        )
         if status != 0:
             raise Silent(status)
         with open(path, "wb") as file:
@@ -71,7 +74,8 @@ class Left:
             file.write(text)
 
     def report(self, solution: Optional[str]) -> dict[str, str]:
-        """The report on a solution by the words in front of its lines; of an empty one if there is none."""
+        """The report on a solution by the words in front of its lines; of an empty one if there is
+        none."""
         words = ["check", self.day.instance, solution or os.devnull, *self.day.barred_words()]
         status, text = self.run(*words)
         if status != 0:

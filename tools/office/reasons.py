@@ -19,7 +19,9 @@ def reason(instance: Instance, edit: str, fault: str) -> str:
     if kind == "roomtaken":
         return f"{other[0]} is in {place} then"
     return {
-        "unavailable": f"{course} is unavailable then" if words[0] != "swap" else "one is unavailable then",
+        "unavailable": f"{course} is unavailable then"
+        if words[0] != "swap"
+        else "one is unavailable then",
         "barred": f"{place} is barred for {course}",
         "already": f"{course} has a lecture there already",
         "full": f"all lectures of {course} are placed",
@@ -43,7 +45,9 @@ def clash_reason(instance: Instance, course: str, other: str) -> str:
     return f"curriculum {name} has {other} then"
 
 
-def move_reason(timetable: Timetable, course: str, old: Optional[Slot], slot: Slot) -> Optional[str]:
+def move_reason(
+    timetable: Timetable, course: str, old: Optional[Slot], slot: Slot
+) -> Optional[str]:
     """Why no room serves for a course in a slot; None if one does."""
     instance = timetable.instance
     faults = []

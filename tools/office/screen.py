@@ -21,21 +21,52 @@ from office.text import width
 # how many milliseconds a key is waited for, before news are looked for
 TICK = 500
 NAMES = {
-    curses.KEY_UP: "up", curses.KEY_DOWN: "down", curses.KEY_LEFT: "left", curses.KEY_RIGHT: "right",
-    curses.KEY_ENTER: "enter", "\n": "enter", "\r": "enter", "\x1b": "escape", "\t": "tab", curses.KEY_BTAB: "backtab",
-    curses.KEY_BACKSPACE: "backspace", "\x7f": "backspace", "\b": "backspace", curses.KEY_PPAGE: "pageup",
-    curses.KEY_NPAGE: "pagedown", curses.KEY_DC: "x", curses.KEY_RESIZE: "resize",
+    curses.KEY_UP: "up",
+    curses.KEY_DOWN: "down",
+    curses.KEY_LEFT: "left",
+    curses.KEY_RIGHT: "right",
+    curses.KEY_ENTER: "enter",
+    "\n": "enter",
+    "\r": "enter",
+    "\x1b": "escape",
+    "\t": "tab",
+    curses.KEY_BTAB: "backtab",
+    curses.KEY_BACKSPACE: "backspace",
+    "\x7f": "backspace",
+    "\b": "backspace",
+    curses.KEY_PPAGE: "pageup",
+    curses.KEY_NPAGE: "pagedown",
+    curses.KEY_DC: "x",
+    curses.KEY_RESIZE: "resize",
 }
 COLOURS = {
-    "mine": curses.COLOR_CYAN, "others": curses.COLOR_MAGENTA, "points": curses.COLOR_YELLOW, "good": curses.COLOR_GREEN,
+    "mine": curses.COLOR_CYAN,
+    "others": curses.COLOR_MAGENTA,
+    "points": curses.COLOR_YELLOW,
+    "good": curses.COLOR_GREEN,
     "bad": curses.COLOR_RED,
 }
 
 
 def styles() -> Dict[str, int]:
-    """The attributes of styles: colours only in a terminal that has them, and where NO_COLOR does not forbid them."""
-    found = {"": 0, "head": curses.A_BOLD, "title": curses.A_UNDERLINE, "dim": 0, "detail": 0, "said": curses.A_BOLD}
-    found.update({"cursor": curses.A_REVERSE, "mine": curses.A_BOLD, "others": curses.A_UNDERLINE, "bad": curses.A_BOLD})
+    """The attributes of styles: colours only in a terminal that has them, and where NO_COLOR does
+    not forbid them."""
+    found = {
+        "": 0,
+        "head": curses.A_BOLD,
+        "title": curses.A_UNDERLINE,
+        "dim": 0,
+        "detail": 0,
+        "said": curses.A_BOLD,
+    }
+    found.update(
+        {
+            "cursor": curses.A_REVERSE,
+            "mine": curses.A_BOLD,
+            "others": curses.A_UNDERLINE,
+            "bad": curses.A_BOLD,
+        }
+    )
     if not curses.has_colors() or os.environ.get("NO_COLOR"):
         return found
     curses.start_color()
@@ -148,7 +179,10 @@ def sit_at_screen(day: Day, planner: int, name: Optional[str]) -> int:
     except Closed:
         said.append("the office has closed")
     except (DeskEnded, NoAnswer):
-        said.append("the desk has ended; what was told as committed is on the disk, and open edits are offered again")
+        said.append(
+            "the desk has ended; what was told as committed is on the disk, "
+            "and open edits are offered again"
+        )
         return 3
     finally:
         if seat.story.is_open:

@@ -1,4 +1,5 @@
-"""A planner's end of a seat: lines go to the desk, answers come back, and both are in the seat's log before they are shown."""
+"""A planner's end of a seat: lines go to the desk, answers come back, and both are in the seat's
+log before they are shown."""
 from __future__ import annotations
 
 import contextlib
@@ -142,8 +143,9 @@ class Seat:
         return answer
 
     def catch_up(self) -> list[str]:
-        """Hears the answers that were under way when somebody sat here last: a word that nothing begins with is sent behind, and
-        its answer is waited for. Lines that were never sent are known by it, too."""
+        """Hears the answers that were under way when somebody sat here last: a word that nothing
+        begins with is sent behind, and its answer is waited for. Lines that were never sent are
+        known by it, too."""
         probe = f"office-{os.getpid()}-{time.monotonic_ns()}"
         # a line that was cut ends here; the desk skips one without words
         self._write(b"\n" + probe.encode() + b"\n")

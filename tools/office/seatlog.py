@@ -105,10 +105,11 @@ class SeatPast:
             self.base = int(rest)
         elif word == "unsent" and self.waiting:
             # the last lines were never sent: their client died before
-            del self.waiting[-int(rest):]
+            del self.waiting[-int(rest) :]
 
     def unfinished(self) -> list[str]:
-        """The edits of this seat that were neither accepted nor given up. An edit that was sent and not answered is among them."""
+        """The edits of this seat that were neither accepted nor given up. An edit that was sent and
+        not answered is among them."""
         return self.story.unfinished() + [line for line in self.waiting if is_edit(line)]
 
 

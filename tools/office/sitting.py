@@ -1,4 +1,5 @@
-"""`office sit`: the screen, or lines, which are sent as they are typed and answered as they come."""
+"""`office sit`: the screen, or lines, which are sent as they are typed and answered as they
+come."""
 from __future__ import annotations
 
 import contextlib
@@ -70,7 +71,10 @@ class PlainSitting:
         for answer in self.seat.catch_up():
             self.show(answer)
         if sys.stdin.isatty():
-            say(f"seat {self.seat.planner} of {self.seat.day.path}; Ctrl-D goes away for a while, `leave` ends the seat")
+            say(
+                f"seat {self.seat.planner} of {self.seat.day.path}; "
+                "Ctrl-D goes away for a while, `leave` ends the seat"
+            )
 
     def go_on(self) -> int:
         """Sends lines and shows answers until the planner goes, or the seat ends."""
@@ -115,7 +119,10 @@ class PlainSitting:
             return
         if not self.has_closing_told:
             self.has_closing_told = True
-            say(f"the office closes in {max(0, round(at - time.time()))} seconds: commit, or your edits are offered again")
+            say(
+                f"the office closes in {max(0, round(at - time.time()))} seconds: "
+                "commit, or your edits are offered again"
+            )
         if time.time() > at:
             raise Gone
 
@@ -139,7 +146,10 @@ def sit_plain(day: Day, planner: int, name: Optional[str]) -> int:
             sitting.hear()
         if seat.story.has_left:
             return 0
-        say("the desk has ended; what was told as committed is on the disk, and open edits are offered again")
+        say(
+            "the desk has ended; what was told as committed is on the disk, "
+            "and open edits are offered again"
+        )
     except NoAnswer:
         say("the desk does not answer")
     finally:

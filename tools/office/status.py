@@ -1,4 +1,5 @@
-"""`office status`: who sits, how far the drafts are, and what the timetable costs, by what the folder has; the desk is not asked."""
+"""`office status`: who sits, how far the drafts are, and what the timetable costs, by what the
+folder has; the desk is not asked."""
 from __future__ import annotations
 
 import os
@@ -25,7 +26,10 @@ def state_of(day: Day) -> str:
         return "not open yet"
     if os.path.exists(day.end):
         return "closed"
-    return f"no desk: it has ended, or was killed; office close {day.path} writes what the day has left"
+    return (
+        f"no desk: it has ended, or was killed; office close {day.path} "
+        "writes what the day has left"
+    )
 
 
 def draft_of(past: SeatPast) -> str:
@@ -88,11 +92,15 @@ def print_status(day: Day) -> int:
     facts = day.facts()
     pasts = read_pasts(day)
     entries = read_minutes(day.minutes)
-    counts = [sum(entry.planner == planner for entry in entries) for planner in range(facts["planners"])]
+    counts = [
+        sum(entry.planner == planner for entry in entries) for planner in range(facts["planners"])
+    ]
     print(f"{day.name}: {state_of(day)}; opened {facts['opened'][:16].replace('T', ' ')}")
     print(f"{counted(len(entries), 'draft')} accepted; {minutes_line(day, pasts)}")
     for line in cost_lines(day):
         print(line)
     heads = ["seat", "who", "since", "draft", "last said", "accepted"]
-    print_table([heads] + [seat_line(day, p, pasts[p], counts[p]) for p in range(facts["planners"])])
+    print_table(
+        [heads] + [seat_line(day, p, pasts[p], counts[p]) for p in range(facts["planners"])]
+    )
     return 0

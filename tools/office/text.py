@@ -6,7 +6,9 @@ import unicodedata
 
 def shown(text: str) -> str:
     """A text without what a terminal would take as a command."""
-    return "".join(letter if letter.isprintable() else "\N{REPLACEMENT CHARACTER}" for letter in text)
+    return "".join(
+        letter if letter.isprintable() else "\N{REPLACEMENT CHARACTER}" for letter in text
+    )
 
 
 def letter_width(letter: str) -> int:
@@ -40,8 +42,8 @@ def fit(text: str, columns: int) -> str:
 
 
 def wrap(text: str, columns: int) -> list[str]:
-    """A text in lines of so many columns, parted at blanks; a word that is too long is cut. Each line begins as far to the right as
-    the text does."""
+    """A text in lines of so many columns, parted at blanks; a word that is too long is cut. Each
+    line begins as far to the right as the text does."""
     indent = " " * min(len(text) - len(text.lstrip(" ")), columns // 2)
     room = columns - len(indent)
     lines, line = [], ""

@@ -1,7 +1,8 @@
 """A timetable as a planner's client knows it: what stands where, and why an edit would be refused.
 
-It foretells the desk's answers, so that a screen can say in words why a lecture cannot stand somewhere. What is shown as an answer
-is the desk's; where the two differ, the timetable is read anew.
+It foretells the desk's answers, so that a screen can say in words why a lecture cannot stand
+somewhere. What is shown as an answer is the desk's; where the two differ, the timetable is read
+anew.
 """
 from __future__ import annotations
 
@@ -30,7 +31,9 @@ class Lecture(NamedTuple):
 class Timetable:
     """Lectures by courses and by slots."""
 
-    def __init__(self, instance: Instance, lectures: Iterable[Tuple[str, str, int, int]] = ()) -> None:
+    def __init__(
+        self, instance: Instance, lectures: Iterable[Tuple[str, str, int, int]] = ()
+    ) -> None:
         self.instance = instance
         self.by_course: Dict[str, Dict[Slot, str]] = {name: {} for name in instance.courses}
         self.by_slot: Dict[Slot, Dict[str, str]] = {slot: {} for slot in instance.slots()}
@@ -50,7 +53,10 @@ class Timetable:
 
     def of_slot(self, slot: Slot) -> List[Lecture]:
         row = self.by_slot[slot]
-        return [Lecture(course, row[course], *slot) for course in sorted(row, key=self.instance.numbers.__getitem__)]
+        return [
+            Lecture(course, row[course], *slot)
+            for course in sorted(row, key=self.instance.numbers.__getitem__)
+        ]
 
     def of_courses(self, courses: Iterable[str]) -> List[Lecture]:
         """The lectures of several courses, in the order of courses and slots."""
@@ -58,7 +64,12 @@ class Timetable:
         return [lecture for course in ordered for lecture in self.of_course(course)]
 
     def of_room(self, room: str) -> List[Lecture]:
-        return [lecture for slot in self.by_slot for lecture in self.of_slot(slot) if lecture.room == room]
+        return [
+            lecture
+            for slot in self.by_slot
+            for lecture in self.of_slot(slot)
+            if lecture.room == room
+        ]
 
     def room_at(self, course: str, slot: Slot) -> Optional[str]:
         return self.by_course[course].get(slot)
@@ -78,7 +89,8 @@ class Timetable:
     def same_as(self, other: Timetable) -> bool:
         return self.by_course == other.by_course
 
-    # what an edit does, and why it would be refused: the first fault in the order in which the desk looks for them
+    # what an edit does, and why it would be refused: the first fault in the order in which the desk
+    # looks for them
 
     def _alone(self, course: str, slot: Slot, room: str) -> Optional[str]:
         if slot in self.instance.closed[course]:
@@ -135,7 +147,9 @@ class Timetable:
         if kind == "place":
             return self.placing_fault(course, (int(rest[1]), int(rest[2])), rest[0])
         if kind == "swap":
-            return self._swap_fault(course, (int(rest[0]), int(rest[1])), rest[2], (int(rest[3]), int(rest[4])))
+            return self._swap_fault(
+                course, (int(rest[0]), int(rest[1])), rest[2], (int(rest[3]), int(rest[4]))
+            )
         if kind == "reroom":
             slot = new = (int(rest[1]), int(rest[2]))
             room = rest[0]
@@ -195,4 +209,7 @@ def read_lectures(answer: str) -> Optional[List[Lecture]]:
     if words[:1] != ["lectures"]:
         return None
     rest = words[2:]
-    return [Lecture(c, r, int(d), int(p)) for c, r, d, p in zip(rest[0::4], rest[1::4], rest[2::4], rest[3::4])]
+    return [
+        Lecture(c, r, int(d), int(p))
+        for c, r, d, p in zip(rest[0::4], rest[1::4], rest[2::4], rest[3::4])
+    ]
