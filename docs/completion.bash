@@ -102,10 +102,10 @@ complete -F _timedesk timedesk
 
 # Adds folders of days: those that have a file `day.json`.
 _office_days() {
-    local folder folders
+    local folder days
     compopt -o filenames 2>/dev/null
-    mapfile -t folders < <(compgen -d -- "$1")
-    for folder in "${folders[@]}"; do
+    mapfile -t days < <(compgen -d -- "$1")
+    for folder in "${days[@]}"; do
         [[ ! -e $folder/day.json ]] || COMPREPLY+=("$folder")
     done
 }

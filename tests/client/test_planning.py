@@ -164,7 +164,7 @@ class Planners(OfficeTest):
         with self.assertRaises(DeskEnded):
             anna.edit("reroom c0049 r04 0 0")
         board = Board(anna)
-        board.desk_ended()
+        board.desk_ended("The desk has ended")
         text = "\n".join(row[0][0] for row in board.rows(24, 80))
         self.assertIn("Your accepted drafts are on the disk: none.", text)
         self.assertIn(BEST, text)

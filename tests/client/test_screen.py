@@ -2,9 +2,11 @@
 import os
 import random
 import signal
+import subprocess
 import unittest
 
-from support import COMP07, COMP07_SOL, OFFICE, PLANNING, SMALL, SMALL_SOL, OfficeTest, wait_until
+from support import COMP07, COMP07_SOL, HERE, OFFICE, PLANNING, SMALL, SMALL_SOL
+from support import OfficeTest, wait_until
 from terminal import Terminals, has_tmux
 from test_day import LIMITED
 
@@ -237,3 +239,14 @@ class Screens(OfficeTest):
         anna.press("Escape")
         self.sees(anna, "seat 0")
         self.assertNotIn("Traceback", anna.text())
+
+    def test_pictures(self):
+        """The pictures of the pages are what a planner sees."""
+        done = subprocess.run(
+            [os.path.join(HERE, "tools/captures.py"), "--check"],
+            env=self.environment,
+            capture_output=True,
+            text=True,
+            timeout=300,
+        )
+        self.assertEqual((done.returncode, done.stdout, done.stderr), (0, "", ""))

@@ -305,7 +305,7 @@ class Board:
     def leave(self) -> None:
         self.is_done = True
 
-    def desk_ended(self) -> None:
-        """What is left to say when the desk has ended."""
+    def desk_ended(self, why: str) -> None:
+        """What is left to say when the desk has ended, or does not answer."""
         self.is_dead = True
-        self.overlay = Page("The desk has ended", self.drafts.left(), {"q": self.leave}, "q leaves")
+        self.overlay = Page(why, self.drafts.left(), {"q": self.leave}, "q leaves")

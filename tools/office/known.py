@@ -27,14 +27,7 @@ class Known:
 
     def accept(self, edits: List[str]) -> bool:
         """Takes up an accepted draft, and answers whether it fits what is known."""
-        return all(self._make(self.newest, edit) for edit in edits)
-
-    @staticmethod
-    def _make(timetable: Timetable, edit: str) -> bool:
-        if timetable.fault(edit) is not None:
-            return False
-        timetable.make(edit)
-        return True
+        return all(self.newest.try_edit(edit) for edit in edits)
 
     def hear(self, line: str, answer: str) -> bool:
         """Takes up a line with its answer, and answers whether it is the one that was expected, as
@@ -108,7 +101,7 @@ class Known:
             return False
         self._begin()
         self.made = made
-        return all(self._make(self.draft, edit) for edit in made)
+        return all(self.draft.try_edit(edit) for edit in made)
 
     def _hear_redo(self, answer: str) -> bool:
         redone = Redone.read(answer)

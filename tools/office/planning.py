@@ -109,7 +109,7 @@ class Planning:
         self.known.base = Timetable(self.instance, self._start())
         for entry in self.minutes.entries[: self.opened_at]:
             for edit in entry.edits():
-                self.known.base.make(edit)
+                self.known.base.try_edit(edit)
         self.known.draft = self.read_all("peek")
         self.known.made = list(self.seat.story.made)
         self.base_total = read_past(self.seat.day.log(self.seat.planner)).base
@@ -326,7 +326,7 @@ class Planning:
         for entry in self.minutes.entries:
             before = timetable.look(row)
             for edit in entry.edits():
-                timetable.make(edit)
+                timetable.try_edit(edit)
             if entry.number > self.opened_at and timetable.look(row) != before:
                 time, name = told.get(entry.number, (now(), ""))
                 who = f"planner {entry.planner}{f' ({name})' if name else ''}"

@@ -150,8 +150,10 @@ class Screen:
             try:
                 self.paint()
                 self.step()
-            except (DeskEnded, NoAnswer):
-                self.board.desk_ended()
+            except DeskEnded:
+                self.board.desk_ended("The desk has ended")
+            except NoAnswer:
+                self.board.desk_ended("The desk does not answer")
 
 
 def show_board(window: Any, board: Board) -> None:

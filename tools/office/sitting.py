@@ -25,13 +25,26 @@ LAST = 10.0
 
 def sit_down(day: Day, planner: int, name: Optional[str], plain: bool) -> int:
     """Sits down at a seat, at the screen or by lines."""
-    is_terminal = sys.stdin.isatty() and sys.stdout.isatty()
-    if plain or not is_terminal or os.environ.get("TERM", "dumb") == "dumb":
+    if plain or not is_screen():
         wrap(day, planner, name)
         return sit_plain(day, planner, name)
     from office.screen import sit_at_screen
 
     return sit_at_screen(day, planner, name)
+
+
+def is_screen() -> bool:
+    """Whether the terminal can show the screen."""
+    if not (sys.stdin.isatty() and sys.stdout.isatty()):
+        return False
+    try:
+        import curses
+
+        curses.setupterm()
+        return bool(curses.tigetstr("cup"))
+    except Exception:
+        # no such terminal is known, or this Python has no curses
+        return False
 
 
 def wrap(day: Day, planner: int, name: Optional[str]) -> None:

@@ -46,6 +46,8 @@ def seat_line(day: Day, planner: int, past: Optional[SeatPast], accepted: int) -
     name, since = read_sitter(day, planner)
     sits = is_locked(day.sitter(planner))
     who, when = (name or "somebody", since[11:16]) if sits else ("nobody", "")
+    if past is not None and past.story.has_left:
+        who = "left for the day"
     if past is None:
         return [str(planner), who, when, "its log is closed to you", "", str(accepted)]
     last = past.last[0][11:19]

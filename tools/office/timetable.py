@@ -65,10 +65,10 @@ class Timetable:
 
     def of_room(self, room: str) -> List[Lecture]:
         return [
-            lecture
-            for slot in self.by_slot
-            for lecture in self.of_slot(slot)
-            if lecture.room == room
+            Lecture(course, room, *slot)
+            for slot, row in self.by_slot.items()
+            for course, place in row.items()
+            if place == room
         ]
 
     def room_at(self, course: str, slot: Slot) -> Optional[str]:
@@ -188,6 +188,13 @@ class Timetable:
         self.put(course, slot2, room2)
         self.put(other, slot, room)
         return f"swap {course} {slot2[0]} {slot2[1]} {other} {slot[0]} {slot[1]}"
+
+    def try_edit(self, edit: str) -> bool:
+        """Makes an edit if it has no fault, and answers whether it was made."""
+        if self.fault(edit) is not None:
+            return False
+        self.make(edit)
+        return True
 
     def look(self, line: str) -> Optional[List[Lecture]]:
         """The lectures that a look shows; None if it is a look of another kind."""
