@@ -83,6 +83,31 @@ class Planners(OfficeTest):
         self.assertIn("Committed as draft 2: 2 edits", anna.notice)
         self.assertEqual(anna.alarm, "")
 
+    def test_stale_edits_are_not_left_behind(self):
+        """Who goes on after a stale draft is asked first what becomes of its edits."""
+        anna, ben = self.two()
+        anna.edit(BEST)
+        ben.edit("move c0109 4 1 r09 4 2")
+        ben.commit()
+        anna.commit()
+        self.assertFalse(anna.edit("drop c0001 1 2"))
+        self.assertIn("r makes them again, a gives them up", anna.notice)
+        anna.seat.go()
+        anna = self.planning("day", 0, "anna")
+        self.assertEqual(anna.ended(), [BEST])
+        self.assertEqual(anna.redo()[0].split(":")[0], f"1. {BEST}")
+        anna.abandon()
+        self.assertTrue(anna.edit("move c0109 3 2 r04 4 3"))
+        ben.edit("drop c0109 3 2")
+        ben.commit()
+        anna.commit()
+        board = Board(anna)
+        for key in ("escape", "a", "y"):
+            board.press(key)
+        self.assertEqual(anna.ended(), [])
+        self.assertTrue(anna.edit("drop c0001 1 2"))
+        self.assertEqual(anna.alarm, "")
+
     def test_undo(self):
         anna, _ = self.two()
         total = sum(anna.costs().values())

@@ -40,6 +40,8 @@ class Board:
         self.is_done = False
         # the desk has ended: nothing more can be done
         self.is_dead = False
+        # the window is too small to see what a key does
+        self.is_small = False
         self.drafts = DraftKeys(self)
         self.actions: Dict[str, Callable[[], None]] = {
             "enter": self.pick_up,
@@ -78,7 +80,8 @@ class Board:
 
     def rows(self, height: int, width: int) -> List[Row]:
         """The whole screen in so many rows and columns."""
-        if height < 10 or width < 40:
+        self.is_small = height < 10 or width < 40
+        if self.is_small:
             return [[(fit("the window is too small", width), "bad")]] + [[("", "")]] * (height - 1)
         if self.overlay is not None and not isinstance(self.overlay, Typed):
             return self.overlay.rows(height, width)[:height]
@@ -118,6 +121,8 @@ class Board:
 
     def press(self, key: str) -> None:
         """Does what a key means."""
+        if self.is_small and key != "q":
+            return
         self.planning.alarm = ""
         if self.carry is None and self.overlay is None:
             self.planning.notice = ""

@@ -5,7 +5,6 @@ from typing import TYPE_CHECKING, List
 
 from office.earlier import Earlier
 from office.overlays import Page, Typed
-from office.reasons import reason
 
 if TYPE_CHECKING:
     from office.board import Board
@@ -77,19 +76,17 @@ class DraftKeys:
 
     def redo(self) -> None:
         self.board.carry = None
-        redone = self.board.planning.redo()
-        if redone is not None and redone.refused:
-            lines = [
-                f"{n}. {edit}: {reason(self.board.planning.instance, edit, fault)}"
-                for n, edit, fault in redone.refused
-            ]
-            self.board.overlay = Page(self.board.planning.notice, ["These were refused:", *lines])
+        refused = self.board.planning.redo()
+        if refused:
+            lines = ["These were refused:", *refused]
+            self.board.overlay = Page(self.board.planning.notice, lines)
 
     def ask_abandon(self) -> None:
-        if not self.board.planning.is_open:
-            self.board.planning.notice = "No draft is open."
+        planning = self.board.planning
+        if not planning.is_open and not planning.ended():
+            planning.notice = "No draft is open."
             return
-        edits = [f"  {edit}" for edit in self.board.planning.edits()]
+        edits = [f"  {edit}" for edit in planning.edits() or planning.ended()]
         self.board.overlay = Page(
             "Give up these edits?", edits, {"y": self.abandon}, "y gives them up, Escape keeps them"
         )

@@ -40,7 +40,7 @@ class Earlier:
         self.planning = planning
         seat = planning.seat
         self.name, self.edits = "", []  # type: str, List[str]
-        if not seat.offer and not seat.story.made and not seat.story.accepted:
+        if not seat.offer:
             self.name, self.edits = unfinished_before(seat.day, seat.planner)
 
     def title(self) -> str:
@@ -51,5 +51,6 @@ class Earlier:
 
     def take_up(self) -> List[str]:
         """Makes them again in a draft, and answers those that were refused, with the reason."""
+        refused = self.planning.make_again(self.edits)
         self.planning.seat.log.noted("offer taken")
-        return self.planning.make_again(self.edits)
+        return refused

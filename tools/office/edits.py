@@ -110,6 +110,10 @@ class Story:
         """The edits that were made and neither accepted nor given up."""
         return self.edits if self.is_open else self.ended
 
+    def forget(self) -> None:
+        """The edits of the last draft are given up."""
+        self.ended, self.ended_made = [], []
+
     def _make(self, edit: str) -> None:
         if not self.is_open:
             # this is a draft of which the beginning is not known

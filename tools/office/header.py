@@ -5,7 +5,8 @@ from typing import List, Optional
 
 from office.carry import SWAP, Carry
 from office.grid import Row, View
-from office.planning import COSTS, Planning, read_costs
+from office.planning import Planning
+from office.reading import COSTS, read_costs
 from office.text import counted, fit, shown
 from office.timetable import Lecture, Slot
 

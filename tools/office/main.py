@@ -2,11 +2,12 @@
 from __future__ import annotations
 
 import argparse
+import os
 import sys
 from typing import Any, Optional
 
 from office.folder import Day
-from office.refused import WORDS, Refused
+from office.refused import MACHINE, Refused
 
 EXAMPLES = """a day, and the next one:
   office open monday comp07.ctt 8 --start comp07.sol
@@ -150,6 +151,11 @@ def main(typed: Optional[list[str]] = None) -> int:
             print("office:", refused.reason, file=sys.stderr)
         return refused.status
     except BrokenPipeError:
-        return WORDS
+        # who reads has enough
+        os.dup2(os.open(os.devnull, os.O_WRONLY), sys.stdout.fileno())
+        return MACHINE
+    except OSError as fault:
+        print("office:", fault, file=sys.stderr)
+        return MACHINE
     except KeyboardInterrupt:
         return 130

@@ -81,7 +81,7 @@ def claim(day: Day) -> tuple[int, bool]:
         raise Refused(f"cannot write into {day.path}: {fault.strerror}") from None
     if held is None:
         raise Refused(f"an office is open in {day.path}")
-    if day.is_there() or os.path.exists(day.minutes):
+    if day.is_there() or (os.path.exists(day.minutes) and os.path.getsize(day.minutes)):
         os.close(held)
         raise Refused(f"{day.path} has a day already: give each day a folder of its own")
     return held, made
@@ -138,7 +138,7 @@ class Opening:
             raise Silent(status)
         names = "\n".join(names_of(read_instance(day.instance)))
         write_whole(day.names, encoded(names + "\n"))
-        os.close(os.open(day.minutes, os.O_WRONLY | os.O_CREAT | os.O_EXCL, 0o640))
+        os.close(os.open(day.minutes, os.O_WRONLY | os.O_CREAT, 0o640))
         day.write_facts(
             {
                 "planners": plan.planners,

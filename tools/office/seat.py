@@ -95,6 +95,11 @@ class Seat:
             os.close(end)
         self.log.close()
 
+    def forget_ended(self) -> None:
+        """Notes that the edits of the last draft are given up."""
+        self.log.noted("forgets")
+        self.story.forget()
+
     def send(self, line: str) -> None:
         """Sends a line, which is in the log before."""
         self.log.sent(line)

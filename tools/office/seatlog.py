@@ -103,6 +103,8 @@ class SeatPast:
             self.offer = rest
         elif word == "base":
             self.base = int(rest)
+        elif word == "forgets":
+            self.story.forget()
         elif word == "unsent" and self.waiting:
             # the last lines were never sent: their client died before
             del self.waiting[-int(rest) :]

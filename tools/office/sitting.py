@@ -11,6 +11,7 @@ import sys
 import time
 from typing import Optional
 
+from office.earlier import unfinished_before
 from office.folder import Day
 from office.program import HERE
 from office.refused import MACHINE
@@ -84,10 +85,19 @@ class PlainSitting:
         for answer in self.seat.catch_up():
             self.show(answer)
         if sys.stdin.isatty():
+            self.tell_earlier()
             say(
                 f"seat {self.seat.planner} of {self.seat.day.path}; "
                 "Ctrl-D goes away for a while, `leave` ends the seat"
             )
+
+    def tell_earlier(self) -> None:
+        """Tells which edits of an earlier day were neither accepted nor given up."""
+        name, edits = unfinished_before(self.seat.day, self.seat.planner)
+        if edits and not self.seat.offer:
+            say(f"edits of {name} that were not accepted, to be typed or at the screen made again:")
+            for edit in edits:
+                say(f"    {edit}")
 
     def go_on(self) -> int:
         """Sends lines and shows answers until the planner goes, or the seat ends."""
