@@ -287,7 +287,7 @@ class FakeDesk:
         return f"{answer} {back}"
 
     def help(self, planner, draft):
-        return "help " + " ".join(COMMANDS)
+        return "words " + " ".join(COMMANDS)
 
     def leave(self, planner, draft):
         self.drafts[planner] = None
