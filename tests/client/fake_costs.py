@@ -1,4 +1,5 @@
 """What a timetable costs, in plain Python, for the desk of the tests."""
+from office.words import words_of
 
 
 class Costs:
@@ -30,22 +31,6 @@ class Costs:
         found[2] = sum(self.alone(t, curriculum) for curriculum in self.instance.curricula)
         return found
 
-    def course(self, t, name):
-        """What a course costs by itself: of its curricula those of which it is alone a member do
-        not count otherwise."""
-        found = self.of_course(t, name)
-        for curriculum in self.instance.curricula_of[name]:
-            slots = [
-                slot
-                for member in self.instance.curricula[curriculum]
-                for slot in t.by_course[member]
-            ]
-            own = t.by_course[name]
-            found[2] += 2 * sum(
-                (day, at - 1) not in slots and (day, at + 1) not in slots for day, at in own
-            )
-        return found
-
     def near(self, t, courses):
         curricula = {q for course in courses for q in self.instance.curricula_of[course]}
         return sum(sum(self.of_course(t, course)) for course in courses) + sum(
@@ -53,7 +38,7 @@ class Costs:
         )
 
     def price(self, t, edit):
-        words = edit.split()
+        words = words_of(edit)
         courses = {words[1], words[4]} if words[0] == "swap" else {words[1]}
         before = self.near(t, courses)
         back = t.make(edit)

@@ -15,14 +15,17 @@ from fake_costs import Costs  # noqa: E402
 from office.edits import LENGTHS  # noqa: E402
 from office.instance import COMMANDS, read_instance, read_solution  # noqa: E402
 from office.timetable import Timetable  # noqa: E402
+from office.words import words_of  # noqa: E402
 
 PROGRAM = os.environ.get("PROGRAM", os.path.join(HERE, "crates/ctt_tool/out/ctt_tool"))
 # what stands behind the first word of a look or an edit: a course, a room, a teacher, a curriculum,
-# a day, a period
-FORMS = dict(
+# a day, a period; what may be open in an edit pattern has a capital letter
+LOOKS = dict(
     course="c", slot="dp", teacher="t", curriculum="q", coursecost="c", cost="", missing=""
 )
-FORMS.update(place="crdp", move="cdprdp", swap="cdpcdp", reroom="crdp", drop="cdp")
+EDITS = dict(place="crdp", move="cdprdp", swap="cdpcdp", reroom="crdp", drop="cdp")
+FORMS = {**LOOKS, **EDITS}
+PATTERNS = dict(place="cRDP", move="cdpRDP", swap="cdp***", reroom="cRdp")
 TURNS = ("open", "commit", "refresh", "abandon", "status", "redo", "undo", "help", "leave")
 
 
@@ -33,7 +36,7 @@ class FakeDraft:
 
     def edits(self):
         return [
-            call for call, answer in self.calls if answer == "done" and call.split()[0] in LENGTHS
+            call for call, answer in self.calls if answer == "done" and words_of(call)[0] in LENGTHS
         ]
 
 
@@ -47,7 +50,7 @@ class FakeDesk:
         self.drafts, self.ended = [None] * planners, [None] * planners
 
     def answer(self, planner, line):
-        words = line.split()
+        words = words_of(line)
         bad = self.bad_word(words)
         if bad is not None:
             return f"bad line {bad + 1} {words[bad]}" if bad < len(words) else f"bad line {bad + 1}"
@@ -67,30 +70,34 @@ class FakeDesk:
         at = 1 if words[0] in ("show", "peek") and len(words) > 1 else 0
         if words[at] in TURNS and at == 0:
             return 1 if len(words) > 1 else None
-        star = words[at] == "cheapest"
-        if star:
+        forms = FORMS
+        if words[at] == "cheapest":
             at += 1
             if at >= len(words) or not words[at].isdigit() or int(words[at]) > 1000:
                 return at
-            at += 1
+            at, forms = at + 1, PATTERNS
         elif words[at] == "price":
-            at += 1
-        if at >= len(words) or words[at] not in FORMS:
+            at, forms = at + 1, EDITS
+        elif at == 1:
+            forms = LOOKS
+        if at >= len(words) or words[at] not in forms:
             return at
-        for what in FORMS[words[at]]:
+        for what in forms[words[at]]:
             at += 1
-            if at >= len(words) or not self.is_of(words[at], what, star):
+            before = words[at - 1]
+            if at >= len(words) or not self.is_of(words[at], what, before):
                 return at
         return at + 1 if at + 1 < len(words) else None
 
-    def is_of(self, word, what, star):
+    def is_of(self, word, what, before):
+        """Whether a word may stand for a course, a room and so on; capital letters may be open."""
         instance = self.instance
-        if star and word == "*":
-            return True
+        if what == "*" or (what in "RD" and word == "*") or (what == "P" and before == "*"):
+            return word == "*"
+        what = what.lower()
         if what in "dp":
-            return word.isdigit() and int(word) < (
-                instance.days if what == "d" else instance.periods
-            )
+            count = instance.days if what == "d" else instance.periods
+            return word.isdigit() and int(word) < count
         names = {"c": instance.courses, "r": instance.rooms, "t": instance.teachers}
         return word in names.get(what, instance.curricula)
 
@@ -99,7 +106,7 @@ class FakeDesk:
         if kind == "cost":
             return "costs " + " ".join(map(str, self.costs.whole(t)))
         if kind == "coursecost":
-            return "costs " + " ".join(map(str, self.costs.course(t, words[1])))
+            return "costs " + " ".join(map(str, self.costs.of_course(t, words[1])))
         if kind == "missing":
             short = [
                 (name, t.missing(name)) for name in self.instance.courses if t.missing(name) > 0
@@ -272,7 +279,7 @@ class FakeDesk:
             if fault:
                 refused.append(f"refused {number} {edit} {fault}")
             else:
-                self.call(draft, edit.split())
+                self.call(draft, words_of(edit))
         return " ".join([f"redone {len(ended) - len(refused)} of {len(ended)}", *refused])
 
     def undo(self, planner, draft):
@@ -281,7 +288,7 @@ class FakeDesk:
         if not draft.backs:
             return "nothing to undo"
         back = draft.backs.pop()
-        answer = self.call(draft, back.split())
+        answer = self.call(draft, words_of(back))
         if answer == "done":
             draft.backs.pop()
         return f"{answer} {back}"

@@ -21,11 +21,8 @@ SMALL = os.path.join(HERE, "examples/small.ctt")
 SMALL_SOL = os.path.join(HERE, "examples/s.sol")
 COMP07 = os.path.join(HERE, "examples/comp07.ctt")
 COMP07_SOL = os.path.join(HERE, "examples/comp07.sol")
-# a desk that answers as issue 55 says; PLANNING names another program that does
-PLANNING = os.path.abspath(
-    os.environ.get("PLANNING", os.path.join(HERE, "tests/client/fake_desk.py"))
-)
 os.environ["PROGRAM"] = PROGRAM
+FAKE = os.path.join(HERE, "tests/client/fake_desk.py")
 # where a sync takes no time, if there is such a place
 FAST = "/dev/shm" if os.path.isdir("/dev/shm") else None
 # what takes longer hangs
@@ -49,6 +46,22 @@ def is_alive(number):
             return file.read().rsplit(")", 1)[1].split()[0] != "Z"
     except FileNotFoundError:
         return False
+
+
+def has_all_lines():
+    """Whether the program answers all lines of a screen at its seats."""
+    lines = b"status\nundo\nredo\nopen\nshow cost\npeek missing\n"
+    try:
+        done = subprocess.run([PROGRAM, "desk", SMALL, "-"], input=lines, capture_output=True)
+    except OSError:
+        return False
+    answers = done.stdout.decode().split("\n")[:-1]
+    return len(answers) == 6 and not any(a.startswith(("bad", "already")) for a in answers)
+
+
+# the desk of the screens: the program, if its seats answer all that a screen says, else a desk in
+# plain Python that does; PLANNING names another one
+PLANNING = os.path.abspath(os.environ.get("PLANNING") or (PROGRAM if has_all_lines() else FAKE))
 
 
 class OfficeTest(unittest.TestCase):

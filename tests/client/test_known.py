@@ -105,6 +105,37 @@ class Drawn:
         return self.draw.choice(("commit", "commit", "refresh", "abandon", "open"))
 
 
+class Seats:
+    """The seats of a desk of the program, in a folder of their own."""
+
+    def __init__(self, test, drawn):
+        folder = test.path("seats")
+        os.mkdir(folder)
+        seats = [os.path.join(folder, str(planner)) for planner in range(PLANNERS)]
+        for seat in seats:
+            os.mkfifo(seat + ".in")
+            os.mkfifo(seat + ".out")
+        self.minutes = os.path.join(folder, "minutes")
+        words = [PROGRAM, "desk", *drawn.words, *seats, *drawn.options, "--minutes", self.minutes]
+        self.process = subprocess.Popen(words, stdout=subprocess.DEVNULL)
+        self.ends = []
+        for seat in seats:
+            lines = open(seat + ".in", "wb", buffering=0)
+            self.ends.append((lines, open(seat + ".out", "rb")))
+
+    def ask(self, planner, line):
+        """Types a line at a seat, and answers what it is told."""
+        lines, answers = self.ends[planner]
+        lines.write(line.encode() + b"\n")
+        return answers.readline().decode().rstrip("\n")
+
+    def end(self):
+        for pair in self.ends:
+            for one in pair:
+                one.close()
+        self.process.wait(20)
+
+
 class Scripts(OfficeTest):
     """What is known of drafts, beside the answers of `run`."""
 
@@ -116,7 +147,7 @@ class Scripts(OfficeTest):
         lines = []
         # the program answers the script so far: each line is drawn by what is known after the
         # answers before
-        ask = self.desk(drawn)
+        seats = Seats(self, drawn)
         knowns = [Known(drawn.instance, start) for _ in range(PLANNERS)]
         for _ in range(60):
             planner = drawn.draw.randrange(PLANNERS)
@@ -124,7 +155,7 @@ class Scripts(OfficeTest):
             if line.startswith("show ") and knowns[planner].draft is not None:
                 # later desks show the newest timetable, and the first ones refuse
                 continue
-            answer = ask(planner, line)
+            answer = seats.ask(planner, line)
             edits = list(knowns[planner].made)
             self.assertTrue(
                 knowns[planner].hear(line, answer), (seed, planner, line, answer, lines)
@@ -133,44 +164,15 @@ class Scripts(OfficeTest):
                 for known in knowns:
                     self.assertTrue(known.accept(edits), (seed, line, edits))
             lines.append((planner, line, answer))
+        seats.end()
+        self.minutes = seats.minutes
         return drawn, lines, knowns
-
-    def desk(self, drawn):
-        """A desk with a seat for each planner, in a folder of its own; it answers a line at a
-        time."""
-        folder = self.path("seats")
-        os.mkdir(folder)
-        seats = [os.path.join(folder, str(planner)) for planner in range(PLANNERS)]
-        for seat in seats:
-            os.mkfifo(seat + ".in")
-            os.mkfifo(seat + ".out")
-        minutes = os.path.join(folder, "minutes")
-        words = [PROGRAM, "desk", *drawn.words, *seats, *drawn.options, "--minutes", minutes]
-        process = subprocess.Popen(words, stdout=subprocess.DEVNULL)
-        ends = [
-            (open(seat + ".in", "wb", buffering=0), open(seat + ".out", "rb")) for seat in seats
-        ]
-
-        def ask(planner, line):
-            ends[planner][0].write(line.encode() + b"\n")
-            return ends[planner][1].readline().decode().rstrip("\n")
-
-        def end():
-            for pair in ends:
-                for one in pair:
-                    one.close()
-            process.wait(20)
-
-        self.end_desk = end
-        self.minutes = minutes
-        return ask
 
     def test_drawn(self):
         for seed in range(DRAWS):
             with self.subTest(seed=seed):
                 self.setUp()
                 drawn, lines, knowns = self.play(seed)
-                self.end_desk()
                 self.check_minutes(drawn, lines, knowns[0])
 
     def check_minutes(self, drawn, lines, known):
