@@ -7,7 +7,8 @@ from office.carry import SWAP, Carry
 from office.grid import Row, View
 from office.planning import Planning
 from office.reading import COSTS, read_costs
-from office.text import counted, fit, shown
+from office.text import counted, cut, fit, shown
+from office.text import width as columns
 from office.timetable import Lecture, Slot
 
 
@@ -53,7 +54,8 @@ def head_rows(planning: Planning, carry: Optional[Carry], view: View, width: int
     last: Row = [(fit(title, width), "title")]
     if planning.is_open and planning.foretold:
         told = f"stale by now: {shown(planning.foretold)} has changed; c says who "
-        last = [(fit(title, max(0, width - len(told))), "title"), (told, "bad")]
+        told = cut(told, width)
+        last = [(fit(title, width - columns(told)), "title"), (told, "bad")]
     return [[(fit(who, width), "head")], [(fit(f" {cost_text(planning)}", width), "head")], last]
 
 

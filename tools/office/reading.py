@@ -3,13 +3,13 @@ from __future__ import annotations
 
 from typing import Dict, List, Optional
 
+from office.edits import WANTS
 from office.history import commits_of, read_pasts
 from office.instance import read_instance, read_solution
 from office.known import Known
 from office.minutes import Entry, Minutes
-from office.processes import now
 from office.refused import Refused
-from office.seat import Seat
+from office.seat import Seat, read_sitter
 from office.seatlog import read_past
 from office.text import counted
 from office.timetable import Lecture, Timetable, read_lectures
@@ -132,11 +132,20 @@ class Reading:
         self.read_minutes()
         return answer
 
+    def ask_again(self, line: str) -> str:
+        """Sends a line that changes nothing, again if the desk has no memory for it now."""
+        answer = self.seat.ask(line)
+        for _ in range(3):
+            if answer not in WANTS:
+                break
+            answer = self.seat.ask(line)
+        return answer
+
     def read_all(self, look: str) -> Timetable:
         """Reads a whole timetable, slot by slot, by `peek` or by `show`."""
         found: List[Lecture] = []
         for day, period in self.instance.slots():
-            found += read_lectures(self.seat.ask(f"{look} slot {day} {period}")) or []
+            found += read_lectures(self.ask_again(f"{look} slot {day} {period}")) or []
         return Timetable(self.instance, found)
 
     def read_newest(self) -> None:
@@ -155,12 +164,12 @@ class Reading:
     def read_again(self) -> None:
         self._told.clear()
         self.read_newest()
-        if self.seat.ask("status") == "no draft":
-            self.known.draft = self.known.base = None
-            self.known.made = []
-        else:
+        if self.ask_again("status").startswith("draft "):
             self.known.draft = self.read_all("peek")
             self.known.base = self.known.base or self.known.draft.copy()
+        else:
+            self.known.draft = self.known.base = None
+            self.known.made = []
 
     def tick(self) -> bool:
         """Looks whether others were accepted, and what a commit would be told by now; answers
@@ -183,7 +192,7 @@ class Reading:
     def read_status(self) -> None:
         """Reads how many drafts were accepted since the draft was opened."""
         self.read_minutes()
-        words = words_of(self.seat.ask("status"))
+        words = words_of(self.ask_again("status"))
         if words[:1] == ["draft"]:
             self.opened_at = len(self.minutes.entries) - int(words[2])
             self.foretold = " ".join(words[4:])
@@ -198,8 +207,11 @@ class Reading:
             for edit in entry.edits():
                 timetable.try_edit(edit)
             if entry.number > self.opened_at and timetable.look(row) != before:
-                time, name = told.get(entry.number, (now(), ""))
+                time, name = told.get(entry.number, ("", ""))
+                # of a seat whose log is closed to this planner who sits there now is known
+                name = name or read_sitter(self.seat.day, entry.planner)[0]
                 who = f"planner {entry.planner}{f' ({name})' if name else ''}"
-                lines.append(f"draft {entry.number}, {who}, {time[11:19]}:")
+                when = f", {time[11:19]}" if time else ""
+                lines.append(f"draft {entry.number}, {who}{when}:")
                 lines += [f"  {edit}" for edit in entry.edits()]
         return lines
