@@ -17,6 +17,8 @@ from office.instance import COMMANDS, read_instance, read_solution  # noqa: E402
 from office.timetable import Timetable  # noqa: E402
 from office.words import words_of  # noqa: E402
 
+# turns of which an older desk has none
+WITHOUT = os.environ.get("WITHOUT", "").split()
 PROGRAM = os.environ.get("PROGRAM", os.path.join(HERE, "crates/ctt_tool/out/ctt_tool"))
 # what stands behind the first word of a look or an edit: a course, a room, a teacher, a curriculum,
 # a day, a period; what may be open in an edit pattern has a capital letter
@@ -68,6 +70,8 @@ class FakeDesk:
     def bad_word(self, words):
         """The place of the first word that cannot stand."""
         at = 1 if words[0] in ("show", "peek") and len(words) > 1 else 0
+        if words[at] in WITHOUT:
+            return at
         if words[at] in TURNS and at == 0:
             return 1 if len(words) > 1 else None
         forms = FORMS

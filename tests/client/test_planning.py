@@ -2,7 +2,7 @@
 import os
 import signal
 
-from support import COMP07, COMP07_SOL, PLANNING, SMALL, SMALL_SOL, OfficeTest, wait_until
+from support import COMP07, COMP07_SOL, FAKE, PLANNING, SMALL, SMALL_SOL, OfficeTest, wait_until
 
 from office.board import Board
 from office.carry import MOVE, PLACE, SWAP, Carry
@@ -124,6 +124,35 @@ class Planners(OfficeTest):
         self.assertIn("no edits", anna.notice)
         anna.abandon()
         self.assertFalse(anna.is_open)
+
+    def test_desk_without_undo_and_redo(self):
+        """At a desk that has neither yet, the client makes the edits of it."""
+        self.environment["WITHOUT"] = "undo redo"
+        anna, ben = self.two()
+        if self.program != FAKE:
+            self.skipTest("the desk has both")
+        anna.edit(BEST)
+        anna.edit("drop c0001 1 2")
+        anna.undo()
+        self.assertEqual((anna.missing(), anna.edits()), ({}, [BEST]))
+        self.assertEqual(anna.notice, "Taken back, by place c0001 r14 1 2.")
+        anna.seat.go()
+        anna = self.planning("day", 0)
+        self.assertEqual(anna.edits(), [BEST])
+        anna.undo()
+        anna.undo()
+        self.assertEqual((anna.notice, anna.edits()), ("No edit is left to undo.", []))
+        anna.edit("drop c0001 1 2")
+        anna.edit("reroom c0049 r04 0 0")
+        ben.edit("drop c0001 1 2")
+        ben.commit()
+        anna.commit()
+        self.assertIn("Stale", anna.notice)
+        self.assertEqual(len(anna.redo()), 1)
+        self.assertEqual(anna.edits(), ["reroom c0049 r04 0 0"])
+        anna.commit()
+        self.assertIn("Committed as draft 2", anna.notice)
+        self.assertEqual((anna.alarm, ben.alarm), ("", ""))
 
     def test_goes_away_and_comes_back(self):
         anna, ben = self.two()

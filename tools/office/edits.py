@@ -89,6 +89,8 @@ class Story:
     accepted: list[int] = field(default_factory=list)
     has_left: bool = False
     is_full: bool = False
+    # the next edit takes the last one back
+    is_taking_back: bool = False
 
     def hear(self, line: str, answer: str) -> None:
         """Takes up a line with its answer."""
@@ -97,8 +99,11 @@ class Story:
             return
         first = words[0]
         if first in LENGTHS:
-            if answer == "done":
+            if answer == "done" and self.is_taking_back:
+                self._undo("done " + " ".join(words))
+            elif answer == "done":
                 self._make(" ".join(words))
+            self.is_taking_back = False
         elif first == "undo":
             self._undo(answer)
         elif first == "redo":

@@ -66,10 +66,25 @@ class Planning(Reading):
             self.notice = "No draft is open: nothing to undo."
             return
         answer = self.turn("undo")
+        if answer.startswith("bad line"):
+            answer = self._undo_by_edit()
         if answer.startswith("done "):
             self.notice = f"Taken back, by {answer[5:]}."
         else:
             self.notice = answer_in_words(answer)
+
+    def _undo_by_edit(self) -> str:
+        """Takes the last edit back at a desk that has no `undo` yet."""
+        assert self.known.base is not None
+        timetable, back = self.known.base.copy(), ""
+        for edit in self.edits():
+            if timetable.fault(edit) is not None:
+                return "nothing to undo"
+            back = timetable.make(edit)
+        if not back:
+            return "nothing to undo"
+        self.seat.take_back()
+        return f"{self.turn(back)} {back}"
 
     def commit(self) -> None:
         """Wants the draft accepted."""
@@ -135,8 +150,9 @@ class Planning(Reading):
         answer = self.turn("redo")
         redone = Redone.read(answer)
         if redone is None:
-            if answer == "nothing to redo" and ended:
-                # the desk has not the edits of a draft that ended otherwise, but the log has them
+            if answer.startswith(("nothing to redo", "bad line")) and ended:
+                # a desk that has no `redo` yet, or not the edits of a draft that ended otherwise;
+                # the log has them
                 return self.make_again(ended)
             self.notice = answer_in_words(answer)
             return []

@@ -95,6 +95,11 @@ class Seat:
             os.close(end)
         self.log.close()
 
+    def take_back(self) -> None:
+        """Notes that the next edit takes the last one back."""
+        self.log.noted("undoes")
+        self.story.is_taking_back = True
+
     def forget_ended(self) -> None:
         """Notes that the edits of the last draft are given up."""
         self.log.noted("forgets")
