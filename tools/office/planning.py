@@ -15,6 +15,9 @@ NOT_WRITTEN = "Not written: the disk is full, or fails. Your edits are in the lo
 class Planning(Reading):
     """What a planner does."""
 
+    # the last edit that was refused, with the reason
+    refused = ""
+
     def open(self) -> bool:
         """Opens a draft, and reads what it stands on; answers whether one is open."""
         if self.is_open:
@@ -41,7 +44,9 @@ class Planning(Reading):
         self.known.draft = self.read_all("peek")
         if not self.known.made:
             self.known.base = self.known.draft.copy()
-        self.base_total = sum(read_costs(self.ask("show cost")).values())
+        # before its first edit the draft costs what its base does
+        costs = self.ask("show cost" if self.known.made else "peek cost")
+        self.base_total = sum(read_costs(costs).values())
         self.seat.log.noted(f"base {self.base_total}")
         self.read_status()
 
@@ -53,13 +58,12 @@ class Planning(Reading):
         if answer == "done":
             self.notice = f"Done: {edit}."
             return True
-        self.notice = self.refusal(edit, answer)
-        return False
-
-    def refusal(self, edit: str, answer: str) -> str:
+        why = answer_in_words(answer)
         if answer.startswith("refused "):
-            return f"Refused: {edit}: {reason(self.instance, edit, answer[8:])}."
-        return answer_in_words(answer)
+            why = reason(self.instance, edit, answer[8:])
+        self.refused = f"{edit}: {why}"
+        self.notice = f"Refused: {self.refused}."
+        return False
 
     def undo(self) -> None:
         if not self.is_open:
@@ -167,7 +171,10 @@ class Planning(Reading):
         """Makes edits again in a draft, and answers those that were refused, with the reason."""
         if not self.is_open:
             self._open_new()
-        refused = [self.notice for edit in edits if not self.edit(edit)]
+        refused = []
+        for number, edit in enumerate(edits, 1):
+            if not self.edit(edit):
+                refused.append(f"{number}. {self.refused}")
         made = len(edits) - len(refused)
         self.notice = f"{made} of {len(edits)} edits made again, none committed yet."
         return refused
