@@ -179,8 +179,8 @@ class Shown(OfficeTest):
             ("open", "opened"),
             ("drop geo 1 2", "done"),
             ("cost", "costs 15 0 2 1"),
-            ("frob", "bad line 1 frob"),
-            ("undo", "done place geo A 1 2"),
+            ("frob", "bad line"),
+            ("place geo A 1 2", "done"),
             ("commit", "committed 1"),
         ]:
             for key in [":", *line, "enter"]:
