@@ -46,7 +46,7 @@ class Terminals:
             "--",
             "sh",
             "-c",
-            '"$@"; echo "ended $?"; exec sleep 600',
+            'trap : INT; "$@"; echo "ended $?"; exec sleep 600',
             "sh",
             *words,
         )

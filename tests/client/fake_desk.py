@@ -1,8 +1,5 @@
 #!/usr/bin/env python3
-"""A desk that answers as issue 55 says, in plain Python, for tests of the screen: `cheapest`,
-`missing`, `peek`, `status`, `redo`, `undo`, `help`, and `show` with a draft open. Any other command
-than `desk` is one of PROGRAM.
-"""
+"""A desk in plain Python, for tests of the screen. Any other command than `desk` is PROGRAM's."""
 import contextlib
 import os
 import select

@@ -6,7 +6,7 @@ import subprocess
 import unittest
 
 from support import COMP07, COMP07_SOL, HERE, OFFICE, PLANNING, SMALL, SMALL_SOL
-from support import OfficeTest, wait_until
+from support import OfficeTest, is_alive, wait_until
 from terminal import Terminals, has_tmux
 from test_day import LIMITED
 
@@ -239,6 +239,40 @@ class Screens(OfficeTest):
         anna.press("Escape")
         self.sees(anna, "seat 0")
         self.assertNotIn("Traceback", anna.text())
+
+    def test_other_terminals(self):
+        """A terminal without colours has the screen; one that cannot place a cursor has lines."""
+        self.open("day", SMALL, "1", "--start", SMALL_SOL)
+        words = [OFFICE, "sit", self.path("day"), "0"]
+        anna = self.terminals.open(["env", "TERM=vt100", *words])
+        self.sees(anna, "week of curriculum q1", "? help")
+        anna.press("q")
+        self.sees(anna, "ended 0")
+        for kind in ("dumb", "a-terminal-that-nobody-has"):
+            anna = self.terminals.open(["env", f"TERM={kind}", "OFFICE_WRAPPED=1", *words])
+            self.sees(anna, "Ctrl-D goes away for a while")
+            anna.press("show cost", "Enter")
+            self.sees(anna, "costs 15 0 4 1")
+            anna.press("C-d")
+            self.sees(anna, "ended 0")
+
+    def test_office_in_a_terminal(self):
+        """Ctrl-C in the terminal of an office closes it; closing the terminal does not."""
+        for number in (1, 2):
+            day = f"day{number}"
+            office = self.terminals.open([OFFICE, "open", self.path(day), SMALL, "2"])
+            self.sees(office, "office: open, seats 0 to 1")
+            desk = self.desk_of(day)
+            if number == 1:
+                office.press("C-c")
+                self.sees(office, "office: closed; office close ", "ended 0")
+                self.assertFalse(is_alive(desk))
+                self.assertNotIn("0.in", self.left_in(day))
+            else:
+                office.close()
+                self.assertEqual(self.sit(day, 0, "show cost\n"), ["costs 0 20 0 0"])
+                self.assertEqual(self.office("close", self.path(day))[0], 0)
+                self.assertFalse(is_alive(desk))
 
     def test_pictures(self):
         """The pictures of the pages are what a planner sees."""
