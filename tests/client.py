@@ -21,7 +21,8 @@ def main():
     )
     found = unittest.TextTestRunner(stream=sys.stdout, verbosity=0).run(suite)
     failed = len(found.failures) + len(found.errors) + len(found.unexpectedSuccesses)
-    print(f"{found.testsRun - failed} passed, {failed} failed")
+    passed = found.testsRun - failed - len(found.skipped)
+    print(f"{passed} passed, {failed} failed")
     sys.exit(failed > 0)
 
 
