@@ -87,7 +87,7 @@ def told(lines, written=2):
     answers = list(TOLD)
     if written == 0:
         answers[2] = "not written"
-        answers[6] = "already open"
+        answers[6] = "costs 0 15 2 0"
     if written < 2:
         answers[5] = "not written"
     return "".join(f"{answer}\n" for answer in answers[:lines]).encode()

@@ -165,7 +165,7 @@ ROW9 = [
     (0, "abandon", "no draft"),
     (1, "open", "opened"),
     (1, "open", "already open"),
-    (1, "show cost", "already open"),
+    (1, "show cost", "costs 10 15 0 0"),
     (1, "abandon", "abandoned"),
     (1, "frobnicate", "bad line"),
     (1, "0 open", "bad line"),
@@ -220,7 +220,7 @@ def one_seat():
     check(
         "a line of 65,536 bytes, one more, and one of blanks",
         call("desk", SMALL, "-", text=fits)[1],
-        "opened\nbad line\nbad line\nalready open\n",
+        "opened\nbad line\nbad line\ncosts 0 20 0 0\n",
     )
 
 
