@@ -6,6 +6,7 @@ ghost use Rattle.ctt_devices.specs.Output.{AppendsFront};
 ghost use Rattle.ctt_office.specs.Lines.{Gives, coming};
 ghost use Rattle.ctt_crew.specs.Attended.{leaver};
 ghost use Rattle.ctt_office.specs.Pages.{HasFailed, IsInMinutes};
+ghost use Rattle.ctt_office.specs.Ended.{EndedFits};
 ghost use Rattle.ctt_office.specs.SeatAnswers.{IsAnswer, IsUncommitted, Tells};
 ghost use Rattle.ctt_office.specs.SeatText.{LineFits, asked_by};
 ghost use Rattle.ctt_office.specs.Sittings.{EndsAt, IsBroken, IsCut, IsSat};
@@ -19,9 +20,9 @@ use crate::durable::Durable;
 use crate::line_reader::{LineReader, Next};
 use crate::office_fault::SeatFault;
 use crate::seat_line::{SeatLine, read_seat_line};
+use crate::workplace::Workplace;
 use ctt_board::{GridSheet, Sheet, Timetable};
 use ctt_core::PlannerNo;
-use ctt_crew::Seat;
 use ctt_desk::{Naming, Planner, SharedDesk};
 use ctt_devices::{Failed, Sink, Source, put_whole};
 use ctt_text::{Instance, let_go};
@@ -67,12 +68,12 @@ pub(crate) struct Station<'i, 'x, J: Naming, D: Doors, W: Durable> {
 }
 
 /// What the next line asks for; none where none comes any more.
-fn next_line<I: Source, R: Wait>(
+fn next_line<'a, I: Source, R: Wait>(
     rt: &R,
     instance: &Instance,
     planner: PlannerNo,
-    lines: &mut LineReader<I>,
-) -> Result<SeatLine, Ending>
+    lines: &'a mut LineReader<I>,
+) -> Result<SeatLine<'a>, Ending>
     ensures fits { IfOk result (LineFits instance.now planner) }
     ensures asked { IfOk result (λ line.
         Gives (λ bytes. line ≡ asked_by instance.now planner bytes)
@@ -81,7 +82,7 @@ fn next_line<I: Source, R: Wait>(
 {
     match lines.next(rt) {
         Ok(Next::Line) => Ok(read_seat_line(instance, planner, lines.line())),
-        Ok(Next::TooLong) => Ok(SeatLine::Bad),
+        Ok(Next::TooLong) => Ok(SeatLine::TooLong),
         Ok(Next::End) => Err(Ending::Ended),
         Err(_) => Err(Ending::Broken),
     }
@@ -95,31 +96,33 @@ fn serve<'i, S: Sheet<'i>, J: Naming, W: Durable, O: Sink, R: Wait>(
     desk: &SharedDesk<S, J>,
     instance: &Instance,
     book: Option<&Book<W, J>>,
-    seat: Seat<'i, S, J>,
+    place: Workplace<'i, S, J>,
     line: &SeatLine,
     out: &mut O,
-) -> (Seat<'i, S, J>, Result<(), Ending>)
+) -> (Workplace<'i, S, J>, Result<(), Ending>)
     requires same { J.problem ≡ instance.now }
     requires fits { (p : ℕ) × LineFits instance.now p line.now }
+    requires ended { EndedFits instance.now place.ended }
     ensures told { OnOk result.1
         (Tells (IsAnswer book.entry (IsInMinutes W.Sink.taken W.kept J.problem)
         (HasFailed W.Sink.taken W.Sink.has_failed J.problem) instance.now J.opening line.now
-        seat.entry result.0) (O.taken out.old) (O.taken out.new)) }
+        place result.0) (O.taken out.old) (O.taken out.new)) }
     ensures cut { IfErr result.1
         (IsCut (IsAnswer book.entry (IsInMinutes W.Sink.taken W.kept J.problem)
         (HasFailed W.Sink.taken W.Sink.has_failed J.problem) instance.now J.opening line.now
-        seat.entry result.0) (O.taken out.old) (O.taken out.new)) }
+        place result.0) (O.taken out.old) (O.taken out.new)) }
     ensures broken { IfErr result.1 (IsBroken (O.has_failed out.new)) }
-    ensures unheard { result.1 ≡ Err NoMemory → IsUncommitted seat.entry result.0 }
+    ensures unheard { result.1 ≡ Err NoMemory → IsUncommitted place result.0 }
+    ensures fits { EndedFits instance.now result.0.ended }
 {
     let mut text = String::new(alloc);
-    let (seat, written) = answer(rt, alloc, desk, instance, book, seat, *line, &mut text);
+    let (place, written) = answer(rt, alloc, desk, instance, book, place, line, &mut text);
     if written.is_err() {
-        return (seat, Err(Ending::NoMemory));
+        return (place, Err(Ending::NoMemory));
     }
     match say(out, text.as_bytes()) {
-        Ok(()) => (seat, Ok(())),
-        Err(_) => (seat, Err(Ending::Broken)),
+        Ok(()) => (place, Ok(())),
+        Err(_) => (place, Err(Ending::Broken)),
     }
 }
 
@@ -144,36 +147,37 @@ fn sit<'i, S: Sheet<'i>, J: Naming, W: Durable, I: Source, O: Sink, R: Wait>(
     instance: &Instance,
     book: Option<&Book<W, J>>,
     number: PlannerNo,
-    seat: Seat<'i, S, J>,
+    place: Workplace<'i, S, J>,
     lines: &mut LineReader<I>,
     out: &mut O,
 ) -> (Planner<S, J>, Ending)
-    requires { J.problem ≡ instance.now }
+    requires same { J.problem ≡ instance.now }
+    requires fits { EndedFits instance.now place.ended }
     ensures sat { IsSat (asked_by instance.now number)
         (IsAnswer book.entry (IsInMinutes W.Sink.taken W.kept J.problem)
         (HasFailed W.Sink.taken W.Sink.has_failed J.problem) instance.now J.opening)
-        (λ after. result.0 ≡ leaver after)
-        (λ after. result.0.committed ≡ (leaver after).committed)
-        seat.entry (coming lines.old) (O.taken out.old) (O.taken out.new) result.1 }
+        (λ after. result.0 ≡ leaver after.seat)
+        (λ after. result.0.committed ≡ (leaver after.seat).committed)
+        place (coming lines.old) (O.taken out.old) (O.taken out.new) result.1 }
     ensures broken { result.1 ≡ Broken
         → (lines.new.has_failed ≡ true) ⊎ (O.has_failed out.new ≡ true) }
 {
-    let mut seat = seat;
+    let mut place = place;
     for _ in rt.forever() {
         let line = match next_line(rt, instance, number, lines) {
             Ok(line) => line,
-            Err(end) => return (seat.leave(), end),
+            Err(end) => return (place.leave(), end),
         };
         let is_last = is_last(&line);
-        let (next, served) = serve(rt, alloc, desk, instance, book, seat, &line, out);
-        seat = next;
+        let (next, served) = serve(rt, alloc, desk, instance, book, place, &line, out);
+        place = next;
         match served {
             Ok(()) => {
                 if is_last {
-                    return (seat.leave(), Ending::Left);
+                    return (place.leave(), Ending::Left);
                 }
             }
-            Err(cut) => return (seat.leave(), cut),
+            Err(cut) => return (place.leave(), cut),
         }
     }
     unreachable!()
@@ -208,9 +212,9 @@ fn open_and_sit<'i, 'x, S: Sheet<'i>, J: Naming, D: Doors, W: Durable, R: Wait>(
         let_go(planner);
         return Err(SeatFault::NoMemory);
     };
-    let seat = Seat::Free(planner);
+    let place = Workplace::new(planner);
     let (planner, ending) = sit(
-        rt, alloc, desk, instance, book, number, seat, &mut lines, &mut out,
+        rt, alloc, desk, instance, book, number, place, &mut lines, &mut out,
     );
     let_go(planner);
     match ending {
