@@ -167,9 +167,9 @@ ROW9 = [
     (1, "open", "already open"),
     (1, "show cost", "already open"),
     (1, "abandon", "abandoned"),
-    (1, "frobnicate", "bad line"),
-    (1, "0 open", "bad line"),
-    (1, "leave now", "bad line"),
+    (1, "frobnicate", "bad line 1 frobnicate"),
+    (1, "0 open", "bad line 1 0"),
+    (1, "leave now", "bad line 2 now"),
 ]
 
 

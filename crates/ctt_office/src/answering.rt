@@ -323,7 +323,7 @@ pub(crate) fn answer<'i, S: Sheet<'i>, J: Naming, W: Durable, R: Wait>(
     ensures unanswered { OnErr result.1 (IsUncommitted place result.0) }
     ensures fits { EndedFits instance.now result.0.ended }
 {
-    match *line {
+    match line {
         SeatLine::Blank => (place, Ok(())),
         SeatLine::Leave => (place, write_left(text)),
         SeatLine::Help => (place, write_help(text)),
@@ -331,6 +331,6 @@ pub(crate) fn answer<'i, S: Sheet<'i>, J: Naming, W: Durable, R: Wait>(
         SeatLine::Undo => undo_at(instance, place, text),
         SeatLine::Bad(word) => (place, word.write(text)),
         SeatLine::TooLong => (place, write_bad_line(text)),
-        SeatLine::Step(event) => step(rt, alloc, desk, instance, book, place, event, text),
+        SeatLine::Step(event) => step(rt, alloc, desk, instance, book, place, *event, text),
     }
 }

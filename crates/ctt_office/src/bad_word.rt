@@ -10,7 +10,7 @@ use std::marker::Model;
 
 /// The first word of a line that cannot stand, with its number, counted from 1. The word is empty
 /// where the line ends too early, or the word is no text.
-#[derive(Clone, Copy)]
+#[derive(Drop)]
 pub struct BadWord<'a> {
     at: u64,
     word: &'a str,

@@ -11,7 +11,7 @@ use ctt_script::{is_word, read_own_text};
 use ctt_text::{Instance, Reader};
 
 /// What a line of a seat asks for.
-#[derive(Clone, Copy)]
+#[derive(Drop)]
 pub enum SeatLine<'a> {
     /// Nothing: it has no words.
     Blank,

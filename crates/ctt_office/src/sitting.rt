@@ -131,7 +131,7 @@ fn is_last(line: &SeatLine) -> bool
     ensures yes { result ≡ true → line.now ≡ Leave }
     ensures no { result ≡ false → line.now ≢ Leave }
 {
-    match *line {
+    match line {
         SeatLine::Leave => true,
         _ => false,
     }

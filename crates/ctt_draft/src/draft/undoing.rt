@@ -6,43 +6,19 @@ ghost use Rattle.ctt_board.specs.Changes.{apply_all, room_at, room_by};
 ghost use Rattle.ctt_edits.specs.Edits.{EditFits};
 ghost use Rattle.ctt_draft.specs.Drafts.{calls_of, changes};
 ghost use Rattle.ctt_draft.specs.Undo.{all_cells};
-ghost use Rattle.ctt_draft.specs.Undoing.{inverse, is_given, same_edit, stacked, top, undoing};
+ghost use Rattle.ctt_draft.specs.Undoing.{inverse, is_given, stacked, top, undoing};
 
 use crate::draft::Draft;
 use ctt_board::{Cell, Change, Rooms, Sheet, Timetable};
 use ctt_edits::Edit;
 use ctt_text::{CourseNo, NoMemory, RoomNo, SlotNo};
 
-/// Whether two edits are the same.
-fn is_same(edit: &Edit, other: &Edit) -> bool
-    ensures { result ≡ same_edit edit.now other.now }
-{
-    match (edit, other) {
-        (Edit::Place(course, slot, room), Edit::Place(course2, slot2, room2)) => {
-            course == course2 && slot == slot2 && room == room2
-        }
-        (Edit::Move(course, slot, target, room), Edit::Move(course2, slot2, target2, room2)) => {
-            course == course2 && slot == slot2 && target == target2 && room == room2
-        }
-        (Edit::Swap(course, slot, with, target), Edit::Swap(course2, slot2, with2, target2)) => {
-            course == course2 && slot == slot2 && with == with2 && target == target2
-        }
-        (Edit::Reroom(course, slot, room), Edit::Reroom(course2, slot2, room2)) => {
-            course == course2 && slot == slot2 && room == room2
-        }
-        (Edit::Drop(course, slot), Edit::Drop(course2, slot2)) => {
-            course == course2 && slot == slot2
-        }
-        _ => false,
-    }
-}
-
 /// Whether an edit is the last one of these.
 fn is_top(stack: &[Edit], edit: &Edit) -> bool
     ensures { result ≡ is_given edit.now (top stack.now) }
 {
     match stack.last() {
-        Some(last) => is_same(last, edit),
+        Some(last) => last == edit,
         None => false,
     }
 }

@@ -1,0 +1,246 @@
+-- Inverses of accepted edits, and the one that is the last of them.
+use Rattle.std.proofs.Common.{◌≡◌, ◌∙◌, ℕ, zero, suc, ◌+◌, ◌-◌, ◌<◌, Bool, true, false, cond, List, [], ◌∷◌, ◌++◌, length, take, drop, get_or, Option, Some, None, arith, refl, sym, ap, ap₂, subst, append_assoc}
+use Rattle.std.specs.Prelude.{IfSome}
+use Rattle.std.specs.List.{AllByRecursion as Each}
+use Rattle.std.specs.Option.{option_map, option_to_list}
+use Rattle.std.proofs.lemmas.Bool.Decides.{nat_tests}
+use Rattle.ctt_text.specs.Problem.{Problem}
+use Rattle.ctt_text.specs.declared.placed.Placed.{Placed}
+use Rattle.ctt_rules.specs.Hard.{Lawful}
+use Rattle.ctt_board.specs.Changes.{apply, apply_all, ChangesFit, room_at, room_by}
+use Rattle.ctt_board.specs.declared.cell.Cell.{Cell}
+use Rattle.ctt_board.proofs.RoomLemmas.{rooms_after}
+use Rattle.ctt_edits.specs.Calls.{CallFits, cells_if, reply}
+use Rattle.ctt_edits.specs.Edits.{EditFits, edit_fault, change}
+use Rattle.ctt_edits.specs.Looks.{told_or}
+use Rattle.ctt_edits.specs.RowSets.{RowSet}
+use Rattle.ctt_edits.specs.contracts.edit.EditPartialEq.TheImpl.{eq-value as edit_eq}
+use Rattle.ctt_edits.specs.declared.call.Call.{Call}
+use Rattle.ctt_edits.specs.declared.call.Call.TheVariants.{Look as Looks, Edit as Edits}
+use Rattle.ctt_edits.specs.declared.edit.Edit.{Edit}
+use Rattle.ctt_edits.specs.declared.edit.Edit.TheVariants.{Place, Move, Swap, Reroom, Drop}
+use Rattle.ctt_edits.specs.declared.fault.EditFault.{EditFault}
+use Rattle.ctt_edits.specs.declared.looks.Look.{Look}
+use Rattle.ctt_edits.specs.declared.reply.Reply.{Reply}
+use Rattle.ctt_edits.specs.declared.reply.Reply.TheVariants.{Done, Refused, Lectures, Costs, Price as Priced, Missing as AreMissing, Edits as AreCheapest}
+use Rattle.ctt_edits.proofs.EditLemmas.{room_fits}
+use Rattle.ctt_draft.specs.Drafts.{after_call, calls_of, changes, made, replies, replies_in}
+use Rattle.ctt_draft.specs.DraftValues.{DraftValue, IsDraft}
+use Rattle.ctt_draft.specs.Undo.{UndoValue, all_cells}
+use Rattle.ctt_draft.specs.Undoing.{done_by, done_edit, inverse, is_given, same_edit, stack_after, stack_of, stacked, stacked_if, top}
+use Rattle.ctt_draft.specs.declared.asked.Asked.{Asked}
+use Rattle.ctt_draft.proofs.CallRuns.{apply_all-append, changes_fit, lawful_after_call, made_edit}
+use Rattle.ctt_draft.proofs.DraftSteps.{records_base}
+use Rattle.ctt_draft.proofs.UndoLemmas.{room_back}
+
+-- the test of two edits, as the program makes it
+pub eq_same : (a b : Edit) → edit_eq.it a b ≡ same_edit a b
+eq_same (Place c s r) (Place d s2 r2) = refl
+eq_same (Place c s r) (Move d s2 t2 r2) = refl
+eq_same (Place c s r) (Swap d s2 d2 t2) = refl
+eq_same (Place c s r) (Reroom d s2 r2) = refl
+eq_same (Place c s r) (Drop d s2) = refl
+eq_same (Move c s t r) (Place d s2 r2) = refl
+eq_same (Move c s t r) (Move d s2 t2 r2) = refl
+eq_same (Move c s t r) (Swap d s2 d2 t2) = refl
+eq_same (Move c s t r) (Reroom d s2 r2) = refl
+eq_same (Move c s t r) (Drop d s2) = refl
+eq_same (Swap c s d t) (Place c2 s2 r2) = refl
+eq_same (Swap c s d t) (Move c2 s2 t2 r2) = refl
+eq_same (Swap c s d t) (Swap c2 s2 d2 t2) = refl
+eq_same (Swap c s d t) (Reroom c2 s2 r2) = refl
+eq_same (Swap c s d t) (Drop c2 s2) = refl
+eq_same (Reroom c s r) (Place d s2 r2) = refl
+eq_same (Reroom c s r) (Move d s2 t2 r2) = refl
+eq_same (Reroom c s r) (Swap d s2 d2 t2) = refl
+eq_same (Reroom c s r) (Reroom d s2 r2) = refl
+eq_same (Reroom c s r) (Drop d s2) = refl
+eq_same (Drop c s) (Place d s2 r2) = refl
+eq_same (Drop c s) (Move d s2 t2 r2) = refl
+eq_same (Drop c s) (Swap d s2 d2 t2) = refl
+eq_same (Drop c s) (Reroom d s2 r2) = refl
+eq_same (Drop c s) (Drop d s2) = refl
+
+-- rooms after changes
+room_by-append : (xs ys : List Cell) (c s : ℕ) (o : Option ℕ) → room_by (xs ++ ys) c s o ≡ room_by ys c s (room_by xs c s o)
+room_by-append [] ys c s o = refl
+room_by-append (x ∷ xs) ys c s o = room_by-append xs ys c s (room_by (x ∷ []) c s o)
+
+rooms_after_all : (i : Problem) (xs : List (List Cell)) (t : List Placed) (c s : ℕ) → ChangesFit i xs t → room_at c s (apply_all xs t) ≡ room_by (all_cells xs) c s (room_at c s t)
+rooms_after_all i [] t c s fit = refl
+rooms_after_all i (x ∷ xs) t c s fit =
+    rooms_after_all i xs (apply x t) c s fit.1
+    ∙ ap (room_by (all_cells xs) c s) (rooms_after x t fit.0.cells_fit c s)
+    ∙ sym (room_by-append x (all_cells xs) c s (room_at c s t))
+
+fit_take : (i : Problem) (n : ℕ) (xs : List (List Cell)) (t : List Placed) → ChangesFit i xs t → ChangesFit i (take n xs) t
+fit_take i zero xs t fit = tt
+fit_take i (suc n) [] t fit = tt
+fit_take i (suc n) (x ∷ xs) t fit = (fit.0, fit_take i n xs (apply x t) fit.1)
+
+-- the room that a course had in a slot when so many changes were made
+pub room_was : (i k : Problem) (base here : List Placed) (asked : List Asked) (old : List (List Cell)) (undo : UndoValue) (rows : RowSet) (v : DraftValue) → IsDraft i k base here asked old undo rows
+    → ◌≡◌ {A = DraftValue} (record { problem = i; base = base; asked = asked }) v → (m c s : ℕ)
+    → room_by (all_cells (take m old)) c s (room_by undo.cells c s (room_at c s here)) ≡ room_at c s (apply_all (take m (changes v.problem v.base (calls_of v.asked))) v.base)
+room_was i k base here asked old undo rows v d e m c s =
+    let fit : ChangesFit i old base = subst (λ xs. ChangesFit i xs base) (sym d.made_is) (changes_fit i base (calls_of asked) d.lawful_base d.is_told.fit) in
+    ap (room_by (all_cells (take m old)) c s) (room_back base here undo.cells c s (records_base i k base here asked old undo rows d))
+    ∙ sym (rooms_after_all i (take m old) base c s (fit_take i m old base fit))
+    ∙ ap (λ xs. room_at c s (apply_all (take m xs) base)) d.made_is
+    ∙ ap (λ (w : DraftValue). room_at c s (apply_all (take m (changes w.problem w.base (calls_of w.asked))) w.base)) e
+
+-- the edit that takes another one back fits
+inverse_fits : (i : Problem) (t : List Placed) (e : Edit) → Lawful i t → EditFits i e → IfSome (inverse t e) (EditFits i)
+inverse_fits i t (Place c s r) h f = (f.0, f.1)
+inverse_fits i t (Move c s s2 r) h f = by (room_at c s t) refl
+  where
+    by : (o : Option ℕ) → room_at c s t ≡ o → IfSome (option_map (λ old. Move c s2 s old) o) (EditFits i)
+    by None is = tt
+    by (Some old) is = (f.0, f.2, f.1, room_fits i t c s old h is)
+inverse_fits i t (Swap c s d s2) h f = (f.0, f.3, f.2, f.1)
+inverse_fits i t (Reroom c s r) h f = by (room_at c s t) refl
+  where
+    by : (o : Option ℕ) → room_at c s t ≡ o → IfSome (option_map (λ old. Reroom c s old) o) (EditFits i)
+    by None is = tt
+    by (Some old) is = (f.0, f.1, room_fits i t c s old h is)
+inverse_fits i t (Drop c s) h f = by (room_at c s t) refl
+  where
+    by : (o : Option ℕ) → room_at c s t ≡ o → IfSome (option_map (λ old. Place c s old) o) (EditFits i)
+    by None is = tt
+    by (Some old) is = (f.0, f.1, room_fits i t c s old h is)
+
+Each-push : (P : Edit → Type 0) (xs : List Edit) (o : Option Edit) → Each P xs → IfSome o P → Each P (xs ++ option_to_list o)
+Each-push P [] None h p = tt
+Each-push P [] (Some x) h p = (p, tt)
+Each-push P (y ∷ ys) o h p = (h.0, Each-push P ys o h.1 p)
+
+Each-take : (P : Edit → Type 0) (n : ℕ) (xs : List Edit) → Each P xs → Each P (take n xs)
+Each-take P zero xs h = tt
+Each-take P (suc n) [] h = tt
+Each-take P (suc n) (x ∷ xs) h = (h.0, Each-take P n xs h.1)
+
+stacked_fits : (i : Problem) (e : Edit) (o : Option Edit) (stack : List Edit) → Each (EditFits i) stack → IfSome o (EditFits i) → Each (EditFits i) (stacked e o stack)
+stacked_fits i e o stack h f = by (is_given e (top stack))
+  where
+    by : (b : Bool) → Each (EditFits i) (cond b (take (length stack - 1) stack) (stack ++ option_to_list o))
+    by true = Each-take (EditFits i) (length stack - 1) stack h
+    by false = Each-push (EditFits i) stack o h f
+
+-- the front of a list, and what is behind it, by one more
+one_more : {X : Type 0} (m : ℕ) (xs : List X) (x : X) (more : List X) → drop m xs ≡ x ∷ more → (drop (suc m) xs ≡ more) × (take (suc m) xs ≡ take m xs ++ x ∷ [])
+one_more zero [] x more h = cc
+one_more zero (y ∷ ys) x more h = cc
+one_more (suc m) [] x more h = cc
+one_more (suc m) (y ∷ ys) x more h = (let rest = one_more m ys x more h in (rest.0, ap (λ zs. y ∷ zs) rest.1))
+
+-- of calls that are made on the base some are left: those before them made so many changes, and left these inverses
+pub record IsUnstacking (i : Problem) (base : List Placed) (calls : List Call) (all : List (List Cell)) (m : ℕ) (stack : List Edit) (left : List Asked) : Type 0 where
+  pub split : drop m all ≡ changes i (apply_all (take m all) base) (calls_of left)
+  pub told : replies_in left ≡ replies i (apply_all (take m all) base) (calls_of left)
+  pub same : stack_of i (apply_all (take m all) base) (calls_of left) stack ≡ stack_of i base calls []
+  pub lawful : Lawful i (apply_all (take m all) base)
+  pub fit : Each (CallFits i) (calls_of left)
+  pub fits : Each (EditFits i) stack
+
+pub starts : (i : Problem) (base : List Placed) (asked : List Asked) (all : List (List Cell)) → Lawful i base → Each (CallFits i) (calls_of asked) → replies_in asked ≡ replies i base (calls_of asked) → all ≡ changes i base (calls_of asked)
+    → IsUnstacking i base (calls_of asked) all 0 [] asked
+starts i base asked all lawful fit told is = record { split = is; told = told; same = refl; lawful = lawful; fit = fit; fits = tt }
+
+-- an edit that was done has no fault
+free_of : (o : Option EditFault) → Done ≡ told_or o Done → o ≡ None
+free_of None h = refl
+free_of (Some f) h = cc
+
+heads : {X : Type 0} (x y : X) (xs ys : List X) → x ∷ xs ≡ y ∷ ys → x ≡ y
+heads x y xs ys h = cc
+
+tails : {X : Type 0} (x y : X) (xs ys : List X) → x ∷ xs ≡ y ∷ ys → xs ≡ ys
+tails x y xs ys h = cc
+
+module _ (i : Problem) (base : List Placed) (calls : List Call) (all : List (List Cell)) (m : ℕ) (stack : List Edit) (left : List Asked) where
+  here : List Placed
+  here = apply_all (take m all) base
+
+  -- an accepted edit
+  done_here : (e : Edit) (new : List Edit) → IsUnstacking i base calls all m stack (record { call = Edits e; reply = Done } ∷ left) → new ≡ stacked e (inverse here e) stack → IsUnstacking i base calls all (suc m) new left
+  done_here e new h is =
+      let free : edit_fault i here e ≡ None = free_of (edit_fault i here e) (heads Done (told_or (edit_fault i here e) Done) (replies_in left) (replies i (after_call i here (Edits e)) (calls_of left)) h.told) in
+      let cells : cells_if (edit_fault i here e) (change here e) ≡ change here e = ap (λ o. cells_if o (change here e)) free in
+      let parts : drop m all ≡ change here e ∷ changes i (after_call i here (Edits e)) (calls_of left) =
+      h.split ∙ ap (λ xs. xs ++ changes i (after_call i here (Edits e)) (calls_of left)) (ap made cells ∙ made_edit here e) in
+      let more = one_more m all (change here e) (changes i (after_call i here (Edits e)) (calls_of left)) parts in
+      let next : apply_all (take (suc m) all) base ≡ after_call i here (Edits e) =
+      ap (λ xs. apply_all xs base) more.1 ∙ apply_all-append (take m all) (change here e ∷ []) base ∙ ap (λ xs. apply xs here) (sym cells) in
+      let stack_is : new ≡ stack_after i here (Edits e) stack = is ∙ ap (λ o. stacked_if o (stacked e (inverse here e) stack) stack) (sym free) in
+      record {
+        split = more.0 ∙ ap (λ t. changes i t (calls_of left)) (sym next);
+        told = tails Done (told_or (edit_fault i here e) Done) (replies_in left) (replies i (after_call i here (Edits e)) (calls_of left)) h.told ∙ ap (λ t. replies i t (calls_of left)) (sym next);
+        same = ap₂ (λ t s. stack_of i t (calls_of left) s) next stack_is ∙ h.same;
+        lawful = subst (Lawful i) (sym next) (lawful_after_call i here (Edits e) h.lawful h.fit.0);
+        fit = h.fit.1;
+        fits = subst (Each (EditFits i)) (sym is) (stacked_fits i e (inverse here e) stack h.fits (inverse_fits i here e h.lawful h.fit.0));
+      }
+
+  -- a look
+  look_here : (look : Look) (told : Reply) → IsUnstacking i base calls all m stack (record { call = Looks look; reply = told } ∷ left) → IsUnstacking i base calls all m stack left
+  look_here look told h = record {
+    split = h.split;
+    told = tails told (reply i here (Looks look)) (replies_in left) (replies i here (calls_of left)) h.told;
+    same = h.same;
+    lawful = h.lawful;
+    fit = h.fit.1;
+    fits = h.fits;
+  }
+
+  -- an edit that was refused
+  refused_here : (e : Edit) (told : Reply) (f : EditFault) → edit_fault i here e ≡ Some f → IsUnstacking i base calls all m stack (record { call = Edits e; reply = told } ∷ left) → IsUnstacking i base calls all m stack left
+  refused_here e told f fault h =
+      let still : after_call i here (Edits e) ≡ here = ap (λ o. apply (cells_if o (change here e)) here) fault in
+      let none : made (cells_if (edit_fault i here e) (change here e)) ≡ [] = ap (λ o. made (cells_if o (change here e))) fault in
+      record {
+        split = h.split ∙ ap₂ (λ xs t. xs ++ changes i t (calls_of left)) none still;
+        told = tails told (reply i here (Edits e)) (replies_in left) (replies i (after_call i here (Edits e)) (calls_of left)) h.told ∙ ap (λ t. replies i t (calls_of left)) still;
+        same = sym (ap₂ (λ t o. stack_of i t (calls_of left) (stacked_if o (stacked e (inverse here e) stack) stack)) still fault) ∙ h.same;
+        lawful = h.lawful;
+        fit = h.fit.1;
+        fits = h.fits;
+      }
+
+  edit_here : (e : Edit) (told : Reply) → done_by (Edits e) told ≡ None → (o : Option EditFault) → edit_fault i here e ≡ o → IsUnstacking i base calls all m stack (record { call = Edits e; reply = told } ∷ left) → IsUnstacking i base calls all m stack left
+  edit_here e told none (Some f) fault h = refused_here e told f fault h
+  edit_here e told none None free h =
+      let done : told ≡ Done = heads told (told_or (edit_fault i here e) Done) (replies_in left) (replies i (after_call i here (Edits e)) (calls_of left)) h.told ∙ ap (λ o. told_or o Done) free in
+      let bad : Some e ≡ None = subst (λ r. done_by (Edits e) r ≡ None) done none in
+      cc
+
+  -- a call that is no accepted edit
+  pub passed : (a : Asked) → done_edit a ≡ None → IsUnstacking i base calls all m stack (a ∷ left) → IsUnstacking i base calls all m stack left
+  passed a none h = by a.call refl
+    where
+      by : (call : Call) → a.call ≡ call → IsUnstacking i base calls all m stack left
+      by (Looks look) is = look_here look a.reply (subst (λ c. IsUnstacking i base calls all m stack (record { call = c; reply = a.reply } ∷ left)) is h)
+      by (Edits e) is =
+          edit_here e a.reply (subst (λ c. done_by c a.reply ≡ None) is none) (edit_fault i here e) refl
+          (subst (λ c. IsUnstacking i base calls all m stack (record { call = c; reply = a.reply } ∷ left)) is h)
+
+  done_is : (call : Call) (told : Reply) (e : Edit) → done_by call told ≡ Some e → (call ≡ Edits e) × (told ≡ Done)
+  done_is (Looks look) told e h = cc
+  done_is (Edits x) Done e h = (cc, refl)
+  done_is (Edits x) (Refused f) e h = cc
+  done_is (Edits x) (Lectures ls) e h = cc
+  done_is (Edits x) (Costs c) e h = cc
+  done_is (Edits x) (Priced p) e h = cc
+  done_is (Edits x) (AreMissing xs) e h = cc
+  done_is (Edits x) (AreCheapest xs) e h = cc
+
+  -- one that is
+  pub one_done : (a : Asked) (e : Edit) (n : ℕ) (new : List Edit) → done_edit a ≡ Some e → IsUnstacking i base calls all m stack (a ∷ left) → new ≡ stacked e (inverse here e) stack → n ≡ m + 1 → IsUnstacking i base calls all n new left
+  one_done a e n new is h grown more =
+      let parts = done_is a.call a.reply e is in
+      let at : n ≡ suc m = omega (arith, more) in
+      subst (λ k. IsUnstacking i base calls all k new left) (sym at)
+      (done_here e new (subst (λ (x : Asked). IsUnstacking i base calls all m stack (x ∷ left)) (ap₂ (λ c r. record { call = c; reply = r }) parts.0 parts.1) h) grown)
+
+-- at the end
+pub all_unstacked : (i : Problem) (base : List Placed) (calls : List Call) (all : List (List Cell)) (m : ℕ) (stack : List Edit) → IsUnstacking i base calls all m stack [] → stack ≡ stack_of i base calls []
+all_unstacked i base calls all m stack h = h.same
