@@ -1,6 +1,7 @@
 mod AnswerLemmas
 mod CommittedLemmas
 mod CutLemmas
+mod EndedLemmas
 mod WordLemmas
 mod LineLemmas
 mod NextLemmas
@@ -8,4 +9,5 @@ mod PagesLemmas
 mod PartLemmas
 mod PassLemmas
 mod RecoveryLemmas
+mod RedoLemmas
 mod SittingLemmas

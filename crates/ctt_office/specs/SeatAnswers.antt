@@ -149,8 +149,11 @@ IsAnswer book IsKept Failed i t0 TooLong before after answer = (after ≡ before
 IsAnswer book IsKept Failed i t0 (Step event) before after answer = IsStepAnswer book IsKept Failed i t0 event before after answer
 
 -- the planner has committed as many drafts as before
+abbrev pub CommitsNone : {X Y : Type 0} → Seat X Y → Seat X Y → Type 0
+CommitsNone before after = (leaver after).committed ≡ (leaver before).committed
+
 abbrev pub IsUncommitted : {X Y : Type 0} → Workplace X Y → Workplace X Y → Type 0
-IsUncommitted before after = (leaver after.seat).committed ≡ (leaver before.seat).committed
+IsUncommitted before after = CommitsNone before.seat after.seat
 
 -- a text grows by such an answer
 abbrev pub Adds : (List ℕ → Type 0) → List ℕ → List ℕ → Type 0
