@@ -1,4 +1,5 @@
 mod AnswerLemmas
+mod BadWordLemmas
 mod CommittedLemmas
 mod CutLemmas
 mod EndedLemmas

@@ -1,5 +1,5 @@
 -- Edits that are made again, one by one.
-use Rattle.std.proofs.Common.{◌≡◌, ◌∙◌, ℕ, suc, ◌+◌, Bool, true, false, List, [], ◌∷◌, ◌++◌, length, flat_map, Option, Some, None, codes, arith, refl, sym, ap, ap₂, subst, append-nil, append_assoc}
+use Rattle.std.proofs.Common.{◌≡◌, ◌∙◌, inl, ℕ, suc, ◌+◌, Bool, true, false, List, [], ◌∷◌, ◌++◌, length, flat_map, Option, Some, None, codes, arith, refl, sym, ap, ap₂, subst, append-nil, append_assoc}
 use Rattle.std.specs.Fmt.{decimal}
 use Rattle.std.proofs.lemmas.List.{length-append}
 use Rattle.ctt_text.specs.Problem.{Problem}
@@ -21,6 +21,8 @@ use Rattle.ctt_draft.proofs.DraftSteps.{calls-push}
 use Rattle.ctt_desk.specs.Planners.{DraftingValue, asked_also, present_of}
 use Rattle.ctt_script.specs.WrittenText.{line, rest_of_line, words_part}
 use Rattle.ctt_script.proofs.WrittenText.{parts_end}
+use Rattle.ctt_crew.specs.declared.seat.Seat.TheVariants.{Drafting}
+use Rattle.ctt_office.specs.Laws.{AreAsked, RedoIsAsking}
 use Rattle.ctt_office.specs.Redone.{IsMadeAgain, IsMadeBy, LeftOut, left_out, left_out_if, left_out_words, made, redone_line, remade, remade_if}
 
 -- an edit has a price exactly where it has no fault
@@ -132,3 +134,34 @@ pub whole_line : (i : Problem) (t : List Placed) (all : List Edit) (again edits 
 whole_line i t all again edits text mades counts texts =
     ap₂ (λ a b. codes "redone " ++ (decimal a ++ (codes " of " ++ (decimal b ++ (text ++ codes "\n"))))) mades counts
     ∙ ap (λ bs. codes "redone " ++ (decimal (length (remade i t all)) ++ (codes " of " ++ (decimal (length all) ++ bs)))) (ap (λ bs. bs ++ codes "\n") texts ∙ sym (parts_end (left_out_words i) (left_out i t 1 all)))
+
+-- the edits that are made again, asked one by one
+abbrev AreAskedFrom : Problem → DraftingValue → List Asked → Type 0
+AreAskedFrom i d xs = AreAsked {X = Unit {0}} {Y = Unit {0}} i (edits_done xs) (Drafting d) (Drafting (record d { asked = d.asked ++ xs }))
+
+ask_first : (i : Problem) (d : DraftingValue) (e : Edit) (xs : List Asked) → edit_fault i (present_of i d) e ≡ None → AreAskedFrom i (asked_also d (Edits e) Done) xs → AreAskedFrom i d (made e ∷ xs)
+ask_first i d e xs free more = (
+  Drafting (asked_also d (Edits e) Done),
+  inl (Done, sym (ap (λ o. told_or o Done) free), refl, refl),
+  subst (λ ys. AreAsked {X = Unit {0}} {Y = Unit {0}} i (edits_done xs) (Drafting (asked_also d (Edits e) Done)) (Drafting (record d { asked = ys }))) (append_assoc d.asked (made e ∷ []) xs) more,
+)
+
+ask_each : (i : Problem) (d : DraftingValue) (edits : List Edit) → AreAskedFrom i d (remade i (present_of i d) edits)
+ask_each i d [] = ap (λ ys. Drafting (record d { asked = ys })) (append-nil d.asked)
+ask_each i d (e ∷ edits) = by (edit_fault i (present_of i d) e) refl
+  where
+    by : (o : Option EditFault) → edit_fault i (present_of i d) e ≡ o → AreAskedFrom i d (remade i (present_of i d) (e ∷ edits))
+    by None free =
+        let later = ask_each i (asked_also d (Edits e) Done) edits in
+        subst (AreAskedFrom i d) (sym (ap (λ o. remade_if o e (remade i (edited (present_of i d) e) edits) (remade i (present_of i d) edits)) free))
+        (ask_first i d e (remade i (edited (present_of i d) e) edits) free (subst (λ t. AreAskedFrom i (asked_also d (Edits e) Done) (remade i t edits)) (made_on i d e free) later))
+    by (Some f) fault =
+        subst (AreAskedFrom i d) (sym (ap (λ o. remade_if o e (remade i (edited (present_of i d) e) edits) (remade i (present_of i d) edits)) fault)) (ask_each i d edits)
+
+pub redo_is_asking : RedoIsAsking
+redo_is_asking i d edits none =
+    let all = ask_each i d edits in
+    let here : present_of i d ≡ d.base = ap (λ xs. whole i d.base (calls_of xs)) none in
+    let joined : d.asked ++ remade i (present_of i d) edits ≡ remade i d.base edits = ap₂ (λ xs t. xs ++ remade i t edits) none here in
+    subst (λ t. AreAsked {X = Unit {0}} {Y = Unit {0}} i (edits_done (remade i t edits)) (Drafting d) (Drafting (record d { asked = remade i d.base edits }))) here
+    (subst (λ ys. AreAsked {X = Unit {0}} {Y = Unit {0}} i (edits_done (remade i (present_of i d) edits)) (Drafting d) (Drafting (record d { asked = ys }))) joined all)

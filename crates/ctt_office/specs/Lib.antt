@@ -1,6 +1,7 @@
 pub mod BadWords
 pub mod Blocks
 pub mod Ended
+pub mod Laws
 pub mod Lines
 pub mod OfficeFaults
 pub mod Pages

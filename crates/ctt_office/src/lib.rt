@@ -8,6 +8,7 @@ mod blocks;
 mod book;
 mod doors;
 mod durable;
+pub mod laws;
 mod line_reader;
 mod office;
 mod office_fault;
