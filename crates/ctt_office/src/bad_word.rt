@@ -1,6 +1,6 @@
 //! The first word of a line that cannot stand.
 
-ghost use Rattle.std.specs.Prelude.{◌≡◌, ◌++◌, OnOk, string_bytes};
+ghost use Rattle.std.specs.Prelude.{◌≡◌, ◌++◌, [], OnOk, string_bytes};
 ghost use Rattle.ctt_text.specs.Words.{words};
 ghost use Rattle.ctt_office.specs.BadWords.{bad_word, bad_word_line, first_untext};
 

@@ -29,7 +29,7 @@ use std::alloc::{AllocError, Global};
 
 /// How many accepted edits an ended draft had, and how many of them were made again.
 #[derive(Clone, Copy)]
-struct Redone {
+struct Tally {
     made: u64,
     edits: u64,
 }
@@ -60,18 +60,18 @@ fn make_again<'i, S: Sheet<'i>, J: Naming>(
     instance: &Instance,
     number: u64,
     edit: &Edit,
-    left_out: &mut String,
+    omitted: &mut String,
 ) -> Result<bool, NoMemory>
     requires same { J.problem ≡ instance.now }
     requires fits { EditFits instance.now edit.now }
     ensures again { IfOk result (IsMadeAgain instance.now number edit.now drafting.old drafting.new
-        (string_bytes left_out.old) (string_bytes left_out.new)) }
+        (string_bytes omitted.old) (string_bytes omitted.new)) }
     ensures planner { drafting.new.planner ≡ drafting.old.planner }
 {
     let price = drafting.peek(&Look::Price(*edit))?;
     match price {
         Reply::Refused(fault) => {
-            push_left_out(left_out, instance, number, edit, &fault)?;
+            push_left_out(omitted, instance, number, edit, &fault)?;
             Ok(false)
         }
         _ => {
@@ -86,15 +86,15 @@ fn make_all_again<'i, S: Sheet<'i>, J: Naming>(
     drafting: &mut Drafting<'i, S, J>,
     instance: &Instance,
     asked: &[Asked],
-    left_out: &mut String,
-) -> Result<Redone, NoMemory>
+    omitted: &mut String,
+) -> Result<Tally, NoMemory>
     requires same { J.problem ≡ instance.now }
     requires fits { Each (AskedFits instance.now) asked.now }
     ensures calls { OnOk result (drafting.new ≡ record drafting.old {
       asked = drafting.old.asked
           ++ remade instance.now (present_of instance.now drafting.old) (edits_done asked.now);
     }) }
-    ensures left { OnOk result (string_bytes left_out.new ≡ string_bytes left_out.old
+    ensures left { OnOk result (string_bytes omitted.new ≡ string_bytes omitted.old
         ++ flat_map (λ x. words_part (left_out_words instance.now x)) (left_out instance.now
         (present_of instance.now drafting.old) 1 (edits_done asked.now))) }
     ensures made { IfOk result (λ redone. redone.made ≡ length (remade instance.now
@@ -107,25 +107,25 @@ fn make_all_again<'i, S: Sheet<'i>, J: Naming>(
     for one in asked {
         if let Some(edit) = one.done_edit() {
             edits += 1;
-            if make_again(drafting, instance, edits, &edit, left_out)? {
+            if make_again(drafting, instance, edits, &edit, omitted)? {
                 made += 1;
             }
         }
     }
-    Ok(Redone { made, edits })
+    Ok(Tally { made, edits })
 }
 
 /// The line of edits that were made again, with these words of those that are left out.
-fn redone_text(alloc: Global, redone: &Redone, left_out: &str) -> Result<String, NoMemory>
+fn redone_text(alloc: Global, redone: &Tally, omitted: &str) -> Result<String, NoMemory>
     ensures { IfOk result (λ text. string_bytes text ≡ codes "redone " ++ (decimal redone.now.made
-        ++ (codes " of " ++ (decimal redone.now.edits ++ (left_out.now ++ codes "\n"))))) }
+        ++ (codes " of " ++ (decimal redone.now.edits ++ (omitted.now ++ codes "\n"))))) }
 {
     let mut text = String::new(alloc);
     text.push_str("redone")?;
     push_count(&mut text, redone.made)?;
     text.push_str(" of")?;
     push_count(&mut text, redone.edits)?;
-    text.push_str(left_out)?;
+    text.push_str(omitted)?;
     text.push('\n')?;
     Ok(text)
 }
@@ -150,9 +150,9 @@ fn redo_in<'i, S: Sheet<'i>, J: Naming>(
     ensures kept { OnErr result (string_bytes text.new ≡ string_bytes text.old) }
     ensures planner { drafting.new.planner ≡ drafting.old.planner }
 {
-    let mut left_out = String::new(alloc);
-    let redone = make_all_again(drafting, instance, asked, &mut left_out)?;
-    let line = redone_text(alloc, &redone, left_out.as_str())?;
+    let mut omitted = String::new(alloc);
+    let redone = make_all_again(drafting, instance, asked, &mut omitted)?;
+    let line = redone_text(alloc, &redone, omitted.as_str())?;
     Ok(text.push_str(line.as_str())?)
 }
 
