@@ -165,7 +165,7 @@ ROW9 = [
     (0, "abandon", "no draft"),
     (1, "open", "opened"),
     (1, "open", "already open"),
-    (1, "show cost", "already open"),
+    (1, "show cost", "costs 10 15 0 0"),
     (1, "abandon", "abandoned"),
     (1, "frobnicate", "bad line 1 frobnicate"),
     (1, "0 open", "bad line 1 0"),
@@ -214,13 +214,13 @@ def one_seat():
     check(
         "lines that are too long",
         call("desk", SMALL, "-", text=long)[1],
-        "opened\nbad line\nbad line\nbad line\nabandoned\n",
+        "opened\nbad line 1 " + "x" * 65536 + "\nbad line\nbad line\nabandoned\n",
     )
     fits = b"open" + b" " * 65532 + b"\n" + b"abandon" + b" " * 65530 + b"\n" + b" " * 70000 + b"\nshow cost"
     check(
         "a line of 65,536 bytes, one more, and one of blanks",
         call("desk", SMALL, "-", text=fits)[1],
-        "opened\nbad line\nbad line\nalready open\n",
+        "opened\nbad line\nbad line\ncosts 0 20 0 0\n",
     )
 
 
