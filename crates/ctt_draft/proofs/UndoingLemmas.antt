@@ -3,7 +3,6 @@ use Rattle.std.proofs.Common.{◌≡◌, ◌∙◌, ℕ, zero, suc, ◌+◌, ◌
 use Rattle.std.specs.Prelude.{IfSome}
 use Rattle.std.specs.List.{AllByRecursion as Each}
 use Rattle.std.specs.Option.{option_map, option_to_list}
-use Rattle.std.proofs.lemmas.Bool.Decides.{nat_tests}
 use Rattle.ctt_text.specs.Problem.{Problem}
 use Rattle.ctt_text.specs.declared.placed.Placed.{Placed}
 use Rattle.ctt_rules.specs.Hard.{Lawful}
@@ -13,7 +12,6 @@ use Rattle.ctt_board.proofs.RoomLemmas.{rooms_after}
 use Rattle.ctt_edits.specs.Calls.{CallFits, cells_if, reply}
 use Rattle.ctt_edits.specs.Edits.{EditFits, edit_fault, change}
 use Rattle.ctt_edits.specs.Looks.{told_or}
-use Rattle.ctt_edits.specs.RowSets.{RowSet}
 use Rattle.ctt_edits.specs.contracts.edit.EditPartialEq.TheImpl.{eq-value as edit_eq}
 use Rattle.ctt_edits.specs.declared.call.Call.{Call}
 use Rattle.ctt_edits.specs.declared.call.Call.TheVariants.{Look as Looks, Edit as Edits}
@@ -25,13 +23,12 @@ use Rattle.ctt_edits.specs.declared.reply.Reply.{Reply}
 use Rattle.ctt_edits.specs.declared.reply.Reply.TheVariants.{Done, Refused, Lectures, Costs, Price as Priced, Missing as AreMissing, Edits as AreCheapest}
 use Rattle.ctt_edits.proofs.EditLemmas.{room_fits}
 use Rattle.ctt_draft.specs.Drafts.{after_call, calls_of, changes, made, replies, replies_in}
-use Rattle.ctt_draft.specs.DraftValues.{DraftValue, IsDraft}
-use Rattle.ctt_draft.specs.Undo.{UndoValue, all_cells}
+use Rattle.ctt_draft.specs.DraftValues.{DraftValue, present}
+use Rattle.ctt_draft.specs.Undo.{all_cells, undo_of}
 use Rattle.ctt_draft.specs.Undoing.{done_by, done_edit, inverse, is_given, same_edit, stack_after, stack_of, stacked, stacked_if, top}
 use Rattle.ctt_draft.specs.declared.asked.Asked.{Asked}
-use Rattle.ctt_draft.proofs.CallRuns.{apply_all-append, changes_fit, lawful_after_call, made_edit}
-use Rattle.ctt_draft.proofs.DraftSteps.{records_base}
-use Rattle.ctt_draft.proofs.UndoLemmas.{room_back}
+use Rattle.ctt_draft.proofs.CallRuns.{apply_all-append, changes_fit, lawful_after_call, made_edit, whole_is}
+use Rattle.ctt_draft.proofs.UndoLemmas.{room_back, undo_records}
 
 -- the test of two edits, as the program makes it
 pub eq_same : (a b : Edit) → edit_eq.it a b ≡ same_edit a b
@@ -79,15 +76,17 @@ fit_take i (suc n) [] t fit = tt
 fit_take i (suc n) (x ∷ xs) t fit = (fit.0, fit_take i n xs (apply x t) fit.1)
 
 -- the room that a course had in a slot when so many changes were made
-pub room_was : (i k : Problem) (base here : List Placed) (asked : List Asked) (old : List (List Cell)) (undo : UndoValue) (rows : RowSet) (v : DraftValue) → IsDraft i k base here asked old undo rows
-    → ◌≡◌ {A = DraftValue} (record { problem = i; base = base; asked = asked }) v → (m c s : ℕ)
-    → room_by (all_cells (take m old)) c s (room_by undo.cells c s (room_at c s here)) ≡ room_at c s (apply_all (take m (changes v.problem v.base (calls_of v.asked))) v.base)
-room_was i k base here asked old undo rows v d e m c s =
-    let fit : ChangesFit i old base = subst (λ xs. ChangesFit i xs base) (sym d.made_is) (changes_fit i base (calls_of asked) d.lawful_base d.is_told.fit) in
-    ap (room_by (all_cells (take m old)) c s) (room_back base here undo.cells c s (records_base i k base here asked old undo rows d))
-    ∙ sym (rooms_after_all i (take m old) base c s (fit_take i m old base fit))
-    ∙ ap (λ xs. room_at c s (apply_all (take m xs) base)) d.made_is
-    ∙ ap (λ (w : DraftValue). room_at c s (apply_all (take m (changes w.problem w.base (calls_of w.asked))) w.base)) e
+pub room_was : (d : DraftValue) → Lawful d.problem d.base → Each (CallFits d.problem) (calls_of d.asked) → (m c s : ℕ)
+    → room_by (all_cells (take m (changes d.problem d.base (calls_of d.asked)))) c s (room_by (undo_of d.base (changes d.problem d.base (calls_of d.asked))) c s (room_at c s (present d)))
+    ≡ room_at c s (apply_all (take m (changes d.problem d.base (calls_of d.asked))) d.base)
+room_was d lawful fits m c s =
+    let all : List (List Cell) = changes d.problem d.base (calls_of d.asked) in
+    let fit : ChangesFit d.problem all d.base = changes_fit d.problem d.base (calls_of d.asked) lawful fits in
+    let back : room_by (undo_of d.base all) c s (room_at c s (present d)) ≡ room_at c s d.base =
+    ap (λ t. room_by (undo_of d.base all) c s (room_at c s t)) (whole_is d.problem (calls_of d.asked) d.base)
+    ∙ room_back d.base (apply_all all d.base) (undo_of d.base all) c s (undo_records d.problem all d.base fit) in
+    ap (room_by (all_cells (take m all)) c s) back
+    ∙ sym (rooms_after_all d.problem (take m all) d.base c s (fit_take d.problem m all d.base fit))
 
 -- the edit that takes another one back fits
 inverse_fits : (i : Problem) (t : List Placed) (e : Edit) → Lawful i t → EditFits i e → IfSome (inverse t e) (EditFits i)

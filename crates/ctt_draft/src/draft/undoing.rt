@@ -88,9 +88,10 @@ impl<'i, S: Sheet<'i>> Draft<'i, S> {
         ensures { result ≡ room_at course slot (apply_all (take made
             (changes self.now.problem self.now.base (calls_of self.now.asked))) self.now.base) }
     {
-        let present = self.present.room_at(course, slot);
-        let base = room_after(self.undo.cells(), course, slot, present);
-        room_after_all(&self.changes[..made], course, slot, base)
+        self.lawful();
+        let present = self.present().room_at(course, slot);
+        let base = room_after(self.undo(), course, slot, present);
+        room_after_all(&self.changes()[..made], course, slot, base)
     }
 
     /// The edit that takes an edit back which was made behind so many changes.
@@ -127,9 +128,10 @@ impl<'i, S: Sheet<'i>> Draft<'i, S> {
             edit ≡ undoing self.now.problem self.now.base (calls_of self.now.asked)) }
         ensures fits { IfOk result (λ edit. IfSome edit (EditFits self.now.problem)) }
     {
+        self.lawful();
         let mut stack = Vec::new(*self.changes.allocator());
         let mut made = 0;
-        for asked in self.asked.as_slice() {
+        for asked in self.asked() {
             if let Some(edit) = asked.done_edit() {
                 let inverse = self.inverse(made, &edit);
                 restack(&mut stack, &edit, inverse)?;
