@@ -1,5 +1,5 @@
 -- Inverses of accepted edits, and the one that is the last of them.
-use Rattle.std.proofs.Common.{◌≡◌, ◌∙◌, ℕ, zero, suc, ◌+◌, ◌-◌, ◌<◌, Bool, true, false, cond, List, [], ◌∷◌, ◌++◌, length, take, drop, get_or, Option, Some, None, arith, refl, sym, ap, ap₂, subst, append_assoc}
+use Rattle.std.proofs.Common.{◌≡◌, ◌∙◌, ℕ, zero, suc, ◌+◌, ◌-◌, ◌<◌, ◌≤◌, Bool, true, false, cond, List, [], ◌∷◌, ◌++◌, length, take, drop, get_or, Option, Some, None, arith, refl, sym, ap, ap₂, subst, append_assoc}
 use Rattle.std.specs.Prelude.{IfSome}
 use Rattle.std.specs.List.{AllByRecursion as Each}
 use Rattle.std.specs.Option.{option_map, option_to_list}
@@ -69,6 +69,31 @@ rooms_after_all i (x ∷ xs) t c s fit =
     rooms_after_all i xs (apply x t) c s fit.1
     ∙ ap (room_by (all_cells xs) c s) (rooms_after x t fit.0.cells_fit c s)
     ∙ sym (room_by-append x (all_cells xs) c s (room_at c s t))
+
+-- the room after one change more
+pub one_change : (all : List (List Cell)) (k : ℕ) (x : List Cell) (c s : ℕ) (last new start : Option ℕ) → drop k all ≡ x ∷ drop (k + 1) all → new ≡ room_by x c s last → room_by (all_cells (drop k all)) c s last ≡ start
+    → room_by (all_cells (drop (k + 1) all)) c s new ≡ start
+one_change all k x c s last new start at is so_far =
+    ap (room_by (all_cells (drop (k + 1) all)) c s) is
+    ∙ sym (room_by-append x (all_cells (drop (k + 1) all)) c s last)
+    ∙ ap (λ xs. room_by (all_cells xs) c s last) (sym at)
+    ∙ so_far
+
+-- what is left of a list from an element on
+pub left_at : {X : Type 0} (xs : List X) (k : ℕ) (x : X) → k < length xs → x ≡ get_or xs k x → drop k xs ≡ x ∷ drop (k + 1) xs
+left_at [] k x lt is = absurd (omega (arith, lt))
+left_at (y ∷ ys) zero x lt is = ap (λ z. z ∷ ys) (sym is)
+left_at (y ∷ ys) (suc k) x lt is = rw (behind k) (left_at ys k x (omega (arith, lt)) is)
+  where
+    behind : (k : ℕ) → suc k + 1 ≡ suc (k + 1)
+    behind k = omega arith
+
+-- a list of which something is left is longer
+has_more : {X : Type 0} (m : ℕ) (xs : List X) (x : X) (more : List X) → drop m xs ≡ x ∷ more → m < length xs
+has_more zero [] x more h = cc
+has_more zero (y ∷ ys) x more h = omega arith
+has_more (suc m) [] x more h = cc
+has_more (suc m) (y ∷ ys) x more h = (let rest = has_more m ys x more h in omega (arith, rest))
 
 fit_take : (i : Problem) (n : ℕ) (xs : List (List Cell)) (t : List Placed) → ChangesFit i xs t → ChangesFit i (take n xs) t
 fit_take i zero xs t fit = tt
@@ -231,6 +256,17 @@ module _ (i : Problem) (base : List Placed) (calls : List Call) (all : List (Lis
   done_is (Edits x) (Priced p) e h = cc
   done_is (Edits x) (AreMissing xs) e h = cc
   done_is (Edits x) (AreCheapest xs) e h = cc
+
+  -- so many changes there are at least before an accepted edit, and it fits
+  pub few_made : (a : Asked) (e : Edit) → done_edit a ≡ Some e → IsUnstacking i base calls all m stack (a ∷ left) → (m ≤ length all) × EditFits i e
+  few_made a e is h =
+      let parts = done_is a.call a.reply e is in
+      let k = subst (λ (x : Asked). IsUnstacking i base calls all m stack (x ∷ left)) (ap₂ (λ c r. record { call = c; reply = r }) parts.0 parts.1) h in
+      let free : edit_fault i here e ≡ None = free_of (edit_fault i here e) (heads Done (told_or (edit_fault i here e) Done) (replies_in left) (replies i (after_call i here (Edits e)) (calls_of left)) k.told) in
+      let parts2 : drop m all ≡ change here e ∷ changes i (after_call i here (Edits e)) (calls_of left) =
+      k.split ∙ ap (λ xs. xs ++ changes i (after_call i here (Edits e)) (calls_of left)) (ap (λ o. made (cells_if o (change here e))) free ∙ made_edit here e) in
+      let less : m < length all = has_more m all (change here e) (changes i (after_call i here (Edits e)) (calls_of left)) parts2 in
+      (omega (arith, less), k.fit.0)
 
   -- one that is
   pub one_done : (a : Asked) (e : Edit) (n : ℕ) (new : List Edit) → done_edit a ≡ Some e → IsUnstacking i base calls all m stack (a ∷ left) → new ≡ stacked e (inverse here e) stack → n ≡ m + 1 → IsUnstacking i base calls all n new left

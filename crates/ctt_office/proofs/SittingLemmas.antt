@@ -10,7 +10,7 @@ use Rattle.ctt_office.specs.SeatAnswers.{Tells}
 use Rattle.ctt_office.specs.SeatText.{asked_by, seat_line}
 use Rattle.ctt_office.specs.Sittings.{AreAnswered, EndsAt, GoOn, IsBroken, IsCut, IsCutShort, IsSat, IsSitting}
 use Rattle.ctt_office.specs.declared.seat_line.SeatLine.{SeatLine}
-use Rattle.ctt_office.specs.declared.seat_line.SeatLine.TheVariants.{Bad, Leave}
+use Rattle.ctt_office.specs.declared.seat_line.SeatLine.TheVariants.{Leave, TooLong}
 use Rattle.ctt_office.specs.declared.sitting.Ending.{Ending}
 use Rattle.ctt_office.specs.declared.sitting.Ending.TheVariants.{Broken, Ended, Left, NoMemory}
 
@@ -171,14 +171,14 @@ gives_also P Q (Some all) (Some rest) also gives = (gives.0, also gives.0 gives.
 pub asks_short : (i : Problem) (p : ℕ) (line given : List ℕ) (what : SeatLine) → what ≡ seat_line i p given → given ≡ line → IsShort line → what ≡ asked_by i p line
 asks_short i p line given what is same short = by (nat_le (length line) 65536) refl
   where
-    by : (b : Bool) → nat_le (length line) 65536 ≡ b → what ≡ (if b then seat_line i p line else Bad)
+    by : (b : Bool) → nat_le (length line) 65536 ≡ b → what ≡ (if b then seat_line i p line else TooLong)
     by true e = is ∙ ap (seat_line i p) same
     by false e = (let within = le-leb (length line) 65536 short in cc)
 
 -- one that is too long asks for nothing that is known
-pub asks_long : (i : Problem) (p : ℕ) (line : List ℕ) → IsLong line → Bad ≡ asked_by i p line
+pub asks_long : (i : Problem) (p : ℕ) (line : List ℕ) → IsLong line → TooLong ≡ asked_by i p line
 asks_long i p line long = by (nat_le (length line) 65536) refl
   where
-    by : (b : Bool) → nat_le (length line) 65536 ≡ b → Bad ≡ (if b then seat_line i p line else Bad)
+    by : (b : Bool) → nat_le (length line) 65536 ≡ b → TooLong ≡ (if b then seat_line i p line else TooLong)
     by true e = (let within = leb-true (length line) 65536 e in absurd (omega (arith, within, long)))
     by false e = refl

@@ -32,7 +32,7 @@ fn is_fresh_start(answer: &Answer) -> bool
 /// The calls of an ended draft after what a planner is told: those of a draft that is stale, none
 /// where the planner begins or ends one, and else those from before.
 pub(crate) fn ended_after(told: Told, before: Option<AskedCalls>) -> Option<AskedCalls>
-    ensures ended { result ≡ ended_after told before }
+    ensures { result ≡ ended_after told before }
 {
     match told {
         Told::Stale(_, asked) => Some(asked),
@@ -60,7 +60,7 @@ pub(crate) fn calls_fit<'i, S: Sheet<'i>, J: Naming>(seat: &Seat<'i, S, J>)
 impl<'i, S: Sheet<'i>, J: Naming> Workplace<'i, S, J> {
     /// The seat of a planner who did nothing yet.
     pub(crate) fn new(planner: Planner<S, J>) -> Self
-        ensures ended { result.ended ≡ None }
+        ensures { result.ended ≡ None }
     {
         Workplace {
             seat: Seat::Free(planner),

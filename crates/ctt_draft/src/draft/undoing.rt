@@ -131,7 +131,8 @@ impl<'i, S: Sheet<'i>> Draft<'i, S> {
         self.lawful();
         let mut stack = Vec::new(*self.changes.allocator());
         let mut made = 0;
-        for asked in self.asked() {
+        let all = self.asked();
+        for asked in all {
             if let Some(edit) = asked.done_edit() {
                 let inverse = self.inverse(made, &edit);
                 restack(&mut stack, &edit, inverse)?;
