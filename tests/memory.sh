@@ -40,7 +40,7 @@ cd -- "$room" || exit 1
 word_size=24
 slice_size=16
 letter_size=4
-call_size=56
+call_size=64
 head -n 4 s.sol >s0.sol
 printf '%s\n' 'journal 1' 'entry 0 2' 'place top A 0 1' 'refused roomtaken geo' 'slot 0 0' 'lectures 1 alg A 0 0' END. >told
 echo 'Barred: 2 alg A top A END.' >barred

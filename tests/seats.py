@@ -200,7 +200,7 @@ HELP = b"words abandon cheapest commit cost course coursecost curriculum drop he
 peek place price redo refresh reroom show slot status swap teacher undo\n"
 # the sizes in bytes of a word of the command line as `owned_words` and as `serve` collect it, and
 # of a draft's call; a list has room for 4 at least
-WORD_SIZES, CALL_SIZE, LEAST = (24, 16), 56, 4
+WORD_SIZES, CALL_SIZE, LEAST = (24, 16), 64, 4
 # what a desk says that ends for want of memory; a seat whose file could not be opened for it says that
 SAID = rb"timedesk: no (memory|thread)\n"
 SAID_BEFORE = SAID + rb"|timedesk: cannot (read .*/[0-9]\.in|write)\n"

@@ -19,12 +19,13 @@ pub struct Standing {
 }
 
 impl Standing {
-    /// How a draft stands that was compared, and whose base was taken before so many drafts.
+    /// How a draft stands, given how many drafts were accepted since its base was taken, and the row
+    /// by which it is stale, if there is one.
     pub fn of<'i, S: Sheet<'i>>(draft: &Draft<'i, S>, behind: u64, stale: Option<Row>) -> Self
         ensures { result ≡ record {
-            edits = length (changes draft.now.problem draft.now.base (calls_of draft.now.asked));
-            behind = behind;
-            stale = stale;
+          edits = length (changes draft.now.problem draft.now.base (calls_of draft.now.asked));
+          behind = behind;
+          stale = stale;
         } }
     {
         let edits = draft.changes().len() as u64;
