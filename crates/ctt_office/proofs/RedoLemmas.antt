@@ -1,5 +1,5 @@
 -- Edits that are made again, one by one.
-use Rattle.std.proofs.Common.{◌≡◌, ◌∙◌, inl, ℕ, suc, ◌+◌, Bool, true, false, List, [], ◌∷◌, ◌++◌, length, flat_map, Option, Some, None, codes, arith, refl, sym, ap, ap₂, subst, append-nil, append_assoc}
+use Rattle.std.proofs.Common.{◌≡◌, ◌∙◌, inl, inr, ℕ, ℤ, suc, ◌+◌, Bool, true, false, List, [], ◌∷◌, ◌++◌, length, flat_map, Option, Some, None, codes, arith, refl, sym, ap, ap₂, subst, append-nil, append_assoc}
 use Rattle.std.specs.Fmt.{decimal}
 use Rattle.std.proofs.lemmas.List.{length-append}
 use Rattle.ctt_text.specs.Problem.{Problem}
@@ -18,17 +18,45 @@ use Rattle.ctt_draft.specs.Undoing.{done_edit, edits_done}
 use Rattle.ctt_draft.specs.declared.asked.Asked.{Asked}
 use Rattle.ctt_draft.proofs.CallRuns.{whole-push}
 use Rattle.ctt_draft.proofs.DraftSteps.{calls-push}
-use Rattle.ctt_desk.specs.Planners.{DraftingValue, asked_also, present_of}
+use Rattle.ctt_core.specs.declared.answer.Answer.TheVariants.{NoMemory}
+use Rattle.ctt_desk.specs.Planners.{DraftingValue, Grows, IsOpen, PlannerValue, asked_also, present_of}
+use Rattle.ctt_desk.specs.Refusals.{IsUnread}
+use Rattle.ctt_desk.specs.declared.shared_fault.SharedFault.{SharedFault}
+use Rattle.ctt_desk.specs.declared.shared_fault.SharedFault.TheVariants as shared
 use Rattle.ctt_script.specs.WrittenText.{line, rest_of_line, words_part}
 use Rattle.ctt_script.proofs.WrittenText.{parts_end}
-use Rattle.ctt_crew.specs.declared.seat.Seat.TheVariants.{Drafting}
+use Rattle.ctt_crew.specs.CrewText.{told_unread}
+use Rattle.ctt_crew.specs.declared.seat.Seat.TheVariants.{Drafting, Free}
+use Rattle.ctt_crew.specs.declared.seat.Told.TheVariants.{Answer as Answered}
+use Rattle.ctt_office.specs.SeatAnswers.{RedoesCalls, told_line}
+use Rattle.ctt_office.specs.declared.workplace.Workplace.{Workplace}
 use Rattle.ctt_office.specs.Laws.{AreAsked, RedoIsAsking}
 use Rattle.ctt_office.specs.Redone.{IsMadeAgain, IsMadeBy, LeftOut, left_out, left_out_if, left_out_words, made, redone_line, remade, remade_if}
 
--- an edit has a price exactly where it has no fault
-pub refused_is : (o : Option EditFault) (p : Reply) (f : EditFault) → p ≡ Refused f → ((g : EditFault) → o ≡ Some g → p ≡ Refused g) → (o ≡ None → ¬ (p ≡ Refused f)) → o ≡ Some f
-refused_is None p f is told free = absurd (free refl is)
-refused_is (Some g) p f is told free = (let same : Refused g ≡ Refused f = sym (told g refl) ∙ is in cc)
+-- words after others, each after a blank
+pub parts_joined : (ws vs : List (List ℕ)) → words_part (ws ++ vs) ≡ words_part ws ++ words_part vs
+parts_joined [] vs = refl
+parts_joined (w ∷ ws) vs = ap (λ x. codes " " ++ (w ++ x)) (parts_joined ws vs) ∙ ap (λ x. codes " " ++ x) (sym (append_assoc w (words_part ws) (words_part vs)))
+
+-- an edit that has no price is left out
+pub left_out_here : (i : Problem) (n : ℕ) (x : Edit) (d : DraftingValue) (old new : List ℕ) (f : EditFault) (price : Reply) (z : ℤ) → price ≡ told_or (edit_fault i (present_of i d) x) (Priced z) → price ≡ Refused f
+    → new ≡ old ++ words_part (left_out_words i (record { number = n; edit = x; fault = f })) → IsMadeAgain i n x d d old new false
+left_out_here i n x d old new f price z told refused grown = by (edit_fault i (present_of i d) x) (sym refused ∙ told)
+  where
+    by : (o : Option EditFault) → Refused f ≡ told_or o (Priced z) → IsMadeBy o i n x d d old new false
+    by None h = cc
+    by (Some g) h =
+        let same : f ≡ g = cc in
+        (refl, grown ∙ ap (λ k. old ++ words_part (left_out_words i (record { number = n; edit = x; fault = k }))) same, refl)
+
+-- and one that has is made
+pub made_here : (i : Problem) (n : ℕ) (x : Edit) (d e : DraftingValue) (old : List ℕ) (price told : Reply) (z : ℤ) → price ≡ told_or (edit_fault i (present_of i d) x) (Priced z) → ((f : EditFault) → price ≡ Refused f → ⊥)
+    → told ≡ reply i (present_of i d) (Edits x) → e ≡ asked_also d (Edits x) told → IsMadeAgain i n x d e old old true
+made_here i n x d e old price told z is priced answer grown = by (edit_fault i (present_of i d) x) is (grown ∙ ap (asked_also d (Edits x)) answer)
+  where
+    by : (o : Option EditFault) → price ≡ told_or o (Priced z) → e ≡ asked_also d (Edits x) (told_or o Done) → IsMadeBy o i n x d e old old true
+    by None h made_is = (made_is, refl, refl)
+    by (Some g) h made_is = absurd (priced g h)
 
 -- the text of edits that are left out
 abbrev pub parts_of : Problem → List LeftOut → List ℕ
@@ -134,6 +162,27 @@ pub whole_line : (i : Problem) (t : List Placed) (all : List Edit) (again edits 
 whole_line i t all again edits text mades counts texts =
     ap₂ (λ a b. codes "redone " ++ (decimal a ++ (codes " of " ++ (decimal b ++ (text ++ codes "\n"))))) mades counts
     ∙ ap (λ bs. codes "redone " ++ (decimal (length (remade i t all)) ++ (codes " of " ++ (decimal (length all) ++ bs)))) (ap (λ bs. bs ++ codes "\n") texts ∙ sym (parts_end (left_out_words i) (left_out i t 1 all)))
+
+-- in a draft in which nothing was asked yet
+pub new_present : (i : Problem) (d : DraftingValue) → d.asked ≡ [] → present_of i d ≡ d.base
+new_present i d none = ap (λ xs. whole i d.base (calls_of xs)) none
+
+pub from_new : (i : Problem) (d e : DraftingValue) (edits : List Edit) → d.asked ≡ [] → e ≡ record d { asked = d.asked ++ remade i (present_of i d) edits } → e ≡ record d { asked = remade i d.base edits }
+from_new i d e edits none is = is ∙ ap (λ xs. record d { asked = xs ++ remade i (whole i d.base (calls_of xs)) edits }) none
+
+-- a draft is made again
+module _ {X Y : Type 0} (i : Problem) (t0 : List Placed) (p : PlannerValue) (asked : List Asked) where
+  pub redone : (d e : DraftingValue) (after : Workplace X Y) (answer : List ℕ) → IsOpen i t0 p d → e ≡ record d { asked = remade i d.base (edits_done asked) } → after.seat ≡ Drafting e → after.ended ≡ None → answer ≡ redone_line i d.base (edits_done asked)
+      → RedoesCalls i t0 p asked after answer
+  redone d e after answer opened made_is seat ended line_is = inl (d, opened, seat ∙ ap Drafting made_is, ended, line_is)
+
+  -- or memory is wanted for it
+  pub wanted : (d : DraftingValue) (q : PlannerValue) (after : Workplace X Y) (answer : List ℕ) → IsOpen i t0 p d → q ≡ d.planner → after.seat ≡ Free q → after.ended ≡ Some asked → answer ≡ told_line i (Answered NoMemory) → RedoesCalls i t0 p asked after answer
+  wanted d q after answer opened same seat ended line_is = inr (q, Answered NoMemory, (shared.NoMemory, subst (Grows i t0 p) (sym same) opened.planner, refl), seat, ended, line_is)
+
+  -- or it could not be opened
+  pub unopened : (q : PlannerValue) (fault : SharedFault) (after : Workplace X Y) (answer : List ℕ) → IsUnread i t0 p q fault → after.seat ≡ Free q → after.ended ≡ Some asked → answer ≡ told_line i (told_unread fault) → RedoesCalls i t0 p asked after answer
+  unopened q fault after answer why seat ended line_is = inr (q, told_unread fault, (fault, why, refl), seat, ended, line_is)
 
 -- the edits that are made again, asked one by one
 abbrev AreAskedFrom : Problem → DraftingValue → List Asked → Type 0
