@@ -38,25 +38,26 @@ pub parts_joined : (ws vs : List (List ℕ)) → words_part (ws ++ vs) ≡ words
 parts_joined [] vs = refl
 parts_joined (w ∷ ws) vs = ap (λ x. codes " " ++ (w ++ x)) (parts_joined ws vs) ∙ ap (λ x. codes " " ++ x) (sym (append_assoc w (words_part ws) (words_part vs)))
 
--- an edit that has no price is left out
-pub left_out_here : (i : Problem) (n : ℕ) (x : Edit) (d : DraftingValue) (old new : List ℕ) (f : EditFault) (price : Reply) (z : ℤ) → price ≡ told_or (edit_fault i (present_of i d) x) (Priced z) → price ≡ Refused f
-    → new ≡ old ++ words_part (left_out_words i (record { number = n; edit = x; fault = f })) → IsMadeAgain i n x d d old new false
-left_out_here i n x d old new f price z told refused grown = by (edit_fault i (present_of i d) x) (sym refused ∙ told)
-  where
-    by : (o : Option EditFault) → Refused f ≡ told_or o (Priced z) → IsMadeBy o i n x d d old new false
-    by None h = cc
-    by (Some g) h =
-        let same : f ≡ g = cc in
-        (refl, grown ∙ ap (λ k. old ++ words_part (left_out_words i (record { number = n; edit = x; fault = k }))) same, refl)
+-- an edit has a price exactly where it has no fault
+pub fault_is : (o : Option EditFault) (price : Reply) (z : ℤ) (f : EditFault) → price ≡ told_or o (Priced z) → price ≡ Refused f → Some f ≡ o
+fault_is None price z f told refused = (let bad : Priced z ≡ Refused f = sym told ∙ refused in cc)
+fault_is (Some g) price z f told refused = (let same : Refused g ≡ Refused f = sym told ∙ refused in cc)
 
--- and one that has is made
-pub made_here : (i : Problem) (n : ℕ) (x : Edit) (d e : DraftingValue) (old : List ℕ) (price told : Reply) (z : ℤ) → price ≡ told_or (edit_fault i (present_of i d) x) (Priced z) → ((f : EditFault) → price ≡ Refused f → ⊥)
-    → told ≡ reply i (present_of i d) (Edits x) → e ≡ asked_also d (Edits x) told → IsMadeAgain i n x d e old old true
-made_here i n x d e old price told z is priced answer grown = by (edit_fault i (present_of i d) x) is (grown ∙ ap (asked_also d (Edits x)) answer)
-  where
-    by : (o : Option EditFault) → price ≡ told_or o (Priced z) → e ≡ asked_also d (Edits x) (told_or o Done) → IsMadeBy o i n x d e old old true
-    by None h made_is = (made_is, refl, refl)
-    by (Some g) h made_is = absurd (priced g h)
+pub no_fault : (o : Option EditFault) (price : Reply) (z : ℤ) → price ≡ told_or o (Priced z) → ((f : EditFault) → price ≡ Refused f → ⊥) → None ≡ o
+no_fault None price z told priced = refl
+no_fault (Some g) price z told priced = absurd (priced g told)
+
+-- an edit that has a fault is left out
+pub left_out_here : (i : Problem) (n : ℕ) (x : Edit) (d : DraftingValue) (old new : List ℕ) (f : EditFault) → Some f ≡ edit_fault i (present_of i d) x
+    → new ≡ old ++ words_part (left_out_words i (record { number = n; edit = x; fault = f })) → IsMadeAgain i n x d d old new false
+left_out_here i n x d old new f fault grown = subst (λ o. IsMadeBy o i n x d d old new false) fault (refl, grown, refl)
+
+-- and one that has none is made
+pub made_here : (i : Problem) (n : ℕ) (x : Edit) (d e : DraftingValue) (old : List ℕ) (told : Reply) → None ≡ edit_fault i (present_of i d) x → told ≡ reply i (present_of i d) (Edits x) → e ≡ asked_also d (Edits x) told
+    → IsMadeAgain i n x d e old old true
+made_here i n x d e old told free answer grown =
+    let done : told ≡ Done = answer ∙ ap (λ o. told_or o Done) (sym free) in
+    subst (λ o. IsMadeBy o i n x d e old old true) free (grown ∙ ap (asked_also d (Edits x)) done, refl, refl)
 
 -- the text of edits that are left out
 abbrev pub parts_of : Problem → List LeftOut → List ℕ

@@ -1,11 +1,11 @@
 //! The accepted edits of a draft that has ended stale, made again in a new one.
 
-ghost use Rattle.std.specs.Prelude.{◌≡◌, ◌++◌, [], IfOk, OnErr, OnOk, codes, flat_map, length, string_bytes};
+ghost use Rattle.std.specs.Prelude.{◌≡◌, ◌++◌, [], IfOk, IfSome, OnErr, OnOk, codes, flat_map, length, string_bytes};
 ghost use Rattle.std.specs.Fmt.{decimal};
 ghost use Rattle.std.specs.List.{AllByRecursion as Each};
 ghost use Rattle.ctt_draft.specs.Drafts.{AskedFits};
 ghost use Rattle.ctt_draft.specs.Undoing.{edits_done};
-ghost use Rattle.ctt_edits.specs.Edits.{EditFits};
+ghost use Rattle.ctt_edits.specs.Edits.{EditFits, edit_fault};
 ghost use Rattle.ctt_edits.specs.Fitting.{FaultFits};
 ghost use Rattle.ctt_desk.specs.Planners.{present_of};
 ghost use Rattle.ctt_script.specs.WrittenText.{words_part};
@@ -54,6 +54,22 @@ fn push_left_out(
     push_fault(text, instance, fault)
 }
 
+/// The fault of an edit in a draft, if it has one, found by its price. It is no call.
+fn fault_of<'i, S: Sheet<'i>, J: Naming>(
+    drafting: &Drafting<'i, S, J>,
+    edit: &Edit,
+) -> Result<Option<EditFault>, NoMemory>
+    requires { EditFits J.problem edit.now }
+    ensures fault { IfOk result (λ fault.
+        fault ≡ edit_fault J.problem (present_of J.problem drafting.now) edit.now) }
+    ensures fits { IfOk result (λ fault. IfSome fault (FaultFits J.problem)) }
+{
+    match drafting.peek(&Look::Price(*edit))? {
+        Reply::Refused(fault) => Ok(Some(fault)),
+        _ => Ok(None),
+    }
+}
+
 /// Makes an edit in a draft, if it can be made, or else adds that it is left out.
 fn make_again<'i, S: Sheet<'i>, J: Naming>(
     drafting: &mut Drafting<'i, S, J>,
@@ -68,14 +84,14 @@ fn make_again<'i, S: Sheet<'i>, J: Naming>(
         (string_bytes omitted.old) (string_bytes omitted.new)) }
     ensures planner { drafting.new.planner ≡ drafting.old.planner }
 {
-    let price = drafting.peek(&Look::Price(*edit))?;
-    match price {
-        Reply::Refused(fault) => {
+    match fault_of(drafting, edit)? {
+        Some(fault) => {
             push_left_out(omitted, instance, number, edit, &fault)?;
             Ok(false)
         }
-        _ => {
-            let _done = drafting.call(Call::Edit(*edit))?;
+        None => {
+            let done = drafting.call(Call::Edit(*edit))?;
+            let_go(done);
             Ok(true)
         }
     }
