@@ -1,6 +1,6 @@
 -- Inverses of accepted edits, and the one that is the last of them.
 use Rattle.std.proofs.Common.{◌≡◌, ◌∙◌, ℕ, zero, suc, ◌+◌, ◌-◌, ◌<◌, ◌≤◌, Bool, true, false, cond, List, [], ◌∷◌, ◌++◌, length, take, drop, get_or, Option, Some, None, arith, refl, sym, ap, ap₂, subst, append_assoc}
-use Rattle.std.specs.Prelude.{IfSome}
+use Rattle.std.specs.Prelude.{IfSome, IsSome, slice_get}
 use Rattle.std.specs.List.{AllByRecursion as Each}
 use Rattle.std.specs.Option.{option_map, option_to_list}
 use Rattle.ctt_text.specs.Problem.{Problem}
@@ -279,3 +279,35 @@ module _ (i : Problem) (base : List Placed) (calls : List Call) (all : List (Lis
 -- at the end
 pub all_unstacked : (i : Problem) (base : List Placed) (calls : List Call) (all : List (List Cell)) (m : ℕ) (stack : List Edit) → IsUnstacking i base calls all m stack [] → stack ≡ stack_of i base calls []
 all_unstacked i base calls all m stack h = h.same
+
+-- a stack after an edit that takes its top off, and after one that does not
+pub taken_off : (e : Edit) (o : Option Edit) (stack new : List Edit) → is_given e (top stack) ≡ true → new ≡ take (length stack - 1) stack → new ≡ stacked e o stack
+taken_off e o stack new yes is = rw yes is
+
+pub put_on : (e : Edit) (o : Option Edit) (stack new : List Edit) → is_given e (top stack) ≡ false → new ≡ stack ++ option_to_list o → new ≡ stacked e o stack
+put_on e o stack new no is = rw no is
+
+last_of : (rest : List Edit) (x : Edit) → slice_get (rest ++ x ∷ []) (length rest) ≡ Some x
+last_of [] x = refl
+last_of (y ∷ ys) x = last_of ys x
+
+longer : (rest : List Edit) (x : Edit) → length (rest ++ x ∷ []) ≡ suc (length rest)
+longer [] x = refl
+longer (y ∷ ys) x = ap suc (longer ys x)
+
+-- what is taken off a stack is its top, and fits
+pub popped : (stack rest : List Edit) (o : Option Edit) → stack ≡ rest ++ option_to_list o → (0 < length stack → IsSome o) → o ≡ top stack
+popped [] rest None is some = refl
+popped (x ∷ xs) rest None is some = absurd (some (omega arith))
+popped stack rest (Some x) is some =
+    let long = longer rest x in
+    let at : length (rest ++ x ∷ []) - 1 ≡ length rest = omega (arith, long) in
+    sym (ap top is ∙ ap (slice_get (rest ++ x ∷ [])) at ∙ last_of rest x)
+
+Each-last : (P : Edit → Type 0) (rest : List Edit) (x : Edit) → Each P (rest ++ x ∷ []) → P x
+Each-last P [] x h = h.0
+Each-last P (y ∷ ys) x h = Each-last P ys x h.1
+
+pub popped_fits : (i : Problem) (stack rest : List Edit) (o : Option Edit) → stack ≡ rest ++ option_to_list o → Each (EditFits i) stack → IfSome o (EditFits i)
+popped_fits i stack rest None is fit = tt
+popped_fits i stack rest (Some x) is fit = Each-last (EditFits i) rest x (subst (Each (EditFits i)) is fit)
