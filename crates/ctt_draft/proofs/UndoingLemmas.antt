@@ -12,7 +12,6 @@ use Rattle.ctt_board.proofs.RoomLemmas.{rooms_after}
 use Rattle.ctt_edits.specs.Calls.{CallFits, cells_if, reply}
 use Rattle.ctt_edits.specs.Edits.{EditFits, edit_fault, change}
 use Rattle.ctt_edits.specs.Looks.{told_or}
-use Rattle.ctt_edits.specs.contracts.edit.EditPartialEq.TheImpl.{eq-value as edit_eq}
 use Rattle.ctt_edits.specs.declared.call.Call.{Call}
 use Rattle.ctt_edits.specs.declared.call.Call.TheVariants.{Look as Looks, Edit as Edits}
 use Rattle.ctt_edits.specs.declared.edit.Edit.{Edit}
@@ -25,38 +24,10 @@ use Rattle.ctt_edits.proofs.EditLemmas.{room_fits}
 use Rattle.ctt_draft.specs.Drafts.{after_call, calls_of, changes, made, replies, replies_in}
 use Rattle.ctt_draft.specs.DraftValues.{DraftValue, present}
 use Rattle.ctt_draft.specs.Undo.{all_cells, undo_of}
-use Rattle.ctt_draft.specs.Undoing.{done_by, done_edit, inverse, is_given, same_edit, stack_after, stack_of, stacked, stacked_if, top}
+use Rattle.ctt_draft.specs.Undoing.{done_by, done_edit, inverse, is_given, stack_after, stack_of, stacked, stacked_if, top}
 use Rattle.ctt_draft.specs.declared.asked.Asked.{Asked}
 use Rattle.ctt_draft.proofs.CallRuns.{apply_all-append, changes_fit, lawful_after_call, made_edit, whole_is}
 use Rattle.ctt_draft.proofs.UndoLemmas.{room_back, undo_records}
-
--- the test of two edits, as the program makes it
-pub eq_same : (a b : Edit) → edit_eq.it a b ≡ same_edit a b
-eq_same (Place c s r) (Place d s2 r2) = refl
-eq_same (Place c s r) (Move d s2 t2 r2) = refl
-eq_same (Place c s r) (Swap d s2 d2 t2) = refl
-eq_same (Place c s r) (Reroom d s2 r2) = refl
-eq_same (Place c s r) (Drop d s2) = refl
-eq_same (Move c s t r) (Place d s2 r2) = refl
-eq_same (Move c s t r) (Move d s2 t2 r2) = refl
-eq_same (Move c s t r) (Swap d s2 d2 t2) = refl
-eq_same (Move c s t r) (Reroom d s2 r2) = refl
-eq_same (Move c s t r) (Drop d s2) = refl
-eq_same (Swap c s d t) (Place c2 s2 r2) = refl
-eq_same (Swap c s d t) (Move c2 s2 t2 r2) = refl
-eq_same (Swap c s d t) (Swap c2 s2 d2 t2) = refl
-eq_same (Swap c s d t) (Reroom c2 s2 r2) = refl
-eq_same (Swap c s d t) (Drop c2 s2) = refl
-eq_same (Reroom c s r) (Place d s2 r2) = refl
-eq_same (Reroom c s r) (Move d s2 t2 r2) = refl
-eq_same (Reroom c s r) (Swap d s2 d2 t2) = refl
-eq_same (Reroom c s r) (Reroom d s2 r2) = refl
-eq_same (Reroom c s r) (Drop d s2) = refl
-eq_same (Drop c s) (Place d s2 r2) = refl
-eq_same (Drop c s) (Move d s2 t2 r2) = refl
-eq_same (Drop c s) (Swap d s2 d2 t2) = refl
-eq_same (Drop c s) (Reroom d s2 r2) = refl
-eq_same (Drop c s) (Drop d s2) = refl
 
 -- rooms after changes
 room_by-append : (xs ys : List Cell) (c s : ℕ) (o : Option ℕ) → room_by (xs ++ ys) c s o ≡ room_by ys c s (room_by xs c s o)
@@ -153,7 +124,7 @@ stacked_fits i e o stack h f = by (is_given e (top stack))
 -- the front of a list, and what is behind it, by one more
 one_more : {X : Type 0} (m : ℕ) (xs : List X) (x : X) (more : List X) → drop m xs ≡ x ∷ more → (drop (suc m) xs ≡ more) × (take (suc m) xs ≡ take m xs ++ x ∷ [])
 one_more zero [] x more h = cc
-one_more zero (y ∷ ys) x more h = cc
+one_more zero (y ∷ ys) x more h = (let first : y ≡ x = cc in let rest : ys ≡ more = cc in (rest, ap (λ z. z ∷ []) first))
 one_more (suc m) [] x more h = cc
 one_more (suc m) (y ∷ ys) x more h = (let rest = one_more m ys x more h in (rest.0, ap (λ zs. y ∷ zs) rest.1))
 
@@ -182,7 +153,7 @@ tails : {X : Type 0} (x y : X) (xs ys : List X) → x ∷ xs ≡ y ∷ ys → xs
 tails x y xs ys h = cc
 
 module _ (i : Problem) (base : List Placed) (calls : List Call) (all : List (List Cell)) (m : ℕ) (stack : List Edit) (left : List Asked) where
-  here : List Placed
+  abbrev pub here : List Placed
   here = apply_all (take m all) base
 
   -- an accepted edit
@@ -280,13 +251,6 @@ module _ (i : Problem) (base : List Placed) (calls : List Call) (all : List (Lis
 pub all_unstacked : (i : Problem) (base : List Placed) (calls : List Call) (all : List (List Cell)) (m : ℕ) (stack : List Edit) → IsUnstacking i base calls all m stack [] → stack ≡ stack_of i base calls []
 all_unstacked i base calls all m stack h = h.same
 
--- a stack after an edit that takes its top off, and after one that does not
-pub taken_off : (e : Edit) (o : Option Edit) (stack new : List Edit) → is_given e (top stack) ≡ true → new ≡ take (length stack - 1) stack → new ≡ stacked e o stack
-taken_off e o stack new yes is = rw yes is
-
-pub put_on : (e : Edit) (o : Option Edit) (stack new : List Edit) → is_given e (top stack) ≡ false → new ≡ stack ++ option_to_list o → new ≡ stacked e o stack
-put_on e o stack new no is = rw no is
-
 last_of : (rest : List Edit) (x : Edit) → slice_get (rest ++ x ∷ []) (length rest) ≡ Some x
 last_of [] x = refl
 last_of (y ∷ ys) x = last_of ys x
@@ -298,7 +262,7 @@ longer (y ∷ ys) x = ap suc (longer ys x)
 -- what is taken off a stack is its top, and fits
 pub popped : (stack rest : List Edit) (o : Option Edit) → stack ≡ rest ++ option_to_list o → (0 < length stack → IsSome o) → o ≡ top stack
 popped [] rest None is some = refl
-popped (x ∷ xs) rest None is some = absurd (some (omega arith))
+popped (x ∷ xs) rest None is some = (let bad : false ≡ true = some (omega arith) in cc)
 popped stack rest (Some x) is some =
     let long = longer rest x in
     let at : length (rest ++ x ∷ []) - 1 ≡ length rest = omega (arith, long) in
@@ -311,3 +275,10 @@ Each-last P (y ∷ ys) x h = Each-last P ys x h.1
 pub popped_fits : (i : Problem) (stack rest : List Edit) (o : Option Edit) → stack ≡ rest ++ option_to_list o → Each (EditFits i) stack → IfSome o (EditFits i)
 popped_fits i stack rest None is fit = tt
 popped_fits i stack rest (Some x) is fit = Each-last (EditFits i) rest x (subst (Each (EditFits i)) is fit)
+
+-- nothing is left of a list from its end on
+pub none_left : {X : Type 0} (xs : List X) (k : ℕ) → length xs ≤ k → drop k xs ≡ []
+none_left [] zero h = refl
+none_left [] (suc k) h = refl
+none_left (y ∷ ys) zero h = absurd (omega (arith, h))
+none_left (y ∷ ys) (suc k) h = none_left ys k (omega (arith, h))
