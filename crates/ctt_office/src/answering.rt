@@ -127,7 +127,7 @@ fn refuse<'i, S: Sheet<'i>, J: Naming>(
     requires { ToldFits instance.now told }
     ensures line { OnOk result.1
         (string_bytes text.new ≡ string_bytes text.old ++ told_line instance.now told) }
-    ensures seat { result.0.seat ≡ seat }
+    ensures seat { result.0.seat ≡ seat.entry }
     ensures ended { result.0.ended ≡ ended_after told ended }
 {
     let written = write_told(text, instance, &told);
@@ -150,8 +150,8 @@ fn commit<'i, S: Sheet<'i>, J: Naming, W: Durable, R: Wait>(
     ensures answered { OnOk result.1
         (Adds (IsCommitAnswer (IsInMinutes W.Sink.taken W.kept J.problem)
         (HasFailed W.Sink.taken W.Sink.has_failed J.problem) instance.now J.opening
-        place result.0) (string_bytes text.old) (string_bytes text.new)) }
-    ensures unanswered { OnErr result.1 (IsUncommitted place result.0) }
+        place.entry result.0) (string_bytes text.old) (string_bytes text.new)) }
+    ensures unanswered { OnErr result.1 (IsUncommitted place.entry result.0) }
     ensures fits { EndedFits instance.now result.0.ended }
 {
     if book.has_failed(rt) {
@@ -184,9 +184,9 @@ fn commit_alone<'i, S: Sheet<'i>, J: Naming, R: Wait>(
     requires same { J.problem ≡ instance.now }
     requires fits { EndedFits instance.now place.ended }
     ensures answered { OnOk result.1 (Adds
-        (IsCommitAlone instance.now J.opening place result.0)
+        (IsCommitAlone instance.now J.opening place.entry result.0)
         (string_bytes text.old) (string_bytes text.new)) }
-    ensures unanswered { OnErr result.1 (IsUncommitted place result.0) }
+    ensures unanswered { OnErr result.1 (IsUncommitted place.entry result.0) }
     ensures fits { EndedFits instance.now result.0.ended }
 {
     if text.reserve(COMMITTED).is_err() {
@@ -239,9 +239,9 @@ fn take<'i, S: Sheet<'i>, J: Naming, R: Wait>(
     requires fits { (n : ℕ) × EventFits J.problem n event }
     requires ended { EndedFits instance.now place.ended }
     ensures answered { OnOk result.1
-        (Adds (IsToldAnswer instance.now J.opening event place result.0)
+        (Adds (IsToldAnswer instance.now J.opening event place.entry result.0)
         (string_bytes text.old) (string_bytes text.new)) }
-    ensures uncommitted { ((p : ℕ) → event ≢ Commit p) → IsUncommitted place result.0 }
+    ensures uncommitted { ((p : ℕ) → event ≢ Commit p) → IsUncommitted place.entry result.0 }
     ensures fits { EndedFits instance.now result.0.ended }
 {
     let Workplace { seat, ended } = place;
@@ -269,8 +269,8 @@ fn step<'i, S: Sheet<'i>, J: Naming, W: Durable, R: Wait>(
     ensures answered { OnOk result.1
         (Adds (IsStepAnswer book.entry (IsInMinutes W.Sink.taken W.kept J.problem)
         (HasFailed W.Sink.taken W.Sink.has_failed J.problem) instance.now J.opening event
-        place result.0) (string_bytes text.old) (string_bytes text.new)) }
-    ensures unanswered { OnErr result.1 (IsUncommitted place result.0) }
+        place.entry result.0) (string_bytes text.old) (string_bytes text.new)) }
+    ensures unanswered { OnErr result.1 (IsUncommitted place.entry result.0) }
     ensures fits { EndedFits instance.now result.0.ended }
 {
     match event {
@@ -289,10 +289,10 @@ fn undo_at<'i, S: Sheet<'i>, J: Naming>(
     text: &mut String,
 ) -> (Workplace<'i, S, J>, Result<(), AllocError>)
     requires { J.problem ≡ instance.now }
-    ensures answered { OnOk result.1 (Adds (Undoes instance.now place.seat result.0.seat)
+    ensures answered { OnOk result.1 (Adds (Undoes instance.now place.entry.seat result.0.seat)
         (string_bytes text.old) (string_bytes text.new)) }
-    ensures unanswered { IsUncommitted place result.0 }
-    ensures ended { result.0.ended ≡ place.ended }
+    ensures unanswered { IsUncommitted place.entry result.0 }
+    ensures ended { result.0.ended ≡ place.entry.ended }
 {
     let Workplace { seat, ended } = place;
     let mut seat = seat;
@@ -319,8 +319,8 @@ pub(crate) fn answer<'i, S: Sheet<'i>, J: Naming, W: Durable, R: Wait>(
     ensures answered { OnOk result.1
         (Adds (IsAnswer book.entry (IsInMinutes W.Sink.taken W.kept J.problem)
         (HasFailed W.Sink.taken W.Sink.has_failed J.problem) instance.now J.opening line.now
-        place result.0) (string_bytes text.old) (string_bytes text.new)) }
-    ensures unanswered { OnErr result.1 (IsUncommitted place result.0) }
+        place.entry result.0) (string_bytes text.old) (string_bytes text.new)) }
+    ensures unanswered { OnErr result.1 (IsUncommitted place.entry result.0) }
     ensures fits { EndedFits instance.now result.0.ended }
 {
     match line {

@@ -1,12 +1,14 @@
 //! The accepted edits of a draft that has ended stale, made again in a new one.
 
-ghost use Rattle.std.specs.Prelude.{◌≡◌, ◌++◌, [], IfOk, IfSome, OnErr, OnOk, codes, flat_map, length, string_bytes};
+ghost use Rattle.std.specs.Prelude.{◌≡◌, ◌≢◌, ◌++◌, [], IfNone, IfOk, IfSome, OnErr, OnOk, codes, flat_map, length, string_bytes};
 ghost use Rattle.std.specs.Fmt.{decimal};
 ghost use Rattle.std.specs.List.{AllByRecursion as Each};
 ghost use Rattle.ctt_draft.specs.Drafts.{AskedFits};
 ghost use Rattle.ctt_draft.specs.Undoing.{edits_done};
 ghost use Rattle.ctt_edits.specs.Edits.{EditFits, edit_fault};
 ghost use Rattle.ctt_edits.specs.Fitting.{FaultFits};
+ghost use Rattle.ctt_edits.specs.declared.fault.EditFault.{EditFault as Fault};
+ghost use Rattle.ctt_edits.specs.declared.reply.Reply.TheVariants.{Refused};
 ghost use Rattle.ctt_desk.specs.Planners.{present_of};
 ghost use Rattle.ctt_script.specs.WrittenText.{words_part};
 ghost use Rattle.ctt_crew.specs.Attended.{leaver};
@@ -54,6 +56,17 @@ fn push_left_out(
     push_fault(text, instance, fault)
 }
 
+/// The fault that a reply tells, if it tells one.
+fn refusal(reply: &Reply) -> Option<EditFault>
+    ensures fault { IfSome result (λ fault. reply.now ≡ Refused fault) }
+    ensures none { IfNone result ((fault : Fault) → reply.now ≢ Refused fault) }
+{
+    match reply {
+        Reply::Refused(fault) => Some(*fault),
+        _ => None,
+    }
+}
+
 /// The fault of an edit in a draft, if it has one, found by its price. It is no call.
 fn fault_of<'i, S: Sheet<'i>, J: Naming>(
     drafting: &Drafting<'i, S, J>,
@@ -64,10 +77,10 @@ fn fault_of<'i, S: Sheet<'i>, J: Naming>(
         fault ≡ edit_fault J.problem (present_of J.problem drafting.now) edit.now) }
     ensures fits { IfOk result (λ fault. IfSome fault (FaultFits J.problem)) }
 {
-    match drafting.peek(&Look::Price(*edit))? {
-        Reply::Refused(fault) => Ok(Some(fault)),
-        _ => Ok(None),
-    }
+    let price = drafting.peek(&Look::Price(*edit))?;
+    let fault = refusal(&price);
+    let_go(price);
+    Ok(fault)
 }
 
 /// Makes an edit in a draft, if it can be made, or else adds that it is left out.
@@ -242,9 +255,9 @@ pub(crate) fn redo<'i, S: Sheet<'i>, J: Naming>(
 ) -> (Workplace<'i, S, J>, Result<(), AllocError>)
     requires same { J.problem ≡ instance.now }
     requires fits { EndedFits instance.now place.ended }
-    ensures answered { OnOk result.1 (Adds (Redoes instance.now J.opening place.seat place.ended
+    ensures answered { OnOk result.1 (Adds (Redoes instance.now J.opening place.entry.seat place.entry.ended
         result.0) (string_bytes text.old) (string_bytes text.new)) }
-    ensures unanswered { OnErr result.1 (IsUncommitted place result.0) }
+    ensures unanswered { OnErr result.1 (IsUncommitted place.entry result.0) }
     ensures fits { EndedFits instance.now result.0.ended }
 {
     let Workplace { seat, ended } = place;

@@ -3,7 +3,7 @@
 ghost use Rattle.std.specs.Prelude.{◌≡◌, ◌≢◌, ◌⊎◌, ℕ, true, false, Err, IfErr, IfOk, OnErr, OnOk};
 ghost use Rattle.std.specs.Io.KnownBytes.{Appends};
 ghost use Rattle.ctt_devices.specs.Output.{AppendsFront};
-ghost use Rattle.ctt_office.specs.Lines.{Gives, coming};
+ghost use Rattle.ctt_office.specs.Lines.{Comes, Gives, ReaderValue, coming};
 ghost use Rattle.ctt_crew.specs.Attended.{leaver};
 ghost use Rattle.ctt_office.specs.Pages.{HasFailed, IsInMinutes};
 ghost use Rattle.ctt_office.specs.Ended.{EndedFits};
@@ -67,24 +67,28 @@ pub(crate) struct Station<'i, 'x, J: Naming, D: Doors, W: Durable> {
     ghost same: { J.problem ≡ instance.now },
 }
 
-/// What the next line asks for; none where none comes any more.
-fn next_line<'a, I: Source, R: Wait>(
-    rt: &R,
-    instance: &Instance,
-    planner: PlannerNo,
-    lines: &'a mut LineReader<I>,
-) -> Result<SeatLine<'a>, Ending>
-    ensures fits { IfOk result (LineFits instance.now planner) }
-    ensures asked { IfOk result (λ line.
-        Gives (λ bytes. line ≡ asked_by instance.now planner bytes)
-        (coming lines.old) (coming lines.new)) }
+/// Whether the next line is at hand, or is too long; none where none comes any more.
+fn next_line<I: Source, R: Wait>(rt: &R, lines: &mut LineReader<I>) -> Result<Next, Ending>
+    ensures comes { IfOk result (λ next. Comes next lines.old lines.new) }
     ensures end { IfErr result (EndsAt (coming lines.old) lines.new.has_failed) }
 {
     match lines.next(rt) {
-        Ok(Next::Line) => Ok(read_seat_line(instance, planner, lines.line())),
-        Ok(Next::TooLong) => Ok(SeatLine::TooLong),
+        Ok(Next::Line) => Ok(Next::Line),
+        Ok(Next::TooLong) => Ok(Next::TooLong),
         Ok(Next::End) => Err(Ending::Ended),
         Err(_) => Err(Ending::Broken),
+    }
+}
+
+/// What a line asks for that has come.
+fn line_of<'a>(instance: &Instance, planner: PlannerNo, next: Next, bytes: &'a [u8]) -> SeatLine<'a>
+    ensures fits { LineFits instance.now planner result }
+    ensures asked { (old new : ReaderValue) → Comes next old new → bytes.now ≡ new.line
+        → Gives (λ line. result ≡ asked_by instance.now planner line) (coming old) (coming new) }
+{
+    match next {
+        Next::Line => read_seat_line(instance, planner, bytes),
+        _ => SeatLine::TooLong,
     }
 }
 
@@ -106,13 +110,13 @@ fn serve<'i, S: Sheet<'i>, J: Naming, W: Durable, O: Sink, R: Wait>(
     ensures told { OnOk result.1
         (Tells (IsAnswer book.entry (IsInMinutes W.Sink.taken W.kept J.problem)
         (HasFailed W.Sink.taken W.Sink.has_failed J.problem) instance.now J.opening line.now
-        place result.0) (O.taken out.old) (O.taken out.new)) }
+        place.entry result.0) (O.taken out.old) (O.taken out.new)) }
     ensures cut { IfErr result.1
         (IsCut (IsAnswer book.entry (IsInMinutes W.Sink.taken W.kept J.problem)
         (HasFailed W.Sink.taken W.Sink.has_failed J.problem) instance.now J.opening line.now
-        place result.0) (O.taken out.old) (O.taken out.new)) }
+        place.entry result.0) (O.taken out.old) (O.taken out.new)) }
     ensures broken { IfErr result.1 (IsBroken (O.has_failed out.new)) }
-    ensures unheard { result.1 ≡ Err NoMemory → IsUncommitted place result.0 }
+    ensures unheard { result.1 ≡ Err NoMemory → IsUncommitted place.entry result.0 }
     ensures fits { EndedFits instance.now result.0.ended }
 {
     let mut text = String::new(alloc);
@@ -158,19 +162,20 @@ fn sit<'i, S: Sheet<'i>, J: Naming, W: Durable, I: Source, O: Sink, R: Wait>(
         (HasFailed W.Sink.taken W.Sink.has_failed J.problem) instance.now J.opening)
         (λ after. result.0 ≡ leaver after.seat)
         (λ after. result.0.committed ≡ (leaver after.seat).committed)
-        place (coming lines.old) (O.taken out.old) (O.taken out.new) result.1 }
+        place.entry (coming lines.old) (O.taken out.old) (O.taken out.new) result.1 }
     ensures broken { result.1 ≡ Broken
         → (lines.new.has_failed ≡ true) ⊎ (O.has_failed out.new ≡ true) }
 {
     let mut place = place;
     for _ in rt.forever() {
-        let line = match next_line(rt, instance, number, lines) {
-            Ok(line) => line,
+        let next = match next_line(rt, lines) {
+            Ok(next) => next,
             Err(end) => return (place.leave(), end),
         };
+        let line = line_of(instance, number, next, lines.line());
         let is_last = is_last(&line);
-        let (next, served) = serve(rt, alloc, desk, instance, book, place, &line, out);
-        place = next;
+        let (after, served) = serve(rt, alloc, desk, instance, book, place, &line, out);
+        place = after;
         match served {
             Ok(()) => {
                 if is_last {
