@@ -167,9 +167,9 @@ ROW9 = [
     (1, "open", "already open"),
     (1, "show cost", "costs 10 15 0 0"),
     (1, "abandon", "abandoned"),
-    (1, "frobnicate", "bad line"),
-    (1, "0 open", "bad line"),
-    (1, "leave now", "bad line"),
+    (1, "frobnicate", "bad line 1 frobnicate"),
+    (1, "0 open", "bad line 1 0"),
+    (1, "leave now", "bad line 2 now"),
 ]
 
 
@@ -214,7 +214,7 @@ def one_seat():
     check(
         "lines that are too long",
         call("desk", SMALL, "-", text=long)[1],
-        "opened\nbad line\nbad line\nbad line\nabandoned\n",
+        "opened\nbad line 1 " + "x" * 65536 + "\nbad line\nbad line\nabandoned\n",
     )
     fits = b"open" + b" " * 65532 + b"\n" + b"abandon" + b" " * 65530 + b"\n" + b" " * 70000 + b"\nshow cost"
     check(

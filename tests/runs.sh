@@ -695,6 +695,58 @@ show cheapest 2 swap geo 1 2 * * * -> prices 1 7 swap geo 1 2 alg 1 0
 3 commit -> committed 3
 2 commit -> stale course top
 DAY
+day 'how drafts stand beside what others commit' '--start s.sol' 'journal 4
+entry 0 2
+reroom alg B 0 0
+done
+drop geo 0 0
+refused notplaced
+entry 2 2
+course top
+lectures 1 top B 0 2
+drop top 0 2
+done
+entry 1 1
+place top B 0 2
+done
+entry 3 1
+slot 0 2
+lectures 1 top B 0 2
+END.
+' <<'DAY'
+0 status -> no draft
+0 open -> opened
+0 status -> draft 0 0 fresh
+0 reroom alg B 0 0 -> done
+0 drop geo 0 0 -> refused notplaced
+0 status -> draft 1 0 fresh
+1 open -> opened
+1 cost -> costs 15 0 4 1
+1 status -> draft 0 0 fresh
+2 open -> opened
+2 course top -> lectures 1 top B 0 2
+0 commit -> committed 1
+0 status -> no draft
+1 status -> draft 0 1 stale course alg
+1 status -> draft 0 1 stale course alg
+1 commit -> stale course alg
+1 status -> no draft
+2 drop top 0 2 -> done
+2 status -> draft 1 1 fresh
+2 refresh -> refreshed
+2 status -> draft 1 0 fresh
+3 open -> opened
+3 slot 0 2 -> lectures 1 top B 0 2
+2 commit -> committed 2
+3 status -> draft 0 1 stale slot 0 2
+1 open -> opened
+1 place top B 0 2 -> done
+1 commit -> committed 3
+3 status -> draft 0 2 fresh
+3 status now -> bad line
+status -> bad line
+3 commit -> committed 4
+DAY
 day 'commit order' '--start s0.sol' "journal 2
 entry 1 1
 place top B 1 2

@@ -4,7 +4,8 @@
 A script is run on one thread first. Then each of its lines is typed at the seat of its planner, when the line before is
 answered; who only looks sits at the last seat. The answers have to be those of the run, and the minutes its journal. Behind
 the script a planner who did nothing yet opens a draft, and sees what the desk ends with, in it and beside it, asks for help, and the
-first one leaves.
+first one leaves. What a script cannot do, to make a draft again, to take an edit back, and to hear which word cannot stand, is typed
+in days of their own, with each answer and the minutes by value.
 
 Then each request for memory is refused alone, by a `malloc` in front of the C library's. A line that is answered 'no memory',
 or 'no place', is typed again. The answers and the minutes have to be those with memory. Or the desk ends with status 3 and
@@ -54,13 +55,149 @@ show cost
 0 open
 0 abandon
 """
+# what a run answers `bad line` a seat answers with the word
+BAD = {"0 frob it": b"bad line 1 frob\n"}
+# days that are typed at seats, each line with its answer
+REDONE = """0 redo -> nothing to redo
+0 open -> opened
+0 place geo A 0 1 -> done
+0 price place top B 0 2 -> price 5
+0 place geo B 0 1 -> refused already
+0 place top B 0 2 -> done
+0 place alg A 1 0 -> done
+1 open -> opened
+1 place alg A 0 2 -> done
+1 commit -> committed 1
+0 commit -> stale course alg
+0 redo -> redone 2 of 3 refused 2 place top B 0 2 clash alg
+0 redo -> already open
+0 status -> draft 2 0 fresh
+0 refresh -> refreshed
+0 missing -> missing 2 geo 1 top 1
+1 redo -> nothing to redo
+1 open -> opened
+1 reroom alg B 0 2 -> done
+1 commit -> committed 2
+0 refresh -> stale course alg
+0 show missing -> missing 3 alg 1 geo 2 top 1
+0 redo -> redone 2 of 2
+0 commit -> committed 3
+0 redo -> nothing to redo
+0 open -> opened
+0 drop geo 0 1 -> done
+1 open -> opened
+1 move geo 0 1 B 1 1 -> done
+1 commit -> committed 4
+0 commit -> stale course geo
+0 redo -> redone 0 of 1 refused 1 drop geo 0 1 notplaced
+0 abandon -> abandoned
+0 redo -> nothing to redo
+"""
+REDONE_MINUTES = """entry 1 1
+place alg A 0 2
+done
+entry 1 1
+reroom alg B 0 2
+done
+entry 0 2
+place geo A 0 1
+done
+place alg A 1 0
+done
+entry 1 1
+move geo 0 1 B 1 1
+done
+"""
+UNDONE = """0 undo -> no draft
+0 open -> opened
+0 undo -> nothing to undo
+0 place geo A 0 1 -> done
+0 place top B 0 2 -> done
+0 swap geo 0 1 top 0 2 -> done
+0 cost -> costs 25 10 2 0
+0 move geo 0 2 A 1 1 -> done
+0 reroom geo B 1 1 -> done
+0 move geo 1 1 B 0 0 -> refused unavailable
+0 drop top 0 1 -> done
+0 undo -> done place top A 0 1
+0 undo -> done reroom geo A 1 1
+0 undo -> done move geo 1 1 B 0 2
+0 place alg B 1 0 -> done
+0 undo -> done drop alg 1 0
+0 undo -> done swap geo 0 2 top 0 1
+0 drop top 0 2 -> done
+0 undo -> done drop geo 0 1
+0 undo -> nothing to undo
+0 place geo B 0 2 -> done
+0 commit -> committed 1
+0 undo -> no draft
+"""
+UNDONE_MINUTES = """entry 0 17
+place geo A 0 1
+done
+place top B 0 2
+done
+swap geo 0 1 top 0 2
+done
+cost
+costs 25 10 2 0
+move geo 0 2 A 1 1
+done
+reroom geo B 1 1
+done
+move geo 1 1 B 0 0
+refused unavailable
+drop top 0 1
+done
+place top A 0 1
+done
+reroom geo A 1 1
+done
+move geo 1 1 B 0 2
+done
+place alg B 1 0
+done
+drop alg 1 0
+done
+swap geo 0 2 top 0 1
+done
+drop top 0 2
+done
+drop geo 0 1
+done
+place geo B 0 2
+done
+"""
+UNTOLD = """0 frob it -> bad line 1 frob
+0 open now -> bad line 2 now
+0 place geo A 0 -> bad line 5
+0 place geo C 0 1 -> bad line 3 C
+0 place geo A 0 1 2 -> bad line 6 2
+0 slot 0 9 -> bad line 3 9
+0 show -> bad line 2
+0 show open -> bad line 2 open
+0 cheapest 1001 place geo * * * -> bad line 2 1001
+0 leave it -> bad line 2 it
+0 help redo -> bad line 2 redo
+0 redo 1 -> bad line 2 1
+0 undo twice -> bad line 2 twice
+0 0 open -> bad line 1 0
+0 place \udcff A 0 1 -> bad line 2
+0 status -> no draft
+"""
+# these days: their lines, the minutes, and what the timetable costs then
+TYPED = {
+    "a draft made again": (REDONE, REDONE_MINUTES, "costs 5 5 2 1"),
+    "edits taken back": (UNDONE, UNDONE_MINUTES, "costs 0 15 2 0"),
+    "words that cannot stand": (UNTOLD, "", "costs 0 20 0 0"),
+}
 # the seats: of two planners, of one who does nothing, and of one who only looks
 SEATS = ("0", "1", "2", "3")
 IDLE, LAST = SEATS[2:]
 WANTS = (b"no memory\n", b"no place\n")
 # what a seat answers to `help`
 HELP = b"words abandon cheapest commit cost course coursecost curriculum drop help leave missing move open \
-peek place price refresh reroom show slot swap teacher\n"
+peek place price redo refresh reroom show slot status swap teacher undo\n"
 # the sizes in bytes of a word of the command line as `owned_words` and as `serve` collect it, and
 # of a draft's call; a list has room for 4 at least
 WORD_SIZES, CALL_SIZE, LEAST = (24, 16), 64, 4
@@ -143,7 +280,7 @@ class Seat:
         if line is None:
             self.end_lines()
         else:
-            os.write(self.lines, line.encode() + b"\n")
+            os.write(self.lines, line.encode(errors="surrogateescape") + b"\n")
         return self.hear()
 
     def end_lines(self):
@@ -225,28 +362,16 @@ class Played:
 
 
 class Desk:
-    """A worked desk: its words on the command line, its lines by seats, its answers, and how it has to end."""
+    """A desk that is played: its words on the command line, its lines by seats, its answers, and how it has to end."""
 
-    def __init__(self, folder, opening, script, barred, goes):
+    def __init__(self, folder, texts, lines, answers, minutes, costs):
         self.folder = folder
         self.words = [os.path.join(HERE, "examples/small.ctt")]
-        for word, text in (("--start", opening), ("--barred", barred)):
+        for word, text in texts:
             if text:
                 self.words += [word, self.file(word[2:], text)]
-        journal = os.path.join(folder, "journal")
-        words = [PROGRAM, "run", self.words[0], self.file("script", script + "show cost\n"), *self.words[1:]]
-        done = subprocess.run([*words, "--journal", journal], capture_output=True, timeout=60, check=True)
-        *self.answers, costs = done.stdout.splitlines(keepends=True)
-        self.minutes = held(journal).split(b"\n", 1)[1].removesuffix(b"END.\n")
-        self.lines = [seat_of(line) for line in script.splitlines()]
-        self.lines += [(IDLE, "open"), (IDLE, "cost"), (IDLE, "show cost"), (IDLE, "help"), (IDLE, "abandon"), (LAST, "show cost")]
-        self.answers += [b"opened\n", costs, costs, HELP, b"abandoned\n", costs]
-        at, last, told = len(self.lines), "leave", b"left\n"
-        if goes:
-            at, last, told = next(k for k, (seat, _) in enumerate(self.lines) if seat != "0"), None, b""
-        self.lines.insert(at, ("0", last))
-        self.answers.insert(at, told)
-        self.left = (0, b"journal %d\n" % self.minutes.count(b"entry ") + costs, b"", self.minutes)
+        self.lines, self.answers, self.minutes = lines, answers, minutes
+        self.left = (0, b"journal %d\n" % minutes.count(b"entry ") + costs, b"", minutes)
 
     def file(self, name, text):
         path = os.path.join(self.folder, name)
@@ -275,6 +400,43 @@ class Desk:
             and self.minutes.startswith(minutes)
             and told <= minutes.count(b"entry ")
         )
+
+
+def worked(folder, opening, script, barred, goes):
+    """A worked desk, with the answers of a run."""
+    texts = (("--start", opening), ("--barred", barred))
+    desk = Desk(folder, texts, [seat_of(line) for line in script.splitlines()], [], b"", b"")
+    journal = os.path.join(folder, "journal")
+    words = [PROGRAM, "run", desk.words[0], desk.file("script", script + "show cost\n"), *desk.words[1:]]
+    done = subprocess.run([*words, "--journal", journal], capture_output=True, timeout=60, check=True)
+    *answers, costs = done.stdout.splitlines(keepends=True)
+    pairs = zip(script.splitlines(), answers)
+    answers = [BAD[line] if answer == b"bad line\n" else answer for line, answer in pairs]
+    lines = desk.lines
+    lines += [(IDLE, "open"), (IDLE, "cost"), (IDLE, "show cost"), (IDLE, "help"), (IDLE, "abandon"), (LAST, "show cost")]
+    answers += [b"opened\n", costs, costs, HELP, b"abandoned\n", costs]
+    at, last, told = len(lines), "leave", b"left\n"
+    if goes:
+        at, last, told = next(k for k, (seat, _) in enumerate(lines) if seat != "0"), None, b""
+    lines.insert(at, ("0", last))
+    answers.insert(at, told)
+    minutes = held(journal).split(b"\n", 1)[1].removesuffix(b"END.\n")
+    return Desk(folder, texts, lines, answers, minutes, costs)
+
+
+def typed(folder, day, minutes, costs):
+    """A day whose answers and minutes are given."""
+    rows = [row.split(" -> ") for row in day.splitlines()]
+    lines, answers = [seat_of(line) for line, _ in rows], [answer.encode() + b"\n" for _, answer in rows]
+    return Desk(folder, (), lines, answers, minutes.encode(), costs.encode() + b"\n")
+
+
+def desks():
+    """Each desk by its name, as a function that makes it in a folder."""
+    for name, *rest in worked_desks():
+        yield name, lambda folder, rest=rest: worked(folder, *rest)
+    for name, day in TYPED.items():
+        yield name, lambda folder, day=day: typed(folder, *day)
 
 
 def refuse(desk, made, first, step):
@@ -308,10 +470,10 @@ with tempfile.TemporaryDirectory() as room:
     shim = build(room, "refuse")
     lanes = os.cpu_count() or 1
     noted = {"again": 0, "uncut": 0, "stopped": 0, "collected": 0, "wrong": 0}
-    for number, (name, *rest) in enumerate(worked_desks()):
+    for number, (name, make) in enumerate(desks()):
         own = os.path.join(room, f"desk{number}")
         os.mkdir(own)
-        desk = Desk(own, *rest)
+        desk = make(own)
         played = desk.play()
         check(f"{name}: answers", (played.answers, played.again), (desk.answers, 0))
         check(f"{name}: end", played.left, desk.left)

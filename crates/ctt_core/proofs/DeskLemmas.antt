@@ -1,5 +1,5 @@
 -- A desk that keeps values answers as its run says.
-use Rattle.std.proofs.Common.{◌≡◌, ℕ, ◌+◌, ◌≤◌, ◌<◌, Bool, true, false, cond, ◌==◌, List, [], ◌∷◌, ◌++◌, take, set, Option, Some, None, refl, ◌∙◌, sym, ap, ap₂, subst, length, length-set, arith, inl, inr, append-nil, take_all}
+use Rattle.std.proofs.Common.{◌≡◌, ℕ, ◌+◌, ◌-◌, ◌≤◌, ◌<◌, Bool, true, false, cond, ◌==◌, List, [], ◌∷◌, ◌++◌, take, set, Option, Some, None, refl, ◌∙◌, sym, ap, ap₂, subst, length, length-set, arith, inl, inr, append-nil, take_all}
 use Rattle.std.proofs.lemmas.Bool.{cases_eq, eq-eqb, ne_eqb}
 use Rattle.std.proofs.lemmas.List.{take-append-le, get_or-set_same, get_or-set_other}
 use Rattle.ctt_text.specs.Problem.{Problem}
@@ -11,15 +11,14 @@ use Rattle.ctt_edits.specs.declared.call.Call.{Call}
 use Rattle.ctt_edits.specs.declared.looks.Look.{Look}
 use Rattle.ctt_edits.specs.declared.reply.Reply.{Reply}
 use Rattle.ctt_edits.specs.declared.row.Row.{Row}
-use Rattle.ctt_draft.specs.Drafts.{calls_of, whole, stale}
+use Rattle.ctt_draft.specs.Drafts.{calls_of, whole, changes, stale}
 use Rattle.ctt_core.specs.declared.event.Event.{Event}
-use Rattle.ctt_core.specs.declared.event.Event.TheVariants.{Open, Ask, Peek, Commit, Refresh, Abandon, Show}
+use Rattle.ctt_core.specs.declared.event.Event.TheVariants.{Open, Ask, Peek, Status, Commit, Refresh, Abandon, Show}
 use Rattle.ctt_core.specs.declared.answer.Answer.{Answer}
-use Rattle.ctt_core.specs.declared.answer.Answer.TheVariants.{Opened, AlreadyOpen, NoDraft, Replied, Committed, Refreshed, Stale, Abandoned, NoMemory}
+use Rattle.ctt_core.specs.declared.answer.Answer.TheVariants.{Opened, AlreadyOpen, NoDraft, Replied, Draft, Committed, Refreshed, Stale, Abandoned, NoMemory}
 use Rattle.ctt_core.specs.declared.journal.JournalEntry.{JournalEntry}
-use Rattle.ctt_draft.specs.DraftValues.{DraftValue}
-use Rattle.ctt_core.specs.Runs.{after, Legal, Turn, OpenDraft, ask, begin, renew, turned, commits, draft, entry, entered, accepted_of, now, base, open_answer, ask_answer, peek_answer, acceptance, commit_answer, renewal, refresh_answer, abandon_answer, plain, may_want, IsRight, Right, EventFits, RunFits}
-use Rattle.ctt_core.specs.Desks.{DeskValue, draft_at, kept, StandsAt, to_open, to_ask, to_peek, to_commit, to_refresh, to_abandon, answer_of, with_draft, with_call, with_base, settled, goes_on, IsAnswerTo, SameDesk}
+use Rattle.ctt_core.specs.Runs.{after, Legal, Turn, OpenDraft, ask, begin, renew, turned, commits, draft, entry, entered, accepted_of, now, base, open_answer, ask_answer, peek_answer, status_answer, acceptance, commit_answer, renewal, refresh_answer, abandon_answer, plain, may_want, IsRight, Right, EventFits, RunFits}
+use Rattle.ctt_core.specs.Desks.{OpenValue, DeskValue, draft_at, kept, StandsAt, to_open, to_ask, to_peek, to_status, to_commit, to_refresh, to_abandon, answer_of, with_draft, with_call, with_base, settled, goes_on, IsAnswerTo, SameDesk}
 use Rattle.ctt_core.specs.Laws.{Stands, Serial, DeskIsPlain, DeskIsSerial}
 use Rattle.ctt_core.proofs.RunLemmas.{Good, GoodDraft, right_is_good, after-push, headline}
 
@@ -40,6 +39,10 @@ to_commit_is : (v : DeskValue) (past : List Turn) (o : Option OpenDraft) → v.l
 to_commit_is v past None e k = refl
 to_commit_is v past (Some d) e k = ap₂ (λ n list. acceptance (n + 1) (stale v.problem (base v.problem v.opening past d) list (calls_of d.asked))) k e
 
+to_status_is : (v : DeskValue) (past : List Turn) (o : Option OpenDraft) → v.list ≡ now v.problem v.opening past → length v.journal ≡ commits past → to_status v (kept v.problem v.opening (accepted_of past) o) ≡ status_answer v.problem v.opening past o
+to_status_is v past None e k = refl
+to_status_is v past (Some d) e k = ap₂ (λ n list. Draft (record { edits = length (changes v.problem (base v.problem v.opening past d) (calls_of d.asked)); behind = n - d.count; stale = stale v.problem (base v.problem v.opening past d) list (calls_of d.asked) })) k e
+
 to_refresh_is : (v : DeskValue) (past : List Turn) (o : Option OpenDraft) → v.list ≡ now v.problem v.opening past → to_refresh v (kept v.problem v.opening (accepted_of past) o) ≡ refresh_answer v.problem v.opening past o
 to_refresh_is v past None e = refl
 to_refresh_is v past (Some d) e = ap (λ list. renewal (stale v.problem (base v.problem v.opening past d) list (calls_of d.asked))) e
@@ -52,6 +55,7 @@ answer_is : (v : DeskValue) (past : List Turn) (event : Event) → commits past 
 answer_is v past (Open p) n s = ap to_open (s.drafts p) ∙ to_open_is v.problem v.opening (accepted_of past) (draft p past)
 answer_is v past (Ask p call) n s = ap (to_ask call) (s.drafts p) ∙ to_ask_is v.problem v.opening past call (draft p past)
 answer_is v past (Peek p look) n s = ap (to_peek look) (s.drafts p) ∙ to_peek_is v.problem v.opening past look (draft p past)
+answer_is v past (Status p) n s = ap (to_status v) (s.drafts p) ∙ to_status_is v past (draft p past) s.list (ap length s.journal ∙ sym n)
 answer_is v past (Commit p) n s = ap (to_commit v) (s.drafts p) ∙ to_commit_is v past (draft p past) s.list (ap length s.journal ∙ sym n)
 answer_is v past (Refresh p) n s = ap (to_refresh v) (s.drafts p) ∙ to_refresh_is v past (draft p past) s.list
 answer_is v past (Abandon p) n s = ap to_abandon (s.drafts p) ∙ to_abandon_is v.problem v.opening (accepted_of past) (draft p past)
@@ -63,7 +67,7 @@ kept_grown i t0 h more None g = refl
 kept_grown i t0 h more (Some d) g = let lt : d.count ≤ length h = g.0 in rw take-append-le refl
 
 -- a turn that enters nothing
-stays : (v : DeskValue) (past : List Turn) (event : Event) (answer : Answer) (drafts : List (Option DraftValue)) → entered event answer past ≡ [] → StandsAt v past →
+stays : (v : DeskValue) (past : List Turn) (event : Event) (answer : Answer) (drafts : List (Option OpenValue)) → entered event answer past ≡ [] → StandsAt v past →
     ((p : ℕ) → draft_at drafts p ≡ kept v.problem v.opening (accepted_of past) (turned p (commits past) event answer (draft p past))) → StandsAt (record v { drafts = drafts }) (record { event = event; answer = answer } ∷ past)
 stays v past event answer drafts none s each =
     let same : accepted_of past ++ entered event answer past ≡ accepted_of past = ap (λ es. accepted_of past ++ es) none ∙ append-nil (accepted_of past) in
@@ -74,7 +78,7 @@ stays v past event answer drafts none s each =
     }
 
 -- one draft is another, and the others stay
-one_draft : (p q : ℕ) (new : Option DraftValue) (old : List (Option DraftValue)) (mine other : Option DraftValue) → p < length old → new ≡ mine → draft_at old q ≡ other → draft_at (set old p new) q ≡ cond (q == p) mine other
+one_draft : (p q : ℕ) (new : Option OpenValue) (old : List (Option OpenValue)) (mine other : Option OpenValue) → p < length old → new ≡ mine → draft_at old q ≡ other → draft_at (set old p new) q ≡ cond (q == p) mine other
 one_draft p q new old mine other lt e k = elim (cases_eq q p) [
   | inl same ↦ rw (eq-eqb q p same) (ap (draft_at (set old p new)) same ∙ get_or-set_same old p new None lt ∙ e)
   | inr apart ↦ rw (ne_eqb q p apart) (get_or-set_other old p q new None apart ∙ k)
@@ -85,18 +89,22 @@ kept_cond i t0 h true x y = refl
 kept_cond i t0 h false x y = refl
 
 -- the draft of planner p is now the one that the run has, and the others are as they were
-turned_one : (v : DeskValue) (past : List Turn) (p q : ℕ) (new : Option DraftValue) (x : Option OpenDraft) → p < length v.drafts → StandsAt v past → new ≡ kept v.problem v.opening (accepted_of past) x → draft_at (set v.drafts p new) q ≡ kept v.problem v.opening (accepted_of past) (cond (q == p) x (draft q past))
+turned_one : (v : DeskValue) (past : List Turn) (p q : ℕ) (new : Option OpenValue) (x : Option OpenDraft) → p < length v.drafts → StandsAt v past → new ≡ kept v.problem v.opening (accepted_of past) x → draft_at (set v.drafts p new) q ≡ kept v.problem v.opening (accepted_of past) (cond (q == p) x (draft q past))
 turned_one v past p q new x lt s e =
     one_draft p q new v.drafts (kept v.problem v.opening (accepted_of past) x) (kept v.problem v.opening (accepted_of past) (draft q past)) lt e (s.drafts q)
     ∙ kept_cond v.problem v.opening (accepted_of past) (q == p) x (draft q past)
 
+-- a draft whose base is the timetable of the desk is one that comes behind all commits
+based : (v : DeskValue) (past : List Turn) (d : OpenDraft) → commits past ≡ length (accepted_of past) → StandsAt v past → d.count ≡ commits past → Some (record { since = length v.journal; draft = record { problem = v.problem; base = v.list; asked = d.asked } }) ≡ kept v.problem v.opening (accepted_of past) (Some d)
+based v past d n s e =
+    let full : take d.count (accepted_of past) ≡ accepted_of past = take_all d.count (accepted_of past) (omega (arith, n, e)) in
+    ap₂ (λ k list. Some (record { since = k; draft = record { problem = v.problem; base = list; asked = d.asked } })) (ap length s.journal ∙ sym n ∙ sym e) (s.list ∙ ap (after v.problem v.opening) (sym full))
+
 open_goes : (v : DeskValue) (past : List Turn) (p : ℕ) (o : Option OpenDraft) → p < length v.drafts → commits past ≡ length (accepted_of past) → StandsAt v past → StandsAt (goes_on v (Open p) (open_answer o)) (record { event = Open p; answer = open_answer o } ∷ past)
 open_goes v past p (Some d) lt n s = stays v past (Open p) AlreadyOpen v.drafts refl s s.drafts
 open_goes v past p None lt n s =
-    let full : take (commits past) (accepted_of past) ≡ accepted_of past = take_all (commits past) (accepted_of past) (omega (arith, n)) in
-    let new : Option DraftValue = Some (record { problem = v.problem; base = v.list; asked = [] }) in
-    let begun : new ≡ kept v.problem v.opening (accepted_of past) (begin (commits past)) = ap (λ list. Some (record { problem = v.problem; base = list; asked = [] })) (s.list ∙ ap (after v.problem v.opening) (sym full)) in
-    stays v past (Open p) Opened (set v.drafts p new) refl s (λ q. turned_one v past p q new (begin (commits past)) lt s begun)
+    let new : Option OpenValue = Some (record { since = length v.journal; draft = record { problem = v.problem; base = v.list; asked = [] } }) in
+    stays v past (Open p) Opened (set v.drafts p new) refl s (λ q. turned_one v past p q new (begin (commits past)) lt s (based v past (record { count = commits past; asked = [] }) n s refl))
 
 ask_goes : (v : DeskValue) (past : List Turn) (p : ℕ) (call : Call) (o : Option OpenDraft) → p < length v.drafts → draft p past ≡ o → StandsAt v past → StandsAt (goes_on v (Ask p call) (ask_answer v.problem v.opening past call o)) (record { event = Ask p call; answer = ask_answer v.problem v.opening past call o } ∷ past)
 ask_goes v past p call None lt e s = stays v past (Ask p call) NoDraft v.drafts refl s s.drafts
@@ -124,11 +132,10 @@ abandon_goes v past p (Some d) lt s = ended_goes v past p (Abandon p) Abandoned 
 refresh_goes : (v : DeskValue) (past : List Turn) (p : ℕ) (d : OpenDraft) (o : Option Row) → p < length v.drafts → draft p past ≡ Some d → commits past ≡ length (accepted_of past) → StandsAt v past → StandsAt (goes_on v (Refresh p) (renewal o)) (record { event = Refresh p; answer = renewal o } ∷ past)
 refresh_goes v past p d (Some row) lt e n s = ended_goes v past p (Refresh p) (Stale row) lt refl (λ q. refl) s
 refresh_goes v past p d None lt e n s =
-    let full : take (commits past) (accepted_of past) ≡ accepted_of past = take_all (commits past) (accepted_of past) (omega (arith, n)) in
-    let new : Option DraftValue = with_base v.list (draft_at v.drafts p) in
+    let new : Option OpenValue = with_base v (draft_at v.drafts p) in
     let mine : new ≡ kept v.problem v.opening (accepted_of past) (renew (commits past) (Some d)) =
-    ap (with_base v.list) (s.drafts p ∙ ap (kept v.problem v.opening (accepted_of past)) e)
-    ∙ ap (λ list. Some (record { problem = v.problem; base = list; asked = d.asked })) (s.list ∙ ap (after v.problem v.opening) (sym full)) in
+    ap (with_base v) (s.drafts p ∙ ap (kept v.problem v.opening (accepted_of past)) e)
+    ∙ based v past (record { count = commits past; asked = d.asked }) n s refl in
     stays v past (Refresh p) Refreshed (set v.drafts p new) refl s
     (λ q. turned_one v past p q new (renew (commits past) (Some d)) lt s mine ∙ ap (kept v.problem v.opening (accepted_of past)) (own q))
   where
@@ -173,6 +180,7 @@ plain_goes : (v : DeskValue) (past : List Turn) (event : Event) → EventFits v.
 plain_goes v past (Open p) f g s = open_goes v past p (draft p past) f g.counted s
 plain_goes v past (Ask p call) f g s = ask_goes v past p call (draft p past) f.0 refl s
 plain_goes v past (Peek p look) f g s = stays v past (Peek p look) (plain v.problem v.opening past (Peek p look)) v.drafts refl s s.drafts
+plain_goes v past (Status p) f g s = stays v past (Status p) (plain v.problem v.opening past (Status p)) v.drafts refl s s.drafts
 plain_goes v past (Commit p) f g s = commit_any v past p (draft p past) f refl g s
 plain_goes v past (Refresh p) f g s = refresh_any v past p (draft p past) f refl g.counted s
 plain_goes v past (Abandon p) f g s = abandon_goes v past p (draft p past) f s
@@ -182,6 +190,7 @@ no_memory_goes : (v : DeskValue) (past : List Turn) (event : Event) → StandsAt
 no_memory_goes v past (Open p) s = stays v past (Open p) NoMemory v.drafts refl s s.drafts
 no_memory_goes v past (Ask p call) s = stays v past (Ask p call) NoMemory v.drafts refl s s.drafts
 no_memory_goes v past (Peek p look) s = stays v past (Peek p look) NoMemory v.drafts refl s s.drafts
+no_memory_goes v past (Status p) s = stays v past (Status p) NoMemory v.drafts refl s s.drafts
 no_memory_goes v past (Commit p) s = stays v past (Commit p) NoMemory v.drafts refl s s.drafts
 no_memory_goes v past (Refresh p) s = stays v past (Refresh p) NoMemory v.drafts refl s s.drafts
 no_memory_goes v past (Abandon p) s = stays v past (Abandon p) NoMemory v.drafts refl s s.drafts
@@ -191,23 +200,24 @@ no_memory_goes v past (Show look) s = stays v past (Show look) NoMemory v.drafts
 same : (v : DeskValue) → SameDesk v v
 same v = record { problem = refl; opening = refl; planners = refl }
 
-same_with : (p : ℕ) (d : Option DraftValue) (v : DeskValue) → SameDesk v (with_draft p d v)
+same_with : (p : ℕ) (d : Option OpenValue) (v : DeskValue) → SameDesk v (with_draft p d v)
 same_with p d v = record { problem = refl; opening = refl; planners = length-set v.drafts p d }
 
-same_settled : (p : ℕ) (v : DeskValue) (o : Option DraftValue) → SameDesk v (settled p v o)
+same_settled : (p : ℕ) (v : DeskValue) (o : Option OpenValue) → SameDesk v (settled p v o)
 same_settled p v None = same v
 same_settled p v (Some d) = record { problem = refl; opening = refl; planners = length-set v.drafts p None }
 
 pub same_after : (v : DeskValue) (event : Event) (answer : Answer) → SameDesk v (goes_on v event answer)
-same_after v (Open p) Opened = same_with p (Some (record { problem = v.problem; base = v.list; asked = [] })) v
+same_after v (Open p) Opened = same_with p (Some (record { since = length v.journal; draft = record { problem = v.problem; base = v.list; asked = [] } })) v
 same_after v (Ask p call) (Replied told) = same_with p (with_call call told (draft_at v.drafts p)) v
 same_after v (Commit p) (Committed n) = same_settled p v (draft_at v.drafts p)
 same_after v (Commit p) (Stale row) = same_with p None v
-same_after v (Refresh p) Refreshed = same_with p (with_base v.list (draft_at v.drafts p)) v
+same_after v (Refresh p) Refreshed = same_with p (with_base v (draft_at v.drafts p)) v
 same_after v (Refresh p) (Stale row) = same_with p None v
 same_after v (Abandon p) Abandoned = same_with p None v
 same_after v (Open p) AlreadyOpen = same v
 same_after v (Open p) NoDraft = same v
+same_after v (Open p) (Draft s) = same v
 same_after v (Open p) (Replied told) = same v
 same_after v (Open p) (Committed n) = same v
 same_after v (Open p) Refreshed = same v
@@ -217,6 +227,7 @@ same_after v (Open p) NoMemory = same v
 same_after v (Ask p call) Opened = same v
 same_after v (Ask p call) AlreadyOpen = same v
 same_after v (Ask p call) NoDraft = same v
+same_after v (Ask p call) (Draft s) = same v
 same_after v (Ask p call) (Committed n) = same v
 same_after v (Ask p call) Refreshed = same v
 same_after v (Ask p call) (Stale row) = same v
@@ -225,6 +236,7 @@ same_after v (Ask p call) NoMemory = same v
 same_after v (Commit p) Opened = same v
 same_after v (Commit p) AlreadyOpen = same v
 same_after v (Commit p) NoDraft = same v
+same_after v (Commit p) (Draft s) = same v
 same_after v (Commit p) (Replied told) = same v
 same_after v (Commit p) Refreshed = same v
 same_after v (Commit p) Abandoned = same v
@@ -232,6 +244,7 @@ same_after v (Commit p) NoMemory = same v
 same_after v (Refresh p) Opened = same v
 same_after v (Refresh p) AlreadyOpen = same v
 same_after v (Refresh p) NoDraft = same v
+same_after v (Refresh p) (Draft s) = same v
 same_after v (Refresh p) (Replied told) = same v
 same_after v (Refresh p) (Committed n) = same v
 same_after v (Refresh p) Abandoned = same v
@@ -239,6 +252,7 @@ same_after v (Refresh p) NoMemory = same v
 same_after v (Abandon p) Opened = same v
 same_after v (Abandon p) AlreadyOpen = same v
 same_after v (Abandon p) NoDraft = same v
+same_after v (Abandon p) (Draft s) = same v
 same_after v (Abandon p) (Replied told) = same v
 same_after v (Abandon p) (Committed n) = same v
 same_after v (Abandon p) Refreshed = same v
@@ -247,15 +261,27 @@ same_after v (Abandon p) NoMemory = same v
 same_after v (Peek p look) Opened = same v
 same_after v (Peek p look) AlreadyOpen = same v
 same_after v (Peek p look) NoDraft = same v
+same_after v (Peek p look) (Draft s) = same v
 same_after v (Peek p look) (Replied told) = same v
 same_after v (Peek p look) (Committed n) = same v
 same_after v (Peek p look) Refreshed = same v
 same_after v (Peek p look) (Stale row) = same v
 same_after v (Peek p look) Abandoned = same v
 same_after v (Peek p look) NoMemory = same v
+same_after v (Status p) Opened = same v
+same_after v (Status p) AlreadyOpen = same v
+same_after v (Status p) NoDraft = same v
+same_after v (Status p) (Replied told) = same v
+same_after v (Status p) (Draft s) = same v
+same_after v (Status p) (Committed n) = same v
+same_after v (Status p) Refreshed = same v
+same_after v (Status p) (Stale row) = same v
+same_after v (Status p) Abandoned = same v
+same_after v (Status p) NoMemory = same v
 same_after v (Show look) Opened = same v
 same_after v (Show look) AlreadyOpen = same v
 same_after v (Show look) NoDraft = same v
+same_after v (Show look) (Draft s) = same v
 same_after v (Show look) (Replied told) = same v
 same_after v (Show look) (Committed n) = same v
 same_after v (Show look) Refreshed = same v

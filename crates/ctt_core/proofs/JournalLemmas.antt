@@ -19,11 +19,11 @@ use Rattle.ctt_draft.specs.Drafts.{calls_of, replies_in, replies, whole, after_c
 use Rattle.ctt_draft.proofs.CallRuns.{lawful_after_call, lawful_whole}
 use Rattle.ctt_core.specs.declared.event.Event.{Event}
 use Rattle.ctt_draft.specs.DraftValues.{IsTold}
-use Rattle.ctt_core.specs.declared.event.Event.TheVariants.{Open, Ask, Peek, Commit, Refresh, Abandon, Show}
+use Rattle.ctt_core.specs.declared.event.Event.TheVariants.{Open, Ask, Peek, Status, Commit, Refresh, Abandon, Show}
 use Rattle.ctt_core.specs.declared.answer.Answer.{Answer}
-use Rattle.ctt_core.specs.declared.answer.Answer.TheVariants.{Opened, AlreadyOpen, NoDraft, Replied, Committed, Refreshed, Stale, Abandoned, NoMemory}
+use Rattle.ctt_core.specs.declared.answer.Answer.TheVariants.{Opened, AlreadyOpen, NoDraft, Replied, Draft, Committed, Refreshed, Stale, Abandoned, NoMemory}
 use Rattle.ctt_core.specs.declared.journal.JournalEntry.{JournalEntry}
-use Rattle.ctt_core.specs.Runs.{Legal, Turn, OpenDraft, ask, begin, renew, turned, is_commit, commits, draft, entry, entered, accepted_of, now, base, open_answer, ask_answer, peek_answer, acceptance, commit_answer, renewal, refresh_answer, abandon_answer, plain, IsRight, Right, EventFits, RunFits}
+use Rattle.ctt_core.specs.Runs.{Legal, Turn, OpenDraft, ask, begin, renew, turned, is_commit, commits, draft, entry, entered, accepted_of, now, base, open_answer, ask_answer, peek_answer, status_answer, acceptance, commit_answer, renewal, refresh_answer, abandon_answer, plain, IsRight, Right, EventFits, RunFits}
 use Rattle.ctt_core.specs.Entries.{EntryFits}
 use Rattle.ctt_core.specs.Audits.{IsVerdict}
 use Rattle.ctt_core.specs.Laws.{Serial, JournalAgrees}
@@ -126,6 +126,10 @@ module _ (i : Problem) (t0 : List Placed) (n m : ℕ) (past : List Turn) (s : Ar
   peek_leaves q look None = stays (Peek q look) NoDraft refl same_drafts
   peek_leaves q look (Some d) = stays (Peek q look) (Replied (shown i (whole i (base i t0 past d) (calls_of d.asked)) look)) refl same_drafts
 
+  status_leaves : (q : ℕ) (o : Option OpenDraft) → Leaves (Status q) (status_answer i t0 past o)
+  status_leaves q None = stays (Status q) NoDraft refl same_drafts
+  status_leaves q (Some d) = stays (Status q) (status_answer i t0 past (Some d)) refl same_drafts
+
   commit_leaves : (q : ℕ) (o : Option OpenDraft) → q < n → Leaves (Commit q) (commit_answer i t0 past o)
   commit_leaves q None lt = stays (Commit q) NoDraft refl same_drafts
   commit_leaves q (Some d) lt = acceptance_leaves q (stale i (base i t0 past d) (now i t0 past) (calls_of d.asked)) lt
@@ -146,6 +150,7 @@ module _ (i : Problem) (t0 : List Placed) (n m : ℕ) (past : List Turn) (s : Ar
   plain_leaves (Open q) f = open_leaves q (draft q past)
   plain_leaves (Ask q call) f = ask_leaves q call (draft q past)
   plain_leaves (Peek q look) f = peek_leaves q look (draft q past)
+  plain_leaves (Status q) f = status_leaves q (draft q past)
   plain_leaves (Commit q) f = commit_leaves q (draft q past) f
   plain_leaves (Refresh q) f = refresh_leaves q (draft q past)
   plain_leaves (Abandon q) f = abandon_leaves q (draft q past)
@@ -155,6 +160,7 @@ module _ (i : Problem) (t0 : List Placed) (n m : ℕ) (past : List Turn) (s : Ar
   no_memory_leaves (Open q) = stays (Open q) NoMemory refl same_drafts
   no_memory_leaves (Ask q call) = stays (Ask q call) NoMemory refl same_drafts
   no_memory_leaves (Peek q look) = stays (Peek q look) NoMemory refl same_drafts
+  no_memory_leaves (Status q) = stays (Status q) NoMemory refl same_drafts
   no_memory_leaves (Commit q) = stays (Commit q) NoMemory refl same_drafts
   no_memory_leaves (Refresh q) = stays (Refresh q) NoMemory refl same_drafts
   no_memory_leaves (Abandon q) = stays (Abandon q) NoMemory refl same_drafts
@@ -173,6 +179,7 @@ one_commit Opened = omega arith
 one_commit AlreadyOpen = omega arith
 one_commit NoDraft = omega arith
 one_commit (Replied r) = omega arith
+one_commit (Draft s) = omega arith
 one_commit (Committed k) = omega arith
 one_commit (Stale row) = omega arith
 one_commit Refreshed = omega arith

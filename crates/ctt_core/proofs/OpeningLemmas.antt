@@ -1,9 +1,8 @@
 -- A desk that begins: its opening, and its planners.
 use Rattle.std.proofs.Common.{◌≡◌, ℕ, zero, suc, ◌+◌, List, drop, [], ◌∷◌, ◌++◌, Option, None, refl}
-use Rattle.ctt_draft.specs.DraftValues.{DraftValue}
 use Rattle.ctt_text.specs.Problem.{Problem}
 use Rattle.ctt_text.specs.declared.placed.Placed.{Placed}
-use Rattle.ctt_core.specs.Desks.{draft_at}
+use Rattle.ctt_core.specs.Desks.{OpenValue, draft_at}
 use Rattle.ctt_edits.specs.Openings.{opening, placed_on}
 
 -- lectures are being placed: the first ones of the list are, and t is their timetable
@@ -12,7 +11,7 @@ pub record Placing (i j : Problem) (ls t : List Placed) (at : ℕ) : Type 0 wher
   pub rest : opening i ls ≡ placed_on i t (at + 1) (drop at ls)
 
 -- one more planner without a draft
-pub none_more : (xs : List (Option DraftValue)) → ((p : ℕ) → draft_at xs p ≡ None) → (p : ℕ) → draft_at (xs ++ None ∷ []) p ≡ None
+pub none_more : (xs : List (Option OpenValue)) → ((p : ℕ) → draft_at xs p ≡ None) → (p : ℕ) → draft_at (xs ++ None ∷ []) p ≡ None
 none_more [] h zero = refl
 none_more [] h (suc p) = refl
 none_more (x ∷ xs) h zero = h zero

@@ -1,5 +1,5 @@
 -- The accepted history of a right run is legal.
-use Rattle.std.proofs.Common.{◌≡◌, ℕ, zero, suc, ◌+◌, ◌≤◌, Bool, true, false, cond, ◌==◌, List, [], ◌∷◌, ◌++◌, take, Option, Some, None, refl, ◌∙◌, sym, ap, subst, length, arith, inl, inr, append-nil, length-append, take_all}
+use Rattle.std.proofs.Common.{◌≡◌, ℕ, zero, suc, ◌+◌, ◌-◌, ◌≤◌, Bool, true, false, cond, ◌==◌, List, [], ◌∷◌, ◌++◌, take, Option, Some, None, refl, ◌∙◌, sym, ap, ap₂, subst, length, arith, inl, inr, append-nil, length-append, take_all}
 use Rattle.std.specs.List.{AllByRecursion as Each}
 use Rattle.std.proofs.lemmas.Bool.{cases_Bool, eqb-true}
 use Rattle.std.proofs.lemmas.List.{take-append-le, map-append}
@@ -11,17 +11,18 @@ use Rattle.ctt_edits.specs.declared.call.Call.{Call}
 use Rattle.ctt_edits.specs.declared.looks.Look.{Look}
 use Rattle.ctt_edits.specs.declared.reply.Reply.{Reply}
 use Rattle.ctt_edits.specs.declared.row.Row.{Row}
-use Rattle.ctt_draft.specs.Drafts.{calls_of, replies_in, replies, whole, stale}
+use Rattle.ctt_draft.specs.Drafts.{calls_of, replies_in, replies, whole, changes, stale}
 use Rattle.ctt_draft.specs.declared.asked.Asked.{Asked}
 use Rattle.ctt_core.specs.declared.event.Event.{Event}
-use Rattle.ctt_core.specs.declared.event.Event.TheVariants.{Open, Ask, Peek, Commit, Refresh, Abandon, Show}
+use Rattle.ctt_core.specs.declared.event.Event.TheVariants.{Open, Ask, Peek, Status, Commit, Refresh, Abandon, Show}
 use Rattle.ctt_core.specs.declared.answer.Answer.{Answer}
-use Rattle.ctt_core.specs.declared.answer.Answer.TheVariants.{Stale, NoMemory}
+use Rattle.ctt_core.specs.declared.answer.Answer.TheVariants.{Draft, Stale, NoMemory}
 use Rattle.ctt_core.specs.declared.journal.JournalEntry.{JournalEntry}
+use Rattle.ctt_core.specs.declared.standing.Standing.{Standing}
 use Rattle.ctt_draft.proofs.CallRuns.{lawful_whole, replies-push}
 use Rattle.ctt_draft.proofs.FrameLemmas.{draft_frame}
-use Rattle.ctt_core.specs.Runs.{after, Legal, Turn, OpenDraft, ask, renew, turned, is_commit, commits, draft, entry, entered, accepted_of, now, base, open_answer, ask_answer, peek_answer, acceptance, commit_answer, renewal, refresh_answer, abandon_answer, plain, IsRight, Right, EventFits, RunFits}
-use Rattle.ctt_core.specs.Laws.{Headline, OntoJoins, AfterJoins, LegalJoins}
+use Rattle.ctt_core.specs.Runs.{after, Legal, Turn, answered, OpenDraft, ask, renew, turned, is_commit, commits, draft, entry, entered, accepted_of, now, base, open_answer, ask_answer, peek_answer, status_answer, acceptance, commit_answer, renewal, refresh_answer, abandon_answer, plain, IsRight, Right, EventFits, RunFits}
+use Rattle.ctt_core.specs.Laws.{Headline, StatusForetells, OntoJoins, AfterJoins, LegalJoins}
 
 pub Each-join : {X : Type 0} (P : X → Type 0) (xs ys : List X) → Each P xs → Each P ys → Each P (xs ++ ys)
 Each-join P [] ys h k = k
@@ -182,6 +183,10 @@ peek_counts : (i : Problem) (t0 : List Placed) (past : List Turn) (look : Look) 
 peek_counts i t0 past look None = refl
 peek_counts i t0 past look (Some d) = refl
 
+status_counts : (i : Problem) (t0 : List Placed) (past : List Turn) (o : Option OpenDraft) → is_commit (status_answer i t0 past o) ≡ 0
+status_counts i t0 past None = refl
+status_counts i t0 past (Some d) = refl
+
 renewal_counts : (o : Option Row) → is_commit (renewal o) ≡ 0
 renewal_counts None = refl
 renewal_counts (Some row) = refl
@@ -199,6 +204,7 @@ plain_turn : (i : Problem) (t0 : List Placed) (past : List Turn) (n : ℕ) (even
 plain_turn i t0 past n (Open q) f l g = rw (open_counts (draft q past)) (kept i t0 (accepted_of past) (commits past) (λ p. draft p past) (λ p. turned p (commits past) (Open q) (open_answer (draft q past)) (draft p past)) g (open_turn i t0 past q (draft q past) g))
 plain_turn i t0 past n (Ask q call) f l g = rw (ask_counts i t0 past call (draft q past)) (kept i t0 (accepted_of past) (commits past) (λ p. draft p past) (λ p. turned p (commits past) (Ask q call) (ask_answer i t0 past call (draft q past)) (draft p past)) g (ask_turn i t0 past q call (draft q past) refl f.1 g))
 plain_turn i t0 past n (Peek q look) f l g = rw (peek_counts i t0 past look (draft q past)) (kept i t0 (accepted_of past) (commits past) (λ p. draft p past) (λ p. draft p past) g g.good)
+plain_turn i t0 past n (Status q) f l g = rw (status_counts i t0 past (draft q past)) (kept i t0 (accepted_of past) (commits past) (λ p. draft p past) (λ p. draft p past) g g.good)
 plain_turn i t0 past n (Commit q) f l g = commit_any i t0 past q (draft q past) refl l g
 plain_turn i t0 past n (Refresh q) f l g = rw (refresh_counts i t0 past (draft q past)) (kept i t0 (accepted_of past) (commits past) (λ p. draft p past) (λ p. turned p (commits past) (Refresh q) (refresh_answer i t0 past (draft q past)) (draft p past)) g (refresh_any i t0 past q (draft q past) refl l g))
 plain_turn i t0 past n (Abandon q) f l g = rw (abandon_counts (draft q past)) (kept i t0 (accepted_of past) (commits past) (λ p. draft p past) (λ p. turned p (commits past) (Abandon q) (abandon_answer (draft q past)) (draft p past)) g (abandon_turn i t0 past q (draft q past) g))
@@ -209,6 +215,7 @@ no_memory_turn : (i : Problem) (t0 : List Placed) (past : List Turn) (event : Ev
 no_memory_turn i t0 past (Open q) g = kept i t0 (accepted_of past) (commits past) (λ p. draft p past) (λ p. draft p past) g g.good
 no_memory_turn i t0 past (Ask q call) g = kept i t0 (accepted_of past) (commits past) (λ p. draft p past) (λ p. draft p past) g g.good
 no_memory_turn i t0 past (Peek q look) g = kept i t0 (accepted_of past) (commits past) (λ p. draft p past) (λ p. draft p past) g g.good
+no_memory_turn i t0 past (Status q) g = kept i t0 (accepted_of past) (commits past) (λ p. draft p past) (λ p. draft p past) g g.good
 no_memory_turn i t0 past (Commit q) g = kept i t0 (accepted_of past) (commits past) (λ p. draft p past) (λ p. draft p past) g g.good
 no_memory_turn i t0 past (Refresh q) g = kept i t0 (accepted_of past) (commits past) (λ p. draft p past) (λ p. draft p past) g g.good
 no_memory_turn i t0 past (Abandon q) g = kept i t0 (accepted_of past) (commits past) (λ p. draft p past) (λ p. draft p past) g g.good
@@ -227,6 +234,21 @@ pub headline : Headline
 headline i t0 n past l f r =
     let g : Good i t0 (accepted_of past) (commits past) (λ p. draft p past) = right_is_good i t0 n past l f r in
     (g.legal, lawful_after i t0 (accepted_of past) l g.fit)
+
+-- a commit behind a turn that neither counts nor enters anything
+foretold : (i : Problem) (t0 : List Placed) (past : List Turn) (turn : Turn) (s : Standing) (o : Option OpenDraft) → accepted_of (turn ∷ past) ≡ accepted_of past → commits (turn ∷ past) ≡ commits past → status_answer i t0 past o ≡ Draft s → commit_answer i t0 (turn ∷ past) o ≡ acceptance (commits past + 1) s.stale
+foretold i t0 past turn s None same counted e = cc
+foretold i t0 past turn s (Some d) same counted e =
+    let is : record {
+      edits = length (changes i (base i t0 past d) (calls_of d.asked));
+      behind = commits past - d.count;
+      stale = stale i (base i t0 past d) (now i t0 past) (calls_of d.asked);
+    } ≡ s = cc in
+    ap₂ (λ h n. acceptance (n + 1) (stale i (after i t0 (take d.count h)) (after i t0 h) (calls_of d.asked))) same counted
+    ∙ ap (λ (x : Standing). acceptance (commits past + 1) x.stale) is
+
+pub status_foretells : StatusForetells
+status_foretells i t0 past p s e = foretold i t0 past (answered (Status p) (Draft s)) s (draft p past) (append-nil (accepted_of past)) (omega arith) e
 
 pub onto_joins : OntoJoins
 onto_joins past [] more [] later e = refl

@@ -1,16 +1,19 @@
 -- What layers above rest on.
-use Rattle.std.specs.Prelude.{ℕ, ◌≡◌, ◌≤◌, ◌↔◌, List, ◌∷◌, ◌++◌, length, Ok}
+use Rattle.std.specs.Prelude.{ℕ, ◌+◌, ◌≡◌, ◌≤◌, ◌↔◌, List, ◌∷◌, ◌++◌, length, Ok}
 use Rattle.std.specs.List.{AllByRecursion as Each}
 use Rattle.ctt_text.specs.Problem.{Problem, IsProblem}
 use Rattle.ctt_text.specs.declared.placed.Placed.{Placed}
 use Rattle.ctt_rules.specs.Hard.{Lawful}
 use Rattle.ctt_edits.specs.Openings.{opening}
-use Rattle.ctt_core.specs.Runs.{after, Legal, Turn, answered, accepted_of, now, Right, EventFits, RunFits, onto}
+use Rattle.ctt_core.specs.Runs.{after, Legal, Turn, answered, commits, accepted_of, now, plain, acceptance, Right, EventFits, RunFits, onto}
 use Rattle.ctt_core.specs.Desks.{DeskValue, StandsAt, goes_on, IsAnswerTo}
 use Rattle.ctt_core.specs.Entries.{EntryFits}
 use Rattle.ctt_core.specs.Audits.{IsVerdict}
 use Rattle.ctt_core.specs.declared.event.Event.{Event}
+use Rattle.ctt_core.specs.declared.event.Event.TheVariants.{Status, Commit}
 use Rattle.ctt_core.specs.declared.answer.Answer.{Answer}
+use Rattle.ctt_core.specs.declared.answer.Answer.TheVariants.{Draft}
+use Rattle.ctt_core.specs.declared.standing.Standing.{Standing}
 use Rattle.ctt_core.specs.declared.auditing.Verdict.{Verdict}
 use Rattle.ctt_core.specs.declared.auditing.Verdict.TheVariants.{Agrees}
 use Rattle.ctt_core.specs.declared.journal.JournalEntry.{JournalEntry}
@@ -47,6 +50,10 @@ pub record IsVouched (v : DeskValue) : Type 0 where
 -- of a desk that stands at a right run of at most 1,000 planners: its own journal fits and agrees
 abbrev pub JournalAgrees : Type 0
 JournalAgrees = (v : DeskValue) (past : List Turn) → IsProblem v.problem → Lawful v.problem v.opening → length v.drafts ≤ 1000 → Stands v past → IsVouched v
+
+-- a commit that comes right after a status is answered by the row that the status names
+abbrev pub StatusForetells : Type 0
+StatusForetells = (i : Problem) (t0 : List Placed) (past : List Turn) (p : ℕ) (s : Standing) → plain i t0 past (Status p) ≡ Draft s → plain i t0 (answered (Status p) (Draft s) ∷ past) (Commit p) ≡ acceptance (commits past + 1) s.stale
 
 -- a run of events after events is the run of all
 abbrev pub OntoJoins : Type 0

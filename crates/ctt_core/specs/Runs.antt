@@ -1,5 +1,5 @@
 -- Runs of many planners: their drafts, the accepted history, and the answers of a plain desk.
-use Rattle.std.specs.Prelude.{ℕ, ◌+◌, ◌<◌, ◌≡◌, ◌⊎◌, Bool, true, false, cond, List, [], ◌∷◌, ◌++◌, take, ◌==◌, Option, Some, None}
+use Rattle.std.specs.Prelude.{ℕ, ◌+◌, ◌-◌, ◌<◌, ◌≡◌, ◌⊎◌, Bool, true, false, cond, List, [], ◌∷◌, ◌++◌, length, take, ◌==◌, Option, Some, None}
 use Rattle.std.specs.List.{AllByRecursion as Each}
 use Rattle.ctt_text.specs.Problem.{Problem}
 use Rattle.ctt_text.specs.declared.placed.Placed.{Placed}
@@ -9,12 +9,12 @@ use Rattle.ctt_edits.specs.declared.call.Call.{Call}
 use Rattle.ctt_edits.specs.declared.looks.Look.{Look}
 use Rattle.ctt_edits.specs.declared.reply.Reply.{Reply}
 use Rattle.ctt_edits.specs.declared.row.Row.{Row}
-use Rattle.ctt_draft.specs.Drafts.{calls_of, replies_in, replies, whole, stale}
+use Rattle.ctt_draft.specs.Drafts.{calls_of, replies_in, replies, whole, changes, stale}
 use Rattle.ctt_draft.specs.declared.asked.Asked.{Asked}
 use Rattle.ctt_core.specs.declared.event.Event.{Event}
-use Rattle.ctt_core.specs.declared.event.Event.TheVariants.{Open, Ask, Peek, Commit, Refresh, Abandon, Show}
+use Rattle.ctt_core.specs.declared.event.Event.TheVariants.{Open, Ask, Peek, Status, Commit, Refresh, Abandon, Show}
 use Rattle.ctt_core.specs.declared.answer.Answer.{Answer}
-use Rattle.ctt_core.specs.declared.answer.Answer.TheVariants.{Opened, AlreadyOpen, NoDraft, Replied, Committed, Refreshed, Stale, Abandoned, NoMemory}
+use Rattle.ctt_core.specs.declared.answer.Answer.TheVariants.{Opened, AlreadyOpen, NoDraft, Replied, Draft, Committed, Refreshed, Stale, Abandoned, NoMemory}
 use Rattle.ctt_core.specs.declared.journal.JournalEntry.{JournalEntry}
 
 -- the timetable after a history of drafts, each run whole, one after another
@@ -117,6 +117,15 @@ abbrev pub peek_answer : Problem → List Placed → List Turn → Look → Opti
 peek_answer i t0 past look None = NoDraft
 peek_answer i t0 past look (Some d) = Replied (shown i (whole i (base i t0 past d) (calls_of d.asked)) look)
 
+-- .. to a status: how many edits were accepted in the draft, how many drafts since its base, and the row by which a commit would now be refused ..
+abbrev pub status_answer : Problem → List Placed → List Turn → Option OpenDraft → Answer
+status_answer i t0 past None = NoDraft
+status_answer i t0 past (Some d) = Draft (record {
+  edits = length (changes i (base i t0 past d) (calls_of d.asked));
+  behind = commits past - d.count;
+  stale = stale i (base i t0 past d) (now i t0 past) (calls_of d.asked);
+})
+
 -- .. to a commit: the number of accepted drafts, or the stale row ..
 abbrev pub acceptance : ℕ → Option Row → Answer
 acceptance n None = Committed n
@@ -145,13 +154,15 @@ abbrev pub plain : Problem → List Placed → List Turn → Event → Answer
 plain i t0 past (Open p) = open_answer (draft p past)
 plain i t0 past (Ask p call) = ask_answer i t0 past call (draft p past)
 plain i t0 past (Peek p look) = peek_answer i t0 past look (draft p past)
+plain i t0 past (Status p) = status_answer i t0 past (draft p past)
 plain i t0 past (Commit p) = commit_answer i t0 past (draft p past)
 plain i t0 past (Refresh p) = refresh_answer i t0 past (draft p past)
 plain i t0 past (Abandon p) = abandon_answer (draft p past)
 plain i t0 past (Show look) = Replied (shown i (now i t0 past) look)
 
--- whether memory may be wanted for an event that has this answer: never to give a draft up, nor to say that there is one already, or none, or that it is stale
+-- whether memory may be wanted for an event that has this answer: never to say how a draft stands or to give it up, nor to say that there is one already, or none, or that it is stale
 abbrev pub may_want : Event → Answer → Bool
+may_want (Status p) a = false
 may_want (Abandon p) a = false
 may_want _ AlreadyOpen = false
 may_want _ NoDraft = false
@@ -172,6 +183,7 @@ abbrev pub EventFits : Problem → ℕ → Event → Type 0
 EventFits i n (Open p) = p < n
 EventFits i n (Ask p call) = (p < n) × CallFits i call
 EventFits i n (Peek p look) = (p < n) × LookFits i look
+EventFits i n (Status p) = p < n
 EventFits i n (Commit p) = p < n
 EventFits i n (Refresh p) = p < n
 EventFits i n (Abandon p) = p < n

@@ -1,5 +1,6 @@
 //! What a desk answers.
 
+use crate::standing::Standing;
 use ctt_edits::{Reply, Row};
 
 /// The answer to an event.
@@ -13,6 +14,8 @@ pub enum Answer {
     NoDraft,
     /// What the call, or the look, was told.
     Replied(Reply),
+    /// How the draft stands.
+    Draft(Standing),
     /// The draft was accepted: the number of drafts that are accepted by now.
     Committed(u64),
     /// The draft is up to date.

@@ -17,9 +17,9 @@ use crate::desk_fault::DeskFault;
 use crate::event::Event;
 use crate::journal::JournalEntry;
 use crate::laws;
+use crate::open_draft::OpenDraft;
 use crate::opening::placed;
 use ctt_board::{Rooms, Sheet, Timetable};
-use ctt_draft::Draft;
 use ctt_rules::Cost;
 use ctt_text::{Instance, NoMemory, Placed};
 use std::alloc::{AllocError, Global};
@@ -33,7 +33,7 @@ pub struct Desk<'i, S: Timetable> {
     opening: Vec<Placed>,
     sheet: S,
     journal: Vec<JournalEntry>,
-    drafts: Vec<Option<Draft<'i, S>>>,
+    drafts: Vec<Option<OpenDraft<'i, S>>>,
 }
 
 // A derived `Drop` is proved anew in each crate above.
@@ -70,7 +70,7 @@ impl<'i, S: Timetable> Model for Desk<'i, S> {
 fn no_drafts<'i, S: Timetable>(
     alloc: Global,
     planners: u16,
-) -> Result<Vec<Option<Draft<'i, S>>>, AllocError>
+) -> Result<Vec<Option<OpenDraft<'i, S>>>, AllocError>
     ensures planners { IfOk result (λ drafts. length drafts.items ≡ planners) }
     ensures none { IfOk result (λ drafts. (p : ℕ) → draft_at drafts.items p ≡ None) }
 {

@@ -16,6 +16,8 @@ pub enum Event {
     Ask(PlannerNo, Call),
     /// The planner looks at his draft. It is no call: nothing is kept of it.
     Peek(PlannerNo, Look),
+    /// The planner asks how his draft stands. It is no call: nothing is kept of it.
+    Status(PlannerNo),
     /// The planner wants his draft accepted.
     Commit(PlannerNo),
     /// The planner wants his draft brought up to date.
@@ -33,6 +35,7 @@ impl Event {
     {
         match self {
             Event::Open(planner)
+            | Event::Status(planner)
             | Event::Commit(planner)
             | Event::Refresh(planner)
             | Event::Abandon(planner) => planner.fits(planners),

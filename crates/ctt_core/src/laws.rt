@@ -1,7 +1,7 @@
 //! Laws of runs and desks, for the layers above. None of these functions computes anything.
 
 ghost use Rattle.ctt_core.specs.OpenDrafts.{DraftsAreTold, AcceptedAreTold};
-ghost use Rattle.ctt_core.specs.Laws.{Headline, DeskIsPlain, DeskIsSerial, JournalAgrees, OntoJoins, AfterJoins, LegalJoins};
+ghost use Rattle.ctt_core.specs.Laws.{Headline, DeskIsPlain, DeskIsSerial, StatusForetells, JournalAgrees, OntoJoins, AfterJoins, LegalJoins};
 
 /// Whatever the planners' steps: the accepted history is legal, and the timetable after it lawful.
 pub fn headline()
@@ -21,6 +21,12 @@ pub fn desk_is_plain()
 pub fn drafts_are_told()
     ensures drafts { DraftsAreTold }
     ensures accepted { AcceptedAreTold }
+{}
+
+/// Of any run, right or not: the right answer to a commit that comes right after a status is that it
+/// is accepted, or stale by the row that the status named.
+pub fn status_foretells()
+    ensures { StatusForetells }
 {}
 
 /// A run of events after events is the run of all.

@@ -8,8 +8,10 @@ mod desk_fault;
 mod event;
 mod journal;
 pub mod laws;
+mod open_draft;
 mod opening;
 mod planner;
+mod standing;
 
 pub use answer::Answer;
 pub use auditing::{NoList, Verdict, audit, list_after};
@@ -19,3 +21,4 @@ pub use event::Event;
 pub use journal::JournalEntry;
 pub use opening::placed;
 pub use planner::PlannerNo;
+pub use standing::Standing;

@@ -4,7 +4,7 @@ use Rattle.ctt_text.specs.Problem.{Problem}
 use Rattle.ctt_text.specs.declared.placed.Placed.{Placed}
 use Rattle.ctt_edits.specs.declared.call.Call.{Call}
 use Rattle.ctt_core.specs.declared.event.Event.{Event}
-use Rattle.ctt_core.specs.declared.event.Event.TheVariants.{Open, Ask, Peek, Commit, Refresh, Abandon, Show}
+use Rattle.ctt_core.specs.declared.event.Event.TheVariants.{Open, Ask, Peek, Status, Commit, Refresh, Abandon, Show}
 use Rattle.ctt_desk.specs.Planners.{PlannerValue}
 use Rattle.ctt_script.specs.ScriptText.{has_words, own_item}
 use Rattle.ctt_crew.specs.CrewText.{call_in}
@@ -36,6 +36,7 @@ call_answered i t0 (Some (Ask q asked)) call seat next old new e h =
     let same : asked ≡ call = cc in
     subst (λ c. AnswersCall i c seat next old new) (sym same) h
 call_answered i t0 (Some (Peek q look)) call seat next old new e h = cc
+call_answered i t0 (Some (Status q)) call seat next old new e h = cc
 call_answered i t0 (Some (Commit q)) call seat next old new e h = cc
 call_answered i t0 (Some (Refresh q)) call seat next old new e h = cc
 call_answered i t0 (Some (Abandon q)) call seat next old new e h = cc

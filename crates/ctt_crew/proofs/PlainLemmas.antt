@@ -6,7 +6,7 @@ use Rattle.ctt_edits.specs.declared.call.Call.{Call}
 use Rattle.ctt_edits.specs.declared.looks.Look.{Look}
 use Rattle.ctt_core.specs.declared.answer.Answer.TheVariants as answer
 use Rattle.ctt_core.specs.declared.event.Event.{Event}
-use Rattle.ctt_core.specs.declared.event.Event.TheVariants.{Open, Ask, Peek, Commit, Refresh, Abandon, Show}
+use Rattle.ctt_core.specs.declared.event.Event.TheVariants.{Open, Ask, Peek, Status, Commit, Refresh, Abandon, Show}
 use Rattle.ctt_core.specs.declared.journal.JournalEntry.{JournalEntry}
 use Rattle.ctt_desk.specs.Planners.{PlannerValue, DraftingValue}
 use Rattle.ctt_desk.specs.Refusals.{IsNotRefreshed, IsRefused}
@@ -15,7 +15,7 @@ use Rattle.ctt_desk.specs.declared.refusal.Refusal.TheVariants as refusal
 use Rattle.ctt_desk.specs.declared.refusal.RefreshRefusal.{RefreshRefusal}
 use Rattle.ctt_desk.specs.declared.refusal.RefreshRefusal.TheVariants as unrefreshed
 use Rattle.ctt_crew.specs.Attended.{AnswersItems, Attends, IsAttended, leaver}
-use Rattle.ctt_crew.specs.Seats.{Abandons, AnswersLine, Asks, Commits, IsTold, Opens, Peeks, Refreshes, Shows, Takes, seat_refused, seat_unrefreshed, told_refused, told_unrefreshed}
+use Rattle.ctt_crew.specs.Seats.{Abandons, AnswersLine, Asks, Commits, IsTold, Opens, Peeks, Refreshes, Shows, States, Takes, seat_refused, seat_unrefreshed, told_refused, told_unrefreshed}
 use Rattle.ctt_crew.specs.declared.seat.Seat.{Seat}
 use Rattle.ctt_crew.specs.declared.seat.Seat.TheVariants.{Free, Drafting}
 use Rattle.ctt_crew.specs.declared.seat.Told.{Told}
@@ -77,10 +77,16 @@ module _ {X Y : Type 0} where
   peeks i look (Free p) is h = h
   peeks i look (Drafting d) is h = h
 
+  states : (i : Problem) (t0 : List Placed) (before after : Seat X Y) (is : Told) → States i t0 before after is → States i t0 (plain before) (plain after) is
+  states i t0 (Free p) after is h = told (Free p) after (Answered answer.NoDraft) is h
+  states i t0 (Drafting d) (Drafting e) is h = h
+  states i t0 (Drafting d) (Free q) is h = absurd h
+
   takes : (i : Problem) (t0 : List Placed) (event : Event) (before after : Seat X Y) (is : Told) → Takes i t0 event before after is → Takes i t0 event (plain before) (plain after) is
   takes i t0 (Open p) before after is h = opens i t0 before after is h
   takes i t0 (Ask p call) before after is h = asks i call before after is h
   takes i t0 (Peek p look) before after is h = (ap plain h.0, peeks i look before is h.1)
+  takes i t0 (Status p) before after is h = states i t0 before after is h
   takes i t0 (Commit p) before after is h = (h.0, commits i t0 before after h.0 h.1, h.2)
   takes i t0 (Refresh p) before after is h = refreshes i t0 before after is h
   takes i t0 (Abandon p) before after is h = abandons before after is h

@@ -6,7 +6,7 @@ use Rattle.ctt_text.specs.declared.placed.Placed.{Placed}
 use Rattle.ctt_edits.specs.declared.call.Call.{Call}
 use Rattle.ctt_edits.specs.declared.looks.Look.{Look}
 use Rattle.ctt_core.specs.declared.event.Event.{Event}
-use Rattle.ctt_core.specs.declared.event.Event.TheVariants.{Open, Ask, Peek, Commit, Refresh, Abandon, Show}
+use Rattle.ctt_core.specs.declared.event.Event.TheVariants.{Open, Ask, Peek, Status, Commit, Refresh, Abandon, Show}
 use Rattle.ctt_core.specs.declared.journal.JournalEntry.{JournalEntry}
 use Rattle.ctt_desk.specs.Histories.{entry_of}
 use Rattle.ctt_desk.specs.Planners.{PlannerValue, DraftingValue, IsAccepted}
@@ -20,7 +20,7 @@ use Rattle.ctt_desk.specs.declared.shared_fault.SharedFault.TheVariants.{Unlawfu
 use Rattle.ctt_desk.proofs.PrefixLemmas.{prefix_self, prefix_trans}
 use Rattle.ctt_crew.specs.Attended.{AnswersItems, leaver}
 use Rattle.ctt_crew.specs.Laws.{CommitsStay, SeenStays}
-use Rattle.ctt_crew.specs.Seats.{Abandons, AnswersLine, Asks, Commits, Opens, Refreshes, Shows, Takes, seat_refused, seat_unrefreshed}
+use Rattle.ctt_crew.specs.Seats.{Abandons, AnswersLine, Asks, Commits, Opens, Refreshes, Shows, States, Takes, seat_refused, seat_unrefreshed}
 use Rattle.ctt_crew.specs.declared.seat.Seat.{Seat}
 use Rattle.ctt_crew.specs.declared.seat.Seat.TheVariants.{Free, Drafting}
 use Rattle.ctt_crew.specs.declared.seat.Told.{Told}
@@ -96,10 +96,17 @@ module _ {X Y : Type 0} where
   shows i t0 look (Free p) (Free q) is (inr h) = unread i t0 p q h.0 h.1
   shows i t0 look (Drafting d) after is h = same (Drafting d) after h.0
 
+  states : (i : Problem) (t0 : List Placed) (before after : Seat X Y) (is : Told) → States i t0 before after is → Stays before after
+  states i t0 (Free p) after is h = same (Free p) after h.0
+  states i t0 (Drafting d) (Drafting e) is (same_draft, inl h) = h.1.planner.begins
+  states i t0 (Drafting d) (Drafting e) is (same_draft, inr h) = unread i t0 d.planner e.planner h.0 h.1
+  states i t0 (Drafting d) (Free q) is h = absurd h
+
   takes : (i : Problem) (t0 : List Placed) (event : Event) (before after : Seat X Y) (is : Told) → Takes i t0 event before after is → Stays before after
   takes i t0 (Open p) before after is h = opens i t0 before after is h
   takes i t0 (Ask p call) before after is h = asks i call before after is h
   takes i t0 (Peek p look) before after is h = same before after h.0
+  takes i t0 (Status p) before after is h = states i t0 before after is h
   takes i t0 (Commit p) before after is h = commits i t0 before after h.0 h.1
   takes i t0 (Refresh p) before after is h = refreshes i t0 before after is h
   takes i t0 (Abandon p) before after is h = abandons before after is h

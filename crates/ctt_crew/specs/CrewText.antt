@@ -7,7 +7,7 @@ use Rattle.ctt_rules.specs.Penalty.{penalty}
 use Rattle.ctt_rules.specs.declared.cost.Cost.{Cost}
 use Rattle.ctt_core.specs.Runs.{after}
 use Rattle.ctt_core.specs.declared.event.Event.{Event}
-use Rattle.ctt_core.specs.declared.event.Event.TheVariants.{Open, Ask, Peek, Commit, Refresh, Abandon, Show}
+use Rattle.ctt_core.specs.declared.event.Event.TheVariants.{Open, Ask, Peek, Status, Commit, Refresh, Abandon, Show}
 use Rattle.ctt_core.specs.declared.journal.JournalEntry.{JournalEntry}
 use Rattle.ctt_core.specs.declared.answer.Answer.TheVariants.{NoMemory as OutOfMemory, Stale as StaleAnswer}
 use Rattle.ctt_edits.specs.declared.call.Call.{Call}
@@ -35,6 +35,7 @@ call_in None = None
 call_in (Some (Open p)) = None
 call_in (Some (Ask p call)) = Some call
 call_in (Some (Peek p look)) = None
+call_in (Some (Status p)) = None
 call_in (Some (Commit p)) = None
 call_in (Some (Refresh p)) = None
 call_in (Some (Abandon p)) = None

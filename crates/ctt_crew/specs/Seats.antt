@@ -9,10 +9,11 @@ use Rattle.ctt_edits.specs.declared.looks.Look.{Look}
 use Rattle.ctt_edits.specs.declared.reply.Reply.{Reply}
 use Rattle.ctt_core.specs.declared.answer.Answer.TheVariants as answer
 use Rattle.ctt_core.specs.declared.event.Event.{Event}
-use Rattle.ctt_core.specs.declared.event.Event.TheVariants.{Open, Ask, Peek, Commit, Refresh, Abandon, Show}
+use Rattle.ctt_core.specs.declared.event.Event.TheVariants.{Open, Ask, Peek, Status, Commit, Refresh, Abandon, Show}
 use Rattle.ctt_core.specs.declared.journal.JournalEntry.{JournalEntry}
+use Rattle.ctt_core.specs.declared.standing.Standing.{Standing}
 use Rattle.ctt_desk.specs.Histories.{entry_of}
-use Rattle.ctt_desk.specs.Planners.{PlannerValue, DraftingValue, IsAccepted, IsOpen, IsRefreshed, IsSameDraft, IsViewed, asked_also, present_of}
+use Rattle.ctt_desk.specs.Planners.{PlannerValue, DraftingValue, IsAccepted, IsOpen, IsRefreshed, IsSameDraft, IsStatus, IsViewed, asked_also, present_of}
 use Rattle.ctt_desk.specs.Refusals.{IsNotRefreshed, IsRefused, IsUnread}
 use Rattle.ctt_desk.specs.declared.refusal.Refusal.{Refusal}
 use Rattle.ctt_desk.specs.declared.refusal.Refusal.TheVariants as refusal
@@ -51,6 +52,12 @@ Asks i call (Drafting d) after told =
 abbrev pub Peeks : {X Y : Type 0} → Problem → Look → Seat X Y → Told → Type 0
 Peeks i look (Free p) told = told ≡ Answered answer.NoDraft
 Peeks i look (Drafting d) told = ((r : Reply) × (r ≡ shown i (present_of i d) look) × (told ≡ Answered (answer.Replied r))) ⊎ (told ≡ Answered answer.NoMemory)
+
+-- how a draft stands is told, or why what is published could not be read; the draft goes on as it was
+abbrev pub States : {X Y : Type 0} → Problem → List Placed → Seat X Y → Seat X Y → Told → Type 0
+States i t0 (Free p) after told = IsTold (Free p) after (Answered answer.NoDraft) told
+States i t0 (Drafting d) (Drafting e) told = IsSameDraft d e × (((s : Standing) × IsStatus i t0 d e s × (told ≡ Answered (answer.Draft s))) ⊎ IsUntold i t0 d.planner e.planner told)
+States i t0 (Drafting d) (Free q) told = ⊥
 
 -- a refusal leaves a planner, or his draft, and he is told it
 abbrev pub seat_refused : {X Y : Type 0} → Refusal X Y → Seat X Y
@@ -117,6 +124,7 @@ abbrev pub Takes : {X Y : Type 0} → Problem → List Placed → Event → Seat
 Takes i t0 (Open p) before after told = Opens i t0 before after told
 Takes i t0 (Ask p call) before after told = Asks i call before after told
 Takes i t0 (Peek p look) before after told = (after ≡ before) × Peeks i look before told
+Takes i t0 (Status p) before after told = States i t0 before after told
 Takes i t0 (Commit p) before after told = (outcome : Result (List JournalEntry) Told) × Commits i t0 before after outcome × (told ≡ told_of outcome)
 Takes i t0 (Refresh p) before after told = Refreshes i t0 before after told
 Takes i t0 (Abandon p) before after told = Abandons before after told

@@ -6,7 +6,7 @@ ghost use Rattle.ctt_edits.specs.Looks.{LookFits};
 ghost use Rattle.ctt_core.specs.Runs.{EventFits};
 ghost use Rattle.ctt_crew.specs.CrewText.{ToldFits, told_unread};
 ghost use Rattle.ctt_crew.specs.Attended.{leaver};
-ghost use Rattle.ctt_crew.specs.Seats.{Abandons, Asks, Commits, Opens, Peeks, Refreshes, Shows, Takes, Views, draft_text, open_entry, told_of};
+ghost use Rattle.ctt_crew.specs.Seats.{Abandons, Asks, Commits, Opens, Peeks, Refreshes, Shows, States, Takes, Views, draft_text, open_entry, told_of};
 
 use ctt_board::{Sheet, Timetable};
 use ctt_core::{Answer, Event};
@@ -124,6 +124,20 @@ impl<'i, S: Sheet<'i>, J: Naming> Seat<'i, S, J> {
             Seat::Drafting(drafting) => match drafting.peek(look) {
                 Ok(reply) => Told::Answer(Answer::Replied(reply)),
                 Err(_) => Told::Answer(Answer::NoMemory),
+            },
+        }
+    }
+
+    /// Asks how the draft stands. It is no call: the draft stays as it is.
+    pub fn status(&mut self) -> Told
+        ensures fits { ToldFits J.problem result }
+        ensures states { States J.problem J.opening self.old self.new result }
+    {
+        match self {
+            Seat::Free(_) => Told::Answer(Answer::NoDraft),
+            Seat::Drafting(drafting) => match drafting.status() {
+                Ok(standing) => Told::Answer(Answer::Draft(standing)),
+                Err(fault) => unread::<J>(fault),
             },
         }
     }
@@ -247,6 +261,11 @@ impl<'i, S: Sheet<'i>, J: Naming> Seat<'i, S, J> {
             Event::Peek(_, look) => {
                 let told = self.peek(&look);
                 (self, told)
+            }
+            Event::Status(_) => {
+                let mut seat = self;
+                let told = seat.status();
+                (seat, told)
             }
             Event::Commit(_) => {
                 let (seat, outcome) = self.commit(rt, desk);

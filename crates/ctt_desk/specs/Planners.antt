@@ -12,8 +12,8 @@ use Rattle.ctt_draft.specs.Drafts.{calls_of, whole, changes, stale}
 use Rattle.ctt_draft.specs.declared.asked.Asked.{Asked}
 use Rattle.ctt_core.specs.Runs.{after, Legal}
 use Rattle.ctt_core.specs.declared.journal.JournalEntry.{JournalEntry}
+use Rattle.ctt_core.specs.declared.standing.Standing.{Standing}
 use Rattle.ctt_desk.specs.Histories.{own, entry_of}
-use Rattle.ctt_desk.specs.declared.standing.Standing.{Standing}
 
 -- a planner: the number, how many drafts were committed, and the history that was seen, the front
 pub record PlannerValue : Type 0 where

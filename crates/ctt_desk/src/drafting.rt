@@ -1,11 +1,13 @@
 //! Planners with an open draft.
 
-ghost use Rattle.std.specs.Prelude.{◌≡◌, IfOk, OnErr};
+ghost use Rattle.std.specs.Prelude.{◌≡◌, IfOk, IfSome, OnErr};
 ghost use Rattle.std.specs.List.{AllByRecursion as Each};
 ghost use Rattle.ctt_edits.specs.Calls.{CallFits, reply};
+ghost use Rattle.ctt_edits.specs.Edits.{EditFits};
 ghost use Rattle.ctt_edits.specs.Fitting.{IsReply};
 ghost use Rattle.ctt_edits.specs.Looks.{LookFits, shown};
-ghost use Rattle.ctt_draft.specs.Drafts.{AskedFits};
+ghost use Rattle.ctt_draft.specs.Drafts.{AskedFits, calls_of};
+ghost use Rattle.ctt_draft.specs.Undoing.{undoing};
 ghost use Rattle.ctt_desk.specs.Histories.{entry_of};
 ghost use Rattle.ctt_desk.specs.Planners.{present_of, asked_also};
 
@@ -15,7 +17,7 @@ use crate::planner::Planner;
 use ctt_board::{Sheet, Timetable};
 use ctt_core::JournalEntry;
 use ctt_draft::{AskedCalls, Draft, Work};
-use ctt_edits::{Call, Look, Reply, laws};
+use ctt_edits::{Call, Edit, Look, Reply, laws};
 use ctt_text::{Instance, NoMemory, let_go};
 use std::alloc::Global;
 use std::marker::Model;
@@ -108,6 +110,24 @@ impl<'i, S: Sheet<'i>, J: Naming> Drafting<'i, S, J> {
         self.draft.instance().limits_hold();
         self.draft.lawful();
         self.draft.peek(look)
+    }
+
+    /// The edit that takes back the last accepted edit of the draft that is not taken back yet, if
+    /// there is one. It fits.
+    pub fn undoing(&self) -> Result<Option<Edit>, NoMemory>
+        ensures edit { IfOk result (λ edit.
+            edit ≡ undoing J.problem self.now.base (calls_of self.now.asked)) }
+        ensures fits { IfOk result (λ edit. IfSome edit (EditFits J.problem)) }
+    {
+        self.draft.undoing()
+    }
+
+    /// Computes nothing: its contract says that the calls of the draft fit, and their replies.
+    pub fn calls_fit(&self)
+        ensures { Each (AskedFits J.problem) self.now.asked }
+    {
+        self.draft.instance().limits_hold();
+        self.draft.lawful();
     }
 
     /// Gives the draft up. It takes no memory.

@@ -19,7 +19,6 @@ mod refusal;
 mod shared_desk;
 mod shared_fault;
 mod shown;
-mod standing;
 mod status;
 mod update;
 
@@ -33,4 +32,3 @@ pub use receipt::Receipt;
 pub use refusal::{RefreshRefusal, Refusal};
 pub use shared_desk::SharedDesk;
 pub use shared_fault::SharedFault;
-pub use standing::Standing;

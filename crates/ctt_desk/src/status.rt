@@ -1,27 +1,17 @@
 //! What a planner with an open draft sees of the published timetable.
 
-ghost use Rattle.std.specs.Prelude.{◌≡◌, IfOk, IfErr, length};
+ghost use Rattle.std.specs.Prelude.{◌≡◌, IfOk, IfErr};
 ghost use Rattle.ctt_edits.specs.Fitting.{IsReply};
 ghost use Rattle.ctt_edits.specs.Looks.{LookFits};
-ghost use Rattle.ctt_draft.specs.Drafts.{calls_of, changes};
 ghost use Rattle.ctt_desk.specs.Planners.{IsSameDraft, IsStatus, IsViewed};
 ghost use Rattle.ctt_desk.specs.Refusals.{IsUnread};
 
 use crate::drafting::Drafting;
 use crate::naming::Naming;
 use crate::shared_fault::SharedFault;
-use crate::standing::Standing;
 use ctt_board::Sheet;
-use ctt_draft::Draft;
+use ctt_core::Standing;
 use ctt_edits::{Look, Reply};
-
-/// How many edits were accepted in a draft.
-fn edits_in<'i, S: Sheet<'i>>(draft: &Draft<'i, S>) -> u64
-    ensures { result
-        ≡ length (changes draft.now.problem draft.now.base (calls_of draft.now.asked)) }
-{
-    draft.changes().len() as u64
-}
 
 impl<'i, S: Sheet<'i>, J: Naming> Drafting<'i, S, J> {
     /// How the draft stands beside the timetable that was published last, which the planner has
@@ -33,13 +23,8 @@ impl<'i, S: Sheet<'i>, J: Naming> Drafting<'i, S, J> {
             (IsUnread J.problem J.opening self.old.planner self.new.planner) }
     {
         let stale = self.planner.stale(&self.draft)?;
-        let edits = edits_in(&self.draft);
         let behind = self.planner.seen() - self.since.len();
-        Ok(Standing {
-            edits,
-            behind,
-            stale,
-        })
+        Ok(Standing::of(&self.draft, behind, stale))
     }
 
     /// Looks at the timetable that was published last, which the planner has then seen. The draft

@@ -5,6 +5,7 @@ pub mod CheckLemmas
 pub mod FirstLemmas
 pub mod StaleLemmas
 pub mod UndoLemmas
+mod UndoingLemmas
 pub mod CompareLemmas
 pub mod ReplayLemmas
 pub mod RefreshLemmas

@@ -4,3 +4,4 @@ pub mod DraftValues
 pub mod Undo
 pub mod Comparisons
 pub mod Replays
+pub mod Undoing

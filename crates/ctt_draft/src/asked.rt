@@ -3,8 +3,9 @@
 ghost use Rattle.std.specs.Prelude.{◌≡◌, ◌↔◌, IsTrue, IfOk};
 ghost use Rattle.std.specs.List.{AllByRecursion as Each};
 ghost use Rattle.ctt_draft.specs.Drafts.{AskedFits};
+ghost use Rattle.ctt_draft.specs.Undoing.{done_edit};
 
-use ctt_edits::{Call, Reply};
+use ctt_edits::{Call, Edit, Reply};
 use ctt_text::{Instance, NoMemory};
 use std::alloc::Global;
 use std::marker::Model;
@@ -31,6 +32,19 @@ impl Asked {
         ensures { IsTrue result ↔ AskedFits instance.now self.now }
     {
         self.call.fits(instance) && self.reply.fits(instance)
+    }
+
+    /// The edit, if one was accepted.
+    pub fn done_edit(&self) -> Option<Edit>
+        ensures { result ≡ done_edit self.now }
+    {
+        match self.call {
+            Call::Edit(edit) => match self.reply {
+                Reply::Done => Some(edit),
+                _ => None,
+            },
+            Call::Look(_) => None,
+        }
     }
 }
 

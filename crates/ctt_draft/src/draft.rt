@@ -24,6 +24,7 @@ use std::alloc::Global;
 use std::marker::Model;
 
 mod staleness;
+mod undoing;
 
 /// The base, which is the timetable at the opening or at the last refresh, the calls since the opening with
 /// their replies, and the timetable as these leave it. Nobody else's later work is seen in it. Only the last

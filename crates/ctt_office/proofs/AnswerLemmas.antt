@@ -6,7 +6,7 @@ use Rattle.ctt_text.specs.Problem.{Problem}
 use Rattle.ctt_text.specs.declared.placed.Placed.{Placed}
 use Rattle.ctt_edits.specs.declared.looks.Look.{Look}
 use Rattle.ctt_core.specs.declared.event.Event.{Event}
-use Rattle.ctt_core.specs.declared.event.Event.TheVariants.{Abandon, Ask, Commit, Open, Peek, Refresh, Show}
+use Rattle.ctt_core.specs.declared.event.Event.TheVariants.{Abandon, Ask, Commit, Open, Peek, Refresh, Show, Status}
 use Rattle.ctt_core.specs.declared.journal.JournalEntry.{JournalEntry}
 use Rattle.ctt_desk.specs.Histories.{entry_of}
 use Rattle.ctt_crew.specs.Seats.{Commits, Takes, open_entry}
@@ -14,6 +14,7 @@ use Rattle.ctt_crew.specs.declared.seat.Seat.{Seat}
 use Rattle.ctt_crew.specs.declared.seat.Seat.TheVariants.{Drafting, Free}
 use Rattle.ctt_crew.specs.declared.seat.Told.{Told}
 use Rattle.ctt_office.specs.Pages.{EndsWith}
+use Rattle.ctt_office.specs.declared.workplace.Workplace.{Workplace}
 use Rattle.ctt_office.specs.SeatAnswers.{Adds, Does, IsAnsweredBy, IsCommitAlone, IsCommitAnswer, IsToldAnswer, IsStepAnswer}
 
 -- a text to which an answer was added
@@ -31,11 +32,12 @@ module _ {X Y : Type 0} (i : Problem) (t0 : List Placed) where
   ends_with (Drafting d) after history entry done is = (d.planner.front ++ done.1.between, entry_of d.planner.number d.asked, done.1.ends, is)
 
   -- a step that is no commit
-  pub no_commit : {B : Type 0} (book : Option B) (IsKept : List JournalEntry → Type 0) (Failed : Type 0) (event : Event) (before after : Seat X Y) (answer : List ℕ) → ((p : ℕ) → event ≡ Commit p → ⊥) → IsToldAnswer i t0 event before after answer
+  pub no_commit : {B : Type 0} (book : Option B) (IsKept : List JournalEntry → Type 0) (Failed : Type 0) (event : Event) (before after : Workplace X Y) (answer : List ℕ) → ((p : ℕ) → event ≡ Commit p → ⊥) → IsToldAnswer i t0 event before after answer
       → IsStepAnswer book IsKept Failed i t0 event before after answer
   no_commit book IsKept Failed (Open p) before after answer other is = is
   no_commit book IsKept Failed (Ask p call) before after answer other is = is
   no_commit book IsKept Failed (Peek p look) before after answer other is = is
+  no_commit book IsKept Failed (Status p) before after answer other is = is
   no_commit book IsKept Failed (Commit p) before after answer other is = absurd (other p refl)
   no_commit book IsKept Failed (Refresh p) before after answer other is = is
   no_commit book IsKept Failed (Abandon p) before after answer other is = is
@@ -46,19 +48,20 @@ module _ {X Y : Type 0} (i : Problem) (t0 : List Placed) where
   no_show (Open p) before after told other is = is
   no_show (Ask p call) before after told other is = is
   no_show (Peek p look) before after told other is = is
+  no_show (Status p) before after told other is = is
   no_show (Commit p) before after told other is = is
   no_show (Refresh p) before after told other is = is
   no_show (Abandon p) before after told other is = is
   no_show (Show look) before after told other is = absurd (other look refl)
 
   -- a commit where no book is kept
-  pub no_book : {B : Type 0} (book : Option B) (IsKept : List JournalEntry → Type 0) (Failed : Type 0) (event : Event) (p : ℕ) (before after : Seat X Y) (answer : List ℕ) → book ≡ None → event ≡ Commit p → IsCommitAlone i t0 before after answer
+  pub no_book : {B : Type 0} (book : Option B) (IsKept : List JournalEntry → Type 0) (Failed : Type 0) (event : Event) (p : ℕ) (before after : Workplace X Y) (answer : List ℕ) → book ≡ None → event ≡ Commit p → IsCommitAlone i t0 before after answer
       → IsStepAnswer book IsKept Failed i t0 event before after answer
   no_book book IsKept Failed event p before after answer none same is =
       subst (λ e. IsStepAnswer book IsKept Failed i t0 e before after answer) (sym same) (subst (λ o. IsAnsweredBy o IsKept Failed i t0 before after answer) (sym none) is)
 
   -- a commit where one is
-  pub with_book : {B : Type 0} (book : Option B) (b : B) (IsKept : List JournalEntry → Type 0) (Failed : Type 0) (event : Event) (p : ℕ) (before after : Seat X Y) (answer : List ℕ) → book ≡ Some b → event ≡ Commit p
+  pub with_book : {B : Type 0} (book : Option B) (b : B) (IsKept : List JournalEntry → Type 0) (Failed : Type 0) (event : Event) (p : ℕ) (before after : Workplace X Y) (answer : List ℕ) → book ≡ Some b → event ≡ Commit p
       → IsCommitAnswer IsKept Failed i t0 before after answer → IsStepAnswer book IsKept Failed i t0 event before after answer
   with_book book b IsKept Failed event p before after answer some same is =
       subst (λ e. IsStepAnswer book IsKept Failed i t0 e before after answer) (sym same) (subst (λ o. IsAnsweredBy o IsKept Failed i t0 before after answer) (sym some) is)

@@ -1,6 +1,8 @@
 mod AnswerLemmas
+mod BadWordLemmas
 mod CommittedLemmas
 mod CutLemmas
+mod EndedLemmas
 mod WordLemmas
 mod LineLemmas
 mod NextLemmas
@@ -8,4 +10,5 @@ mod PagesLemmas
 mod PartLemmas
 mod PassLemmas
 mod RecoveryLemmas
+mod RedoLemmas
 mod SittingLemmas

@@ -5,12 +5,14 @@ use Rattle.std.proofs.KnownBytes.{Appends-kept, Appends-nil, Appends-trans}
 use Rattle.std.specs.Io.KnownBytes.{Appends, IsAtEnd}
 use Rattle.ctt_devices.specs.Output.{AppendsFront}
 use Rattle.ctt_text.specs.Problem.{Problem}
-use Rattle.ctt_office.specs.Lines.{Gives, IsFirstLine, IsLong, IsShort}
+use Rattle.ctt_office.specs.Lines.{Comes, Gives, GivesNext, IsFirstLine, IsLong, IsShort, ReaderValue, coming}
+use Rattle.ctt_office.specs.declared.line_reader.Next.{Next}
+use Rattle.ctt_office.specs.declared.line_reader.Next.TheVariants.{End, Line, TooLong as LongLine}
 use Rattle.ctt_office.specs.SeatAnswers.{Tells}
 use Rattle.ctt_office.specs.SeatText.{asked_by, seat_line}
 use Rattle.ctt_office.specs.Sittings.{AreAnswered, EndsAt, GoOn, IsBroken, IsCut, IsCutShort, IsSat, IsSitting}
 use Rattle.ctt_office.specs.declared.seat_line.SeatLine.{SeatLine}
-use Rattle.ctt_office.specs.declared.seat_line.SeatLine.TheVariants.{Bad, Leave}
+use Rattle.ctt_office.specs.declared.seat_line.SeatLine.TheVariants.{Leave, TooLong}
 use Rattle.ctt_office.specs.declared.sitting.Ending.{Ending}
 use Rattle.ctt_office.specs.declared.sitting.Ending.TheVariants.{Broken, Ended, Left, NoMemory}
 
@@ -171,14 +173,26 @@ gives_also P Q (Some all) (Some rest) also gives = (gives.0, also gives.0 gives.
 pub asks_short : (i : Problem) (p : ℕ) (line given : List ℕ) (what : SeatLine) → what ≡ seat_line i p given → given ≡ line → IsShort line → what ≡ asked_by i p line
 asks_short i p line given what is same short = by (nat_le (length line) 65536) refl
   where
-    by : (b : Bool) → nat_le (length line) 65536 ≡ b → what ≡ (if b then seat_line i p line else Bad)
+    by : (b : Bool) → nat_le (length line) 65536 ≡ b → what ≡ (if b then seat_line i p line else TooLong)
     by true e = is ∙ ap (seat_line i p) same
     by false e = (let within = le-leb (length line) 65536 short in cc)
 
 -- one that is too long asks for nothing that is known
-pub asks_long : (i : Problem) (p : ℕ) (line : List ℕ) → IsLong line → Bad ≡ asked_by i p line
+pub asks_long : (i : Problem) (p : ℕ) (line : List ℕ) → IsLong line → TooLong ≡ asked_by i p line
 asks_long i p line long = by (nat_le (length line) 65536) refl
   where
-    by : (b : Bool) → nat_le (length line) 65536 ≡ b → Bad ≡ (if b then seat_line i p line else Bad)
+    by : (b : Bool) → nat_le (length line) 65536 ≡ b → TooLong ≡ (if b then seat_line i p line else TooLong)
     by true e = (let within = leb-true (length line) 65536 e in absurd (omega (arith, within, long)))
     by false e = refl
+
+-- what a line asks for that has come
+pub asks_short_line : (i : Problem) (p : ℕ) (given : List ℕ) (what : SeatLine) (old new : ReaderValue) → GivesNext Line old new → given ≡ new.line → what ≡ seat_line i p given → Gives (λ line. what ≡ asked_by i p line) (coming old) (coming new)
+asks_short_line i p given what old new gives same is = gives_also (λ line. (new.line ≡ line) × IsShort line) _ (coming old) (coming new) (λ line h. asks_short i p line given what is (same ∙ h.0) h.1) gives
+
+pub asks_long_line : (i : Problem) (p : ℕ) (old new : ReaderValue) → GivesNext LongLine old new → Gives (λ line. TooLong ≡ asked_by i p line) (coming old) (coming new)
+asks_long_line i p old new gives = gives_also IsLong _ (coming old) (coming new) (λ line long. asks_long i p line long) gives.1
+
+pub asks_line : (i : Problem) (p : ℕ) (old new : ReaderValue) (next : Next) → (next ≡ Line → ⊥) → Comes next old new → Gives (λ line. TooLong ≡ asked_by i p line) (coming old) (coming new)
+asks_line i p old new Line other comes = absurd (other refl)
+asks_line i p old new LongLine other comes = asks_long_line i p old new comes
+asks_line i p old new End other comes = absurd comes

@@ -1,8 +1,12 @@
+pub mod BadWords
 pub mod Blocks
+pub mod Ended
+pub mod Laws
 pub mod Lines
 pub mod OfficeFaults
 pub mod Pages
 pub mod Recovery
+pub mod Redone
 pub mod SeatAnswers
 pub mod SeatText
 pub mod Sittings

@@ -49,6 +49,12 @@ GivesNext Line old new = Gives (λ line. (new.line ≡ line) × IsShort line) (c
 GivesNext TooLong old new = (new.line ≡ []) × Gives IsLong (coming old) (coming new)
 GivesNext End old new = IsAtEnd (coming old)
 
+-- a line comes, which is the present one or too long
+abbrev pub Comes : Next → ReaderValue → ReaderValue → Type 0
+Comes Line old new = GivesNext Line old new
+Comes TooLong old new = GivesNext TooLong old new
+Comes End old new = ⊥
+
 -- a line is at hand
 abbrev pub HasLine : List ℕ → Type 0
 HasLine held = ¬ IsOpen held

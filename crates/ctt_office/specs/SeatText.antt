@@ -1,44 +1,62 @@
 -- What a line of a seat asks for.
-use Rattle.std.specs.Prelude.{ℕ, ◌<◌, ◌&&◌, Bool, false, List, [], ◌∷◌, codes, length, nat_le, Option, Some, None, if◌then◌else◌}
+use Rattle.std.specs.Prelude.{ℕ, ◌<◌, List, [], ◌∷◌, codes, length, nat_le, Option, Some, None, Result, Ok, Err, if◌then◌else◌}
 use Rattle.std.specs.Str.{bytes_eq, is_utf8}
 use Rattle.ctt_text.specs.Problem.{Problem}
 use Rattle.ctt_text.specs.Words.{words}
 use Rattle.ctt_core.specs.Runs.{EventFits}
 use Rattle.ctt_core.specs.declared.event.Event.{Event}
-use Rattle.ctt_script.specs.ScriptText.{has_words, own_item}
+use Rattle.ctt_script.specs.ScriptText.{own_event}
+use Rattle.ctt_office.specs.BadWords.{bad_word, first_untext}
+use Rattle.ctt_office.specs.declared.seat_line.Alone.{Alone}
+use Rattle.ctt_office.specs.declared.seat_line.Alone.TheVariants as alone
 use Rattle.ctt_office.specs.declared.seat_line.SeatLine.{SeatLine}
-use Rattle.ctt_office.specs.declared.seat_line.SeatLine.TheVariants.{Bad, Blank, Help, Leave, Step}
+use Rattle.ctt_office.specs.declared.seat_line.SeatLine.TheVariants.{Bad, Blank, Help, Leave, Redo, Step, TooLong, Undo}
 
--- the words are this one alone
-abbrev pub are_only : List ℕ → List (List ℕ) → Bool
-are_only word [] = false
-are_only word (w ∷ []) = bytes_eq w word
-are_only word (w ∷ v ∷ ws) = false
+-- the words that are a whole line
+unfoldable pub alone_of : List ℕ → Option Alone
+alone_of word =
+    if bytes_eq word (codes "leave") then Some alone.Leave
+    else (if bytes_eq word (codes "help") then Some alone.Help
+    else (if bytes_eq word (codes "redo") then Some alone.Redo
+    else (if bytes_eq word (codes "undo") then Some alone.Undo else None)))
 
--- the line is text and has this word alone
-abbrev pub has_only : List ℕ → List ℕ → Bool
-has_only word line = is_utf8 line && are_only word (words line)
+abbrev pub line_of : Alone → SeatLine
+line_of alone.Leave = Leave
+line_of alone.Help = Help
+line_of alone.Redo = Redo
+line_of alone.Undo = Undo
 
-abbrev pub step_of : Option Event → SeatLine
-step_of None = Bad
-step_of (Some event) = Step event
+-- the step that was read of these words, or the number of the first that cannot stand
+abbrev pub step_line : List (List ℕ) → Result Event ℕ → SeatLine
+step_line ws (Ok event) = Step event
+step_line ws (Err at) = Bad (bad_word at ws)
 
--- what a line with words asks planner p for: to leave, help, a step, or nothing that is known
-abbrev pub worded_line : Problem → ℕ → List ℕ → SeatLine
-worded_line i p line = if has_only (codes "leave") line then Leave else (if has_only (codes "help") line then Help else step_of (own_item i p line))
+-- the word w and those after it, if w is a whole line, or else
+abbrev pub words_behind : Problem → ℕ → Option Alone → List ℕ → List (List ℕ) → SeatLine
+words_behind i p None w ws = step_line (w ∷ ws) (own_event i p (w ∷ ws))
+words_behind i p (Some a) w [] = line_of a
+words_behind i p (Some a) w (v ∷ ws) = Bad (bad_word 2 (w ∷ v ∷ ws))
 
--- what a line of planner p asks for: nothing without words
+-- what words ask planner p for: nothing where there is none
+abbrev pub words_line : Problem → ℕ → List (List ℕ) → SeatLine
+words_line i p [] = Blank
+words_line i p (w ∷ ws) = words_behind i p (alone_of w) w ws
+
+-- what a line of planner p asks for
 abbrev pub seat_line : Problem → ℕ → List ℕ → SeatLine
-seat_line i p line = if has_words line then worded_line i p line else Blank
+seat_line i p line = if is_utf8 line then words_line i p (words line) else Bad (record { at = first_untext 1 (words line); word = [] })
 
--- the same; a line that is too long is a bad one
+-- the same, of a line of any length
 abbrev pub asked_by : Problem → ℕ → List ℕ → SeatLine
-asked_by i p line = if nat_le (length line) 65536 then seat_line i p line else Bad
+asked_by i p line = if nat_le (length line) 65536 then seat_line i p line else TooLong
 
 -- a step that planner p of a desk can do
 abbrev pub LineFits : Problem → ℕ → SeatLine → Type 0
 LineFits i p Blank = Unit {0}
 LineFits i p Leave = Unit {0}
 LineFits i p Help = Unit {0}
-LineFits i p Bad = Unit {0}
+LineFits i p Redo = Unit {0}
+LineFits i p Undo = Unit {0}
+LineFits i p (Bad word) = Unit {0}
+LineFits i p TooLong = Unit {0}
 LineFits i p (Step event) = (planners : ℕ) → p < planners → EventFits i planners event

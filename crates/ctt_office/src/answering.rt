@@ -9,16 +9,21 @@ ghost use Rattle.ctt_crew.specs.CrewText.{ToldFits};
 ghost use Rattle.ctt_crew.specs.Seats.{open_entry};
 ghost use Rattle.ctt_crew.specs.declared.seat.Told.TheVariants.{Answer as Answered};
 ghost use Rattle.ctt_office.specs.Pages.{EndsWith, HasFailed, IsInMinutes};
-ghost use Rattle.ctt_office.specs.SeatAnswers.{Adds, Does, IsAnswer, IsCommitAlone, IsCommitAnswer, IsToldAnswer, IsOutcomeAnswer, IsStepAnswer, IsUncommitted, committed_line, help_line, left_line, not_written, told_line};
+ghost use Rattle.ctt_office.specs.SeatAnswers.{Adds, Does, IsAnswer, IsCommitAlone, IsCommitAnswer, IsToldAnswer, IsOutcomeAnswer, IsStepAnswer, IsUncommitted, Undoes, committed_line, help_line, left_line, not_written, told_line};
+ghost use Rattle.ctt_office.specs.Ended.{EndedFits, ended_after};
 ghost use Rattle.ctt_office.specs.SeatText.{LineFits};
 
 use crate::book::Book;
 use crate::durable::Durable;
+use crate::redoing::redo;
 use crate::seat_line::SeatLine;
+use crate::undoing::undo;
+use crate::workplace::{Workplace, calls_fit, ended_after};
 use ctt_board::Sheet;
 use ctt_core::{Answer, Event};
 use ctt_crew::{Seat, Told, write_told};
 use ctt_desk::{Naming, Receipt, SharedDesk};
+use ctt_draft::AskedCalls;
 use ctt_script::write_bad_line;
 use ctt_text::{Instance, NoMemory as OutOfMemory, let_go};
 use itoa::Buffer;
@@ -27,8 +32,8 @@ use std::sync::Wait;
 
 /// The line of the words with which a line may begin.
 const HELP: &str =
-    "words abandon cheapest commit cost course coursecost curriculum drop help leave \
-    missing move open peek place price refresh reroom show slot swap teacher\n";
+    "words abandon cheapest commit cost course coursecost curriculum drop help leave missing \
+    move open peek place price redo refresh reroom show slot status swap teacher undo\n";
 
 /// How much room is made for the line of an accepted draft.
 const COMMITTED: usize = 64;
@@ -65,18 +70,8 @@ fn add_committed(text: &mut String, number: u64)
     text.push('\n').unwrap();
 }
 
-/// Adds the line of a commit that was refused.
-fn write_refused(instance: &Instance, told: Told, text: &mut String) -> Result<(), AllocError>
-    requires { ToldFits instance.now told }
-    ensures { OnOk result (string_bytes text.new ≡ string_bytes text.old ++ told_line instance.now told) }
-{
-    let written = write_told(text, instance, &told);
-    let_go(told);
-    written
-}
-
-/// Adds the line of a commit that is not tried for want of memory.
-fn write_no_memory(instance: &Instance, text: &mut String) -> Result<(), AllocError>
+/// Adds the line of what is not done for want of memory.
+pub(crate) fn write_no_memory(instance: &Instance, text: &mut String) -> Result<(), AllocError>
     ensures { OnOk result (string_bytes text.new
         ≡ string_bytes text.old ++ told_line instance.now (Answered NoMemory)) }
 {
@@ -121,6 +116,25 @@ fn enter<J: Naming, W: Durable, R: Wait>(
     }
 }
 
+/// Adds the line of a commit that was refused. The calls of a draft that is stale are there then.
+fn refuse<'i, S: Sheet<'i>, J: Naming>(
+    instance: &Instance,
+    seat: Seat<'i, S, J>,
+    ended: Option<AskedCalls>,
+    told: Told,
+    text: &mut String,
+) -> (Workplace<'i, S, J>, Result<(), AllocError>)
+    requires { ToldFits instance.now told }
+    ensures line { OnOk result.1
+        (string_bytes text.new ≡ string_bytes text.old ++ told_line instance.now told) }
+    ensures seat { result.0.seat ≡ seat.entry }
+    ensures ended { result.0.ended ≡ ended_after told ended }
+{
+    let written = write_told(text, instance, &told);
+    let ended = ended_after(told, ended);
+    (Workplace { seat, ended }, written)
+}
+
 /// Commits the draft, and adds the line of the answer: it is reported as accepted if it is in the book.
 fn commit<'i, S: Sheet<'i>, J: Naming, W: Durable, R: Wait>(
     rt: &R,
@@ -128,29 +142,34 @@ fn commit<'i, S: Sheet<'i>, J: Naming, W: Durable, R: Wait>(
     desk: &SharedDesk<S, J>,
     instance: &Instance,
     book: &Book<W, J>,
-    seat: Seat<'i, S, J>,
+    place: Workplace<'i, S, J>,
     text: &mut String,
-) -> (Seat<'i, S, J>, Result<(), AllocError>)
-    requires { J.problem ≡ instance.now }
+) -> (Workplace<'i, S, J>, Result<(), AllocError>)
+    requires same { J.problem ≡ instance.now }
+    requires fits { EndedFits instance.now place.ended }
     ensures answered { OnOk result.1
         (Adds (IsCommitAnswer (IsInMinutes W.Sink.taken W.kept J.problem)
         (HasFailed W.Sink.taken W.Sink.has_failed J.problem) instance.now J.opening
-        seat.entry result.0) (string_bytes text.old) (string_bytes text.new)) }
-    ensures unanswered { OnErr result.1 (IsUncommitted seat.entry result.0) }
+        place.entry result.0) (string_bytes text.old) (string_bytes text.new)) }
+    ensures unanswered { OnErr result.1 (IsUncommitted place.entry result.0) }
+    ensures fits { EndedFits instance.now result.0.ended }
 {
     if book.has_failed(rt) {
-        return (seat, write_not_written(text));
+        return (place, write_not_written(text));
     }
+    let Workplace { seat, ended } = place;
+    calls_fit(&seat);
     let Ok(entry) = entry_of(alloc, &seat, text) else {
-        return (seat, write_no_memory(instance, text));
+        return (Workplace { seat, ended }, write_no_memory(instance, text));
     };
     let (seat, outcome) = seat.commit(rt, desk);
     match outcome {
         Ok(receipt) => {
             enter(rt, instance, book, &receipt, &entry, text);
-            (seat, Ok(()))
+            let_go(ended);
+            (Workplace { seat, ended: None }, Ok(()))
         }
-        Err(told) => (seat, write_refused(instance, told, text)),
+        Err(told) => refuse(instance, seat, ended, told, text),
     }
 }
 
@@ -159,25 +178,30 @@ fn commit_alone<'i, S: Sheet<'i>, J: Naming, R: Wait>(
     rt: &R,
     desk: &SharedDesk<S, J>,
     instance: &Instance,
-    seat: Seat<'i, S, J>,
+    place: Workplace<'i, S, J>,
     text: &mut String,
-) -> (Seat<'i, S, J>, Result<(), AllocError>)
-    requires { J.problem ≡ instance.now }
+) -> (Workplace<'i, S, J>, Result<(), AllocError>)
+    requires same { J.problem ≡ instance.now }
+    requires fits { EndedFits instance.now place.ended }
     ensures answered { OnOk result.1 (Adds
-        (IsCommitAlone instance.now J.opening seat.entry result.0)
+        (IsCommitAlone instance.now J.opening place.entry result.0)
         (string_bytes text.old) (string_bytes text.new)) }
-    ensures unanswered { OnErr result.1 (IsUncommitted seat.entry result.0) }
+    ensures unanswered { OnErr result.1 (IsUncommitted place.entry result.0) }
+    ensures fits { EndedFits instance.now result.0.ended }
 {
     if text.reserve(COMMITTED).is_err() {
-        return (seat, write_no_memory(instance, text));
+        return (place, write_no_memory(instance, text));
     }
+    let Workplace { seat, ended } = place;
+    calls_fit(&seat);
     let (seat, outcome) = seat.commit(rt, desk);
     match outcome {
         Ok(receipt) => {
             add_committed(text, receipt.number());
-            (seat, Ok(()))
+            let_go(ended);
+            (Workplace { seat, ended: None }, Ok(()))
         }
-        Err(told) => (seat, write_refused(instance, told, text)),
+        Err(told) => refuse(instance, seat, ended, told, text),
     }
 }
 
@@ -207,21 +231,25 @@ fn take<'i, S: Sheet<'i>, J: Naming, R: Wait>(
     rt: &R,
     desk: &SharedDesk<S, J>,
     instance: &Instance,
-    seat: Seat<'i, S, J>,
+    place: Workplace<'i, S, J>,
     event: Event,
     text: &mut String,
-) -> (Seat<'i, S, J>, Result<(), AllocError>)
+) -> (Workplace<'i, S, J>, Result<(), AllocError>)
     requires same { J.problem ≡ instance.now }
     requires fits { (n : ℕ) × EventFits J.problem n event }
+    requires ended { EndedFits instance.now place.ended }
     ensures answered { OnOk result.1
-        (Adds (IsToldAnswer instance.now J.opening event seat.entry result.0)
+        (Adds (IsToldAnswer instance.now J.opening event place.entry result.0)
         (string_bytes text.old) (string_bytes text.new)) }
-    ensures uncommitted { ((p : ℕ) → event ≢ Commit p) → IsUncommitted seat.entry result.0 }
+    ensures uncommitted { ((p : ℕ) → event ≢ Commit p) → IsUncommitted place.entry result.0 }
+    ensures fits { EndedFits instance.now result.0.ended }
 {
+    let Workplace { seat, ended } = place;
+    calls_fit(&seat);
     let (seat, told) = do_step(rt, desk, seat, event);
     let written = write_told(text, instance, &told);
-    let_go(told);
-    (seat, written)
+    let ended = ended_after(told, ended);
+    (Workplace { seat, ended }, written)
 }
 
 /// Does a step, and adds the line of the answer. Accepted drafts are entered into the book, if there is one.
@@ -231,25 +259,45 @@ fn step<'i, S: Sheet<'i>, J: Naming, W: Durable, R: Wait>(
     desk: &SharedDesk<S, J>,
     instance: &Instance,
     book: Option<&Book<W, J>>,
-    seat: Seat<'i, S, J>,
+    place: Workplace<'i, S, J>,
     event: Event,
     text: &mut String,
-) -> (Seat<'i, S, J>, Result<(), AllocError>)
+) -> (Workplace<'i, S, J>, Result<(), AllocError>)
     requires same { J.problem ≡ instance.now }
     requires fits { (n : ℕ) × EventFits J.problem n event }
+    requires ended { EndedFits instance.now place.ended }
     ensures answered { OnOk result.1
         (Adds (IsStepAnswer book.entry (IsInMinutes W.Sink.taken W.kept J.problem)
         (HasFailed W.Sink.taken W.Sink.has_failed J.problem) instance.now J.opening event
-        seat.entry result.0) (string_bytes text.old) (string_bytes text.new)) }
-    ensures unanswered { OnErr result.1 (IsUncommitted seat.entry result.0) }
+        place.entry result.0) (string_bytes text.old) (string_bytes text.new)) }
+    ensures unanswered { OnErr result.1 (IsUncommitted place.entry result.0) }
+    ensures fits { EndedFits instance.now result.0.ended }
 {
     match event {
         Event::Commit(_) => match book {
-            Some(book) => commit(rt, alloc, desk, instance, book, seat, text),
-            None => commit_alone(rt, desk, instance, seat, text),
+            Some(book) => commit(rt, alloc, desk, instance, book, place, text),
+            None => commit_alone(rt, desk, instance, place, text),
         },
-        _ => take(rt, desk, instance, seat, event, text),
+        _ => take(rt, desk, instance, place, event, text),
     }
+}
+
+/// Takes the last edit back, and adds the line of the answer.
+fn undo_at<'i, S: Sheet<'i>, J: Naming>(
+    instance: &Instance,
+    place: Workplace<'i, S, J>,
+    text: &mut String,
+) -> (Workplace<'i, S, J>, Result<(), AllocError>)
+    requires { J.problem ≡ instance.now }
+    ensures answered { OnOk result.1 (Adds (Undoes instance.now place.entry.seat result.0.seat)
+        (string_bytes text.old) (string_bytes text.new)) }
+    ensures unanswered { IsUncommitted place.entry result.0 }
+    ensures ended { result.0.ended ≡ place.entry.ended }
+{
+    let Workplace { seat, ended } = place;
+    let mut seat = seat;
+    let written = undo(&mut seat, instance, text);
+    (Workplace { seat, ended }, written)
 }
 
 /// Answers a line of a seat, and adds the line of the answer, if it has one.
@@ -261,23 +309,28 @@ pub(crate) fn answer<'i, S: Sheet<'i>, J: Naming, W: Durable, R: Wait>(
     desk: &SharedDesk<S, J>,
     instance: &Instance,
     book: Option<&Book<W, J>>,
-    seat: Seat<'i, S, J>,
-    line: SeatLine,
+    place: Workplace<'i, S, J>,
+    line: &SeatLine,
     text: &mut String,
-) -> (Seat<'i, S, J>, Result<(), AllocError>)
+) -> (Workplace<'i, S, J>, Result<(), AllocError>)
     requires same { J.problem ≡ instance.now }
-    requires fits { (p : ℕ) × LineFits instance.now p line }
+    requires fits { (p : ℕ) × LineFits instance.now p line.now }
+    requires ended { EndedFits instance.now place.ended }
     ensures answered { OnOk result.1
         (Adds (IsAnswer book.entry (IsInMinutes W.Sink.taken W.kept J.problem)
-        (HasFailed W.Sink.taken W.Sink.has_failed J.problem) instance.now J.opening line
-        seat.entry result.0) (string_bytes text.old) (string_bytes text.new)) }
-    ensures unanswered { OnErr result.1 (IsUncommitted seat.entry result.0) }
+        (HasFailed W.Sink.taken W.Sink.has_failed J.problem) instance.now J.opening line.now
+        place.entry result.0) (string_bytes text.old) (string_bytes text.new)) }
+    ensures unanswered { OnErr result.1 (IsUncommitted place.entry result.0) }
+    ensures fits { EndedFits instance.now result.0.ended }
 {
     match line {
-        SeatLine::Blank => (seat, Ok(())),
-        SeatLine::Leave => (seat, write_left(text)),
-        SeatLine::Help => (seat, write_help(text)),
-        SeatLine::Bad => (seat, write_bad_line(text)),
-        SeatLine::Step(event) => step(rt, alloc, desk, instance, book, seat, event, text),
+        SeatLine::Blank => (place, Ok(())),
+        SeatLine::Leave => (place, write_left(text)),
+        SeatLine::Help => (place, write_help(text)),
+        SeatLine::Redo => redo(alloc, instance, place, text),
+        SeatLine::Undo => undo_at(instance, place, text),
+        SeatLine::Bad(word) => (place, word.write(text)),
+        SeatLine::TooLong => (place, write_bad_line(text)),
+        SeatLine::Step(event) => step(rt, alloc, desk, instance, book, place, *event, text),
     }
 }

@@ -3,16 +3,22 @@
 #![tactic(auto)]
 
 mod answering;
+mod bad_word;
 mod blocks;
 mod book;
 mod doors;
 mod durable;
+pub mod laws;
 mod line_reader;
 mod office;
 mod office_fault;
+mod redoing;
 mod seat_line;
 mod sitting;
+mod undoing;
+mod workplace;
 
+pub use bad_word::BadWord;
 pub use blocks::{Blocks, read_blocks};
 pub use doors::Doors;
 pub use durable::Durable;

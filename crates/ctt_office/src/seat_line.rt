@@ -1,57 +1,115 @@
 //! What a line of a seat asks for.
 
 ghost use Rattle.std.specs.Prelude.{◌≡◌};
-ghost use Rattle.ctt_office.specs.SeatText.{LineFits, has_only, seat_line};
+ghost use Rattle.ctt_text.specs.Words.{words};
+ghost use Rattle.ctt_script.specs.ScriptText.{own_event};
+ghost use Rattle.ctt_office.specs.SeatText.{LineFits, alone_of, line_of, seat_line, step_line, words_line};
 
+use crate::bad_word::BadWord;
 use ctt_core::{Event, PlannerNo};
-use ctt_script::{has_words, is_word, read_own_line};
+use ctt_script::{is_word, read_own_text};
 use ctt_text::{Instance, Reader};
 
 /// What a line of a seat asks for.
-#[derive(Clone, Copy)]
-pub enum SeatLine {
+#[derive(Drop)]
+pub enum SeatLine<'a> {
     /// Nothing: it has no words.
     Blank,
     /// To leave.
     Leave,
     /// The words with which a line may begin.
     Help,
+    /// To make the edits of the draft again that ended stale last.
+    Redo,
+    /// To take the last edit back.
+    Undo,
     /// A step of the planner, or a look.
     Step(Event),
-    /// Nothing that is known.
-    Bad,
+    /// Nothing that is known, by this word.
+    Bad(BadWord<'a>),
+    /// Nothing: it is too long to be read.
+    TooLong,
 }
 
-/// Whether a line has this word alone.
-fn has_only(known: &str, line: &[u8]) -> bool
-    ensures { result ≡ has_only known.now line.now }
+/// A word that is a whole line.
+#[derive(Clone, Copy)]
+pub(crate) enum Alone {
+    Leave,
+    Help,
+    Redo,
+    Undo,
+}
+
+/// Which whole line a word is.
+#[tactic(auto, unfolding(crate::specs::SeatText::alone_of))]
+fn alone_of(word: &str) -> Option<Alone>
+    ensures { result ≡ alone_of word.now }
 {
-    let Ok(text) = str::from_utf8(line) else {
-        return false;
-    };
+    if is_word(word, "leave") {
+        Some(Alone::Leave)
+    } else if is_word(word, "help") {
+        Some(Alone::Help)
+    } else if is_word(word, "redo") {
+        Some(Alone::Redo)
+    } else if is_word(word, "undo") {
+        Some(Alone::Undo)
+    } else {
+        None
+    }
+}
+
+/// What a whole line asks for that is one word.
+fn line_of<'a>(word: Alone) -> SeatLine<'a>
+    ensures { result ≡ line_of word }
+{
+    match word {
+        Alone::Leave => SeatLine::Leave,
+        Alone::Help => SeatLine::Help,
+        Alone::Redo => SeatLine::Redo,
+        Alone::Undo => SeatLine::Undo,
+    }
+}
+
+/// The step that a text asks for, or its first word that cannot stand.
+fn read_step<'a>(instance: &Instance, planner: PlannerNo, text: &'a str) -> SeatLine<'a>
+    ensures line { result ≡ step_line (words text.now)
+        (own_event instance.now planner (words text.now)) }
+    ensures fits { LineFits instance.now planner result }
+{
+    match read_own_text(instance, planner, text) {
+        Ok(event) => SeatLine::Step(event),
+        Err(at) => SeatLine::Bad(BadWord::of(text, at)),
+    }
+}
+
+/// What a text asks for.
+fn read_text<'a>(instance: &Instance, planner: PlannerNo, text: &'a str) -> SeatLine<'a>
+    ensures line { result ≡ words_line instance.now planner (words text.now) }
+    ensures fits { LineFits instance.now planner result }
+{
     let mut reader = Reader::new(text);
-    match reader.word() {
-        Some(first) => reader.is_at_end() && is_word(first, known),
-        None => false,
+    let Some(first) = reader.word() else {
+        return SeatLine::Blank;
+    };
+    match alone_of(first) {
+        Some(word) => {
+            if reader.is_at_end() {
+                line_of(word)
+            } else {
+                SeatLine::Bad(BadWord::of(text, 2))
+            }
+        }
+        None => read_step(instance, planner, text),
     }
 }
 
 /// What a line of a planner's seat asks for.
-pub fn read_seat_line(instance: &Instance, planner: PlannerNo, line: &[u8]) -> SeatLine
+pub fn read_seat_line<'a>(instance: &Instance, planner: PlannerNo, line: &'a [u8]) -> SeatLine<'a>
     ensures line { result ≡ seat_line instance.now planner line.now }
     ensures fits { LineFits instance.now planner result }
 {
-    if !has_words(line) {
-        return SeatLine::Blank;
-    }
-    if has_only("leave", line) {
-        return SeatLine::Leave;
-    }
-    if has_only("help", line) {
-        return SeatLine::Help;
-    }
-    match read_own_line(instance, planner, line) {
-        Some(event) => SeatLine::Step(event),
-        None => SeatLine::Bad,
+    match str::from_utf8(line) {
+        Ok(text) => read_text(instance, planner, text),
+        Err(_) => SeatLine::Bad(BadWord::first_untext(line)),
     }
 }

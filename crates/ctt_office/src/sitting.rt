@@ -3,9 +3,10 @@
 ghost use Rattle.std.specs.Prelude.{◌≡◌, ◌≢◌, ◌⊎◌, ℕ, true, false, Err, IfErr, IfOk, OnErr, OnOk};
 ghost use Rattle.std.specs.Io.KnownBytes.{Appends};
 ghost use Rattle.ctt_devices.specs.Output.{AppendsFront};
-ghost use Rattle.ctt_office.specs.Lines.{Gives, coming};
+ghost use Rattle.ctt_office.specs.Lines.{Comes, Gives, ReaderValue, coming};
 ghost use Rattle.ctt_crew.specs.Attended.{leaver};
 ghost use Rattle.ctt_office.specs.Pages.{HasFailed, IsInMinutes};
+ghost use Rattle.ctt_office.specs.Ended.{EndedFits};
 ghost use Rattle.ctt_office.specs.SeatAnswers.{IsAnswer, IsUncommitted, Tells};
 ghost use Rattle.ctt_office.specs.SeatText.{LineFits, asked_by};
 ghost use Rattle.ctt_office.specs.Sittings.{EndsAt, IsBroken, IsCut, IsSat};
@@ -19,9 +20,9 @@ use crate::durable::Durable;
 use crate::line_reader::{LineReader, Next};
 use crate::office_fault::SeatFault;
 use crate::seat_line::{SeatLine, read_seat_line};
+use crate::workplace::Workplace;
 use ctt_board::{GridSheet, Sheet, Timetable};
 use ctt_core::PlannerNo;
-use ctt_crew::Seat;
 use ctt_desk::{Naming, Planner, SharedDesk};
 use ctt_devices::{Failed, Sink, Source, put_whole};
 use ctt_text::{Instance, let_go};
@@ -66,24 +67,28 @@ pub(crate) struct Station<'i, 'x, J: Naming, D: Doors, W: Durable> {
     ghost same: { J.problem ≡ instance.now },
 }
 
-/// What the next line asks for; none where none comes any more.
-fn next_line<I: Source, R: Wait>(
-    rt: &R,
-    instance: &Instance,
-    planner: PlannerNo,
-    lines: &mut LineReader<I>,
-) -> Result<SeatLine, Ending>
-    ensures fits { IfOk result (LineFits instance.now planner) }
-    ensures asked { IfOk result (λ line.
-        Gives (λ bytes. line ≡ asked_by instance.now planner bytes)
-        (coming lines.old) (coming lines.new)) }
+/// Whether the next line is at hand, or is too long; none where none comes any more.
+fn next_line<I: Source, R: Wait>(rt: &R, lines: &mut LineReader<I>) -> Result<Next, Ending>
+    ensures comes { IfOk result (λ next. Comes next lines.old lines.new) }
     ensures end { IfErr result (EndsAt (coming lines.old) lines.new.has_failed) }
 {
     match lines.next(rt) {
-        Ok(Next::Line) => Ok(read_seat_line(instance, planner, lines.line())),
-        Ok(Next::TooLong) => Ok(SeatLine::Bad),
+        Ok(Next::Line) => Ok(Next::Line),
+        Ok(Next::TooLong) => Ok(Next::TooLong),
         Ok(Next::End) => Err(Ending::Ended),
         Err(_) => Err(Ending::Broken),
+    }
+}
+
+/// What a line asks for that has come.
+fn line_of<'a>(instance: &Instance, planner: PlannerNo, next: Next, bytes: &'a [u8]) -> SeatLine<'a>
+    ensures fits { LineFits instance.now planner result }
+    ensures asked { (old new : ReaderValue) → Comes next old new → bytes.now ≡ new.line
+        → Gives (λ line. result ≡ asked_by instance.now planner line) (coming old) (coming new) }
+{
+    match next {
+        Next::Line => read_seat_line(instance, planner, bytes),
+        _ => SeatLine::TooLong,
     }
 }
 
@@ -95,31 +100,33 @@ fn serve<'i, S: Sheet<'i>, J: Naming, W: Durable, O: Sink, R: Wait>(
     desk: &SharedDesk<S, J>,
     instance: &Instance,
     book: Option<&Book<W, J>>,
-    seat: Seat<'i, S, J>,
+    place: Workplace<'i, S, J>,
     line: &SeatLine,
     out: &mut O,
-) -> (Seat<'i, S, J>, Result<(), Ending>)
+) -> (Workplace<'i, S, J>, Result<(), Ending>)
     requires same { J.problem ≡ instance.now }
     requires fits { (p : ℕ) × LineFits instance.now p line.now }
+    requires ended { EndedFits instance.now place.ended }
     ensures told { OnOk result.1
         (Tells (IsAnswer book.entry (IsInMinutes W.Sink.taken W.kept J.problem)
         (HasFailed W.Sink.taken W.Sink.has_failed J.problem) instance.now J.opening line.now
-        seat.entry result.0) (O.taken out.old) (O.taken out.new)) }
+        place.entry result.0) (O.taken out.old) (O.taken out.new)) }
     ensures cut { IfErr result.1
         (IsCut (IsAnswer book.entry (IsInMinutes W.Sink.taken W.kept J.problem)
         (HasFailed W.Sink.taken W.Sink.has_failed J.problem) instance.now J.opening line.now
-        seat.entry result.0) (O.taken out.old) (O.taken out.new)) }
+        place.entry result.0) (O.taken out.old) (O.taken out.new)) }
     ensures broken { IfErr result.1 (IsBroken (O.has_failed out.new)) }
-    ensures unheard { result.1 ≡ Err NoMemory → IsUncommitted seat.entry result.0 }
+    ensures unheard { result.1 ≡ Err NoMemory → IsUncommitted place.entry result.0 }
+    ensures fits { EndedFits instance.now result.0.ended }
 {
     let mut text = String::new(alloc);
-    let (seat, written) = answer(rt, alloc, desk, instance, book, seat, *line, &mut text);
+    let (place, written) = answer(rt, alloc, desk, instance, book, place, line, &mut text);
     if written.is_err() {
-        return (seat, Err(Ending::NoMemory));
+        return (place, Err(Ending::NoMemory));
     }
     match say(out, text.as_bytes()) {
-        Ok(()) => (seat, Ok(())),
-        Err(_) => (seat, Err(Ending::Broken)),
+        Ok(()) => (place, Ok(())),
+        Err(_) => (place, Err(Ending::Broken)),
     }
 }
 
@@ -128,7 +135,7 @@ fn is_last(line: &SeatLine) -> bool
     ensures yes { result ≡ true → line.now ≡ Leave }
     ensures no { result ≡ false → line.now ≢ Leave }
 {
-    match *line {
+    match line {
         SeatLine::Leave => true,
         _ => false,
     }
@@ -144,36 +151,38 @@ fn sit<'i, S: Sheet<'i>, J: Naming, W: Durable, I: Source, O: Sink, R: Wait>(
     instance: &Instance,
     book: Option<&Book<W, J>>,
     number: PlannerNo,
-    seat: Seat<'i, S, J>,
+    place: Workplace<'i, S, J>,
     lines: &mut LineReader<I>,
     out: &mut O,
 ) -> (Planner<S, J>, Ending)
-    requires { J.problem ≡ instance.now }
+    requires same { J.problem ≡ instance.now }
+    requires fits { EndedFits instance.now place.ended }
     ensures sat { IsSat (asked_by instance.now number)
         (IsAnswer book.entry (IsInMinutes W.Sink.taken W.kept J.problem)
         (HasFailed W.Sink.taken W.Sink.has_failed J.problem) instance.now J.opening)
-        (λ after. result.0 ≡ leaver after)
-        (λ after. result.0.committed ≡ (leaver after).committed)
-        seat.entry (coming lines.old) (O.taken out.old) (O.taken out.new) result.1 }
+        (λ after. result.0 ≡ leaver after.seat)
+        (λ after. result.0.committed ≡ (leaver after.seat).committed)
+        place.entry (coming lines.old) (O.taken out.old) (O.taken out.new) result.1 }
     ensures broken { result.1 ≡ Broken
         → (lines.new.has_failed ≡ true) ⊎ (O.has_failed out.new ≡ true) }
 {
-    let mut seat = seat;
+    let mut place = place;
     for _ in rt.forever() {
-        let line = match next_line(rt, instance, number, lines) {
-            Ok(line) => line,
-            Err(end) => return (seat.leave(), end),
+        let next = match next_line(rt, lines) {
+            Ok(next) => next,
+            Err(end) => return (place.leave(), end),
         };
+        let line = line_of(instance, number, next, lines.line());
         let is_last = is_last(&line);
-        let (next, served) = serve(rt, alloc, desk, instance, book, seat, &line, out);
-        seat = next;
+        let (after, served) = serve(rt, alloc, desk, instance, book, place, &line, out);
+        place = after;
         match served {
             Ok(()) => {
                 if is_last {
-                    return (seat.leave(), Ending::Left);
+                    return (place.leave(), Ending::Left);
                 }
             }
-            Err(cut) => return (seat.leave(), cut),
+            Err(cut) => return (place.leave(), cut),
         }
     }
     unreachable!()
@@ -208,9 +217,9 @@ fn open_and_sit<'i, 'x, S: Sheet<'i>, J: Naming, D: Doors, W: Durable, R: Wait>(
         let_go(planner);
         return Err(SeatFault::NoMemory);
     };
-    let seat = Seat::Free(planner);
+    let place = Workplace::new(planner);
     let (planner, ending) = sit(
-        rt, alloc, desk, instance, book, number, seat, &mut lines, &mut out,
+        rt, alloc, desk, instance, book, number, place, &mut lines, &mut out,
     );
     let_go(planner);
     match ending {

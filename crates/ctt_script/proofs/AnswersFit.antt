@@ -18,9 +18,9 @@ use Rattle.ctt_edits.specs.declared.looks.Look.{Look}
 use Rattle.ctt_draft.specs.Drafts.{calls_of, whole, all_read_course, all_read_slot, all_reads, differs, stale}
 use Rattle.ctt_draft.proofs.CallRuns.{lawful_whole}
 use Rattle.ctt_core.specs.declared.event.Event.{Event}
-use Rattle.ctt_core.specs.declared.event.Event.TheVariants.{Open, Ask, Peek, Commit, Refresh, Abandon, Show}
+use Rattle.ctt_core.specs.declared.event.Event.TheVariants.{Open, Ask, Peek, Status, Commit, Refresh, Abandon, Show}
 use Rattle.ctt_core.specs.declared.journal.JournalEntry.{JournalEntry}
-use Rattle.ctt_core.specs.Runs.{Turn, OpenDraft, commits, draft, accepted_of, now, base, open_answer, ask_answer, peek_answer, acceptance, commit_answer, renewal, refresh_answer, abandon_answer, plain, Right, EventFits, RunFits}
+use Rattle.ctt_core.specs.Runs.{Turn, OpenDraft, commits, draft, accepted_of, now, base, open_answer, ask_answer, peek_answer, status_answer, acceptance, commit_answer, renewal, refresh_answer, abandon_answer, plain, Right, EventFits, RunFits}
 use Rattle.ctt_core.proofs.RunLemmas.{GoodDraft, Good, right_is_good, lawful_after, Each-join, Each-take}
 use Rattle.ctt_core.proofs.JournalLemmas.{FitsShort, IsSmallEntry, all_small, few_commits, history_fits, journal_fits}
 use Rattle.ctt_core.proofs.RunLemmas.{CallsFit}
@@ -89,6 +89,10 @@ module _ (i : Problem) (is : IsProblem i) where
           let at_base : Lawful i (base i t0 past mine) = lawful_after i t0 (take mine.count (accepted_of past)) lawful (Each-take (CallsFit i) mine.count (accepted_of past) g.fit) in
           (reply_fits i is (whole i (base i t0 past mine) (calls_of mine.asked)) (lawful_whole i (base i t0 past mine) (calls_of mine.asked) at_base d.2) (Looks look) f).0
 
+      status_fits : (o : Option OpenDraft) → AnswerFits i (status_answer i t0 past o)
+      status_fits None = tt
+      status_fits (Some mine) = stale_fits i (base i t0 past mine) (now i t0 past) (calls_of mine.asked)
+
       commit_fits : (o : Option OpenDraft) → AnswerFits i (commit_answer i t0 past o)
       commit_fits None = tt
       commit_fits (Some mine) =
@@ -113,6 +117,7 @@ module _ (i : Problem) (is : IsProblem i) where
       plain_fits n (Open p) f = open_fits (draft p past)
       plain_fits n (Ask p call) f = ask_fits call (draft p past) f.1 (g.good p)
       plain_fits n (Peek p look) f = peek_fits look (draft p past) f.1 (g.good p)
+      plain_fits n (Status p) f = status_fits (draft p past)
       plain_fits n (Commit p) f = commit_fits (draft p past)
       plain_fits n (Refresh p) f = refresh_fits (draft p past)
       plain_fits n (Abandon p) f = abandon_fits (draft p past)

@@ -1,11 +1,11 @@
 -- What the words of a script's line give fits the instance.
-use Rattle.std.proofs.Common.{◌≡◌, ℕ, ◌<◌, List, Bool, true, false, cond, Option, Some, None, refl, sym, subst}
-use Rattle.std.specs.Prelude.{codes, IfSome}
+use Rattle.std.proofs.Common.{◌≡◌, ℕ, ◌<◌, List, Bool, true, false, cond, Option, Some, None, Result, Ok, Err, refl, sym, subst}
+use Rattle.std.specs.Prelude.{codes, IfOk, IfSome}
 use Rattle.std.specs.Str.{bytes_eq}
 use Rattle.std.specs.Option.{option_map}
 use Rattle.ctt_text.specs.Words.{words}
 use Rattle.ctt_text.specs.Problem.{Problem, IsProblem}
-use Rattle.ctt_text.specs.Forms.{Form, done, ◌>>=◌}
+use Rattle.ctt_text.specs.Forms.{Form, done, read, ◌>>=◌}
 use Rattle.ctt_core.specs.declared.event.Event.{Event}
 use Rattle.ctt_core.specs.declared.event.Event.TheVariants.{Show}
 use Rattle.ctt_core.specs.Runs.{EventFits}
@@ -19,10 +19,11 @@ use Rattle.ctt_script.specs.declared.script.OwnStart.TheVariants as own
 use Rattle.ctt_script.specs.Amounts.{number_below}
 use Rattle.ctt_script.specs.CallPlaces.{look_form}
 use Rattle.ctt_script.specs.ScriptPlaces.{first_of, step_after, event_after, event_form, own_after, own_form}
-use Rattle.ctt_script.specs.ScriptText.{item_by, item, own_item}
+use Rattle.ctt_script.specs.JournalWords.{missing}
+use Rattle.ctt_script.specs.ScriptText.{item_by, item, own_event, own_item}
 use Rattle.ctt_text.proofs.FormLaws.{Yields, yields_done, yields_bind}
 use Rattle.ctt_script.proofs.CallLemmas.{is_below, yields_meaning, yields_any, yields_call_after, yields_look}
-use Rattle.ctt_script.proofs.ScriptLaws.{item_fills}
+use Rattle.ctt_script.proofs.ScriptLaws.{asked_fills, item_fills, word_or_none}
 
 -- a planner who begins a line is one of 64
 abbrev IsStart : Start → Type 0
@@ -45,6 +46,7 @@ module _ (i : Problem) (is : IsProblem i) where
   yields_step n p lt step.Commit = yields_done JournalFault (EventFits i n) _ lt
   yields_step n p lt step.Refresh = yields_done JournalFault (EventFits i n) _ lt
   yields_step n p lt step.Abandon = yields_done JournalFault (EventFits i n) _ lt
+  yields_step n p lt step.Status = yields_done JournalFault (EventFits i n) _ lt
   yields_step n p lt step.Peek = yields_bind _ (EventFits i n) _ _ (yields_look i is) (λ l f. yields_done JournalFault (EventFits i n) _ (lt, f))
   yields_step n p lt (step.Ask k) = yields_bind _ (EventFits i n) _ _ (yields_call_after i is k) (λ c f. yields_done JournalFault (EventFits i n) _ (lt, f))
 
@@ -79,3 +81,8 @@ module _ (i : Problem) (is : IsProblem i) where
 
   pub own_item_fits : (n p : ℕ) → p < n → (line : List ℕ) (o : Option Event) → o ≡ own_item i p line → IfSome o (EventFits i n)
   own_item_fits n p lt line o h = item_by_fits n (own_form i p) (yields_own n p lt) line o h
+
+  -- an event of words, read with the number of the first that cannot stand, or without
+  pub own_event_fits : (n p : ℕ) → p < n → (ws : List (List ℕ)) (r : Result Event ℕ) → r ≡ own_event i p ws → IfOk r (EventFits i n)
+  own_event_fits n p lt ws (Ok e) h = yields_own n p lt ws e (asked_fills (own_form i p) ws e (word_or_none e (read missing (own_form i p) ws 1) (sym h)))
+  own_event_fits n p lt ws (Err k) h = tt

@@ -24,7 +24,7 @@ use Rattle.ctt_script.specs.declared.journal_fault.JournalFault.{JournalFault}
 use Rattle.ctt_core.specs.declared.event.Event.{Event}
 use Rattle.ctt_script.specs.JournalWords.{missing, reads}
 use Rattle.ctt_script.specs.ScriptPlaces.{event_form, own_form}
-use Rattle.ctt_script.specs.ScriptText.{whole, if_none_left, asked_by, item_by, item, own_item, has_words, lines_of, items_of}
+use Rattle.ctt_script.specs.ScriptText.{whole, whole_or_word, or_left, if_none_left, asked_by, item_by, item, own_item, has_words, lines_of, items_of}
 
 -- what was read whole has nothing left
 abbrev IsWhole : {A : Type 0} → A → Result (A × Left) JournalFault → Type 0
@@ -39,6 +39,15 @@ whole_by a b left (w ∷ ws) e h = cc
 whole_is : {A : Type 0} (a : A) (r : Result (A × Left) JournalFault) → whole r ≡ Some a → IsWhole a r
 whole_is a (Ok x) h = whole_by a x.0 x.1 x.1.words refl h
 whole_is a (Err e) h = cc
+
+or_left_is : {A : Type 0} (a b : A) (ws : List (List ℕ)) (n : ℕ) → or_left b ws n ≡ Ok a → if_none_left b ws ≡ Some a
+or_left_is a b [] n h = let same : b ≡ a = cc in ap Some same
+or_left_is a b (w ∷ ws) n h = cc
+
+-- what was read whole is the same with a number for the first word that cannot stand, and without
+pub word_or_none : {A : Type 0} (a : A) (r : Result (A × Left) JournalFault) → whole_or_word r ≡ Ok a → whole r ≡ Some a
+word_or_none a (Ok x) h = or_left_is a x.0 x.1.words x.1.next h
+word_or_none a (Err e) h = cc
 
 -- an event is asked for exactly by the words that fill the form with it
 pub asked_fills : (form : Form JournalFault Event) (ws : List (List ℕ)) (e : Event) → asked_by form ws ≡ Some e → Fills form ws e

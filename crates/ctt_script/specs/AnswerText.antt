@@ -7,8 +7,9 @@ use Rattle.ctt_edits.specs.declared.row.Row.{Row}
 use Rattle.ctt_edits.specs.declared.row.Row.TheVariants.{Course as CourseRow, Slot as SlotRow}
 use Rattle.ctt_core.specs.Runs.{Turn, plain}
 use Rattle.ctt_core.specs.declared.answer.Answer.{Answer}
-use Rattle.ctt_core.specs.declared.answer.Answer.TheVariants.{Opened, AlreadyOpen, NoDraft, Replied, Committed, Refreshed, Stale, Abandoned, NoMemory}
+use Rattle.ctt_core.specs.declared.answer.Answer.TheVariants.{Opened, AlreadyOpen, NoDraft, Replied, Draft, Committed, Refreshed, Stale, Abandoned, NoMemory}
 use Rattle.ctt_core.specs.declared.event.Event.{Event}
+use Rattle.ctt_core.specs.declared.standing.Standing.{Standing}
 use Rattle.ctt_script.specs.ScriptText.{script}
 use Rattle.ctt_script.specs.WrittenText.{line}
 use Rattle.ctt_script.specs.WrittenWords.{course_word, day_word, period_word, reply_words}
@@ -17,11 +18,20 @@ abbrev pub row_words : Problem → Row → List (List ℕ)
 row_words i (CourseRow c) = codes "course" ∷ course_word i c ∷ []
 row_words i (SlotRow s) = codes "slot" ∷ day_word i s ∷ period_word i s ∷ []
 
+-- fresh, or stale by a row
+abbrev pub freshness_words : Problem → Option Row → List (List ℕ)
+freshness_words i None = codes "fresh" ∷ []
+freshness_words i (Some row) = codes "stale" ∷ row_words i row
+
+abbrev pub standing_words : Problem → Standing → List (List ℕ)
+standing_words i s = codes "draft" ∷ decimal s.edits ∷ decimal s.behind ∷ freshness_words i s.stale
+
 abbrev pub answer_words : Problem → Answer → List (List ℕ)
 answer_words i Opened = codes "opened" ∷ []
 answer_words i AlreadyOpen = codes "already" ∷ codes "open" ∷ []
 answer_words i NoDraft = codes "no" ∷ codes "draft" ∷ []
 answer_words i (Replied r) = reply_words i r
+answer_words i (Draft s) = standing_words i s
 answer_words i (Committed n) = codes "committed" ∷ decimal n ∷ []
 answer_words i (Stale row) = codes "stale" ∷ row_words i row
 answer_words i Refreshed = codes "refreshed" ∷ []

@@ -1,5 +1,5 @@
 -- Which answers and entries can be written.
-use Rattle.std.specs.Prelude.{◌<◌, List}
+use Rattle.std.specs.Prelude.{◌<◌, List, IfSome}
 use Rattle.std.specs.List.{AllByRecursion as Each}
 use Rattle.ctt_text.specs.Problem.{Problem, course_count, slot_count}
 use Rattle.ctt_edits.specs.Fitting.{ReplyFits, AreFew, IsShortReply}
@@ -9,7 +9,7 @@ use Rattle.ctt_draft.specs.Drafts.{AskedFits}
 use Rattle.ctt_draft.specs.declared.asked.Asked.{Asked}
 use Rattle.ctt_core.specs.Entries.{EntryFits}
 use Rattle.ctt_core.specs.declared.answer.Answer.{Answer}
-use Rattle.ctt_core.specs.declared.answer.Answer.TheVariants.{Replied, Stale}
+use Rattle.ctt_core.specs.declared.answer.Answer.TheVariants.{Replied, Draft, Stale}
 use Rattle.ctt_core.specs.declared.journal.JournalEntry.{JournalEntry}
 
 -- its calls are few, and its replies short
@@ -31,6 +31,7 @@ RowFits i (SlotRow s) = s < slot_count i
 -- an answer that can be written
 abbrev pub AnswerFits : Problem → Answer → Type 0
 AnswerFits i (Replied reply) = ReplyFits i reply
+AnswerFits i (Draft s) = IfSome s.stale (RowFits i)
 AnswerFits i (Stale row) = RowFits i row
 AnswerFits i answer = Unit {0}
 

@@ -11,7 +11,7 @@ use Rattle.ctt_script.specs.declared.kinds.PatternKind.TheVariants as pattern
 use Rattle.ctt_script.specs.declared.kinds.CallKind.{CallKind}
 use Rattle.ctt_script.specs.declared.kinds.CallKind.TheVariants.{Edit, Look}
 use Rattle.ctt_script.specs.declared.kinds.StepKind.{StepKind}
-use Rattle.ctt_script.specs.declared.kinds.StepKind.TheVariants.{Open, Commit, Refresh, Abandon, Peek, Ask}
+use Rattle.ctt_script.specs.declared.kinds.StepKind.TheVariants.{Open, Commit, Refresh, Abandon, Peek, Status, Ask}
 use Rattle.ctt_script.specs.declared.kinds.ReplyKind.{ReplyKind}
 use Rattle.ctt_script.specs.declared.kinds.ReplyKind.TheVariants.{Done, Refused, Lectures, Costs, Price as Priced, Missing as AreMissing, Edits as AreCheapest}
 use Rattle.ctt_script.specs.declared.kinds.FaultKind.{FaultKind}
@@ -62,6 +62,7 @@ step_kind word =
     else if bytes_eq word (codes "refresh") then Some Refresh
     else if bytes_eq word (codes "abandon") then Some Abandon
     else if bytes_eq word (codes "peek") then Some Peek
+    else if bytes_eq word (codes "status") then Some Status
     else option_map Ask (call_kind word)
 
 unfoldable pub reply_kind : List ℕ → Option ReplyKind

@@ -6,7 +6,7 @@ use Rattle.ctt_text.specs.Problem.{Problem}
 use Rattle.ctt_text.specs.Forms.{Form, done, ◌>>=◌}
 use Rattle.ctt_script.specs.declared.journal_fault.JournalFault.{JournalFault}
 use Rattle.ctt_core.specs.declared.event.Event.{Event}
-use Rattle.ctt_core.specs.declared.event.Event.TheVariants.{Open, Ask, Peek, Commit, Refresh, Abandon, Show}
+use Rattle.ctt_core.specs.declared.event.Event.TheVariants.{Open, Ask, Peek, Status, Commit, Refresh, Abandon, Show}
 use Rattle.ctt_script.specs.declared.kinds.StepKind.{StepKind}
 use Rattle.ctt_script.specs.declared.kinds.StepKind.TheVariants as step
 use Rattle.ctt_script.specs.declared.script.Start.{Start}
@@ -28,6 +28,7 @@ step_after i p step.Open = done (Open p)
 step_after i p step.Commit = done (Commit p)
 step_after i p step.Refresh = done (Refresh p)
 step_after i p step.Abandon = done (Abandon p)
+step_after i p step.Status = done (Status p)
 step_after i p step.Peek = do
   l ← look_form i
   done (Peek p l)

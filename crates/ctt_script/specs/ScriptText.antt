@@ -7,6 +7,7 @@ use Rattle.ctt_text.specs.Words.{words}
 use Rattle.ctt_text.specs.Problem.{Problem}
 use Rattle.ctt_text.specs.Forms.{Form, read}
 use Rattle.ctt_script.specs.declared.journal_fault.JournalFault.{JournalFault}
+use Rattle.ctt_script.specs.declared.journal_fault.JournalFault.TheVariants.{NotText, Missing, BadWord, NoMemory}
 use Rattle.ctt_core.specs.declared.event.Event.{Event}
 use Rattle.ctt_script.specs.JournalWords.{missing}
 use Rattle.ctt_script.specs.ScriptPlaces.{event_form, own_form}
@@ -20,6 +21,27 @@ if_none_left a (word ∷ words) = None
 abbrev pub whole : {A : Type 0} → Result (A × Left) JournalFault → Option A
 whole (Ok x) = if_none_left x.0 x.1.words
 whole (Err e) = None
+
+-- the number of the word at which reading stopped
+abbrev pub word_of : JournalFault → ℕ
+word_of (NotText k) = k
+word_of (Missing k) = k
+word_of (BadWord k) = k
+word_of NoMemory = 0
+
+-- a value, or the number of the first word that is left behind it
+abbrev pub or_left : {A : Type 0} → A → List (List ℕ) → ℕ → Result A ℕ
+or_left a [] next = Ok a
+or_left a (word ∷ words) next = Err next
+
+-- what was read, or the number of the first word that cannot stand: one that is left, or that at which reading stopped
+abbrev pub whole_or_word : {A : Type 0} → Result (A × Left) JournalFault → Result A ℕ
+whole_or_word (Ok x) = or_left x.0 x.1.words x.1.next
+whole_or_word (Err e) = Err (word_of e)
+
+-- the event that words ask planner p for, or the number of the first word that cannot stand
+abbrev pub own_event : Problem → ℕ → List (List ℕ) → Result Event ℕ
+own_event i p ws = whole_or_word (read missing (own_form i p) ws 1)
 
 -- the event that words ask for by a form; none for words of any other form
 abbrev pub asked_by : Form JournalFault Event → List (List ℕ) → Option Event

@@ -52,6 +52,7 @@ pub(crate) enum StepKind {
     Refresh,
     Abandon,
     Peek,
+    Status,
     Ask(CallKind),
 }
 
@@ -195,6 +196,8 @@ pub(crate) fn step_kind(word: &str) -> Option<StepKind>
         Some(StepKind::Abandon)
     } else if is_word(word, "peek") {
         Some(StepKind::Peek)
+    } else if is_word(word, "status") {
+        Some(StepKind::Status)
     } else {
         Some(StepKind::Ask(call_kind(word)?))
     }

@@ -1,14 +1,15 @@
 //! Reading the lines of a script.
 
-ghost use Rattle.std.specs.Prelude.{◌≡◌, ℕ, ◌<◌, Result, IfSome, IfNone, OnSome, true};
+ghost use Rattle.std.specs.Prelude.{◌≡◌, ℕ, ◌<◌, Result, IfOk, IfSome, IfNone, OnSome, true};
 ghost use Rattle.std.specs.Str.{IsUtf8};
 ghost use Rattle.ctt_text.specs.Left.{Left};
+ghost use Rattle.ctt_text.specs.Words.{words};
 ghost use Rattle.ctt_core.specs.Runs.{EventFits};
 ghost use Rattle.ctt_core.specs.declared.event.Event.{Event};
 ghost use Rattle.ctt_script.specs.JournalWords.{word, reads, IsRead};
 ghost use Rattle.ctt_script.specs.Kinds.{step_kind};
 ghost use Rattle.ctt_script.specs.ScriptPlaces.{first_of, step_after, event_after, event_form, own_first_of, own_after, own_form};
-ghost use Rattle.ctt_script.specs.ScriptText.{whole, item, own_item, has_words};
+ghost use Rattle.ctt_script.specs.ScriptText.{whole, whole_or_word, word_of, item, own_event, own_item, has_words};
 ghost use Rattle.ctt_script.specs.declared.kinds.StepKind.TheVariants as step;
 ghost use Rattle.ctt_script.specs.declared.script.Start.TheVariants as begin;
 ghost use Rattle.ctt_script.specs.declared.script.OwnStart.TheVariants as own;
@@ -83,6 +84,7 @@ fn read_step_after(
         StepKind::Commit => Ok(Event::Commit(planner)),
         StepKind::Refresh => Ok(Event::Refresh(planner)),
         StepKind::Abandon => Ok(Event::Abandon(planner)),
+        StepKind::Status => Ok(Event::Status(planner)),
         StepKind::Peek => Ok(Event::Peek(planner, read_look(reader, instance)?)),
         StepKind::Ask(kind) => Ok(Event::Ask(planner, read_call_after(reader, instance, kind)?)),
     }
@@ -263,6 +265,47 @@ pub fn read_own_line(instance: &Instance, planner: PlannerNo, line: &[u8]) -> Op
         → IfSome result (EventFits instance.now planners) }
 {
     read_own_line_of(instance, planner, line, false)
+}
+
+/// The number of the word at which reading stopped.
+fn word_of(fault: JournalFault) -> u64
+    ensures { result ≡ word_of fault }
+{
+    match fault {
+        JournalFault::NotText(at) | JournalFault::Missing(at) | JournalFault::BadWord(at) => at,
+        JournalFault::NoMemory => 0,
+    }
+}
+
+/// The event that was read, or the number of the word that is left behind it, or at which reading
+/// stopped.
+fn event_or_word(reader: &Reader, read: Result<Event, JournalFault>) -> Result<Event, u64>
+    ensures { (all : Result (Event × Left) JournalFault)
+        → IsRead (λ event. (event, reader.now)) read all → result ≡ whole_or_word all }
+{
+    match read {
+        Ok(event) => {
+            if reader.is_at_end() {
+                Ok(event)
+            } else {
+                Err(reader.next())
+            }
+        }
+        Err(fault) => Err(word_of(fault)),
+    }
+}
+
+/// The event that a text asks for in a script of one planner, or the number of the first word that
+/// cannot stand; that is one more than the words are where they end too early.
+pub fn read_own_text(instance: &Instance, planner: PlannerNo, text: &str) -> Result<Event, u64>
+    ensures event { result ≡ own_event instance.now planner (words text.now) }
+    ensures fits { (planners : ℕ) → planner < planners
+        → IfOk result (EventFits instance.now planners) }
+{
+    instance.limits_hold();
+    let mut reader = Reader::new(text);
+    let read = read_own_event(&mut reader, instance, planner);
+    event_or_word(&reader, read)
 }
 
 /// Whether a line has words.

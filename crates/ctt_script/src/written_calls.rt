@@ -88,11 +88,7 @@ fn write_edit(text: &mut String, instance: &Instance, edit: &Edit) -> Result<(),
 }
 
 /// Adds the words of an edit, each after a blank.
-pub(crate) fn push_edit(
-    text: &mut String,
-    instance: &Instance,
-    edit: &Edit,
-) -> Result<(), AllocError>
+pub fn push_edit(text: &mut String, instance: &Instance, edit: &Edit) -> Result<(), AllocError>
     requires { EditFits instance.now edit.now }
     ensures { OnOk result (string_bytes text.new
         ≡ string_bytes text.old ++ words_part (edit_words instance.now edit.now)) }

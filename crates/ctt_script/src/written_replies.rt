@@ -42,6 +42,35 @@ pub fn write_fault(
     }
 }
 
+/// Adds the words of a fault, each after a blank.
+pub fn push_fault(
+    text: &mut String,
+    instance: &Instance,
+    fault: &EditFault,
+) -> Result<(), AllocError>
+    requires { FaultFits instance.now fault.now }
+    ensures { OnOk result (string_bytes text.new
+        ≡ string_bytes text.old ++ words_part (fault_words instance.now fault.now)) }
+{
+    match fault {
+        EditFault::NotPlaced => text.push_str(" notplaced"),
+        EditFault::SameSlot => text.push_str(" sameslot"),
+        EditFault::SameCourse => text.push_str(" samecourse"),
+        EditFault::AlreadyThere => text.push_str(" already"),
+        EditFault::CourseFull => text.push_str(" full"),
+        EditFault::Unavailable => text.push_str(" unavailable"),
+        EditFault::Barred => text.push_str(" barred"),
+        EditFault::Clash(course) => {
+            text.push_str(" clash")?;
+            push_word(text, instance.course_name(*course))
+        }
+        EditFault::RoomTaken(course) => {
+            text.push_str(" roomtaken")?;
+            push_word(text, instance.course_name(*course))
+        }
+    }
+}
+
 /// Adds the line of a refusal.
 fn write_refused(
     text: &mut String,

@@ -1,7 +1,7 @@
 //! What is told of the trials, and how many calls were made again.
 
 ghost use Rattle.std.specs.Prelude.{◌↔◌, IsTrue, None};
-ghost use Rattle.ctt_script.specs.Entries.{AnswerFits};
+ghost use Rattle.ctt_script.specs.Entries.{AnswerFits, RowFits};
 
 use ctt_core::{Answer, JournalEntry};
 use ctt_devices::{Failed, Sink, put_all};
@@ -32,14 +32,27 @@ pub(crate) struct Story {
     failed: bool,
 }
 
+/// Whether the number of a row is one of the instance.
+fn row_fits(instance: &Instance, row: &Row) -> bool
+    ensures { IsTrue result ↔ RowFits instance.now row.now }
+{
+    match row {
+        Row::Course(course) => course.fits(instance),
+        Row::Slot(slot) => slot.fits(instance),
+    }
+}
+
 /// Whether an answer can be written.
 fn answer_fits(instance: &Instance, answer: &Answer) -> bool
     ensures { IsTrue result ↔ AnswerFits instance.now answer.now }
 {
     match answer {
         Answer::Replied(reply) => reply.fits(instance),
-        Answer::Stale(Row::Course(course)) => course.fits(instance),
-        Answer::Stale(Row::Slot(slot)) => slot.fits(instance),
+        Answer::Draft(standing) => match &standing.stale {
+            Some(row) => row_fits(instance, row),
+            None => true,
+        },
+        Answer::Stale(row) => row_fits(instance, row),
         Answer::Opened
         | Answer::AlreadyOpen
         | Answer::NoDraft

@@ -6,13 +6,15 @@ ghost use Rattle.ctt_edits.specs.Looks.{LookFits};
 ghost use Rattle.ctt_core.specs.Runs.{EventFits};
 ghost use Rattle.ctt_core.specs.Desks.{IsAnswerTo, goes_on, draft_at, with_draft, IsFresh};
 ghost use Rattle.ctt_core.specs.declared.answer.Answer.TheVariants.{Committed, NoMemory as OutOfMemory};
-ghost use Rattle.ctt_core.specs.declared.event.Event.TheVariants.{Open, Ask, Peek, Commit, Refresh, Abandon, Show};
+ghost use Rattle.ctt_core.specs.declared.event.Event.TheVariants.{Open, Ask, Peek, Status, Commit, Refresh, Abandon, Show};
 
 use crate::answer::Answer;
 use crate::desk::Desk;
 use crate::event::Event;
 use crate::journal::JournalEntry;
+use crate::open_draft::OpenDraft;
 use crate::planner::PlannerNo;
+use crate::standing::Standing;
 use ctt_board::{Rooms, Sheet};
 use ctt_draft::{AskedCalls, Draft};
 use ctt_edits::{Call, Look};
@@ -30,7 +32,8 @@ impl<'i, S: Sheet<'i>> Desk<'i, S> {
         }
         match Draft::open(*self.opening.allocator(), &self.sheet) {
             Ok(draft) => {
-                self.drafts[place] = Some(draft);
+                let since = self.journal.len() as u64;
+                self.drafts[place] = Some(OpenDraft { since, draft });
                 Answer::Opened
             }
             Err(_) => Answer::NoMemory,
@@ -45,10 +48,9 @@ impl<'i, S: Sheet<'i>> Desk<'i, S> {
         ensures goes_on { self.new ≡ goes_on self.old (Ask planner call) result }
     {
         let place = planner.get() as usize;
-        let draft = &mut self.drafts[place];
-        match draft {
+        match &mut self.drafts[place] {
             None => Answer::NoDraft,
-            Some(draft) => match draft.call(call) {
+            Some(drafting) => match drafting.draft.call(call) {
                 Ok(told) => Answer::Replied(told),
                 Err(_) => Answer::NoMemory,
             },
@@ -65,11 +67,28 @@ impl<'i, S: Sheet<'i>> Desk<'i, S> {
         let place = planner.get() as usize;
         let told = match &self.drafts[place] {
             None => return Answer::NoDraft,
-            Some(draft) => draft.peek(look),
+            Some(drafting) => drafting.draft.peek(look),
         };
         match told {
             Ok(told) => Answer::Replied(told),
             Err(_) => Answer::NoMemory,
+        }
+    }
+
+    /// Says how a draft stands. It is no call: the draft stays as it is. It takes no memory.
+    fn status(&mut self, planner: PlannerNo) -> Answer
+        requires { planner < length self.old.drafts }
+        ensures answer { IsAnswerTo self.old (Status planner) result }
+        ensures goes_on { self.new ≡ goes_on self.old (Status planner) result }
+    {
+        let place = planner.get() as usize;
+        match &self.drafts[place] {
+            None => Answer::NoDraft,
+            Some(drafting) => {
+                let stale = drafting.draft.stale(&self.sheet).unwrap();
+                let behind = (self.journal.len() as u64).saturating_sub(drafting.since);
+                Answer::Draft(Standing::of(&drafting.draft, behind, stale))
+            }
         }
     }
 
@@ -119,7 +138,7 @@ impl<'i, S: Sheet<'i>> Desk<'i, S> {
         if self.journal.reserve(1).is_err() {
             return Answer::NoMemory;
         }
-        let work = self.drafts[place].take().unwrap().finish();
+        let work = self.drafts[place].take().unwrap().draft.finish();
         work.settle(&mut self.sheet);
         let mut list = work.asked;
         list.shrink_to_fit();
@@ -137,7 +156,7 @@ impl<'i, S: Sheet<'i>> Desk<'i, S> {
         let place = planner.get() as usize;
         let found = match &self.drafts[place] {
             None => return Answer::NoDraft,
-            Some(draft) => draft.stale(&self.sheet).unwrap(),
+            Some(drafting) => drafting.draft.stale(&self.sheet).unwrap(),
         };
         match found {
             Some(row) => {
@@ -155,16 +174,18 @@ impl<'i, S: Sheet<'i>> Desk<'i, S> {
         ensures goes_on { self.new ≡ goes_on self.old (Refresh planner) result }
     {
         let place = planner.get() as usize;
-        let draft = &mut self.drafts[place];
-        match draft {
+        match &mut self.drafts[place] {
             None => Answer::NoDraft,
-            Some(draft) => match draft.refresh(&self.sheet) {
+            Some(drafting) => match drafting.draft.refresh(&self.sheet) {
                 Err(_) => Answer::NoMemory,
                 Ok(Some(row)) => {
                     self.give_up(planner);
                     Answer::Stale(row)
                 }
-                Ok(None) => Answer::Refreshed,
+                Ok(None) => {
+                    drafting.since = self.journal.len() as u64;
+                    Answer::Refreshed
+                }
             },
         }
     }
@@ -179,6 +200,7 @@ impl<'i, S: Sheet<'i>> Desk<'i, S> {
             Event::Open(planner) => self.open(planner),
             Event::Ask(planner, call) => self.ask(planner, call),
             Event::Peek(planner, look) => self.peek(planner, &look),
+            Event::Status(planner) => self.status(planner),
             Event::Commit(planner) => self.commit(planner),
             Event::Refresh(planner) => self.refresh(planner),
             Event::Abandon(planner) => self.abandon(planner),

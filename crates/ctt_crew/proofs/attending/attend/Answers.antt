@@ -7,7 +7,7 @@ use Rattle.ctt_text.specs.declared.placed.Placed.{Placed}
 use Rattle.ctt_edits.specs.Calls.{CallFits}
 use Rattle.ctt_core.specs.Runs.{EventFits}
 use Rattle.ctt_core.specs.declared.event.Event.{Event}
-use Rattle.ctt_core.specs.declared.event.Event.TheVariants.{Open, Ask, Peek, Commit, Refresh, Abandon, Show}
+use Rattle.ctt_core.specs.declared.event.Event.TheVariants.{Open, Ask, Peek, Status, Commit, Refresh, Abandon, Show}
 use Rattle.ctt_script.specs.ScriptText.{has_words, lines_of, own_item}
 use Rattle.ctt_script.proofs.ScriptLaws.{lines_are_text, ok_part}
 use Rattle.ctt_crew.specs.CrewText.{call_in}
@@ -23,6 +23,7 @@ call_fits i n None h = tt
 call_fits i n (Some (Open p)) h = tt
 call_fits i n (Some (Ask p call)) h = h.1
 call_fits i n (Some (Peek p look)) h = tt
+call_fits i n (Some (Status p)) h = tt
 call_fits i n (Some (Commit p)) h = tt
 call_fits i n (Some (Refresh p)) h = tt
 call_fits i n (Some (Abandon p)) h = tt

@@ -1,3 +1,4 @@
+use Rattle.ctt_office.specs.Ended.{EndedFits}
 use Rattle.ctt_office.specs.Lines.{coming}
 use Rattle.ctt_office.specs.Pages.{HasFailed, IsInMinutes}
 use Rattle.ctt_office.specs.SeatAnswers.{IsAnswer}
@@ -5,8 +6,8 @@ use Rattle.ctt_office.specs.SeatText.{asked_by}
 use Rattle.ctt_office.specs.Sittings.{IsSitting}
 use Rattle.ctt_office.proofs.sitting.sit.Given as goal
 
--- the lines that were read so far are answered, and he has not left
+-- the lines that were read so far are answered, and he has not left; the calls of an ended draft fit
 abbrev pub invariant-loop : goal.invariant-loop
 invariant-loop g l =
     IsSitting (asked_by l.instance l.number) (IsAnswer l.book (IsInMinutes g.W.Sink.taken g.W.Durable.kept g.J.Naming.problem) (HasFailed g.W.Sink.taken g.W.Sink.has_failed g.J.Naming.problem) l.instance g.J.Naming.opening)
-    l.fn.seat (coming l.fn.lines) (g.O.Sink.taken l.fn.out) (g.O.Sink.taken l.out) (coming l.lines) l.seat
+    l.fn.place (coming l.fn.lines) (g.O.Sink.taken l.fn.out) (g.O.Sink.taken l.out) (coming l.lines) l.place × EndedFits l.instance l.place.ended

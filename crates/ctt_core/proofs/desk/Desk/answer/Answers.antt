@@ -1,6 +1,6 @@
 use Rattle.std.proofs.Common.{rules, length, subst}
 use Rattle.ctt_core.specs.Runs.{EventFits}
-use Rattle.ctt_core.specs.declared.event.Event.TheVariants.{Open, Ask, Peek, Commit, Refresh, Abandon, Show}
+use Rattle.ctt_core.specs.declared.event.Event.TheVariants.{Open, Ask, Peek, Status, Commit, Refresh, Abandon, Show}
 use Rattle.ctt_core.proofs.desk.Desk.answer.Goals as goal
 
 pub open-requires : goal.open-requires
@@ -20,6 +20,11 @@ peek-requires g c κs =
     let both : EventFits c.args.self.now.problem (length c.args.self.now.drafts) (Peek c.in-Peek.planner c.in-Peek.look) = subst (EventFits c.args.self.now.problem (length c.args.self.now.drafts)) c.in-Peek.is c.requires in
     let within = both.0 in
     let fits = both.1 in
+    search rules
+
+pub status-requires : goal.status-requires
+status-requires g c κs =
+    let fits : EventFits c.args.self.now.problem (length c.args.self.now.drafts) (Status c.in-Status.planner) = subst (EventFits c.args.self.now.problem (length c.args.self.now.drafts)) c.in-Status.is c.requires in
     search rules
 
 pub commit-requires : goal.commit-requires

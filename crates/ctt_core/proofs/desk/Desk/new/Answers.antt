@@ -7,5 +7,5 @@ invariant_of-result g c = record {
   same = c.in_ok-sheet.ensures.problem;
   opening_lawful = subst (Lawful c.args.instance.now) (sym c.in_ok-opening.ensures) (subst (λ i. Lawful i (g.S.Rooms.list c.in_ok-sheet.sheet)) c.in_ok-sheet.ensures.problem c.lawful.ensures);
   few = omega (arith, c.in_ok-drafts.ensures.planners);
-  drafts_of = λ p. subst (λ o. IfSome o (λ d. d.problem ≡ c.args.instance.now)) (sym (c.in_ok-drafts.ensures.none p)) tt;
+  drafts_of = λ p. subst (λ o. IfSome o (λ d. d.draft.problem ≡ c.args.instance.now)) (sym (c.in_ok-drafts.ensures.none p)) tt;
 }

@@ -1,0 +1,217 @@
+-- Edits that are made again, one by one.
+use Rattle.std.proofs.Common.{◌≡◌, ◌∙◌, inl, inr, ℕ, ℤ, suc, ◌+◌, Bool, true, false, List, [], ◌∷◌, ◌++◌, length, flat_map, Option, Some, None, codes, arith, refl, sym, ap, ap₂, subst, append-nil, append_assoc}
+use Rattle.std.specs.Fmt.{decimal}
+use Rattle.std.proofs.lemmas.List.{length-append}
+use Rattle.ctt_text.specs.Problem.{Problem}
+use Rattle.ctt_text.specs.declared.placed.Placed.{Placed}
+use Rattle.ctt_board.specs.Changes.{apply}
+use Rattle.ctt_edits.specs.Calls.{cells_if, reply}
+use Rattle.ctt_edits.specs.Edits.{change, edit_fault, edited}
+use Rattle.ctt_edits.specs.Looks.{told_or}
+use Rattle.ctt_edits.specs.declared.call.Call.TheVariants.{Edit as Edits}
+use Rattle.ctt_edits.specs.declared.edit.Edit.{Edit}
+use Rattle.ctt_edits.specs.declared.fault.EditFault.{EditFault}
+use Rattle.ctt_edits.specs.declared.reply.Reply.{Reply}
+use Rattle.ctt_edits.specs.declared.reply.Reply.TheVariants.{Done, Refused, Price as Priced}
+use Rattle.ctt_draft.specs.Drafts.{after_call, calls_of, whole}
+use Rattle.ctt_draft.specs.Undoing.{done_edit, edits_done}
+use Rattle.ctt_draft.specs.declared.asked.Asked.{Asked}
+use Rattle.ctt_draft.proofs.CallRuns.{whole-push}
+use Rattle.ctt_draft.proofs.DraftSteps.{calls-push}
+use Rattle.ctt_core.specs.declared.answer.Answer.TheVariants.{NoMemory}
+use Rattle.ctt_desk.specs.Planners.{DraftingValue, Grows, IsOpen, PlannerValue, asked_also, present_of}
+use Rattle.ctt_desk.specs.Refusals.{IsUnread}
+use Rattle.ctt_desk.specs.declared.shared_fault.SharedFault.{SharedFault}
+use Rattle.ctt_desk.specs.declared.shared_fault.SharedFault.TheVariants as shared
+use Rattle.ctt_script.specs.WrittenText.{line, rest_of_line, words_part}
+use Rattle.ctt_script.proofs.WrittenText.{parts_end}
+use Rattle.ctt_crew.specs.CrewText.{told_unread}
+use Rattle.ctt_crew.specs.declared.seat.Seat.TheVariants.{Drafting, Free}
+use Rattle.ctt_crew.specs.declared.seat.Told.TheVariants.{Answer as Answered}
+use Rattle.ctt_office.specs.SeatAnswers.{RedoesCalls, told_line}
+use Rattle.ctt_office.specs.declared.workplace.Workplace.{Workplace}
+use Rattle.ctt_office.specs.Laws.{AreAsked, RedoIsAsking}
+use Rattle.ctt_office.specs.Redone.{IsMadeAgain, IsMadeBy, LeftOut, left_out, left_out_if, left_out_words, made, redone_line, remade, remade_if}
+
+-- words after others, each after a blank
+pub parts_joined : (ws vs : List (List ℕ)) → words_part (ws ++ vs) ≡ words_part ws ++ words_part vs
+parts_joined [] vs = refl
+parts_joined (w ∷ ws) vs = ap (λ x. codes " " ++ (w ++ x)) (parts_joined ws vs) ∙ ap (λ x. codes " " ++ x) (sym (append_assoc w (words_part ws) (words_part vs)))
+
+-- an edit has a price exactly where it has no fault
+pub fault_is : (o : Option EditFault) (price : Reply) (z : ℤ) (f : EditFault) → price ≡ told_or o (Priced z) → price ≡ Refused f → Some f ≡ o
+fault_is None price z f told refused = (let bad : Priced z ≡ Refused f = sym told ∙ refused in cc)
+fault_is (Some g) price z f told refused = (let same : Refused g ≡ Refused f = sym told ∙ refused in cc)
+
+pub no_fault : (o : Option EditFault) (price : Reply) (z : ℤ) → price ≡ told_or o (Priced z) → ((f : EditFault) → price ≡ Refused f → ⊥) → None ≡ o
+no_fault None price z told priced = refl
+no_fault (Some g) price z told priced = absurd (priced g told)
+
+-- an edit that has a fault is left out
+pub left_out_here : (i : Problem) (n : ℕ) (x : Edit) (d : DraftingValue) (old new : List ℕ) (f : EditFault) → Some f ≡ edit_fault i (present_of i d) x
+    → new ≡ old ++ words_part (left_out_words i (record { number = n; edit = x; fault = f })) → IsMadeAgain i n x d d old new false
+left_out_here i n x d old new f fault grown = subst (λ o. IsMadeBy o i n x d d old new false) fault (refl, grown, refl)
+
+-- and one that has none is made
+pub made_here : (i : Problem) (n : ℕ) (x : Edit) (d e : DraftingValue) (old : List ℕ) (told : Reply) → None ≡ edit_fault i (present_of i d) x → told ≡ reply i (present_of i d) (Edits x) → e ≡ asked_also d (Edits x) told
+    → IsMadeAgain i n x d e old old true
+made_here i n x d e old told free answer grown =
+    let done : told ≡ Done = answer ∙ ap (λ o. told_or o Done) (sym free) in
+    subst (λ o. IsMadeBy o i n x d e old old true) free (grown ∙ ap (asked_also d (Edits x)) done, refl, refl)
+
+-- the text of edits that are left out
+abbrev pub parts_of : Problem → List LeftOut → List ℕ
+parts_of i xs = flat_map (λ x. words_part (left_out_words i x)) xs
+
+-- of the edits of the draft d, which is e now, some are left: those before them were made again, or left out in the text, which was so and is so now
+pub record IsRemaking (i : Problem) (d e : DraftingValue) (old now : List ℕ) (again edits : ℕ) (all left : List Edit) : Type 0 where
+  pub same : e ≡ record d { asked = e.asked }
+  pub calls : e.asked ++ remade i (present_of i e) left ≡ d.asked ++ remade i (present_of i d) all
+  pub texts : now ++ parts_of i (left_out i (present_of i e) (edits + 1) left) ≡ old ++ parts_of i (left_out i (present_of i d) 1 all)
+  pub mades : again + length (remade i (present_of i e) left) ≡ length (remade i (present_of i d) all)
+  pub counts : edits + length left ≡ length all
+
+pub begins : (i : Problem) (d : DraftingValue) (old : List ℕ) (all : List Edit) → IsRemaking i d d old old 0 0 all all
+begins i d old all = record { same = refl; calls = refl; texts = refl; mades = omega arith; counts = omega arith }
+
+-- the timetable behind an edit that is made
+made_on : (i : Problem) (e : DraftingValue) (x : Edit) → edit_fault i (present_of i e) x ≡ None → present_of i (asked_also e (Edits x) Done) ≡ edited (present_of i e) x
+made_on i e x free =
+    ap (whole i e.base) (calls-push e.asked (record { call = Edits x; reply = Done }))
+    ∙ whole-push i e.base (calls_of e.asked) (Edits x)
+    ∙ ap (λ o. apply (cells_if o (change (present_of i e) x)) (present_of i e)) free
+
+module _ (i : Problem) (d e : DraftingValue) (old now : List ℕ) (again edits : ℕ) (all left : List Edit) (x : Edit) (h : IsRemaking i d e old now again edits all (x ∷ left)) where
+  -- an edit that is made
+  one_made : edit_fault i (present_of i e) x ≡ None → IsRemaking i d (asked_also e (Edits x) Done) old now (again + 1) (edits + 1) all left
+  one_made free =
+      let next : present_of i (asked_also e (Edits x) Done) ≡ edited (present_of i e) x = made_on i e x free in
+      let here : remade i (present_of i e) (x ∷ left) ≡ made x ∷ remade i (edited (present_of i e) x) left = ap (λ o. remade_if o x (remade i (edited (present_of i e) x) left) (remade i (present_of i e) left)) free in
+      let out : left_out i (present_of i e) (edits + 1) (x ∷ left) ≡ left_out i (edited (present_of i e) x) (edits + 1 + 1) left =
+      ap (λ o. left_out_if o (edits + 1) x (left_out i (edited (present_of i e) x) (edits + 1 + 1) left) (left_out i (present_of i e) (edits + 1 + 1) left)) free in
+      let long : length (remade i (present_of i e) (x ∷ left)) ≡ suc (length (remade i (edited (present_of i e) x) left)) = ap length here in
+      let mades = h.mades in
+      let counts = h.counts in
+      record {
+        same = ap (λ (w : DraftingValue). record w { asked = e.asked ++ made x ∷ [] }) h.same;
+        calls = ap (λ t. (e.asked ++ made x ∷ []) ++ remade i t left) next ∙ append_assoc e.asked (made x ∷ []) (remade i (edited (present_of i e) x) left) ∙ ap (λ xs. e.asked ++ xs) (sym here) ∙ h.calls;
+        texts = ap (λ t. now ++ parts_of i (left_out i t (edits + 1 + 1) left)) next ∙ ap (λ xs. now ++ parts_of i xs) (sym out) ∙ h.texts;
+        mades = ap (λ t. again + 1 + length (remade i t left)) next ∙ omega (arith, mades, long);
+        counts = omega (arith, counts);
+      }
+
+  -- one that is left out
+  one_left_out : (f : EditFault) (new : List ℕ) → edit_fault i (present_of i e) x ≡ Some f → new ≡ now ++ words_part (left_out_words i (record { number = edits + 1; edit = x; fault = f })) → IsRemaking i d e old new again (edits + 1) all left
+  one_left_out f new fault grown =
+      let here : remade i (present_of i e) (x ∷ left) ≡ remade i (present_of i e) left = ap (λ o. remade_if o x (remade i (edited (present_of i e) x) left) (remade i (present_of i e) left)) fault in
+      let it : LeftOut = record { number = edits + 1; edit = x; fault = f } in
+      let out : left_out i (present_of i e) (edits + 1) (x ∷ left) ≡ it ∷ left_out i (present_of i e) (edits + 1 + 1) left =
+      ap (λ o. left_out_if o (edits + 1) x (left_out i (edited (present_of i e) x) (edits + 1 + 1) left) (left_out i (present_of i e) (edits + 1 + 1) left)) fault in
+      let counts = h.counts in
+      record {
+        same = h.same;
+        calls = ap (λ xs. e.asked ++ xs) (sym here) ∙ h.calls;
+        texts =
+            ap (λ bs. bs ++ parts_of i (left_out i (present_of i e) (edits + 1 + 1) left)) grown
+            ∙ append_assoc now (words_part (left_out_words i it)) (parts_of i (left_out i (present_of i e) (edits + 1 + 1) left))
+            ∙ ap (λ xs. now ++ parts_of i xs) (sym out)
+            ∙ h.texts;
+        mades = ap (λ xs. again + length xs) (sym here) ∙ h.mades;
+        counts = omega (arith, counts);
+      }
+
+  by_fault : (o : Option EditFault) (e' : DraftingValue) (new : List ℕ) (was_made : Bool) → edit_fault i (present_of i e) x ≡ o → IsMadeBy o i (edits + 1) x e e' now new was_made
+      → (was_made ≡ true → IsRemaking i d e' old new (again + 1) (edits + 1) all left) × (was_made ≡ false → IsRemaking i d e' old new again (edits + 1) all left)
+  by_fault None e' new was_made free is = (
+    λ _. subst (λ (w : DraftingValue). IsRemaking i d w old new (again + 1) (edits + 1) all left) (sym is.0) (subst (λ bs. IsRemaking i d (asked_also e (Edits x) Done) old bs (again + 1) (edits + 1) all left) (sym is.1) (one_made free)),
+    λ no. absurd (let bad : true ≡ false = sym is.2 ∙ no in cc),
+  )
+  by_fault (Some f) e' new was_made fault is = (
+    λ yes. absurd (let bad : false ≡ true = sym is.2 ∙ yes in cc),
+    λ _. subst (λ (w : DraftingValue). IsRemaking i d w old new again (edits + 1) all left) (sym is.0) (one_left_out f new fault is.1),
+  )
+
+  -- one more edit
+  pub one_more : (e' : DraftingValue) (new : List ℕ) (was_made : Bool) → IsMadeAgain i (edits + 1) x e e' now new was_made
+      → (was_made ≡ true → IsRemaking i d e' old new (again + 1) (edits + 1) all left) × (was_made ≡ false → IsRemaking i d e' old new again (edits + 1) all left)
+  one_more e' new was_made is = by_fault (edit_fault i (present_of i e) x) e' new was_made refl is
+
+-- a call that is no accepted edit, and one that is
+pub none_done : (a : Asked) (left : List Asked) → done_edit a ≡ None → edits_done (a ∷ left) ≡ edits_done left
+none_done a left none = rw none refl
+
+pub one_done : (a : Asked) (left : List Asked) (x : Edit) → done_edit a ≡ Some x → edits_done (a ∷ left) ≡ x ∷ edits_done left
+one_done a left x some = rw some refl
+
+-- at the end
+module _ (i : Problem) (d e : DraftingValue) (old now : List ℕ) (again edits : ℕ) (all : List Edit) (h : IsRemaking i d e old now again edits all []) where
+  pub all_calls : e ≡ record d { asked = d.asked ++ remade i (present_of i d) all }
+  all_calls = h.same ∙ ap (λ xs. record d { asked = xs }) (sym (append-nil e.asked) ∙ h.calls)
+
+  pub all_left_out : now ≡ old ++ parts_of i (left_out i (present_of i d) 1 all)
+  all_left_out = sym (append-nil now) ∙ h.texts
+
+  pub all_made : again ≡ length (remade i (present_of i d) all)
+  all_made = (let mades = h.mades in omega (arith, mades))
+
+  pub all_edits : edits ≡ length all
+  all_edits = (let counts = h.counts in omega (arith, counts))
+
+-- the whole line
+pub whole_line : (i : Problem) (t : List Placed) (all : List Edit) (again edits : ℕ) (text : List ℕ) → again ≡ length (remade i t all) → edits ≡ length all → text ≡ parts_of i (left_out i t 1 all)
+    → codes "redone " ++ (decimal again ++ (codes " of " ++ (decimal edits ++ (text ++ codes "\n")))) ≡ redone_line i t all
+whole_line i t all again edits text mades counts texts =
+    ap₂ (λ a b. codes "redone " ++ (decimal a ++ (codes " of " ++ (decimal b ++ (text ++ codes "\n"))))) mades counts
+    ∙ ap (λ bs. codes "redone " ++ (decimal (length (remade i t all)) ++ (codes " of " ++ (decimal (length all) ++ bs)))) (ap (λ bs. bs ++ codes "\n") texts ∙ sym (parts_end (left_out_words i) (left_out i t 1 all)))
+
+-- in a draft in which nothing was asked yet
+pub new_present : (i : Problem) (d : DraftingValue) → d.asked ≡ [] → present_of i d ≡ d.base
+new_present i d none = ap (λ xs. whole i d.base (calls_of xs)) none
+
+pub from_new : (i : Problem) (d e : DraftingValue) (edits : List Edit) → d.asked ≡ [] → e ≡ record d { asked = d.asked ++ remade i (present_of i d) edits } → e ≡ record d { asked = remade i d.base edits }
+from_new i d e edits none is = is ∙ ap (λ xs. record d { asked = xs ++ remade i (whole i d.base (calls_of xs)) edits }) none
+
+-- a draft is made again
+module _ {X Y : Type 0} (i : Problem) (t0 : List Placed) (p : PlannerValue) (asked : List Asked) where
+  pub redone : (d e : DraftingValue) (after : Workplace X Y) (answer : List ℕ) → IsOpen i t0 p d → e ≡ record d { asked = remade i d.base (edits_done asked) } → after.seat ≡ Drafting e → after.ended ≡ None → answer ≡ redone_line i d.base (edits_done asked)
+      → RedoesCalls i t0 p asked after answer
+  redone d e after answer opened made_is seat ended line_is = inl (d, opened, seat ∙ ap Drafting made_is, ended, line_is)
+
+  -- or memory is wanted for it
+  pub wanted : (d : DraftingValue) (q : PlannerValue) (after : Workplace X Y) (answer : List ℕ) → IsOpen i t0 p d → q ≡ d.planner → after.seat ≡ Free q → after.ended ≡ Some asked → answer ≡ told_line i (Answered NoMemory) → RedoesCalls i t0 p asked after answer
+  wanted d q after answer opened same seat ended line_is = inr (q, Answered NoMemory, (shared.NoMemory, subst (Grows i t0 p) (sym same) opened.planner, refl), seat, ended, line_is)
+
+  -- or it could not be opened
+  pub unopened : (q : PlannerValue) (fault : SharedFault) (after : Workplace X Y) (answer : List ℕ) → IsUnread i t0 p q fault → after.seat ≡ Free q → after.ended ≡ Some asked → answer ≡ told_line i (told_unread fault) → RedoesCalls i t0 p asked after answer
+  unopened q fault after answer why seat ended line_is = inr (q, told_unread fault, (fault, why, refl), seat, ended, line_is)
+
+-- the edits that are made again, asked one by one
+abbrev AreAskedFrom : Problem → DraftingValue → List Asked → Type 0
+AreAskedFrom i d xs = AreAsked {X = Unit {0}} {Y = Unit {0}} i (edits_done xs) (Drafting d) (Drafting (record d { asked = d.asked ++ xs }))
+
+ask_first : (i : Problem) (d : DraftingValue) (e : Edit) (xs : List Asked) → edit_fault i (present_of i d) e ≡ None → AreAskedFrom i (asked_also d (Edits e) Done) xs → AreAskedFrom i d (made e ∷ xs)
+ask_first i d e xs free more = (
+  Drafting (asked_also d (Edits e) Done),
+  inl (Done, sym (ap (λ o. told_or o Done) free), refl, refl),
+  subst (λ ys. AreAsked {X = Unit {0}} {Y = Unit {0}} i (edits_done xs) (Drafting (asked_also d (Edits e) Done)) (Drafting (record d { asked = ys }))) (append_assoc d.asked (made e ∷ []) xs) more,
+)
+
+ask_each : (i : Problem) (d : DraftingValue) (edits : List Edit) → AreAskedFrom i d (remade i (present_of i d) edits)
+ask_each i d [] = ap (λ ys. Drafting (record d { asked = ys })) (append-nil d.asked)
+ask_each i d (e ∷ edits) = by (edit_fault i (present_of i d) e) refl
+  where
+    by : (o : Option EditFault) → edit_fault i (present_of i d) e ≡ o → AreAskedFrom i d (remade i (present_of i d) (e ∷ edits))
+    by None free =
+        let later = ask_each i (asked_also d (Edits e) Done) edits in
+        subst (AreAskedFrom i d) (sym (ap (λ o. remade_if o e (remade i (edited (present_of i d) e) edits) (remade i (present_of i d) edits)) free))
+        (ask_first i d e (remade i (edited (present_of i d) e) edits) free (subst (λ t. AreAskedFrom i (asked_also d (Edits e) Done) (remade i t edits)) (made_on i d e free) later))
+    by (Some f) fault =
+        subst (AreAskedFrom i d) (sym (ap (λ o. remade_if o e (remade i (edited (present_of i d) e) edits) (remade i (present_of i d) edits)) fault)) (ask_each i d edits)
+
+pub redo_is_asking : RedoIsAsking
+redo_is_asking i d edits none =
+    let all = ask_each i d edits in
+    let here : present_of i d ≡ d.base = ap (λ xs. whole i d.base (calls_of xs)) none in
+    let joined : d.asked ++ remade i (present_of i d) edits ≡ remade i d.base edits = ap₂ (λ xs t. xs ++ remade i t edits) none here in
+    subst (λ t. AreAsked {X = Unit {0}} {Y = Unit {0}} i (edits_done (remade i t edits)) (Drafting d) (Drafting (record d { asked = remade i d.base edits }))) here
+    (subst (λ ys. AreAsked {X = Unit {0}} {Y = Unit {0}} i (edits_done (remade i (present_of i d) edits)) (Drafting d) (Drafting (record d { asked = ys }))) joined all)

@@ -1,0 +1,78 @@
+//! The first word of a line that cannot stand.
+
+ghost use Rattle.std.specs.Prelude.{◌≡◌, ◌++◌, [], OnOk, string_bytes};
+ghost use Rattle.ctt_text.specs.Words.{words};
+ghost use Rattle.ctt_office.specs.BadWords.{bad_word, bad_word_line, first_untext};
+
+use ctt_text::{Reader, Words, push_count, push_word};
+use std::alloc::AllocError;
+use std::marker::Model;
+
+/// The first word of a line that cannot stand, with its number, counted from 1. The word is empty
+/// where the line ends too early, or the word is no text.
+#[derive(Drop)]
+pub struct BadWord<'a> {
+    at: u64,
+    word: &'a str,
+}
+
+impl<'a> Model for BadWord<'a> {
+    ghost use Rattle.ctt_office.specs.BadWords.{BadValue};
+
+    ghost Value = { BadValue };
+
+    ghost view = { λ b. record { at = b.at; word = b.word.now } };
+}
+
+impl<'a> BadWord<'a> {
+    /// The word of a text with this number, which is counted from 1.
+    pub(crate) fn of(text: &'a str, at: u64) -> Self
+        ensures { result ≡ bad_word at (words text.now) }
+    {
+        let mut reader = Reader::new(text);
+        for _ in 1..at {
+            if reader.word().is_none() {
+                return BadWord { at, word: "" };
+            }
+        }
+        match reader.word() {
+            Some(word) => BadWord { at, word },
+            None => BadWord { at, word: "" },
+        }
+    }
+
+    /// The first word of a line that is no text. It is not shown.
+    pub(crate) fn first_untext(line: &[u8]) -> Self
+        ensures { result ≡ record { at = first_untext 1 (words line.now); word = [] } }
+    {
+        let at = first_untext(line);
+        BadWord { at, word: "" }
+    }
+
+    /// Adds the line of the answer.
+    pub(crate) fn write(&self, text: &mut String) -> Result<(), AllocError>
+        ensures { OnOk result (string_bytes text.new
+            ≡ string_bytes text.old ++ bad_word_line self.now) }
+    {
+        text.push_str("bad line")?;
+        push_count(text, self.at)?;
+        if !self.word.is_empty() {
+            push_word(text, self.word)?;
+        }
+        text.push('\n')
+    }
+}
+
+/// The number of the first word of a line that is no text, counted from 1.
+fn first_untext(line: &[u8]) -> u64
+    ensures { result ≡ first_untext 1 (words line.now) }
+{
+    let mut at = 1;
+    for word in Words::new(line) {
+        if str::from_utf8(word).is_err() {
+            return at;
+        }
+        at += 1;
+    }
+    at
+}

@@ -1,0 +1,84 @@
+//! The last accepted edit of a draft, taken back by one more edit.
+
+ghost use Rattle.std.specs.Prelude.{◌≡◌, ◌++◌, OnOk, string_bytes};
+ghost use Rattle.ctt_edits.specs.Edits.{EditFits};
+ghost use Rattle.ctt_edits.specs.Fitting.{ReplyFits};
+ghost use Rattle.ctt_crew.specs.Attended.{leaver};
+ghost use Rattle.ctt_office.specs.Redone.{undone_line};
+ghost use Rattle.ctt_office.specs.SeatAnswers.{Adds, Undoes, UndoesIn};
+
+use crate::answering::write_no_memory;
+use ctt_board::Sheet;
+use ctt_core::Answer;
+use ctt_crew::{Seat, Told, write_told};
+use ctt_desk::{Drafting, Naming};
+use ctt_edits::{Call, Edit, Reply};
+use ctt_script::{push_edit, write_fault};
+use ctt_text::Instance;
+use std::alloc::AllocError;
+
+/// Adds the line of an edit by which another one is taken back, by what it was told.
+fn write_undone(
+    text: &mut String,
+    instance: &Instance,
+    edit: &Edit,
+    reply: &Reply,
+) -> Result<(), AllocError>
+    requires edit { EditFits instance.now edit.now }
+    requires reply { ReplyFits instance.now reply.now }
+    ensures { OnOk result (string_bytes text.new
+        ≡ string_bytes text.old ++ undone_line instance.now edit.now reply.now) }
+{
+    match reply {
+        Reply::Refused(fault) => {
+            text.push_str("refused ")?;
+            write_fault(text, instance, fault)
+        }
+        _ => {
+            text.push_str("done")?;
+            push_edit(text, instance, edit)?;
+            text.push('\n')
+        }
+    }
+}
+
+/// Takes the last accepted edit of a draft back that is not taken back yet, and adds the line of the
+/// answer.
+fn undo_in<'i, S: Sheet<'i>, J: Naming>(
+    drafting: &mut Drafting<'i, S, J>,
+    instance: &Instance,
+    text: &mut String,
+) -> Result<(), AllocError>
+    requires { J.problem ≡ instance.now }
+    ensures answered { OnOk result (Adds (UndoesIn instance.now drafting.old drafting.new)
+        (string_bytes text.old) (string_bytes text.new)) }
+    ensures planner { drafting.new.planner ≡ drafting.old.planner }
+{
+    let found = drafting.undoing();
+    match found {
+        Ok(Some(edit)) => match drafting.call(Call::Edit(edit)) {
+            Ok(reply) => write_undone(text, instance, &edit, &reply),
+            Err(_) => write_no_memory(instance, text),
+        },
+        Ok(None) => text.push_str("nothing to undo\n"),
+        Err(_) => write_no_memory(instance, text),
+    }
+}
+
+/// Takes the last accepted edit of the open draft back, if one is open, and adds the line of the
+/// answer.
+pub(crate) fn undo<'i, S: Sheet<'i>, J: Naming>(
+    seat: &mut Seat<'i, S, J>,
+    instance: &Instance,
+    text: &mut String,
+) -> Result<(), AllocError>
+    requires { J.problem ≡ instance.now }
+    ensures answered { OnOk result (Adds (Undoes instance.now seat.old seat.new)
+        (string_bytes text.old) (string_bytes text.new)) }
+    ensures planner { leaver seat.new ≡ leaver seat.old }
+{
+    match seat {
+        Seat::Free(_) => write_told(text, instance, &Told::Answer(Answer::NoDraft)),
+        Seat::Drafting(drafting) => undo_in(drafting, instance, text),
+    }
+}
