@@ -1,0 +1,348 @@
+#!/usr/bin/env python3
+"""A desk in plain Python, for tests of the screen. Any other command than `desk` is PROGRAM's."""
+import contextlib
+import os
+import select
+import sys
+
+HERE = os.path.dirname(os.path.dirname(os.path.dirname(os.path.abspath(__file__))))
+sys.path.insert(0, os.path.join(HERE, "tools"))
+
+from fake_costs import Costs  # noqa: E402
+from office.edits import LENGTHS  # noqa: E402
+from office.instance import COMMANDS, read_instance, read_solution  # noqa: E402
+from office.timetable import Timetable  # noqa: E402
+from office.words import words_of  # noqa: E402
+
+# turns of which an older desk has none
+WITHOUT = os.environ.get("WITHOUT", "").split()
+PROGRAM = os.environ.get("PROGRAM", os.path.join(HERE, "crates/ctt_tool/out/ctt_tool"))
+# what stands behind the first word of a look or an edit: a course, a room, a teacher, a curriculum,
+# a day, a period; what may be open in an edit pattern has a capital letter
+LOOKS = dict(
+    course="c", slot="dp", teacher="t", curriculum="q", coursecost="c", cost="", missing=""
+)
+EDITS = dict(place="crdp", move="cdprdp", swap="cdpcdp", reroom="crdp", drop="cdp")
+FORMS = {**LOOKS, **EDITS}
+PATTERNS = dict(place="cRDP", move="cdpRDP", swap="cdp***", reroom="cRdp")
+TURNS = ("open", "commit", "refresh", "abandon", "status", "redo", "undo", "help", "leave")
+
+
+class FakeDraft:
+    def __init__(self, newest, count):
+        self.base, self.now, self.count = newest.copy(), newest.copy(), count
+        self.calls, self.backs, self.courses, self.slots = [], [], set(), set()
+
+    def edits(self):
+        return [
+            call for call, answer in self.calls if answer == "done" and words_of(call)[0] in LENGTHS
+        ]
+
+
+class FakeDesk:
+    def __init__(self, instance, start, planners, minutes):
+        self.instance, self.minutes = instance, minutes
+        self.costs = Costs(instance)
+        self.newest = Timetable(instance, start)
+        self.count = 0
+        self.is_full = False
+        self.drafts, self.ended = [None] * planners, [None] * planners
+
+    def answer(self, planner, line):
+        words = words_of(line)
+        bad = self.bad_word(words)
+        if bad is not None:
+            return f"bad line {bad + 1} {words[bad]}" if bad < len(words) else f"bad line {bad + 1}"
+        kind, draft = words[0], self.drafts[planner]
+        if kind in TURNS:
+            return getattr(self, kind)(planner, draft)
+        if kind == "show":
+            return self.look(self.newest, words[1:])
+        if draft is None:
+            return "no draft"
+        if kind == "peek":
+            return self.look(draft.now, words[1:])
+        return self.call(draft, words)
+
+    def bad_word(self, words):
+        """The place of the first word that cannot stand."""
+        at = 1 if words[0] in ("show", "peek") and len(words) > 1 else 0
+        if words[at] in WITHOUT:
+            return at
+        if words[at] in TURNS and at == 0:
+            return 1 if len(words) > 1 else None
+        forms = FORMS
+        if words[at] == "cheapest":
+            at += 1
+            if at >= len(words) or not words[at].isdigit() or int(words[at]) > 1000:
+                return at
+            at, forms = at + 1, PATTERNS
+        elif words[at] == "price":
+            at, forms = at + 1, EDITS
+        elif at == 1:
+            forms = LOOKS
+        if at >= len(words) or words[at] not in forms:
+            return at
+        for what in forms[words[at]]:
+            at += 1
+            before = words[at - 1]
+            if at >= len(words) or not self.is_of(words[at], what, before):
+                return at
+        return at + 1 if at + 1 < len(words) else None
+
+    def is_of(self, word, what, before):
+        """Whether a word may stand for a course, a room and so on; capital letters may be open."""
+        instance = self.instance
+        if what == "*" or (what in "RD" and word == "*") or (what == "P" and before == "*"):
+            return word == "*"
+        what = what.lower()
+        if what in "dp":
+            count = instance.days if what == "d" else instance.periods
+            return word.isdigit() and int(word) < count
+        names = {"c": instance.courses, "r": instance.rooms, "t": instance.teachers}
+        return word in names.get(what, instance.curricula)
+
+    def look(self, t, words):
+        kind = words[0]
+        if kind == "cost":
+            return "costs " + " ".join(map(str, self.costs.whole(t)))
+        if kind == "coursecost":
+            return "costs " + " ".join(map(str, self.costs.of_course(t, words[1])))
+        if kind == "missing":
+            short = [
+                (name, t.missing(name)) for name in self.instance.courses if t.missing(name) > 0
+            ]
+            return " ".join(
+                ["missing", str(len(short)), *(f"{name} {count}" for name, count in short)]
+            )
+        if kind == "price":
+            fault = t.fault(" ".join(words[1:]))
+            return (
+                f"refused {fault}" if fault else f"price {self.costs.price(t, ' '.join(words[1:]))}"
+            )
+        if kind == "cheapest":
+            return self.cheapest(t, int(words[1]), words[2:])
+        lectures = t.look(" ".join(words))
+        return " ".join(
+            ["lectures", str(len(lectures)), *(lecture.words() for lecture in lectures)]
+        )
+
+    def pattern_edits(self, t, words):
+        kind, course = words[:2]
+        slots = [(str(d), str(p)) for d, p in self.instance.slots()]
+        if kind == "swap" and words[4] == "*":
+            return [
+                " ".join([*words[:4], other, d, p])
+                for other in self.instance.courses
+                for d, p in slots
+            ]
+        if kind == "swap":
+            return [" ".join(words)]
+        at = 4 if kind == "move" else 2
+        rooms = list(self.instance.rooms) if words[at] == "*" else [words[at]]
+        ends = slots if words[at + 1] == "*" else [(words[at + 1], words[at + 2])]
+        return [" ".join([*words[:at], room, d, p]) for d, p in ends for room in rooms]
+
+    def cheapest(self, t, count, words):
+        kind, course = words[:2]
+        if kind == "place" and t.missing(course) <= 0:
+            return "refused full"
+        at = 3 if kind == "reroom" else 2
+        if kind != "place" and t.room_at(course, (int(words[at]), int(words[at + 1]))) is None:
+            return "refused notplaced"
+        found = [
+            (self.costs.price(t, edit), edit)
+            for edit in self.pattern_edits(t, words)
+            if t.fault(edit) is None
+        ]
+        found.sort(key=lambda pair: pair[0])
+        found = found[:count]
+        return " ".join(["prices", str(len(found)), *(f"{price} {edit}" for price, edit in found)])
+
+    def call(self, draft, words):
+        line = " ".join(words)
+        self.read(draft, words)
+        if words[0] in LENGTHS:
+            fault = draft.now.fault(line)
+            answer = f"refused {fault}" if fault else "done"
+            if not fault:
+                draft.backs.append(draft.now.make(line))
+        else:
+            answer = self.look(draft.now, words)
+        draft.calls.append((line, answer))
+        return answer
+
+    def read(self, draft, words):
+        """The rows that a call depends on."""
+        kind, rest, instance = words[0], words[1:], self.instance
+        if kind == "price":
+            kind, rest = rest[0], rest[1:]
+            self.read(draft, [kind, *rest])
+            draft.courses.update(
+                mate
+                for course in rest
+                if course in instance.mates
+                for mate in instance.mates[course]
+            )
+        elif kind in LENGTHS:
+            draft.courses.update([rest[0], rest[3]] if kind == "swap" else [rest[0]])
+            ends = {"place": [2], "move": [4], "swap": [1, 4], "reroom": [2], "drop": []}[kind]
+            draft.slots.update((int(rest[at]), int(rest[at + 1])) for at in ends)
+        elif kind == "slot":
+            draft.slots.add((int(rest[0]), int(rest[1])))
+        elif kind in ("course", "coursecost"):
+            draft.courses.add(rest[0])
+        elif kind == "teacher":
+            draft.courses.update(instance.teachers[rest[0]])
+        elif kind == "curriculum":
+            draft.courses.update(instance.curricula[rest[0]])
+        else:
+            draft.courses.update(instance.courses)
+            if kind == "cheapest":
+                draft.slots.update(instance.slots())
+
+    def stale(self, draft):
+        """The least row that a draft depends on and that has changed."""
+        for course in self.instance.courses:
+            if (
+                course in draft.courses
+                and draft.base.by_course[course] != self.newest.by_course[course]
+            ):
+                return f"course {course}"
+        for slot in self.instance.slots():
+            if slot in draft.slots and draft.base.by_slot[slot] != self.newest.by_slot[slot]:
+                return f"slot {slot[0]} {slot[1]}"
+        return None
+
+    def open(self, planner, draft):
+        if draft:
+            return "already open"
+        self.drafts[planner], self.ended[planner] = FakeDraft(self.newest, self.count), None
+        return "opened"
+
+    def commit(self, planner, draft):
+        if not draft:
+            return "no draft"
+        if self.is_full:
+            return "not written"
+        self.drafts[planner] = None
+        row = self.stale(draft)
+        if row:
+            self.ended[planner] = draft.edits()
+            return f"stale {row}"
+        calls = "".join(f"{call}\n{answer}\n" for call, answer in draft.calls)
+        try:
+            with open(self.minutes, "a") as file:
+                file.write(f"entry {planner} {len(draft.calls)}\n{calls}")
+        except OSError:
+            self.is_full = True
+            return "not written"
+        for edit in draft.edits():
+            self.newest.make(edit)
+        self.count += 1
+        return f"committed {self.count}"
+
+    def refresh(self, planner, draft):
+        if not draft:
+            return "no draft"
+        row = self.stale(draft)
+        if row:
+            self.drafts[planner], self.ended[planner] = None, draft.edits()
+            return f"stale {row}"
+        draft.base, draft.now, draft.count = self.newest.copy(), self.newest.copy(), self.count
+        for edit in draft.edits():
+            draft.now.make(edit)
+        return "refreshed"
+
+    def abandon(self, planner, draft):
+        if not draft:
+            return "no draft"
+        self.drafts[planner] = self.ended[planner] = None
+        return "abandoned"
+
+    def status(self, planner, draft):
+        if not draft:
+            return "no draft"
+        row = self.stale(draft)
+        state = f"stale {row}" if row else "fresh"
+        return f"draft {len(draft.edits())} {self.count - draft.count} {state}"
+
+    def redo(self, planner, draft):
+        if draft:
+            return "already open"
+        ended = self.ended[planner]
+        if ended is None:
+            return "nothing to redo"
+        self.open(planner, None)
+        draft, refused = self.drafts[planner], []
+        for number, edit in enumerate(ended, 1):
+            fault = draft.now.fault(edit)
+            if fault:
+                refused.append(f"refused {number} {edit} {fault}")
+            else:
+                self.call(draft, words_of(edit))
+        return " ".join([f"redone {len(ended) - len(refused)} of {len(ended)}", *refused])
+
+    def undo(self, planner, draft):
+        if not draft:
+            return "no draft"
+        if not draft.backs:
+            return "nothing to undo"
+        back = draft.backs.pop()
+        answer = self.call(draft, words_of(back))
+        if answer == "done":
+            draft.backs.pop()
+        return f"{answer} {back}"
+
+    def help(self, planner, draft):
+        return "words " + " ".join(COMMANDS)
+
+    def leave(self, planner, draft):
+        self.drafts[planner] = None
+        return "left"
+
+
+def options(words):
+    """The files and options of `desk`."""
+    files, found, rest = [], {}, iter(words)
+    for word in rest:
+        if word.startswith("--"):
+            found[word] = next(rest)
+        else:
+            files.append(word)
+    return files, found
+
+
+def keep(words):
+    files, found = options(words)
+    instance = read_instance(files[0], found.get("--barred"))
+    start = read_solution(found["--start"]) if "--start" in found else []
+    desk = FakeDesk(instance, start, len(files) - 1, found.get("--minutes", os.devnull))
+    # the office holds the other ends, so that none of these waits
+    seats = {}
+    for planner, seat in enumerate(files[1:]):
+        lines = os.open(seat + ".in", os.O_RDONLY | os.O_NONBLOCK)
+        seats[lines] = [planner, os.open(seat + ".out", os.O_WRONLY), b""]
+    while seats:
+        for lines in select.select(list(seats), [], [])[0]:
+            planner, answers, typed = seats[lines]
+            more = os.read(lines, 65536)
+            *whole, seats[lines][2] = (typed + more).split(b"\n")
+            left = not more
+            for line in filter(bytes.split, whole):
+                answer = desk.answer(planner, line.decode(errors="replace"))
+                with contextlib.suppress(BrokenPipeError):
+                    os.write(answers, answer.encode() + b"\n")
+                left = left or answer == "left"
+            if left:
+                os.close(lines)
+                os.close(answers)
+                del seats[lines]
+    print(f"journal {desk.count}\ncosts {' '.join(map(str, desk.costs.whole(desk.newest)))}")
+
+
+if __name__ == "__main__":
+    if sys.argv[1:2] == ["desk"]:
+        keep(sys.argv[2:])
+    else:
+        os.execv(PROGRAM, ["timedesk", *sys.argv[1:]])

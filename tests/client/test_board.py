@@ -1,0 +1,256 @@
+"""The screen without a terminal: drawn days, windows of all sizes, names of all kinds."""
+import os
+import random
+import subprocess
+import sys
+import time
+
+from support import COMP07, COMP07_SOL, HERE, PLANNING, PROGRAM, SMALL, SMALL_SOL, OfficeTest
+
+sys.path.append(os.path.join(HERE, "tests"))
+from drawn import draw_instance, draw_solution  # noqa: E402
+from rules import Instance as Plain  # noqa: E402
+
+from office.board import Board  # noqa: E402
+from office.grid import View  # noqa: E402
+from office.instance import read_instance  # noqa: E402
+from office.text import cut, fit, shown, width, wrap  # noqa: E402
+from office.timetable import Timetable  # noqa: E402
+
+DAYS = int(os.environ.get("DAYS", "20"))
+STEPS = int(os.environ.get("STEPS", "500"))
+KEYS = (
+    ["up", "down", "left", "right", "tab", "backtab"] * 3
+    + ["enter"] * 12
+    + ["b"] * 6
+    + ["s", "x", "m", "u", "escape", "w"] * 2
+)
+KEYS += [
+    "v",
+    "e",
+    "c",
+    "c",
+    "f",
+    "r",
+    "a",
+    "y",
+    "n",
+    ":",
+    "?",
+    "o",
+    "p",
+    "backspace",
+    "pageup",
+    "pagedown",
+    "\u6570",
+    "resize",
+    "",
+]
+SIZES = [(24, 80), (60, 200), (10, 40), (24, 41), (5, 20), (33, 97), (1, 1)]
+
+
+def text_of(board, height=24, columns=80):
+    return "\n".join("".join(text for text, _ in row) for row in board.rows(height, columns))
+
+
+class Drawn(OfficeTest):
+    program = PLANNING
+
+    def draw(self, draw):
+        """Files of an instance in which something can stand, and of a start that a desk takes."""
+        while True:
+            text, barred = draw_instance(draw)
+            plain = Plain(text, barred)
+            files = []
+            for name, held in (
+                ("drawn.ctt", text),
+                ("drawn.sol", draw_solution(draw, plain)),
+                ("drawn.barred", barred),
+            ):
+                if held is not None:
+                    with open(self.path(name), "wb") as file:
+                        file.write(held)
+                    files.append(self.path(name))
+            options = ["--start", files[1]] + (["--barred", files[2]] if barred is not None else [])
+            run = subprocess.run(
+                [PROGRAM, "run", files[0], os.devnull, *options], capture_output=True
+            )
+            if plain.courses and run.returncode == 0:
+                return files[0], options
+
+    def check_rows(self, board, draw):
+        """The rows fill a window of any size."""
+        height, columns = draw.choice(SIZES)
+        rows = board.rows(height, columns)
+        self.assertEqual(len(rows), height)
+        for row in rows:
+            self.assertLessEqual(sum(width(text) for text, _ in row), max(columns, 21))
+
+    def play(self, seed):
+        """A day of two planners who press any keys."""
+        draw = random.Random(seed)
+        instance, options = self.draw(draw)
+        self.open("day", instance, "2", *options)
+        boards = [Board(self.planning("day", planner)) for planner in (0, 1)]
+        for board in boards:
+            board.begin()
+        for _ in range(STEPS):
+            board = draw.choice(boards)
+            if draw.random() < 0.05:
+                board.tick()
+            else:
+                board.press(draw.choice(KEYS))
+            self.check_rows(board, draw)
+            self.assertEqual(board.planning.alarm, "")
+        for board in boards:
+            board.tick()
+        newest = boards[0].planning.known.newest
+        self.assertTrue(newest.same_as(boards[1].planning.known.newest))
+        for board in boards:
+            board.planning.seat.go()
+        found = "".join(lecture.words() + "\n" for lecture in newest.lectures())
+        self.assertEqual(found, self.listed("day"))
+
+    def test_days(self):
+        for seed in range(DAYS):
+            with self.subTest(seed=seed):
+                self.setUp()
+                self.play(seed)
+
+
+class Shown(OfficeTest):
+    program = PLANNING
+
+    def test_widths(self):
+        self.assertEqual(
+            [width(text) for text in ("abc", "数学", "e\u0301", "ﷺ", "a\u200bb")], [3, 4, 1, 1, 2]
+        )
+        self.assertEqual(
+            [fit("数学a", n) for n in (1, 2, 3, 4, 5, 6)], ["~", "~ ", "数~", "数~ ", "数学a", "数学a "]
+        )
+        self.assertEqual(cut("abc", 0), "")
+        self.assertEqual(wrap("  aa bb cc", 7), ["  aa bb", "  cc"])
+        self.assertEqual(shown("a\x1b[2Jb"), "a\ufffd[2Jb")
+
+    def test_wide_names(self):
+        with open(SMALL) as file:
+            text = file.read()
+        for old, new in (
+            ("alg", "数学の時間"),
+            ("geo", "Géométrie"),
+            ("top", "🎓"),
+            ("q1", "一年"),
+            ("t1", "e\u0301a"),
+        ):
+            text = text.replace(old, new)
+        instance = self.write("wide.ctt", text)
+        self.open("day", instance, "1")
+        board = Board(self.planning("day", 0))
+        board.begin()
+        for _ in range(5):
+            for key in ("m", "enter", "b", "enter"):
+                board.press(key)
+            widths = [sum(width(text) for text, _ in row) for row in board.rows(24, 80)]
+            self.assertEqual(len(set(widths[4:10])), 1)
+            self.assertLessEqual(max(widths), 80)
+        board.show_view(View("curriculum", "一年"))
+        self.assertIn("数学の時間", text_of(board))
+        self.assertEqual(board.planning.missing(), {})
+
+    def test_cheapest_place_in_under_ten_keys(self):
+        """Who has seen no page finds the cheapest place of a lecture by what the screen says, and
+        commits it."""
+        self.open("day", COMP07, "1", "--start", COMP07_SOL)
+        board = Board(self.planning("day", 0))
+        board.begin()
+        self.assertIn("Enter pick up", text_of(board))
+        board.press("enter")
+        self.assertIn("b goes there", text_of(board))
+        for key in ("b", "enter", "c"):
+            board.press(key)
+        self.assertIn("Committed as draft 1: 1 edit, on the disk.", text_of(board))
+
+    def test_typed_lines(self):
+        self.open("day", SMALL, "1", "--start", SMALL_SOL)
+        board = Board(self.planning("day", 0))
+        board.begin()
+        for line, answer in [
+            ("course geo", "no draft"),
+            ("open", "opened"),
+            ("drop geo 1 2", "done"),
+            ("cost", "costs 15 0 2 1"),
+            ("frob", "bad line"),
+            ("place geo A 1 2", "done"),
+            ("commit", "committed 1"),
+        ]:
+            for key in [":", *line, "enter"]:
+                board.press(key)
+            self.assertIn(f"{line}: {answer}", text_of(board))
+            self.assertEqual(board.planning.alarm, "")
+        for key in [":", *"leave", "enter"]:
+            board.press(key)
+        self.assertTrue(board.is_done)
+        board.planning.seat.go()
+        self.assertEqual(
+            self.sit("day", 0, "show course geo\n"), ["lectures 2 geo A 0 1 geo A 1 2"]
+        )
+
+    def test_asks_before_it_gives_up(self):
+        self.open("day", SMALL, "1", "--start", SMALL_SOL)
+        board = Board(self.planning("day", 0))
+        board.begin()
+        board.planning.edit("drop geo 1 2")
+        for key in ("a", "escape", "a", "x"):
+            board.press(key)
+        self.assertTrue(board.planning.is_open)
+        board.press("y")
+        self.assertFalse(board.planning.is_open)
+
+    def test_speed(self):
+        """A key is answered in 50 ms at the size of comp07, with what is drawn behind it."""
+        program, self.environment["TIMEDESK"] = self.program, PROGRAM
+        self.open("day", COMP07, "1", "--start", COMP07_SOL)
+        board = Board(self.seat_of_any_desk("day"))
+        board.begin()
+        times = []
+        for key in [
+            "right",
+            "down",
+            "enter",
+            "b",
+            "tab",
+            "escape",
+            "w",
+            "right",
+            "w",
+            "w",
+            "w",
+            "left",
+            "s",
+            "escape",
+        ] * 5:
+            begun = time.perf_counter()
+            board.press(key)
+            board.rows(24, 80)
+            times.append(time.perf_counter() - begun)
+        times.sort()
+        print(
+            f"a key at comp07 size: middle {times[len(times) // 2] * 1000:.1f} ms, "
+            f"longest {times[-1] * 1000:.1f} ms"
+        )
+        # a machine that has other work to do is slower; what is measured alone is in docs/OFFICE.md
+        self.assertLess(times[len(times) // 2], 0.05)
+
+    def seat_of_any_desk(self, day):
+        """A planner at a desk that may have no `status` yet."""
+        from office.planning import Planning
+
+        planning = Planning(self.seat(day, 0))
+        planning.begin = lambda: (planning.seat.catch_up(), planning.read_newest())
+        return planning
+
+
+class Known(OfficeTest):
+    def test_same(self):
+        instance = read_instance(SMALL)
+        self.assertTrue(Timetable(instance).same_as(Timetable(instance)))

@@ -1,0 +1,122 @@
+"""What a planner's client knows of the newest timetable and of its draft, by the answers of the
+desk and by the minutes."""
+from __future__ import annotations
+
+from typing import Iterable, List, Optional, Tuple
+
+from office.edits import LENGTHS, WANTS, Redone
+from office.instance import Instance
+from office.timetable import Timetable, read_lectures
+from office.words import words_of
+
+
+class Known:
+    """The newest timetable, and the draft on its base."""
+
+    def __init__(self, instance: Instance, lectures: Iterable[Tuple[str, str, int, int]]) -> None:
+        self.newest = Timetable(instance, lectures)
+        self.base: Optional[Timetable] = None
+        self.draft: Optional[Timetable] = None
+        # the edits that were made in the draft, and those of the last draft, if it ended stale
+        self.made: List[str] = []
+        self.ended: List[str] = []
+
+    def present(self) -> Timetable:
+        """The timetable that a planner works on."""
+        return self.draft or self.newest
+
+    def accept(self, edits: List[str]) -> bool:
+        """Takes up an accepted draft, and answers whether it fits what is known."""
+        return all(self.newest.try_edit(edit) for edit in edits)
+
+    def hear(self, line: str, answer: str) -> bool:
+        """Takes up a line with its answer, and answers whether it is the one that was expected, as
+        far as one was."""
+        kind, *rest = words_of(line)
+        if answer in WANTS or answer.startswith("bad line"):
+            # nothing has changed by it
+            return True
+        if kind in LENGTHS:
+            return self._hear_edit(line, answer)
+        if kind == "undo":
+            return self._hear_undo(answer)
+        if kind == "redo":
+            return self._hear_redo(answer)
+        if kind in ("open", "commit", "refresh", "abandon", "leave"):
+            return self._hear_turn(kind, answer)
+        looked = " ".join(rest) if kind in ("show", "peek") else line
+        return self._hear_look(self.newest if kind == "show" else self.draft, looked, answer)
+
+    def _hear_edit(self, edit: str, answer: str) -> bool:
+        if self.draft is None:
+            return answer == "no draft"
+        fault = self.draft.fault(edit)
+        if answer == "done" and fault is None:
+            self.draft.make(edit)
+            self.made.append(edit)
+        return answer == ("done" if fault is None else f"refused {fault}")
+
+    def _hear_undo(self, answer: str) -> bool:
+        if answer == "no draft":
+            return self.draft is None
+        if not answer.startswith("done "):
+            # all may have been taken back, or somebody stands in the way
+            return True
+        return self._hear_edit(answer[5:], "done")
+
+    def _hear_look(self, timetable: Optional[Timetable], look: str, answer: str) -> bool:
+        if timetable is None:
+            return answer == "no draft"
+        expected = timetable.look(look) if look else None
+        return expected is None or expected == read_lectures(answer)
+
+    def _begin(self) -> None:
+        self.base, self.draft = self.newest.copy(), self.newest.copy()
+        self.made, self.ended = [], []
+
+    def _end(self, keeps: bool) -> None:
+        self.ended = self.made if keeps else []
+        self.base, self.draft, self.made = None, None, []
+
+    def _hear_turn(self, kind: str, answer: str) -> bool:
+        if kind == "open":
+            if answer == "opened":
+                self._begin()
+                return True
+            return (self.draft is not None) == (answer == "already open")
+        if answer in ("refreshed", "not written"):
+            if answer == "refreshed":
+                return self._renew()
+            return self.draft is not None
+        if answer.startswith(("committed ", "abandoned", "left", "stale ")):
+            was_open = self.draft is not None
+            self._end(answer.startswith("stale "))
+            return was_open or answer == "left"
+        return self.draft is None
+
+    def _renew(self) -> bool:
+        """The edits of the draft on the newest timetable."""
+        made = self.made
+        if self.draft is None:
+            return False
+        self._begin()
+        self.made = made
+        return all(self.draft.try_edit(edit) for edit in made)
+
+    def _hear_redo(self, answer: str) -> bool:
+        redone = Redone.read(answer)
+        if redone is None:
+            return (answer == "already open") == (self.draft is not None)
+        ended, left_out = self.ended, {number: fault for number, _, fault in redone.refused}
+        if self.draft is not None or redone.of != len(ended):
+            return False
+        self._begin()
+        assert self.draft is not None
+        for number, edit in enumerate(ended, 1):
+            fault = self.draft.fault(edit)
+            if fault != left_out.get(number):
+                return False
+            if fault is None:
+                self.draft.make(edit)
+                self.made.append(edit)
+        return True

@@ -1,0 +1,202 @@
+"""A planner's work at a seat, without a terminal: the draft, what it costs, what others do."""
+from __future__ import annotations
+
+from typing import List
+
+from office.edits import Redone
+from office.reading import Reading, read_costs
+from office.reasons import reason
+from office.text import counted
+from office.words import words_of
+
+NOT_WRITTEN = "Not written: the disk is full, or fails. Your edits are in the log; tell the office."
+
+
+class Planning(Reading):
+    """What a planner does."""
+
+    # the last edit that was refused, with the reason
+    refused = ""
+
+    def open(self) -> bool:
+        """Opens a draft, and reads what it stands on; answers whether one is open."""
+        if self.is_open:
+            return True
+        if self.ended():
+            self.notice = (
+                f"First say what becomes of the {counted(len(self.ended()), 'edit')} of your last "
+                "draft: r makes them again, a gives them up."
+            )
+            return False
+        return self._open_new()
+
+    def _open_new(self) -> bool:
+        answer = self.turn("open")
+        if answer == "opened":
+            self._stand_anew()
+        else:
+            self.notice = answer_in_words(answer)
+        return self.is_open
+
+    def _stand_anew(self) -> None:
+        """Reads the draft on the base that it has now, and what the newest timetable costs, which
+        is noted in the log, too."""
+        self.known.draft = self.read_all("peek")
+        if not self.known.made:
+            self.known.base = self.known.draft.copy()
+        # before its first edit the draft costs what its base does
+        costs = self.ask("show cost" if self.known.made else "peek cost")
+        self.base_total = sum(read_costs(costs).values())
+        self.seat.log.noted(f"base {self.base_total}")
+        self.read_status()
+
+    def edit(self, edit: str) -> bool:
+        """Makes an edit, in a new draft if none is open; answers whether it was made."""
+        if not self.open():
+            return False
+        answer = self.turn(edit)
+        if answer == "done":
+            self.notice = f"Done: {edit}."
+            return True
+        why = answer_in_words(answer)
+        if answer.startswith("refused "):
+            why = reason(self.instance, edit, answer[8:])
+        self.refused = f"{edit}: {why}"
+        self.notice = f"Refused: {self.refused}."
+        return False
+
+    def undo(self) -> None:
+        if not self.is_open:
+            self.notice = "No draft is open: nothing to undo."
+            return
+        answer = self.turn("undo")
+        if answer.startswith("bad line"):
+            answer = self._undo_by_edit()
+        if answer.startswith("done "):
+            self.notice = f"Taken back, by {answer[5:]}."
+        else:
+            self.notice = answer_in_words(answer)
+
+    def _undo_by_edit(self) -> str:
+        """Takes the last edit back at a desk that has no `undo` yet."""
+        assert self.known.base is not None
+        timetable, back = self.known.base.copy(), ""
+        for edit in self.edits():
+            if timetable.fault(edit) is not None:
+                return "nothing to undo"
+            back = timetable.make(edit)
+        if not back:
+            return "nothing to undo"
+        self.seat.take_back()
+        return f"{self.turn(back)} {back}"
+
+    def commit(self) -> None:
+        """Wants the draft accepted."""
+        if not self.is_open:
+            self.notice = "No draft is open: nothing to commit."
+            return
+        count = len(self.edits())
+        if not count:
+            self.notice = "Your draft has no edits: nothing to commit."
+            return
+        answer = self.turn("commit")
+        if answer.startswith("committed "):
+            self.notice = (
+                f"Committed as draft {answer[10:]}: {counted(count, 'edit')}, on the disk."
+            )
+        else:
+            self._turned_down(answer)
+
+    def refresh(self) -> None:
+        """Brings the draft up to date."""
+        if not self.is_open:
+            self.notice = "No draft is open: you see the newest timetable."
+            return
+        answer = self.turn("refresh")
+        if answer == "refreshed":
+            self._stand_anew()
+            self.notice = "Your draft is up to date."
+        else:
+            self._turned_down(answer)
+
+    def _turned_down(self, answer: str) -> None:
+        """A commit or a refresh that did not succeed."""
+        if answer.startswith("stale "):
+            self.stale_row = answer[6:]
+            self.notice = (
+                f"Stale: {self.stale_row} has changed. Your edits are kept: r makes them again."
+            )
+        elif answer == "not written":
+            self.read_again()
+            self.notice = NOT_WRITTEN
+        else:
+            self.notice = answer_in_words(answer)
+
+    def abandon(self) -> None:
+        count = len(self.edits() or self.ended())
+        if not self.is_open:
+            self.forget()
+            self.notice = f"The last draft is given up: {counted(count, 'edit')}."
+        else:
+            self.turn("abandon")
+            self.notice = f"The draft is given up: {counted(count, 'edit')}."
+
+    def forget(self) -> None:
+        """The edits of the last draft are given up, or made again by another way."""
+        if self.ended():
+            self.seat.forget_ended()
+            self.known.ended = []
+
+    def redo(self) -> List[str]:
+        """Makes the edits of a stale draft again on the newest timetable, and answers those that
+        were refused, with the reason; nothing is committed by it."""
+        ended = self.ended()
+        answer = self.turn("redo")
+        redone = Redone.read(answer)
+        if redone is None:
+            if answer.startswith(("nothing to redo", "bad line")) and ended:
+                # a desk that has no `redo` yet, or not the edits of a draft that ended otherwise;
+                # the log has them
+                return self.make_again(ended)
+            self.notice = answer_in_words(answer)
+            return []
+        self._stand_anew()
+        self.notice = f"{redone.made} of {redone.of} edits made again, none committed yet."
+        return [
+            f"{number}. {edit}: {reason(self.instance, edit, fault)}"
+            for number, edit, fault in redone.refused
+        ]
+
+    def make_again(self, edits: List[str]) -> List[str]:
+        """Makes edits again in a draft, and answers those that were refused, with the reason."""
+        if not self.is_open:
+            self._open_new()
+        refused = []
+        for number, edit in enumerate(edits, 1):
+            if not self.edit(edit):
+                refused.append(f"{number}. {self.refused}")
+        made = len(edits) - len(refused)
+        self.notice = f"{made} of {len(edits)} edits made again, none committed yet."
+        return refused
+
+    def type_line(self, line: str) -> str:
+        """Sends a line that was typed by hand, and answers what the desk says."""
+        answer = self.turn(line)
+        if self.is_open and words_of(line)[0] in ("open", "redo", "refresh"):
+            self._stand_anew()
+        if answer.startswith("stale "):
+            self.stale_row = answer[6:]
+        self.notice = f"{line}: {answer}"
+        return answer
+
+
+def answer_in_words(answer: str) -> str:
+    """An answer that is none of those that were hoped for."""
+    return {
+        "nothing to redo": "There is no stale draft to make again.",
+        "nothing to undo": "No edit is left to undo.",
+        "already open": "A draft is open already.",
+        "no draft": "No draft is open.",
+        "no memory": "The desk has no memory for it now; try again.",
+        "no place": "The desk has no place for it now; try again.",
+    }.get(answer, f"The desk says: {answer}")
