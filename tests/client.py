@@ -20,8 +20,11 @@ def main():
         loader.loadTestsFromNames(names) if names else loader.discover(os.path.join(HERE, "client"))
     )
     found = unittest.TextTestRunner(stream=sys.stdout, verbosity=0).run(suite)
-    failed = len(found.failures) + len(found.errors) + len(found.unexpectedSuccesses)
-    passed = found.testsRun - failed - len(found.skipped)
+    faults = [test for test, _ in found.failures + found.errors] + found.unexpectedSuccesses
+    failed = len(faults)
+    # several parts of one test may fail
+    tests = {getattr(test, "test_case", test) for test in faults}
+    passed = found.testsRun - len(tests) - len(found.skipped)
     print(f"{passed} passed, {failed} failed")
     sys.exit(failed > 0)
 

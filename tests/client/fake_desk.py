@@ -9,13 +9,11 @@ HERE = os.path.dirname(os.path.dirname(os.path.dirname(os.path.abspath(__file__)
 sys.path.insert(0, os.path.join(HERE, "tools"))
 
 from fake_costs import Costs  # noqa: E402
-from office.edits import LENGTHS  # noqa: E402
+from office.edits import LENGTHS, normal  # noqa: E402
 from office.instance import COMMANDS, read_instance, read_solution  # noqa: E402
 from office.timetable import Timetable  # noqa: E402
 from office.words import words_of  # noqa: E402
 
-# turns of which an older desk has none
-WITHOUT = os.environ.get("WITHOUT", "").split()
 PROGRAM = os.environ.get("PROGRAM", os.path.join(HERE, "crates/ctt_tool/out/ctt_tool"))
 # what stands behind the first word of a look or an edit: a course, a room, a teacher, a curriculum,
 # a day, a period; what may be open in an edit pattern has a capital letter
@@ -37,6 +35,14 @@ class FakeDraft:
         return [
             call for call, answer in self.calls if answer == "done" and words_of(call)[0] in LENGTHS
         ]
+
+    def make(self, edit):
+        """Makes an edit. One that is itself the next inverse takes the last one back."""
+        back = self.now.make(edit)
+        if self.backs and self.backs[-1] == edit:
+            self.backs.pop()
+        else:
+            self.backs.append(back)
 
 
 class FakeDesk:
@@ -67,8 +73,6 @@ class FakeDesk:
     def bad_word(self, words):
         """The place of the first word that cannot stand."""
         at = 1 if words[0] in ("show", "peek") and len(words) > 1 else 0
-        if words[at] in WITHOUT:
-            return at
         if words[at] in TURNS and at == 0:
             return 1 if len(words) > 1 else None
         forms = FORMS
@@ -163,10 +167,11 @@ class FakeDesk:
         line = " ".join(words)
         self.read(draft, words)
         if words[0] in LENGTHS:
+            line = normal(line)
             fault = draft.now.fault(line)
             answer = f"refused {fault}" if fault else "done"
             if not fault:
-                draft.backs.append(draft.now.make(line))
+                draft.make(line)
         else:
             answer = self.look(draft.now, words)
         draft.calls.append((line, answer))
@@ -250,8 +255,9 @@ class FakeDesk:
             self.drafts[planner], self.ended[planner] = None, draft.edits()
             return f"stale {row}"
         draft.base, draft.now, draft.count = self.newest.copy(), self.newest.copy(), self.count
+        draft.backs = []
         for edit in draft.edits():
-            draft.now.make(edit)
+            draft.make(edit)
         return "refreshed"
 
     def abandon(self, planner, draft):
@@ -288,14 +294,12 @@ class FakeDesk:
             return "no draft"
         if not draft.backs:
             return "nothing to undo"
-        back = draft.backs.pop()
+        back = draft.backs[-1]
         answer = self.call(draft, words_of(back))
-        if answer == "done":
-            draft.backs.pop()
-        return f"{answer} {back}"
+        return f"done {back}" if answer == "done" else answer
 
     def help(self, planner, draft):
-        return "words " + " ".join(COMMANDS)
+        return "words " + " ".join(sorted(COMMANDS))
 
     def leave(self, planner, draft):
         self.drafts[planner] = None

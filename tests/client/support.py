@@ -48,22 +48,6 @@ def is_alive(number):
         return False
 
 
-def has_all_lines():
-    """Whether the program answers all lines of a screen at its seats."""
-    lines = b"status\nundo\nredo\nopen\nshow cost\npeek missing\n"
-    try:
-        done = subprocess.run([PROGRAM, "desk", SMALL, "-"], input=lines, capture_output=True)
-    except OSError:
-        return False
-    answers = done.stdout.decode().split("\n")[:-1]
-    return len(answers) == 6 and not any(a.startswith(("bad", "already")) for a in answers)
-
-
-# the desk of the screens: the program, if its seats answer all that a screen says, else a desk in
-# plain Python that does; PLANNING names another one
-PLANNING = os.path.abspath(os.environ.get("PLANNING") or (PROGRAM if has_all_lines() else FAKE))
-
-
 class OfficeTest(unittest.TestCase):
     """A test with a folder of its own; offices that it opens are ended with it."""
 

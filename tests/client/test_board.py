@@ -5,7 +5,7 @@ import subprocess
 import sys
 import time
 
-from support import COMP07, COMP07_SOL, HERE, PLANNING, PROGRAM, SMALL, SMALL_SOL, OfficeTest
+from support import COMP07, COMP07_SOL, HERE, PROGRAM, SMALL, SMALL_SOL, OfficeTest
 
 sys.path.append(os.path.join(HERE, "tests"))
 from drawn import draw_instance, draw_solution  # noqa: E402
@@ -54,8 +54,6 @@ def text_of(board, height=24, columns=80):
 
 
 class Drawn(OfficeTest):
-    program = PLANNING
-
     def draw(self, draw):
         """Files of an instance in which something can stand, and of a start that a desk takes."""
         while True:
@@ -119,8 +117,6 @@ class Drawn(OfficeTest):
 
 
 class Shown(OfficeTest):
-    program = PLANNING
-
     def test_widths(self):
         self.assertEqual(
             [width(text) for text in ("abc", "数学", "e\u0301", "ﷺ", "a\u200bb")], [3, 4, 1, 1, 2]
@@ -208,9 +204,8 @@ class Shown(OfficeTest):
 
     def test_speed(self):
         """A key is answered in 50 ms at the size of comp07, with what is drawn behind it."""
-        program, self.environment["TIMEDESK"] = self.program, PROGRAM
         self.open("day", COMP07, "1", "--start", COMP07_SOL)
-        board = Board(self.seat_of_any_desk("day"))
+        board = Board(self.planning("day", 0))
         board.begin()
         times = []
         for key in [
@@ -240,14 +235,6 @@ class Shown(OfficeTest):
         )
         # a machine that has other work to do is slower; what is measured alone is in docs/OFFICE.md
         self.assertLess(times[len(times) // 2], 0.05)
-
-    def seat_of_any_desk(self, day):
-        """A planner at a desk that may have no `status` yet."""
-        from office.planning import Planning
-
-        planning = Planning(self.seat(day, 0))
-        planning.begin = lambda: (planning.seat.catch_up(), planning.read_newest())
-        return planning
 
 
 class Known(OfficeTest):

@@ -102,7 +102,9 @@ class Drawn:
             return self.look()
         if way < 0.9:
             return f"show {self.look()}"
-        return self.draw.choice(("commit", "commit", "refresh", "abandon", "open"))
+        if way < 0.95:
+            return self.draw.choice(("commit", "commit", "refresh", "abandon", "open"))
+        return self.draw.choice(("status", "undo", "undo", "redo", "redo"))
 
 
 class Seats:
@@ -149,24 +151,45 @@ class Scripts(OfficeTest):
         # answers before
         seats = Seats(self, drawn)
         knowns = [Known(drawn.instance, start) for _ in range(PLANNERS)]
+        stories = [Story() for _ in range(PLANNERS)]
         for _ in range(60):
             planner = drawn.draw.randrange(PLANNERS)
-            line = drawn.line(knowns[planner])
-            if line.startswith("show ") and knowns[planner].draft is not None:
-                # later desks show the newest timetable, and the first ones refuse
-                continue
+            known = knowns[planner]
+            line = drawn.line(known)
             answer = seats.ask(planner, line)
-            edits = list(knowns[planner].made)
-            self.assertTrue(
-                knowns[planner].hear(line, answer), (seed, planner, line, answer, lines)
-            )
+            edits = list(known.made)
+            lines += self.lines_of_run(planner, known, line, answer)
+            self.assertTrue(known.hear(line, answer), (seed, planner, line, answer, lines))
+            stories[planner].hear(line, answer)
+            self.check_story(stories[planner], known)
             if answer.startswith("committed "):
-                for known in knowns:
-                    self.assertTrue(known.accept(edits), (seed, line, edits))
-            lines.append((planner, line, answer))
+                for each in knowns:
+                    self.assertTrue(each.accept(edits), (seed, line, edits))
         seats.end()
         self.minutes = seats.minutes
         return drawn, lines, knowns
+
+    @staticmethod
+    def lines_of_run(planner, known, line, answer):
+        """The same for `run`, which has no `undo` and no `redo`: the edits that these stand for,
+        with their answers."""
+        if line == "undo" and answer.startswith(("done ", "refused ")):
+            told = "done" if answer.startswith("done ") else answer
+            return [(planner, known.standing[-1][1], told)]
+        if line == "redo" and answer.startswith("redone "):
+            left_out = [number for number, _, _ in Redone.read(answer).refused]
+            made = [edit for number, edit in enumerate(known.ended, 1) if number not in left_out]
+            return [(planner, "open", "opened"), *((planner, edit, "done") for edit in made)]
+        return [] if line in ("undo", "redo") else [(planner, line, answer)]
+
+    def check_story(self, story, known):
+        """By the log a seat has the draft that is known from answers, and its edits lead to it."""
+        self.assertEqual(story.is_open, known.draft is not None)
+        self.assertEqual(story.made, known.made)
+        if story.is_open:
+            timetable = known.base.copy()
+            self.assertTrue(all(timetable.try_edit(edit) for edit in story.edits))
+            self.assertTrue(timetable.same_as(known.draft))
 
     def test_drawn(self):
         for seed in range(DRAWS):

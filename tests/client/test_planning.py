@@ -2,7 +2,7 @@
 import os
 import signal
 
-from support import COMP07, COMP07_SOL, FAKE, PLANNING, SMALL, SMALL_SOL, OfficeTest, wait_until
+from support import COMP07, COMP07_SOL, FAKE, SMALL, SMALL_SOL, OfficeTest, wait_until
 
 from office.board import Board
 from office.carry import MOVE, PLACE, SWAP, Carry
@@ -15,8 +15,6 @@ BEST = "move c0109 4 1 r04 4 3"
 
 
 class Planners(OfficeTest):
-    program = PLANNING
-
     def two(self):
         """Two planners at comp07."""
         self.office_process = self.open("day", COMP07, "2", "--start", COMP07_SOL)
@@ -125,33 +123,30 @@ class Planners(OfficeTest):
         anna.abandon()
         self.assertFalse(anna.is_open)
 
-    def test_desk_without_undo_and_redo(self):
-        """At a desk that has neither yet, the client makes the edits of it."""
-        self.environment["WITHOUT"] = "undo redo"
+    def test_taken_back_by_hand(self):
+        """An edit that is itself the next inverse takes the last one back, and the desk, the screen
+        and the log agree on what is left; also after one goes away, and after a redo."""
         anna, ben = self.two()
-        if self.program != FAKE:
-            self.skipTest("the desk has both")
-        anna.edit(BEST)
-        anna.edit("drop c0001 1 2")
-        anna.undo()
-        self.assertEqual((anna.missing(), anna.edits()), ({}, [BEST]))
-        self.assertEqual(anna.notice, "Taken back, by place c0001 r14 1 2.")
+        for edit in (BEST, "drop c0001 1 2", "place c0001 r14 1 2"):
+            anna.edit(edit)
+        self.assertEqual(anna.edits(), [BEST])
         anna.seat.go()
         anna = self.planning("day", 0)
         self.assertEqual(anna.edits(), [BEST])
-        anna.undo()
-        anna.undo()
-        self.assertEqual((anna.notice, anna.edits()), ("No edit is left to undo.", []))
-        anna.edit("drop c0001 1 2")
         anna.edit("reroom c0049 r04 0 0")
+        anna.undo()
+        self.assertEqual(anna.edits(), [BEST])
+        anna.edit("drop c0001 1 2")
         ben.edit("drop c0001 1 2")
         ben.commit()
         anna.commit()
         self.assertIn("Stale", anna.notice)
-        self.assertEqual(len(anna.redo()), 1)
-        self.assertEqual(anna.edits(), ["reroom c0049 r04 0 0"])
-        anna.commit()
-        self.assertIn("Committed as draft 2", anna.notice)
+        # the desk counts all that was accepted, also what was taken back
+        self.assertEqual([line.split(".")[0] for line in anna.redo()], ["2"])
+        self.assertEqual(anna.edits(), [BEST])
+        anna.undo()
+        anna.undo()
+        self.assertEqual((anna.notice, anna.edits()), ("No edit is left to undo.", []))
         self.assertEqual((anna.alarm, ben.alarm), ("", ""))
 
     def test_goes_away_and_comes_back(self):

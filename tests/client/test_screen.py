@@ -5,7 +5,7 @@ import signal
 import subprocess
 import unittest
 
-from support import COMP07, COMP07_SOL, HERE, OFFICE, PLANNING, SMALL, SMALL_SOL
+from support import COMP07, COMP07_SOL, HERE, OFFICE, PROGRAM, SMALL, SMALL_SOL
 from support import OfficeTest, is_alive, wait_until
 from terminal import Terminals, has_tmux
 from test_day import LIMITED
@@ -17,8 +17,6 @@ TO_BEST = ["v", *"c0109", "Enter", "Right", "Right", "Right", "Right", "Up", "Up
 
 @unittest.skipUnless(has_tmux(), "tmux is not installed, so nobody has looked at the screen")
 class Screens(OfficeTest):
-    program = PLANNING
-
     def setUp(self):
         super().setUp()
         self.terminals = Terminals(self.environment)
@@ -202,7 +200,7 @@ class Screens(OfficeTest):
 
     def test_full_disk(self):
         self.environment["TIMEDESK"] = self.write(
-            "limited", LIMITED.format(program=self.program).replace("600, 600", "150, 150"), 0o755
+            "limited", LIMITED.format(program=PROGRAM).replace("600, 600", "150, 150"), 0o755
         )
         self.open("day", SMALL, "1", "--start", SMALL_SOL)
         anna = self.sit_down("day", 0)

@@ -25,6 +25,63 @@ def courses_of(edit: str) -> list[str]:
     return [words[1], words[4]] if words[0] == "swap" else [words[1]]
 
 
+def normal(edit: str) -> str:
+    """An edit as the desk writes it, its numbers without zeros in front."""
+    words = words_of(edit)
+    places = [len(words) - 2, len(words) - 1] + ([2, 3] if len(words) == 7 else [])
+    for place in places:
+        words[place] = str(int(words[place]))
+    return " ".join(words)
+
+
+def inverses(edits: list[str]) -> list[str]:
+    """The edit that takes each of these back, which were made one behind another. In place of a
+    room that none of them names it has `*`."""
+    rooms: dict[tuple[str, ...], str] = {}
+    found = []
+    for edit in edits:
+        kind, course, *rest = words_of(edit)
+        new = (course, *rest[-2:])
+        if kind == "place":
+            found.append(f"drop {' '.join(new)}")
+            rooms[new] = rest[0]
+        elif kind == "drop":
+            found.append(f"place {course} {rooms.pop(new, '*')} {' '.join(rest)}")
+        elif kind == "reroom":
+            found.append(f"reroom {course} {rooms.get(new, '*')} {' '.join(rest[1:])}")
+            rooms[new] = rest[0]
+        elif kind == "move":
+            old = rooms.pop((course, rest[0], rest[1]), "*")
+            found.append(f"move {course} {rest[3]} {rest[4]} {old} {rest[0]} {rest[1]}")
+            rooms[new] = rest[2]
+        else:
+            other = rest[2]
+            one, two = rooms.pop((course, *rest[:2]), "*"), rooms.pop((other, *rest[3:]), "*")
+            found.append(f"swap {' '.join(new)} {other} {' '.join(rest[:2])}")
+            rooms[new], rooms[(other, *rest[:2])] = two, one
+    return found
+
+
+def may_be(inverse: str, edit: str) -> bool:
+    """Whether an edit may be this inverse, of which a room may not be known."""
+    pairs = zip(words_of(inverse), words_of(edit))
+    return all(known in ("*", word) for known, word in pairs)
+
+
+def standing(made: list[str], edit: str) -> list[str]:
+    """Edits with one more: if that takes the last one back, both are gone."""
+    is_near = made and words_of(made[-1])[1] == words_of(edit)[1]
+    is_inverse = is_near and inverses(made)[-1] == edit
+    return made[:-1] if is_inverse else [*made, edit]
+
+
+def taken_back(made: list[str], back: str) -> list[str]:
+    """Edits without the one that the desk has taken back by another one. What was made after it had
+    been taken back by hand."""
+    places = [place for place, inverse in enumerate(inverses(made)) if may_be(inverse, back)]
+    return made[: places[-1]] if places else [*made, back]
+
+
 def take_edit(words: list[str]) -> tuple[str, list[str]]:
     """The edit that stands in front, and the words after it."""
     length = LENGTHS[words[0]]
@@ -89,8 +146,6 @@ class Story:
     accepted: list[int] = field(default_factory=list)
     has_left: bool = False
     is_full: bool = False
-    # the next edit takes the last one back
-    is_taking_back: bool = False
 
     def hear(self, line: str, answer: str) -> None:
         """Takes up a line with its answer."""
@@ -99,11 +154,8 @@ class Story:
             return
         first = words[0]
         if first in LENGTHS:
-            if answer == "done" and self.is_taking_back:
-                self._undo("done " + " ".join(words))
-            elif answer == "done":
-                self._make(" ".join(words))
-            self.is_taking_back = False
+            if answer == "done":
+                self._make(normal(line))
         elif first == "undo":
             self._undo(answer)
         elif first == "redo":
@@ -116,18 +168,20 @@ class Story:
         return self.edits if self.is_open else self.ended
 
     def forget(self) -> None:
-        """The edits of the last draft are given up."""
-        self.ended, self.ended_made = [], []
+        """The edits of the last draft are given up. The desk would still make them again."""
+        self.ended = []
 
     def _make(self, edit: str) -> None:
         if not self.is_open:
             # this is a draft of which the beginning is not known
-            self._begin([], [])
+            self._begin([])
         self.made.append(edit)
-        self.edits.append(edit)
+        self.edits = standing(self.edits, edit)
 
-    def _begin(self, made: list[str], edits: list[str]) -> None:
-        self.is_open, self.made, self.edits = True, made, edits
+    def _begin(self, made: list[str]) -> None:
+        self.is_open, self.made, self.edits = True, made, []
+        for edit in made:
+            self.edits = standing(self.edits, edit)
         self.ended, self.ended_made = [], []
 
     def _end(self, keeps: bool) -> None:
@@ -139,8 +193,8 @@ class Story:
         self.is_open, self.made, self.edits = False, [], []
 
     def _undo(self, answer: str) -> None:
-        if answer.startswith("done ") and self.edits:
-            self.edits.pop()
+        if answer.startswith("done "):
+            self.edits = taken_back(self.edits, answer[5:])
             self.made.append(answer[5:])
 
     def _redo(self, answer: str) -> None:
@@ -150,17 +204,19 @@ class Story:
             made = [
                 edit for number, edit in enumerate(self.ended_made, 1) if number not in left_out
             ]
-            self._begin(made, list(made))
+            self._begin(made)
         elif answer == "already open":
             self._is_open_after_all()
 
     def _is_open_after_all(self) -> None:
         if not self.is_open:
-            self._begin(self.ended_made, self.ended)
+            made, edits = self.ended_made, self.ended
+            self._begin(made)
+            self.edits = edits
 
     def _open(self, answer: str) -> None:
         if answer == "opened":
-            self._begin([], [])
+            self._begin([])
         elif answer == "already open":
             self._is_open_after_all()
 

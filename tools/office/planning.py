@@ -41,14 +41,11 @@ class Planning(Reading):
     def _stand_anew(self) -> None:
         """Reads the draft on the base that it has now, and what the newest timetable costs, which
         is noted in the log, too."""
-        self.known.draft = self.read_all("peek")
-        if not self.known.made:
-            self.known.base = self.known.draft.copy()
+        self.take_up_draft()
         # before its first edit the draft costs what its base does
         costs = self.ask("show cost" if self.known.made else "peek cost")
         self.base_total = sum(read_costs(costs).values())
         self.seat.log.noted(f"base {self.base_total}")
-        self.read_status()
 
     def edit(self, edit: str) -> bool:
         """Makes an edit, in a new draft if none is open; answers whether it was made."""
@@ -70,25 +67,10 @@ class Planning(Reading):
             self.notice = "No draft is open: nothing to undo."
             return
         answer = self.turn("undo")
-        if answer.startswith("bad line"):
-            answer = self._undo_by_edit()
         if answer.startswith("done "):
             self.notice = f"Taken back, by {answer[5:]}."
         else:
             self.notice = answer_in_words(answer)
-
-    def _undo_by_edit(self) -> str:
-        """Takes the last edit back at a desk that has no `undo` yet."""
-        assert self.known.base is not None
-        timetable, back = self.known.base.copy(), ""
-        for edit in self.edits():
-            if timetable.fault(edit) is not None:
-                return "nothing to undo"
-            back = timetable.make(edit)
-        if not back:
-            return "nothing to undo"
-        self.seat.take_back()
-        return f"{self.turn(back)} {back}"
 
     def commit(self) -> None:
         """Wants the draft accepted."""
@@ -145,18 +127,20 @@ class Planning(Reading):
         """The edits of the last draft are given up, or made again by another way."""
         if self.ended():
             self.seat.forget_ended()
-            self.known.ended = []
 
     def redo(self) -> List[str]:
         """Makes the edits of a stale draft again on the newest timetable, and answers those that
         were refused, with the reason; nothing is committed by it."""
         ended = self.ended()
+        if not ended and not self.is_open:
+            # a draft that was given up, or had no edits left, is not made again
+            self.notice = answer_in_words("nothing to redo")
+            return []
         answer = self.turn("redo")
         redone = Redone.read(answer)
         if redone is None:
-            if answer.startswith(("nothing to redo", "bad line")) and ended:
-                # a desk that has no `redo` yet, or not the edits of a draft that ended otherwise;
-                # the log has them
+            if answer == "nothing to redo":
+                # the draft has ended otherwise, as when the disk is full; the log has its edits
                 return self.make_again(ended)
             self.notice = answer_in_words(answer)
             return []

@@ -1,6 +1,7 @@
 """What a planner knows at a seat: by the desk's answers, by looks, and by the minutes."""
 from __future__ import annotations
 
+import time
 from typing import Dict, List, Optional
 
 from office.edits import WANTS
@@ -8,13 +9,14 @@ from office.history import commits_of, read_pasts
 from office.instance import read_instance, read_solution
 from office.known import Known
 from office.minutes import Entry, Minutes
-from office.refused import Refused
 from office.seat import Seat, read_sitter
 from office.seatlog import read_past
 from office.text import counted
 from office.timetable import Lecture, Timetable, read_lectures
 from office.words import words_of
 
+# how many seconds are waited before a draft is read, and read again if it is not as expected
+WAITS = (0.0, 0.05, 0.2, 0.5)
 COSTS = ("capacity", "days", "compactness", "stability")
 DIFFERS = "The desk answered otherwise than expected: everything was read anew."
 
@@ -58,7 +60,7 @@ class Reading:
 
     def edits(self) -> List[str]:
         """The edits of the draft, without those that were taken back."""
-        return self.seat.story.edits
+        return [edit for edit, _ in self.known.standing]
 
     def ended(self) -> List[str]:
         """The edits of the last draft, if it ended without being accepted and was not given up."""
@@ -92,23 +94,38 @@ class Reading:
         """Hears what was under way, and takes up a draft that is open."""
         self.seat.catch_up()
         answer = self.seat.ask("status")
-        if answer.startswith("bad line"):
-            raise Refused("this timedesk is too old for the screen: sit down with --plain")
         self.read_newest()
         if answer.startswith("draft "):
             self._resume()
         else:
             self.known.ended = list(self.seat.story.ended_made)
 
-    def _resume(self) -> None:
-        """Takes up a draft that was left open: its base is what the drafts before it have left."""
-        self.read_status()
-        self.known.base = Timetable(self.instance, self._start())
-        for entry in self.minutes.entries[: self.opened_at]:
+    def take_up_draft(self) -> None:
+        """Takes up the open draft: its base is what the drafts before it have left, and on that
+        stand the edits of the log."""
+        made, known = self.seat.story.made, self.known
+        for wait in WAITS:
+            time.sleep(wait)
+            self.read_status()
+            draft = self.read_all("peek")
+            known.base = self._after(self.opened_at) if made else draft.copy()
+            if known.make_all(made) and known.draft is not None and known.draft.same_as(draft):
+                return
+            # a draft that was accepted just now may not be in the minutes yet
+        known.draft = draft
+        self.alarm = DIFFERS
+
+    def _after(self, count: int) -> Timetable:
+        """The timetable after so many accepted drafts."""
+        found = Timetable(self.instance, self._start())
+        for entry in self.minutes.entries[:count]:
             for edit in entry.edits():
-                self.known.base.try_edit(edit)
-        self.known.draft = self.read_all("peek")
-        self.known.made = list(self.seat.story.made)
+                found.try_edit(edit)
+        return found
+
+    def _resume(self) -> None:
+        """Takes up a draft that was left open."""
+        self.take_up_draft()
         self.base_total = read_past(self.seat.day.log(self.seat.planner)).base
         self.notice = f"Your draft is as you left it: {counted(len(self.edits()), 'edit')}."
 
@@ -165,11 +182,10 @@ class Reading:
         self._told.clear()
         self.read_newest()
         if self.ask_again("status").startswith("draft "):
-            self.known.draft = self.read_all("peek")
-            self.known.base = self.known.base or self.known.draft.copy()
+            self.take_up_draft()
         else:
             self.known.draft = self.known.base = None
-            self.known.made = []
+            self.known.made, self.known.standing = [], []
 
     def tick(self) -> bool:
         """Looks whether others were accepted, and what a commit would be told by now; answers

@@ -95,11 +95,6 @@ class Seat:
             os.close(end)
         self.log.close()
 
-    def take_back(self) -> None:
-        """Notes that the next edit takes the last one back."""
-        self.log.noted("undoes")
-        self.story.is_taking_back = True
-
     def forget_ended(self) -> None:
         """Notes that the edits of the last draft are given up."""
         self.log.noted("forgets")
@@ -163,12 +158,9 @@ class Seat:
         answer = self.read(PATIENCE)
         while answer is not None and not answer.endswith(probe):
             heard.append(answer)
-            # without the word it may be the answer to the last line
-            answer = self.read(0.1 if answer == "bad line" else PATIENCE)
-        if answer is None and heard[-1:] != ["bad line"]:
-            raise NoAnswer
+            answer = self.read(PATIENCE)
         if answer is None:
-            heard.pop()
+            raise NoAnswer
         for line in heard:
             self.take(line)
         if self.waiting:

@@ -103,8 +103,6 @@ class SeatPast:
             self.offer = rest
         elif word == "base":
             self.base = int(rest)
-        elif word == "undoes":
-            self.story.is_taking_back = True
         elif word == "forgets":
             self.story.forget()
         elif word == "unsent" and self.waiting:
