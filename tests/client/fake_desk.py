@@ -1,5 +1,6 @@
 #!/usr/bin/env python3
-"""A desk in plain Python, for tests of the screen. Any other command than `desk` is PROGRAM's."""
+"""A desk in plain Python, beside which the program is tested, and which makes faults: FAULT names
+one. It mends, too. Any other command is PROGRAM's."""
 import contextlib
 import os
 import select
@@ -12,8 +13,9 @@ from fake_costs import Costs  # noqa: E402
 from office.edits import LENGTHS, normal  # noqa: E402
 from office.instance import COMMANDS, read_instance, read_solution  # noqa: E402
 from office.timetable import Timetable  # noqa: E402
-from office.words import words_of  # noqa: E402
+from office.words import encoded, words_of  # noqa: E402
 
+FAULT = os.environ.get("FAULT")
 PROGRAM = os.environ.get("PROGRAM", os.path.join(HERE, "crates/ctt_tool/out/ctt_tool"))
 # what stands behind the first word of a look or an edit: a course, a room, a teacher, a curriculum,
 # a day, a period; what may be open in an edit pattern has a capital letter
@@ -52,7 +54,31 @@ class FakeDesk:
         self.newest = Timetable(instance, start)
         self.count = 0
         self.is_full = False
+        self.lines = 0
         self.drafts, self.ended = [None] * planners, [None] * planners
+
+    def faulty_answer(self, planner, line):
+        """What a desk with a fault answers."""
+        self.lines += 1
+        is_good = self.bad_word(words_of(line)) is None
+        if FAULT == "no memory" and self.lines % 3 == 0 and is_good:
+            return "no memory"
+        if line == "commit" and FAULT == "dies before":
+            os._exit(9)
+        if line == "commit" and FAULT == "no minutes":
+            self.drafts[planner] = None
+            self.count += 1
+            return f"committed {self.count}"
+        answer = self.answer(planner, line)
+        if line == "commit" and FAULT == "dies behind":
+            os._exit(9)
+        if FAULT == "lies" and answer.startswith("refused "):
+            return "done"
+        if FAULT == "no sense" and is_good and not line.startswith(("peek", "show", "status")):
+            return answer + " \x1b[2J \udcff"
+        if FAULT == "no answer" and line == "commit":
+            return ""
+        return answer
 
     def answer(self, planner, line):
         words = words_of(line)
@@ -334,9 +360,9 @@ def keep(words):
             *whole, seats[lines][2] = (typed + more).split(b"\n")
             left = not more
             for line in filter(bytes.split, whole):
-                answer = desk.answer(planner, line.decode(errors="replace"))
+                answer = desk.faulty_answer(planner, line.decode(errors="replace"))
                 with contextlib.suppress(BrokenPipeError):
-                    os.write(answers, answer.encode() + b"\n")
+                    os.write(answers, encoded(answer) + b"\n" if answer else b"")
                 left = left or answer == "left"
             if left:
                 os.close(lines)
@@ -345,8 +371,24 @@ def keep(words):
     print(f"journal {desk.count}\ncosts {' '.join(map(str, desk.costs.whole(desk.newest)))}")
 
 
+def mend(words):
+    """Prints those lectures of a solution that can be placed one behind another, and names the
+    others."""
+    files, found = options(words)
+    timetable = Timetable(read_instance(files[0], found.get("--barred")))
+    for course, room, day, period in read_solution(files[1]):
+        fault = timetable.placing_fault(course, (day, period), room)
+        if fault is None:
+            timetable.put(course, (day, period), room)
+            print(course, room, day, period)
+        else:
+            print(f"timedesk: set aside {course} {room} {day} {period} {fault}", file=sys.stderr)
+
+
 if __name__ == "__main__":
     if sys.argv[1:2] == ["desk"]:
         keep(sys.argv[2:])
+    elif sys.argv[1:2] == ["mend"]:
+        mend(sys.argv[2:])
     else:
         os.execv(PROGRAM, ["timedesk", *sys.argv[1:]])

@@ -105,10 +105,14 @@ class Board:
         is_bad = self.planning.notice.startswith(("Refused", "Stale", "Not written"))
         style = "bad" if is_bad else "said"
         rows: List[Row] = [[(fit(f" {line}", width), style)] for line in lines]
-        urgent = self.planning.alarm or self.closing_text()
+        urgent = self.planning.alarm or self.log_text() or self.closing_text()
         if urgent:
             rows = rows[:1] + [[(fit(f" {urgent}", width), "bad")]]
         return rows + [[("", "")]] * (2 - len(rows))
+
+    def log_text(self) -> str:
+        fault = self.planning.seat.log.fault
+        return f"The log cannot be written ({fault}): edits are lost if the desk dies." if fault else ""
 
     def closing_text(self) -> str:
         at = self.planning.seat.day.closes_at()

@@ -4,7 +4,9 @@ from __future__ import annotations
 from typing import TYPE_CHECKING, List
 
 from office.earlier import Earlier
+from office.edits import is_edit
 from office.overlays import Page, Typed
+from office.seatlog import settle
 
 if TYPE_CHECKING:
     from office.board import Board
@@ -109,10 +111,13 @@ class DraftKeys:
 
     def left(self) -> List[str]:
         """What has become of a planner's drafts when the desk has ended."""
-        story = self.board.planning.seat.story
+        planning = self.board.planning
+        seat, story = planning.seat, planning.seat.story
+        planning.minutes.read_on()
+        settle(story, seat.waiting, planning.minutes.entries, seat.planner)
         accepted = ", ".join(map(str, story.accepted)) or "none"
         lines = [f"Your accepted drafts are on the disk: {accepted}."]
-        edits = story.unfinished()
+        edits = story.unfinished() + [line for line in seat.waiting if is_edit(line)]
         if edits:
             lines.append("These edits were not accepted. They are in the log of the seat, and")
             lines.append("offered again after the next opening:")

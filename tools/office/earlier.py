@@ -4,6 +4,7 @@ from __future__ import annotations
 from typing import List, Optional, Tuple
 
 from office.folder import Day
+from office.minutes import read_minutes
 from office.planning import Planning
 from office.refused import Refused
 from office.seatlog import read_past
@@ -27,6 +28,7 @@ def unfinished_before(day: Day, planner: int) -> Tuple[str, List[str]]:
             past = read_past(day.log(planner))
         except PermissionError:
             return "", []
+        past.settle(read_minutes(day.minutes), planner)
         if past.unfinished():
             return day.name, past.unfinished()
         if past.offer or past.story.accepted:

@@ -70,6 +70,8 @@ class Day:
         self.instance = self.file("instance.ctt")
         self.start = self.file("start.sol")
         self.barred = self.file("barred")
+        # with a changed instance, what was set aside
+        self.aside = self.file("aside")
         self.minutes = self.file("minutes")
         self.journal = self.file("journal")
         self.audit = self.file("audit")

@@ -9,7 +9,7 @@ import sys
 import time
 from typing import Optional
 
-from office import processes
+from office import mending, processes
 from office.folder import Day, lock, write_whole
 from office.instance import names_of, read_instance
 from office.pipes import HeldSeats
@@ -21,7 +21,6 @@ from office.words import encoded
 SEATS = 64
 # how many seconds those who sit have when the office is closed by a signal
 GRACE = 10.0
-NO_MEND = 2
 
 
 class Plan:
@@ -127,15 +126,17 @@ class Opening:
         if self.run(*plan.program, "--help") != 0:
             raise Refused("there is no program to run a desk with")
         self.copy(plan.instance, day.instance)
-        if plan.barred:
+        if plan.mends:
+            self.check()
+        if plan.mends and plan.after and plan.barred == plan.after.barred:
+            mending.keep_barred(day, plan.barred)
+        elif plan.barred:
             self.copy(plan.barred, day.barred)
         if plan.start and plan.mends:
-            self.mend(plan.start)
+            mending.mend(self.signals, plan.program, day, plan.start)
         elif plan.start:
             self.copy(plan.start, day.start)
-        status = self.run(*plan.program, "run", day.instance, os.devnull, *day.start_words())
-        if status != 0:
-            raise Silent(status)
+        self.check()
         names = "\n".join(names_of(read_instance(day.instance)))
         write_whole(day.names, encoded(names + "\n"))
         os.close(os.open(day.minutes, os.O_WRONLY | os.O_CREAT, 0o640))
@@ -149,6 +150,13 @@ class Opening:
                 "after": os.path.abspath(plan.after.path) if plan.after else None,
             }
         )
+
+    def check(self) -> None:
+        """Has the program read what was copied so far."""
+        words = ["run", self.day.instance, os.devnull, *self.day.start_words()]
+        status = self.run(*self.plan.program, *words)
+        if status != 0:
+            raise Silent(status)
 
     def run(self, *words: str) -> int:
         try:
@@ -164,25 +172,6 @@ class Opening:
             raise Refused(f"cannot read {source}: {fault.strerror}") from None
         self.signals.check()
         write_whole(target, text)
-
-    def mend(self, solution: str) -> None:
-        """Makes the start of what an earlier day has left; what cannot stand any more is listed by
-        the program."""
-        day = self.day
-        words = [*self.plan.program, "mend", day.instance, solution, *day.barred_words()]
-        with open(day.start, "wb") as start, open(day.file("aside"), "w+b") as aside:
-            status = processes.run(self.signals, words, stdout=start, stderr=aside)
-            aside.seek(0)
-            said = aside.read()
-        if status == NO_MEND:
-            raise Refused(
-                "this timedesk has no `mend` yet, so a changed instance cannot follow a day"
-            )
-        with contextlib.suppress(OSError):
-            sys.stderr.write(said.decode(errors="replace"))
-            sys.stderr.flush()
-        if status != 0:
-            raise Silent(status)
 
     def start_desk(self) -> subprocess.Popen[bytes]:
         plan, day = self.plan, self.day
@@ -225,7 +214,8 @@ class Opening:
             day.minutes,
             day.facts_file,
             day.names,
-            day.file("aside"),
+            day.aside,
+            day.file("before.sol"),
         ]
         for path in [*made, day.office]:
             for ending in ("", ".new"):

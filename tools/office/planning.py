@@ -83,9 +83,12 @@ class Planning(Reading):
             return
         answer = self.turn("commit")
         if answer.startswith("committed "):
-            self.notice = (
-                f"Committed as draft {answer[10:]}: {counted(count, 'edit')}, on the disk."
-            )
+            if self.has_entry(int(answer[10:])):
+                self.notice = (
+                    f"Committed as draft {answer[10:]}: {counted(count, 'edit')}, on the disk."
+                )
+            else:
+                self.notice = f"Not written: {answer}, says the desk; the minutes do not have it."
         else:
             self._turned_down(answer)
 

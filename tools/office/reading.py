@@ -93,7 +93,7 @@ class Reading:
     def begin(self) -> None:
         """Hears what was under way, and takes up a draft that is open."""
         self.seat.catch_up()
-        answer = self.seat.ask("status")
+        answer = self.ask_again("status")
         self.read_newest()
         if answer.startswith("draft "):
             self._resume()
@@ -204,6 +204,11 @@ class Reading:
         if not all(self.known.accept(entry.edits()) for entry in entries):
             self.read_newest()
         return entries
+
+    def has_entry(self, number: int) -> bool:
+        """Whether the minutes have an accepted draft, as one of this planner."""
+        entries = self.minutes.entries
+        return number <= len(entries) and entries[number - 1].planner == self.seat.planner
 
     def read_status(self) -> None:
         """Reads how many drafts were accepted since the draft was opened."""

@@ -138,10 +138,10 @@ class Seat:
         self.story.hear(asked, answer)
         return asked
 
-    def ask(self, line: str, seconds: float = PATIENCE) -> str:
+    def ask(self, line: str) -> str:
         """Sends a line, and waits for its answer."""
         self.send(line)
-        answer = self.read(seconds)
+        answer = self.read(PATIENCE)
         if answer is None:
             raise NoAnswer
         self.take(answer)

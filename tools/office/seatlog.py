@@ -8,12 +8,14 @@ Nothing that a planner did is lost by it when his screen, the desk or the machin
 """
 from __future__ import annotations
 
+import errno
 import os
 from dataclasses import dataclass, field
 from typing import Optional
 
 from office.edits import Story, is_edit
 from office.folder import read_text
+from office.minutes import Entry
 from office.processes import now
 from office.refused import Refused
 from office.words import encoded, has_words
@@ -37,12 +39,20 @@ class SeatLog:
         except OSError as fault:
             raise Refused(f"cannot write {path}: {fault.strerror}") from None
         size = os.fstat(self.end).st_size
-        if size and os.pread(self.end, 1, size - 1) != b"\n":
-            # a line that was cut by a crash
-            os.write(self.end, b"\n")
+        # whether the last line was cut, by a crash or by a full disk
+        self._is_cut = bool(size) and os.pread(self.end, 1, size - 1) != b"\n"
+        # why the last line could not be written
+        self.fault = ""
 
     def _write(self, sign: str, text: str) -> None:
-        os.write(self.end, f"{now()} {sign} ".encode() + encoded(text) + b"\n")
+        """Writes a line. If it cannot be written, `fault` says why, and the planner goes on."""
+        line = b"\n" * self._is_cut + f"{now()} {sign} ".encode() + encoded(text) + b"\n"
+        try:
+            written = os.write(self.end, line)
+            self._is_cut = line[:written][-1:] != b"\n"
+            self.fault = "" if written == len(line) else os.strerror(errno.ENOSPC)
+        except OSError as fault:
+            self.fault = fault.strerror or "the disk fails"
 
     def sent(self, line: str) -> None:
         """Notes a line before it is sent."""
@@ -51,8 +61,11 @@ class SeatLog:
     def heard(self, answer: str) -> None:
         """Notes an answer before it is shown."""
         self._write(HEARD, answer[:LONGEST_LOOK] if answer.startswith(LOOKS) else answer)
-        if answer.startswith(TURNS):
-            os.fdatasync(self.end)
+        if answer.startswith(TURNS) and not self.fault:
+            try:
+                os.fdatasync(self.end)
+            except OSError as fault:
+                self.fault = fault.strerror or "the disk fails"
 
     def noted(self, text: str) -> None:
         self._write(NOTED, text)
@@ -109,10 +122,26 @@ class SeatPast:
             # the last lines were never sent: their client died before
             del self.waiting[-int(rest) :]
 
+    def settle(self, entries: list[Entry], planner: int) -> None:
+        """A commit that was sent, and of which the answer was not heard when the desk died, was
+        accepted if the minutes have it."""
+        settle(self.story, self.waiting, entries, planner)
+
     def unfinished(self) -> list[str]:
         """The edits of this seat that were neither accepted nor given up. An edit that was sent and
         not answered is among them."""
         return self.story.unfinished() + [line for line in self.waiting if is_edit(line)]
+
+
+def settle(story: Story, waiting: list[str], entries: list[Entry], planner: int) -> None:
+    """Takes up a commit that waits for its answer, if the minutes have the draft, with the edits
+    that were sent before it."""
+    numbers = [entry.number for entry in entries if entry.planner == planner]
+    for number in [number for number in numbers if number not in story.accepted]:
+        lines = [line.strip() for line in waiting]
+        if "commit" in lines:
+            story.hear("commit", f"committed {number}")
+            del waiting[: lines.index("commit") + 1]
 
 
 def read_past(path: str) -> SeatPast:

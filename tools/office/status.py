@@ -99,6 +99,10 @@ def print_status(day: Day) -> int:
     ]
     print(f"{day.name}: {state_of(day)}; opened {facts['opened'][:16].replace('T', ' ')}")
     print(f"{counted(len(entries), 'draft')} accepted; {minutes_line(day, pasts)}")
+    if not day.is_open():
+        for planner, past in enumerate(pasts):
+            if past is not None:
+                past.settle(entries, planner)
     for line in cost_lines(day):
         print(line)
     heads = ["seat", "who", "since", "draft", "last said", "accepted"]
