@@ -197,7 +197,7 @@ class Days(OfficeTest):
         printed = self.office("status", self.path("monday"))[1]
         self.assertIn("monday: no desk: it has ended, or was killed", printed)
         self.assertIn("2 drafts accepted; minutes are written", printed)
-        self.assertRegex(printed, r"0 +nobody +1 edit +\d\d:\d\d:\d\d +1\n")
+        self.assertRegex(printed, r"0 +nobody +1 edit, not accepted +\d\d:\d\d:\d\d +1\n")
         self.assertEqual(self.office("open", self.path("x"), "--after", self.path("monday"))[0], 3)
         status, printed, said = self.office("close", self.path("monday"))
         self.assertEqual((status, said), (0, ""))
@@ -231,7 +231,7 @@ class Days(OfficeTest):
         self.assertTrue(is_alive(desk))
         status, printed, _ = self.office("close", self.path("day"), "--wait", "1")
         self.assertEqual(
-            (status, printed.split("\n")[1]), (0, "day: 1 drafts accepted, the audit agrees")
+            (status, printed.split("\n")[1]), (0, "day: 1 draft accepted, the audit agrees")
         )
         self.assertFalse(is_alive(desk))
         self.assertEqual(sitter.wait(PATIENCE), 0)
@@ -250,7 +250,7 @@ class Days(OfficeTest):
         sitter.stdin = open(os.devnull)
         self.assertEqual(sitter.wait(PATIENCE), 0)
         self.assertEqual(closing.wait(PATIENCE), 0)
-        self.assertIn("day: 1 drafts accepted, the audit agrees", closing.stdout.read())
+        self.assertIn("day: 1 draft accepted, the audit agrees", closing.stdout.read())
         self.assertEqual(office.wait(PATIENCE), 0)
 
     def test_full_disk(self):

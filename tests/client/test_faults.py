@@ -120,7 +120,7 @@ class Faults(OfficeTest):
         shown, status, offered = self.dies("dies before")
         self.assertIn("Your accepted drafts are on the disk: none.", shown)
         self.assertIn(EDIT, shown)
-        self.assertRegex(status, r"0 +nobody +1 edit +\d\d:\d\d:\d\d +0\n")
+        self.assertRegex(status, r"0 +nobody +1 edit, not accepted +\d\d:\d\d:\d\d +0\n")
         self.assertEqual(offered, [EDIT])
 
     def test_dies_behind_it(self):

@@ -107,13 +107,17 @@ class Screens(OfficeTest):
         self.sees(anna, "draft open: 1 edit")
         anna.press("q")
         self.sees(anna, "office: your draft stays as it is", "ended 0")
-        anna = self.sit_down("day", 0)
+        said = self.path("said")
+        words = [OFFICE, "sit", self.path("day"), "0"]
+        anna = self.terminals.open(["sh", "-c", f'exec "$@" 2>{said}', "sh", *words])
         self.sees(anna, "Your draft is as you left it: 1 edit.", "draft open: 1 edit, saves 257")
         # the terminal is closed under it
         anna.close()
         self.assertTrue(
             wait_until(lambda: " nobody " in self.office("status", self.path("day"))[1])
         )
+        with open(said) as file:
+            self.assertRegex(file.read(), r"^(office: .*\n)*$")
         anna = self.sit_down("day", 0)
         self.sees(anna, "draft open: 1 edit, saves 257")
         anna.press("c")
@@ -136,7 +140,8 @@ class Screens(OfficeTest):
             "offered again",
         )
         anna.press("c", "q")
-        self.sees(anna, "ended 0")
+        self.sees(anna, "office: the desk has ended; what was told as committed is on", "ended 3")
+        self.assertNotIn("stays as it is", anna.text())
         office.wait(30)
         self.assertEqual(self.office("close", self.path("day"))[0], 0)
         self.open("next", "--after", self.path("day"))
@@ -205,10 +210,8 @@ class Screens(OfficeTest):
         self.open("day", SMALL, "1", "--start", SMALL_SOL)
         anna = self.sit_down("day", 0)
         self.sees(anna, "no draft open")
-        for _ in range(9):
-            anna.press(":", "open", "Enter")
-            anna.press(":", "drop geo 1 2", "Enter")
-            anna.press(":", "place geo A 1 2", "Enter")
+        for line in ("drop geo 1 2", "place geo A 1 2") * 9:
+            anna.press(":", "open", "Enter", ":", line, "Enter")
             anna.press("c")
             if "Not written" in anna.wait_settled():
                 break

@@ -11,6 +11,7 @@ from office.folder import Day, write_whole
 from office.pipes import remove_pipes
 from office.program import Left, costs_in_words
 from office.refused import CONTENT, Refused
+from office.text import counted
 
 # how many seconds the office has to end behind those who sat
 SLACK = 10.0
@@ -75,7 +76,7 @@ def write_end(day: Day) -> int:
     after = left.report(day.end)
     with open(day.journal, "rb") as file:
         count = int(file.readline().split()[1])
-    print(f"{day.name}: {count} drafts accepted, the audit {verdict}")
+    print(f"{day.name}: {counted(count, 'draft')} accepted, the audit {verdict}")
     print(f"cost before {costs_in_words(before)}")
     print(f"cost after  {costs_in_words(after)}")
     print(f"missing lectures {after['lectures']}")

@@ -16,6 +16,18 @@ class Stopped(Exception):
     """Ctrl-C or TERM came."""
 
 
+def on_signals(gone: type[Exception], *signs: signal.Signals) -> None:
+    """Raises at the first of these signals; those that come behind it change nothing."""
+
+    def end(*_: Any) -> None:
+        for sign in signs:
+            signal.signal(sign, signal.SIG_IGN)
+        raise gone
+
+    for sign in signs:
+        signal.signal(sign, end)
+
+
 class Signals:
     """Ctrl-C and TERM are counted, and wake whoever waits. The office goes on when its terminal
     closes."""

@@ -9,13 +9,15 @@ import select
 import signal
 import sys
 import time
-from typing import Any, Dict, List, Optional
+from typing import Any, Dict, Optional
 
 from office.board import Board
 from office.folder import Day
 from office.grid import Row
 from office.planning import Planning
-from office.seat import DeskEnded, NoAnswer, Seat
+from office.processes import on_signals
+from office.refused import MACHINE
+from office.seat import DEAD, DeskEnded, Gone, NoAnswer, Seat
 from office.text import width
 
 # how many milliseconds a key is waited for, before news are looked for
@@ -78,10 +80,6 @@ def styles() -> Dict[str, int]:
         curses.init_pair(number, colour, background)
         found[style] = found.get(style, 0) | curses.color_pair(number)
     return found
-
-
-class Gone(Exception):
-    """The terminal is gone."""
 
 
 class Closed(Exception):
@@ -163,34 +161,41 @@ def show_board(window: Any, board: Board) -> None:
 def sit_at_screen(day: Day, planner: int, name: Optional[str]) -> int:
     """Sits down at the screen, and answers the status."""
 
-    def end(*_: object) -> None:
-        raise Gone
-
     locale.setlocale(locale.LC_ALL, "")
     os.environ.setdefault("ESCDELAY", "25")
     seat = Seat(day, planner, name)
-    said: List[str] = []
+    said, is_dead = "", False
     try:
-        for sign in (signal.SIGTERM, signal.SIGHUP):
-            signal.signal(sign, end)
+        on_signals(Gone, signal.SIGTERM, signal.SIGHUP)
         board = Board(Planning(seat))
         board.begin()
         curses.wrapper(show_board, board)
+        is_dead = board.is_dead
     except (Gone, KeyboardInterrupt):
-        said.append("you went away")
+        said = "you went away"
+    except curses.error:
+        # a terminal that is gone cannot be set back
+        if sys.stdin.isatty():
+            raise
     except Closed:
-        said.append("the office has closed")
+        said = "the office has closed"
     except (DeskEnded, NoAnswer):
-        said.append(
-            "the desk has ended; what was told as committed is on the disk, "
-            "and open edits are offered again"
-        )
-        return 3
+        is_dead = True
     finally:
-        if seat.story.is_open:
-            said.append(f"your draft stays as it is: office sit {day.path} {planner}")
-        with contextlib.suppress(OSError):
-            seat.go()
-            for line in said:
-                print(f"office: {line}", file=sys.stderr)
-    return 0
+        say_goodbye(seat, said, is_dead)
+    return MACHINE if is_dead else 0
+
+
+def say_goodbye(seat: Seat, said: str, is_dead: bool) -> None:
+    """Goes away from a seat, and says what becomes of the draft; the terminal may be gone."""
+    for sign in (signal.SIGINT, signal.SIGTERM, signal.SIGHUP):
+        signal.signal(sign, signal.SIG_IGN)
+    lines = [said] if said else []
+    if is_dead:
+        lines = [DEAD]
+    elif seat.story.is_open:
+        lines.append(f"your draft stays as it is: office sit {seat.day.path} {seat.planner}")
+    with contextlib.suppress(OSError):
+        seat.go()
+        for line in lines:
+            print(f"office: {line}", file=sys.stderr)

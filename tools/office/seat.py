@@ -21,10 +21,18 @@ class DeskEnded(Exception):
     """The desk has ended, or the seat."""
 
 
+class Gone(Exception):
+    """The planner goes away, or the terminal is gone."""
+
+
 class NoAnswer(Exception):
     """The desk has not answered in time."""
 
 
+DEAD = (
+    "the desk has ended; what was told as committed is on the disk, and open edits are offered "
+    "again after the next opening"
+)
 # a desk that says nothing for so many seconds is not waited for
 PATIENCE = 30.0
 

@@ -13,9 +13,10 @@ from typing import Optional
 
 from office.earlier import unfinished_before
 from office.folder import Day
+from office.processes import on_signals
 from office.program import HERE
 from office.refused import MACHINE
-from office.seat import DeskEnded, NoAnswer, Seat
+from office.seat import DEAD, DeskEnded, Gone, NoAnswer, Seat
 from office.words import decoded, encoded
 
 # set where the lines come from rlwrap already
@@ -62,10 +63,6 @@ def wrap(day: Day, planner: int, name: Optional[str]) -> None:
 def say(words: str) -> None:
     with contextlib.suppress(OSError):
         print(f"office: {words}", file=sys.stderr, flush=True)
-
-
-class Gone(Exception):
-    """The planner goes away."""
 
 
 class PlainSitting:
@@ -153,12 +150,8 @@ class PlainSitting:
 def sit_plain(day: Day, planner: int, name: Optional[str]) -> int:
     """Sits down by lines, and answers the status."""
 
-    def end(*_: object) -> None:
-        raise Gone
-
     seat = Seat(day, planner, name)
-    for sign in (signal.SIGINT, signal.SIGTERM, signal.SIGHUP):
-        signal.signal(sign, end)
+    on_signals(Gone, signal.SIGINT, signal.SIGTERM, signal.SIGHUP)
     sitting = PlainSitting(seat)
     try:
         return sitting.go_on()
@@ -169,10 +162,7 @@ def sit_plain(day: Day, planner: int, name: Optional[str]) -> int:
             sitting.hear()
         if seat.story.has_left:
             return 0
-        say(
-            "the desk has ended; what was told as committed is on the disk, "
-            "and open edits are offered again"
-        )
+        say(DEAD)
     except NoAnswer:
         say("the desk does not answer")
     finally:

@@ -13,10 +13,7 @@ from office.program import Left, costs_in_words
 from office.refused import Refused
 from office.seat import read_sitter
 from office.seatlog import SeatPast
-
-
-def counted(number: int, word: str) -> str:
-    return f"{number} {word}" if number == 1 else f"{number} {word}s"
+from office.text import counted
 
 
 def state_of(day: Day) -> str:
@@ -32,12 +29,12 @@ def state_of(day: Day) -> str:
     )
 
 
-def draft_of(past: SeatPast) -> str:
-    """The draft of a seat in words."""
-    if past.story.is_open:
+def draft_of(past: SeatPast, is_open: bool) -> str:
+    """The draft of a seat in words, at a desk that is open or has ended."""
+    if past.story.is_open and is_open:
         return counted(len(past.story.edits), "edit")
     if past.unfinished():
-        return counted(len(past.unfinished()), "edit") + ", ended"
+        return counted(len(past.unfinished()), "edit") + ", not accepted"
     return "none"
 
 
@@ -51,7 +48,7 @@ def seat_line(day: Day, planner: int, past: Optional[SeatPast], accepted: int) -
     if past is None:
         return [str(planner), who, when, "its log is closed to you", "", str(accepted)]
     last = past.last[0][11:19]
-    return [str(planner), who, when, draft_of(past), last, str(accepted)]
+    return [str(planner), who, when, draft_of(past, day.is_open()), last, str(accepted)]
 
 
 def print_table(lines: list[list[str]]) -> None:

@@ -41,7 +41,11 @@ class Timetable:
             self.put(course, (day, period), room)
 
     def copy(self) -> Timetable:
-        return Timetable(self.instance, self.lectures())
+        found = Timetable.__new__(Timetable)
+        found.instance = self.instance
+        found.by_course = {course: row.copy() for course, row in self.by_course.items()}
+        found.by_slot = {slot: row.copy() for slot, row in self.by_slot.items()}
+        return found
 
     def lectures(self) -> List[Lecture]:
         """All lectures in the order of courses and slots."""

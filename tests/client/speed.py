@@ -1,0 +1,50 @@
+#!/usr/bin/env python3
+"""Not a test: how long keys of the screen take, with what is drawn behind each.
+
+    tests/client/speed.py INSTANCE SOLUTION      PROGRAM names another program
+
+A line for each key: how often it was pressed, the middle and the longest time in milliseconds.
+"""
+import os
+import sys
+import time
+import unittest
+
+sys.dont_write_bytecode = True
+sys.path.insert(0, os.path.dirname(os.path.abspath(__file__)))
+
+from support import OfficeTest  # noqa: E402
+
+from office.board import Board  # noqa: E402
+
+ROUND = (
+    ["right", "down", "enter", "b", "tab", "left", "enter", "e", "escape", "u", "w", "w", "tab"]
+    + ["s", "b", "enter", "u", "v", "c", "0", "escape", "x", "m", "enter", "b", "enter", "?", "q"]
+    + ["enter", "s", "escape", "tab", "c"]
+)
+
+
+class Speed(OfficeTest):
+    def test_keys(self):
+        begun = time.perf_counter()
+        self.open("day", WORDS[0], "1", "--start", WORDS[1])
+        opened = time.perf_counter()
+        board = Board(self.planning("day", 0))
+        board.begin()
+        board.rows(24, 80)
+        print(f"open {opened - begun:.2f} s, sit down {time.perf_counter() - opened:.2f} s")
+        times = {}
+        for _ in range(12):
+            for key in ROUND:
+                begun = time.perf_counter()
+                board.press(key)
+                board.rows(24, 80)
+                times.setdefault(key, []).append((time.perf_counter() - begun) * 1000)
+        for key, found in sorted(times.items(), key=lambda pair: -max(pair[1])):
+            found.sort()
+            print(f"{key:8}{len(found):4}{found[len(found) // 2]:9.2f}{found[-1]:9.2f}")
+
+
+if __name__ == "__main__":
+    WORDS = [os.path.abspath(word) for word in sys.argv[1:3]]
+    unittest.main(argv=sys.argv[:1])
