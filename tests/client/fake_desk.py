@@ -10,7 +10,7 @@ HERE = os.path.dirname(os.path.dirname(os.path.dirname(os.path.abspath(__file__)
 sys.path.insert(0, os.path.join(HERE, "tools"))
 
 from fake_costs import Costs  # noqa: E402
-from office.edits import LENGTHS, normal  # noqa: E402
+from office.edits import LENGTHS, normal_form  # noqa: E402
 from office.instance import COMMANDS, read_instance, read_solution  # noqa: E402
 from office.timetable import Timetable  # noqa: E402
 from office.words import encoded, words_of  # noqa: E402
@@ -70,7 +70,7 @@ class FakeDesk:
             self.count += 1
             return f"committed {self.count}"
         answer = self.answer(planner, line)
-        if line == "commit" and FAULT == "dies behind":
+        if line == "commit" and FAULT == "dies after":
             os._exit(9)
         if FAULT == "lies" and answer.startswith("refused "):
             return "done"
@@ -193,7 +193,7 @@ class FakeDesk:
         line = " ".join(words)
         self.read(draft, words)
         if words[0] in LENGTHS:
-            line = normal(line)
+            line = normal_form(line)
             fault = draft.now.fault(line)
             answer = f"refused {fault}" if fault else "done"
             if not fault:
@@ -372,7 +372,7 @@ def keep(words):
 
 
 def mend(words):
-    """Prints those lectures of a solution that can be placed one behind another, and names the
+    """Prints those lectures of a solution that can be placed one after another, and names the
     others."""
     files, found = options(words)
     timetable = Timetable(read_instance(files[0], found.get("--barred")))

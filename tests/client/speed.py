@@ -1,5 +1,5 @@
 #!/usr/bin/env python3
-"""Not a test: how long keys of the screen take, with what is drawn behind each.
+"""Not a test: how long keys of the screen take, with what is drawn after each.
 
     tests/client/speed.py INSTANCE SOLUTION      PROGRAM names another program
 

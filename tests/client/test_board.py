@@ -12,8 +12,10 @@ from drawn import draw_instance, draw_solution  # noqa: E402
 from rules import Instance as Plain  # noqa: E402
 
 from office.board import Board  # noqa: E402
+from office.edits import is_edit  # noqa: E402
 from office.grid import View  # noqa: E402
 from office.instance import read_instance  # noqa: E402
+from office.minutes import read_minutes  # noqa: E402
 from office.text import cut, fit, shown, width, wrap  # noqa: E402
 from office.timetable import Timetable  # noqa: E402
 
@@ -100,6 +102,9 @@ class Drawn(OfficeTest):
                 board.press(draw.choice(KEYS))
             self.check_rows(board, draw)
             self.assertEqual(board.planning.alarm, "")
+        # no look of the screen is a call
+        calls = [call for entry in read_minutes(self.path("day/minutes")) for call in entry.calls]
+        self.assertEqual([call for call, _ in calls if not is_edit(call)], [])
         for board in boards:
             board.tick()
         newest = boards[0].planning.known.newest

@@ -55,7 +55,25 @@ class Refusals(OfficeTest):
             3,
             f"office: cannot read {nowhere}: No such file or directory\n",
         )
+        latin = self.path("latin")
+        with open(latin, "wb") as file:
+            file.write(b"Name: \xe9")
+        self.refused([latin, "2"], 1, "timedesk: instance I1 6\n")
+        self.refused([os.devnull, "2"], 1, "timedesk: instance I2 1\n")
+        self.refused([SMALL_SOL, "2"], 1, "timedesk: instance I3 1\n")
         self.refused([SMALL, "2", "--start", bad], 1, "timedesk: solution S2 6\n")
+        self.refused([SMALL, "2", "--start", latin], 1, "timedesk: solution S1 6\n")
+        self.refused([SMALL, "2", "--start", COMP07_SOL], 1, "timedesk: solution S3 1\n")
+        barred = ["--barred", self.write("barred", "Barred: 1 geo A END.")]
+        self.refused(
+            [SMALL, "2", "--start", SMALL_SOL, *barred], 1, "timedesk: opening 3 barred\n"
+        )
+        self.refused([SMALL, "2", "--barred", SMALL], 1, "timedesk: barred B3 1\n")
+        self.refused(
+            [SMALL, "2", "--barred", nowhere],
+            3,
+            f"office: cannot read {nowhere}: No such file or directory\n",
+        )
         self.refused([SMALL, "2", "--start", clash], 1, "timedesk: opening 2 clash alg\n")
         self.refused([SMALL, "2", "--barred", bad], 1, "timedesk: barred B3 1\n")
         self.refused([SMALL, "0"], 3, "office: planners are 1 to 64\n")

@@ -123,8 +123,8 @@ class Faults(OfficeTest):
         self.assertRegex(status, r"0 +nobody +1 edit, not accepted +\d\d:\d\d:\d\d +0\n")
         self.assertEqual(offered, [EDIT])
 
-    def test_dies_behind_it(self):
-        shown, status, offered = self.dies("dies behind")
+    def test_dies_after_it_writes(self):
+        shown, status, offered = self.dies("dies after")
         self.assertIn("Your accepted drafts are on the disk: 1.", shown)
         self.assertNotIn(EDIT, shown)
         self.assertRegex(status, r"0 +nobody +none +\d\d:\d\d:\d\d +1\n")

@@ -112,7 +112,9 @@ class Board:
 
     def log_text(self) -> str:
         fault = self.planning.seat.log.fault
-        return f"The log cannot be written ({fault}): edits are lost if the desk dies." if fault else ""
+        if not fault:
+            return ""
+        return f"The log cannot be written ({fault}): edits are lost if the desk dies."
 
     def closing_text(self) -> str:
         at = self.planning.seat.day.closes_at()

@@ -25,7 +25,7 @@ def courses_of(edit: str) -> list[str]:
     return [words[1], words[4]] if words[0] == "swap" else [words[1]]
 
 
-def normal(edit: str) -> str:
+def normal_form(edit: str) -> str:
     """An edit as the desk writes it, its numbers without zeros in front."""
     words = words_of(edit)
     places = [len(words) - 2, len(words) - 1] + ([2, 3] if len(words) == 7 else [])
@@ -35,7 +35,7 @@ def normal(edit: str) -> str:
 
 
 def inverses(edits: list[str]) -> list[str]:
-    """The edit that takes each of these back, which were made one behind another. In place of a
+    """The edit that takes each of these back, which were made one after another. In place of a
     room that none of them names it has `*`."""
     rooms: dict[tuple[str, ...], str] = {}
     found = []
@@ -62,23 +62,23 @@ def inverses(edits: list[str]) -> list[str]:
     return found
 
 
-def may_be(inverse: str, edit: str) -> bool:
+def matches(inverse: str, edit: str) -> bool:
     """Whether an edit may be this inverse, of which a room may not be known."""
     pairs = zip(words_of(inverse), words_of(edit))
     return all(known in ("*", word) for known, word in pairs)
 
 
-def standing(made: list[str], edit: str) -> list[str]:
+def add_edit(made: list[str], edit: str) -> list[str]:
     """Edits with one more: if that takes the last one back, both are gone."""
     is_near = made and words_of(made[-1])[1] == words_of(edit)[1]
     is_inverse = is_near and inverses(made)[-1] == edit
     return made[:-1] if is_inverse else [*made, edit]
 
 
-def taken_back(made: list[str], back: str) -> list[str]:
+def take_back_edit(made: list[str], back: str) -> list[str]:
     """Edits without the one that the desk has taken back by another one. What was made after it had
     been taken back by hand."""
-    places = [place for place, inverse in enumerate(inverses(made)) if may_be(inverse, back)]
+    places = [place for place, inverse in enumerate(inverses(made)) if matches(inverse, back)]
     return made[: places[-1]] if places else [*made, back]
 
 
@@ -155,7 +155,7 @@ class Story:
         first = words[0]
         if first in LENGTHS:
             if answer == "done":
-                self._make(normal(line))
+                self._make(normal_form(line))
         elif first == "undo":
             self._undo(answer)
         elif first == "redo":
@@ -176,12 +176,12 @@ class Story:
             # this is a draft of which the beginning is not known
             self._begin([])
         self.made.append(edit)
-        self.edits = standing(self.edits, edit)
+        self.edits = add_edit(self.edits, edit)
 
     def _begin(self, made: list[str]) -> None:
         self.is_open, self.made, self.edits = True, made, []
         for edit in made:
-            self.edits = standing(self.edits, edit)
+            self.edits = add_edit(self.edits, edit)
         self.ended, self.ended_made = [], []
 
     def _end(self, keeps: bool) -> None:
@@ -194,7 +194,7 @@ class Story:
 
     def _undo(self, answer: str) -> None:
         if answer.startswith("done "):
-            self.edits = taken_back(self.edits, answer[5:])
+            self.edits = take_back_edit(self.edits, answer[5:])
             self.made.append(answer[5:])
 
     def _redo(self, answer: str) -> None:

@@ -4,7 +4,7 @@ from __future__ import annotations
 
 from typing import Iterable, List, Optional, Tuple
 
-from office.edits import LENGTHS, WANTS, Redone, normal
+from office.edits import LENGTHS, WANTS, Redone, normal_form
 from office.instance import Instance
 from office.timetable import Timetable, read_lectures
 from office.words import words_of
@@ -62,7 +62,7 @@ class Known:
             return answer == "no draft"
         fault = self.draft.fault(edit)
         if answer == "done" and fault is None:
-            self._make(normal(edit))
+            self._make(normal_form(edit))
         return answer == ("done" if fault is None else f"refused {fault}")
 
     def _hear_undo(self, answer: str) -> bool:

@@ -1,5 +1,5 @@
-"""What a day has left, under a changed instance: lectures and barred rooms of which a name or a slot
-is gone are set aside here; what cannot stand for another reason, by the program."""
+"""What a day has left, under a changed instance. Lectures and barred rooms of which a name or a
+slot is gone are set aside here, and what cannot stand for another reason by the program."""
 from __future__ import annotations
 
 import contextlib
@@ -16,7 +16,7 @@ from office.text import counted
 from office.words import encoded
 
 
-def gone(instance: Instance, lecture: tuple[str, str, int, int]) -> Optional[str]:
+def missing_part(instance: Instance, lecture: tuple[str, str, int, int]) -> Optional[str]:
     """Why an instance has no place for a lecture by its names and its slot alone."""
     course, room, day, period = lecture
     if course not in instance.courses:
@@ -49,7 +49,7 @@ def mend(signals: Signals, program: list[str], day: Day, solution: str) -> None:
     standard error and in the day's folder."""
     instance, left, lines = read_instance(day.instance), [], []
     for lecture in read_solution(solution):
-        why = gone(instance, lecture)
+        why = missing_part(instance, lecture)
         if why is None:
             left.append(lecture)
         else:

@@ -17,7 +17,7 @@ class Stopped(Exception):
 
 
 def on_signals(gone: type[Exception], *signs: signal.Signals) -> None:
-    """Raises at the first of these signals; those that come behind it change nothing."""
+    """Raises at the first of these signals; those that come after it change nothing."""
 
     def end(*_: Any) -> None:
         for sign in signs:
