@@ -5,6 +5,7 @@ import contextlib
 import os
 import select
 import sys
+import threading
 
 HERE = os.path.dirname(os.path.dirname(os.path.dirname(os.path.abspath(__file__))))
 sys.path.insert(0, os.path.join(HERE, "tools"))
@@ -262,9 +263,12 @@ class FakeDesk:
             self.ended[planner] = draft.edits()
             return f"stale {row}"
         calls = "".join(f"{call}\n{answer}\n" for call, answer in draft.calls)
+        entry = f"entry {planner} {len(draft.calls)}\n{calls}"
         try:
-            with open(self.minutes, "a") as file:
-                file.write(f"entry {planner} {len(draft.calls)}\n{calls}")
+            if FAULT == "late":
+                threading.Timer(0.3, self.write, [entry]).start()
+            else:
+                self.write(entry)
         except OSError:
             self.is_full = True
             return "not written"
@@ -272,6 +276,10 @@ class FakeDesk:
             self.newest.make(edit)
         self.count += 1
         return f"committed {self.count}"
+
+    def write(self, entry):
+        with open(self.minutes, "a") as file:
+            file.write(entry)
 
     def refresh(self, planner, draft):
         if not draft:

@@ -99,6 +99,31 @@ class Faults(OfficeTest):
         self.assertIn("Your accepted drafts are on the disk: 1.", self.text(board))
         self.assertNotIn(EDIT, self.text(board))
 
+    def test_minutes_are_late(self):
+        """The desk shows an accepted draft a moment before it is in the minutes: that is no answer
+        that was not expected, with and without a draft."""
+        board = self.board("late")
+        anna, ben = board.planning, self.seat("day", 1, "ben")
+
+        def commit(edit):
+            answers = [ben.ask(line) for line in ("open", edit, "commit")]
+            self.assertEqual(answers[1], "done")
+            anna._told.clear()
+
+        commit(EDIT)
+        self.assertEqual(len(anna.lectures("course geo")), 1)
+        anna.edit("move top 0 2 B 1 1")
+        anna.edit("reroom geo B 0 1")
+        commit("drop top 0 2")
+        self.assertTrue(wait_until(anna.tick))
+        board.press("c")
+        commit("move geo 0 1 A 1 1")
+        board.press("r")
+        text = self.text(board)
+        self.assertIn("0 of 2 edits made again, none committed yet.", text)
+        self.assertEqual((anna.alarm, anna.edits()), ("", []))
+        self.assertTrue(anna.known.base.same_as(anna.known.newest))
+
     def dies(self, fault):
         """The desk dies at a commit: what the minutes have is not offered again, and the rest
         is."""
@@ -186,18 +211,33 @@ class FullDisk(OfficeTest):
         self.assertTrue(lines[-2].endswith("= went away"))
         self.assertEqual(self.sit("day", 0, "status\n"), ["no draft"])
 
-    def test_open(self):
-        """A folder on a full disk: nothing is open, and the reason is said."""
-        words = [OFFICE, "open", self.path("day"), COMP07, "2"]
-        limit = "resource.setrlimit(resource.RLIMIT_FSIZE, (99, 99))"
+    def test_lines(self):
+        """The same by lines."""
+        self.open("day", SMALL, "1", "--start", SMALL_SOL)
+        self.sit("day", 0, "")
+        size = os.path.getsize(self.path("day/0.log")) + 200
+        done = self.limited(size, ["sit", self.path("day"), "0"], f"open\n{EDIT}\ncommit\n")
+        self.assertEqual((done.returncode, done.stdout), (0, "opened\ndone\ncommitted 1\n"))
+        said = "office: the log cannot be written (File too large): edits are lost if the desk dies\n"
+        self.assertEqual(done.stderr, said)
+
+    def limited(self, size, words, text):
+        """A command of the office that can write files of so many bytes."""
+        limit = f"resource.setrlimit(resource.RLIMIT_FSIZE, ({size}, {size}))"
         program = f"import os, resource, sys; {limit}; os.execv(sys.argv[1], sys.argv[1:])"
-        done = subprocess.run(
-            [sys.executable, "-c", program, *words],
+        return subprocess.run(
+            [sys.executable, "-c", program, OFFICE, *words],
+            input=text,
             capture_output=True,
             text=True,
             env=self.environment,
             timeout=60,
         )
+
+    def test_open(self):
+        """A folder on a full disk: nothing is open, and the reason is said."""
+        done = self.limited(99, ["open", self.path("day"), COMP07, "2"], "")
         self.assertEqual((done.returncode, done.stdout), (3, ""))
-        self.assertEqual(done.stderr, "office: [Errno 27] File too large\n")
+        path = self.path("day/instance.ctt")
+        self.assertEqual(done.stderr, f"office: cannot write {path}: File too large\n")
         self.assertFalse(os.path.exists(self.path("day")))

@@ -2,9 +2,11 @@
 locks."""
 from __future__ import annotations
 
+import contextlib
 import fcntl
 import json
 import os
+import time
 from typing import Any, Optional
 
 from office.refused import Refused
@@ -14,12 +16,14 @@ def lock(path: str, mode: int = 0o660, shared: bool = False) -> Optional[int]:
     """Takes the lock of a file, which is made if it is not there; None if somebody has it."""
     flags = os.O_RDONLY if shared else os.O_RDWR | os.O_CREAT
     end = os.open(path, flags, mode)
-    try:
-        fcntl.flock(end, (fcntl.LOCK_SH if shared else fcntl.LOCK_EX) | fcntl.LOCK_NB)
-        return end
-    except OSError:
-        os.close(end)
-        return None
+    # a status that looks whether somebody has the lock has it for a moment
+    for _ in range(1 if shared else 5):
+        with contextlib.suppress(OSError):
+            fcntl.flock(end, (fcntl.LOCK_SH if shared else fcntl.LOCK_EX) | fcntl.LOCK_NB)
+            return end
+        time.sleep(0.0 if shared else 0.02)
+    os.close(end)
+    return None
 
 
 def is_locked(path: str) -> bool:
@@ -37,12 +41,17 @@ def is_locked(path: str) -> bool:
 def write_whole(path: str, text: bytes, mode: int = 0o660) -> None:
     """Writes a file so that it is there whole or not at all."""
     new = path + ".new"
-    end = os.open(new, os.O_WRONLY | os.O_CREAT | os.O_TRUNC, mode)
-    with open(end, "wb") as file:
-        file.write(text)
-        file.flush()
-        os.fsync(file.fileno())
-    os.replace(new, path)
+    try:
+        end = os.open(new, os.O_WRONLY | os.O_CREAT | os.O_TRUNC, mode)
+        with open(end, "wb") as file:
+            file.write(text)
+            file.flush()
+            os.fsync(file.fileno())
+        os.replace(new, path)
+    except OSError as fault:
+        with contextlib.suppress(OSError):
+            os.remove(new)
+        raise Refused(f"cannot write {path}: {fault.strerror}") from None
 
 
 def read_text(path: str) -> str:

@@ -6,7 +6,7 @@ import shutil
 import subprocess
 from typing import Optional
 
-from office.folder import Day
+from office.folder import Day, write_whole
 from office.refused import MACHINE, Refused, Silent
 
 HERE = os.path.dirname(os.path.dirname(os.path.dirname(os.path.abspath(__file__))))
@@ -58,8 +58,7 @@ class Left:
         )
         if status != 0:
             raise Silent(status)
-        with open(path, "wb") as file:
-            file.write(text)
+        write_whole(path, text)
 
     def audit(self, journal: str) -> tuple[int, str]:
         """The status of the audit of a journal, and its line."""
@@ -70,8 +69,7 @@ class Left:
         status, text = self.run("list", self.day.instance, journal, *self.day.start_words())
         if status != 0:
             raise Silent(status)
-        with open(path, "wb") as file:
-            file.write(text)
+        write_whole(path, text)
 
     def report(self, solution: Optional[str]) -> dict[str, str]:
         """The report on a solution by the words in front of its lines; of an empty one if there is

@@ -17,6 +17,8 @@ from office.words import words_of
 
 # how many seconds are waited before a draft is read, and read again if it is not as expected
 WAITS = (0.0, 0.05, 0.2, 0.5)
+# how many seconds an accepted draft may need to be in the minutes
+LATE = 1.0
 COSTS = ("capacity", "days", "compactness", "stability")
 DIFFERS = "The desk answered otherwise than expected: everything was read anew."
 
@@ -134,13 +136,28 @@ class Reading:
         anew."""
         answer = self.seat.ask(line)
         expected = self.known.hear(line, answer)
-        if not expected and line.startswith("show ") and self.read_minutes():
+        is_show = line.startswith("show ")
+        if not expected and (is_show or line in ("redo", "refresh")) and self.wait_for_minutes():
             # somebody was accepted in between
-            answer = self.seat.ask(line)
-            expected = self.known.hear(line, answer)
+            if is_show:
+                answer = self.seat.ask(line)
+                expected = self.known.hear(line, answer)
+            else:
+                self.take_up_draft()
+                expected = True
         if not expected:
             self.read_anew()
         return answer
+
+    def wait_for_minutes(self) -> bool:
+        """Waits a little until the minutes have grown: the desk shows an accepted draft a moment
+        before it is in them. Answers whether they have."""
+        until = time.monotonic() + LATE
+        while not self.read_minutes():
+            if time.monotonic() > until:
+                return False
+            time.sleep(0.01)
+        return True
 
     def turn(self, line: str) -> str:
         """A line that changes something: what was told before does not hold any more."""

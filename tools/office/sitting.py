@@ -74,6 +74,7 @@ class PlainSitting:
         self.typed = b""
         self.is_typing = True
         self.has_closing_told = False
+        self.has_fault_told = False
 
     def show(self, answer: str) -> None:
         os.write(sys.stdout.fileno(), encoded(answer) + b"\n")
@@ -109,6 +110,7 @@ class PlainSitting:
                 self.read_typed()
                 if not self.is_typing:
                     until = time.monotonic() + LAST
+            self.watch_log()
             self.watch_closing()
         return 0
 
@@ -131,6 +133,13 @@ class PlainSitting:
             self.seat.send(decoded(line))
             # answers are read in between, or desk and planner would wait for each other
             self.hear()
+
+    def watch_log(self) -> None:
+        """Tells once that the log cannot be written."""
+        fault = self.seat.log.fault
+        if fault and not self.has_fault_told:
+            self.has_fault_told = True
+            say(f"the log cannot be written ({fault}): edits are lost if the desk dies")
 
     def watch_closing(self) -> None:
         """Tells once that the office closes, and goes when it is closed."""
