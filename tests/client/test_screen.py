@@ -3,6 +3,7 @@ import os
 import random
 import signal
 import subprocess
+import time
 import unittest
 
 from support import COMP07, COMP07_SOL, HERE, OFFICE, PROGRAM, SMALL, SMALL_SOL
@@ -285,3 +286,25 @@ class Screens(OfficeTest):
             timeout=300,
         )
         self.assertEqual((done.returncode, done.stdout, done.stderr), (0, "", ""))
+
+    def test_terminal_closes_at_any_moment(self):
+        """The terminal is closed while keys are answered: no traceback, and the draft stays."""
+        self.open("day", SMALL, "1", "--start", SMALL_SOL)
+        words = [OFFICE, "sit", self.path("day"), "0"]
+        for moment in range(12):
+            said = self.path(f"said{moment}")
+            anna = self.terminals.open(["sh", "-c", f'exec "$@" 2>{said}', "sh", *words])
+            if moment < 6:
+                self.sees(anna, "seat 0")
+                anna.press("x", "u", "e")
+            else:
+                # before all of the screen is there
+                wait_until(lambda: os.path.exists(said))
+                time.sleep(0.03 * moment)
+            anna.close()
+            self.assertTrue(
+                wait_until(lambda: " nobody " in self.office("status", self.path("day"))[1])
+            )
+            with open(said) as file:
+                self.assertNotIn("Traceback", file.read())
+        self.assertEqual(self.sit("day", 0, "status\n")[-1][:6], "draft ")

@@ -16,16 +16,23 @@ class Stopped(Exception):
     """Ctrl-C or TERM came."""
 
 
-def on_signals(gone: type[Exception], *signs: signal.Signals) -> None:
-    """Raises at the first of these signals; those that come after it change nothing."""
+class Alarm:
+    """Raises an exception at the first of some signals; those that come after it, or after `stop`,
+    change nothing."""
 
-    def end(*_: Any) -> None:
+    def __init__(self, raised: type[Exception], *signs: signal.Signals) -> None:
+        self.raised = raised
+        self.is_over = False
         for sign in signs:
-            signal.signal(sign, signal.SIG_IGN)
-        raise gone
+            signal.signal(sign, self._ring)
 
-    for sign in signs:
-        signal.signal(sign, end)
+    def _ring(self, *_: Any) -> None:
+        if not self.is_over:
+            self.is_over = True
+            raise self.raised
+
+    def stop(self) -> None:
+        self.is_over = True
 
 
 class Signals:

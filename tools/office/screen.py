@@ -15,7 +15,7 @@ from office.board import Board
 from office.folder import Day
 from office.grid import Row
 from office.planning import Planning
-from office.processes import on_signals
+from office.processes import Alarm
 from office.refused import MACHINE
 from office.seat import DEAD, DeskEnded, Gone, NoAnswer, Seat
 from office.text import width
@@ -165,13 +165,13 @@ def sit_at_screen(day: Day, planner: int, name: Optional[str]) -> int:
     os.environ.setdefault("ESCDELAY", "25")
     seat = Seat(day, planner, name)
     said, is_dead = "", False
+    alarm = Alarm(Gone, signal.SIGINT, signal.SIGTERM, signal.SIGHUP)
     try:
-        on_signals(Gone, signal.SIGTERM, signal.SIGHUP)
         board = Board(Planning(seat))
         board.begin()
         curses.wrapper(show_board, board)
         is_dead = board.is_dead
-    except (Gone, KeyboardInterrupt):
+    except Gone:
         said = "you went away"
     except curses.error:
         # a terminal that is gone cannot be set back
@@ -182,14 +182,13 @@ def sit_at_screen(day: Day, planner: int, name: Optional[str]) -> int:
     except (DeskEnded, NoAnswer):
         is_dead = True
     finally:
+        alarm.stop()
         say_goodbye(seat, said, is_dead)
     return MACHINE if is_dead else 0
 
 
 def say_goodbye(seat: Seat, said: str, is_dead: bool) -> None:
     """Goes away from a seat, and says what becomes of the draft; the terminal may be gone."""
-    for sign in (signal.SIGINT, signal.SIGTERM, signal.SIGHUP):
-        signal.signal(sign, signal.SIG_IGN)
     lines = [said] if said else []
     if is_dead:
         lines = [DEAD]

@@ -13,7 +13,7 @@ from typing import Optional
 
 from office.earlier import unfinished_before
 from office.folder import Day
-from office.processes import on_signals
+from office.processes import Alarm
 from office.program import HERE
 from office.refused import MACHINE
 from office.seat import DEAD, DeskEnded, Gone, NoAnswer, Seat
@@ -27,12 +27,16 @@ LAST = 10.0
 
 def sit_down(day: Day, planner: int, name: Optional[str], plain: bool) -> int:
     """Sits down at a seat, at the screen or by lines."""
-    if plain or not is_screen():
-        wrap(day, planner, name)
-        return sit_plain(day, planner, name)
-    from office.screen import sit_at_screen
+    try:
+        if plain or not is_screen():
+            wrap(day, planner, name)
+            return sit_plain(day, planner, name)
+        from office.screen import sit_at_screen
 
-    return sit_at_screen(day, planner, name)
+        return sit_at_screen(day, planner, name)
+    except Gone:
+        # just when the planner went away by himself
+        return 0
 
 
 def is_screen() -> bool:
@@ -160,7 +164,7 @@ def sit_plain(day: Day, planner: int, name: Optional[str]) -> int:
     """Sits down by lines, and answers the status."""
 
     seat = Seat(day, planner, name)
-    on_signals(Gone, signal.SIGINT, signal.SIGTERM, signal.SIGHUP)
+    alarm = Alarm(Gone, signal.SIGINT, signal.SIGTERM, signal.SIGHUP)
     sitting = PlainSitting(seat)
     try:
         return sitting.go_on()
@@ -175,5 +179,6 @@ def sit_plain(day: Day, planner: int, name: Optional[str]) -> int:
     except NoAnswer:
         say("the desk does not answer")
     finally:
+        alarm.stop()
         seat.go()
     return MACHINE
