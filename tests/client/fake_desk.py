@@ -11,6 +11,8 @@ HERE = os.path.dirname(os.path.dirname(os.path.dirname(os.path.abspath(__file__)
 sys.path.insert(0, os.path.join(HERE, "tools"))
 
 from fake_costs import Costs  # noqa: E402
+from fake_draft import FakeDraft  # noqa: E402
+from fake_words import TURNS, bad_word  # noqa: E402
 from office.edits import LENGTHS, normal_form  # noqa: E402
 from office.instance import COMMANDS, read_instance, read_solution  # noqa: E402
 from office.timetable import Timetable  # noqa: E402
@@ -18,36 +20,6 @@ from office.words import encoded, words_of  # noqa: E402
 
 FAULT = os.environ.get("FAULT")
 PROGRAM = os.environ.get("PROGRAM", os.path.join(HERE, "crates/ctt_tool/out/ctt_tool"))
-# what stands behind the first word of a look or an edit: a course, a room, a teacher, a curriculum,
-# a day, a period; what may be open in an edit pattern has a capital letter
-LOOKS = dict(
-    course="c", slot="dp", teacher="t", curriculum="q", coursecost="c", cost="", missing=""
-)
-EDITS = dict(place="crdp", move="cdprdp", swap="cdpcdp", reroom="crdp", drop="cdp")
-FORMS = {**LOOKS, **EDITS}
-PATTERNS = dict(place="cRDP", move="cdpRDP", swap="cdp***", reroom="cRdp")
-TURNS = ("open", "commit", "refresh", "abandon", "status", "redo", "undo", "help", "leave")
-
-
-class FakeDraft:
-    def __init__(self, newest, count):
-        self.base, self.now, self.count = newest.copy(), newest.copy(), count
-        self.calls, self.backs, self.courses, self.slots = [], [], set(), set()
-
-    def edits(self):
-        return [
-            call for call, answer in self.calls if answer == "done" and words_of(call)[0] in LENGTHS
-        ]
-
-    def make(self, edit):
-        """Makes an edit. One that is itself the next inverse takes the last one back."""
-        back = self.now.make(edit)
-        if self.backs and self.backs[-1] == edit:
-            self.backs.pop()
-        else:
-            self.backs.append(back)
-
-
 class FakeDesk:
     def __init__(self, instance, start, planners, minutes):
         self.instance, self.minutes = instance, minutes
@@ -61,7 +33,7 @@ class FakeDesk:
     def faulty_answer(self, planner, line):
         """What a desk with a fault answers."""
         self.lines += 1
-        is_good = self.bad_word(words_of(line)) is None
+        is_good = bad_word(self.instance, words_of(line)) is None
         if FAULT == "no memory" and self.lines % 3 == 0 and is_good:
             return "no memory"
         if line == "commit" and FAULT == "dies before":
@@ -83,7 +55,7 @@ class FakeDesk:
 
     def answer(self, planner, line):
         words = words_of(line)
-        bad = self.bad_word(words)
+        bad = bad_word(self.instance, words)
         if bad is not None:
             return f"bad line {bad + 1} {words[bad]}" if bad < len(words) else f"bad line {bad + 1}"
         kind, draft = words[0], self.drafts[planner]
@@ -96,42 +68,6 @@ class FakeDesk:
         if kind == "peek":
             return self.look(draft.now, words[1:])
         return self.call(draft, words)
-
-    def bad_word(self, words):
-        """The place of the first word that cannot stand."""
-        at = 1 if words[0] in ("show", "peek") and len(words) > 1 else 0
-        if words[at] in TURNS and at == 0:
-            return 1 if len(words) > 1 else None
-        forms = FORMS
-        if words[at] == "cheapest":
-            at += 1
-            if at >= len(words) or not words[at].isdigit() or int(words[at]) > 1000:
-                return at
-            at, forms = at + 1, PATTERNS
-        elif words[at] == "price":
-            at, forms = at + 1, EDITS
-        elif at == 1:
-            forms = LOOKS
-        if at >= len(words) or words[at] not in forms:
-            return at
-        for what in forms[words[at]]:
-            at += 1
-            before = words[at - 1]
-            if at >= len(words) or not self.is_of(words[at], what, before):
-                return at
-        return at + 1 if at + 1 < len(words) else None
-
-    def is_of(self, word, what, before):
-        """Whether a word may stand for a course, a room and so on; capital letters may be open."""
-        instance = self.instance
-        if what == "*" or (what in "RD" and word == "*") or (what == "P" and before == "*"):
-            return word == "*"
-        what = what.lower()
-        if what in "dp":
-            count = instance.days if what == "d" else instance.periods
-            return word.isdigit() and int(word) < count
-        names = {"c": instance.courses, "r": instance.rooms, "t": instance.teachers}
-        return word in names.get(what, instance.curricula)
 
     def look(self, t, words):
         kind = words[0]

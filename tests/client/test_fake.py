@@ -28,6 +28,22 @@ class Beside(OfficeTest):
             look += f" {count} " + " ".join(self.pattern(drawn, edit))
         return drawn.draw.choice(("", "peek ", "show ")) + look
 
+    @staticmethod
+    def wrong(draw, words):
+        """A line that may have a word too few, a word too many, or one that cannot stand."""
+        at = draw.randrange(len(words))
+        word = draw.choice(("x", "9999", "*", "\u6570", "status", "peek", "1000000000", "-1", "0x1"))
+        way = draw.randrange(4)
+        if way == 0:
+            words = words[:at] or words
+        elif way == 1:
+            words = [*words[:at], word, *words[at:]]
+        elif way == 2:
+            words = [*words[:at], word, *words[at + 1 :]]
+        else:
+            words = [*words, word]
+        return " ".join(words)
+
     def pattern(self, drawn, edit):
         """An edit with parts that are left open; one of `drop` is none."""
         if edit[0] == "swap":
@@ -49,7 +65,9 @@ class Beside(OfficeTest):
             planner = drawn.draw.randrange(PLANNERS)
             line = self.line(drawn, knowns[planner])
             if drawn.draw.random() < 0.1:
-                line = drawn.draw.choice(("status", "redo", "undo", "help", "help me", "peek frob"))
+                line = drawn.draw.choice(("status", "redo", "undo", "help"))
+            if drawn.draw.random() < 0.1:
+                line = self.wrong(drawn.draw, line.split())
             answer, told = seats.ask(planner, line), fake.answer(planner, line)
             self.assertEqual(told, answer, (seed, line))
             made = list(knowns[planner].made)

@@ -218,8 +218,11 @@ class FullDisk(OfficeTest):
         size = os.path.getsize(self.path("day/0.log")) + 200
         done = self.limited(size, ["sit", self.path("day"), "0"], f"open\n{EDIT}\ncommit\n")
         self.assertEqual((done.returncode, done.stdout), (0, "opened\ndone\ncommitted 1\n"))
-        said = "office: the log cannot be written (File too large): edits are lost if the desk dies\n"
-        self.assertEqual(done.stderr, said)
+        self.assertEqual(
+            done.stderr,
+            "office: the log cannot be written (File too large): "
+            "edits are lost if the desk dies\n",
+        )
 
     def limited(self, size, words, text):
         """A command of the office that can write files of so many bytes."""

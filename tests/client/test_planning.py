@@ -2,7 +2,7 @@
 import os
 import signal
 
-from support import COMP07, COMP07_SOL, FAKE, SMALL, SMALL_SOL, OfficeTest, wait_until
+from support import COMP07, COMP07_SOL, SMALL, SMALL_SOL, OfficeTest, wait_until
 
 from office.board import Board
 from office.carry import MOVE, PLACE, SWAP, Carry
