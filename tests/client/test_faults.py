@@ -11,6 +11,7 @@ import office.seat
 from office.board import Board
 from office.earlier import Earlier
 from office.seat import NoAnswer
+from office.seatlog import read_past
 
 EDIT = "drop geo 1 2"
 # a desk that says nothing, or something else than costs, at its seats
@@ -108,7 +109,7 @@ class Faults(OfficeTest):
         def commit(edit):
             answers = [ben.ask(line) for line in ("open", edit, "commit")]
             self.assertEqual(answers[1], "done")
-            anna._told.clear()
+            anna._cache.clear()
 
         commit(EDIT)
         self.assertEqual(len(anna.lectures("course geo")), 1)
@@ -209,6 +210,10 @@ class FullDisk(OfficeTest):
         with open(log) as file:
             lines = file.read().split("\n")
         self.assertTrue(lines[-2].endswith("= went away"))
+        # what could not be written was written when it could be
+        past = read_past(log)
+        self.assertEqual((past.story.accepted, past.story.ended, past.waiting), ([1], [], []))
+        self.assertIn(" > commit", "\n".join(lines))
         self.assertEqual(self.sit("day", 0, "status\n"), ["no draft"])
 
     def test_lines(self):

@@ -196,7 +196,7 @@ class Planners(OfficeTest):
         self.assertTrue(wait_until(lambda: anna.seat.read(1) == "done"))
         anna.edit("reroom c0049 r04 0 0")
         self.assertEqual(anna.alarm, "")
-        anna._told.clear()
+        anna._cache.clear()
         self.assertEqual(
             [one.slot for one in anna.lectures("course c0109")], [(0, 3), (1, 4), (2, 4), (3, 2)]
         )

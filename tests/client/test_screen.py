@@ -141,7 +141,7 @@ class Screens(OfficeTest):
             "offered again",
         )
         anna.press("c", "q")
-        self.sees(anna, "office: the desk has ended; what was told as committed is on", "ended 3")
+        self.sees(anna, "office: the desk has ended; committed drafts are on the disk", "ended 3")
         self.assertNotIn("stays as it is", anna.text())
         office.wait(30)
         self.assertEqual(self.office("close", self.path("day"))[0], 0)

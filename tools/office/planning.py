@@ -135,7 +135,10 @@ class Planning(Reading):
         """Makes the edits of a stale draft again on the newest timetable, and answers those that
         were refused, with the reason; nothing is committed by it."""
         ended = self.ended()
-        if not ended and not self.is_open:
+        if self.is_open:
+            self.notice = "Your draft is open: if c or f finds it stale, r makes its edits again."
+            return []
+        if not ended:
             # a draft that was given up, or had no edits left, is not made again
             self.notice = answer_in_words("nothing to redo")
             return []

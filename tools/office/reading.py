@@ -42,7 +42,7 @@ class Reading:
         # said beside the notice, where the desk has answered otherwise than expected
         self.alarm = ""
         # answers to looks, until something changes
-        self._told: Dict[str, str] = {}
+        self._cache: Dict[str, str] = {}
         # how many drafts were accepted before the draft was opened, and what the timetable cost
         # then
         self.opened_at = 0
@@ -76,9 +76,9 @@ class Reading:
         """What a look is told: of the draft if one is open, without becoming part of it; else of
         the newest timetable."""
         line = f"{'peek' if self.is_open else 'show'} {words}"
-        if line not in self._told:
-            self._told[line] = self.ask(line)
-        return self._told[line]
+        if line not in self._cache:
+            self._cache[line] = self.ask(line)
+        return self._cache[line]
 
     def lectures(self, words: str) -> List[Lecture]:
         """The lectures that a look is told."""
@@ -162,7 +162,7 @@ class Reading:
     def turn(self, line: str) -> str:
         """A line that changes something: what was told before does not hold any more."""
         answer = self.ask(line)
-        self._told.clear()
+        self._cache.clear()
         self.read_minutes()
         return answer
 
@@ -196,7 +196,7 @@ class Reading:
         self.alarm = DIFFERS
 
     def read_again(self) -> None:
-        self._told.clear()
+        self._cache.clear()
         self.read_newest()
         if self.ask_again("status").startswith("draft "):
             self.take_up_draft()
@@ -217,7 +217,7 @@ class Reading:
         """Takes up the drafts that were accepted since."""
         entries = self.minutes.read_on()
         if entries:
-            self._told.clear()
+            self._cache.clear()
         if not all(self.known.accept(entry.edits()) for entry in entries):
             self.read_newest()
         return entries

@@ -30,8 +30,8 @@ class NoAnswer(Exception):
 
 
 DEAD = (
-    "the desk has ended; what was told as committed is on the disk, and open edits are offered "
-    "again after the next opening"
+    "the desk has ended; committed drafts are on the disk, and open edits are offered again after "
+    "the next opening"
 )
 # a desk that says nothing for so many seconds is not waited for
 PATIENCE = 30.0

@@ -39,18 +39,19 @@ class SeatLog:
         except OSError as fault:
             raise Refused(f"cannot write {path}: {fault.strerror}") from None
         size = os.fstat(self.end).st_size
-        # whether the last line was cut, by a crash or by a full disk
-        self._is_cut = bool(size) and os.pread(self.end, 1, size - 1) != b"\n"
-        # why the last line could not be written
+        # what is to be written; a line that was cut by a crash ends first
+        is_cut = size and os.pread(self.end, 1, size - 1) != b"\n"
+        self._unwritten = b"\n" if is_cut else b""
+        # why not all could be written
         self.fault = ""
 
     def _write(self, sign: str, text: str) -> None:
-        """Writes a line. If it cannot be written, `fault` says why, and the planner goes on."""
-        line = b"\n" * self._is_cut + f"{now()} {sign} ".encode() + encoded(text) + b"\n"
+        """Writes a line. If it cannot be written, `fault` says why, the planner goes on, and it is
+        written with the next one."""
+        self._unwritten += f"{now()} {sign} ".encode() + encoded(text) + b"\n"
         try:
-            written = os.write(self.end, line)
-            self._is_cut = line[:written][-1:] != b"\n"
-            self.fault = "" if written == len(line) else os.strerror(errno.ENOSPC)
+            self._unwritten = self._unwritten[os.write(self.end, self._unwritten) :]
+            self.fault = os.strerror(errno.ENOSPC) if self._unwritten else ""
         except OSError as fault:
             self.fault = fault.strerror or "the disk fails"
 
