@@ -72,6 +72,22 @@ class Changes(OfficeTest):
         with open(self.path("tuesday/barred")) as file:
             self.assertEqual(file.read(), "Barred: 1\ntop B\nEND.\n")
 
+    def test_other_rooms_are_barred(self):
+        self.before("--start", SMALL_SOL)
+        barred = self.write("rooms", "Barred: 1 geo A END.")
+        after = ["--after", self.path("monday"), "--barred", barred]
+        office = self.start("open", self.path("tuesday"), *after)
+        said = [office.stderr.readline() for _ in range(4)]
+        self.assertEqual(
+            said[:3],
+            [
+                "timedesk: set aside geo A 0 1 barred\n",
+                "timedesk: set aside geo A 1 2 barred\n",
+                f"office: 2 lectures set aside, in {self.path('tuesday/aside')}\n",
+            ],
+        )
+        self.assertIn("open, seats", said[3])
+
     def test_wrong_instance(self):
         changed = self.changed(("END.", "geo"))
         self.before()

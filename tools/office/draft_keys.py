@@ -39,11 +39,12 @@ class DraftKeys:
         self.board.planning.undo()
 
     def list_edits(self) -> None:
-        edits = self.board.planning.edits()
-        self.board.overlay = Page(
-            f"The edits of your draft: {len(edits)}",
-            [f"{n}. {edit}" for n, edit in enumerate(edits, 1)],
-        )
+        planning = self.board.planning
+        lines = [f"{n}. {edit}" for n, edit in enumerate(planning.edits(), 1)]
+        title, left_out = f"The edits of your draft: {len(lines)}", planning.left_out()
+        if left_out:
+            lines += ["", "Not made again, of the draft before:", *left_out]
+        self.board.overlay = Page(title, lines)
 
     def commit(self) -> None:
         self.board.carry = None

@@ -143,6 +143,8 @@ class Story:
     # the edits of the last draft, if it ended without being accepted and was not given up
     ended: list[str] = field(default_factory=list)
     ended_made: list[str] = field(default_factory=list)
+    # those that the redo by which the draft was opened could not make again
+    left_out: list[tuple[int, str, str]] = field(default_factory=list)
     accepted: list[int] = field(default_factory=list)
     has_left: bool = False
     is_full: bool = False
@@ -182,7 +184,7 @@ class Story:
         self.is_open, self.made, self.edits = True, made, []
         for edit in made:
             self.edits = add_edit(self.edits, edit)
-        self.ended, self.ended_made = [], []
+        self.ended, self.ended_made, self.left_out = [], [], []
 
     def _end(self, keeps: bool) -> None:
         if self.is_open:
@@ -190,7 +192,7 @@ class Story:
             self.ended_made = self.made if keeps else []
         elif not keeps:
             self.ended, self.ended_made = [], []
-        self.is_open, self.made, self.edits = False, [], []
+        self.is_open, self.made, self.edits, self.left_out = False, [], [], []
 
     def _undo(self, answer: str) -> None:
         if answer.startswith("done "):
@@ -205,6 +207,7 @@ class Story:
                 edit for number, edit in enumerate(self.ended_made, 1) if number not in left_out
             ]
             self._begin(made)
+            self.left_out = redone.refused
         elif answer == "already open":
             self._is_open_after_all()
 

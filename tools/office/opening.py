@@ -35,8 +35,8 @@ class Plan:
         self.start = start
         self.barred = barred
         self.after: Optional[Day] = None
-        # the start is the end of another day under another instance: what cannot stand any more is
-        # set aside
+        # the start is the end of another day under another instance, or with other rooms barred:
+        # what cannot stand any more is set aside
         self.mends = False
         self.program = ["timedesk"]
 
@@ -60,7 +60,8 @@ def plan_after(
     plan = Plan(
         day, planners or facts["planners"], instance or before.instance, before.end, barred or kept
     )
-    plan.after, plan.mends, plan.program = before, instance is not None, facts["program"]
+    plan.after, plan.program = before, facts["program"]
+    plan.mends = instance is not None or barred is not None
     return plan
 
 

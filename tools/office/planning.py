@@ -152,9 +152,13 @@ class Planning(Reading):
             return []
         self._stand_anew()
         self.notice = f"{redone.made} of {redone.of} edits made again, none committed yet."
+        return self.left_out()
+
+    def left_out(self) -> List[str]:
+        """The edits that could not be made again when the draft was opened, with the reason."""
         return [
             f"{number}. {edit}: {reason(self.instance, edit, fault)}"
-            for number, edit, fault in redone.refused
+            for number, edit, fault in self.seat.story.left_out
         ]
 
     def make_again(self, edits: List[str]) -> List[str]:
