@@ -63,7 +63,7 @@ class DraftKeys:
         if not row:
             return
         edits = planning.seat.story.ended
-        lines = [f"{row} is another one now:", *planning.who_changed(row), ""]
+        lines = [f"{row} has changed:", *planning.who_changed(row), ""]
         lines += [
             "Your edits:",
             *(f"  {edit}" for edit in edits),
