@@ -3,7 +3,6 @@ import os
 import random
 import subprocess
 import sys
-import time
 
 from support import COMP07, COMP07_SOL, HERE, PROGRAM, SMALL, SMALL_SOL, OfficeTest
 
@@ -206,40 +205,6 @@ class Shown(OfficeTest):
         self.assertTrue(board.planning.is_open)
         board.press("y")
         self.assertFalse(board.planning.is_open)
-
-    def test_speed(self):
-        """A key is answered in 50 ms at the size of comp07, with what is drawn behind it."""
-        self.open("day", COMP07, "1", "--start", COMP07_SOL)
-        board = Board(self.planning("day", 0))
-        board.begin()
-        times = []
-        for key in [
-            "right",
-            "down",
-            "enter",
-            "b",
-            "tab",
-            "escape",
-            "w",
-            "right",
-            "w",
-            "w",
-            "w",
-            "left",
-            "s",
-            "escape",
-        ] * 5:
-            begun = time.perf_counter()
-            board.press(key)
-            board.rows(24, 80)
-            times.append(time.perf_counter() - begun)
-        times.sort()
-        print(
-            f"a key at comp07 size: middle {times[len(times) // 2] * 1000:.1f} ms, "
-            f"longest {times[-1] * 1000:.1f} ms"
-        )
-        # a machine that has other work to do is slower; what is measured alone is in docs/OFFICE.md
-        self.assertLess(times[len(times) // 2], 0.05)
 
 
 class Known(OfficeTest):

@@ -16,7 +16,7 @@ arrows  move the cursor over the week; Tab goes to the next lecture.
         list.
      w  shows the week of the course at the cursor, then of its teacher, its room, its curricula.
      u  takes the last edit of the draft back.
-     e  lists the edits of the draft.
+     e  lists the edits of the draft, and those that a redo could not make again.
      c  commits the draft: it is accepted if nothing that it stands on has changed.
      f  brings the draft up to date with what others have committed.
      r  makes the edits of a stale draft again on the newest timetable, and commits nothing.
