@@ -3,6 +3,7 @@ import os
 import random
 import subprocess
 import sys
+import threading
 
 from support import COMP07, COMP07_SOL, HERE, PROGRAM, SMALL, SMALL_SOL, OfficeTest
 
@@ -11,9 +12,9 @@ from drawn import draw_instance, draw_solution  # noqa: E402
 from rules import Instance as Plain  # noqa: E402
 
 from office.board import Board  # noqa: E402
-from office.edits import is_edit  # noqa: E402
+from office.edits import is_edit, read_prices  # noqa: E402
 from office.grid import View  # noqa: E402
-from office.instance import read_instance  # noqa: E402
+from office.instance import read_instance, read_solution  # noqa: E402
 from office.minutes import read_minutes  # noqa: E402
 from office.text import cut, fit, shown, width, wrap  # noqa: E402
 from office.timetable import Timetable  # noqa: E402
@@ -118,6 +119,48 @@ class Drawn(OfficeTest):
             with self.subTest(seed=seed):
                 self.setUp()
                 self.play(seed)
+
+
+class Beside(OfficeTest):
+    """A screen beside planners who commit as fast as they can."""
+
+    def commit_on(self, planner):
+        """Takes lectures out and puts them in again, each in a draft of its own."""
+        seat, draw = self.seat("day", planner, f"planner{planner}"), random.Random(planner)
+        while not self.is_over:
+            course, _, day, period = draw.choice(self.lectures)
+            seat.ask("open")
+            if seat.ask(f"drop {course} {day} {period}") != "done":
+                found = read_prices(seat.ask(f"peek cheapest 1 place {course} * * *"))
+                if found:
+                    seat.ask(found[0][1])
+            seat.ask("commit")
+
+    def test_beside_others(self):
+        """No answer is other than expected, and the end is what `list` prints."""
+        self.open("day", COMP07, "3", "--start", COMP07_SOL)
+        self.lectures, self.is_over = read_solution(COMP07_SOL), False
+        board, draw = Board(self.planning("day", 0)), random.Random(1)
+        board.begin()
+        others = [threading.Thread(target=self.commit_on, args=(planner,)) for planner in (1, 2)]
+        for other in others:
+            other.start()
+        try:
+            for _ in range(1500):
+                board.tick()
+                board.press(draw.choice(KEYS))
+                board.rows(24, 80)
+                self.assertEqual(board.planning.alarm, "")
+        finally:
+            self.is_over = True
+            for other in others:
+                other.join()
+        board.tick()
+        newest = board.planning.known.newest
+        self.assertGreater(len(board.planning.minutes.entries), 20)
+        board.planning.seat.go()
+        found = "".join(lecture.words() + "\n" for lecture in newest.lectures())
+        self.assertEqual(found, self.listed("day"))
 
 
 class Shown(OfficeTest):

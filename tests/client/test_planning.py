@@ -272,3 +272,12 @@ class Planners(OfficeTest):
         self.assertIsNone(board.carry)
         self.assertIn("Somebody has changed top", anna.notice)
         self.assertEqual(anna.missing(), {"top": 1})
+        # the same, if a key comes before the news
+        board.show_view(View("course", "geo"))
+        board.press("enter")
+        ben.edit("drop geo 0 1")
+        ben.commit()
+        anna.read_minutes()
+        board.press("enter")
+        self.assertEqual((board.carry, anna.is_open), (None, False))
+        self.assertIn("Somebody has changed geo", anna.notice)

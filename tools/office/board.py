@@ -83,6 +83,7 @@ class Board:
         self.is_small = height < 10 or width < 40
         if self.is_small:
             return [[(fit("the window is too small", width), "bad")]] + [[("", "")]] * (height - 1)
+        self.renew_carry()
         if self.overlay is not None and not isinstance(self.overlay, Typed):
             return self.overlay.rows(height, width)[:height]
         rows = head_rows(self.planning, self.carry, self.view, width)
@@ -132,6 +133,8 @@ class Board:
         self.planning.alarm = ""
         if self.carry is None and self.overlay is None:
             self.planning.notice = ""
+        if not self.renew_carry():
+            return
         if self.overlay is not None:
             front = self.overlay
             if front.press(key) and self.overlay is front:
@@ -230,6 +233,15 @@ class Board:
         self.carry = Carry(self.planning, kind, lecture.course, lecture)
         self.carry.begin_at(self.cursor)
         self.say_best()
+
+    def renew_carry(self) -> bool:
+        """Asks anew what is offered, if others have changed the timetable that is shown; answers
+        whether what was picked up is there still."""
+        carry, planning = self.carry, self.planning
+        if carry is None or planning.is_open or carry.seen == len(planning.minutes.entries):
+            return True
+        self.carry_again()
+        return self.carry is not None
 
     def carry_again(self) -> None:
         """Asks anew what is offered, if the lecture is still there."""

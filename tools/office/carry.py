@@ -42,6 +42,8 @@ class Carry:
         self.kind, self.course, self.lecture = kind, course, lecture
         self.slot: Optional[Slot] = lecture.slot if lecture else None
         self.offers: Dict[Slot, List[Offer]] = {}
+        # how many drafts were accepted by then
+        self.seen = len(planning.minutes.entries)
         self.choice = 0
         # whether all that could be offered is known
         self.is_whole = True

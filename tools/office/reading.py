@@ -17,8 +17,9 @@ from office.words import words_of
 
 # how many seconds are waited before a draft is read, and read again if it is not as expected
 WAITS = (0.0, 0.05, 0.2, 0.5)
-# how many seconds an accepted draft may need to be in the minutes
+# how many seconds an accepted draft may need to be in the minutes, and how many are on their way
 LATE = 1.0
+FEW = 8
 COSTS = ("capacity", "days", "compactness", "stability")
 DIFFERS = "The desk answered otherwise than expected: everything was read anew."
 
@@ -110,12 +111,27 @@ class Reading:
             time.sleep(wait)
             self.read_status()
             draft = self.read_all("peek")
-            known.base = self._after(self.opened_at) if made else draft.copy()
-            if known.make_all(made) and known.draft is not None and known.draft.same_as(draft):
+            if not made:
+                known.base = draft.copy()
+                known.make_all(made)
                 return
-            # a draft that was accepted just now may not be in the minutes yet
+            if self._find_base(made, draft):
+                return
         known.draft = draft
         self.alarm = DIFFERS
+
+    def _find_base(self, made: List[str], draft: Timetable) -> bool:
+        """Finds the base on which the edits lead to the draft. Drafts that were accepted just now
+        may not have been in the minutes when the desk counted them."""
+        self.read_minutes()
+        last = min(len(self.minutes.entries), self.opened_at + FEW)
+        for count in range(max(0, self.opened_at), last + 1):
+            self.known.base = self._after(count)
+            is_made = self.known.make_all(made)
+            if is_made and self.known.draft is not None and self.known.draft.same_as(draft):
+                self.opened_at = count
+                return True
+        return False
 
     def _after(self, count: int) -> Timetable:
         """The timetable after so many accepted drafts."""
@@ -137,22 +153,23 @@ class Reading:
         answer = self.seat.ask(line)
         expected = self.known.hear(line, answer)
         is_show = line.startswith("show ")
-        if not expected and (is_show or line in ("redo", "refresh")) and self.wait_for_minutes():
+        until = time.monotonic() + LATE
+        while is_show and not expected and self.wait_for_minutes(until):
+            # in time, however many are accepted meanwhile
+            is_show = time.monotonic() < until
             # somebody was accepted in between
-            if is_show:
-                answer = self.seat.ask(line)
-                expected = self.known.hear(line, answer)
-            else:
-                self.take_up_draft()
-                expected = True
+            answer = self.seat.ask(line)
+            expected = self.known.hear(line, answer)
+        if line in ("redo", "refresh") and not expected and self.wait_for_minutes(until):
+            self.take_up_draft()
+            expected = True
         if not expected:
             self.read_anew()
         return answer
 
-    def wait_for_minutes(self) -> bool:
-        """Waits a little until the minutes have grown: the desk shows an accepted draft a moment
-        before it is in them. Answers whether they have."""
-        until = time.monotonic() + LATE
+    def wait_for_minutes(self, until: float) -> bool:
+        """Waits until the minutes have grown: the desk shows an accepted draft a moment before it
+        is in them. Answers whether they have, in time."""
         while not self.read_minutes():
             if time.monotonic() > until:
                 return False

@@ -68,6 +68,8 @@ def move_reason(
 def short_reason(timetable: Timetable, course: str, old: Optional[Slot], slot: Slot) -> str:
     """The same in two words, for a cell of which it is known that no room serves."""
     room = next(iter(timetable.instance.rooms), "")
+    if old and timetable.room_at(course, old) is None:
+        return "gone"
     left = timetable.take(course, old) if old else None
     fault = timetable.placing_fault(course, slot, room) or ""
     if old and left is not None:
