@@ -1,5 +1,5 @@
 # shellcheck shell=bash
-# Completions of timedesk for bash, in a shell that takes them in by `. docs/completion.bash`.
+# Completions of timedesk and of office for bash, in a shell that takes them in by `. docs/completion.bash`.
 
 # Adds those words that begin with what is typed, which stands before them.
 _timedesk_words() {
@@ -99,3 +99,59 @@ _timedesk() {
 }
 
 complete -F _timedesk timedesk
+
+# Adds folders of days: those that have a file `day.json`.
+_office_days() {
+    local folder days
+    compopt -o filenames 2>/dev/null
+    mapfile -t days < <(compgen -d -- "$1")
+    for folder in "${days[@]}"; do
+        [[ ! -e $folder/day.json ]] || COMPREPLY+=("$folder")
+    done
+}
+
+# Completes a word of office.
+_office() {
+    local typed=${COMP_WORDS[COMP_CWORD]} word option='' given=' ' command='' day='' place=0 options=''
+    COMPREPLY=()
+    for word in "${COMP_WORDS[@]:1:COMP_CWORD-1}"; do
+        if [[ $word == = ]]; then
+            continue
+        elif [[ -n $option ]]; then
+            option=
+        elif [[ $word == --* ]]; then
+            given+="$word "
+            [[ $word =~ ^--(help|plain|unproved)$ ]] || option=$word
+        elif [[ -z $command ]]; then
+            command=$word
+        else
+            [[ $place != 0 ]] || day=$word
+            place=$((place + 1))
+        fi
+    done
+    [[ $typed != = ]] || typed=
+    case $command in
+    '') options='--unproved' ;;
+    open) options='--after --barred --instance --planners --start' ;;
+    sit) options='--name --plain' ;;
+    close) options='--wait' ;;
+    esac
+    if [[ -z $option && $typed == -* ]]; then
+        for option in $options --help; do
+            [[ $given == *" $option "* ]] || _timedesk_words "$typed" "$option"
+        done
+        return
+    fi
+    case $command:${option:-$place} in
+    *:--after) _office_days "$typed" ;;
+    *:--start) _timedesk_files "$typed" .sol ;;
+    *:--instance | open:1) _timedesk_files "$typed" .ctt ;;
+    *:--barred) _timedesk_files "$typed" '' ;;
+    *:--*) ;;
+    :0) _timedesk_words "$typed" close log open sit status ;;
+    *:0) _office_days "$typed" ;;
+    log:1) _timedesk_names "$typed" --course "$day/instance.ctt" ;;
+    esac
+}
+
+complete -F _office office

@@ -1,5 +1,5 @@
 #!/usr/bin/env bash
-# Asks docs/completion.bash for completions, and compares the options that it knows with the help of the program.
+# Asks docs/completion.bash for completions, and compares the options that it knows with the help of the program and of office.
 # PROGRAM names another one. The last line is 'N passed, M failed'.
 set -u
 here=$(CDPATH='' cd -- "$(dirname -- "${BASH_SOURCE[0]}")/.." && pwd) || exit 1
@@ -32,7 +32,10 @@ offers() {
     shift
     COMP_WORDS=("$@")
     COMP_CWORD=$(($# - 1))
-    _timedesk
+    case $1 in
+    *office) _office ;;
+    *) _timedesk ;;
+    esac
     equals "$*" "$(printf '%s\n' "${COMPREPLY[@]}" | sort)" "$(sort <<<"$wanted")"
 }
 
@@ -111,6 +114,25 @@ head -c 150 small.ctt >cut.ctt
 offers $'alg\ngeo\ntop' timedesk week cut.ctt monday.sol --course ''
 offers '' timedesk week cut.ctt monday.sol --curriculum ''
 
+# days
+mkdir monday tuesday
+touch monday/day.json
+cp small.ctt monday/instance.ctt
+offers $'close\nlog\nopen\nsit\nstatus' office ''
+offers $'sit\nstatus' ./office s
+offers $'open' office --unproved o
+offers $'--help\n--unproved' office -
+offers $'monday' office sit ''
+offers '' office sit monday ''
+offers $'alg\ngeo\ntop' office log monday ''
+offers $'small.ctt' office open wednesday s
+offers $'monday' office open wednesday --after ''
+offers $'small.ctt' office open wednesday --after monday --instance s
+offers $'monday\nmonday.sol' office open wednesday small.ctt 2 --start m
+offers $'--after\n--barred\n--help\n--instance\n--planners\n--start' office open wednesday -
+offers $'--help\n--name' office sit monday 0 --plain -
+offers $'--help\n--wait' office close monday --
+
 equals 'nothing of a name is run' "$(find . -name hit)" ''
 equals 'what is completed' "$(complete -p timedesk)" 'complete -F _timedesk timedesk'
 
@@ -120,6 +142,15 @@ offers "$commands" timedesk ''
 for command in $commands; do
     [ "$command" != help ] || continue
     offers "$("$program" "$command" --help | sed -n '/^Options:/,$s/^ *\(-., \)\?\(--[a-z]*\).*/\2/p')" timedesk "$command" --
+done
+
+# and those of office are its own
+office=$here/office
+commands=$("$office" --help | sed -n 's/^    \([a-z][a-z]*\)  .*/\1/p')
+offers "$commands" office ''
+for command in $commands; do
+    options=$("$office" "$command" --help | sed -n '/^option/,$s/^  \(-h, \)\?\(--[a-z]*\).*/\2/p')
+    offers "$options" office "$command" monday --
 done
 
 echo "$passed passed, $failed failed"

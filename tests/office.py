@@ -499,7 +499,6 @@ def killed(times=50):
 def office_script():
     """A day with `office`: two planners, of whom one goes away and comes back."""
     folder = os.path.join(room(), "day")
-    minutes = folder + ".minutes"
     office = os.path.join(HERE, "office")
     environment = dict(os.environ, TIMEDESK=PROGRAM)
 
@@ -510,13 +509,13 @@ def office_script():
         return done.returncode, done.stdout, done.stderr
 
     def words(*more):
-        return subprocess.run([office, *more], capture_output=True, text=True, env=environment, timeout=20)
+        return subprocess.run([office, *more], capture_output=True, text=True, env=environment, timeout=60)
 
     check("office without words", words().returncode, 2)
     check("office for 65", words("open", folder, SMALL, "65").returncode, 3)
     check("no office", words("sit", folder, "0").returncode, 3)
     process = subprocess.Popen(
-        [office, "open", folder, SMALL, "3", "--minutes", minutes],
+        [office, "open", folder, SMALL, "3"],
         stdout=subprocess.PIPE,
         stderr=subprocess.PIPE,
         env=environment,
@@ -536,7 +535,8 @@ def office_script():
     held.stdin.write("course geo\n")
     held.stdin.flush()
     check("the first one finds his draft", held.stdout.readline(), "lectures 1 geo A 0 1\n")
-    check("his seat is taken", sit(0, ""), (3, "", "office: somebody sits at seat 0\n"))
+    status, printed, said = sit(0, "")
+    check("his seat is taken", (status, printed, " sits at seat 0, since " in said), (3, "", True))
     held.stdin.write("commit\nleave\n")
     held.stdin.flush()
     check("he commits and leaves", held.stdout.read(), "committed 2\nleft\n")
@@ -545,22 +545,27 @@ def office_script():
     held.stdout.close()
     check("his seat has ended", sit(0, "")[0], 3)
     check("no such seat", sit(7, "")[:2], (3, ""))
-    third = subprocess.Popen([office, "sit", folder, "2"], stdin=subprocess.PIPE, stdout=subprocess.PIPE, text=True)
+    third = subprocess.Popen(
+        [office, "sit", folder, "2"], stdin=subprocess.PIPE, stdout=subprocess.PIPE, stderr=subprocess.PIPE, text=True
+    )
     third.stdin.write("open\n")
     third.stdin.flush()
     check("a third one sits down", third.stdout.readline(), "opened\n")
-    # as Ctrl-C in the terminal of the office does, which reaches the desk too
+    # as Ctrl-C in the terminal of the office does, which reaches all that stand in it
     os.killpg(process.pid, signal.SIGINT)
     time.sleep(0.5)
-    check("who still sits is answered when the office is closed", third.communicate("show cost\nabandon\nleave\n", 20)[0], "costs 10 10 2 0\nabandoned\nleft\n")
+    answers, said = third.communicate("show cost\nabandon\nleave\n", 20)
+    check("who still sits is answered when the office is closed", answers, "costs 10 10 2 0\nabandoned\nleft\n")
+    check("and is told that it closes", said.startswith("office: the office closes in "), True)
     printed, _ = process.communicate(timeout=PATIENCE)
     check("the office is closed", (process.returncode, printed), (0, "journal 2\ncosts 10 10 2 0\n"))
-    check("its pipes are gone", os.listdir(folder), ["office"])
-    status, journal, said = call("journal", SMALL, minutes)
-    check("its journal", (status, journal.split("\n")[0], said), (0, "journal 2", ""))
-    if shutil.which("shellcheck"):
-        linted = subprocess.run(["shellcheck", office], capture_output=True, text=True)
-        check("shellcheck", (linted.returncode, linted.stdout), (0, ""))
+    left = ["0.log", "0.sitter", "1.log", "1.sitter", "2.log", "2.sitter", "day.json", "instance.ctt", "minutes", "names", "office"]
+    check("its pipes are gone", sorted(os.listdir(folder)), left)
+    closed = words("close", folder)
+    check("the day is closed", (closed.returncode, closed.stdout.split("\n")[0]), (0, "day: 2 drafts accepted, the audit agrees"))
+    status, journal, said = call("journal", SMALL, os.path.join(folder, "minutes"))
+    with open(os.path.join(folder, "journal")) as file:
+        check("its journal", (status, journal, said), (0, file.read(), ""))
 
 
 def latency():

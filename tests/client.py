@@ -1,0 +1,33 @@
+#!/usr/bin/env python3
+"""Runs the tests of the office's package, tests/client. Words name some of them, as in `client.py
+test_day test_screen`.
+
+PROGRAM names another program than the one that was built. The last line is 'N passed, M failed'.
+"""
+import os
+import sys
+import unittest
+
+sys.dont_write_bytecode = True
+HERE = os.path.dirname(os.path.abspath(__file__))
+sys.path.insert(0, os.path.join(HERE, "client"))
+
+
+def main():
+    loader = unittest.TestLoader()
+    names = sys.argv[1:]
+    suite = (
+        loader.loadTestsFromNames(names) if names else loader.discover(os.path.join(HERE, "client"))
+    )
+    found = unittest.TextTestRunner(stream=sys.stdout, verbosity=0).run(suite)
+    faults = [test for test, _ in found.failures + found.errors] + found.unexpectedSuccesses
+    failed = len(faults)
+    # several parts of one test may fail
+    tests = {getattr(test, "test_case", test) for test in faults}
+    passed = found.testsRun - len(tests) - len(found.skipped)
+    print(f"{passed} passed, {failed} failed")
+    sys.exit(failed > 0)
+
+
+if __name__ == "__main__":
+    main()

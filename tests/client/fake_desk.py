@@ -1,0 +1,338 @@
+#!/usr/bin/env python3
+"""A desk in plain Python, beside which the program is tested, and which makes faults: FAULT names
+one. It mends, too. Any other command is PROGRAM's."""
+import contextlib
+import os
+import select
+import sys
+import threading
+
+HERE = os.path.dirname(os.path.dirname(os.path.dirname(os.path.abspath(__file__))))
+sys.path.insert(0, os.path.join(HERE, "tools"))
+
+from fake_costs import Costs  # noqa: E402
+from fake_draft import FakeDraft  # noqa: E402
+from fake_words import TURNS, bad_word  # noqa: E402
+from office.edits import LENGTHS, normal_form  # noqa: E402
+from office.instance import COMMANDS, read_instance, read_solution  # noqa: E402
+from office.timetable import Timetable  # noqa: E402
+from office.words import encoded, words_of  # noqa: E402
+
+FAULT = os.environ.get("FAULT")
+PROGRAM = os.environ.get("PROGRAM", os.path.join(HERE, "crates/ctt_tool/out/ctt_tool"))
+class FakeDesk:
+    def __init__(self, instance, start, planners, minutes):
+        self.instance, self.minutes = instance, minutes
+        self.costs = Costs(instance)
+        self.newest = Timetable(instance, start)
+        self.count = 0
+        self.is_full = False
+        self.lines = 0
+        self.drafts, self.ended = [None] * planners, [None] * planners
+
+    def faulty_answer(self, planner, line):
+        """What a desk with a fault answers."""
+        self.lines += 1
+        is_good = bad_word(self.instance, words_of(line)) is None
+        if FAULT == "no memory" and self.lines % 3 == 0 and is_good:
+            return "no memory"
+        if line == "commit" and FAULT == "dies before":
+            os._exit(9)
+        if line == "commit" and FAULT == "no minutes":
+            self.drafts[planner] = None
+            self.count += 1
+            return f"committed {self.count}"
+        answer = self.answer(planner, line)
+        if line == "commit" and FAULT == "dies after":
+            os._exit(9)
+        if FAULT == "lies" and answer.startswith("refused "):
+            return "done"
+        if FAULT == "no sense" and is_good and not line.startswith(("peek", "show", "status")):
+            return answer + " \x1b[2J \udcff"
+        if FAULT == "no answer" and line == "commit":
+            return ""
+        return answer
+
+    def answer(self, planner, line):
+        words = words_of(line)
+        bad = bad_word(self.instance, words)
+        if bad is not None:
+            return f"bad line {bad + 1} {words[bad]}" if bad < len(words) else f"bad line {bad + 1}"
+        kind, draft = words[0], self.drafts[planner]
+        if kind in TURNS:
+            return getattr(self, kind)(planner, draft)
+        if kind == "show":
+            return self.look(self.newest, words[1:])
+        if draft is None:
+            return "no draft"
+        if kind == "peek":
+            return self.look(draft.now, words[1:])
+        return self.call(draft, words)
+
+    def look(self, t, words):
+        kind = words[0]
+        if kind == "cost":
+            return "costs " + " ".join(map(str, self.costs.whole(t)))
+        if kind == "coursecost":
+            return "costs " + " ".join(map(str, self.costs.of_course(t, words[1])))
+        if kind == "missing":
+            short = [
+                (name, t.missing(name)) for name in self.instance.courses if t.missing(name) > 0
+            ]
+            return " ".join(
+                ["missing", str(len(short)), *(f"{name} {count}" for name, count in short)]
+            )
+        if kind == "price":
+            fault = t.fault(" ".join(words[1:]))
+            return (
+                f"refused {fault}" if fault else f"price {self.costs.price(t, ' '.join(words[1:]))}"
+            )
+        if kind == "cheapest":
+            return self.cheapest(t, int(words[1]), words[2:])
+        lectures = t.look(" ".join(words))
+        return " ".join(
+            ["lectures", str(len(lectures)), *(lecture.words() for lecture in lectures)]
+        )
+
+    def pattern_edits(self, t, words):
+        kind, course = words[:2]
+        slots = [(str(d), str(p)) for d, p in self.instance.slots()]
+        if kind == "swap" and words[4] == "*":
+            return [
+                " ".join([*words[:4], other, d, p])
+                for other in self.instance.courses
+                for d, p in slots
+            ]
+        if kind == "swap":
+            return [" ".join(words)]
+        at = 4 if kind == "move" else 2
+        rooms = list(self.instance.rooms) if words[at] == "*" else [words[at]]
+        ends = slots if words[at + 1] == "*" else [(words[at + 1], words[at + 2])]
+        return [" ".join([*words[:at], room, d, p]) for d, p in ends for room in rooms]
+
+    def cheapest(self, t, count, words):
+        kind, course = words[:2]
+        if kind == "place" and t.missing(course) <= 0:
+            return "refused full"
+        at = 3 if kind == "reroom" else 2
+        if kind != "place" and t.room_at(course, (int(words[at]), int(words[at + 1]))) is None:
+            return "refused notplaced"
+        found = [
+            (self.costs.price(t, edit), edit)
+            for edit in self.pattern_edits(t, words)
+            if t.fault(edit) is None
+        ]
+        found.sort(key=lambda pair: pair[0])
+        found = found[:count]
+        return " ".join(["prices", str(len(found)), *(f"{price} {edit}" for price, edit in found)])
+
+    def call(self, draft, words):
+        line = " ".join(words)
+        self.read(draft, words)
+        if words[0] in LENGTHS:
+            line = normal_form(line)
+            fault = draft.now.fault(line)
+            answer = f"refused {fault}" if fault else "done"
+            if not fault:
+                draft.make(line)
+        else:
+            answer = self.look(draft.now, words)
+        draft.calls.append((line, answer))
+        return answer
+
+    def read(self, draft, words):
+        """The rows that a call depends on."""
+        kind, rest, instance = words[0], words[1:], self.instance
+        if kind == "price":
+            kind, rest = rest[0], rest[1:]
+            self.read(draft, [kind, *rest])
+            draft.courses.update(
+                mate
+                for course in rest
+                if course in instance.mates
+                for mate in instance.mates[course]
+            )
+        elif kind in LENGTHS:
+            draft.courses.update([rest[0], rest[3]] if kind == "swap" else [rest[0]])
+            ends = {"place": [2], "move": [4], "swap": [1, 4], "reroom": [2], "drop": []}[kind]
+            draft.slots.update((int(rest[at]), int(rest[at + 1])) for at in ends)
+        elif kind == "slot":
+            draft.slots.add((int(rest[0]), int(rest[1])))
+        elif kind in ("course", "coursecost"):
+            draft.courses.add(rest[0])
+        elif kind == "teacher":
+            draft.courses.update(instance.teachers[rest[0]])
+        elif kind == "curriculum":
+            draft.courses.update(instance.curricula[rest[0]])
+        else:
+            draft.courses.update(instance.courses)
+            if kind == "cheapest":
+                draft.slots.update(instance.slots())
+
+    def stale(self, draft):
+        """The least row that a draft depends on and that has changed."""
+        for course in self.instance.courses:
+            if (
+                course in draft.courses
+                and draft.base.by_course[course] != self.newest.by_course[course]
+            ):
+                return f"course {course}"
+        for slot in self.instance.slots():
+            if slot in draft.slots and draft.base.by_slot[slot] != self.newest.by_slot[slot]:
+                return f"slot {slot[0]} {slot[1]}"
+        return None
+
+    def open(self, planner, draft):
+        if draft:
+            return "already open"
+        self.drafts[planner], self.ended[planner] = FakeDraft(self.newest, self.count), None
+        return "opened"
+
+    def commit(self, planner, draft):
+        if not draft:
+            return "no draft"
+        if self.is_full:
+            return "not written"
+        self.drafts[planner] = None
+        row = self.stale(draft)
+        if row:
+            self.ended[planner] = draft.edits()
+            return f"stale {row}"
+        calls = "".join(f"{call}\n{answer}\n" for call, answer in draft.calls)
+        entry = f"entry {planner} {len(draft.calls)}\n{calls}"
+        try:
+            if FAULT == "late":
+                threading.Timer(0.3, self.write, [entry]).start()
+            else:
+                self.write(entry)
+        except OSError:
+            self.is_full = True
+            return "not written"
+        for edit in draft.edits():
+            self.newest.make(edit)
+        self.count += 1
+        return f"committed {self.count}"
+
+    def write(self, entry):
+        with open(self.minutes, "a") as file:
+            file.write(entry)
+
+    def refresh(self, planner, draft):
+        if not draft:
+            return "no draft"
+        row = self.stale(draft)
+        if row:
+            self.drafts[planner], self.ended[planner] = None, draft.edits()
+            return f"stale {row}"
+        draft.base, draft.now, draft.count = self.newest.copy(), self.newest.copy(), self.count
+        draft.backs = []
+        for edit in draft.edits():
+            draft.make(edit)
+        return "refreshed"
+
+    def abandon(self, planner, draft):
+        if not draft:
+            return "no draft"
+        self.drafts[planner] = self.ended[planner] = None
+        return "abandoned"
+
+    def status(self, planner, draft):
+        if not draft:
+            return "no draft"
+        row = self.stale(draft)
+        state = f"stale {row}" if row else "fresh"
+        return f"draft {len(draft.edits())} {self.count - draft.count} {state}"
+
+    def redo(self, planner, draft):
+        if draft:
+            return "already open"
+        ended = self.ended[planner]
+        if ended is None:
+            return "nothing to redo"
+        self.open(planner, None)
+        draft, refused = self.drafts[planner], []
+        for number, edit in enumerate(ended, 1):
+            fault = draft.now.fault(edit)
+            if fault:
+                refused.append(f"refused {number} {edit} {fault}")
+            else:
+                self.call(draft, words_of(edit))
+        return " ".join([f"redone {len(ended) - len(refused)} of {len(ended)}", *refused])
+
+    def undo(self, planner, draft):
+        if not draft:
+            return "no draft"
+        if not draft.backs:
+            return "nothing to undo"
+        back = draft.backs[-1]
+        answer = self.call(draft, words_of(back))
+        return f"done {back}" if answer == "done" else answer
+
+    def help(self, planner, draft):
+        return "words " + " ".join(sorted(COMMANDS))
+
+    def leave(self, planner, draft):
+        self.drafts[planner] = None
+        return "left"
+
+
+def options(words):
+    """The files and options of `desk`."""
+    files, found, rest = [], {}, iter(words)
+    for word in rest:
+        if word.startswith("--"):
+            found[word] = next(rest)
+        else:
+            files.append(word)
+    return files, found
+
+
+def keep(words):
+    files, found = options(words)
+    instance = read_instance(files[0], found.get("--barred"))
+    start = read_solution(found["--start"]) if "--start" in found else []
+    desk = FakeDesk(instance, start, len(files) - 1, found.get("--minutes", os.devnull))
+    # the office holds the other ends, so that none of these waits
+    seats = {}
+    for planner, seat in enumerate(files[1:]):
+        lines = os.open(seat + ".in", os.O_RDONLY | os.O_NONBLOCK)
+        seats[lines] = [planner, os.open(seat + ".out", os.O_WRONLY), b""]
+    while seats:
+        for lines in select.select(list(seats), [], [])[0]:
+            planner, answers, typed = seats[lines]
+            more = os.read(lines, 65536)
+            *whole, seats[lines][2] = (typed + more).split(b"\n")
+            left = not more
+            for line in filter(bytes.split, whole):
+                answer = desk.faulty_answer(planner, line.decode(errors="replace"))
+                with contextlib.suppress(BrokenPipeError):
+                    os.write(answers, encoded(answer) + b"\n" if answer else b"")
+                left = left or answer == "left"
+            if left:
+                os.close(lines)
+                os.close(answers)
+                del seats[lines]
+    print(f"journal {desk.count}\ncosts {' '.join(map(str, desk.costs.whole(desk.newest)))}")
+
+
+def mend(words):
+    """Prints those lectures of a solution that can be placed one after another, and names the
+    others."""
+    files, found = options(words)
+    timetable = Timetable(read_instance(files[0], found.get("--barred")))
+    for course, room, day, period in read_solution(files[1]):
+        fault = timetable.placing_fault(course, (day, period), room)
+        if fault is None:
+            timetable.put(course, (day, period), room)
+            print(course, room, day, period)
+        else:
+            print(f"timedesk: set aside {course} {room} {day} {period} {fault}", file=sys.stderr)
+
+
+if __name__ == "__main__":
+    if sys.argv[1:2] == ["desk"]:
+        keep(sys.argv[2:])
+    elif sys.argv[1:2] == ["mend"]:
+        mend(sys.argv[2:])
+    else:
+        os.execv(PROGRAM, ["timedesk", *sys.argv[1:]])

@@ -1,0 +1,256 @@
+"""The screen without a terminal: drawn days, windows of all sizes, names of all kinds."""
+import os
+import random
+import subprocess
+import sys
+import threading
+
+from support import COMP07, COMP07_SOL, HERE, PROGRAM, SMALL, SMALL_SOL, OfficeTest
+
+sys.path.append(os.path.join(HERE, "tests"))
+from drawn import draw_instance, draw_solution  # noqa: E402
+from rules import Instance as Plain  # noqa: E402
+
+from office.board import Board  # noqa: E402
+from office.edits import is_edit, read_prices  # noqa: E402
+from office.grid import View  # noqa: E402
+from office.instance import read_instance, read_solution  # noqa: E402
+from office.minutes import read_minutes  # noqa: E402
+from office.text import cut, fit, shown, width, wrap  # noqa: E402
+from office.timetable import Timetable  # noqa: E402
+
+DAYS = int(os.environ.get("DAYS", "20"))
+STEPS = int(os.environ.get("STEPS", "500"))
+KEYS = (
+    ["up", "down", "left", "right", "tab", "backtab"] * 3
+    + ["enter"] * 12
+    + ["b"] * 6
+    + ["s", "x", "m", "u", "escape", "w"] * 2
+)
+KEYS += [
+    "v",
+    "e",
+    "c",
+    "c",
+    "f",
+    "r",
+    "a",
+    "y",
+    "n",
+    ":",
+    "?",
+    "o",
+    "p",
+    "backspace",
+    "pageup",
+    "pagedown",
+    "\u6570",
+    "resize",
+    "",
+]
+SIZES = [(24, 80), (60, 200), (10, 40), (24, 41), (5, 20), (33, 97), (1, 1)]
+
+
+def text_of(board, height=24, columns=80):
+    return "\n".join("".join(text for text, _ in row) for row in board.rows(height, columns))
+
+
+class Drawn(OfficeTest):
+    def draw(self, draw):
+        """Files of an instance in which something can stand, and of a start that a desk takes."""
+        while True:
+            text, barred = draw_instance(draw)
+            plain = Plain(text, barred)
+            files = []
+            for name, held in (
+                ("drawn.ctt", text),
+                ("drawn.sol", draw_solution(draw, plain)),
+                ("drawn.barred", barred),
+            ):
+                if held is not None:
+                    with open(self.path(name), "wb") as file:
+                        file.write(held)
+                    files.append(self.path(name))
+            options = ["--start", files[1]] + (["--barred", files[2]] if barred is not None else [])
+            run = subprocess.run(
+                [PROGRAM, "run", files[0], os.devnull, *options], capture_output=True
+            )
+            if plain.courses and run.returncode == 0:
+                return files[0], options
+
+    def check_rows(self, board, draw):
+        """The rows fill a window of any size."""
+        height, columns = draw.choice(SIZES)
+        rows = board.rows(height, columns)
+        self.assertEqual(len(rows), height)
+        for row in rows:
+            self.assertLessEqual(sum(width(text) for text, _ in row), max(columns, 21))
+
+    def play(self, seed):
+        """A day of two planners who press any keys."""
+        draw = random.Random(seed)
+        instance, options = self.draw(draw)
+        self.open("day", instance, "2", *options)
+        boards = [Board(self.planning("day", planner)) for planner in (0, 1)]
+        for board in boards:
+            board.begin()
+        for _ in range(STEPS):
+            board = draw.choice(boards)
+            if draw.random() < 0.05:
+                board.tick()
+            else:
+                board.press(draw.choice(KEYS))
+            self.check_rows(board, draw)
+            self.assertEqual(board.planning.alarm, "")
+        # no look of the screen is a call
+        calls = [call for entry in read_minutes(self.path("day/minutes")) for call in entry.calls]
+        self.assertEqual([call for call, _ in calls if not is_edit(call)], [])
+        for board in boards:
+            board.tick()
+        newest = boards[0].planning.known.newest
+        self.assertTrue(newest.same_as(boards[1].planning.known.newest))
+        for board in boards:
+            board.planning.seat.go()
+        found = "".join(lecture.words() + "\n" for lecture in newest.lectures())
+        self.assertEqual(found, self.listed("day"))
+
+    def test_days(self):
+        for seed in range(DAYS):
+            with self.subTest(seed=seed):
+                self.setUp()
+                self.play(seed)
+
+
+class Beside(OfficeTest):
+    """A screen beside planners who commit as fast as they can."""
+
+    def commit_on(self, planner):
+        """Takes lectures out and puts them in again, each in a draft of its own."""
+        seat, draw = self.seat("day", planner, f"planner{planner}"), random.Random(planner)
+        while not self.is_over:
+            course, _, day, period = draw.choice(self.lectures)
+            seat.ask("open")
+            if seat.ask(f"drop {course} {day} {period}") != "done":
+                found = read_prices(seat.ask(f"peek cheapest 1 place {course} * * *"))
+                if found:
+                    seat.ask(found[0][1])
+            seat.ask("commit")
+
+    def test_beside_others(self):
+        """No answer is other than expected, and the end is what `list` prints."""
+        self.open("day", COMP07, "3", "--start", COMP07_SOL)
+        self.lectures, self.is_over = read_solution(COMP07_SOL), False
+        board, draw = Board(self.planning("day", 0)), random.Random(1)
+        board.begin()
+        others = [threading.Thread(target=self.commit_on, args=(planner,)) for planner in (1, 2)]
+        for other in others:
+            other.start()
+        try:
+            for _ in range(1500):
+                board.tick()
+                board.press(draw.choice(KEYS))
+                board.rows(24, 80)
+                self.assertEqual(board.planning.alarm, "")
+        finally:
+            self.is_over = True
+            for other in others:
+                other.join()
+        board.tick()
+        newest = board.planning.known.newest
+        self.assertGreater(len(board.planning.minutes.entries), 20)
+        board.planning.seat.go()
+        found = "".join(lecture.words() + "\n" for lecture in newest.lectures())
+        self.assertEqual(found, self.listed("day"))
+
+
+class Shown(OfficeTest):
+    def test_widths(self):
+        self.assertEqual(
+            [width(text) for text in ("abc", "数学", "e\u0301", "ﷺ", "a\u200bb")], [3, 4, 1, 1, 2]
+        )
+        self.assertEqual(
+            [fit("数学a", n) for n in (1, 2, 3, 4, 5, 6)], ["~", "~ ", "数~", "数~ ", "数学a", "数学a "]
+        )
+        self.assertEqual(cut("abc", 0), "")
+        self.assertEqual(wrap("  aa bb cc", 7), ["  aa bb", "  cc"])
+        self.assertEqual(shown("a\x1b[2Jb"), "a\ufffd[2Jb")
+
+    def test_wide_names(self):
+        with open(SMALL) as file:
+            text = file.read()
+        for old, new in (
+            ("alg", "数学の時間"),
+            ("geo", "Géométrie"),
+            ("top", "🎓"),
+            ("q1", "一年"),
+            ("t1", "e\u0301a"),
+        ):
+            text = text.replace(old, new)
+        instance = self.write("wide.ctt", text)
+        self.open("day", instance, "1")
+        board = Board(self.planning("day", 0))
+        board.begin()
+        for _ in range(5):
+            for key in ("m", "enter", "b", "enter"):
+                board.press(key)
+            widths = [sum(width(text) for text, _ in row) for row in board.rows(24, 80)]
+            self.assertEqual(len(set(widths[4:10])), 1)
+            self.assertLessEqual(max(widths), 80)
+        board.show_view(View("curriculum", "一年"))
+        self.assertIn("数学の時間", text_of(board))
+        self.assertEqual(board.planning.missing(), {})
+
+    def test_cheapest_place_in_under_ten_keys(self):
+        """Who has seen no page finds the cheapest place of a lecture by what the screen says, and
+        commits it."""
+        self.open("day", COMP07, "1", "--start", COMP07_SOL)
+        board = Board(self.planning("day", 0))
+        board.begin()
+        self.assertIn("Enter pick up", text_of(board))
+        board.press("enter")
+        self.assertIn("b goes there", text_of(board))
+        for key in ("b", "enter", "c"):
+            board.press(key)
+        self.assertIn("Committed as draft 1: 1 edit, on the disk.", text_of(board))
+
+    def test_typed_lines(self):
+        self.open("day", SMALL, "1", "--start", SMALL_SOL)
+        board = Board(self.planning("day", 0))
+        board.begin()
+        for line, answer in [
+            ("course geo", "no draft"),
+            ("open", "opened"),
+            ("drop geo 1 2", "done"),
+            ("cost", "costs 15 0 2 1"),
+            ("frob", "bad line"),
+            ("place geo A 1 2", "done"),
+            ("commit", "committed 1"),
+        ]:
+            for key in [":", *line, "enter"]:
+                board.press(key)
+            self.assertIn(f"{line}: {answer}", text_of(board))
+            self.assertEqual(board.planning.alarm, "")
+        for key in [":", *"leave", "enter"]:
+            board.press(key)
+        self.assertTrue(board.is_done)
+        board.planning.seat.go()
+        self.assertEqual(
+            self.sit("day", 0, "show course geo\n"), ["lectures 2 geo A 0 1 geo A 1 2"]
+        )
+
+    def test_asks_before_it_gives_up(self):
+        self.open("day", SMALL, "1", "--start", SMALL_SOL)
+        board = Board(self.planning("day", 0))
+        board.begin()
+        board.planning.edit("drop geo 1 2")
+        for key in ("a", "escape", "a", "x"):
+            board.press(key)
+        self.assertTrue(board.planning.is_open)
+        board.press("y")
+        self.assertFalse(board.planning.is_open)
+
+
+class Known(OfficeTest):
+    def test_same(self):
+        instance = read_instance(SMALL)
+        self.assertTrue(Timetable(instance).same_as(Timetable(instance)))

@@ -1,0 +1,115 @@
+"""A day that follows another one under a changed instance."""
+import os
+import signal
+import time
+
+from support import FAKE, PATIENCE, SMALL, SMALL_SOL, OfficeTest, wait_until
+from test_day import SLOW
+
+
+class Changes(OfficeTest):
+    def setUp(self):
+        super().setUp()
+        with os.popen(f"{self.program} --help") as text:
+            # a program that cannot mend yet is helped out
+            self.program = self.program if "\n  mend " in text.read() else FAKE
+        self.environment["TIMEDESK"] = self.program
+
+    def before(self, *words):
+        """A day that is closed."""
+        self.end(self.open("monday", SMALL, "1", *words))
+        self.assertEqual(self.office("close", self.path("monday"))[0], 0)
+
+    def changed(self, *changes):
+        with open(SMALL) as file:
+            text = file.read()
+        for old, new in changes:
+            self.assertIn(old, text)
+            text = text.replace(old, new)
+        return self.write("changed.ctt", text)
+
+    def follow(self, changed, *words):
+        """Opens Tuesday, and answers what is said before it is open, and the lectures of it."""
+        self.before(*words)
+        after = ["--after", self.path("monday"), "--instance", changed]
+        office = self.start("open", self.path("tuesday"), *after)
+        said = [office.stderr.readline()]
+        while said[-1] and "open, seats" not in said[-1]:
+            said.append(office.stderr.readline())
+        with open(self.path("tuesday/start.sol")) as file:
+            return said[:-1], file.read()
+
+    def test_one_that_cannot_stand(self):
+        changed = self.changed(("Constraints: 1", "Constraints: 2"), ("geo 0 0", "geo 0 0 alg 1 0"))
+        said, start = self.follow(changed, "--start", SMALL_SOL)
+        aside = self.path("tuesday/aside")
+        line = "timedesk: set aside alg B 1 0 unavailable\n"
+        self.assertEqual(said, [line, f"office: 1 lecture set aside, in {aside}\n"])
+        with open(aside) as file:
+            self.assertEqual(file.read(), line)
+        with open(SMALL_SOL) as file:
+            self.assertEqual(start.split(), file.read().replace("alg B 1 0", "").split())
+        self.assertEqual(self.sit("tuesday", 0, "show missing\n"), ["missing 1 alg 1"])
+
+    def test_names_and_slots_that_are_gone(self):
+        changed = self.changed(("geo", "geometry"), ("\nA 25", "\nC 25"), ("Days: 2", "Days: 1"))
+        said, start = self.follow(changed, "--start", SMALL_SOL)
+        self.assertEqual(
+            said,
+            [
+                "office: set aside alg A 0 0: no such room\n",
+                "office: set aside alg B 1 0: no such slot\n",
+                "office: set aside geo A 0 1: no such course\n",
+                "office: set aside geo A 1 2: no such course\n",
+                f"office: 4 lectures set aside, in {self.path('tuesday/aside')}\n",
+            ],
+        )
+        self.assertEqual(start, "top B 0 2\n")
+
+    def test_barred_rooms_go_on(self):
+        changed = self.changed(("geo", "geometry"))
+        self.follow(changed, "--barred", self.write("rooms", "Barred: 2 geo A top B END."))
+        with open(self.path("tuesday/barred")) as file:
+            self.assertEqual(file.read(), "Barred: 1\ntop B\nEND.\n")
+
+    def test_other_rooms_are_barred(self):
+        self.before("--start", SMALL_SOL)
+        barred = self.write("rooms", "Barred: 1 geo A END.")
+        after = ["--after", self.path("monday"), "--barred", barred]
+        office = self.start("open", self.path("tuesday"), *after)
+        said = [office.stderr.readline() for _ in range(4)]
+        self.assertEqual(
+            said[:3],
+            [
+                "timedesk: set aside geo A 0 1 barred\n",
+                "timedesk: set aside geo A 1 2 barred\n",
+                f"office: 2 lectures set aside, in {self.path('tuesday/aside')}\n",
+            ],
+        )
+        self.assertIn("open, seats", said[3])
+
+    def test_wrong_instance(self):
+        changed = self.changed(("END.", "geo"))
+        self.before()
+        after = ["--after", self.path("monday"), "--instance", changed]
+        status, printed, said = self.office("open", self.path("tuesday"), *after)
+        self.assertEqual((status, printed, said[:22]), (1, "", "timedesk: instance I3 "))
+        self.assertFalse(os.path.exists(self.path("tuesday")))
+
+    def test_as_it_was(self):
+        said, start = self.follow(SMALL, "--start", SMALL_SOL)
+        self.assertEqual(said, [f"office: 0 lectures set aside, in {self.path('tuesday/aside')}\n"])
+        with open(self.path("monday/end.sol")) as file:
+            self.assertEqual(start, file.read())
+
+    def test_stopped_while_it_mends(self):
+        self.before("--start", SMALL_SOL)
+        text = SLOW.format(room=self.room, step="mend", program=self.program)
+        self.environment["TIMEDESK"] = self.write("slow", text, 0o755)
+        after = ["--after", self.path("monday"), "--instance", SMALL]
+        office = self.start("open", self.path("tuesday"), *after)
+        self.assertTrue(wait_until(lambda: os.path.exists(self.path("tuesday/start.sol"))))
+        time.sleep(0.1)
+        office.send_signal(signal.SIGINT)
+        self.assertEqual(office.wait(PATIENCE), 130)
+        self.assertFalse(os.path.exists(self.path("tuesday")))

@@ -1,0 +1,84 @@
+"""The desk in plain Python beside the program: the same lines have the same answers."""
+import os
+
+from support import OfficeTest
+from test_known import PLANNERS, Drawn, Seats
+
+from fake_desk import FakeDesk
+from office.instance import read_solution
+from office.known import Known
+
+DRAWS = int(os.environ.get("DRAWS", "200")) // 5
+
+
+class Beside(OfficeTest):
+    def line(self, drawn, known):
+        """A line of those that a screen sends, or a planner types."""
+        way = drawn.draw.random()
+        if way < 0.5:
+            return drawn.line(known)
+        edit = drawn.edit(known).split()
+        look = drawn.draw.choice(("cost", "missing", "coursecost", "price", "cheapest"))
+        if look == "coursecost":
+            look += f" {drawn.draw.choice(list(drawn.instance.courses))}"
+        elif look == "price":
+            look += " " + " ".join(edit)
+        elif look == "cheapest":
+            count = drawn.draw.choice((0, 1, 3, 1000))
+            look += f" {count} " + " ".join(self.pattern(drawn, edit))
+        return drawn.draw.choice(("", "peek ", "show ")) + look
+
+    @staticmethod
+    def wrong(draw, words):
+        """A line that may have a word too few, a word too many, or one that cannot stand."""
+        at = draw.randrange(len(words))
+        word = draw.choice(("x", "9999", "*", "\u6570", "status", "peek", "1000000000", "-1", "0x1"))
+        way = draw.randrange(4)
+        if way == 0:
+            words = words[:at] or words
+        elif way == 1:
+            words = [*words[:at], word, *words[at:]]
+        elif way == 2:
+            words = [*words[:at], word, *words[at + 1 :]]
+        else:
+            words = [*words, word]
+        return " ".join(words)
+
+    def pattern(self, drawn, edit):
+        """An edit with parts that are left open; one of `drop` is none."""
+        if edit[0] == "swap":
+            return [*edit[:4], "*", "*", "*"]
+        at = {"place": 2, "reroom": 2, "move": 4}.get(edit[0])
+        if at is not None and drawn.draw.random() < 0.7:
+            edit[at] = "*"
+        if edit[0] in ("place", "move") and drawn.draw.random() < 0.7:
+            edit[-2:] = ["*", "*"]
+        return edit
+
+    def play(self, seed):
+        drawn = Drawn(self, seed)
+        start = read_solution(drawn.start) if drawn.start else []
+        seats = Seats(self, drawn)
+        fake = FakeDesk(drawn.instance, start, PLANNERS, os.devnull)
+        knowns = [Known(drawn.instance, start) for _ in range(PLANNERS)]
+        for _ in range(80):
+            planner = drawn.draw.randrange(PLANNERS)
+            line = self.line(drawn, knowns[planner])
+            if drawn.draw.random() < 0.1:
+                line = drawn.draw.choice(("status", "redo", "undo", "help"))
+            if drawn.draw.random() < 0.1:
+                line = self.wrong(drawn.draw, line.split())
+            answer, told = seats.ask(planner, line), fake.answer(planner, line)
+            self.assertEqual(told, answer, (seed, line))
+            made = list(knowns[planner].made)
+            self.assertTrue(knowns[planner].hear(line, answer), (seed, line, answer))
+            if answer.startswith("committed "):
+                for known in knowns:
+                    known.accept(made)
+        seats.end()
+
+    def test_drawn(self):
+        for seed in range(DRAWS):
+            with self.subTest(seed=seed):
+                self.setUp()
+                self.play(seed)

@@ -1,0 +1,307 @@
+"""What a client foretells, beside what the program answers."""
+import os
+import random
+import subprocess
+import sys
+
+from support import HERE, PROGRAM, OfficeTest
+
+sys.path.append(os.path.join(HERE, "tests"))
+from drawn import draw_instance, draw_solution  # noqa: E402
+from rules import Instance as Plain  # noqa: E402
+
+from office.edits import Redone, Story, courses_of, is_edit, read_prices  # noqa: E402
+from office.instance import read_instance, read_solution  # noqa: E402
+from office.known import Known  # noqa: E402
+from office.minutes import Minutes  # noqa: E402
+from office.timetable import Timetable  # noqa: E402
+
+DRAWS = int(os.environ.get("DRAWS", "200"))
+PLANNERS = 3
+
+
+class Drawn:
+    """An instance with a start, and lines of planners on it."""
+
+    def __init__(self, test, seed):
+        self.draw = random.Random(seed)
+        text, barred = draw_instance(self.draw)
+        plain = Plain(text, barred)
+        while not plain.courses or not plain.rooms:
+            text, barred = draw_instance(self.draw)
+            plain = Plain(text, barred)
+        self.words = [self.write(test, "drawn.ctt", text)]
+        self.barred = self.write(test, "drawn.barred", barred) if barred is not None else None
+        start = self.write(test, "drawn.sol", draw_solution(self.draw, plain))
+        self.options = ["--barred", self.barred] if barred is not None else []
+        run = subprocess.run(
+            [PROGRAM, "run", *self.words, os.devnull, "--start", start, *self.options],
+            capture_output=True,
+        )
+        self.start = start if run.returncode == 0 else None
+        if self.start:
+            self.options += ["--start", start]
+        self.instance = read_instance(self.words[0], self.barred)
+
+    @staticmethod
+    def write(test, name, text):
+        with open(test.path(name), "wb") as file:
+            file.write(text)
+        return test.path(name)
+
+    def slot(self):
+        day, period = map(self.draw.randrange, (self.instance.days, self.instance.periods))
+        return f"{day} {period}"
+
+    def lecture(self, known):
+        """A course and a slot: of a lecture that is placed, or any."""
+        lectures = known.present().lectures()
+        if lectures and self.draw.random() < 0.9:
+            lecture = self.draw.choice(lectures)
+            return f"{lecture.course} {lecture.day} {lecture.period}"
+        return f"{self.draw.choice(list(self.instance.courses))} {self.slot()}"
+
+    def edit(self, known):
+        kind = self.draw.choice(("place", "place", "move", "swap", "reroom", "drop"))
+        room, course = self.draw.choice(list(self.instance.rooms)), self.draw.choice(
+            list(self.instance.courses)
+        )
+        if kind == "place":
+            return f"place {course} {room} {self.slot()}"
+        one = self.lecture(known)
+        if kind == "move":
+            return f"move {one} {room} {self.slot()}"
+        if kind == "swap":
+            return f"swap {one} {self.lecture(known)}"
+        if kind == "reroom":
+            course, slot = one.split(" ", 1)
+            return f"reroom {course} {room} {slot}"
+        return f"drop {one}"
+
+    def look(self):
+        instance = self.instance
+        kinds = {
+            "course": instance.courses,
+            "teacher": instance.teachers,
+            "curriculum": instance.curricula,
+        }
+        kind = self.draw.choice([kind for kind in kinds if kinds[kind]] + ["slot"])
+        return (
+            f"slot {self.slot()}"
+            if kind == "slot"
+            else f"{kind} {self.draw.choice(list(kinds[kind]))}"
+        )
+
+    def line(self, known):
+        way = self.draw.random()
+        if known.draft is None and way < 0.5:
+            return "open"
+        if way < 0.7:
+            return self.edit(known)
+        if way < 0.85:
+            return self.look()
+        if way < 0.9:
+            return f"show {self.look()}"
+        if way < 0.95:
+            return self.draw.choice(("commit", "commit", "refresh", "abandon", "open"))
+        return self.draw.choice(("status", "undo", "undo", "redo", "redo"))
+
+
+class Seats:
+    """The seats of a desk of the program, in a folder of their own."""
+
+    def __init__(self, test, drawn):
+        folder = test.path("seats")
+        os.mkdir(folder)
+        seats = [os.path.join(folder, str(planner)) for planner in range(PLANNERS)]
+        for seat in seats:
+            os.mkfifo(seat + ".in")
+            os.mkfifo(seat + ".out")
+        self.minutes = os.path.join(folder, "minutes")
+        words = [PROGRAM, "desk", *drawn.words, *seats, *drawn.options, "--minutes", self.minutes]
+        self.process = subprocess.Popen(words, stdout=subprocess.DEVNULL)
+        self.ends = []
+        for seat in seats:
+            lines = open(seat + ".in", "wb", buffering=0)
+            self.ends.append((lines, open(seat + ".out", "rb")))
+
+    def ask(self, planner, line):
+        """Types a line at a seat, and answers what it is told."""
+        lines, answers = self.ends[planner]
+        lines.write(line.encode() + b"\n")
+        return answers.readline().decode().rstrip("\n")
+
+    def end(self):
+        for pair in self.ends:
+            for one in pair:
+                one.close()
+        self.process.wait(20)
+
+
+class Scripts(OfficeTest):
+    """What is known of drafts, beside the answers of `run`."""
+
+    def play(self, seed):
+        """Draws a script line by line; what was expected is compared with what the whole script is
+        answered."""
+        drawn = Drawn(self, seed)
+        start = read_solution(drawn.start) if drawn.start else []
+        lines = []
+        # the program answers the script so far: each line is drawn by what is known after the
+        # answers before
+        seats = Seats(self, drawn)
+        knowns = [Known(drawn.instance, start) for _ in range(PLANNERS)]
+        stories = [Story() for _ in range(PLANNERS)]
+        for _ in range(60):
+            planner = drawn.draw.randrange(PLANNERS)
+            known = knowns[planner]
+            line = drawn.line(known)
+            answer = seats.ask(planner, line)
+            edits = list(known.made)
+            lines += self.lines_of_run(planner, known, line, answer)
+            self.assertTrue(known.hear(line, answer), (seed, planner, line, answer, lines))
+            stories[planner].hear(line, answer)
+            self.check_story(stories[planner], known)
+            if answer.startswith("committed "):
+                for each in knowns:
+                    self.assertTrue(each.accept(edits), (seed, line, edits))
+        seats.end()
+        self.minutes = seats.minutes
+        return drawn, lines, knowns
+
+    @staticmethod
+    def lines_of_run(planner, known, line, answer):
+        """The same for `run`, which has no `undo` and no `redo`: the edits that these stand for,
+        with their answers."""
+        if line == "undo" and answer.startswith(("done ", "refused ")):
+            told = "done" if answer.startswith("done ") else answer
+            return [(planner, known.standing[-1][1], told)]
+        if line == "redo" and answer.startswith("redone "):
+            left_out = [number for number, _, _ in Redone.read(answer).refused]
+            made = [edit for number, edit in enumerate(known.ended, 1) if number not in left_out]
+            return [(planner, "open", "opened"), *((planner, edit, "done") for edit in made)]
+        return [] if line in ("undo", "redo") else [(planner, line, answer)]
+
+    def check_story(self, story, known):
+        """By the log a seat has the draft that is known from answers, and its edits lead to it."""
+        self.assertEqual(story.is_open, known.draft is not None)
+        self.assertEqual(story.made, known.made)
+        if story.is_open:
+            timetable = known.base.copy()
+            self.assertTrue(all(timetable.try_edit(edit) for edit in story.edits))
+            self.assertTrue(timetable.same_as(known.draft))
+
+    def test_drawn(self):
+        for seed in range(DRAWS):
+            with self.subTest(seed=seed):
+                self.setUp()
+                drawn, lines, knowns = self.play(seed)
+                self.check_minutes(drawn, lines, knowns[0])
+
+    def check_minutes(self, drawn, lines, known):
+        """The minutes lead to the newest timetable, and `list` prints the same one; `run` answers
+        the script as the desk."""
+        minutes = Minutes(self.minutes)
+        start = read_solution(drawn.start) if drawn.start else []
+        newest = Known(drawn.instance, start)
+        for entry in minutes.read_on():
+            self.assertTrue(newest.accept(entry.edits()))
+        self.assertTrue(newest.newest.same_as(known.newest))
+        script = "".join(
+            line + "\n" if line.startswith("show") else f"{p} {line}\n" for p, line, _ in lines
+        )
+        path, journal = self.path("script"), self.path("journal")
+        with open(path, "w") as file:
+            file.write(script)
+        done = subprocess.run(
+            [PROGRAM, "run", *drawn.words, path, *drawn.options, "--journal", journal],
+            capture_output=True,
+            check=True,
+        )
+        self.assertEqual(done.stdout.decode(), "".join(answer + "\n" for _, _, answer in lines))
+        listed = subprocess.run(
+            [PROGRAM, "list", *drawn.words, journal, *drawn.options],
+            capture_output=True,
+            check=True,
+        )
+        self.assertEqual(
+            listed.stdout.decode(), "".join(one.words() + "\n" for one in newest.newest.lectures())
+        )
+
+
+class Reading(OfficeTest):
+    """Answers and logs by themselves."""
+
+    def test_answers(self):
+        self.assertEqual(
+            read_prices("prices 2 -4 move geo 1 2 A 1 1 7 swap a 0 0 b 1 1"),
+            [(-4, "move geo 1 2 A 1 1"), (7, "swap a 0 0 b 1 1")],
+        )
+        self.assertEqual(read_prices("prices 0"), [])
+        self.assertIsNone(read_prices("refused full"))
+        told = "redone 1 of 3 refused 2 move c 4 1 r 4 3 roomtaken d refused 3 drop e 0 0 notplaced"
+        self.assertEqual(
+            Redone.read(told),
+            Redone(1, 3, [(2, "move c 4 1 r 4 3", "roomtaken d"), (3, "drop e 0 0", "notplaced")]),
+        )
+        self.assertIsNone(Redone.read("nothing to redo"))
+        self.assertEqual(courses_of("swap a 0 0 b 1 1"), ["a", "b"])
+        self.assertTrue(is_edit("  drop a 0 0"))
+        self.assertFalse(is_edit("price drop a 0 0"))
+
+    def test_inverses(self):
+        """An edit and the one that takes it back leave a timetable as it was."""
+        for seed in range(40):
+            self.setUp()
+            drawn = Drawn(self, seed)
+            known = Known(drawn.instance, read_solution(drawn.start) if drawn.start else [])
+            for _ in range(100):
+                edit = drawn.edit(known)
+                if known.newest.fault(edit) is None:
+                    before = known.newest.copy()
+                    back = known.newest.make(edit)
+                    self.assertIsNone(known.newest.fault(back))
+                    known.newest.make(back)
+                    self.assertTrue(known.newest.same_as(before))
+                    known.newest.make(edit)
+
+    def test_story(self):
+        story = Story()
+        day = [
+            ("open", "opened"),
+            ("place geo A 0 1", "done"),
+            ("place alg A 0 1", "refused clash geo"),
+            ("drop geo 0 1", "done"),
+            ("undo", "done place geo A 0 1"),
+            ("slot 0 0", "lectures 0"),
+            ("reroom geo B 0 1", "done"),
+            ("commit", "stale slot 0 1"),
+        ]
+        for line, answer in day:
+            story.hear(line, answer)
+        self.assertFalse(story.is_open)
+        self.assertEqual(story.unfinished(), ["place geo A 0 1", "reroom geo B 0 1"])
+        story.hear("redo", "redone 3 of 4 refused 4 reroom geo B 0 1 roomtaken top")
+        self.assertEqual(story.made, ["place geo A 0 1", "drop geo 0 1", "place geo A 0 1"])
+        story.hear("commit", "committed 7")
+        self.assertEqual((story.unfinished(), story.accepted), ([], [7]))
+
+    def test_torn_minutes(self):
+        path = self.write("minutes", "entry 0 1\nplace geo A 0 1\ndone\nentry 1 2\nslot 0 0\n")
+        minutes = Minutes(path)
+        self.assertEqual([entry.edits() for entry in minutes.read_on()], [["place geo A 0 1"]])
+        with open(path, "a") as file:
+            file.write("lectures 0\nplace top B 0 2\nrefused full\n")
+        self.assertTrue(minutes.has_grown())
+        (entry,) = minutes.read_on()
+        self.assertEqual((entry.number, entry.planner, entry.edits()), (2, 1, []))
+        self.assertFalse(minutes.has_grown())
+
+    def test_timetable_of_an_empty_instance(self):
+        path = self.write(
+            "empty",
+            "Name: x Courses: 0 Rooms: 0 Days: 1 Periods_per_day: 1 "
+            "Curricula: 0 Constraints: 0 COURSES: "
+            "ROOMS: CURRICULA: UNAVAILABILITY_CONSTRAINTS: END.",
+        )
+        self.assertEqual(Timetable(read_instance(path)).lectures(), [])

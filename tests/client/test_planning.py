@@ -1,0 +1,283 @@
+"""A planner's work at a seat, without a terminal."""
+import os
+import signal
+
+from support import COMP07, COMP07_SOL, SMALL, SMALL_SOL, OfficeTest, wait_until
+
+from office.board import Board
+from office.carry import MOVE, PLACE, SWAP, Carry
+from office.earlier import Earlier
+from office.grid import View, cells_of
+from office.seat import DeskEnded
+from office.timetable import Lecture
+
+BEST = "move c0109 4 1 r04 4 3"
+
+
+class Planners(OfficeTest):
+    def two(self):
+        """Two planners at comp07."""
+        self.office_process = self.open("day", COMP07, "2", "--start", COMP07_SOL)
+        return self.planning("day", 0, "anna"), self.planning("day", 1, "ben")
+
+    def look_around(self, planning):
+        """Everything that a screen looks at."""
+        board = Board(planning)
+        for kind in ("curriculum q008", "teacher t005", "room r04", "course c0109"):
+            board.show_view(View(*kind.split()))
+            board.rows(24, 80)
+        for lecture in planning.known.present().of_course("c0109"):
+            board.set_cursor(lecture.slot)
+            board.press("enter")
+            board.rows(24, 80)
+            board.press("escape")
+            board.press("s")
+            board.rows(24, 80)
+            board.press("escape")
+
+    def test_looks_are_no_part_of_a_draft(self):
+        anna, ben = self.two()
+        self.look_around(anna)
+        self.assertFalse(anna.is_open)
+        self.assertTrue(anna.edit(BEST))
+        self.look_around(anna)
+        self.assertTrue(ben.edit("swap c0110 4 2 c0014 4 2"))
+        ben.commit()
+        self.assertIn("Committed as draft 1", ben.notice)
+        self.assertTrue(anna.tick())
+        self.look_around(anna)
+        anna.commit()
+        self.assertIn("Committed as draft 2", anna.notice)
+        with open(self.path("day/minutes")) as file:
+            minutes = file.read()
+        self.assertEqual(
+            minutes, f"entry 1 1\nswap c0110 4 2 c0014 4 2\ndone\nentry 0 1\n{BEST}\ndone\n"
+        )
+        self.assertEqual((anna.alarm, ben.alarm), ("", ""))
+
+    def test_stale_and_redo(self):
+        anna, ben = self.two()
+        for edit in (BEST, "reroom c0049 r04 0 0", "drop c0001 1 2"):
+            self.assertTrue(anna.edit(edit), anna.notice)
+        ben.edit("move c0109 4 1 r09 4 2")
+        ben.commit()
+        anna.tick()
+        self.assertEqual(anna.foretold, "course c0109")
+        board = Board(anna)
+        board.press("c")
+        text = "\n".join(row[0][0] for row in board.rows(24, 80))
+        self.assertIn("Your draft is stale: nothing is lost", text)
+        self.assertIn("draft 1, planner 1 (ben), ", text)
+        self.assertIn("  move c0109 4 1 r09 4 2", text)
+        self.assertEqual(anna.seat.story.ended, [BEST, "reroom c0049 r04 0 0", "drop c0001 1 2"])
+        board.press("r")
+        text = "\n".join(row[0][0] for row in board.rows(24, 80))
+        self.assertIn("2 of 3 edits made again, none committed yet.", text)
+        self.assertIn(f"1. {BEST}: no lecture of c0109 stands there any more", text)
+        self.assertEqual(len(anna.minutes.entries), 1)
+        self.assertEqual(anna.edits(), ["reroom c0049 r04 0 0", "drop c0001 1 2"])
+        # what was refused stays to be seen, also after one goes away
+        anna.seat.go()
+        anna = self.planning("day", 0, "anna")
+        board = Board(anna)
+        board.press("e")
+        text = "\n".join(row[0][0] for row in board.rows(24, 80))
+        self.assertIn("2. drop c0001 1 2", text)
+        self.assertIn(f"1. {BEST}: no lecture of c0109 stands there any more", text)
+        board.press("escape")
+        board.press("c")
+        self.assertIn("Committed as draft 2: 2 edits", anna.notice)
+        self.assertEqual(anna.alarm, "")
+
+    def test_stale_edits_are_not_left_behind(self):
+        """Who goes on after a stale draft is asked first what becomes of its edits."""
+        anna, ben = self.two()
+        anna.edit(BEST)
+        ben.edit("move c0109 4 1 r09 4 2")
+        ben.commit()
+        anna.commit()
+        self.assertFalse(anna.edit("drop c0001 1 2"))
+        self.assertIn("r makes them again, a gives them up", anna.notice)
+        anna.seat.go()
+        anna = self.planning("day", 0, "anna")
+        self.assertEqual(anna.ended(), [BEST])
+        self.assertEqual(anna.redo()[0].split(":")[0], f"1. {BEST}")
+        anna.abandon()
+        self.assertTrue(anna.edit("move c0109 3 2 r04 4 3"))
+        ben.edit("drop c0109 3 2")
+        ben.commit()
+        anna.commit()
+        board = Board(anna)
+        for key in ("escape", "a", "y"):
+            board.press(key)
+        self.assertEqual(anna.ended(), [])
+        self.assertTrue(anna.edit("drop c0001 1 2"))
+        self.assertEqual(anna.alarm, "")
+
+    def test_undo(self):
+        anna, _ = self.two()
+        total = sum(anna.costs().values())
+        anna.edit(BEST)
+        anna.edit("drop c0001 1 2")
+        self.assertEqual(anna.missing(), {"c0001": 1})
+        anna.undo()
+        self.assertEqual((anna.missing(), anna.edits()), ({}, [BEST]))
+        anna.undo()
+        anna.undo()
+        self.assertEqual(anna.notice, "No edit is left to undo.")
+        self.assertEqual(sum(anna.costs().values()), total)
+        anna.commit()
+        self.assertIn("no edits", anna.notice)
+        anna.abandon()
+        self.assertFalse(anna.is_open)
+
+    def test_taken_back_by_hand(self):
+        """An edit that is itself the next inverse takes the last one back, and the desk, the screen
+        and the log agree on what is left; also after one goes away, and after a redo."""
+        anna, ben = self.two()
+        for edit in (BEST, "drop c0001 1 2", "place c0001 r14 1 2"):
+            anna.edit(edit)
+        self.assertEqual(anna.edits(), [BEST])
+        anna.seat.go()
+        anna = self.planning("day", 0)
+        self.assertEqual(anna.edits(), [BEST])
+        anna.edit("reroom c0049 r04 0 0")
+        anna.undo()
+        self.assertEqual(anna.edits(), [BEST])
+        anna.edit("drop c0001 1 2")
+        ben.edit("drop c0001 1 2")
+        ben.commit()
+        anna.commit()
+        self.assertIn("Stale", anna.notice)
+        # the desk counts all that was accepted, also what was taken back
+        self.assertEqual([line.split(".")[0] for line in anna.redo()], ["2"])
+        self.assertEqual(anna.edits(), [BEST])
+        anna.undo()
+        anna.undo()
+        self.assertEqual((anna.notice, anna.edits()), ("No edit is left to undo.", []))
+        self.assertEqual((anna.alarm, ben.alarm), ("", ""))
+
+    def test_goes_away_and_comes_back(self):
+        anna, ben = self.two()
+        total = sum(anna.costs().values())
+        anna.edit(BEST)
+        anna.edit("reroom c0049 r04 0 0")
+        anna.undo()
+        anna.seat.go()
+        ben.edit("swap c0110 4 2 c0014 4 2")
+        ben.commit()
+        anna = self.planning("day", 0, "anna")
+        self.assertEqual(anna.notice, "Your draft is as you left it: 1 edit.")
+        self.assertEqual((anna.edits(), anna.base_total, anna.behind()), ([BEST], total, 1))
+        cells = cells_of(anna, View("course", "c0109"))
+        self.assertTrue(cells[4, 1].is_mine and cells[4, 3].is_mine and not cells[4, 3].is_others)
+        self.assertTrue(cells_of(anna, View("course", "c0014"))[4, 2].is_others)
+        anna.commit()
+        self.assertIn("Committed as draft 2", anna.notice)
+
+    def test_offers(self):
+        anna, _ = self.two()
+        lecture = Lecture("c0109", "r01", 4, 1)
+        carry = Carry(anna, MOVE, "c0109", lecture)
+        self.assertEqual(carry.best(), (4, 3))
+        self.assertEqual(carry.told((4, 3)), "-257 in r04 (1 of 3; Tab for the next)")
+        self.assertEqual(carry.told((0, 0)), "cannot stand there: c0109 is unavailable then")
+        self.assertEqual(
+            carry.told((3, 0)), "cannot stand there: its teacher t067 teaches c0120 then"
+        )
+        carry.begin_at((4, 1))
+        self.assertTrue(carry.is_in_place((4, 1)))
+        swap = Carry(anna, SWAP, "c0109", lecture)
+        self.assertEqual(swap.told((4, 1)).split(" (")[0], "-258 with c0113")
+        anna.edit("drop c0109 4 1")
+        place = Carry(anna, PLACE, "c0109", None)
+        self.assertEqual(place.best(), (4, 3))
+        self.assertEqual(len(anna.minutes.entries), 0)
+
+    def test_others_at_the_same_seat(self):
+        """A line at the seat of which the client does not know: it reads everything anew, and says
+        so."""
+        anna, ben = self.two()
+        anna.edit(BEST)
+        with open(self.path("day/0.in"), "w") as lines:
+            lines.write("drop c0109 4 3\n")
+        self.assertTrue(wait_until(lambda: anna.seat.read(1) == "done"))
+        anna.edit("reroom c0049 r04 0 0")
+        self.assertEqual(anna.alarm, "")
+        anna._cache.clear()
+        self.assertEqual(
+            [one.slot for one in anna.lectures("course c0109")], [(0, 3), (1, 4), (2, 4), (3, 2)]
+        )
+        self.assertIn("everything was read anew", anna.alarm)
+        self.assertIsNone(anna.known.present().room_at("c0109", (4, 3)))
+
+    def test_desk_is_killed(self):
+        anna, ben = self.two()
+        ben.edit("swap c0110 4 2 c0014 4 2")
+        ben.commit()
+        anna.edit(BEST)
+        anna.edit("drop c0001 1 2")
+        os.kill(self.desk_of("day"), signal.SIGKILL)
+        with self.assertRaises(DeskEnded):
+            anna.edit("reroom c0049 r04 0 0")
+        board = Board(anna)
+        board.desk_ended("The desk has ended")
+        text = "\n".join(row[0][0] for row in board.rows(24, 80))
+        self.assertIn("Your accepted drafts are on the disk: none.", text)
+        self.assertIn(BEST, text)
+        anna.seat.go()
+        ben.seat.go()
+        self.office_process.wait(20)
+        self.assertEqual(self.office("close", self.path("day"))[0], 0)
+        self.open("next", "--after", self.path("day"))
+        self.assertEqual(Earlier(self.planning("next", 1, "ben")).edits, [])
+        anna = self.planning("next", 0, "anna")
+        earlier = Earlier(anna)
+        # the last one was sent, and may have been made
+        self.assertEqual(earlier.edits, [BEST, "drop c0001 1 2", "reroom c0049 r04 0 0"])
+        self.assertEqual(earlier.take_up(), [])
+        self.assertEqual(anna.edits(), earlier.edits)
+        self.assertEqual(len(anna.minutes.entries), 0)
+        anna.seat.go()
+        self.assertEqual(Earlier(self.planning("next", 0, "anna")).edits, [])
+
+    def test_small_from_nothing(self):
+        """A timetable from nothing, by the list of what is missing."""
+        self.open("day", SMALL, "1")
+        anna = self.planning("day", 0)
+        board = Board(anna)
+        board.begin()
+        for _ in range(5):
+            for key in ("m", "enter", "b", "enter"):
+                board.press(key)
+                board.rows(24, 80)
+        self.assertEqual(anna.missing(), {})
+        board.press("m")
+        self.assertEqual(anna.notice, "No lecture is missing.")
+        board.press("c")
+        self.assertIn("Committed as draft 1: 5 edits", anna.notice)
+        self.assertEqual(self.listed("day").count("\n"), 5)
+
+    def test_changed_by_others(self):
+        """A lecture that is picked up, and changed by somebody else meanwhile."""
+        self.open("day", SMALL, "2", "--start", SMALL_SOL)
+        anna, ben = self.planning("day", 0), self.planning("day", 1)
+        board = Board(anna)
+        board.show_view(View("course", "top"))
+        board.press("enter")
+        self.assertIsNotNone(board.carry)
+        ben.edit("drop top 0 2")
+        ben.commit()
+        board.tick()
+        self.assertIsNone(board.carry)
+        self.assertIn("Somebody has changed top", anna.notice)
+        self.assertEqual(anna.missing(), {"top": 1})
+        # the same, if a key comes before the news
+        board.show_view(View("course", "geo"))
+        board.press("enter")
+        ben.edit("drop geo 0 1")
+        ben.commit()
+        anna.read_minutes()
+        board.press("enter")
+        self.assertEqual((board.carry, anna.is_open), (None, False))
+        self.assertIn("Somebody has changed geo", anna.notice)

@@ -1,0 +1,310 @@
+"""The screen in a real terminal."""
+import os
+import random
+import signal
+import subprocess
+import time
+import unittest
+
+from support import COMP07, COMP07_SOL, HERE, OFFICE, PROGRAM, SMALL, SMALL_SOL
+from support import OfficeTest, is_alive, wait_until
+from terminal import Terminals, has_tmux
+from test_day import LIMITED
+
+BEST = "move c0109 4 1 r04 4 3"
+# from the first week to the lecture of c0109 on day 4, period 1, picked up
+TO_BEST = ["v", *"c0109", "Enter", "Right", "Right", "Right", "Right", "Up", "Up", "Enter"]
+
+
+@unittest.skipUnless(has_tmux(), "tmux is not installed, so nobody has looked at the screen")
+class Screens(OfficeTest):
+    def setUp(self):
+        super().setUp()
+        self.terminals = Terminals(self.environment)
+        self.addCleanup(self.terminals.end)
+
+    def sit_down(self, day, planner, *words):
+        return self.terminals.open([OFFICE, "sit", self.path(day), str(planner), *words])
+
+    def sees(self, terminal, *wanted):
+        for text in wanted:
+            self.assertIn(text, terminal.wait(text))
+
+    def test_day_of_two(self):
+        """Two planners at two screens, from open to close; the journal agrees."""
+        self.open("day", COMP07, "2", "--start", COMP07_SOL)
+        anna = self.sit_down("day", 0, "--name", "anna")
+        ben = self.sit_down("day", 1, "--name", "ben")
+        costs = "cost 8847: capacity 8030, days 0, compactness 708, stability 109; missing 0"
+        self.sees(anna, "seat 0 anna: no draft open", costs)
+        anna.press(*TO_BEST)
+        cheapest = "Cheapest: -257 in r04, day 4, period 3: b goes there."
+        self.sees(anna, "c0109 is picked up", cheapest, "clash c0120", "closed")
+        anna.press("b", "Enter")
+        self.sees(anna, f"Done: {BEST}.", "draft open: 1 edit, saves 257, 0 accepted since", "*r04")
+        ben.press("v", *"c0014", "Enter", "s")
+        self.sees(ben, "c0014 is picked up to swap")
+        ben.press("b", "Enter", "c")
+        self.sees(ben, "Committed as draft 1: 1 edit, on the disk.")
+        self.sees(anna, "1 accepted since")
+        self.take_out_and_back(anna)
+        anna.press("c")
+        self.sees(anna, "Committed as draft 2: 1 edit, on the disk.")
+        for terminal in (anna, ben):
+            terminal.press("q")
+            self.sees(terminal, "ended 0")
+        status, printed, _ = self.office("close", self.path("day"))
+        line = printed.split("\n")[1]
+        self.assertEqual((status, line), (0, "day: 2 drafts accepted, the audit agrees"))
+        self.assertRegex(
+            self.office("log", self.path("day"))[1],
+            r"1 planner 1 ben, [-0-9 :]+\n    swap c0014.*\n"
+            rf"2 planner 0 anna, [-0-9 :]+\n    {BEST}\n",
+        )
+
+    def take_out_and_back(self, anna):
+        """A lecture is taken out, and the edit is taken back."""
+        anna.press("x")
+        self.sees(anna, "missing 1", "draft open: 2 edits")
+        anna.press("u")
+        self.sees(anna, "missing 0", "draft open: 1 edit,", "Taken back, by place c0109 r04 4 3.")
+        anna.press("e")
+        self.sees(anna, "The edits of your draft: 1", f"1. {BEST}")
+        anna.press("q")
+
+    def test_stale_and_redo(self):
+        self.open("day", COMP07, "2", "--start", COMP07_SOL)
+        anna = self.sit_down("day", 0)
+        self.sees(anna, "no draft open")
+        anna.press(*TO_BEST, "b", "Enter")
+        self.sees(anna, "Done:")
+        anna.press(":", "reroom c0049 r04 0 0", "Enter")
+        self.sees(anna, "reroom c0049 r04 0 0: done")
+        self.sit("day", 1, "open\nmove c0109 4 1 r09 4 2\ncommit\n", "--name", "ben")
+        self.sees(anna, "stale by now: course c0109 has changed")
+        anna.press("c")
+        self.sees(
+            anna,
+            "Your draft is stale: nothing is lost",
+            "draft 1, planner 1 (ben), ",
+            "  move c0109 4 1 r09 4 2",
+            f"  {BEST}",
+        )
+        anna.press("r")
+        self.sees(
+            anna,
+            "1 of 2 edits made again, none committed yet.",
+            f"1. {BEST}: no lecture of c0109 stands there any more",
+        )
+        self.assertEqual(self.sit("day", 1, "show course c0049\n")[0].count("r04"), 0)
+        anna.press("q", "c")
+        self.sees(anna, "Committed as draft 2: 1 edit, on the disk.")
+
+    def test_goes_away(self):
+        self.open("day", COMP07, "1", "--start", COMP07_SOL)
+        anna = self.sit_down("day", 0)
+        self.sees(anna, "no draft open")
+        anna.press(*TO_BEST, "b", "Enter")
+        self.sees(anna, "draft open: 1 edit")
+        anna.press("q")
+        self.sees(anna, "office: your draft stays as it is", "ended 0")
+        said = self.path("said")
+        words = [OFFICE, "sit", self.path("day"), "0"]
+        anna = self.terminals.open(["sh", "-c", f'exec "$@" 2>{said}', "sh", *words])
+        self.sees(anna, "Your draft is as you left it: 1 edit.", "draft open: 1 edit, saves 257")
+        # the terminal is closed under it
+        anna.close()
+        self.assertTrue(
+            wait_until(lambda: " nobody " in self.office("status", self.path("day"))[1])
+        )
+        with open(said) as file:
+            self.assertRegex(file.read(), r"^(office: .*\n)*$")
+        anna = self.sit_down("day", 0)
+        self.sees(anna, "draft open: 1 edit, saves 257")
+        anna.press("c")
+        self.sees(anna, "Committed as draft 1")
+
+    def test_desk_is_killed(self):
+        office = self.open("day", COMP07, "2", "--start", COMP07_SOL)
+        anna = self.sit_down("day", 0)
+        self.sees(anna, "no draft open")
+        anna.press(*TO_BEST, "b", "Enter", "c")
+        self.sees(anna, "Committed as draft 1")
+        anna.press("x")
+        self.sees(anna, "draft open: 1 edit")
+        os.kill(self.desk_of("day"), signal.SIGKILL)
+        self.sees(
+            anna,
+            "The desk has ended",
+            "Your accepted drafts are on the disk: 1.",
+            "  drop c0109 4 3",
+            "offered again",
+        )
+        anna.press("c", "q")
+        self.sees(anna, "office: the desk has ended; committed drafts are on the disk", "ended 3")
+        self.assertNotIn("stays as it is", anna.text())
+        office.wait(30)
+        self.assertEqual(self.office("close", self.path("day"))[0], 0)
+        self.open("next", "--after", self.path("day"))
+        anna = self.sit_down("next", 0)
+        self.sees(anna, "1 edit of day not accepted: make them again?", "drop c0109 4 3")
+        anna.press("y")
+        self.sees(
+            anna, "1 of 1 edits made again, none committed yet.", "draft open: 1 edit", "missing 1"
+        )
+
+    def test_sizes(self):
+        self.open("day", COMP07, "1", "--start", COMP07_SOL)
+        anna = self.sit_down("day", 0)
+        self.sees(anna, "day 4")
+        for columns, lines in ((200, 60), (80, 24), (50, 12), (20, 5), (132, 40), (80, 24)):
+            anna.resize(columns, lines)
+            anna.press("Down")
+            seen = anna.wait_settled()
+            self.assertEqual(len(seen.split("\n")) - 1, lines)
+            self.assertIn("the window" if lines < 10 else "week of curriculum q000", seen)
+            self.assertNotIn("Traceback", seen)
+        anna.press(*TO_BEST)
+        self.sees(anna, "c0109 is picked up")
+
+    def test_wide_names(self):
+        with open(SMALL) as file:
+            text = file.read()
+        for old, new in (("alg", "数学の時間"), ("geo", "Géométrie"), ("q1", "一年")):
+            text = text.replace(old, new)
+        self.open("day", self.write("wide.ctt", text), "1")
+        anna = self.sit_down("day", 0, "--name", "アンナ")
+        self.sees(anna, "seat 0 アンナ")
+        for _ in range(4):
+            anna.press("m", "Enter", "b", "Enter")
+            self.sees(anna, "Done: place")
+        anna.press("v", "一", "Enter")
+        self.sees(anna, "week of curriculum 一年", "数学の時間 ")
+        rows = [row for row in anna.text().split("\n") if row.endswith("|")]
+        self.assertGreater(len(rows), 4)
+
+    def test_no_colour(self):
+        self.open("day", SMALL, "1", "--start", SMALL_SOL)
+        coloured = self.sit_down("day", 0)
+        self.sees(coloured, "!")
+        self.assertRegex(coloured.text("-e"), "\x1b\\[[0-9;]*3[1-6]m")
+        coloured.press("q")
+        self.sees(coloured, "ended 0")
+        self.terminals.tmux("set-environment", "-g", "NO_COLOR", "1")
+        plain = self.sit_down("day", 0)
+        self.sees(plain, "!")
+        self.assertNotRegex(plain.text("-e"), "\x1b\\[[0-9;]*3[1-6]m")
+
+    def test_office_closes(self):
+        self.open("day", SMALL, "1", "--start", SMALL_SOL)
+        anna = self.sit_down("day", 0)
+        self.sees(anna, "no draft open")
+        closing = self.start("close", self.path("day"), "--wait", "4")
+        self.sees(anna, "The office closes in ")
+        self.sees(anna, "ended 0")
+        self.assertEqual(closing.wait(30), 0)
+
+    def test_full_disk(self):
+        self.environment["TIMEDESK"] = self.write(
+            "limited", LIMITED.format(program=PROGRAM).replace("600, 600", "150, 150"), 0o755
+        )
+        self.open("day", SMALL, "1", "--start", SMALL_SOL)
+        anna = self.sit_down("day", 0)
+        self.sees(anna, "no draft open")
+        for line in ("drop geo 1 2", "place geo A 1 2") * 9:
+            anna.press(":", "open", "Enter", ":", line, "Enter")
+            anna.press("c")
+            if "Not written" in anna.wait_settled():
+                break
+        self.sees(anna, "Not written: the disk is full, or fails.")
+
+    def test_seat_is_taken(self):
+        self.open("day", SMALL, "1")
+        anna = self.sit_down("day", 0, "--name", "anna")
+        self.sees(anna, "no draft open")
+        ben = self.sit_down("day", 0, "--name", "ben")
+        self.sees(ben, "office: anna sits at seat 0, since ", "ended 3")
+
+    def test_any_keys(self):
+        """Five hundred keys, as fast as they come: the screen is there, and shows what the desk
+        has."""
+        self.open("day", SMALL, "1", "--start", SMALL_SOL)
+        anna = self.sit_down("day", 0)
+        self.sees(anna, "no draft open")
+        draw = random.Random(7)
+        keys = "Up Down Left Right Tab BTab Enter Enter Enter b s x m u w v e c f r a y ? :"
+        keys = [*keys.split(), "Escape", "BSpace", "PPage", "数"]
+        for _ in range(50):
+            self.terminals.tmux("send-keys", "-t", anna.name, *draw.choices(keys, k=10))
+        anna.press("Escape")
+        anna.wait_settled()
+        anna.press("Escape")
+        self.sees(anna, "seat 0")
+        self.assertNotIn("Traceback", anna.text())
+
+    def test_other_terminals(self):
+        """A terminal without colours has the screen; one that cannot place a cursor has lines."""
+        self.open("day", SMALL, "1", "--start", SMALL_SOL)
+        words = [OFFICE, "sit", self.path("day"), "0"]
+        anna = self.terminals.open(["env", "TERM=vt100", *words])
+        self.sees(anna, "week of curriculum q1", "? help")
+        anna.press("q")
+        self.sees(anna, "ended 0")
+        for kind in ("dumb", "a-terminal-that-nobody-has"):
+            anna = self.terminals.open(["env", f"TERM={kind}", "OFFICE_WRAPPED=1", *words])
+            self.sees(anna, "Ctrl-D goes away for a while")
+            anna.press("show cost", "Enter")
+            self.sees(anna, "costs 15 0 4 1")
+            anna.press("C-d")
+            self.sees(anna, "ended 0")
+
+    def test_office_in_a_terminal(self):
+        """Ctrl-C in the terminal of an office closes it; closing the terminal does not."""
+        for number in (1, 2):
+            day = f"day{number}"
+            office = self.terminals.open([OFFICE, "open", self.path(day), SMALL, "2"])
+            self.sees(office, "office: open, seats 0 to 1")
+            desk = self.desk_of(day)
+            if number == 1:
+                office.press("C-c")
+                self.sees(office, "office: closed; office close ", "ended 0")
+                self.assertFalse(is_alive(desk))
+                self.assertNotIn("0.in", self.left_in(day))
+            else:
+                office.close()
+                self.assertEqual(self.sit(day, 0, "show cost\n"), ["costs 0 20 0 0"])
+                self.assertEqual(self.office("close", self.path(day))[0], 0)
+                self.assertFalse(is_alive(desk))
+
+    def test_pictures(self):
+        """The pictures of the pages are what a planner sees."""
+        done = subprocess.run(
+            [os.path.join(HERE, "tools/captures.py"), "--check"],
+            env=self.environment,
+            capture_output=True,
+            text=True,
+            timeout=300,
+        )
+        self.assertEqual((done.returncode, done.stdout, done.stderr), (0, "", ""))
+
+    def test_terminal_closes_at_any_moment(self):
+        """The terminal is closed while keys are answered: no traceback, and the draft stays."""
+        self.open("day", SMALL, "1", "--start", SMALL_SOL)
+        words = [OFFICE, "sit", self.path("day"), "0"]
+        for moment in range(12):
+            said = self.path(f"said{moment}")
+            anna = self.terminals.open(["sh", "-c", f'exec "$@" 2>{said}', "sh", *words])
+            if moment < 6:
+                self.sees(anna, "seat 0")
+                anna.press("x", "u", "e")
+            else:
+                # before all of the screen is there
+                wait_until(lambda: os.path.exists(said))
+                time.sleep(0.03 * moment)
+            anna.close()
+            self.assertTrue(
+                wait_until(lambda: " nobody " in self.office("status", self.path("day"))[1])
+            )
+            with open(said) as file:
+                self.assertNotIn("Traceback", file.read())
+        self.assertEqual(self.sit("day", 0, "status\n")[-1][:6], "draft ")

@@ -1,0 +1,62 @@
+"""How soon a key is answered, with what is drawn after it."""
+import random
+
+from speed import press_keys
+from support import COMP07, COMP07_SOL, OfficeTest
+
+from office.board import Board
+from office.instance import read_instance
+from office.timetable import Timetable
+
+COURSES, ROOMS, DAYS, PERIODS = 2000, 80, 10, 10
+
+
+class Keys(OfficeTest):
+    def keys(self, size, limit):
+        """Presses keys, prints the times, and compares the middle one with its limit in
+        milliseconds. A machine that has other work to do is slower."""
+        board = Board(self.planning("day", 0))
+        board.begin()
+        times = sorted(sum(press_keys(board, 5).values(), []))
+        middle, last = times[len(times) // 2], times[-1]
+        print(f"a key at {size}: middle {middle:.1f} ms, longest {last:.1f} ms")
+        self.assertEqual(board.planning.alarm, "")
+        self.assertGreater(len(board.planning.minutes.entries), 0)
+        self.assertLess(middle, limit)
+
+    def test_comp07(self):
+        self.open("day", COMP07, "1", "--start", COMP07_SOL)
+        self.keys("comp07 size", 50)
+
+    def test_two_thousand_courses(self):
+        draw = random.Random(1)
+        names = [f"c{number:04}" for number in range(COURSES)]
+        lines = [
+            f"Name: large Courses: {COURSES} Rooms: {ROOMS} Days: {DAYS} "
+            f"Periods_per_day: {PERIODS} Curricula: {COURSES // 2} Constraints: 0",
+            "COURSES:",
+            *(f"{name} t{draw.randrange(COURSES // 2)} 3 2 {draw.randrange(200)}" for name in names),
+            "ROOMS:",
+            *(f"r{number:02} {draw.randrange(20, 200)}" for number in range(ROOMS)),
+            "CURRICULA:",
+            *(f"q{q} 4 {' '.join(draw.sample(names, 4))}" for q in range(COURSES // 2)),
+            "UNAVAILABILITY_CONSTRAINTS:",
+            "END.",
+        ]
+        instance = self.write("large.ctt", "\n".join(lines))
+        solution = self.write("large.sol", self.placed(instance, draw))
+        self.open("day", instance, "1", "--start", solution)
+        self.keys(f"{COURSES} courses", 300)
+
+    @staticmethod
+    def placed(path, draw):
+        """A solution with most lectures of an instance."""
+        instance = read_instance(path)
+        timetable, slots = Timetable(instance), instance.slots()
+        free = {slot: list(instance.rooms) for slot in slots}
+        for name, course in instance.courses.items():
+            for slot in draw.sample(slots, 12):
+                is_free = free[slot] and not instance.mates[name] & set(timetable.by_slot[slot])
+                if timetable.missing(name) and is_free:
+                    timetable.put(name, slot, free[slot].pop())
+        return "".join(lecture.words() + "\n" for lecture in timetable.lectures())

@@ -1,0 +1,154 @@
+#!/usr/bin/env python3
+"""Plays a day in an office, and puts what its planners see into docs/OFFICE.md and README.md, in
+place of what stands there.
+
+With `--check` nothing is written: the pictures that are others now are named, and the status is 1
+if there are any. A picture is the block behind a line `<!-- picture: NAME -->`. Times are those of
+a day that was made up. TIMEDESK names the program for the desk.
+"""
+import os
+import re
+import subprocess
+import sys
+import tempfile
+
+sys.dont_write_bytecode = True
+HERE = os.path.dirname(os.path.dirname(os.path.abspath(__file__)))
+sys.path.insert(0, os.path.join(HERE, "tools"))
+
+from terminal import Terminals  # noqa: E402
+
+OFFICE = os.path.join(HERE, "office")
+PAGES = ("docs/OFFICE.md", "README.md")
+BLOCK = re.compile(r"(<!-- picture: ([a-z ]+) -->\n```\n)(.*?)(```\n)", re.S)
+TO_LECTURE = ["v", *"c0109", "Enter", "Right", "Right", "Right", "Right", "Up", "Up"]
+
+
+def without_times(text):
+    """A text with made-up times."""
+    text = re.sub(r"\d\d\d\d-\d\d-\d\d \d\d:\d\d:\d\d", "2026-11-30 10:15:00", text)
+    text = re.sub(r"\d\d\d\d-\d\d-\d\d \d\d:\d\d", "2026-11-30 08:00", text)
+    text = re.sub(r"\d\d:\d\d:\d\d", "10:15:00", text)
+    return re.sub(r"(anna|ben)( +)\d\d:\d\d ", r"\g<1>\g<2>08:05 ", text)
+
+
+def lines_of(text):
+    return "".join(line.rstrip() + "\n" for line in text.rstrip("\n").split("\n"))
+
+
+class Play:
+    """A day of two planners in a folder of its own."""
+
+    def __init__(self, folder):
+        self.folder = folder
+        self.environment = {**os.environ, "NO_COLOR": "1"}
+        self.terminals = Terminals(self.environment)
+        self.pictures = {}
+
+    def keep(self, name, text):
+        self.pictures[name] = lines_of(without_times(text))
+
+    def office(self, *words, text=""):
+        done = subprocess.run(
+            [OFFICE, *words],
+            input=text,
+            capture_output=True,
+            text=True,
+            cwd=self.folder,
+            timeout=60,
+        )
+        return done.stdout
+
+    def sit(self, planner, name):
+        return self.terminals.open(
+            ["env", "-C", self.folder, OFFICE, "sit", "monday", planner, "--name", name]
+        )
+
+    def take(self, name, terminal, wanted):
+        """Keeps what a terminal shows as soon as it shows a text."""
+        terminal.wait(wanted)
+        self.keep(name, terminal.wait_settled())
+
+    def play(self):
+        """The planners' keys, and what is kept of it."""
+        anna, ben = self.sit("0", "anna"), self.sit("1", "ben")
+        anna.wait("no draft open")
+        anna.press(*TO_LECTURE)
+        self.take("week", anna, "day 4, period 1: room r01")
+        anna.press("Enter", "b")
+        self.take("picked up", anna, "> -257 r04")
+        anna.press("Enter", "v", *"q022", "Enter", "Enter", "b", "Enter")
+        self.take("draft", anna, "2 edits")
+        ben.wait("no draft open")
+        ben.press(*TO_LECTURE, "s", "b", "Enter", "c")
+        ben.wait("Committed as draft 1")
+        anna.wait("stale by now")
+        anna.press("c")
+        self.take("stale", anna, "Your draft is stale")
+        anna.press("r")
+        self.take("redone", anna, "edits made again")
+        self.keep("status", self.office("status", "monday"))
+        anna.press("q", "c", "q")
+        ben.press("q")
+        anna.wait("ended 0")
+        ben.wait("ended 0")
+        self.keep("log", self.office("log", "monday"))
+        self.keep("closed", self.office("close", "monday"))
+
+
+def take_pictures():
+    """The pictures of a day, by their names."""
+    with tempfile.TemporaryDirectory() as folder:
+        examples = os.path.join(HERE, "examples")
+        words = [
+            "open",
+            "monday",
+            f"{examples}/comp07.ctt",
+            "3",
+            "--start",
+            f"{examples}/comp07.sol",
+        ]
+        office = subprocess.Popen(
+            [OFFICE, *words],
+            cwd=folder,
+            stdout=subprocess.DEVNULL,
+            stderr=subprocess.PIPE,
+            text=True,
+        )
+        play = Play(folder)
+        try:
+            if "open, seats" in office.stderr.readline():
+                play.play()
+        finally:
+            play.terminals.end()
+            office.terminate()
+            office.wait()
+            office.stderr.close()
+        return play.pictures
+
+
+def main():
+    pictures, wrong = take_pictures(), []
+    for page in PAGES:
+        with open(os.path.join(HERE, page), encoding="utf-8") as file:
+            text = file.read()
+
+        def put(found):
+            picture = pictures.get(found[2], "")
+            if picture != found[3]:
+                wrong.append((page, found[2], picture))
+            return found[1] + picture + found[4]
+
+        new = BLOCK.sub(put, text)
+        if sys.argv[1:] != ["--check"] and new != text:
+            with open(os.path.join(HERE, page), "w", encoding="utf-8") as file:
+                file.write(new)
+    for page, name, picture in wrong:
+        print(f"{page}: the picture '{name}' is another one now")
+        if sys.argv[1:] == ["--check"]:
+            print(picture, end="")
+    sys.exit(bool(wrong) and sys.argv[1:] == ["--check"])
+
+
+if __name__ == "__main__":
+    main()

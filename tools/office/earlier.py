@@ -1,0 +1,58 @@
+"""Edits of an earlier day that were neither accepted nor given up, to be offered again."""
+from __future__ import annotations
+
+from typing import List, Optional, Tuple
+
+from office.folder import Day
+from office.minutes import read_minutes
+from office.planning import Planning
+from office.refused import Refused
+from office.seatlog import read_past
+from office.text import counted
+
+
+def unfinished_before(day: Day, planner: int) -> Tuple[str, List[str]]:
+    """The name of the last day before this one at which the seat was used, and what it left
+    unfinished."""
+    seen = {day.path}
+    while True:
+        try:
+            before: Optional[str] = day.facts().get("after")
+        except Refused:
+            return "", []
+        if before is None or before in seen:
+            return "", []
+        seen.add(before)
+        day = Day(before)
+        try:
+            past = read_past(day.log(planner))
+        except PermissionError:
+            return "", []
+        past.settle(read_minutes(day.minutes), planner)
+        if past.unfinished():
+            return day.name, past.unfinished()
+        if past.offer or past.story.accepted:
+            return "", []
+
+
+class Earlier:
+    """What an earlier day has left to a planner."""
+
+    def __init__(self, planning: Planning) -> None:
+        self.planning = planning
+        seat = planning.seat
+        self.name, self.edits = "", []  # type: str, List[str]
+        if not seat.offer:
+            self.name, self.edits = unfinished_before(seat.day, seat.planner)
+
+    def title(self) -> str:
+        return f"{counted(len(self.edits), 'edit')} of {self.name} not accepted: make them again?"
+
+    def decline(self) -> None:
+        self.planning.seat.log.noted("offer declined")
+
+    def take_up(self) -> List[str]:
+        """Makes them again in a draft, and answers those that were refused, with the reason."""
+        refused = self.planning.make_again(self.edits)
+        self.planning.seat.log.noted("offer taken")
+        return refused

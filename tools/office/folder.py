@@ -1,0 +1,149 @@
+"""The folder of a day: the names of its files, what is known of the day, and who holds its
+locks."""
+from __future__ import annotations
+
+import contextlib
+import fcntl
+import json
+import os
+import time
+from typing import Any, Optional
+
+from office.refused import Refused
+
+
+def lock(path: str, mode: int = 0o660, shared: bool = False) -> Optional[int]:
+    """Takes the lock of a file, which is made if it is not there; None if somebody has it."""
+    flags = os.O_RDONLY if shared else os.O_RDWR | os.O_CREAT
+    end = os.open(path, flags, mode)
+    # a status that looks whether somebody has the lock has it for a moment
+    for _ in range(1 if shared else 5):
+        with contextlib.suppress(OSError):
+            fcntl.flock(end, (fcntl.LOCK_SH if shared else fcntl.LOCK_EX) | fcntl.LOCK_NB)
+            return end
+        time.sleep(0.0 if shared else 0.02)
+    os.close(end)
+    return None
+
+
+def is_locked(path: str) -> bool:
+    """Whether somebody has the lock of a file; not if the file is not there."""
+    try:
+        end = lock(path, shared=True)
+    except FileNotFoundError:
+        return False
+    if end is None:
+        return True
+    os.close(end)
+    return False
+
+
+def write_whole(path: str, text: bytes, mode: int = 0o660) -> None:
+    """Writes a file so that it is there whole or not at all."""
+    new = path + ".new"
+    try:
+        end = os.open(new, os.O_WRONLY | os.O_CREAT | os.O_TRUNC, mode)
+        with open(end, "wb") as file:
+            file.write(text)
+            file.flush()
+            os.fsync(file.fileno())
+        os.replace(new, path)
+    except OSError as fault:
+        with contextlib.suppress(OSError):
+            os.remove(new)
+        raise Refused(f"cannot write {path}: {fault.strerror}") from None
+
+
+def read_text(path: str) -> str:
+    """The text of a file, empty if it is not there."""
+    try:
+        with open(path, encoding="utf-8", errors="surrogateescape", newline="") as file:
+            return file.read()
+    except FileNotFoundError:
+        return ""
+
+
+class Day:
+    """The folder of a day."""
+
+    def __init__(self, path: str) -> None:
+        self.path = path
+        self.name = os.path.basename(os.path.abspath(path))
+        # what is known of the day from its opening on
+        self.facts_file = self.file("day.json")
+        # the office holds the lock of this file, which has its number, the desk's, and how far it
+        # is
+        self.office = self.file("office")
+        # when the seats are closed, as long as the office is closing
+        self.closing = self.file("closing")
+        self.instance = self.file("instance.ctt")
+        self.start = self.file("start.sol")
+        self.barred = self.file("barred")
+        # with a changed instance, what was set aside
+        self.aside = self.file("aside")
+        self.minutes = self.file("minutes")
+        self.journal = self.file("journal")
+        self.audit = self.file("audit")
+        self.end = self.file("end.sol")
+        # all names of the instance and words of lines, by which rlwrap completes
+        self.names = self.file("names")
+
+    def file(self, name: str) -> str:
+        return os.path.join(self.path, name)
+
+    def seat(self, planner: int) -> str:
+        """The path of a seat, to which the desk adds `.in` and `.out`."""
+        return self.file(str(planner))
+
+    def log(self, planner: int) -> str:
+        return self.file(f"{planner}.log")
+
+    def sitter(self, planner: int) -> str:
+        """The file of who sits at a seat, and holds its lock as long."""
+        return self.file(f"{planner}.sitter")
+
+    def is_there(self) -> bool:
+        return os.path.exists(self.facts_file)
+
+    def facts(self) -> dict[str, Any]:
+        try:
+            with open(self.facts_file, encoding="utf-8") as file:
+                found = json.load(file)
+        except FileNotFoundError:
+            raise Refused(f"{self.path} is not the folder of a day") from None
+        except PermissionError:
+            raise Refused(f"the folder {self.path} is closed to you") from None
+        except (OSError, ValueError) as fault:
+            raise Refused(f"cannot read {self.facts_file}: {fault}") from None
+        return found
+
+    def write_facts(self, facts: dict[str, Any]) -> None:
+        text = json.dumps(facts, indent=1, ensure_ascii=True) + "\n"
+        write_whole(self.facts_file, text.encode())
+
+    def is_open(self) -> bool:
+        """Whether an office holds the day, or a desk that it left."""
+        return is_locked(self.office)
+
+    def is_ready(self) -> bool:
+        """Whether planners can sit down."""
+        return self.is_open() and read_text(self.office).split()[2:] == ["open"]
+
+    def numbers(self) -> list[int]:
+        """The numbers of the office's and the desk's processes, as far as they are known."""
+        return [int(word) for word in read_text(self.office).split()[:2] if word.isdigit()]
+
+    def closes_at(self) -> Optional[float]:
+        """When the seats are closed, in seconds of the epoch, if the office is closing."""
+        try:
+            return float(read_text(self.closing))
+        except ValueError:
+            return None
+
+    def barred_words(self) -> list[str]:
+        """The option for barred rooms, if the day has any."""
+        return ["--barred", self.barred] if os.path.exists(self.barred) else []
+
+    def start_words(self) -> list[str]:
+        """The options for the start and the barred rooms of the day."""
+        return (["--start", self.start] if os.path.exists(self.start) else []) + self.barred_words()

@@ -1,0 +1,161 @@
+"""The commands of the office."""
+from __future__ import annotations
+
+import argparse
+import os
+import sys
+from typing import Any, Optional
+
+from office.folder import Day
+from office.refused import MACHINE, Refused
+
+EXAMPLES = """a day, and the next one:
+  office open monday comp07.ctt 8 --start comp07.sol
+  office sit monday 3 --name anna
+  office status monday
+  office close monday
+  office open tuesday --after monday
+
+A day is a folder, with all that belongs to it. Close it also after a crash:
+what was committed is on the disk. `office COMMAND --help` explains a command,
+and docs/OFFICE.md has a whole day."""
+
+
+def planner(text: str) -> int:
+    if not (text.isascii() and text.isdigit() and int(text) < 64):
+        raise argparse.ArgumentTypeError("a planner is a number, 0 to 63")
+    return int(text)
+
+
+Commands = Any
+
+
+def add_command(commands: Commands, name: str, told: str) -> argparse.ArgumentParser:
+    """Adds a command about a day."""
+    told_whole = told[0].upper() + told[1:] + "."
+    made: argparse.ArgumentParser = commands.add_parser(
+        name, help=told, description=told_whole, allow_abbrev=False
+    )
+    made.add_argument("day", metavar="DAY", help="the folder of the day")
+    return made
+
+
+def add_open(commands: Commands) -> None:
+    one = add_command(commands, "open", "open a day, and keep it until it is closed")
+    instance = "the instance, if the day does not follow another one"
+    one.add_argument("instance", metavar="INSTANCE", nargs="?", help=instance)
+    count = "how many planners, 1 to 64"
+    one.add_argument("planners", metavar="PLANNERS", nargs="?", type=int, help=count)
+    start = "the timetable to begin with; else it is empty"
+    one.add_argument("--start", metavar="SOLUTION", help=start)
+    one.add_argument("--barred", metavar="FILE", help="rooms that courses must not have")
+    after = "begin with what this day has left, and as many planners"
+    one.add_argument("--after", metavar="DAY", help=after)
+    changed = "with --after: the instance that holds from now on"
+    one.add_argument("--instance", metavar="CHANGED", dest="changed", help=changed)
+    other = "with --after: another number of planners"
+    one.add_argument("--planners", metavar="N", dest="seats", type=int, help=other)
+
+
+def add_others(commands: Commands) -> None:
+    one = add_command(commands, "sit", "sit down as a planner")
+    one.add_argument("planner", metavar="PLANNER", type=planner, help="the seat, from 0")
+    one.add_argument("--name", help="who sits there, for the others and the log")
+    one.add_argument("--plain", action="store_true", help="lines in place of the screen")
+    status = "say who sits, how far their drafts are, and what the timetable costs"
+    add_command(commands, "status", status)
+    close = "close a day, and write its journal, its audit and the timetable that it leaves"
+    one = add_command(commands, "close", close)
+    wait = "how long those who sit have for it; 60 by default"
+    one.add_argument("--wait", metavar="SECONDS", type=float, default=60.0, help=wait)
+    log = "print the accepted drafts with planners, times and edits"
+    one = add_command(commands, "log", log)
+    only = "only those that changed this course"
+    one.add_argument("course", metavar="COURSE", nargs="?", help=only)
+
+
+def parser() -> argparse.ArgumentParser:
+    """The words that the office takes."""
+    top = argparse.ArgumentParser(
+        prog="office",
+        description="Keeps a day of planners, and sits down at it.",
+        epilog=EXAMPLES,
+        formatter_class=argparse.RawDescriptionHelpFormatter,
+        allow_abbrev=False,
+    )
+    unproved = "open with a desk that is built without proof, in about 90 seconds"
+    top.add_argument("--unproved", action="store_true", help=unproved)
+    commands = top.add_subparsers(dest="command", metavar="COMMAND", required=True)
+    add_open(commands)
+    add_others(commands)
+    return top
+
+
+def open_by(words: argparse.Namespace, top: argparse.ArgumentParser) -> int:
+    from office.opening import Plan, open_day, plan_after
+
+    day = Day(words.day)
+    if words.after is not None:
+        if words.instance is not None or words.start is not None:
+            top.error(
+                "open: with --after the day begins with what that one has left: "
+                "no INSTANCE, no PLANNERS, no --start"
+            )
+        return open_day(
+            plan_after(day, Day(words.after), words.seats, words.changed, words.barred),
+            words.unproved,
+        )
+    if (
+        words.instance is None
+        or words.planners is None
+        or words.changed is not None
+        or words.seats is not None
+    ):
+        top.error("open: DAY INSTANCE PLANNERS, or DAY --after DAY")
+    return open_day(
+        Plan(day, words.planners, words.instance, words.start, words.barred), words.unproved
+    )
+
+
+def do(words: argparse.Namespace, top: argparse.ArgumentParser) -> int:
+    """Does a command. Each takes in what it needs alone."""
+    if words.unproved and words.command != "open":
+        top.error("--unproved is for open alone: a day remembers its program")
+    day = Day(words.day)
+    if words.command == "open":
+        return open_by(words, top)
+    if words.command == "sit":
+        from office.sitting import sit_down
+
+        return sit_down(day, words.planner, words.name, words.plain)
+    if words.command == "status":
+        from office.status import print_status
+
+        return print_status(day)
+    if words.command == "close":
+        from office.closing import close_day
+
+        return close_day(day, words.wait)
+    from office.history import print_log
+
+    return print_log(day, words.course)
+
+
+def main(typed: Optional[list[str]] = None) -> int:
+    top = parser()
+    words = top.parse_args(typed)
+    try:
+        return do(words, top)
+    except Refused as refused:
+        if refused.reason:
+            print("office:", refused.reason, file=sys.stderr)
+        return refused.status
+    except BrokenPipeError:
+        # who reads has enough
+        os.dup2(os.open(os.devnull, os.O_WRONLY), sys.stdout.fileno())
+        return MACHINE
+    except OSError as fault:
+        print("office:", fault, file=sys.stderr)
+        return MACHINE
+    except KeyboardInterrupt:
+        return 130

@@ -1,0 +1,74 @@
+"""What a day has left, under a changed instance. Lectures and barred rooms of which a name or a
+slot is gone are set aside here, and what cannot stand for another reason by the program."""
+from __future__ import annotations
+
+import contextlib
+import os
+import sys
+from typing import Optional
+
+from office import processes
+from office.folder import Day, write_whole
+from office.instance import Instance, read_barred, read_instance, read_solution
+from office.processes import Signals
+from office.refused import Silent
+from office.text import counted
+from office.words import encoded
+
+
+def missing_part(instance: Instance, lecture: tuple[str, str, int, int]) -> Optional[str]:
+    """Why an instance has no place for a lecture by its names and its slot alone."""
+    course, room, day, period = lecture
+    if course not in instance.courses:
+        return "no such course"
+    if room not in instance.rooms:
+        return "no such room"
+    if day >= instance.days or period >= instance.periods:
+        return "no such slot"
+    return None
+
+
+def write_solution(path: str, lectures: list[tuple[str, str, int, int]]) -> None:
+    lines = [" ".join(map(str, lecture)) + "\n" for lecture in lectures]
+    write_whole(path, encoded("".join(lines)))
+
+
+def keep_barred(day: Day, source: str) -> None:
+    """Copies barred rooms, but those of which a name is gone."""
+    instance = read_instance(day.instance)
+    pairs = [
+        f"{course} {room}\n"
+        for course, room in sorted(read_barred(source))
+        if course in instance.courses and room in instance.rooms
+    ]
+    write_whole(day.barred, encoded(f"Barred: {len(pairs)}\n{''.join(pairs)}END.\n"))
+
+
+def mend(signals: Signals, program: list[str], day: Day, solution: str) -> None:
+    """Makes the start of a day of a solution under its instance, and lists what is set aside, on
+    standard error and in the day's folder."""
+    instance, left, lines = read_instance(day.instance), [], []
+    for lecture in read_solution(solution):
+        why = missing_part(instance, lecture)
+        if why is None:
+            left.append(lecture)
+        else:
+            lines.append(f"office: set aside {' '.join(map(str, lecture))}: {why}\n")
+    before = day.file("before.sol")
+    write_solution(before, left)
+    words = [*program, "mend", day.instance, before, *day.barred_words()]
+    with open(day.start, "wb") as start, open(day.aside, "w+b") as aside:
+        aside.write(encoded("".join(lines)))
+        aside.flush()
+        status = processes.run(signals, words, stdout=start, stderr=aside)
+        aside.seek(0)
+        said = aside.read()
+    os.remove(before)
+    count = said.count(b"set aside ")
+    with contextlib.suppress(OSError):
+        sys.stderr.write(said.decode(errors="replace"))
+        if status == 0:
+            print(f"office: {counted(count, 'lecture')} set aside, in {day.aside}", file=sys.stderr)
+        sys.stderr.flush()
+    if status != 0:
+        raise Silent(status)

@@ -1,0 +1,133 @@
+"""What stands in front of the grid for a while: lists to choose from, pages to read, a question, a
+line to type."""
+from __future__ import annotations
+
+from typing import Callable, Generic, List, Optional, Sequence, Tuple, TypeVar
+
+from office.grid import Row
+from office.text import fit, shown, wrap
+
+Choice = TypeVar("Choice")
+
+
+class Overlay:
+    """Something in front of the grid. It is done when `press` answers True."""
+
+    def rows(self, height: int, width: int) -> List[Row]:
+        raise NotImplementedError
+
+    def press(self, key: str) -> bool:
+        raise NotImplementedError
+
+
+class Chooser(Overlay, Generic[Choice]):
+    """A list that narrows as one types."""
+
+    def __init__(
+        self, title: str, choices: Sequence[Tuple[str, Choice]], choose: Callable[[Choice], None]
+    ) -> None:
+        self.title, self.choices, self.choose = title, choices, choose
+        self.typed, self.at = "", 0
+
+    def found(self) -> List[Tuple[str, Choice]]:
+        """The choices that have each word that was typed; those that begin with them come first."""
+        words = self.typed.lower().split()
+        found = [one for one in self.choices if all(word in one[0].lower() for word in words)]
+        return sorted(found, key=lambda one: not all(self.begins(one[0], word) for word in words))
+
+    @staticmethod
+    def begins(text: str, word: str) -> bool:
+        return any(part.startswith(word) for part in text.lower().split())
+
+    def press(self, key: str) -> bool:
+        found = self.found()
+        steps = {"up": -1, "down": 1, "pageup": -10, "pagedown": 10, "backtab": -1, "tab": 1}
+        if key == "escape":
+            return True
+        if key == "enter":
+            if found:
+                self.choose(found[min(self.at, len(found) - 1)][1])
+            return bool(found)
+        if key in steps:
+            self.at = max(0, min(len(found) - 1, self.at + steps[key]))
+        elif key == "backspace":
+            self.typed, self.at = self.typed[:-1], 0
+        elif len(key) == 1:
+            self.typed, self.at = self.typed + key, 0
+        return False
+
+    def rows(self, height: int, width: int) -> List[Row]:
+        found, room = self.found(), max(1, height - 4)
+        first = max(0, min(self.at - room // 2, len(found) - room))
+        rows: List[Row] = [
+            [(fit(f" {self.title}", width), "head")],
+            [(fit(f" > {shown(self.typed)}_", width), "")],
+        ]
+        for place, (text, _) in enumerate(found[first : first + room], first):
+            is_at = place == self.at
+            rows.append(
+                [(fit(f" {'>' if is_at else ' '} {shown(text)}", width), "cursor" if is_at else "")]
+            )
+        if not found:
+            rows.append([(fit("   nothing has these letters", width), "dim")])
+        keys = "letters narrow the list, Enter chooses, Escape goes back"
+        last = f" {len(found)} of {len(self.choices)}   {keys}"
+        return rows + [[("", "")]] * (height - len(rows) - 1) + [[(fit(last, width), "head")]]
+
+
+class Page(Overlay):
+    """Lines to read. `keys` are what the last line says, and what may follow."""
+
+    def __init__(
+        self,
+        title: str,
+        lines: List[str],
+        answers: Optional[dict] = None,
+        last: str = "any key goes back",
+    ) -> None:
+        self.title, self.lines, self.last = title, lines, last
+        # what a key does; a page without such keys goes by any key
+        self.answers: dict = answers or {}
+        self.at = 0
+
+    def press(self, key: str) -> bool:
+        if key in ("up", "down", "pageup", "pagedown"):
+            self.at = max(0, self.at + {"up": -1, "down": 1, "pageup": -10, "pagedown": 10}[key])
+            return False
+        if key in self.answers:
+            self.answers[key]()
+            return True
+        return key == "escape" or not self.answers
+
+    def rows(self, height: int, width: int) -> List[Row]:
+        lines = [line for text in self.lines for line in wrap(shown(text), max(10, width - 2))]
+        room = max(1, height - 3)
+        self.at = max(0, min(self.at, len(lines) - room))
+        rows: List[Row] = [[(fit(f" {self.title}", width), "head")], [("", "")]]
+        rows += [[(fit(f" {line}", width), "")] for line in lines[self.at : self.at + room]]
+        more = " (down for more) " if self.at + room < len(lines) else ""
+        return (
+            rows[: height - 1]
+            + [[("", "")]] * (height - len(rows) - 1)
+            + [[(fit(f" {self.last}{more}", width), "head")]]
+        )
+
+
+class Typed(Overlay):
+    """A line that is typed at the bottom; what stands above it stays."""
+
+    def __init__(self, prompt: str, send: Callable[[str], None]) -> None:
+        self.prompt, self.send, self.typed = prompt, send, ""
+
+    def press(self, key: str) -> bool:
+        if key == "enter":
+            self.send(self.typed)
+            return True
+        if key == "backspace":
+            self.typed = self.typed[:-1]
+        elif len(key) == 1:
+            self.typed += key
+        return key == "escape"
+
+    def rows(self, height: int, width: int) -> List[Row]:
+        return [[(fit(f"{self.prompt}{shown(self.typed)}_", width), "cursor")]]

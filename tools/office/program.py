@@ -1,0 +1,91 @@
+"""The program `timedesk`, as an office runs it: for what a file has, and for what a day leaves."""
+from __future__ import annotations
+
+import os
+import shutil
+import subprocess
+from typing import Optional
+
+from office.folder import Day, write_whole
+from office.refused import MACHINE, Refused, Silent
+
+HERE = os.path.dirname(os.path.dirname(os.path.dirname(os.path.abspath(__file__))))
+
+
+def program_words(unproved: bool) -> list[str]:
+    """The words that run the program: TIMEDESK names another one."""
+    named = os.environ.get("TIMEDESK")
+    if unproved:
+        return [os.path.join(HERE, "timedesk"), "--unproved"]
+    if not named:
+        return [os.path.join(HERE, "timedesk")]
+    found = shutil.which(named)
+    if found is None:
+        raise Refused(f"TIMEDESK: {named} is no program")
+    return [os.path.abspath(found)]
+
+
+def output(words: list[str], quiet: bool = False) -> tuple[int, bytes]:
+    """The status of a command and what it prints. What it says goes where the office's goes, or
+    nowhere."""
+    try:
+        done = subprocess.run(
+            words,
+            stdin=subprocess.DEVNULL,
+            stdout=subprocess.PIPE,
+            stderr=subprocess.DEVNULL if quiet else None,
+            check=False,
+        )
+    except OSError as fault:
+        raise Refused(f"cannot run {words[0]}: {fault.strerror}") from None
+    return done.returncode, done.stdout
+
+
+class Left:
+    """What the minutes of a day leave: its journal, and the timetable after it."""
+
+    def __init__(self, day: Day, quiet: bool = False) -> None:
+        self.day = day
+        self.program: list[str] = day.facts()["program"]
+        self.quiet = quiet
+
+    def run(self, *words: str) -> tuple[int, bytes]:
+        return output([*self.program, *words], self.quiet)
+
+    def write_journal(self, path: str) -> None:
+        status, text = self.run(
+            "journal", self.day.instance, self.day.minutes, *self.day.barred_words()
+        )
+        if status != 0:
+            raise Silent(status)
+        write_whole(path, text)
+
+    def audit(self, journal: str) -> tuple[int, str]:
+        """The status of the audit of a journal, and its line."""
+        status, text = self.run("audit", self.day.instance, journal, *self.day.start_words())
+        return status, text.decode().strip()
+
+    def write_list(self, journal: str, path: str) -> None:
+        status, text = self.run("list", self.day.instance, journal, *self.day.start_words())
+        if status != 0:
+            raise Silent(status)
+        write_whole(path, text)
+
+    def report(self, solution: Optional[str]) -> dict[str, str]:
+        """The report on a solution by the words in front of its lines; of an empty one if there is
+        none."""
+        words = ["check", self.day.instance, solution or os.devnull, *self.day.barred_words()]
+        status, text = self.run(*words)
+        if status != 0:
+            raise Silent(status or MACHINE)
+        lines = (line.split(" ", 1) for line in text.decode().split("\n") if " " in line)
+        return {kind: told for kind, told in lines}
+
+
+COSTS = ("capacity", "days", "compactness", "stability")
+
+
+def costs_in_words(report: dict[str, str]) -> str:
+    """What a timetable costs, with its four parts by name."""
+    parts = ", ".join(f"{kind} {report[kind]}" for kind in COSTS)
+    return f"{report['total']} ({parts})"

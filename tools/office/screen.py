@@ -1,0 +1,200 @@
+"""The screen in a terminal, by curses."""
+from __future__ import annotations
+
+import contextlib
+import curses
+import locale
+import os
+import select
+import signal
+import sys
+import time
+from typing import Any, Dict, Optional
+
+from office.board import Board
+from office.folder import Day
+from office.grid import Row
+from office.planning import Planning
+from office.processes import Alarm
+from office.refused import MACHINE
+from office.seat import DEAD, DeskEnded, Gone, NoAnswer, Seat
+from office.text import width
+
+# how many milliseconds a key is waited for, before news are looked for
+TICK = 500
+NAMES = {
+    curses.KEY_UP: "up",
+    curses.KEY_DOWN: "down",
+    curses.KEY_LEFT: "left",
+    curses.KEY_RIGHT: "right",
+    curses.KEY_ENTER: "enter",
+    "\n": "enter",
+    "\r": "enter",
+    "\x1b": "escape",
+    "\t": "tab",
+    curses.KEY_BTAB: "backtab",
+    curses.KEY_BACKSPACE: "backspace",
+    "\x7f": "backspace",
+    "\b": "backspace",
+    curses.KEY_PPAGE: "pageup",
+    curses.KEY_NPAGE: "pagedown",
+    curses.KEY_DC: "x",
+    curses.KEY_RESIZE: "resize",
+}
+COLOURS = {
+    "mine": curses.COLOR_CYAN,
+    "others": curses.COLOR_MAGENTA,
+    "points": curses.COLOR_YELLOW,
+    "good": curses.COLOR_GREEN,
+    "bad": curses.COLOR_RED,
+}
+
+
+def styles() -> Dict[str, int]:
+    """The attributes of styles: colours only in a terminal that has them, and where NO_COLOR does
+    not forbid them."""
+    found = {
+        "": 0,
+        "head": curses.A_BOLD,
+        "title": curses.A_UNDERLINE,
+        "dim": 0,
+        "detail": 0,
+        "said": curses.A_BOLD,
+    }
+    found.update(
+        {
+            "cursor": curses.A_REVERSE,
+            "mine": curses.A_BOLD,
+            "others": curses.A_UNDERLINE,
+            "bad": curses.A_BOLD,
+        }
+    )
+    if not curses.has_colors() or os.environ.get("NO_COLOR"):
+        return found
+    curses.start_color()
+    background = curses.COLOR_BLACK
+    with contextlib.suppress(curses.error):
+        curses.use_default_colors()
+        background = -1
+    for number, (style, colour) in enumerate(COLOURS.items(), 1):
+        curses.init_pair(number, colour, background)
+        found[style] = found.get(style, 0) | curses.color_pair(number)
+    return found
+
+
+class Closed(Exception):
+    """The office has closed."""
+
+
+class Screen:
+    """A board in a window."""
+
+    def __init__(self, window: Any, board: Board) -> None:
+        self.window, self.board = window, board
+        self.styles = styles()
+        with contextlib.suppress(curses.error):
+            curses.curs_set(0)
+        window.keypad(True)
+        window.timeout(TICK)
+
+    def paint(self) -> None:
+        height, columns = self.window.getmaxyx()
+        self.window.erase()
+        for line, row in enumerate(self.board.rows(height, columns)[:height]):
+            self.paint_row(line, row, columns)
+        self.window.refresh()
+
+    def paint_row(self, line: int, row: Row, columns: int) -> None:
+        at = 0
+        for text, style in row:
+            # the last cell of a window cannot be written
+            with contextlib.suppress(curses.error):
+                self.window.addstr(line, at, text[: columns * 2], self.styles.get(style, 0))
+            at += width(text)
+            if at >= columns:
+                break
+
+    def key(self) -> Optional[str]:
+        """The next key by its name; None if none comes for a while."""
+        try:
+            found = self.window.get_wch()
+        except curses.error:
+            return None
+        name = NAMES.get(found, found)
+        return name if isinstance(name, str) else ""
+
+    def step(self) -> None:
+        """Takes a key, or looks for news."""
+        board, seat = self.board, self.board.planning.seat
+        key = self.key()
+        if key == "resize":
+            self.window.clear()
+        elif key:
+            board.press(key)
+        else:
+            if not sys.stdin.isatty():
+                raise Gone
+            if not board.is_dead and select.select([seat.answers], [], [], 0)[0]:
+                # nothing was asked: the desk has ended
+                seat.read(0)
+            board.tick()
+            at = seat.day.closes_at()
+            if at is not None and time.time() > at and not board.is_dead:
+                raise Closed
+
+    def go_on(self) -> None:
+        """Paints, and takes keys, until the planner leaves."""
+        while not self.board.is_done:
+            try:
+                self.paint()
+                self.step()
+            except DeskEnded:
+                self.board.desk_ended("The desk has ended")
+            except NoAnswer:
+                self.board.desk_ended("The desk does not answer")
+
+
+def show_board(window: Any, board: Board) -> None:
+    Screen(window, board).go_on()
+
+
+def sit_at_screen(day: Day, planner: int, name: Optional[str]) -> int:
+    """Sits down at the screen, and answers the status."""
+
+    locale.setlocale(locale.LC_ALL, "")
+    os.environ.setdefault("ESCDELAY", "25")
+    seat = Seat(day, planner, name)
+    said, is_dead = "", False
+    alarm = Alarm(Gone, signal.SIGINT, signal.SIGTERM, signal.SIGHUP)
+    try:
+        board = Board(Planning(seat))
+        board.begin()
+        curses.wrapper(show_board, board)
+        is_dead = board.is_dead
+    except Gone:
+        said = "you went away"
+    except curses.error:
+        # a terminal that is gone cannot be set back
+        if sys.stdin.isatty():
+            raise
+    except Closed:
+        said = "the office has closed"
+    except (DeskEnded, NoAnswer):
+        is_dead = True
+    finally:
+        alarm.stop()
+        say_goodbye(seat, said, is_dead)
+    return MACHINE if is_dead else 0
+
+
+def say_goodbye(seat: Seat, said: str, is_dead: bool) -> None:
+    """Goes away from a seat, and says what becomes of the draft; the terminal may be gone."""
+    lines = [said] if said else []
+    if is_dead:
+        lines = [DEAD]
+    elif seat.story.is_open:
+        lines.append(f"your draft stays as it is: office sit {seat.day.path} {seat.planner}")
+    with contextlib.suppress(OSError):
+        seat.go()
+        for line in lines:
+            print(f"office: {line}", file=sys.stderr)

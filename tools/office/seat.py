@@ -1,0 +1,177 @@
+"""A planner's end of a seat: lines go to the desk, answers come back, and both are in the seat's
+log before they are shown."""
+from __future__ import annotations
+
+import contextlib
+import errno
+import getpass
+import os
+import select
+import time
+from typing import Optional
+
+from office.folder import Day, lock, read_text
+from office.processes import now
+from office.refused import Refused
+from office.seatlog import SeatLog, read_past
+from office.words import decoded, encoded, has_words
+
+
+class DeskEnded(Exception):
+    """The desk has ended, or the seat."""
+
+
+class Gone(Exception):
+    """The planner goes away, or the terminal is gone."""
+
+
+class NoAnswer(Exception):
+    """The desk has not answered in time."""
+
+
+DEAD = (
+    "the desk has ended; committed drafts are on the disk, and open edits are offered again after "
+    "the next opening"
+)
+# a desk that says nothing for so many seconds is not waited for
+PATIENCE = 30.0
+
+
+def read_sitter(day: Day, planner: int) -> tuple[str, str]:
+    """Who sits at a seat, or sat there last, and since when."""
+    lines = read_text(day.sitter(planner)).split("\n")
+    return (lines[0], lines[1]) if len(lines) > 1 else ("", "")
+
+
+def user_name() -> str:
+    try:
+        return getpass.getuser()
+    except (KeyError, OSError):
+        return "somebody"
+
+
+class Seat:
+    """A seat at which somebody sits."""
+
+    def __init__(self, day: Day, planner: int, name: Optional[str]) -> None:
+        self.day, self.planner = day, planner
+        self.name = " ".join((name or user_name()).split())
+        self.facts = day.facts()
+        if not 0 <= planner < self.facts["planners"]:
+            raise Refused(f"no seat {planner} in {day.path}")
+        if not day.is_ready():
+            why = "the office is not open yet in" if day.is_open() else "no office is open in"
+            raise Refused(f"{why} {day.path}")
+        self._lock = self._take_lock()
+        self._lines, self.answers = self._open_pipes()
+        self.log = SeatLog(day.log(planner))
+        past = read_past(day.log(planner))
+        self.story, self.waiting, self.offer = past.story, past.waiting, past.offer
+        self._heard = b""
+        self.log.noted(f"sits {self.name}")
+
+    def _take_lock(self) -> int:
+        path = self.day.sitter(self.planner)
+        try:
+            found = lock(path)
+        except OSError as fault:
+            raise Refused(f"cannot sit in {self.day.path}: {fault.strerror}") from None
+        if found is None:
+            name, since = read_sitter(self.day, self.planner)
+            raise Refused(f"{name or 'somebody'} sits at seat {self.planner}, since {since[11:16]}")
+        with contextlib.suppress(OSError):
+            os.fchmod(found, 0o660)
+        os.ftruncate(found, 0)
+        os.pwrite(found, f"{self.name}\n{now()}\n{os.getpid()}\n".encode(), 0)
+        return found
+
+    def _open_pipes(self) -> tuple[int, int]:
+        seat = self.day.seat(self.planner)
+        try:
+            lines = os.open(seat + ".in", os.O_WRONLY | os.O_NONBLOCK)
+            return lines, os.open(seat + ".out", os.O_RDONLY | os.O_NONBLOCK)
+        except OSError as fault:
+            if fault.errno in (errno.ENXIO, errno.ENOENT):
+                raise Refused(f"nobody answers at seat {self.planner}: it has ended") from None
+            raise Refused(f"cannot sit at seat {self.planner}: {fault.strerror}") from None
+
+    def go(self) -> None:
+        """Goes away: the desk goes on, and an open draft stays as it is."""
+        with contextlib.suppress(OSError):
+            self.log.noted("went away")
+        for end in (self._lines, self.answers, self._lock):
+            os.close(end)
+        self.log.close()
+
+    def forget_ended(self) -> None:
+        """Notes that the edits of the last draft are given up."""
+        self.log.noted("forgets")
+        self.story.forget()
+
+    def send(self, line: str) -> None:
+        """Sends a line, which is in the log before."""
+        self.log.sent(line)
+        if has_words(encoded(line)):
+            self.waiting.append(line)
+        self._write(encoded(line) + b"\n")
+
+    def _write(self, rest: bytes) -> None:
+        try:
+            while rest:
+                if select.select([], [self._lines], [], PATIENCE)[1] == []:
+                    raise NoAnswer
+                with contextlib.suppress(BlockingIOError):
+                    rest = rest[os.write(self._lines, rest) :]
+        except BrokenPipeError:
+            raise DeskEnded from None
+
+    def read(self, seconds: float) -> Optional[str]:
+        """The next line of the desk, as it came; None if none has come in so many seconds."""
+        until = time.monotonic() + seconds
+        while b"\n" not in self._heard:
+            if not select.select([self.answers], [], [], max(0.0, until - time.monotonic()))[0]:
+                return None
+            with contextlib.suppress(BlockingIOError):
+                more = os.read(self.answers, 65536)
+                if not more:
+                    raise DeskEnded
+                self._heard += more
+        line, self._heard = self._heard.split(b"\n", 1)
+        return decoded(line)
+
+    def take(self, answer: str) -> str:
+        """Takes up an answer to the first line that waits for one, and answers this line."""
+        self.log.heard(answer)
+        asked = self.waiting.pop(0) if self.waiting else ""
+        self.story.hear(asked, answer)
+        return asked
+
+    def ask(self, line: str) -> str:
+        """Sends a line, and waits for its answer."""
+        self.send(line)
+        answer = self.read(PATIENCE)
+        if answer is None:
+            raise NoAnswer
+        self.take(answer)
+        return answer
+
+    def catch_up(self) -> list[str]:
+        """Hears the answers that were under way when somebody sat here last: a word that nothing
+        begins with is sent behind, and its answer is waited for. Lines that were never sent are
+        known by it, too."""
+        probe = f"office-{os.getpid()}-{time.monotonic_ns()}"
+        # a line that was cut ends here; the desk skips one without words
+        self._write(b"\n" + probe.encode() + b"\n")
+        heard: list[str] = []
+        answer = self.read(PATIENCE)
+        while answer is not None and not answer.endswith(probe):
+            heard.append(answer)
+            answer = self.read(PATIENCE)
+        if answer is None:
+            raise NoAnswer
+        for line in heard:
+            self.take(line)
+        if self.waiting:
+            self.log.noted(f"unsent {len(self.waiting)}")
+            self.waiting.clear()
+        return heard

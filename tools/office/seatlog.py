@@ -1,0 +1,153 @@
+"""The log of a seat: a line for each line that was sent or heard, with the time.
+
+    2026-11-28T08:05:11.482+0100 > place geo A 0 1
+    2026-11-28T08:05:11.483+0100 < done
+    2026-11-28T08:05:02.117+0100 = sits anna
+
+Nothing that a planner did is lost by it when his screen, the desk or the machine dies.
+"""
+from __future__ import annotations
+
+import errno
+import os
+from dataclasses import dataclass, field
+from typing import Optional
+
+from office.edits import Story, is_edit
+from office.folder import read_text
+from office.minutes import Entry
+from office.processes import now
+from office.refused import Refused
+from office.words import encoded, has_words
+
+SENT, HEARD, NOTED = ">", "<", "="
+# answers to looks can be long, and are not what a draft is made of: so much of them is in the log
+LONGEST_LOOK = 200
+LOOKS = ("lectures ", "prices ", "missing ")
+# answers behind which a planner has lost something if they are not on the disk
+TURNS = ("done", "committed", "redone", "stale", "left")
+
+
+class SeatLog:
+    """The log of a seat, to be written on."""
+
+    def __init__(self, path: str) -> None:
+        try:
+            self.end = os.open(path, os.O_RDWR | os.O_CREAT | os.O_APPEND, 0o600)
+        except PermissionError:
+            raise Refused(f"the log {path} is another planner's: this seat is his") from None
+        except OSError as fault:
+            raise Refused(f"cannot write {path}: {fault.strerror}") from None
+        size = os.fstat(self.end).st_size
+        # what is to be written; a line that was cut by a crash ends first
+        is_cut = size and os.pread(self.end, 1, size - 1) != b"\n"
+        self._unwritten = b"\n" if is_cut else b""
+        # why not all could be written
+        self.fault = ""
+
+    def _write(self, sign: str, text: str) -> None:
+        """Writes a line. If it cannot be written, `fault` says why, the planner goes on, and it is
+        written with the next one."""
+        self._unwritten += f"{now()} {sign} ".encode() + encoded(text) + b"\n"
+        try:
+            self._unwritten = self._unwritten[os.write(self.end, self._unwritten) :]
+            self.fault = os.strerror(errno.ENOSPC) if self._unwritten else ""
+        except OSError as fault:
+            self.fault = fault.strerror or "the disk fails"
+
+    def sent(self, line: str) -> None:
+        """Notes a line before it is sent."""
+        self._write(SENT, line)
+
+    def heard(self, answer: str) -> None:
+        """Notes an answer before it is shown."""
+        self._write(HEARD, answer[:LONGEST_LOOK] if answer.startswith(LOOKS) else answer)
+        if answer.startswith(TURNS) and not self.fault:
+            try:
+                os.fdatasync(self.end)
+            except OSError as fault:
+                self.fault = fault.strerror or "the disk fails"
+
+    def noted(self, text: str) -> None:
+        self._write(NOTED, text)
+
+    def close(self) -> None:
+        os.close(self.end)
+
+
+@dataclass
+class SeatPast:
+    """What the log of a seat says."""
+
+    story: Story = field(default_factory=Story)
+    # the lines that were sent and, as far as the log knows, not answered
+    waiting: list[str] = field(default_factory=list)
+    # the time, the sign and the text of the last line, and of each `committed` the time and who sat
+    last: tuple[str, str] = ("", "")
+    name: str = ""
+    commits: dict[int, tuple[str, str]] = field(default_factory=dict)
+    # the answer that was given when the unfinished edits of an earlier day were offered
+    offer: str = ""
+    # what the timetable cost at the base of the open draft
+    base: Optional[int] = None
+
+    def take(self, line: str) -> None:
+        """Takes up a line of the log."""
+        parts = line.split(" ", 2)
+        if len(parts) != 3:
+            return
+        time, sign, text = parts
+        self.last = (time, text)
+        if sign == SENT:
+            if has_words(encoded(text)):
+                self.waiting.append(text)
+        elif sign == HEARD and self.waiting:
+            asked = self.waiting.pop(0)
+            self.story.hear(asked, text)
+            if asked.strip() == "commit" and text.startswith("committed "):
+                self.commits[int(text.split(" ")[1])] = (time, self.name)
+        elif sign == NOTED:
+            self._take_note(text)
+
+    def _take_note(self, text: str) -> None:
+        word, _, rest = text.partition(" ")
+        if word == "sits":
+            self.name = rest
+        elif word == "offer":
+            self.offer = rest
+        elif word == "base":
+            self.base = int(rest)
+        elif word == "forgets":
+            self.story.forget()
+        elif word == "unsent" and self.waiting:
+            # the last lines were never sent: their client died before
+            del self.waiting[-int(rest) :]
+
+    def settle(self, entries: list[Entry], planner: int) -> None:
+        """A commit that was sent, and of which the answer was not heard when the desk died, was
+        accepted if the minutes have it."""
+        settle(self.story, self.waiting, entries, planner)
+
+    def unfinished(self) -> list[str]:
+        """The edits of this seat that were neither accepted nor given up. An edit that was sent and
+        not answered is among them."""
+        return self.story.unfinished() + [line for line in self.waiting if is_edit(line)]
+
+
+def settle(story: Story, waiting: list[str], entries: list[Entry], planner: int) -> None:
+    """Takes up a commit that waits for its answer, if the minutes have the draft, with the edits
+    that were sent before it."""
+    numbers = [entry.number for entry in entries if entry.planner == planner]
+    for number in [number for number in numbers if number not in story.accepted]:
+        lines = [line.strip() for line in waiting]
+        if "commit" in lines:
+            story.hear("commit", f"committed {number}")
+            del waiting[: lines.index("commit") + 1]
+
+
+def read_past(path: str) -> SeatPast:
+    """What the log of a seat says; nothing, if there is none."""
+    past = SeatPast()
+    for line in read_text(path).split("\n"):
+        past.take(line)
+    return past

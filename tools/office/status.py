@@ -1,0 +1,109 @@
+"""`office status`: who sits, how far the drafts are, and what the timetable costs, by what the
+folder has; the desk is not asked."""
+from __future__ import annotations
+
+import os
+import tempfile
+from typing import Optional
+
+from office.folder import Day, is_locked
+from office.history import read_pasts
+from office.minutes import read_minutes
+from office.program import Left, costs_in_words
+from office.refused import Refused
+from office.seat import read_sitter
+from office.seatlog import SeatPast
+from office.text import counted
+
+
+def state_of(day: Day) -> str:
+    if day.is_ready():
+        return "closes" if day.closes_at() is not None else "open"
+    if day.is_open():
+        return "not open yet"
+    if os.path.exists(day.end):
+        return "closed"
+    return (
+        f"no desk: it has ended, or was killed; office close {day.path} "
+        "writes what the day has left"
+    )
+
+
+def draft_of(past: SeatPast, is_open: bool) -> str:
+    """The draft of a seat in words, at a desk that is open or has ended."""
+    if past.story.is_open and is_open:
+        return counted(len(past.story.edits), "edit")
+    if past.unfinished():
+        return counted(len(past.unfinished()), "edit") + ", not accepted"
+    return "none"
+
+
+def seat_line(day: Day, planner: int, past: Optional[SeatPast], accepted: int) -> list[str]:
+    """What is known of a seat, column by column."""
+    name, since = read_sitter(day, planner)
+    sits = is_locked(day.sitter(planner))
+    who, when = (name or "somebody", since[11:16]) if sits else ("nobody", "")
+    if past is not None and past.story.has_left:
+        who = "left for the day"
+    if past is None:
+        return [str(planner), who, when, "its log is closed to you", "", str(accepted)]
+    last = past.last[0][11:19]
+    return [str(planner), who, when, draft_of(past, day.is_open()), last, str(accepted)]
+
+
+def print_table(lines: list[list[str]]) -> None:
+    widths = [max(len(line[column]) for line in lines) for column in range(len(lines[0]))]
+    for line in lines:
+        print("  ".join(text.ljust(width) for text, width in zip(line, widths)).rstrip())
+
+
+def cost_lines(day: Day) -> list[str]:
+    """What the timetable cost at the start and costs now, by the program."""
+    left = Left(day, quiet=True)
+    with tempfile.TemporaryDirectory() as folder:
+        journal, solution = os.path.join(folder, "journal"), os.path.join(folder, "solution")
+        try:
+            left.write_journal(journal)
+            left.write_list(journal, solution)
+            before = left.report(day.start if os.path.exists(day.start) else None)
+            now = left.report(solution)
+        except Refused:
+            return ["cost not known: the program does not read the minutes"]
+    return [
+        f"cost at the start {costs_in_words(before)}",
+        f"cost now          {costs_in_words(now)}",
+        f"missing lectures {now['lectures']}",
+    ]
+
+
+def minutes_line(day: Day, pasts: list[Optional[SeatPast]]) -> str:
+    """Whether minutes can be written, by what seats were told and by the room on the disk."""
+    if any(past is not None and past.story.is_full for past in pasts):
+        return "minutes cannot be written: close the office, make room, and open a day after it"
+    room = os.statvfs(day.path)
+    if room.f_bavail == 0:
+        return "minutes: the disk is full"
+    return "minutes are written"
+
+
+def print_status(day: Day) -> int:
+    """Prints the status of a day."""
+    facts = day.facts()
+    pasts = read_pasts(day)
+    entries = read_minutes(day.minutes)
+    counts = [
+        sum(entry.planner == planner for entry in entries) for planner in range(facts["planners"])
+    ]
+    print(f"{day.name}: {state_of(day)}; opened {facts['opened'][:16].replace('T', ' ')}")
+    print(f"{counted(len(entries), 'draft')} accepted; {minutes_line(day, pasts)}")
+    if not day.is_open():
+        for planner, past in enumerate(pasts):
+            if past is not None:
+                past.settle(entries, planner)
+    for line in cost_lines(day):
+        print(line)
+    heads = ["seat", "who", "since", "draft", "last said", "accepted"]
+    print_table(
+        [heads] + [seat_line(day, p, pasts[p], counts[p]) for p in range(facts["planners"])]
+    )
+    return 0
