@@ -91,7 +91,7 @@ module _ (i : Problem) where
   -- ---- what is left opens a desk
 
   -- the lectures of t are before each of these
-  AllBefore : List Placed → List Placed → Type 0
+  abbrev AllBefore : List Placed → List Placed → Type 0
   AllBefore t ls = Each (λ l. Each (λ m. before m l ≡ true) t) ls
 
   none_yet : (ls : List Placed) → AllBefore [] ls
