@@ -1400,7 +1400,8 @@ judge 'what the journal took the place of' $? 0 "$answers" ''
 mkfifo unread
 exec 3<>unread
 exec 4>unread 3>&-
-for words in 'check small.ctt s.sol' 'run small.ctt phantom.txt --journal unwritten' 'audit small.ctt refused' 'crew small.ctt alone alone' --help; do
+for words in 'check small.ctt s.sol' 'run small.ctt phantom.txt --journal unwritten' 'audit small.ctt refused' 'crew small.ctt alone alone' \
+    'mend small.ctt clash.sol' --help; do
     read -ra words <<<"$words"
     (exec -a timedesk "$program" "${words[@]}") >/dev/full 2>err
     status=$?
