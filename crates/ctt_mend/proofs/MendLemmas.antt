@@ -1,7 +1,6 @@
 -- Mended solutions: what is left of them, and what is set aside.
 use Rattle.std.proofs.Common.{◌≡◌, ◌∙◌, ℕ, ◌+◌, true, List, [], ◌∷◌, ◌++◌, drop, Option, Some, None, Result, Ok, Err, append-nil, append_assoc, refl, sym, ap, subst}
 use Rattle.std.specs.List.{AllByRecursion as Each}
-use Rattle.ctt_text.specs.Lists.{Pairwise}
 use Rattle.ctt_text.specs.Problem.{Problem}
 use Rattle.ctt_text.specs.Timetable.{Ascending, Fits, IsTimetable, before}
 use Rattle.ctt_text.specs.declared.placed.Placed.{Placed}

@@ -1,5 +1,5 @@
 -- What the commands of an office print, and why they do not.
-use Rattle.std.proofs.Common.{◌≡◌, ◌<◌, ◌⊎◌, ⊎_elim, inl, inr, arith, get_or, zero, suc, sym, subst, ℕ, Bool, true, false, is_some, List, [], ◌∷◌, Option, length}
+use Rattle.std.proofs.Common.{◌≡◌, ◌<◌, ◌⊎◌, inl, inr, arith, get_or, zero, suc, sym, subst, ℕ, List, [], ◌∷◌, Option, length}
 use Rattle.std.specs.Global.{Global}
 use Rattle.std.specs.String.{string_bytes}
 use Rattle.std.specs.declared.string.String.{String}
@@ -11,23 +11,8 @@ use Rattle.ctt_files.specs.Texts.{Held, Holds, IsStart}
 use Rattle.ctt_files.specs.declared.fault.Fault.{Fault}
 use Rattle.ctt_files.specs.declared.fault.Fault.TheVariants.{NoMemory}
 use Rattle.ctt_files.proofs.Plain.{IsPlain, memory_of_file, plain_written}
-use Rattle.ctt_tool.specs.Desks.{IsOfDeskOn, PrintsLast, SaysLast, TellsLines, Warns}
 use Rattle.ctt_tool.specs.Refusals.{IsLeftFault, IsNoMinutes, IsOfAudited, IsOfMinutes, IsOfWork, IsUnread, IsUnreadAt, IsUnreadOf}
-use Rattle.ctt_tool.specs.Seats.{has_standard}
 use Rattle.ctt_tool.specs.Texts.{IsJournalText}
-
--- the last lines are printed, or nothing is
-pub last_printed : (instance : String Global) (barred : Option (String Global)) (seats : List (String Global)) (start : Option (String Global)) (held : Held) (bytes : List ℕ) (old new said_old said_new : Option (List ℕ)) (is_seat : Bool)
-    → is_seat ≡ has_standard seats → IsOfDeskOn instance barred start held bytes → TellsLines is_seat bytes old new said_old said_new → PrintsLast instance barred seats start held old new
-last_printed instance barred seats start held bytes old new said_old said_new false is last told = inl (sym is, (bytes, last, told.0))
-last_printed instance barred seats start held bytes old new said_old said_new true is last told = inr (sym is, told.1)
-
--- and so is what is said, behind what was said before the first line
-pub last_said : (instance : String Global) (barred : Option (String Global)) (seats : List (String Global)) (start minutes : Option (String Global)) (held : Held) (bytes : List ℕ) (old new said_old warned said_new : Option (List ℕ)) (is_seat : Bool)
-    → is_seat ≡ has_standard seats → IsOfDeskOn instance barred start held bytes → TellsLines is_seat bytes old new warned said_new → Warns (is_some minutes) said_old warned
-    → SaysLast instance barred seats start minutes held said_old said_new
-last_said instance barred seats start minutes held bytes old new said_old warned said_new false is last told warns = (warned, warns, inl (sym is, told.1))
-last_said instance barred seats start minutes held bytes old new said_old warned said_new true is last told warns = (warned, warns, inr (sym is, (bytes, last, told.0)))
 
 -- why the timetable is not printed that entries leave, by the files
 pub left_in : (problem : Problem) (journal : String Global) (start : Option (String Global)) (held : Held) (entries : List JournalEntry) (lectures : List Placed) (fault : Fault) → Holds held journal (λ text. IsJournalText problem text entries)

@@ -1,6 +1,6 @@
 //! The command `desk`.
 
-ghost use Rattle.std.specs.Prelude.{◌≡◌, ◌⊎◌, ◌≤◌, ◌<◌, ◌++◌, Err, true, false, is_some, length, codes, OnOk, OnErr, IfOk, IfErr};
+ghost use Rattle.std.specs.Prelude.{◌≡◌, ◌⊎◌, ◌≤◌, ◌<◌, ◌++◌, Err, true, is_some, length, codes, OnOk, OnErr, IfOk, IfErr};
 ghost use Rattle.std.specs.String.{string_bytes};
 ghost use Rattle.ctt_office.specs.OfficeFaults.{IsOfficeFault};
 ghost use Rattle.ctt_files.specs.Faults.{IfUnwritten, MayHaveWritten};

@@ -1,12 +1,11 @@
-use Rattle.std.proofs.Common.{◌∙◌, ap, inl, inr, refl, rules, subst, sym, ⊎_elim}
-use Rattle.std.specs.Io.KnownBytes.{Appends}
+use Rattle.std.proofs.Common.{refl, rules, subst, sym}
 use Rattle.ctt_text.specs.Timetable.{IsTimetable}
 use Rattle.ctt_files.specs.Refusals.{IsOfSolution}
-use Rattle.ctt_files.proofs.Plain.{memory_of_file, passed_plain, solution_file_plain}
+use Rattle.ctt_files.proofs.Plain.{passed_plain, solution_file_plain}
 use Rattle.ctt_tool.proofs.mend.mend_on.Goals as goal
 
-pub mend-mended-requires : goal.mend-mended-requires
-mend-mended-requires g c κs =
+pub mend-requires : goal.mend-requires
+mend-requires g c κs =
     let fit : IsTimetable c.args.instance.now c.deref.result.now = subst (IsTimetable c.args.instance.now) (sym c.deref.ensures.value) c.in_ok-lectures.ensures.timetable in
     search rules
 
