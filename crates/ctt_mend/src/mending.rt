@@ -66,7 +66,8 @@ fn note(
     Ok(())
 }
 
-/// The lectures that can be placed on this kind of sheet, one after another, and the lines of those that cannot.
+/// The lectures that can be placed on this kind of sheet, one after another, and the lines of those
+/// that cannot.
 fn sift<'i, S: Sheet<'i>>(
     alloc: Global,
     instance: &'i Instance,
@@ -87,8 +88,8 @@ fn sift<'i, S: Sheet<'i>>(
     Ok((left, aside))
 }
 
-/// The texts of a solution of which each lecture is left that can be placed on those before it, in the order of
-/// the list, and each that cannot is set aside.
+/// The texts of a solution of which each lecture is left that can be placed on those left before
+/// it, in the order of the list, and each that cannot is set aside.
 pub fn mend<'i, S: Sheet<'i>>(
     alloc: Global,
     instance: &'i Instance,

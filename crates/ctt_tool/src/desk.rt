@@ -148,8 +148,8 @@ fn warn<V: Sink>(err: &mut V, is_written: bool)
     }
 }
 
-/// Keeps a desk of the instance until all have left, and gives the last lines. Where there are no minutes, that is said
-/// on standard error before the first line of a seat is read.
+/// Keeps a desk of the instance until all have left, and gives the last lines. If there are no
+/// minutes, that is said on standard error before the first line of a seat is read.
 fn keep<R: Threads + Wait + Sync, F: Files, O: Office, V: Sink>(
     rt: &R,
     alloc: Global,
