@@ -47,7 +47,7 @@ _timedesk_options() {
     run) options='--barred --journal --start' ;;
     audit | list) options='--barred --start' ;;
     desk) options='--barred --minutes --start' ;;
-    page | crew | journal) options='--barred' ;;
+    page | crew | journal | mend) options='--barred' ;;
     '') options='--version' ;;
     esac
     for option in $options --help; do
@@ -84,10 +84,10 @@ _timedesk() {
     fi
     case $command:${option:-$place} in
     *:--course | *:--curriculum | *:--room | *:--teacher) _timedesk_names "$typed" "$option" "$instance" ;;
-    :1 | help:1) _timedesk_words "$typed" check week page run crew desk journal audit list help ;;
+    :1 | help:1) _timedesk_words "$typed" check week page run crew desk journal audit list mend help ;;
     help:*) ;;
     *:1) _timedesk_files "$typed" .ctt ;;
-    *:--start | check:2 | week:2 | page:2) _timedesk_files "$typed" .sol ;;
+    *:--start | check:2 | week:2 | page:2 | mend:2) _timedesk_files "$typed" .sol ;;
     *:--*) _timedesk_files "$typed" '' ;;
     desk:*)
         _timedesk_files "$typed" .in

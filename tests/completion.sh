@@ -52,7 +52,7 @@ INSTANCE
 folders=$'0 folder\nnew\nold'
 
 # commands
-offers $'audit\ncheck\ncrew\ndesk\nhelp\njournal\nlist\npage\nrun\nweek' timedesk ''
+offers $'audit\ncheck\ncrew\ndesk\nhelp\njournal\nlist\nmend\npage\nrun\nweek' timedesk ''
 offers $'check\ncrew' timedesk c
 offers $'audit' ./timedesk au
 offers $'check\ncrew' timedesk --unproved c
@@ -75,6 +75,7 @@ offers $'--barred\n--help\n--minutes\n--start' timedesk desk --
 offers $'--barred\n--help' timedesk journal --
 offers $'--barred\n--help\n--start' timedesk audit --
 offers $'--barred\n--help\n--start' timedesk list --
+offers $'--barred\n--help' timedesk mend --
 # behind the last place of a command stand options
 offers $'--barred\n--help\n--strict' timedesk check small.ctt monday.sol --json --explain ''
 
@@ -86,6 +87,7 @@ offers "$folders"$'\n''monday.sol'$'\n''tuesday.sol' timedesk check --json small
 offers "$folders"$'\n''monday.sol'$'\n''tuesday.sol' timedesk run small.ctt day.txt --start ''
 offers $'old/a.ctt' timedesk page old/
 offers $'tuesday.sol' timedesk page small.ctt t
+offers $'tuesday.sol' timedesk mend small.ctt t
 offers $'tuesday.sol' timedesk week small.ctt t
 offers $'day.txt' timedesk run small.ctt d
 offers $'day.txt' timedesk crew small.ctt day.txt d

@@ -140,6 +140,7 @@ with tempfile.TemporaryDirectory() as room:
         ("check small.ctt s.sol --barred barred", ["small.ctt", "barred", "s.sol"]),
         ("run small.ctt phantom.txt --journal kept", ["small.ctt", "phantom.txt"]),
         ("audit small.ctt told --start s0.sol", ["small.ctt", "told", "s0.sol"]),
+        ("mend small.ctt s.sol --barred barred", ["small.ctt", "barred", "s.sol"]),
         ("crew small.ctt own", ["small.ctt", "own"]),
     ):
         Runs(room, shim, command.split(), read).check_all()

@@ -47,6 +47,8 @@ echo 'Barred: 2 alg A top A END.' >barred
 printf '%s\n' 'entry 0 1' 'place top B 0 2' done 'entry 1 1' 'slot 0 2' 'lectures 1 top B 0 2' 'entry 0 1' 'drop top 0' >torn
 # each line of a crew's planner, twice
 printf '%s\n' open open 'place geo A 0 1' 'place geo A 0 1' 'slot 0 1' 'slot 0 1' refresh refresh commit commit >twice
+# a solution of which some lectures are set aside
+printf '%s\n' 'alg A 0 0' 'alg B 1 0' 'geo B 0 0' 'geo A 1 2' 'top A 1 2' >mixed
 # a draft that is brought up to date, and one that turns out to be stale
 printf '%s\n' '0 open' '0 place geo A 0 1' '2 open' '2 slot 0 2' '1 open' '1 place top B 0 2' '1 commit' '0 refresh' '2 refresh' '0 slot 0 2' \
     '0 commit' >refreshed
@@ -129,7 +131,7 @@ for words in 'check small.ctt s.sol --json --barred barred' 'check small.ctt sma
     'check small.ctt s.sol --explain' 'check small.ctt s.sol --explain --json' 'week small.ctt s.sol' 'week small.ctt s.sol --course geo' \
     'page small.ctt s.sol' \
     'run small.ctt refreshed --barred barred --journal journal' 'audit small.ctt told --start s0.sol' \
-    'journal small.ctt torn' 'list small.ctt told --start s0.sol' 'crew small.ctt twice' frobnicate; do
+    'journal small.ctt torn' 'list small.ctt told --start s0.sol' 'mend small.ctt mixed --barred barred' 'crew small.ctt twice' frobnicate; do
     rm -f journal
     "$program" $words >out 2>err
     wanted=$?

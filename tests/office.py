@@ -20,6 +20,8 @@ PROGRAM = os.environ.get("PROGRAM", os.path.join(HERE, "crates/ctt_tool/out/ctt_
 SMALL = os.path.join(HERE, "examples/small.ctt")
 COMP07 = os.path.join(HERE, "examples/comp07.ctt")
 COMP07_SOL = os.path.join(HERE, "examples/comp07.sol")
+# what a desk without minutes says first
+NO_MINUTES = "timedesk: no minutes: what is committed ends with the desk\n"
 # where a sync takes no time, if there is such a place
 FAST = "/dev/shm" if os.path.isdir("/dev/shm") else None
 # a test that hangs is ended after so many seconds
@@ -197,14 +199,14 @@ def one_seat():
     check(
         "the seat -",
         call("desk", SMALL, "-", text=text),
-        (0, "opened\ndone\ncommitted 1\nlectures 1 geo A 0 1\nleft\n", "journal 1\ncosts 0 15 2 0\n"),
+        (0, "opened\ndone\ncommitted 1\nlectures 1 geo A 0 1\nleft\n", NO_MINUTES + "journal 1\ncosts 0 15 2 0\n"),
     )
     check(
         "a last line without an end counts, and its draft is given up",
         call("desk", SMALL, "-", text=b"open\nplace geo A 0 1"),
-        (0, "opened\ndone\n", "journal 0\ncosts 0 20 0 0\n"),
+        (0, "opened\ndone\n", NO_MINUTES + "journal 0\ncosts 0 20 0 0\n"),
     )
-    check("a seat without a line", call("desk", SMALL, "-"), (0, "", "journal 0\ncosts 0 20 0 0\n"))
+    check("a seat without a line", call("desk", SMALL, "-"), (0, "", NO_MINUTES + "journal 0\ncosts 0 20 0 0\n"))
     check(
         "an opening",
         call("desk", COMP07, "-", "--start", COMP07_SOL, text=b"show cost\n")[1].startswith("costs "),
@@ -275,6 +277,7 @@ def waits_for_nobody():
     process = subprocess.Popen(
         [PROGRAM, "desk", SMALL, *(s.path for s in seats)], stdout=subprocess.PIPE, stderr=subprocess.PIPE
     )
+    check("that there are no minutes is said before a line is read", process.stderr.readline().decode(), NO_MINUTES)
     seats[1].sit()
     check("the other seat is empty", seats[1].ask("open"), "opened")
     check("it can leave", seats[1].ask("leave"), "left")
@@ -294,14 +297,15 @@ def refusals():
     check("a seat twice", call("desk", SMALL, "-", "-"), (2, "", seats))
     check("no seat", call("desk", SMALL)[0], 2)
     nowhere = os.path.join(folder, "nowhere/0")
-    check("a seat that cannot be opened", call("desk", SMALL, nowhere), (3, "", f"timedesk: cannot read {nowhere}.in\n"))
+    unread = f"{NO_MINUTES}timedesk: cannot read {nowhere}.in\n"
+    check("a seat that cannot be opened", call("desk", SMALL, nowhere), (3, "", unread))
     there = os.path.join(folder, "there")
     with open(there + ".in", "w") as file:
         file.write("open\n")
     os.mkdir(there + ".out")
-    check("answers that cannot go", call("desk", SMALL, there), (3, "", "timedesk: cannot write\n"))
+    check("answers that cannot go", call("desk", SMALL, there), (3, "", NO_MINUTES + "timedesk: cannot write\n"))
     os.rmdir(there + ".out")
-    check("files are seats too", call("desk", SMALL, there), (0, "journal 0\ncosts 0 20 0 0\n", ""))
+    check("files are seats too", call("desk", SMALL, there), (0, "journal 0\ncosts 0 20 0 0\n", NO_MINUTES))
     with open(there + ".out") as file:
         check("answers in a file", file.read(), "opened\n")
     with open(minutes, "w") as file:
@@ -312,7 +316,8 @@ def refusals():
         check("are as they were", file.read(), "x")
     open(minutes, "w").close()
     text = b"open\ncommit\n"
-    check("an empty file serves", call("desk", SMALL, "-", "--minutes", minutes, text=text)[0], 0)
+    printed, said = "opened\ncommitted 1\n", "journal 1\ncosts 0 20 0 0\n"
+    check("an empty file serves", call("desk", SMALL, "-", "--minutes", minutes, text=text), (0, printed, said))
     with open(minutes) as file:
         check("minutes of a draft without a call", file.read(), "entry 0 0\n")
     nowhere = os.path.join(folder, "nowhere/minutes")
@@ -324,7 +329,7 @@ def refusals():
     check("a start that is refused", (status, printed, said), (1, "", "timedesk: solution S2 6\n"))
     with open(bad, "w") as file:
         file.write("alg A 0 1\ntop A 0 1\n")
-    check("an opening that is refused", call("desk", SMALL, "-", "--start", bad, text=text)[0], 1)
+    check("an opening that is refused", call("desk", SMALL, "-", "--start", bad, text=text), (1, "", "timedesk: opening 2 clash alg\n"))
 
 
 def full_disk():

@@ -93,6 +93,7 @@ Commands:
   desk     Keep a desk for planners at their terminals
   journal  Print the journal of the minutes of a desk
   list     Print the timetable after a journal as a solution
+  mend     Print a solution without the lectures that cannot be placed, each of which is said
   help     Print this message or the help of the given subcommand(s)
 
 Options:
@@ -109,6 +110,7 @@ Examples:
   timedesk desk comp07.ctt - --start comp07.sol
   timedesk journal comp07.ctt monday.minutes >monday.journal
   timedesk list comp07.ctt monday.journal --start comp07.sol >tuesday.sol
+  timedesk mend comp07.ctt comp07.sol >mended.sol
 
 Status: 0 where it is done, also where a report says that a solution is unlawful;
 1 where the content of a file is refused, a name is not in it, or an audit does not agree; 2 where the
@@ -267,8 +269,22 @@ Options:
 
 Example: timedesk list comp07.ctt monday.journal --start comp07.sol >tuesday.sol
 '
+mend_help='Print a solution without the lectures that cannot be placed, each of which is said
+
+Usage: timedesk mend [OPTIONS] <INSTANCE> <SOLUTION>
+
+Arguments:
+  <INSTANCE>  The file of the instance
+  <SOLUTION>  The file of the solution
+
+Options:
+      --barred <FILE>  The file of the rooms that are barred for courses; without it none is
+  -h, --help           Print help
+
+Example: timedesk mend comp07.ctt comp07.sol >mended.sol
+'
 no_words="error: 'timedesk' requires a subcommand but one was not provided
-  [subcommands: check, week, page, run, audit, crew, desk, journal, list, help]
+  [subcommands: check, week, page, run, audit, crew, desk, journal, list, mend, help]
 
 Usage: timedesk <COMMAND>
 
@@ -366,6 +382,7 @@ run 'help of crew' 0 "$crew_help" '' crew --help
 run 'help of desk' 0 "$desk_help" '' desk --help
 run 'help of journal' 0 "$journal_help" '' journal --help
 run 'help of list' 0 "$list_help" '' list --help
+run 'help of mend' 0 "$mend_help" '' mend --help
 run 'the version' 0 'timedesk 0.1.0
 ' '' --version
 
@@ -504,7 +521,7 @@ refuses_barred 'Barred: 0 END' 'B3 3'
 refuses_barred $'Barred: 1 top nowhere \xff' 'B1 22'
 # the file of the barred rooms is read behind the instance and before any other, whatever the command
 for words in 'check small.ctt nowhere' 'run small.ctt nowhere --start nowhere --journal unwritten' 'audit small.ctt nowhere --start nowhere' \
-    'crew small.ctt nowhere nowhere'; do
+    'crew small.ctt nowhere nowhere' 'mend small.ctt nowhere'; do
     # shellcheck disable=SC2086
     run "barred rooms that are refused: $words" 1 '' 'timedesk: barred B1 22
 ' $words --barred told.barred
@@ -551,7 +568,7 @@ run 'no journal' 2 '' "$no_journal" audit small.ctt
 run 'no script of a crew' 2 '' "$no_scripts" crew small.ctt
 run 'an option without its value' 2 '' "$no_value" run small.ctt phantom.txt --journal
 for words in 'check small.ctt s.sol' 'run small.ctt phantom.txt' 'audit small.ctt journal' 'crew small.ctt phantom.txt' \
-    'desk small.ctt -' 'journal small.ctt minutes' 'list small.ctt journal'; do
+    'desk small.ctt -' 'journal small.ctt minutes' 'list small.ctt journal' 'mend small.ctt s.sol'; do
     # shellcheck disable=SC2086
     run "barred rooms without a file: $words" 2 '' "${no_value/--journal/--barred}" $words --barred
 done
@@ -584,6 +601,54 @@ run 'a script without an end' 3 '' 'timedesk: too long /dev/zero
 ' run small.ctt /dev/zero --journal unwritten
 run 'a script of a crew without an end' 3 '' 'timedesk: too long /dev/zero
 ' crew small.ctt phantom.txt /dev/zero
+# mended solutions: the lines that are left, and those that are set aside, each with what stands against it. A desk opens with what is left
+mends() {
+    local name=$1 left=$2 aside=$3 said
+    shift 3
+    said=${aside//set aside/timedesk: set aside}
+    run "$name" 0 "$left" "$said" mend small.ctt "$@"
+    printf '%s' "$left" >mended.sol
+    run "$name, once more" 0 "$left" '' mend small.ctt mended.sol "${@:2}"
+    run "$name, as the start of a desk" 0 "$left" '' list small.ctt empty.journal --start mended.sol "${@:2}"
+}
+# The same of a solution that is given as its text.
+mends_text() {
+    printf '%s' "$2" >told.sol
+    mends "$1" "$3" "$4" told.sol
+}
+mends 'a lawful solution' "$(<s.sol)"$'\n' '' s.sol
+mends_text 'no lecture' '' '' ''
+mends_text 'a lawful solution in another order' 'top	B 0 2 geo A 1 02 alg A 0 0
+geo A 0 1 alg B 0001 0' "$(<s.sol)"$'\n' ''
+mends_text 'a lecture in a slot that is unavailable, behind which its room is free' 'geo B 0 0 top B 0 0' $'top B 0 0\n' 'set aside geo B 0 0 unavailable
+'
+mends_text 'a lecture too many' 'top B 0 0 top B 0 1' $'top B 0 0\n' 'set aside top B 0 1 full
+'
+mends_text 'a lecture that is set aside is none of its course' 'geo B 0 0 geo A 0 1 geo A 1 2' $'geo A 0 1\ngeo A 1 2\n' 'set aside geo B 0 0 unavailable
+'
+mends_text 'a lecture that clashes' 'top B 0 0 alg A 0 0' $'alg A 0 0\n' 'set aside top B 0 0 clash alg
+'
+mends_text 'a room that is taken' 'geo A 0 1 top A 0 1' $'geo A 0 1\n' 'set aside top A 0 1 roomtaken geo
+'
+mends_text 'several lectures, and others behind them' 'alg A 0 1 alg B 1 1 geo A 0 0 geo B 0 1 geo A 1 2 top A 1 2' $'alg A 0 1\nalg B 1 1\ngeo A 1 2\n' \
+    'set aside geo A 0 0 unavailable
+set aside geo B 0 1 clash alg
+set aside top A 1 2 roomtaken geo
+'
+echo 'Barred: 1 alg A END.' >barred
+mends 'a barred room' "$(tail -n 4 s.sol)"$'\n' 'set aside alg A 0 0 barred
+' s.sol --barred barred
+run 'a solution to mend with a repeated lecture' 1 '' 'timedesk: solution S8 8
+' mend small.ctt twice.sol
+run 'a solution to mend that is not UTF-8' 1 '' 'timedesk: solution S1 6
+' mend small.ctt bytes.sol
+run 'a solution to mend of an instance that is cut off' 1 '' 'timedesk: instance I2 14
+' mend cut.ctt nowhere
+run 'a solution to mend that is missing' 3 '' 'timedesk: cannot read nowhere
+' mend small.ctt nowhere
+run 'a solution to mend without an end' 3 '' 'timedesk: too long /dev/zero
+' mend small.ctt /dev/zero
+run 'no solution to mend' 2 '' "${no_solution/check/mend}" mend small.ctt
 # days of several planners
 head -n 4 s.sol >s0.sol
 
@@ -1335,7 +1400,8 @@ judge 'what the journal took the place of' $? 0 "$answers" ''
 mkfifo unread
 exec 3<>unread
 exec 4>unread 3>&-
-for words in 'check small.ctt s.sol' 'run small.ctt phantom.txt --journal unwritten' 'audit small.ctt refused' 'crew small.ctt alone alone' --help; do
+for words in 'check small.ctt s.sol' 'run small.ctt phantom.txt --journal unwritten' 'audit small.ctt refused' 'crew small.ctt alone alone' \
+    'mend small.ctt clash.sol' --help; do
     read -ra words <<<"$words"
     (exec -a timedesk "$program" "${words[@]}") >/dev/full 2>err
     status=$?

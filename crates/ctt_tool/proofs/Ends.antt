@@ -2,9 +2,10 @@
 use Rattle.std.proofs.Common.{◌≡◌, ◌≢◌, ◌≤◌, ◌∙◌, ◌⊎◌, refl, ap, sym, inl, inr, true, ⊎_elim, subst, ℕ, suc, Bool, List, [], Option, Result, Ok, Err, IfOk, IfErr, OnOk, OnErr, arith}
 use Rattle.std.specs.Global.{Global}
 use Rattle.std.specs.declared.string.String.{String}
-use Rattle.ctt_words.specs.Jobs.{faults_of}
+use Rattle.ctt_words.specs.Jobs.{IsJobOf, faults_of}
+use Rattle.ctt_words.specs.declared.job.Job.{Job}
 use Rattle.ctt_words.specs.declared.job.Task.{Task}
-use Rattle.ctt_words.specs.declared.job.Task.TheVariants.{Audit, Crew, Desk, Journal as Journals, Listing, Run, Show}
+use Rattle.ctt_words.specs.declared.job.Task.TheVariants.{Audit, Crew, Desk, Journal as Journals, Listing, Mending, Run, Show}
 use Rattle.ctt_files.specs.Faults.{MayHaveWritten, status_of}
 use Rattle.ctt_files.specs.Outcomes.{outcome_status}
 use Rattle.ctt_files.specs.Texts.{Held}
@@ -14,7 +15,7 @@ use Rattle.ctt_files.specs.declared.outcome.Outcome.{Outcome}
 use Rattle.ctt_files.specs.declared.outcome.Outcome.TheVariants.{Differs, Done, Incomplete, Unlawful}
 use Rattle.ctt_files.proofs.Causes.{three_is_one}
 use Rattle.ctt_tool.specs.Faults.{KeptUnless, SaysFault}
-use Rattle.ctt_tool.specs.Work.{DoesAsAsked, DoesTask}
+use Rattle.ctt_tool.specs.Work.{DoesAsAsked, DoesTask, WarnsAsAsked, WarnsOfTask}
 use Rattle.ctt_tool.proofs.Known.{says_caused}
 
 -- how a job ended is known by the status
@@ -104,6 +105,15 @@ pub on_ok_too : {T E : Type 0} (r : Result T E) (P : Type 0) → P → OnOk r P
 on_ok_too (Ok value) P holds = holds
 on_ok_too (Err fault) P holds = tt
 
+-- and where it fails
+pub on_err_too : {T E : Type 0} (r : Result T E) (P : Type 0) → P → OnErr r P
+on_err_too (Ok value) P holds = tt
+on_err_too (Err fault) P holds = holds
+
+pub on_err_weaker : {T E : Type 0} (r : Result T E) (P Q : Type 0) → (P → Q) → OnErr r P → OnErr r Q
+on_err_weaker (Ok value) P Q more holds = tt
+on_err_weaker (Err fault) P Q more holds = more holds
+
 -- and what fails in one way alone has its cause
 pub failed_so : {T : Type 0} (r : Result T Fault) (F : Fault → Type 0) (P : Type 0) (Q : Fault → Type 0) → IfErr r F → OnErr r P → ((fault : Fault) → F fault → P → Q fault) → IfErr r Q
 failed_so (Ok value) F P Q is holds gives = tt
@@ -119,6 +129,7 @@ task_kept instance barred (Crew scripts) outcome before after old new does other
 task_kept instance barred (Desk seats start minutes) outcome before after old new does other = absurd (other does.0)
 task_kept instance barred (Journals minutes) outcome before after old new does other = absurd (other does.0)
 task_kept instance barred (Listing journal start) outcome before after old new does other = does.0
+task_kept instance barred (Mending solution) outcome before after old new does other = absurd (other does.0)
 
 pub other_kept : (words : List (List ℕ)) (outcome : Outcome) (before after : Held) (old new : Option (List ℕ)) → DoesAsAsked words outcome before after old new → outcome ≢ Done → after ≡ before
 other_kept words outcome before after old new (inl help) other = help.2
@@ -193,8 +204,16 @@ pub unsaid_other : (outcome : Outcome) (A S : Type 0) → (A × (outcome ≡ Don
 unsaid_other outcome A S (inl says) other = absurd (other says.1)
 unsaid_other outcome A S (inr same) other = same
 
--- what is said behind a job that said nothing, or could not, is said behind what was there before
-pub said_since : {V : Type 0} (taken : V → Option (List ℕ)) (failed : V → Bool) (C : Fault → Type 0) (status : ℕ) (old mid new : V) → (mid ≡ old) ⊎ (failed mid ≡ true) → (failed mid ≡ true → failed new ≡ true)
-    → (failed new ≡ true) ⊎ SaysFault C status (taken mid) (taken new) → (failed new ≡ true) ⊎ SaysFault C status (taken old) (taken new)
-said_since taken failed C status old mid new (inl same) marked said = subst (λ v. (failed new ≡ true) ⊎ SaysFault C status (taken v) (taken new)) same said
-said_since taken failed C status old mid new (inr marks) marked said = inl (marked marks)
+-- a fault is said behind what a job has said, unless it could not say that
+pub said_since : {V : Type 0} (taken : V → Option (List ℕ)) (failed : V → Bool) (C : Fault → Type 0) (status : ℕ) (words : List (List ℕ)) (old mid new : V)
+    → (failed mid ≡ true) ⊎ WarnsAsAsked words (taken old) (taken mid) → (failed mid ≡ true → failed new ≡ true) → (failed new ≡ true) ⊎ SaysFault C status (taken mid) (taken new)
+    → (failed new ≡ true) ⊎ ((warned : Option (List ℕ)) × WarnsAsAsked words (taken old) warned × SaysFault C status warned (taken new))
+said_since taken failed C status words old mid new (inl marks) marked said = inl (marked marks)
+said_since taken failed C status words old mid new (inr warns) marked said = ⊎_elim inl (λ fault. inr (taken mid, warns, fault)) said
+
+-- what a job has said, by the words that ask for it
+pub warned_as_asked : {V : Type 0} (taken : V → Option (List ℕ)) (failed : V → Bool) (words : List (List ℕ)) (job : Job) (old new : V) → IsJobOf words job
+    → (new ≡ old) ⊎ ((failed new ≡ true) ⊎ WarnsOfTask job.task (taken old) (taken new)) → (failed new ≡ true) ⊎ WarnsAsAsked words (taken old) (taken new)
+warned_as_asked taken failed words job old new is (inl same) = inr (inl (ap taken same))
+warned_as_asked taken failed words job old new is (inr (inl marks)) = inl marks
+warned_as_asked taken failed words job old new is (inr (inr warns)) = inr (inr (job, is, warns))

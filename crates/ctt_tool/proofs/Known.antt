@@ -6,7 +6,7 @@ use Rattle.std.specs.declared.string.String.{String}
 use Rattle.ctt_words.specs.Jobs.{AreRefused, IsFaultOf, IsJobOf, IsRequest, faults_of}
 use Rattle.ctt_words.specs.declared.job.Job.{Job}
 use Rattle.ctt_words.specs.declared.job.Task.{Task}
-use Rattle.ctt_words.specs.declared.job.Task.TheVariants.{Audit, Crew, Desk, Journal as Journals, Listing, Run, Show}
+use Rattle.ctt_words.specs.declared.job.Task.TheVariants.{Audit, Crew, Desk, Journal as Journals, Listing, Mending, Run, Show}
 use Rattle.ctt_words.specs.declared.job.WordsFault.{WordsFault}
 use Rattle.ctt_words.specs.declared.job.WordsFault.TheVariants as no
 use Rattle.ctt_words.specs.declared.job.WordsFault.TheVariants.{Help, Refused}
@@ -14,7 +14,8 @@ use Rattle.ctt_files.specs.Faults.{IfUnwritten, IsLineOf, status_of}
 use Rattle.ctt_files.specs.Texts.{Held}
 use Rattle.ctt_files.specs.declared.fault.Fault.{Fault}
 use Rattle.ctt_files.specs.declared.fault.Fault.TheVariants.{BadSeats, Barred, CannotRead, CannotWrite, Instance, Journal, MinutesExist, NoCourse, NoCurriculum, NoMemory, NoPlace, NoRoom, NoTeacher, NoThread, NotYours, Opening, Solution, TooLong, TooManyScripts, Words, WordsNotText}
-use Rattle.ctt_files.proofs.Plain.{IsPlain, behind_plain, unwritten_more}
+use Rattle.ctt_files.specs.Refusals.{IsOfSolution}
+use Rattle.ctt_files.proofs.Plain.{IsPlain, behind_plain, solution_file_plain, unwritten_more}
 use Rattle.ctt_reports.specs.Showings.{whose_of}
 use Rattle.ctt_reports.proofs.LookLemmas.{look_plain}
 use Rattle.ctt_tool.specs.Faults.{KeptUnless, SaysFault}
@@ -62,6 +63,7 @@ task_plain instance barred (Desk seats start minutes) held fault (inl (inr exist
 task_plain instance barred (Desk seats start minutes) held fault (inr other) = inl (behind_plain (IsOfSeats seats.items start) (seats_plain seats.items start) held instance barred fault other)
 task_plain instance barred (Journals minutes) held fault is = inl (behind_plain (IsOfMinutes minutes) (minutes_plain minutes) held instance barred fault is)
 task_plain instance barred (Listing journal start) held fault is = inl (behind_plain (IsOfAudited journal start) (audited_plain journal start) held instance barred fault is)
+task_plain instance barred (Mending solution) held fault is = inl (behind_plain (IsOfSolution solution) (solution_file_plain solution) held instance barred fault is)
 
 job_plain : (job : Job) (held : Held) (fault : Fault) → IsOfJob job held fault → IsPlain fault ⊎ IsSpecial job.task fault
 job_plain job held fault is = task_plain job.instance job.barred job.task held fault is

@@ -1,5 +1,5 @@
 -- What the commands of an office print, and why they do not.
-use Rattle.std.proofs.Common.{◌≡◌, ◌<◌, ◌⊎◌, ⊎_elim, inl, inr, arith, get_or, zero, suc, sym, subst, ℕ, List, [], ◌∷◌, Option, length}
+use Rattle.std.proofs.Common.{◌≡◌, ◌<◌, ◌⊎◌, inl, inr, arith, get_or, zero, suc, sym, subst, ℕ, List, [], ◌∷◌, Option, length}
 use Rattle.std.specs.Global.{Global}
 use Rattle.std.specs.String.{string_bytes}
 use Rattle.std.specs.declared.string.String.{String}
@@ -11,19 +11,8 @@ use Rattle.ctt_files.specs.Texts.{Held, Holds, IsStart}
 use Rattle.ctt_files.specs.declared.fault.Fault.{Fault}
 use Rattle.ctt_files.specs.declared.fault.Fault.TheVariants.{NoMemory}
 use Rattle.ctt_files.proofs.Plain.{IsPlain, memory_of_file, plain_written}
-use Rattle.ctt_tool.specs.Desks.{PrintsLast, SaysLast, TellsLast}
 use Rattle.ctt_tool.specs.Refusals.{IsLeftFault, IsNoMinutes, IsOfAudited, IsOfMinutes, IsOfWork, IsUnread, IsUnreadAt, IsUnreadOf}
 use Rattle.ctt_tool.specs.Texts.{IsJournalText}
-
--- where the last lines are told, they are printed, or nothing is
-pub last_printed : (instance : String Global) (barred : Option (String Global)) (seats : List (String Global)) (start : Option (String Global)) (held : Held) (old new said_old said_new : Option (List ℕ))
-    → TellsLast instance barred seats start held old new said_old said_new → PrintsLast instance barred seats start held old new
-last_printed instance barred seats start held old new said_old said_new told = ⊎_elim (λ printed. inl (printed.0, (told.0, told.1, printed.1.0))) (λ said. inr (said.0, said.1.1)) told.2
-
--- and so is what is said
-pub last_said : (instance : String Global) (barred : Option (String Global)) (seats : List (String Global)) (start : Option (String Global)) (held : Held) (old new said_old said_new : Option (List ℕ))
-    → TellsLast instance barred seats start held old new said_old said_new → SaysLast instance barred seats start held said_old said_new
-last_said instance barred seats start held old new said_old said_new told = ⊎_elim (λ printed. inl (printed.0, printed.1.1)) (λ said. inr (said.0, (told.0, told.1, said.1.0))) told.2
 
 -- why the timetable is not printed that entries leave, by the files
 pub left_in : (problem : Problem) (journal : String Global) (start : Option (String Global)) (held : Held) (entries : List JournalEntry) (lectures : List Placed) (fault : Fault) → Holds held journal (λ text. IsJournalText problem text entries)

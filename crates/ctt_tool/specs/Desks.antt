@@ -1,5 +1,5 @@
 -- What the command `desk` prints, and which texts it refuses.
-use Rattle.std.specs.Prelude.{◌≡◌, ◌⊎◌, ℕ, false, true, List, [], Option, Ok}
+use Rattle.std.specs.Prelude.{◌≡◌, ◌⊎◌, ℕ, Bool, false, true, List, [], Option, Ok, codes, is_some}
 use Rattle.std.specs.Global.{Global}
 use Rattle.std.specs.Io.KnownBytes.{Appends}
 use Rattle.std.specs.declared.string.String.{String}
@@ -33,12 +33,17 @@ abbrev pub PrintsLast : String Global → Option (String Global) → List (Strin
 PrintsLast instance barred seats start held old new =
     ((has_standard seats ≡ false) × ((bytes : List ℕ) × IsOfDeskOn instance barred start held bytes × Appends old new bytes)) ⊎ ((has_standard seats ≡ true) × (new ≡ old))
 
--- such lines are said on standard error where standard output is a seat, and else nothing is
-abbrev pub SaysLast : String Global → Option (String Global) → List (String Global) → Option (String Global) → Held → Option (List ℕ) → Option (List ℕ) → Type 0
-SaysLast instance barred seats start held old new =
-    ((has_standard seats ≡ false) × (new ≡ old)) ⊎ ((has_standard seats ≡ true) × ((bytes : List ℕ) × IsOfDeskOn instance barred start held bytes × Appends old new bytes))
+-- what is said before the first line of a seat is read: where no minutes are written, that nothing stays
+abbrev pub Warns : Bool → Option (List ℕ) → Option (List ℕ) → Type 0
+Warns true old new = new ≡ old
+Warns false old new = Appends old new (codes "timedesk: no minutes: what is committed ends with the desk\n")
 
--- such lines are printed, and nothing is said on standard error; where standard output is a seat they are said there, and nothing is printed
-abbrev pub TellsLast : String Global → Option (String Global) → List (String Global) → Option (String Global) → Held → Option (List ℕ) → Option (List ℕ) → Option (List ℕ) → Option (List ℕ) → Type 0
-TellsLast instance barred seats start held old new said_old said_new = (bytes : List ℕ) × IsOfDeskOn instance barred start held bytes
-    × (((has_standard seats ≡ false) × (Appends old new bytes × (said_new ≡ said_old))) ⊎ ((has_standard seats ≡ true) × (Appends said_old said_new bytes × (new ≡ old))))
+-- so is said on standard error, and then such lines where standard output is a seat, and else nothing
+abbrev pub SaysLast : String Global → Option (String Global) → List (String Global) → Option (String Global) → Option (String Global) → Held → Option (List ℕ) → Option (List ℕ) → Type 0
+SaysLast instance barred seats start minutes held old new = (warned : Option (List ℕ)) × Warns (is_some minutes) old warned
+    × (((has_standard seats ≡ false) × (new ≡ warned)) ⊎ ((has_standard seats ≡ true) × ((bytes : List ℕ) × IsOfDeskOn instance barred start held bytes × Appends warned new bytes)))
+
+-- these lines are printed, and nothing is said on standard error; where standard output is a seat they are said there, and nothing is printed
+abbrev pub TellsLines : Bool → List ℕ → Option (List ℕ) → Option (List ℕ) → Option (List ℕ) → Option (List ℕ) → Type 0
+TellsLines false bytes old new said_old said_new = Appends old new bytes × (said_new ≡ said_old)
+TellsLines true bytes old new said_old said_new = Appends said_old said_new bytes × (new ≡ old)

@@ -3,7 +3,7 @@ use Rattle.std.specs.Prelude.{List, [], Option, Some, None}
 use Rattle.std.specs.Global.{Global}
 use Rattle.std.specs.declared.string.String.{String}
 use Rattle.ctt_words.specs.declared.job.Task.{Task}
-use Rattle.ctt_words.specs.declared.job.Task.TheVariants.{Crew, Desk, Journal, Run}
+use Rattle.ctt_words.specs.declared.job.Task.TheVariants.{Crew, Desk, Journal, Mending, Run}
 use Rattle.ctt_tool.specs.Seats.{AreBadSeats}
 
 -- a file is given
@@ -32,8 +32,9 @@ abbrev pub stored_by : Task → Option (String Global)
 stored_by (Run script start journal) = journal
 stored_by task = None
 
--- the task may say something on standard error where it is done: a desk whose standard output is a seat, and a torn entry of minutes
+-- the task may say something on standard error where it is done: a desk whose standard output is a seat, a torn entry of minutes, and lectures that are set aside
 abbrev pub Saying : Task → Type 0
 Saying (Desk seats start minutes) = Unit {0}
 Saying (Journal minutes) = Unit {0}
+Saying (Mending solution) = Unit {0}
 Saying task = ⊥

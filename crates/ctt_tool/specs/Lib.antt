@@ -9,4 +9,5 @@ pub mod Crews
 pub mod Work
 pub mod Desks
 pub mod Lists
+pub mod Mends
 pub mod Served

@@ -12,7 +12,7 @@ use Rattle.ctt_script.specs.JournalText.{IsJournalCauseOf}
 use Rattle.ctt_office.specs.Recovery.{IsMinutesFault}
 use Rattle.ctt_office.specs.declared.office_fault.OfficeFault.{OfficeFault}
 use Rattle.ctt_office.specs.declared.office_fault.OfficeFault.TheVariants as office
-use Rattle.ctt_files.specs.Refusals.{IsNoText, IsOfFiles, IsOfInstanceOr, IsOfStart, IsOfText, IsTooLong}
+use Rattle.ctt_files.specs.Refusals.{IsNoText, IsOfFiles, IsOfInstanceOr, IsOfSolution, IsOfStart, IsOfText, IsTooLong}
 use Rattle.ctt_files.specs.Texts.{Held, Holds, IsStart}
 use Rattle.ctt_files.specs.declared.fault.Fault.{Fault}
 use Rattle.ctt_files.specs.declared.fault.Fault.TheVariants.{BadSeats, CannotRead, CannotWrite, MinutesExist, NoMemory, NoPlace, NoThread, NotYours, TooLong, TooManyScripts}
@@ -70,6 +70,9 @@ IsOfAudit held instance barred journal start = IsOfInstanceOr (IsOfAudited journ
 
 abbrev pub IsOfCrew : Held → String Global → Option (String Global) → List (String Global) → Fault → Type 0
 IsOfCrew held instance barred scripts fault = ((fault ≡ TooManyScripts) × (64 < length scripts)) ⊎ IsOfInstanceOr (IsOfScripts scripts) held instance barred fault
+
+abbrev pub IsOfMending : Held → String Global → Option (String Global) → String Global → Fault → Type 0
+IsOfMending held instance barred solution = IsOfInstanceOr (IsOfSolution solution) held instance barred
 
 -- reading minutes meets the fault, and in the file of minutes
 abbrev pub IsNoMinutes : Problem → List ℕ → Fault → Type 0

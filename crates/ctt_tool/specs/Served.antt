@@ -5,7 +5,7 @@ use Rattle.ctt_files.specs.declared.fault.Fault.TheVariants.{WordsNotText, NoMem
 use Rattle.ctt_files.specs.declared.outcome.Outcome.TheVariants.{Done, Differs, Unlawful, Incomplete}
 use Rattle.ctt_words.specs.Jobs.{faults_of}
 use Rattle.ctt_tool.specs.Faults.{SaysFault}
-use Rattle.ctt_tool.specs.Work.{DoesAsAsked, EndsAsDone, AsksForRefusedText, AsksToStore, AsksToSay, SaysAsAsked, KeepAsAsked, AreTurnedDown, HasCause}
+use Rattle.ctt_tool.specs.Work.{DoesAsAsked, EndsAsDone, AsksForRefusedText, AsksToStore, AsksToSay, SaysAsAsked, KeepAsAsked, AreTurnedDown, HasCause, WarnsAsAsked}
 
 -- what the program has done for these words, by the status with which it ends: of standard output `taken` says what it took, and
 -- `failed` whether it failed; of standard error `told` and `broken` say so
@@ -18,7 +18,8 @@ pub record IsServed {W V : Type 0} (taken : W → Option (List ℕ)) (failed : W
   pub five : status ≡ 5 → DoesAsAsked words Incomplete before after (taken out) (taken new_out) × (new_err ≡ err)
   pub found : status ≡ 1 → faults_of words ≡ []
   pub refused : status ≡ 2 → AreTurnedDown words
-  pub said : status ≢ 0 → EndsAsDone words status before after (taken out) (taken new_out) ⊎ ((broken new_err ≡ true) ⊎ SaysFault (HasCause words before (failed new_out)) status (told err) (told new_err))
+  pub said : status ≢ 0 → EndsAsDone words status before after (taken out) (taken new_out) ⊎ ((broken new_err ≡ true)
+      ⊎ ((warned : Option (List ℕ)) × WarnsAsAsked words (told err) warned × SaysFault (HasCause words before (failed new_out)) status warned (told new_err)))
   pub unstored : status ≢ 0 → (after ≡ before) ⊎ ((status ≡ 3) × ((failed new_out ≡ failed out) × AsksToStore words))
   pub others : KeepAsAsked words before after
 

@@ -1,5 +1,5 @@
 -- What the program has done where it ends well, and what was the cause where it did not.
-use Rattle.std.specs.Prelude.{◌≡◌, ◌⊎◌, ◌<◌, ℕ, Bool, true, List, [], Option, length, map}
+use Rattle.std.specs.Prelude.{◌≡◌, ◌⊎◌, ◌<◌, ℕ, Bool, true, List, [], Option, is_some, length, map}
 use Rattle.std.specs.Borrow.{Bor}
 use Rattle.std.specs.Global.{Global}
 use Rattle.std.specs.Io.KnownBytes.{Appends}
@@ -11,7 +11,7 @@ use Rattle.ctt_words.specs.declared.job.WordsFault.TheVariants as no
 use Rattle.ctt_words.specs.declared.job.WordsFault.TheVariants.{Help, Refused}
 use Rattle.ctt_words.specs.declared.job.Job.{Job}
 use Rattle.ctt_words.specs.declared.job.Task.{Task}
-use Rattle.ctt_words.specs.declared.job.Task.TheVariants.{Audit, Crew, Desk, Journal, Listing, Run, Show}
+use Rattle.ctt_words.specs.declared.job.Task.TheVariants.{Audit, Crew, Desk, Journal, Listing, Mending, Run, Show}
 use Rattle.ctt_reports.specs.Showings.{IsOfShowing, ShowsSolution}
 use Rattle.ctt_files.specs.Faults.{status_of}
 use Rattle.ctt_files.specs.Outcomes.{outcome_status}
@@ -22,10 +22,11 @@ use Rattle.ctt_files.specs.declared.outcome.Outcome.{Outcome}
 use Rattle.ctt_files.specs.declared.outcome.Outcome.TheVariants.{Done}
 use Rattle.ctt_tool.specs.Audits.{AuditsJournal}
 use Rattle.ctt_tool.specs.Crews.{PrintsCrew}
-use Rattle.ctt_tool.specs.Desks.{PrintsLast, SaysLast}
+use Rattle.ctt_tool.specs.Desks.{PrintsLast, SaysLast, Warns}
 use Rattle.ctt_tool.specs.Jobs.{HasBadSeats, Saying, Storing, scripts_of, stored_by}
 use Rattle.ctt_tool.specs.Lists.{ListsJournal, PrintsJournal, SaysTornOf}
-use Rattle.ctt_tool.specs.Refusals.{IsOfAudit, IsOfCrew, IsOfDesk, IsOfRecovery, IsOfRun}
+use Rattle.ctt_tool.specs.Mends.{PrintsMendedOf, SaysAsideOf}
+use Rattle.ctt_tool.specs.Refusals.{IsOfAudit, IsOfCrew, IsOfDesk, IsOfMending, IsOfRecovery, IsOfRun}
 use Rattle.ctt_tool.specs.Runs.{KeepOthers, RunsScript}
 
 -- the task is done with this instance over these files, where they tell their bytes; its answer is printed, and the program ends as it says
@@ -44,15 +45,18 @@ DoesTask instance barred (Journal minutes) outcome before after old new = (outco
     × (after ≡ before) × PrintsJournal instance barred minutes before old new
 DoesTask instance barred (Listing journal start) outcome before after old new = (after ≡ before)
     × ListsJournal instance barred journal start outcome before old new
+DoesTask instance barred (Mending solution) outcome before after old new = (outcome ≡ Done)
+    × (after ≡ before) × PrintsMendedOf instance barred solution before old new
 
 -- and so is the job
 abbrev pub DoesJob : Job → Outcome → Held → Held → Option (List ℕ) → Option (List ℕ) → Type 0
 DoesJob job outcome before after old new = DoesTask job.instance job.barred job.task outcome before after old new
 
--- what is said on standard error where the task is done: the last lines of a desk, or where an entry is torn, and else nothing
+-- what is said on standard error where the task is done: the last lines of a desk, where an entry is torn, or which lectures are set aside, and else nothing
 abbrev pub SaysOfTask : String Global → Option (String Global) → Task → Held → Option (List ℕ) → Option (List ℕ) → Type 0
-SaysOfTask instance barred (Desk seats start minutes) held old new = SaysLast instance barred seats.items start held old new
+SaysOfTask instance barred (Desk seats start minutes) held old new = SaysLast instance barred seats.items start minutes held old new
 SaysOfTask instance barred (Journal minutes) held old new = SaysTornOf instance barred minutes held old new
+SaysOfTask instance barred (Mending solution) held old new = SaysAsideOf instance barred solution held old new
 SaysOfTask instance barred task held old new = new ≡ old
 
 -- the texts of words that are lent
@@ -77,6 +81,7 @@ IsOfTask instance barred (Crew scripts) held fault = IsOfCrew held instance barr
 IsOfTask instance barred (Desk seats start minutes) held fault = IsOfDesk held instance barred seats.items start minutes fault
 IsOfTask instance barred (Journal minutes) held fault = IsOfRecovery held instance barred minutes fault
 IsOfTask instance barred (Listing journal start) held fault = IsOfAudit held instance barred journal start fault
+IsOfTask instance barred (Mending solution) held fault = IsOfMending held instance barred solution fault
 
 -- and so may the job
 abbrev pub IsOfJob : Job → Held → Fault → Type 0
@@ -117,6 +122,15 @@ AsksToSay words = (job : Job) × IsJobOf words job × Saying job.task
 -- nothing is said, or what the job says for which the words ask
 abbrev pub SaysAsAsked : List (List ℕ) → Held → Option (List ℕ) → Option (List ℕ) → Type 0
 SaysAsAsked words held old new = (new ≡ old) ⊎ ((job : Job) × IsJobOf words job × SaysOfTask job.instance job.barred job.task held old new)
+
+-- what has been said where the task is not done: that a desk has no minutes, and else nothing
+abbrev pub WarnsOfTask : Task → Option (List ℕ) → Option (List ℕ) → Type 0
+WarnsOfTask (Desk seats start minutes) old new = Warns (is_some minutes) old new
+WarnsOfTask task old new = new ≡ old
+
+-- nothing has been said, or what the job has said for which the words ask
+abbrev pub WarnsAsAsked : List (List ℕ) → Option (List ℕ) → Option (List ℕ) → Type 0
+WarnsAsAsked words old new = (new ≡ old) ⊎ ((job : Job) × IsJobOf words job × WarnsOfTask job.task old new)
 
 -- help is given, or the version
 abbrev pub GivesHelp : WordsFault → Type 0

@@ -7,7 +7,7 @@ ghost use Rattle.ctt_files.specs.Faults.{IfUnwritten, MayHaveWritten};
 ghost use Rattle.ctt_files.specs.Refusals.{IsOfInstanceOr};
 ghost use Rattle.ctt_files.specs.declared.fault.Fault.TheVariants.{BadSeats, CannotWrite, NoMemory};
 ghost use Rattle.ctt_files.specs.declared.outcome.Outcome.TheVariants.{Done};
-ghost use Rattle.ctt_tool.specs.Desks.{IsOfDeskFrom, IsOfDeskOn, IsOpenOn, TellsLast};
+ghost use Rattle.ctt_tool.specs.Desks.{IsOfDeskFrom, IsOfDeskOn, IsOpenOn, PrintsLast, SaysLast, TellsLines, Warns};
 ghost use Rattle.ctt_tool.specs.Refusals.{IsOfDesk, IsOfOldMinutes, IsOfOpening, IsOfSeats, IsOfWork, IsToldOf, IsUnread, IsUnreadAt};
 ghost use Rattle.ctt_tool.specs.Seats.{has_seat, has_twice};
 
@@ -17,7 +17,7 @@ use crate::refused::refused_opening;
 use ctt_board::{GridSheet, Sheet};
 use ctt_desk::{Opened, SharedFault};
 use ctt_devices::Sink;
-use ctt_files::{Fault, Files, Outcome, fetch_instance, fetch_start};
+use ctt_files::{Fault, Files, Outcome, complain, fetch_instance, fetch_start};
 use ctt_office::{OfficeFault, keep_desk};
 use ctt_text::{Instance, let_go};
 use std::alloc::{AllocError, Global};
@@ -27,6 +27,9 @@ use std::thread::Threads;
 
 /// The most seats that a desk may have.
 const SEAT_LIMIT: usize = 64;
+
+/// What is said at a desk without minutes.
+const NO_MINUTES: &str = "timedesk: no minutes: what is committed ends with the desk\n";
 
 /// Whether one of the seats has this name.
 fn has_seat(seats: &[String], name: &str) -> bool
@@ -135,12 +138,24 @@ fn minutes_in<O: Office>(office: &O, minutes: Option<String>) -> Result<Option<O
     }
 }
 
-/// Keeps a desk of the instance until all have left, and gives the last lines.
-fn keep<R: Threads + Wait + Sync, F: Files, O: Office>(
+/// Says that what is committed ends with the desk, unless minutes are written.
+fn warn<V: Sink>(err: &mut V, is_written: bool)
+    ensures { (V.has_failed err.new ≡ true)
+        ⊎ Warns is_written (V.taken err.old) (V.taken err.new) }
+{
+    if !is_written {
+        complain(err, NO_MINUTES.as_bytes());
+    }
+}
+
+/// Keeps a desk of the instance until all have left, and gives the last lines. If there are no
+/// minutes, that is said on standard error before the first line of a seat is read.
+fn keep<R: Threads + Wait + Sync, F: Files, O: Office, V: Sink>(
     rt: &R,
     alloc: Global,
     files: &mut F,
     office: &O,
+    err: &mut V,
     instance: &Instance,
     seats: &[String],
     start: Option<String>,
@@ -154,7 +169,12 @@ fn keep<R: Threads + Wait + Sync, F: Files, O: Office>(
     ensures cause { IfErr result (λ fault. IfUnwritten fault
         (Unit {0})
         (IsOfSeats seats.now start (F.held files.old) instance.now fault)) }
+    ensures says { OnOk result ((V.has_failed err.new ≡ true)
+        ⊎ Warns (is_some minutes) (V.taken err.old) (V.taken err.new)) }
+    ensures said { OnErr result ((err.new ≡ err.old) ⊎ ((V.has_failed err.new ≡ true)
+        ⊎ Warns (is_some minutes) (V.taken err.old) (V.taken err.new))) }
 {
+    let is_written = minutes.is_some();
     let opened = open_on::<GridSheet, F>(alloc, files, instance, start)?;
     let writer = match minutes_in(office, minutes) {
         Ok(writer) => writer,
@@ -163,6 +183,7 @@ fn keep<R: Threads + Wait + Sync, F: Files, O: Office>(
             return Err(fault);
         }
     };
+    warn(err, is_written);
     match keep_desk(rt, alloc, instance, opened, seats, office, writer) {
         Ok(text) => Ok(text),
         Err(fault) => Err(fault_of_office(alloc, seats, fault)),
@@ -170,11 +191,12 @@ fn keep<R: Threads + Wait + Sync, F: Files, O: Office>(
 }
 
 /// The same of the instance in a file. It is read first, then the barred rooms, and then the start.
-fn report<R: Threads + Wait + Sync, F: Files, O: Office>(
+fn report<R: Threads + Wait + Sync, F: Files, O: Office, V: Sink>(
     rt: &R,
     alloc: Global,
     files: &mut F,
     office: &O,
+    err: &mut V,
     instance: String,
     barred: Option<String>,
     seats: &[String],
@@ -189,11 +211,40 @@ fn report<R: Threads + Wait + Sync, F: Files, O: Office>(
     ensures cause { IfErr result (λ fault. IfUnwritten fault
         (Unit {0})
         (IsOfInstanceOr (IsOfSeats seats.now start) (F.held files.old) instance barred fault)) }
+    ensures says { OnOk result ((V.has_failed err.new ≡ true)
+        ⊎ Warns (is_some minutes) (V.taken err.old) (V.taken err.new)) }
+    ensures said { OnErr result ((err.new ≡ err.old) ⊎ ((V.has_failed err.new ≡ true)
+        ⊎ Warns (is_some minutes) (V.taken err.old) (V.taken err.new))) }
 {
     let instance = fetch_instance(alloc, files, instance, barred)?;
-    let kept = keep(rt, alloc, files, office, &instance, seats, start, minutes);
+    let kept = keep(
+        rt, alloc, files, office, err, &instance, seats, start, minutes,
+    );
     let_go(instance);
     kept
+}
+
+/// Prints the last lines of a desk, or says them on standard error where standard output is a seat.
+fn print_report<W: Sink, V: Sink>(
+    out: &mut W,
+    err: &mut V,
+    report: &[u8],
+    is_seat: bool,
+) -> Result<Outcome, Fault>
+    ensures tells { OnOk result
+        (TellsLines is_seat report.now (W.taken out.old) (W.taken out.new)
+        (V.taken err.old) (V.taken err.new)) }
+    ensures done { IfOk result (λ outcome. outcome ≡ Done) }
+    ensures unmarked { OnOk result ((W.has_failed out.new ≡ W.has_failed out.old)
+        × (V.has_failed err.new ≡ V.has_failed err.old)) }
+    ensures cause { IfErr result (λ fault. fault ≡ CannotWrite) }
+    ensures unsaid { OnErr result ((err.new ≡ err.old) ⊎ (V.has_failed err.new ≡ true)) }
+{
+    if is_seat {
+        print_last(err, report)
+    } else {
+        print_last(out, report)
+    }
 }
 
 /// Keeps a desk of an instance with these seats until all planners have left, and prints how many drafts were accepted
@@ -213,8 +264,11 @@ pub fn desk<R: Threads + Wait + Sync, F: Files, O: Office, W: Sink, V: Sink>(
     minutes: Option<String>,
 ) -> Result<Outcome, Fault>
     requires { 1 ≤ length seats.items }
-    ensures tells { OnOk result (TellsLast instance barred seats.items start (F.held files.old)
-        (W.taken out.old) (W.taken out.new) (V.taken err.old) (V.taken err.new)) }
+    ensures prints { OnOk result (PrintsLast instance barred seats.items start (F.held files.old)
+        (W.taken out.old) (W.taken out.new)) }
+    ensures says { OnOk result ((V.has_failed err.new ≡ true)
+        ⊎ SaysLast instance barred seats.items start minutes (F.held files.old)
+        (V.taken err.old) (V.taken err.new)) }
     ensures done { IfOk result (λ outcome. outcome ≡ Done) }
     ensures many { 64 < length seats.items → result ≡ Err BadSeats }
     ensures twice { has_twice seats.items ≡ true → result ≡ Err BadSeats }
@@ -225,18 +279,15 @@ pub fn desk<R: Threads + Wait + Sync, F: Files, O: Office, W: Sink, V: Sink>(
         (IsOfDesk (F.held files.old) instance barred seats.items start minutes fault
         × (W.has_failed out.new ≡ W.has_failed out.old))) }
     ensures unwritten { IfErr result (λ fault. MayHaveWritten fault ⊎ (out.new ≡ out.old)) }
-    ensures unsaid { OnErr result ((err.new ≡ err.old) ⊎ (V.has_failed err.new ≡ true)) }
+    ensures unsaid { OnErr result ((err.new ≡ err.old) ⊎ ((V.has_failed err.new ≡ true)
+        ⊎ Warns (is_some minutes) (V.taken err.old) (V.taken err.new))) }
 {
     if seats.len() > SEAT_LIMIT || has_twice(&seats) {
         return Err(Fault::BadSeats);
     }
     let minutes = unused(office, minutes)?;
     let report = report(
-        rt, alloc, files, office, instance, barred, &seats, start, minutes,
+        rt, alloc, files, office, err, instance, barred, &seats, start, minutes,
     )?;
-    if has_seat(&seats, STANDARD) {
-        print_last(err, &report)
-    } else {
-        print_last(out, &report)
-    }
+    print_report(out, err, &report, has_seat(&seats, STANDARD))
 }

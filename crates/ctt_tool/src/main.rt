@@ -6,6 +6,7 @@ mod crew;
 mod desk;
 mod journal;
 mod list;
+mod mend;
 mod office;
 mod printed;
 mod program;

@@ -9,13 +9,14 @@ ghost use Rattle.ctt_tool.specs.Faults.{KeptUnless, SaysFault};
 ghost use Rattle.ctt_tool.specs.Jobs.{Saying, Storing, stored_by};
 ghost use Rattle.ctt_tool.specs.Runs.{KeepOthers};
 ghost use Rattle.ctt_tool.specs.Served.{IsServed};
-ghost use Rattle.ctt_tool.specs.Work.{AsksToSay, AsksToStore, DoesAsAsked, DoesJob, GivesHelp, HasCause, IsOfHelp, IsOfJob, KeepAsAsked, PrintsHelp, SaysAsAsked, SaysOfTask, texts};
+ghost use Rattle.ctt_tool.specs.Work.{AsksToSay, AsksToStore, DoesAsAsked, DoesJob, GivesHelp, HasCause, IsOfHelp, IsOfJob, KeepAsAsked, PrintsHelp, SaysAsAsked, SaysOfTask, WarnsAsAsked, WarnsOfTask, texts};
 
 use crate::audit::audit;
 use crate::crew::crew;
 use crate::desk::desk;
 use crate::journal::journal;
 use crate::list::list;
+use crate::mend::mend;
 use crate::office::Office;
 use crate::printed::print_last;
 use crate::run::run;
@@ -55,7 +56,8 @@ fn do_job<R: Threads + Wait + Sync, F: Files, O: Office, W: Sink, V: Sink>(
     ensures says { OnOk result ((V.has_failed err.new ≡ true)
         ⊎ SaysOfTask job.instance job.barred job.task (F.held files.old)
         (V.taken err.old) (V.taken err.new)) }
-    ensures unsaid { OnErr result ((err.new ≡ err.old) ⊎ (V.has_failed err.new ≡ true)) }
+    ensures unsaid { OnErr result ((err.new ≡ err.old) ⊎ ((V.has_failed err.new ≡ true)
+        ⊎ WarnsOfTask job.task (V.taken err.old) (V.taken err.new))) }
 {
     let Job {
         instance,
@@ -86,6 +88,7 @@ fn do_job<R: Threads + Wait + Sync, F: Files, O: Office, W: Sink, V: Sink>(
         Task::Listing { journal, start } => {
             list(alloc, files, out, instance, barred, journal, start)
         }
+        Task::Mending { solution } => mend(alloc, files, out, err, instance, barred, solution),
     }
 }
 
@@ -132,7 +135,8 @@ fn do_as_asked<R: Threads + Wait + Sync, F: Files, O: Office, W: Sink, V: Sink>(
         (AsksToSay (texts words.now) × (outcome ≡ Done)) ⊎ (err.new ≡ err.old)) }
     ensures says { OnOk result ((V.has_failed err.new ≡ true)
         ⊎ SaysAsAsked (texts words.now) (F.held files.old) (V.taken err.old) (V.taken err.new)) }
-    ensures unsaid { OnErr result ((err.new ≡ err.old) ⊎ (V.has_failed err.new ≡ true)) }
+    ensures unsaid { OnErr result ((V.has_failed err.new ≡ true)
+        ⊎ WarnsAsAsked (texts words.now) (V.taken err.old) (V.taken err.new)) }
     ensures cause { IfErr result
         (HasCause (texts words.now) (F.held files.old) (W.has_failed out.new)) }
 {

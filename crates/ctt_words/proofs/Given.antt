@@ -10,7 +10,7 @@ use Rattle.ctt_words.specs.CommandLine.{IsOnOrOff, is_on, timedesk}
 use Rattle.ctt_words.specs.Jobs.{HasAll, HasScripts, IsJobIn, IsJobOf, IsTaskBy, count_given}
 use Rattle.ctt_words.specs.declared.job.Job.{Job}
 use Rattle.ctt_words.specs.declared.job.Task.{Task}
-use Rattle.ctt_words.specs.declared.job.Task.TheVariants.{Audit, Crew, Desk, Journal, Listing, Run, Show}
+use Rattle.ctt_words.specs.declared.job.Task.TheVariants.{Audit, Crew, Desk, Journal, Listing, Mending, Run, Show}
 
 given_here : (o : Option Row) → is_some (option_and_then (λ (r : Row). slice_get r.values 0) o) ≡ true → is_some (option_map (λ (r : Row). r.values) o) ≡ true
 given_here None first = first
@@ -64,6 +64,7 @@ job_has_scripts words job is = in_matched (subcommand_of timedesk words) job is
     in_task name rows (Desk seats start minutes) is = is.1.1
     in_task name rows (Journal minutes) is = tt
     in_task name rows (Listing journal start) is = tt
+    in_task name rows (Mending solution) is = tt
 
     in_matched : (matched : Option (Text × List Row)) (job : Job) → IsJobIn matched job → HasScripts job.task
     in_matched None job is = absurd is

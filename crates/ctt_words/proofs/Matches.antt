@@ -7,13 +7,13 @@ use Rattle.clap.specs.Words.{IsAmong, Kinds, Row, Text, is_simple, is_simple_and
 use Rattle.clap.specs.declared.error.kind.ErrorKind.{ErrorKind}
 use Rattle.clap.specs.declared.error.kind.ErrorKind.TheVariants.{OutOfMemory}
 use Rattle.clap.proofs.OnLiterals.{clap_on_literals}
-use Rattle.ctt_words.specs.CommandLine.{audit, check, crew, desk, journal, list, page, run, timedesk, week}
+use Rattle.ctt_words.specs.CommandLine.{audit, check, crew, desk, journal, list, mend, page, run, timedesk, week}
 use Rattle.ctt_words.specs.Jobs.{AsksForSeveral, IsFaultOf, IsHelp, IsJobIn, IsNoJobIn, IsOfKind, IsRequest, IsTaskBy, SaysSeveral, WantsSeveral, WantsSeveralIn, choices, choices_of, count_given, faults_of}
 use Rattle.ctt_words.specs.Outlines.{commands, name_of, named, named_in, with_name}
 use Rattle.ctt_words.specs.declared.job.Job.{Job}
 use Rattle.ctt_words.specs.declared.job.Showing.TheVariants.{Page, Report, Week}
 use Rattle.ctt_words.specs.declared.job.Task.{Task}
-use Rattle.ctt_words.specs.declared.job.Task.TheVariants.{Audit, Crew, Desk, Journal, Listing, Run, Show}
+use Rattle.ctt_words.specs.declared.job.Task.TheVariants.{Audit, Crew, Desk, Journal, Listing, Mending, Run, Show}
 use Rattle.ctt_words.specs.declared.job.Whose.{Whose}
 use Rattle.ctt_words.specs.declared.job.Whose.TheVariants.{Course, Curriculum, Room, Teacher}
 use Rattle.ctt_words.specs.declared.job.WordsFault.{WordsFault}
@@ -21,11 +21,11 @@ use Rattle.ctt_words.specs.declared.job.WordsFault.TheVariants.{Help, NoMemory, 
 use Rattle.ctt_words.specs.declared.outline.Name.{Name}
 
 pub timedesk_simple : is_simple timedesk ≡ true
-unfolding clap_on_literals timedesk check week page run audit crew desk journal list
+unfolding clap_on_literals timedesk check week page run audit crew desk journal list mend
 timedesk_simple = refl
 
 pub timedesk_free : is_simple_and_free timedesk ≡ true
-unfolding clap_on_literals timedesk check week page run audit crew desk journal list
+unfolding clap_on_literals timedesk check week page run audit crew desk journal list mend
 timedesk_free = refl
 
 no_help : (kind : ErrorKind) → IsHelp kind → kind ≡ OutOfMemory → ⊥
@@ -78,6 +78,7 @@ task_not_several name rows (Crew scripts) is several = other_name name _ _ refl 
 task_not_several name rows (Desk seats start minutes) is several = other_name name _ _ refl is.0 several.0
 task_not_several name rows (Journal minutes) is several = other_name name _ _ refl is.0 several.0
 task_not_several name rows (Listing audited start) is several = other_name name _ _ refl is.0 several.0
+task_not_several name rows (Mending mended) is several = other_name name _ _ refl is.0 several.0
 
 not_several : (matched : Option (Text × List Row)) (job : Job) → IsJobIn matched job → WantsSeveralIn matched → ⊥
 not_several None job is several = several

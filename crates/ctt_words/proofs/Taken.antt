@@ -10,7 +10,7 @@ use Rattle.clap.specs.Walk.{Text, answers_to, is_empty, nothing_held, rows_after
 use Rattle.clap.specs.Words.{fault_of, subcommand_of}
 use Rattle.clap.proofs.OnLiterals.{clap_on_literals}
 use Rattle.clap.proofs.SimpleLemmas.{is_nil}
-use Rattle.ctt_words.specs.CommandLine.{audit, check, crew, desk, journal, list, page, run, timedesk, week}
+use Rattle.ctt_words.specs.CommandLine.{audit, check, crew, desk, journal, list, mend, page, run, timedesk, week}
 use Rattle.ctt_words.specs.Jobs.{HasFlags, HasFlagsOf, IsMatched, IsWhole, wanted_by}
 use Rattle.ctt_words.specs.Outlines.{named}
 use Rattle.ctt_words.specs.declared.outline.Name.{Name}
@@ -90,15 +90,15 @@ help_label s is =
 -- ---- the program
 
 command_required : (built timedesk).top.subcommand_required ≡ true
-unfolding clap_on_literals timedesk check week page run audit crew desk journal list
+unfolding clap_on_literals timedesk check week page run audit crew desk journal list mend
 command_required = refl
 
 help_is_no_command : (built timedesk).top.disable_help_subcommand ≡ false
-unfolding clap_on_literals timedesk check week page run audit crew desk journal list
+unfolding clap_on_literals timedesk check week page run audit crew desk journal list mend
 help_is_no_command = refl
 
 all_have : list_all (λ s. has_all s || is_help s) (built timedesk).subs ≡ true
-unfolding clap_on_literals timedesk check week page run audit crew desk journal list
+unfolding clap_on_literals timedesk check week page run audit crew desk journal list mend
 all_have = refl
 
 -- words in which `clap` finds no fault name a command with all that it needs

@@ -75,6 +75,10 @@ unfoldable pub list : App
 list = command_of (codes "list") (required_word (codes "instance") ∷ required_word (codes "journal") ∷ valued (codes "barred")
     ∷ valued (codes "start") ∷ [])
 
+-- `mend INSTANCE SOLUTION [--barred FILE]`
+unfoldable pub mend : App
+mend = command_of (codes "mend") (required_word (codes "instance") ∷ required_word (codes "solution") ∷ valued (codes "barred") ∷ [])
+
 -- the program alone: it has a version, and a command has to be given
 abbrev pub bare : App
 bare = on_top (λ s. record s { has_version = true; subcommand_required = true }) (new_app (codes "timedesk"))
@@ -86,7 +90,7 @@ with_commands app (one ∷ more) = with_commands (with_subcommand app one.top) m
 
 -- the commands, in the order of the help
 abbrev pub apps : List App
-apps = check ∷ week ∷ page ∷ run ∷ audit ∷ crew ∷ desk ∷ journal ∷ list ∷ []
+apps = check ∷ week ∷ page ∷ run ∷ audit ∷ crew ∷ desk ∷ journal ∷ list ∷ mend ∷ []
 
 -- the program with its commands
 unfoldable pub timedesk : App

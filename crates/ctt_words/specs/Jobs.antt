@@ -12,7 +12,7 @@ use Rattle.ctt_words.specs.declared.job.Job.{Job}
 use Rattle.ctt_words.specs.declared.job.Showing.{Showing}
 use Rattle.ctt_words.specs.declared.job.Showing.TheVariants.{Page, Report, Week}
 use Rattle.ctt_words.specs.declared.job.Task.{Task}
-use Rattle.ctt_words.specs.declared.job.Task.TheVariants.{Audit, Crew, Desk, Journal, Listing, Run, Show}
+use Rattle.ctt_words.specs.declared.job.Task.TheVariants.{Audit, Crew, Desk, Journal, Listing, Mending, Run, Show}
 use Rattle.ctt_words.specs.declared.job.Whose.{Whose}
 use Rattle.ctt_words.specs.declared.job.Whose.TheVariants.{Course, Curriculum, Room, Teacher}
 use Rattle.ctt_words.specs.declared.job.WordsFault.{WordsFault}
@@ -69,6 +69,7 @@ wanted_by by.Crew = codes "script"
 wanted_by by.Desk = codes "seat"
 wanted_by by.Journal = codes "minutes"
 wanted_by by.List = codes "journal"
+wanted_by by.Mend = codes "solution"
 
 -- the matches have the instance, and this argument
 pub record HasFiles (id : Text) (rows : List Row) : Type 0 where
@@ -118,6 +119,7 @@ IsTaskBy name rows (Desk seats start minutes) = (name ≡ codes "desk") × HasAl
     × MayHave rows (codes "start") start × MayHave rows (codes "minutes") minutes
 IsTaskBy name rows (Journal minutes) = (name ≡ codes "journal") × Has rows (codes "minutes") minutes
 IsTaskBy name rows (Listing journal start) = (name ≡ codes "list") × Has rows (codes "journal") journal × MayHave rows (codes "start") start
+IsTaskBy name rows (Mending solution) = (name ≡ codes "mend") × Has rows (codes "solution") solution
 
 -- the job is that of the command of this name, with what its matches have
 abbrev pub IsJobBy : Text → List Row → Job → Type 0

@@ -6,7 +6,7 @@ use Rattle.ctt_words.specs.CommandLine.{command_of, flag, required_word, require
 use Rattle.ctt_words.specs.declared.outline.Argument.{Argument}
 use Rattle.ctt_words.specs.declared.outline.Argument.TheVariants.{Flag, Valued, Word, Words}
 use Rattle.ctt_words.specs.declared.outline.Name.{Name}
-use Rattle.ctt_words.specs.declared.outline.Name.TheVariants.{Audit, Check, Crew, Desk, Journal, List as Listing, Page, Run, Week}
+use Rattle.ctt_words.specs.declared.outline.Name.TheVariants.{Audit, Check, Crew, Desk, Journal, List as Listing, Mend, Page, Run, Week}
 use Rattle.ctt_words.specs.declared.outline.Outline.{Outline}
 
 -- the rule of an argument
@@ -31,6 +31,7 @@ name_of Crew = codes "crew"
 name_of Desk = codes "desk"
 name_of Journal = codes "journal"
 name_of Listing = codes "list"
+name_of Mend = codes "mend"
 
 -- a command with its name
 abbrev pub with_name : Name → Text × Name
@@ -45,7 +46,7 @@ named_in known name = option_map (λ (one : Text × Name). one.1) (find (λ (one
 
 -- the commands that there are
 abbrev pub commands : List Name
-commands = Check ∷ Week ∷ Page ∷ Run ∷ Audit ∷ Crew ∷ Desk ∷ Journal ∷ Listing ∷ []
+commands = Check ∷ Week ∷ Page ∷ Run ∷ Audit ∷ Crew ∷ Desk ∷ Journal ∷ Listing ∷ Mend ∷ []
 
 -- the command of this name
 abbrev pub named : Text → Option Name

@@ -163,6 +163,13 @@ Example: timedesk check comp07.ctt comp07.sol --explain",
         example: "Example: timedesk list comp07.ctt monday.journal --start comp07.sol >tuesday.sol",
         arguments: &[INSTANCE, JOURNAL, BARRED, START],
     },
+    Outline {
+        command: Name::Mend,
+        name: "mend",
+        about: "Print a solution without the lectures that cannot be placed, each of which is said",
+        example: "Example: timedesk mend comp07.ctt comp07.sol >mended.sol",
+        arguments: &[INSTANCE, SOLUTION, BARRED],
+    },
 ];
 
 /// What stands below the help: the example of each command, and the statuses.
@@ -177,6 +184,7 @@ Examples:
   timedesk desk comp07.ctt - --start comp07.sol
   timedesk journal comp07.ctt monday.minutes >monday.journal
   timedesk list comp07.ctt monday.journal --start comp07.sol >tuesday.sol
+  timedesk mend comp07.ctt comp07.sol >mended.sol
 
 Status: 0 where it is done, also where a report says that a solution is unlawful;
 1 where the content of a file is refused, a name is not in it, or an audit does not agree; 2 where the

@@ -133,3 +133,13 @@ pub(crate) fn list_task(alloc: Global, given: &ArgMatches<'_>) -> Result<Task, A
         start: option(alloc, given, "start")?,
     })
 }
+
+/// The task of the command `mend`, by its matches.
+pub(crate) fn mend_task(alloc: Global, given: &ArgMatches<'_>) -> Result<Task, AllocError>
+    requires { HasFiles (codes "solution") (rows_of (found_of given.now)) }
+    ensures { IfOk result (IsTaskBy (codes "mend") (rows_of (found_of given.now))) }
+{
+    Ok(Task::Mending {
+        solution: text(alloc, given, "solution")?,
+    })
+}

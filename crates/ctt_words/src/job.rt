@@ -82,6 +82,10 @@ pub enum Task {
         journal: String,
         start: Option<String>,
     },
+    /// To give a solution without the lectures that cannot be placed.
+    Mending {
+        solution: String,
+    },
 }
 
 /// Why the words ask for no job.

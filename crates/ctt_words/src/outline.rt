@@ -33,6 +33,7 @@ pub(crate) enum Name {
     Desk,
     Journal,
     List,
+    Mend,
 }
 
 /// A command.

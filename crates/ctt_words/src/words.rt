@@ -7,8 +7,8 @@ ghost use Rattle.ctt_words.specs.Jobs.{AsksForSeveral, IsFaultOf, IsJobBy, IsJob
 use crate::arguments::{count, option, text};
 use crate::commands::{command_line, command_named};
 use crate::found::{
-    audit_task, check_task, crew_task, desk_task, journal_task, list_task, page_task, run_task,
-    week_task,
+    audit_task, check_task, crew_task, desk_task, journal_task, list_task, mend_task, page_task,
+    run_task, week_task,
 };
 use crate::job::{Job, Task, WordsFault};
 use crate::outline::Name;
@@ -63,6 +63,7 @@ fn task_by(alloc: Global, name: &str, given: &ArgMatches<'_>) -> Result<Task, Al
         Some(Name::Desk) => desk_task(alloc, given),
         Some(Name::Journal) => journal_task(alloc, given),
         Some(Name::List) => list_task(alloc, given),
+        Some(Name::Mend) => mend_task(alloc, given),
         None => unreachable!(),
     }
 }

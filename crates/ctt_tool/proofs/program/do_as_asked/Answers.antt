@@ -3,7 +3,7 @@ use Rattle.std.proofs.lemmas.Result.{IfErr-weaker, IfOk-weaker}
 use Rattle.ctt_words.specs.Jobs.{HasScripts}
 use Rattle.ctt_words.proofs.Given.{job_has_scripts}
 use Rattle.ctt_files.proofs.Plain.{on_ok_weaker}
-use Rattle.ctt_tool.proofs.Ends.{done_so, on_ok_too}
+use Rattle.ctt_tool.proofs.Ends.{done_so, on_err_too, on_err_weaker, on_ok_too, warned_as_asked}
 use Rattle.ctt_tool.proofs.Known.{help_asked, help_caused, help_kept, help_not_one, job_caused, kept_weaker}
 use Rattle.ctt_tool.proofs.program.do_as_asked.Goals as goal
 
@@ -44,3 +44,9 @@ returns-in-Ok-clause-says g c = on_ok_weaker c.do_job.result _ _ (λ says. ⊎_e
 
 pub returns-in-Err-clause-says : goal.returns-in-Err-clause-says
 returns-in-Err-clause-says g c = on_ok_too c.answer_words.result _ (inr (inl refl))
+
+pub returns-in-Ok-clause-unsaid : goal.returns-in-Ok-clause-unsaid
+returns-in-Ok-clause-unsaid g c = on_err_weaker c.do_job.result _ _ (warned_as_asked g.V.Sink.taken g.V.Sink.has_failed _ c.in-Ok.job _ _ c.in-Ok.ensures.job) c.do_job.ensures.unsaid
+
+pub returns-in-Err-clause-unsaid : goal.returns-in-Err-clause-unsaid
+returns-in-Err-clause-unsaid g c = on_err_too c.answer_words.result _ (inr (inl refl))

@@ -3,12 +3,11 @@ use Rattle.std.proofs.lemmas.Result.{IfErr-weaker, IfOk-weaker}
 use Rattle.ctt_files.specs.Faults.{IfUnwritten}
 use Rattle.ctt_tool.specs.Jobs.{Saying, Storing, stored_by}
 use Rattle.ctt_tool.specs.Runs.{KeepOthers}
-use Rattle.ctt_tool.specs.Work.{DoesTask, IsOfTask, SaysOfTask}
+use Rattle.ctt_tool.specs.Work.{DoesTask, IsOfTask, SaysOfTask, WarnsOfTask}
 use Rattle.ctt_files.proofs.Plain.{on_ok_weaker, unwritten_more}
 use Rattle.ctt_tool.proofs.Desks.{all_kept}
-use Rattle.ctt_tool.proofs.Ends.{done_so, on_ok_too}
+use Rattle.ctt_tool.proofs.Ends.{done_so, on_err_weaker, on_ok_too}
 use Rattle.ctt_tool.proofs.Known.{kept_weaker}
-use Rattle.ctt_tool.proofs.Offices.{last_said}
 use Rattle.ctt_tool.proofs.program.do_job.Goals as goal
 
 pub returns-in-Show-clause-cause : goal.returns-in-Show-clause-cause
@@ -57,8 +56,8 @@ returns-in-Crew-clause-done g c = done_so c.crew.result _ _ c.crew.ensures.done 
     (λ outcome done does. subst (λ task. DoesTask c.args.job.instance c.args.job.barred task outcome (g.F.Files.held c.args.files.now) (g.F.Files.held c.crew.new.files) (g.W.Sink.taken c.args.out.now) (g.W.Sink.taken c.crew.new.out)) (sym c.in-Crew.is) (done, c.crew.ensures.kept, does))
 
 pub returns-in-Desk-clause-done : goal.returns-in-Desk-clause-done
-returns-in-Desk-clause-done g c = done_so c.desk.result _ _ c.desk.ensures.done c.desk.ensures.tells
-    (λ outcome done does. subst (λ task. DoesTask c.args.job.instance c.args.job.barred task outcome (g.F.Files.held c.args.files.now) (g.F.Files.held c.desk.new.files) (g.W.Sink.taken c.args.out.now) (g.W.Sink.taken c.desk.new.out)) (sym c.in-Desk.is) (done, c.desk.ensures.kept, ⊎_elim (λ printed. inl (printed.0, (does.0, does.1, printed.1.0))) (λ seat. inr (seat.0, seat.1.1)) does.2))
+returns-in-Desk-clause-done g c = done_so c.desk.result _ _ c.desk.ensures.done c.desk.ensures.prints
+    (λ outcome done does. subst (λ task. DoesTask c.args.job.instance c.args.job.barred task outcome (g.F.Files.held c.args.files.now) (g.F.Files.held c.desk.new.files) (g.W.Sink.taken c.args.out.now) (g.W.Sink.taken c.desk.new.out)) (sym c.in-Desk.is) (done, c.desk.ensures.kept, does))
 
 pub returns-in-Journal-clause-done : goal.returns-in-Journal-clause-done
 returns-in-Journal-clause-done g c = done_so c.journal.result _ _ c.journal.ensures.done c.journal.ensures.prints
@@ -111,8 +110,31 @@ returns-in-Listing-clause-says g c = on_ok_too c.list.result _ (inr (subst (λ t
 
 pub returns-in-Desk-clause-says : goal.returns-in-Desk-clause-says
 returns-in-Desk-clause-says g c = on_ok_weaker c.desk.result _ _
-    (λ tells. inr (subst (λ task. SaysOfTask c.args.job.instance c.args.job.barred task (g.F.Files.held c.args.files.now) (g.V.Sink.taken c.args.err.now) (g.V.Sink.taken c.desk.new.err)) (sym c.in-Desk.is) (last_said _ _ c.in-Desk.seats.items _ _ _ _ _ _ tells))) c.desk.ensures.tells
+    (λ says. ⊎_elim inl (λ last. inr (subst (λ task. SaysOfTask c.args.job.instance c.args.job.barred task (g.F.Files.held c.args.files.now) (g.V.Sink.taken c.args.err.now) (g.V.Sink.taken c.desk.new.err)) (sym c.in-Desk.is) last)) says) c.desk.ensures.says
+
+pub returns-in-Desk-clause-unsaid : goal.returns-in-Desk-clause-unsaid
+returns-in-Desk-clause-unsaid g c = on_err_weaker c.desk.result _ _
+    (λ unsaid. ⊎_elim inl (λ other. inr (⊎_elim inl (λ warns. inr (subst (λ task. WarnsOfTask task (g.V.Sink.taken c.args.err.now) (g.V.Sink.taken c.desk.new.err)) (sym c.in-Desk.is) warns)) other)) unsaid) c.desk.ensures.unsaid
 
 pub returns-in-Journal-clause-says : goal.returns-in-Journal-clause-says
 returns-in-Journal-clause-says g c = on_ok_weaker c.journal.result _ _
     (λ says. ⊎_elim inl (λ torn. inr (subst (λ task. SaysOfTask c.args.job.instance c.args.job.barred task (g.F.Files.held c.args.files.now) (g.V.Sink.taken c.args.err.now) (g.V.Sink.taken c.journal.new.err)) (sym c.in-Journal.is) torn)) says) c.journal.ensures.says
+
+pub returns-in-Mending-clause-cause : goal.returns-in-Mending-clause-cause
+returns-in-Mending-clause-cause g c =
+    let held = g.F.Files.held c.args.files.now in
+    IfErr-weaker c.mend.result _ _ (λ fault is. unwritten_more fault _ _ _ _ inl (λ why. (subst (λ task. IsOfTask c.args.job.instance c.args.job.barred task held fault) (sym c.in-Mending.is) why.0, ap g.W.Sink.has_failed why.1)) is) c.mend.ensures.cause
+
+pub returns-in-Mending-clause-done : goal.returns-in-Mending-clause-done
+returns-in-Mending-clause-done g c = done_so c.mend.result _ _ c.mend.ensures.done c.mend.ensures.prints
+    (λ outcome done does. subst (λ task. DoesTask c.args.job.instance c.args.job.barred task outcome (g.F.Files.held c.args.files.now) (g.F.Files.held c.mend.new.files) (g.W.Sink.taken c.args.out.now) (g.W.Sink.taken c.mend.new.out)) (sym c.in-Mending.is) (done, c.mend.ensures.kept, does))
+
+pub returns-in-Mending-clause-quiet : goal.returns-in-Mending-clause-quiet
+returns-in-Mending-clause-quiet g c = IfOk-weaker c.mend.result _ _ (λ outcome done. inl (subst Saying (sym c.in-Mending.is) tt, done)) c.mend.ensures.done
+
+pub returns-in-Mending-clause-others : goal.returns-in-Mending-clause-others
+returns-in-Mending-clause-others g c = all_kept (stored_by c.args.job.task) _ _ c.mend.ensures.kept
+
+pub returns-in-Mending-clause-says : goal.returns-in-Mending-clause-says
+returns-in-Mending-clause-says g c = on_ok_weaker c.mend.result _ _
+    (λ says. ⊎_elim inl (λ aside. inr (subst (λ task. SaysOfTask c.args.job.instance c.args.job.barred task (g.F.Files.held c.args.files.now) (g.V.Sink.taken c.args.err.now) (g.V.Sink.taken c.mend.new.err)) (sym c.in-Mending.is) aside)) says) c.mend.ensures.says

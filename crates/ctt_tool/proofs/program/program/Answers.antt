@@ -41,8 +41,8 @@ returns-in-Err-clause-served g c =
       five = λ five. absurd (omega (arith, few, five));
       found = λ one. c.in-Err.ensures.taken (of_fault one);
       refused = λ two. refused_two _ _ _ c.in-Err.fault c.in-Err.ensures.cause (two_is_of_fault c.in-Err.fault c.fail_with.result c.fail_with.ensures.status two);
-      said = λ some. inr (says_caused _ _ c.in-Err.fault _ _ _ c.in-Err.ensures.cause tt
-          (said_since g.V.Sink.taken g.V.Sink.has_failed _ c.fail_with.result c.args.err.now c.do_as_asked.new.err c.fail_with.new.err c.in-Err.ensures.unsaid c.fail_with.ensures.marked c.fail_with.ensures.said));
+      said = λ some. inr (said_since g.V.Sink.taken g.V.Sink.has_failed _ c.fail_with.result _ c.args.err.now c.do_as_asked.new.err c.fail_with.new.err c.in-Err.ensures.unsaid c.fail_with.ensures.marked
+          (says_caused _ _ c.in-Err.fault _ _ _ c.in-Err.ensures.cause tt c.fail_with.ensures.said));
       unstored = λ some. ended_kept c.in-Err.fault c.fail_with.result _ _ c.fail_with.ensures.status c.in-Err.ensures.unstored;
       others = c.do_as_asked.ensures.others;
     }

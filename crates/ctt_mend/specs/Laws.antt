@@ -1,0 +1,15 @@
+-- What is left of a solution opens a desk, and of one that opens a desk all is left.
+use Rattle.std.specs.Prelude.{◌≡◌, List, [], Ok}
+use Rattle.ctt_text.specs.Problem.{Problem}
+use Rattle.ctt_text.specs.Timetable.{IsTimetable}
+use Rattle.ctt_text.specs.declared.placed.Placed.{Placed}
+use Rattle.ctt_edits.specs.Openings.{opening}
+use Rattle.ctt_mend.specs.Mended.{mended, set_aside}
+
+-- what is left of a timetable opens a desk, which begins with it
+abbrev pub MendedOpens : Type 0
+MendedOpens = (i : Problem) (ls : List Placed) → IsTimetable i ls → opening i (mended i ls) ≡ Ok (mended i ls)
+
+-- of lectures that open a desk none is set aside, and all are left, in their order
+abbrev pub NoneIsSetAside : Type 0
+NoneIsSetAside = (i : Problem) (ls t : List Placed) → opening i ls ≡ Ok t → (set_aside i ls ≡ []) × (mended i ls ≡ ls)
