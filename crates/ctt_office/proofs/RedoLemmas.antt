@@ -1,5 +1,6 @@
 -- Edits that are made again, one by one.
 use Rattle.std.proofs.Common.{◌≡◌, ◌∙◌, inl, inr, ℕ, ℤ, suc, ◌+◌, Bool, true, false, List, [], ◌∷◌, ◌++◌, length, flat_map, Option, Some, None, codes, arith, refl, sym, ap, ap₂, subst, append-nil, append_assoc}
+use Rattle.std.specs.Prelude.{◌≢◌, IfNone, IfSome}
 use Rattle.std.specs.Fmt.{decimal}
 use Rattle.std.proofs.lemmas.List.{length-append}
 use Rattle.ctt_text.specs.Problem.{Problem}
@@ -7,6 +8,7 @@ use Rattle.ctt_text.specs.declared.placed.Placed.{Placed}
 use Rattle.ctt_board.specs.Changes.{apply}
 use Rattle.ctt_edits.specs.Calls.{cells_if, reply}
 use Rattle.ctt_edits.specs.Edits.{change, edit_fault, edited}
+use Rattle.ctt_edits.specs.Fitting.{FaultFits, ReplyFits}
 use Rattle.ctt_edits.specs.Looks.{told_or}
 use Rattle.ctt_edits.specs.declared.call.Call.TheVariants.{Edit as Edits}
 use Rattle.ctt_edits.specs.declared.edit.Edit.{Edit}
@@ -46,6 +48,15 @@ fault_is (Some g) price z f told refused = (let same : Refused g ≡ Refused f =
 pub no_fault : (o : Option EditFault) (price : Reply) (z : ℤ) → price ≡ told_or o (Priced z) → ((f : EditFault) → price ≡ Refused f → ⊥) → None ≡ o
 no_fault None price z told priced = refl
 no_fault (Some g) price z told priced = absurd (priced g told)
+
+-- so the fault that a price tells, if it tells one, is that of its edit
+pub fault_found : (o found : Option EditFault) (price : Reply) (z : ℤ) → price ≡ told_or o (Priced z) → IfSome found (λ f. price ≡ Refused f) → IfNone found ((f : EditFault) → price ≢ Refused f) → found ≡ o
+fault_found o (Some f) price z told some none = fault_is o price z f told some
+fault_found o None price z told some none = no_fault o price z told none
+
+pub found_fits : (i : Problem) (found : Option EditFault) (price : Reply) → ReplyFits i price → IfSome found (λ f. price ≡ Refused f) → IfSome found (FaultFits i)
+found_fits i None price fits some = tt
+found_fits i (Some f) price fits some = subst (ReplyFits i) some fits
 
 -- an edit that has a fault is left out
 pub left_out_here : (i : Problem) (n : ℕ) (x : Edit) (d : DraftingValue) (old new : List ℕ) (f : EditFault) → Some f ≡ edit_fault i (present_of i d) x

@@ -1,0 +1,8 @@
+use Rattle.std.proofs.Common.{rules}
+use Rattle.ctt_edits.specs.Edits.{EditFits}
+use Rattle.ctt_office.proofs.undoing.undo_in.Goals as goal
+
+pub call-requires : goal.call-requires
+call-requires g c κs =
+    let fits : EditFits g.J.Naming.problem c.in-Ok-Some.edit = c.in-Ok-Some.ensures.fits in
+    search rules
