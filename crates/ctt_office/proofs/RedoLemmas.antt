@@ -6,17 +6,18 @@ use Rattle.std.proofs.lemmas.List.{length-append}
 use Rattle.ctt_text.specs.Problem.{Problem}
 use Rattle.ctt_text.specs.declared.placed.Placed.{Placed}
 use Rattle.ctt_board.specs.Changes.{apply}
-use Rattle.ctt_edits.specs.Calls.{cells_if, reply}
-use Rattle.ctt_edits.specs.Edits.{change, edit_fault, edited}
+use Rattle.ctt_edits.specs.Calls.{CallFits, cells_if, reply}
+use Rattle.ctt_edits.specs.Edits.{EditFits, change, edit_fault, edited}
 use Rattle.ctt_edits.specs.Fitting.{FaultFits, ReplyFits}
 use Rattle.ctt_edits.specs.Looks.{told_or}
-use Rattle.ctt_edits.specs.declared.call.Call.TheVariants.{Edit as Edits}
+use Rattle.ctt_edits.specs.declared.call.Call.{Call}
+use Rattle.ctt_edits.specs.declared.call.Call.TheVariants.{Edit as Edits, Look as Looks}
 use Rattle.ctt_edits.specs.declared.edit.Edit.{Edit}
 use Rattle.ctt_edits.specs.declared.fault.EditFault.{EditFault}
 use Rattle.ctt_edits.specs.declared.reply.Reply.{Reply}
-use Rattle.ctt_edits.specs.declared.reply.Reply.TheVariants.{Done, Refused, Price as Priced}
-use Rattle.ctt_draft.specs.Drafts.{after_call, calls_of, whole}
-use Rattle.ctt_draft.specs.Undoing.{done_edit, edits_done}
+use Rattle.ctt_edits.specs.declared.reply.Reply.TheVariants.{Costs, Done, Edits as AreCheapest, Lectures, Missing as AreMissing, Price as Priced, Refused}
+use Rattle.ctt_draft.specs.Drafts.{AskedFits, after_call, calls_of, whole}
+use Rattle.ctt_draft.specs.Undoing.{done_by, done_edit, edits_done}
 use Rattle.ctt_draft.specs.declared.asked.Asked.{Asked}
 use Rattle.ctt_draft.proofs.CallRuns.{whole-push}
 use Rattle.ctt_draft.proofs.DraftSteps.{calls-push}
@@ -154,6 +155,29 @@ none_done a left none = rw none refl
 pub one_done : (a : Asked) (left : List Asked) (x : Edit) → done_edit a ≡ Some x → edits_done (a ∷ left) ≡ x ∷ edits_done left
 one_done a left x some = rw some refl
 
+-- an accepted edit fits
+pub done_fits : (i : Problem) (a : Asked) (e : Edit) → done_edit a ≡ Some e → AskedFits i a → EditFits i e
+done_fits i a e is fits = by a.call a.reply is fits.0
+  where
+    by : (call : Call) (told : Reply) → done_by call told ≡ Some e → CallFits i call → EditFits i e
+    by (Looks look) told h fit = cc
+    by (Edits x) Done h fit = (let same : x ≡ e = cc in subst (EditFits i) same fit)
+    by (Edits x) (Refused f) h fit = cc
+    by (Edits x) (Lectures ls) h fit = cc
+    by (Edits x) (Costs c) h fit = cc
+    by (Edits x) (Priced p) h fit = cc
+    by (Edits x) (AreMissing xs) h fit = cc
+    by (Edits x) (AreCheapest xs) h fit = cc
+
+-- the same by other values
+pub remaking_is : (i : Problem) (d e e' : DraftingValue) (old now now' : List ℕ) (again again' edits edits' : ℕ) (all left : List Edit) → e' ≡ e → now' ≡ now → again' ≡ again → edits' ≡ edits
+    → IsRemaking i d e old now again edits all left → IsRemaking i d e' old now' again' edits' all left
+remaking_is i d e e' old now now' again again' edits edits' all left drafts texts mades counts h =
+    subst (λ w. IsRemaking i d w old now' again' edits' all left) (sym drafts)
+    (subst (λ bs. IsRemaking i d e old bs again' edits' all left) (sym texts)
+    (subst (λ m. IsRemaking i d e old now m edits' all left) (sym mades)
+    (subst (λ n. IsRemaking i d e old now again n all left) (sym counts) h)))
+
 -- at the end
 module _ (i : Problem) (d e : DraftingValue) (old now : List ℕ) (again edits : ℕ) (all : List Edit) (h : IsRemaking i d e old now again edits all []) where
   pub all_calls : e ≡ record d { asked = d.asked ++ remade i (present_of i d) all }
@@ -209,15 +233,16 @@ ask_first i d e xs free more = (
 
 ask_each : (i : Problem) (d : DraftingValue) (edits : List Edit) → AreAskedFrom i d (remade i (present_of i d) edits)
 ask_each i d [] = ap (λ ys. Drafting (record d { asked = ys })) (append-nil d.asked)
-ask_each i d (e ∷ edits) = by (edit_fault i (present_of i d) e) refl
+ask_each i d (e ∷ edits) = by (edit_fault i (present_of i d) e) refl (ask_each i (asked_also d (Edits e) Done) edits) (ask_each i d edits)
   where
-    by : (o : Option EditFault) → edit_fault i (present_of i d) e ≡ o → AreAskedFrom i d (remade i (present_of i d) (e ∷ edits))
-    by None free =
-        let later = ask_each i (asked_also d (Edits e) Done) edits in
+    by : (o : Option EditFault) → edit_fault i (present_of i d) e ≡ o
+        → AreAskedFrom i (asked_also d (Edits e) Done) (remade i (present_of i (asked_also d (Edits e) Done)) edits)
+        → AreAskedFrom i d (remade i (present_of i d) edits) → AreAskedFrom i d (remade i (present_of i d) (e ∷ edits))
+    by None free later same =
         subst (AreAskedFrom i d) (sym (ap (λ o. remade_if o e (remade i (edited (present_of i d) e) edits) (remade i (present_of i d) edits)) free))
         (ask_first i d e (remade i (edited (present_of i d) e) edits) free (subst (λ t. AreAskedFrom i (asked_also d (Edits e) Done) (remade i t edits)) (made_on i d e free) later))
-    by (Some f) fault =
-        subst (AreAskedFrom i d) (sym (ap (λ o. remade_if o e (remade i (edited (present_of i d) e) edits) (remade i (present_of i d) edits)) fault)) (ask_each i d edits)
+    by (Some f) fault later same =
+        subst (AreAskedFrom i d) (sym (ap (λ o. remade_if o e (remade i (edited (present_of i d) e) edits) (remade i (present_of i d) edits)) fault)) same
 
 pub redo_is_asking : RedoIsAsking
 redo_is_asking i d edits none =
