@@ -1,7 +1,8 @@
 -- Edits that are made again, one by one.
-use Rattle.std.proofs.Common.{◌≡◌, ◌∙◌, inl, inr, ℕ, ℤ, suc, ◌+◌, Bool, true, false, List, [], ◌∷◌, ◌++◌, length, flat_map, Option, Some, None, codes, arith, refl, sym, ap, ap₂, subst, append-nil, append_assoc}
+use Rattle.std.proofs.Common.{◌≡◌, ◌∙◌, inl, inr, ℕ, ℤ, suc, ◌+◌, ◌<◌, Bool, true, false, List, [], ◌∷◌, ◌++◌, length, drop, get_or, flat_map, Option, Some, None, codes, arith, refl, sym, ap, ap₂, subst, append-nil, append_assoc}
 use Rattle.std.specs.Prelude.{◌≢◌, IfNone, IfSome}
 use Rattle.std.specs.Fmt.{decimal}
+use Rattle.std.proofs.Math.Seq.{drop-cons}
 use Rattle.std.proofs.lemmas.List.{length-append}
 use Rattle.ctt_text.specs.Problem.{Problem}
 use Rattle.ctt_text.specs.declared.placed.Placed.{Placed}
@@ -154,6 +155,10 @@ none_done a left none = rw none refl
 
 pub one_done : (a : Asked) (left : List Asked) (x : Edit) → done_edit a ≡ Some x → edits_done (a ∷ left) ≡ x ∷ edits_done left
 one_done a left x some = rw some refl
+
+-- what is left from a place
+pub left_at : {X : Type 0} (xs : List X) (k : ℕ) (x : X) → k < length xs → x ≡ get_or xs k x → drop k xs ≡ x ∷ drop (k + 1) xs
+left_at xs k x lt is = (let next : suc k ≡ k + 1 = omega arith in drop-cons xs k x lt ∙ ap₂ (λ y n. y ∷ drop n xs) (sym is) next)
 
 -- an accepted edit fits
 pub done_fits : (i : Problem) (a : Asked) (e : Edit) → done_edit a ≡ Some e → AskedFits i a → EditFits i e

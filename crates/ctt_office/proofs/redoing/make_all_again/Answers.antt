@@ -5,8 +5,7 @@ use Rattle.ctt_edits.specs.declared.edit.Edit.{Edit}
 use Rattle.ctt_draft.specs.Drafts.{AskedFits}
 use Rattle.ctt_draft.specs.Undoing.{done_edit, edits_done}
 use Rattle.ctt_draft.specs.declared.asked.Asked.{Asked}
-use Rattle.ctt_draft.proofs.UndoingLemmas.{left_at}
-use Rattle.ctt_office.proofs.RedoLemmas.{IsRemaking, done_fits, none_done, one_done, one_more, remaking_is}
+use Rattle.ctt_office.proofs.RedoLemmas.{IsRemaking, done_fits, left_at, none_done, one_done, one_more, remaking_is}
 use Rattle.ctt_office.proofs.redoing.make_all_again.Goals as goal
 use Rattle.ctt_office.proofs.redoing.make_all_again.Goals.{in-Some+in_ok-make_again+then-branch, in-Some+in_ok-make_again+else-branch, in_default}
 

@@ -11,7 +11,7 @@ use Rattle.ctt_office.proofs.redoing.redo_calls.Goals as goal
 
 pub redo_in-requires : goal.redo_in-requires
 redo_in-requires g c κs =
-    let fits : Each (AskedFits c.args.instance.now) c.as_slice.result.now = subst (Each (AskedFits c.args.instance.now)) (sym c.as_slice.ensures.value) c.requires.fits in
+    let fits : Each (AskedFits c.args.instance.now) c.as_slice.result.now = subst (Each (AskedFits c.args.instance.now)) (sym c.as_slice.ensures) c.requires.fits in
     let opened : IsOpen g.J.Naming.problem g.J.Naming.opening c.args.planner c.in-Ok.drafting = c.in-Ok.ensures.ok in
     let new : c.in-Ok.drafting.asked ≡ [] = opened.asked in
     search rules
