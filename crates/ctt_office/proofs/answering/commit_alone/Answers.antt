@@ -17,7 +17,7 @@ refuse-requires g c κs =
 pub returns-in-Err-clause-unanswered : goal.returns-in-Err-clause-unanswered
 returns-in-Err-clause-unanswered g c =
     on_err _ (subst (CommitsNone c.args.place.seat) (sym c.refuse.ensures.seat)
-        (refused_uncommitted g.J.Naming.problem g.J.Naming.opening c.args.place.seat c.commit-seat.result.0 c.commit-seat.result.1 c.in-Err.told c.in-Err.is c.commit-seat.ensures.commits))
+    (refused_uncommitted g.J.Naming.problem g.J.Naming.opening c.args.place.seat c.commit-seat.result.0 c.commit-seat.result.1 c.in-Err.told c.in-Err.is c.commit-seat.ensures.commits))
 
 pub returns-in-Err-clause-fits : goal.returns-in-Err-clause-fits
 returns-in-Err-clause-fits g c =

@@ -1,5 +1,4 @@
-use Rattle.std.proofs.Common.{◌≡◌, ◌∙◌, ◌+◌, ◌<◌, ◌∷◌, arith, ap, length, rules, suc, sym}
-use Rattle.ctt_text.specs.Words.{words}
+use Rattle.std.proofs.Common.{◌≡◌, ◌∙◌, ◌∷◌, arith, ap, length, rules, suc, sym}
 use Rattle.ctt_text.proofs.WordLemmas.{words_fit}
 use Rattle.ctt_office.specs.BadWords.{first_untext}
 use Rattle.ctt_office.proofs.BadWordLemmas.{untext_here, untext_later}
@@ -23,9 +22,8 @@ pub loop-word-preserved : goal.loop-word-preserved
 loop-word-preserved c =
     let step : c.loop-word.word-iterator ≡ c.in-Some.word.now ∷ c.next.new.self = search rules in
     let long : length c.loop-word.word-iterator ≡ suc (length c.next.new.self) = ap length step in
-    let all = c.loop-word.invariant.1 in
-    (
+    let all = c.loop-word.invariant.1 in (
       sym (untext_later c.loop-word.at c.in-Some.word.now c.next.new.self c.in-Ok.ensures.cases.1)
-      ∙ sym (ap (first_untext c.loop-word.at) step) ∙ c.loop-word.invariant.0,
+          ∙ sym (ap (first_untext c.loop-word.at) step) ∙ c.loop-word.invariant.0,
       omega (arith, long, all),
     )

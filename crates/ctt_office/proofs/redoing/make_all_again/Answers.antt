@@ -1,7 +1,6 @@
 use Rattle.std.proofs.Common.{◌≡◌, ◌∙◌, ◌∷◌, ◌+◌, List, None, Some, arith, ap, drop, rules, string_bytes, subst, sym}
 use Rattle.std.specs.List.{AllByRecursion as Each}
 use Rattle.ctt_edits.specs.Edits.{EditFits}
-use Rattle.ctt_edits.specs.declared.edit.Edit.{Edit}
 use Rattle.ctt_draft.specs.Drafts.{AskedFits}
 use Rattle.ctt_draft.specs.Undoing.{done_edit, edits_done}
 use Rattle.ctt_draft.specs.declared.asked.Asked.{Asked}
