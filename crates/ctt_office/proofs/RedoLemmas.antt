@@ -1,31 +1,29 @@
 -- Edits that are made again, one by one.
-use Rattle.std.proofs.Common.{◌≡◌, ◌∙◌, inl, inr, ℕ, ℤ, suc, ◌+◌, Bool, true, false, List, [], ◌∷◌, ◌++◌, length, flat_map, Option, Some, None, codes, arith, refl, sym, ap, ap₂, subst, append-nil, append_assoc}
+use Rattle.std.proofs.Common.{◌≡◌, ◌∙◌, inl, inr, ℕ, suc, ◌+◌, ◌<◌, Bool, true, false, List, [], ◌∷◌, ◌++◌, length, drop, get_or, flat_map, Option, Some, None, codes, arith, refl, sym, ap, ap₂, subst, append-nil, append_assoc}
 use Rattle.std.specs.Fmt.{decimal}
-use Rattle.std.proofs.lemmas.List.{length-append}
+use Rattle.std.proofs.Math.Seq.{drop-cons}
 use Rattle.ctt_text.specs.Problem.{Problem}
 use Rattle.ctt_text.specs.declared.placed.Placed.{Placed}
 use Rattle.ctt_board.specs.Changes.{apply}
-use Rattle.ctt_edits.specs.Calls.{cells_if, reply}
-use Rattle.ctt_edits.specs.Edits.{change, edit_fault, edited}
+use Rattle.ctt_edits.specs.Calls.{CallFits, cells_if}
+use Rattle.ctt_edits.specs.Edits.{EditFits, change, edit_fault, edited}
 use Rattle.ctt_edits.specs.Looks.{told_or}
-use Rattle.ctt_edits.specs.declared.call.Call.TheVariants.{Edit as Edits}
+use Rattle.ctt_edits.specs.declared.call.Call.{Call}
+use Rattle.ctt_edits.specs.declared.call.Call.TheVariants.{Edit as Edits, Look as Looks}
 use Rattle.ctt_edits.specs.declared.edit.Edit.{Edit}
 use Rattle.ctt_edits.specs.declared.fault.EditFault.{EditFault}
 use Rattle.ctt_edits.specs.declared.reply.Reply.{Reply}
-use Rattle.ctt_edits.specs.declared.reply.Reply.TheVariants.{Done, Refused, Price as Priced}
-use Rattle.ctt_draft.specs.Drafts.{after_call, calls_of, whole}
-use Rattle.ctt_draft.specs.Undoing.{done_edit, edits_done}
+use Rattle.ctt_edits.specs.declared.reply.Reply.TheVariants.{Costs, Done, Edits as AreCheapest, Lectures, Missing as AreMissing, Price as Priced, Refused}
+use Rattle.ctt_draft.specs.Drafts.{AskedFits, calls_of, whole}
+use Rattle.ctt_draft.specs.Undoing.{done_by, done_edit, edits_done}
 use Rattle.ctt_draft.specs.declared.asked.Asked.{Asked}
 use Rattle.ctt_draft.proofs.CallRuns.{whole-push}
 use Rattle.ctt_draft.proofs.DraftSteps.{calls-push}
 use Rattle.ctt_core.specs.declared.answer.Answer.TheVariants.{NoMemory}
 use Rattle.ctt_desk.specs.Planners.{DraftingValue, Grows, IsOpen, PlannerValue, asked_also, present_of}
-use Rattle.ctt_desk.specs.Refusals.{IsUnread}
-use Rattle.ctt_desk.specs.declared.shared_fault.SharedFault.{SharedFault}
 use Rattle.ctt_desk.specs.declared.shared_fault.SharedFault.TheVariants as shared
-use Rattle.ctt_script.specs.WrittenText.{line, rest_of_line, words_part}
+use Rattle.ctt_script.specs.WrittenText.{words_part}
 use Rattle.ctt_script.proofs.WrittenText.{parts_end}
-use Rattle.ctt_crew.specs.CrewText.{told_unread}
 use Rattle.ctt_crew.specs.declared.seat.Seat.TheVariants.{Drafting, Free}
 use Rattle.ctt_crew.specs.declared.seat.Told.TheVariants.{Answer as Answered}
 use Rattle.ctt_office.specs.SeatAnswers.{RedoesCalls, told_line}
@@ -38,27 +36,6 @@ pub parts_joined : (ws vs : List (List ℕ)) → words_part (ws ++ vs) ≡ words
 parts_joined [] vs = refl
 parts_joined (w ∷ ws) vs = ap (λ x. codes " " ++ (w ++ x)) (parts_joined ws vs) ∙ ap (λ x. codes " " ++ x) (sym (append_assoc w (words_part ws) (words_part vs)))
 
--- an edit has a price exactly where it has no fault
-pub fault_is : (o : Option EditFault) (price : Reply) (z : ℤ) (f : EditFault) → price ≡ told_or o (Priced z) → price ≡ Refused f → Some f ≡ o
-fault_is None price z f told refused = (let bad : Priced z ≡ Refused f = sym told ∙ refused in cc)
-fault_is (Some g) price z f told refused = (let same : Refused g ≡ Refused f = sym told ∙ refused in cc)
-
-pub no_fault : (o : Option EditFault) (price : Reply) (z : ℤ) → price ≡ told_or o (Priced z) → ((f : EditFault) → price ≡ Refused f → ⊥) → None ≡ o
-no_fault None price z told priced = refl
-no_fault (Some g) price z told priced = absurd (priced g told)
-
--- an edit that has a fault is left out
-pub left_out_here : (i : Problem) (n : ℕ) (x : Edit) (d : DraftingValue) (old new : List ℕ) (f : EditFault) → Some f ≡ edit_fault i (present_of i d) x
-    → new ≡ old ++ words_part (left_out_words i (record { number = n; edit = x; fault = f })) → IsMadeAgain i n x d d old new false
-left_out_here i n x d old new f fault grown = subst (λ o. IsMadeBy o i n x d d old new false) fault (refl, grown, refl)
-
--- and one that has none is made
-pub made_here : (i : Problem) (n : ℕ) (x : Edit) (d e : DraftingValue) (old : List ℕ) (told : Reply) → None ≡ edit_fault i (present_of i d) x → told ≡ reply i (present_of i d) (Edits x) → e ≡ asked_also d (Edits x) told
-    → IsMadeAgain i n x d e old old true
-made_here i n x d e old told free answer grown =
-    let done : told ≡ Done = answer ∙ ap (λ o. told_or o Done) (sym free) in
-    subst (λ o. IsMadeBy o i n x d e old old true) free (grown ∙ ap (asked_also d (Edits x)) done, refl, refl)
-
 -- the text of edits that are left out
 abbrev pub parts_of : Problem → List LeftOut → List ℕ
 parts_of i xs = flat_map (λ x. words_part (left_out_words i x)) xs
@@ -70,9 +47,6 @@ pub record IsRemaking (i : Problem) (d e : DraftingValue) (old now : List ℕ) (
   pub texts : now ++ parts_of i (left_out i (present_of i e) (edits + 1) left) ≡ old ++ parts_of i (left_out i (present_of i d) 1 all)
   pub mades : again + length (remade i (present_of i e) left) ≡ length (remade i (present_of i d) all)
   pub counts : edits + length left ≡ length all
-
-pub begins : (i : Problem) (d : DraftingValue) (old : List ℕ) (all : List Edit) → IsRemaking i d d old old 0 0 all all
-begins i d old all = record { same = refl; calls = refl; texts = refl; mades = omega arith; counts = omega arith }
 
 -- the timetable behind an edit that is made
 made_on : (i : Problem) (e : DraftingValue) (x : Edit) → edit_fault i (present_of i e) x ≡ None → present_of i (asked_also e (Edits x) Done) ≡ edited (present_of i e) x
@@ -143,19 +117,32 @@ none_done a left none = rw none refl
 pub one_done : (a : Asked) (left : List Asked) (x : Edit) → done_edit a ≡ Some x → edits_done (a ∷ left) ≡ x ∷ edits_done left
 one_done a left x some = rw some refl
 
--- at the end
-module _ (i : Problem) (d e : DraftingValue) (old now : List ℕ) (again edits : ℕ) (all : List Edit) (h : IsRemaking i d e old now again edits all []) where
-  pub all_calls : e ≡ record d { asked = d.asked ++ remade i (present_of i d) all }
-  all_calls = h.same ∙ ap (λ xs. record d { asked = xs }) (sym (append-nil e.asked) ∙ h.calls)
+-- what is left from a place
+pub left_at : {X : Type 0} (xs : List X) (k : ℕ) (x : X) → k < length xs → x ≡ get_or xs k x → drop k xs ≡ x ∷ drop (k + 1) xs
+left_at xs k x lt is = (let next : suc k ≡ k + 1 = omega arith in drop-cons xs k x lt ∙ ap₂ (λ y n. y ∷ drop n xs) (sym is) next)
 
-  pub all_left_out : now ≡ old ++ parts_of i (left_out i (present_of i d) 1 all)
-  all_left_out = sym (append-nil now) ∙ h.texts
+-- an accepted edit fits
+pub done_fits : (i : Problem) (a : Asked) (e : Edit) → done_edit a ≡ Some e → AskedFits i a → EditFits i e
+done_fits i a e is fits = by a.call a.reply is fits.0
+  where
+    by : (call : Call) (told : Reply) → done_by call told ≡ Some e → CallFits i call → EditFits i e
+    by (Looks look) told h fit = cc
+    by (Edits x) Done h fit = (let same : x ≡ e = cc in subst (EditFits i) same fit)
+    by (Edits x) (Refused f) h fit = cc
+    by (Edits x) (Lectures ls) h fit = cc
+    by (Edits x) (Costs c) h fit = cc
+    by (Edits x) (Priced p) h fit = cc
+    by (Edits x) (AreMissing xs) h fit = cc
+    by (Edits x) (AreCheapest xs) h fit = cc
 
-  pub all_made : again ≡ length (remade i (present_of i d) all)
-  all_made = (let mades = h.mades in omega (arith, mades))
-
-  pub all_edits : edits ≡ length all
-  all_edits = (let counts = h.counts in omega (arith, counts))
+-- the same by other values
+pub remaking_is : (i : Problem) (d e e' : DraftingValue) (old now now' : List ℕ) (again again' edits edits' : ℕ) (all left : List Edit) → e' ≡ e → now' ≡ now → again' ≡ again → edits' ≡ edits
+    → IsRemaking i d e old now again edits all left → IsRemaking i d e' old now' again' edits' all left
+remaking_is i d e e' old now now' again again' edits edits' all left drafts texts mades counts h =
+    subst (λ w. IsRemaking i d w old now' again' edits' all left) (sym drafts)
+    (subst (λ bs. IsRemaking i d e old bs again' edits' all left) (sym texts)
+    (subst (λ m. IsRemaking i d e old now m edits' all left) (sym mades)
+    (subst (λ n. IsRemaking i d e old now again n all left) (sym counts) h)))
 
 -- the whole line
 pub whole_line : (i : Problem) (t : List Placed) (all : List Edit) (again edits : ℕ) (text : List ℕ) → again ≡ length (remade i t all) → edits ≡ length all → text ≡ parts_of i (left_out i t 1 all)
@@ -168,22 +155,10 @@ whole_line i t all again edits text mades counts texts =
 pub new_present : (i : Problem) (d : DraftingValue) → d.asked ≡ [] → present_of i d ≡ d.base
 new_present i d none = ap (λ xs. whole i d.base (calls_of xs)) none
 
-pub from_new : (i : Problem) (d e : DraftingValue) (edits : List Edit) → d.asked ≡ [] → e ≡ record d { asked = d.asked ++ remade i (present_of i d) edits } → e ≡ record d { asked = remade i d.base edits }
-from_new i d e edits none is = is ∙ ap (λ xs. record d { asked = xs ++ remade i (whole i d.base (calls_of xs)) edits }) none
-
--- a draft is made again
-module _ {X Y : Type 0} (i : Problem) (t0 : List Placed) (p : PlannerValue) (asked : List Asked) where
-  pub redone : (d e : DraftingValue) (after : Workplace X Y) (answer : List ℕ) → IsOpen i t0 p d → e ≡ record d { asked = remade i d.base (edits_done asked) } → after.seat ≡ Drafting e → after.ended ≡ None → answer ≡ redone_line i d.base (edits_done asked)
-      → RedoesCalls i t0 p asked after answer
-  redone d e after answer opened made_is seat ended line_is = inl (d, opened, seat ∙ ap Drafting made_is, ended, line_is)
-
-  -- or memory is wanted for it
-  pub wanted : (d : DraftingValue) (q : PlannerValue) (after : Workplace X Y) (answer : List ℕ) → IsOpen i t0 p d → q ≡ d.planner → after.seat ≡ Free q → after.ended ≡ Some asked → answer ≡ told_line i (Answered NoMemory) → RedoesCalls i t0 p asked after answer
-  wanted d q after answer opened same seat ended line_is = inr (q, Answered NoMemory, (shared.NoMemory, subst (Grows i t0 p) (sym same) opened.planner, refl), seat, ended, line_is)
-
-  -- or it could not be opened
-  pub unopened : (q : PlannerValue) (fault : SharedFault) (after : Workplace X Y) (answer : List ℕ) → IsUnread i t0 p q fault → after.seat ≡ Free q → after.ended ≡ Some asked → answer ≡ told_line i (told_unread fault) → RedoesCalls i t0 p asked after answer
-  unopened q fault after answer why seat ended line_is = inr (q, told_unread fault, (fault, why, refl), seat, ended, line_is)
+-- memory is wanted for a draft that was opened
+pub wanted : {X Y : Type 0} (i : Problem) (t0 : List Placed) (p : PlannerValue) (asked : List Asked) (d : DraftingValue) (q : PlannerValue) (after : Workplace X Y) (answer : List ℕ) → IsOpen i t0 p d → q ≡ d.planner → after.seat ≡ Free q → after.ended ≡ Some asked
+    → answer ≡ told_line i (Answered NoMemory) → RedoesCalls i t0 p asked after answer
+wanted i t0 p asked d q after answer opened same seat ended line_is = inr (q, Answered NoMemory, (shared.NoMemory, subst (Grows i t0 p) (sym same) opened.planner, refl), seat, ended, line_is)
 
 -- the edits that are made again, asked one by one
 abbrev AreAskedFrom : Problem → DraftingValue → List Asked → Type 0
@@ -198,15 +173,16 @@ ask_first i d e xs free more = (
 
 ask_each : (i : Problem) (d : DraftingValue) (edits : List Edit) → AreAskedFrom i d (remade i (present_of i d) edits)
 ask_each i d [] = ap (λ ys. Drafting (record d { asked = ys })) (append-nil d.asked)
-ask_each i d (e ∷ edits) = by (edit_fault i (present_of i d) e) refl
+ask_each i d (e ∷ edits) = by (edit_fault i (present_of i d) e) refl (ask_each i (asked_also d (Edits e) Done) edits) (ask_each i d edits)
   where
-    by : (o : Option EditFault) → edit_fault i (present_of i d) e ≡ o → AreAskedFrom i d (remade i (present_of i d) (e ∷ edits))
-    by None free =
-        let later = ask_each i (asked_also d (Edits e) Done) edits in
+    by : (o : Option EditFault) → edit_fault i (present_of i d) e ≡ o
+        → AreAskedFrom i (asked_also d (Edits e) Done) (remade i (present_of i (asked_also d (Edits e) Done)) edits)
+        → AreAskedFrom i d (remade i (present_of i d) edits) → AreAskedFrom i d (remade i (present_of i d) (e ∷ edits))
+    by None free later same =
         subst (AreAskedFrom i d) (sym (ap (λ o. remade_if o e (remade i (edited (present_of i d) e) edits) (remade i (present_of i d) edits)) free))
         (ask_first i d e (remade i (edited (present_of i d) e) edits) free (subst (λ t. AreAskedFrom i (asked_also d (Edits e) Done) (remade i t edits)) (made_on i d e free) later))
-    by (Some f) fault =
-        subst (AreAskedFrom i d) (sym (ap (λ o. remade_if o e (remade i (edited (present_of i d) e) edits) (remade i (present_of i d) edits)) fault)) (ask_each i d edits)
+    by (Some f) fault later same =
+        subst (AreAskedFrom i d) (sym (ap (λ o. remade_if o e (remade i (edited (present_of i d) e) edits) (remade i (present_of i d) edits)) fault)) same
 
 pub redo_is_asking : RedoIsAsking
 redo_is_asking i d edits none =

@@ -1,5 +1,5 @@
 -- The calls of a draft that has ended stale, and the workplace where they are kept.
-use Rattle.std.specs.Prelude.{ℕ, ◌≡◌, Bool, true, false, cond, List, Option, Some, None, IfSome}
+use Rattle.std.specs.Prelude.{Bool, true, false, cond, List, Option, Some, None, IfSome}
 use Rattle.std.specs.List.{AllByRecursion as Each}
 use Rattle.ctt_text.specs.Problem.{Problem}
 use Rattle.ctt_core.specs.declared.answer.Answer.{Answer}

@@ -31,9 +31,9 @@ impl<'a> BadWord<'a> {
     {
         let mut reader = Reader::new(text);
         for _ in 1..at {
-            if reader.word().is_none() {
+            let Some(_) = reader.word() else {
                 return BadWord { at, word: "" };
-            }
+            };
         }
         match reader.word() {
             Some(word) => BadWord { at, word },
@@ -67,12 +67,13 @@ impl<'a> BadWord<'a> {
 fn first_untext(line: &[u8]) -> u64
     ensures { result ≡ first_untext 1 (words line.now) }
 {
+    let _len = line.len();
     let mut at = 1;
     for word in Words::new(line) {
-        if str::from_utf8(word).is_err() {
-            return at;
+        match str::from_utf8(word) {
+            Ok(_) => at += 1,
+            Err(_) => return at,
         }
-        at += 1;
     }
     at
 }
