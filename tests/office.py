@@ -7,6 +7,7 @@ import atexit
 import contextlib
 import os
 import random
+import select
 import shutil
 import signal
 import subprocess
@@ -558,8 +559,9 @@ def office_script():
     check("a third one sits down", third.stdout.readline(), "opened\n")
     # as Ctrl-C in the terminal of the office does, which reaches all that stand in it
     os.killpg(process.pid, signal.SIGINT)
-    time.sleep(0.5)
-    answers, said = third.communicate("show cost\nabandon\nleave\n", 20)
+    heard = select.select([third.stderr], [], [], 20)[0]
+    said = third.stderr.readline() if heard else ""
+    answers, _ = third.communicate("show cost\nabandon\nleave\n", 20)
     check("who still sits is answered when the office is closed", answers, "costs 10 10 2 0\nabandoned\nleft\n")
     check("and is told that it closes", said.startswith("office: the office closes in "), True)
     printed, _ = process.communicate(timeout=PATIENCE)
