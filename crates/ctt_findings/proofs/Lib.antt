@@ -9,5 +9,4 @@ pub mod ObjectLemmas
 pub mod ReportLemmas
 pub mod RowLemmas
 pub mod PieceLemmas
-pub mod ItemLemmas
 pub mod NoneLemmas
