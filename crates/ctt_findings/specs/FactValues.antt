@@ -3,6 +3,6 @@ use Rattle.ctt_findings.specs.Lines.{Told, number, word}
 use Rattle.ctt_findings.specs.declared.fact.FactValue.{FactValue}
 use Rattle.ctt_findings.specs.declared.fact.FactValue.TheVariants.{Word, Number}
 
-abbrev pub told_of : FactValue → Told
-told_of (Word w) = word w.now
-told_of (Number n) = number n
+abbrev pub content_of : FactValue → Told
+content_of (Word w) = word w.now
+content_of (Number n) = number n

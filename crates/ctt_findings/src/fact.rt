@@ -20,17 +20,17 @@ pub struct Fact<'i> {
 
 impl<'i> Model for Fact<'i> {
     ghost use Rattle.ctt_findings.specs.Lines.{Fact as KeyedValue};
-    ghost use Rattle.ctt_findings.specs.FactValues.{told_of};
+    ghost use Rattle.ctt_findings.specs.FactValues.{content_of};
 
     ghost Value = { KeyedValue };
 
-    ghost view = { λ f. record { key = f.key.now; value = told_of f.value } };
+    ghost view = { λ f. record { key = f.key.now; value = content_of f.value } };
 }
 
 impl<'i> Fact<'i> {
     ghost use Rattle.std.specs.Prelude.{◌≡◌};
     ghost use Rattle.ctt_findings.specs.Lines.{fact, number, word};
-    ghost use Rattle.ctt_findings.specs.FactValues.{told_of};
+    ghost use Rattle.ctt_findings.specs.FactValues.{content_of};
 
     /// A fact whose value is a word.
     pub fn word(key: &'static str, text: &'i str) -> Self
@@ -61,7 +61,7 @@ impl<'i> Fact<'i> {
 
     /// The value.
     pub fn value(&self) -> FactValue<'i>
-        ensures { told_of result ≡ self.now.value }
+        ensures { content_of result ≡ self.now.value }
     {
         self.value
     }
