@@ -141,7 +141,7 @@ fn push_cause<'i>(facts: &mut ArrayVec<Fact<'i>, 8>, instance: &'i Instance, cau
     }
 }
 
-/// A lecture where its course is unavailable.
+/// A lecture in a slot in which its course is unavailable.
 fn availability<'i>(instance: &'i Instance, lecture: &Placed) -> ArrayVec<Fact<'i>, 8>
     requires { Fits instance.now lecture.now }
     ensures { result.items ≡ facts instance.now (Availability lecture.now) }

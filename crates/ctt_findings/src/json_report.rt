@@ -1,7 +1,6 @@
 //! The report on a timetable as JSON, without its findings or around them.
 
 ghost use Rattle.std.specs.Prelude.{◌≡◌, ◌++◌, ◌^◌, ◌<◌, ◌≤◌, false, IfOk, OnOk, codes, cond, drop, length};
-ghost use Rattle.std.specs.String.{string_bytes};
 ghost use Rattle.serde_json.specs.Data.{array, boolean, member, no_items, no_members, number, put as with_member, unsigned};
 ghost use Rattle.serde_json.specs.View.{members_view, view};
 ghost use Rattle.ctt_text.specs.Timetable.{IsTimetable};
@@ -187,8 +186,8 @@ fn after_front(alloc: Global, text: &[u8], front: usize) -> Result<Vec<u8>, Allo
     Ok(rest)
 }
 
-/// The report on a timetable as one line of JSON with its findings, but for these: the text up to them,
-/// and the text after them.
+/// The report on a timetable as one line of JSON with its findings, but for these: the text up to
+/// them, and the text after them.
 pub fn report_around(
     alloc: Global,
     instance: &Instance,

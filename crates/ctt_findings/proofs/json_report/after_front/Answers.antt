@@ -1,4 +1,4 @@
-use Rattle.std.proofs.Common.{◌≡◌, ◌∙◌, ◌++◌, ℕ, List, ap, ◌-◌, drop, length, take}
+use Rattle.std.proofs.Common.{◌∙◌, ◌++◌, ℕ, List, ap, ◌-◌, drop, length, take}
 use Rattle.std.proofs.lemmas.List.{take_rest}
 use Rattle.ctt_findings.proofs.json_report.after_front.Goals as goal
 

@@ -1,9 +1,9 @@
 use Rattle.std.proofs.Common.{rules, ◌≡◌, ◌∙◌, ap, codes}
 use Rattle.serde_json.specs.Data.{Data, array, no_items, put}
-use Rattle.serde_json.specs.View.{items_view, members_view, view}
+use Rattle.serde_json.specs.View.{members_view, view}
 use Rattle.serde_json.specs.declared.value.Value.{Array}
 use Rattle.serde_json.proofs.Views.{view-Array}
-use Rattle.ctt_findings.proofs.ReportLemmas.{adds, findings_put}
+use Rattle.ctt_findings.proofs.ReportLemmas.{findings_put}
 use Rattle.ctt_findings.proofs.json_report.members_to_findings.Goals as goal
 
 pub returns : goal.returns
