@@ -8,7 +8,6 @@ Nothing that a planner did is lost by it when his screen, the desk or the machin
 """
 from __future__ import annotations
 
-import errno
 import os
 from dataclasses import dataclass, field
 from typing import Optional
@@ -49,9 +48,10 @@ class SeatLog:
         """Writes a line. If it cannot be written, `fault` says why, the planner goes on, and it is
         written with the next one."""
         self._unwritten += f"{now()} {sign} ".encode() + encoded(text) + b"\n"
+        self.fault = ""
         try:
-            self._unwritten = self._unwritten[os.write(self.end, self._unwritten) :]
-            self.fault = os.strerror(errno.ENOSPC) if self._unwritten else ""
+            while self._unwritten:
+                self._unwritten = self._unwritten[os.write(self.end, self._unwritten) :]
         except OSError as fault:
             self.fault = fault.strerror or "the disk fails"
 
