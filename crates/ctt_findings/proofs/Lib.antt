@@ -8,6 +8,4 @@ pub mod FrontLemmas
 pub mod ObjectLemmas
 pub mod ReportLemmas
 pub mod RowLemmas
-pub mod PieceLemmas
-pub mod ItemLemmas
 pub mod NoneLemmas

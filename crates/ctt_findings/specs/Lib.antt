@@ -1,3 +1,4 @@
+pub mod FactValues
 pub mod Findings
 pub mod Fitting
 pub mod Hearing

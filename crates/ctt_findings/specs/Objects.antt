@@ -1,10 +1,8 @@
 -- Findings as JSON objects.
-use Rattle.std.specs.Prelude.{ℕ, Bool, true, List, [], ◌∷◌, ◌++◌, codes, slice_index_or}
-use Rattle.std.specs.Fmt.{decimal}
-use Rattle.json.specs.Print.{quoted}
+use Rattle.std.specs.Prelude.{ℕ, Bool, true, List, [], ◌∷◌, ◌++◌}
 use Rattle.serde_json.specs.Data.{Data, Items, Members, array, item, no_items, no_members, number as amount, object, put, string, unsigned}
 use Rattle.serde_json.specs.Written.{comma_if, compact_text}
-use Rattle.ctt_text.specs.Problem.{Problem, day_of, period_of}
+use Rattle.ctt_text.specs.Problem.{Problem}
 use Rattle.ctt_text.specs.declared.placed.Placed.{Placed}
 use Rattle.ctt_findings.specs.Findings.{findings}
 use Rattle.ctt_findings.specs.Lines.{Fact, Told, facts, number, word}
@@ -31,15 +29,6 @@ objects_of i (f ∷ fs) = item (object_of i f) (objects_of i fs)
 
 abbrev pub all_objects : Problem → List Placed → Data
 all_objects i t = array (objects_of i (findings i t))
-
--- the text of an object of a conflict behind the key of its first course: the two courses, their slot, and the name of what they have in common
-abbrev pub clash_text : Problem → ℕ → ℕ → ℕ → List ℕ → List ℕ
-clash_text i c d s name =
-    quoted (slice_index_or i.course_names c [])
-    ++ (codes ",\"day\":" ++ (decimal (day_of i s)
-    ++ (codes ",\"kind\":\"conflict\",\"name\":" ++ (quoted name
-    ++ (codes ",\"other\":" ++ (quoted (slice_index_or i.course_names d [])
-    ++ (codes ",\"period\":" ++ (decimal (period_of i s) ++ codes "}"))))))))
 
 -- the text of an object among others, with a comma before it, unless it is the first
 abbrev pub item_text : Problem → Bool → Finding → List ℕ

@@ -86,6 +86,11 @@ abbrev pub open_text : Bool → Members → List ℕ
 open_text later no_members = []
 open_text later (member k d ms) = comma_if later ++ (compact_text (string k) ++ 58 ∷ (compact_text d ++ open_text true ms))
 
+-- the text of the report's object up to the first of its findings
+abbrev pub text_to_findings : Bool → Hard → Cost → Bool → List ℕ
+text_to_findings barred hard cost complete =
+    codes "{" ++ (open_text false (members_before barred hard cost complete no_members) ++ codes ",\"findings\":[")
+
 -- the report as a JSON object
 unfoldable pub data_of : List ℕ → Bool → Hard → Cost → Bool → Bool → Data
 data_of name barred hard cost lawful complete =

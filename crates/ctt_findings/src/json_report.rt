@@ -1,15 +1,13 @@
 //! The report on a timetable as JSON, without its findings or around them.
 
-ghost use Rattle.std.specs.Prelude.{◌≡◌, ◌++◌, ◌^◌, ◌<◌, false, IfOk, OnOk, codes, cond};
-ghost use Rattle.std.specs.String.{string_bytes};
-ghost use Rattle.serde_json.specs.Data.{boolean, no_members, number, put as with_member, unsigned};
+ghost use Rattle.std.specs.Prelude.{◌≡◌, ◌++◌, ◌^◌, ◌<◌, ◌≤◌, false, IfOk, OnOk, codes, cond, drop, length};
+ghost use Rattle.serde_json.specs.Data.{array, boolean, member, no_items, no_members, number, put as with_member, unsigned};
 ghost use Rattle.serde_json.specs.View.{members_view, view};
-ghost use Rattle.serde_json.specs.Written.{members_text};
 ghost use Rattle.ctt_text.specs.Timetable.{IsTimetable};
 ghost use Rattle.ctt_rules.specs.Penalty.{total};
 ghost use Rattle.ctt_findings.specs.Findings.{findings};
 ghost use Rattle.ctt_findings.specs.Objects.{item_texts};
-ghost use Rattle.ctt_findings.specs.ReportText.{IsExplainedJson, IsJsonReport, data_of, members_before, members_behind, open_text, with_behind};
+ghost use Rattle.ctt_findings.specs.ReportText.{IsExplainedJson, IsJsonReport, data_of, explained_json_of, members_before, text_to_findings, with_behind};
 
 use crate::members::{put_count, put_text};
 use ctt_rules::{Assessment, assess};
@@ -126,40 +124,70 @@ pub fn report_json(
     Ok(report.into_bytes())
 }
 
+/// The members up to the one of the findings, of which there are none here.
+fn members_to_findings(
+    alloc: Global,
+    barred: bool,
+    assessment: &Assessment,
+) -> Result<Map<String, Value>, AllocError>
+    ensures { IfOk result (λ report. members_view report.entries
+        ≡ members_before barred assessment.now.hard assessment.now.cost assessment.now.complete
+        (member (codes "findings") (array no_items) no_members)) }
+{
+    let mut report = front_members(alloc, barred, assessment)?;
+    serde_json::put(
+        &mut report,
+        alloc,
+        "findings",
+        Value::Array(Vec::new(alloc)),
+    )?;
+    Ok(report)
+}
+
 /// The text of the report's object up to the items of its findings.
 fn front(alloc: Global, barred: bool, assessment: &Assessment) -> Result<Vec<u8>, AllocError>
     ensures { IfOk result (λ text. text.items
-        ≡ codes "{" ++ (open_text false
-        (members_before barred assessment.now.hard assessment.now.cost assessment.now.complete
-        no_members) ++ codes ",\"findings\":[")) }
+        ≡ text_to_findings barred assessment.now.hard assessment.now.cost assessment.now.complete) }
 {
-    let members = front_members(alloc, barred, assessment)?;
+    let members = members_to_findings(alloc, barred, assessment)?;
     let mut text = Value::Object(members).to_string(alloc)?.into_bytes();
+    // The list of findings and the object end here, but more follows.
     text.pop();
-    text.extend_from_slice(b",\"findings\":[")?;
+    text.pop();
     Ok(text)
 }
 
-/// The text of the report's object behind the items of its findings, with the end of the line.
-fn rest(alloc: Global, name: &str, assessment: &Assessment) -> Result<Vec<u8>, AllocError>
+/// The report without any finding, though with their list, as one line of JSON.
+fn without_findings(
+    alloc: Global,
+    name: &str,
+    barred: bool,
+    assessment: &Assessment,
+) -> Result<Vec<u8>, AllocError>
     requires { total assessment.now.cost < 2 ^ 64 }
     ensures { IfOk result (λ text. text.items
-        ≡ codes "]," ++ (members_text false
-        (members_behind name.now assessment.now.hard assessment.now.cost assessment.now.lawful)
-        ++ codes "\n")) }
+        ≡ explained_json_of (array no_items) name.now barred assessment.now.hard
+        assessment.now.cost assessment.now.lawful assessment.now.complete) }
 {
-    let mut members = Map::new(alloc);
-    put_rest(alloc, &mut members, name, assessment)?;
-    let object = Value::Object(members).to_string(alloc)?;
-    let mut text = Vec::new(alloc);
-    text.extend_from_slice(b"],")?;
-    text.extend_from_slice(&object.as_bytes()[1..])?;
-    text.extend_from_slice(b"\n")?;
-    Ok(text)
+    let mut report = members_to_findings(alloc, barred, assessment)?;
+    put_rest(alloc, &mut report, name, assessment)?;
+    let mut text = Value::Object(report).to_string(alloc)?;
+    text.push_str("\n")?;
+    Ok(text.into_bytes())
 }
 
-/// The report on a timetable as one line of JSON with its findings, but for these: the text up to them,
-/// and the text behind them.
+/// What is left of a text after its front.
+fn after_front(alloc: Global, text: &[u8], front: usize) -> Result<Vec<u8>, AllocError>
+    requires { front ≤ length text.now }
+    ensures { IfOk result (λ rest. rest.items ≡ drop front text.now) }
+{
+    let mut rest = Vec::new(alloc);
+    rest.extend_from_slice(&text[front..])?;
+    Ok(rest)
+}
+
+/// The report on a timetable as one line of JSON with its findings, but for these: the text up to
+/// them, and the text after them.
 pub fn report_around(
     alloc: Global,
     instance: &Instance,
@@ -171,8 +199,10 @@ pub fn report_around(
         ++ (item_texts instance.now false (findings instance.now timetable.now)
         ++ parts.1.items))) }
 {
+    let barred = instance.has_barred();
     let assessment = assess(instance, timetable);
-    let front = front(alloc, instance.has_barred(), &assessment)?;
-    let rest = rest(alloc, instance.name(), &assessment)?;
+    let front = front(alloc, barred, &assessment)?;
+    let report = without_findings(alloc, instance.name(), barred, &assessment)?;
+    let rest = after_front(alloc, &report, front.len())?;
     Ok((front, rest))
 }

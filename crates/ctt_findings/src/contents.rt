@@ -1,0 +1,269 @@
+//! What each finding says, as a list of facts.
+
+ghost use Rattle.std.specs.Prelude.{◌≡◌, ◌<◌, ◌≤◌, ◌++◌, ◌∷◌, [], codes};
+ghost use Rattle.arrayvec.specs.ArrayVec.{array_vec_len};
+ghost use Rattle.ctt_text.specs.Problem.{course_count, curriculum_count, room_count, slot_count};
+ghost use Rattle.ctt_text.specs.Timetable.{Fits};
+ghost use Rattle.ctt_findings.specs.Fitting.{CauseFits, FindingFits};
+ghost use Rattle.ctt_findings.specs.Lines.{cause_facts, course, day, fact, facts, kind, period, points, room, word};
+ghost use Rattle.ctt_findings.specs.declared.finding.Finding.TheVariants.{Lectures, Conflict, Availability, Occupancy, Barred, Capacity, Days, Compactness, Stability};
+
+use crate::fact::Fact;
+use crate::finding::{Cause, Finding};
+use arrayvec::ArrayVec;
+use ctt_text::{CourseNo, CurriculumNo, Instance, Placed, RoomNo, SlotNo};
+
+/// Which finding it is.
+fn kind<'i>(name: &'i str) -> Fact<'i>
+    ensures { result ≡ kind name.now }
+{
+    Fact::word("kind", name)
+}
+
+/// The name of a course.
+fn course<'i>(instance: &'i Instance, number: CourseNo) -> Fact<'i>
+    requires { number < course_count instance.now }
+    ensures { result ≡ course instance.now number }
+{
+    Fact::word("course", instance.course_name(number))
+}
+
+/// The name of a room.
+fn room<'i>(instance: &'i Instance, number: RoomNo) -> Fact<'i>
+    requires { number < room_count instance.now }
+    ensures { result ≡ room instance.now number }
+{
+    Fact::word("room", instance.room_name(number))
+}
+
+/// The day of a slot.
+fn day<'i>(instance: &'i Instance, slot: SlotNo) -> Fact<'i>
+    requires { slot < slot_count instance.now }
+    ensures { result ≡ day instance.now slot }
+{
+    Fact::number("day", u64::from(instance.day_of(slot)))
+}
+
+/// The period of a slot.
+fn period<'i>(instance: &'i Instance, slot: SlotNo) -> Fact<'i>
+    requires { slot < slot_count instance.now }
+    ensures { result ≡ period instance.now slot }
+{
+    Fact::number("period", u64::from(instance.period_of(slot)))
+}
+
+/// What it costs.
+fn points<'i>(count: u64) -> Fact<'i>
+    ensures { result ≡ points count }
+{
+    Fact::number("points", count)
+}
+
+/// Missing or surplus lectures.
+fn lectures<'i>(
+    instance: &'i Instance,
+    number: CourseNo,
+    placed: u64,
+    stated: u32,
+) -> ArrayVec<Fact<'i>, 8>
+    requires { number < course_count instance.now }
+    ensures { result.items ≡ facts instance.now (Lectures number placed stated) }
+{
+    let mut facts = ArrayVec::new();
+    facts.push(kind("lectures"));
+    facts.push(course(instance, number));
+    facts.push(Fact::number("placed", placed));
+    facts.push(Fact::number("stated", u64::from(stated)));
+    facts
+}
+
+/// A lecture in a barred room.
+fn barred<'i>(instance: &'i Instance, lecture: &Placed) -> ArrayVec<Fact<'i>, 8>
+    requires { Fits instance.now lecture.now }
+    ensures { result.items ≡ facts instance.now (Barred lecture.now) }
+{
+    let mut facts = ArrayVec::new();
+    facts.push(kind("barred"));
+    facts.push(course(instance, lecture.course));
+    facts.push(room(instance, lecture.room));
+    facts.push(day(instance, lecture.slot));
+    facts.push(period(instance, lecture.slot));
+    facts
+}
+
+/// Two lectures in one slot whose courses clash.
+fn conflict<'i>(
+    instance: &'i Instance,
+    number: CourseNo,
+    other: CourseNo,
+    slot: SlotNo,
+    cause: &Cause,
+) -> ArrayVec<Fact<'i>, 8>
+    requires course { number < course_count instance.now }
+    requires other { other < course_count instance.now }
+    requires slot { slot < slot_count instance.now }
+    requires cause { CauseFits instance.now cause.now }
+    ensures { result.items ≡ facts instance.now (Conflict number other slot cause.now) }
+{
+    let mut facts = ArrayVec::new();
+    facts.push(kind("conflict"));
+    facts.push(course(instance, number));
+    facts.push(Fact::word("other", instance.course_name(other)));
+    facts.push(day(instance, slot));
+    facts.push(period(instance, slot));
+    push_cause(&mut facts, instance, cause);
+    facts
+}
+
+/// Adds what two courses have in common, and its name.
+fn push_named<'i>(facts: &mut ArrayVec<Fact<'i>, 8>, cause: &'i str, name: &'i str)
+    requires { array_vec_len facts.old ≤ 6 }
+    ensures { facts.new.items ≡ facts.old.items
+        ++ fact (codes "cause") (word cause.now) ∷ fact (codes "name") (word name.now) ∷ [] }
+{
+    facts.push(Fact::word("cause", cause));
+    facts.push(Fact::word("name", name));
+}
+
+/// Adds why two courses clash.
+fn push_cause<'i>(facts: &mut ArrayVec<Fact<'i>, 8>, instance: &'i Instance, cause: &Cause)
+    requires room { array_vec_len facts.old ≤ 6 }
+    requires cause { CauseFits instance.now cause.now }
+    ensures { facts.new.items ≡ facts.old.items ++ cause_facts instance.now cause.now }
+{
+    match cause {
+        Cause::Teacher(teacher) => {
+            push_named(facts, "teacher", instance.teacher_name(*teacher));
+        }
+        Cause::Curriculum(curriculum) => {
+            push_named(facts, "curriculum", instance.curriculum_name(*curriculum));
+        }
+    }
+}
+
+/// A lecture in a slot in which its course is unavailable.
+fn availability<'i>(instance: &'i Instance, lecture: &Placed) -> ArrayVec<Fact<'i>, 8>
+    requires { Fits instance.now lecture.now }
+    ensures { result.items ≡ facts instance.now (Availability lecture.now) }
+{
+    let mut facts = ArrayVec::new();
+    facts.push(kind("availability"));
+    facts.push(course(instance, lecture.course));
+    facts.push(day(instance, lecture.slot));
+    facts.push(period(instance, lecture.slot));
+    facts
+}
+
+/// A lecture in a room that is taken.
+fn occupancy<'i>(instance: &'i Instance, lecture: &Placed) -> ArrayVec<Fact<'i>, 8>
+    requires { Fits instance.now lecture.now }
+    ensures { result.items ≡ facts instance.now (Occupancy lecture.now) }
+{
+    let mut facts = ArrayVec::new();
+    facts.push(kind("occupancy"));
+    facts.push(room(instance, lecture.room));
+    facts.push(day(instance, lecture.slot));
+    facts.push(period(instance, lecture.slot));
+    facts.push(course(instance, lecture.course));
+    facts
+}
+
+/// A lecture with more students than seats.
+fn capacity<'i>(instance: &'i Instance, lecture: &Placed, count: u64) -> ArrayVec<Fact<'i>, 8>
+    requires { Fits instance.now lecture.now }
+    ensures { result.items ≡ facts instance.now (Capacity lecture.now count) }
+{
+    let mut facts = ArrayVec::new();
+    facts.push(kind("capacity"));
+    facts.push(course(instance, lecture.course));
+    facts.push(room(instance, lecture.room));
+    facts.push(day(instance, lecture.slot));
+    facts.push(period(instance, lecture.slot));
+    facts.push(points(count));
+    facts
+}
+
+/// Too few days of a course.
+fn days<'i>(
+    instance: &'i Instance,
+    number: CourseNo,
+    taken: u64,
+    minimum: u32,
+    count: u64,
+) -> ArrayVec<Fact<'i>, 8>
+    requires { number < course_count instance.now }
+    ensures { result.items ≡ facts instance.now (Days number taken minimum count) }
+{
+    let mut facts = ArrayVec::new();
+    facts.push(kind("days"));
+    facts.push(course(instance, number));
+    facts.push(Fact::number("days", taken));
+    facts.push(Fact::number("minimum", u64::from(minimum)));
+    facts.push(points(count));
+    facts
+}
+
+/// A lecture that stands alone.
+fn compactness<'i>(
+    instance: &'i Instance,
+    curriculum: CurriculumNo,
+    lecture: &Placed,
+    count: u64,
+) -> ArrayVec<Fact<'i>, 8>
+    requires curriculum { curriculum < curriculum_count instance.now }
+    requires lecture { Fits instance.now lecture.now }
+    ensures { result.items ≡ facts instance.now (Compactness curriculum lecture.now count) }
+{
+    let mut facts = ArrayVec::new();
+    facts.push(kind("compactness"));
+    facts.push(Fact::word("curriculum", instance.curriculum_name(curriculum)));
+    facts.push(course(instance, lecture.course));
+    facts.push(day(instance, lecture.slot));
+    facts.push(period(instance, lecture.slot));
+    facts.push(points(count));
+    facts
+}
+
+/// Rooms of a course beyond the first.
+fn stability<'i>(
+    instance: &'i Instance,
+    number: CourseNo,
+    rooms: u64,
+    count: u64,
+) -> ArrayVec<Fact<'i>, 8>
+    requires { number < course_count instance.now }
+    ensures { result.items ≡ facts instance.now (Stability number rooms count) }
+{
+    let mut facts = ArrayVec::new();
+    facts.push(kind("stability"));
+    facts.push(course(instance, number));
+    facts.push(Fact::number("rooms", rooms));
+    facts.push(points(count));
+    facts
+}
+
+/// What a finding says, in the order of its line.
+pub fn facts<'i>(instance: &'i Instance, finding: &Finding) -> ArrayVec<Fact<'i>, 8>
+    requires { FindingFits instance.now finding.now }
+    ensures { result.items ≡ facts instance.now finding.now }
+{
+    match finding {
+        Finding::Lectures(course, placed, stated) => {
+            lectures(instance, *course, *placed, *stated)
+        }
+        Finding::Conflict(course, other, slot, cause) => {
+            conflict(instance, *course, *other, *slot, cause)
+        }
+        Finding::Availability(lecture) => availability(instance, lecture),
+        Finding::Occupancy(lecture) => occupancy(instance, lecture),
+        Finding::Barred(lecture) => barred(instance, lecture),
+        Finding::Capacity(lecture, points) => capacity(instance, lecture, *points),
+        Finding::Days(course, count, minimum, points) => {
+            days(instance, *course, *count, *minimum, *points)
+        }
+        Finding::Compactness(curriculum, lecture, points) => {
+            compactness(instance, *curriculum, lecture, *points)
+        }
+        Finding::Stability(course, rooms, points) => stability(instance, *course, *rooms, *points),
+    }
+}

@@ -1,0 +1,75 @@
+//! What a finding says, fact by fact.
+
+use std::marker::Model;
+
+/// A word or a number.
+#[derive(Clone, Copy, Drop)]
+pub enum FactValue<'i> {
+    /// A name of the instance, or a word of the program's own.
+    Word(&'i str),
+    /// A number.
+    Number(u64),
+}
+
+/// A value, with the key of its member in a JSON object.
+#[derive(Drop)]
+pub struct Fact<'i> {
+    key: &'static str,
+    value: FactValue<'i>,
+}
+
+impl<'i> Model for Fact<'i> {
+    ghost use Rattle.ctt_findings.specs.Lines.{Fact as KeyedValue};
+    ghost use Rattle.ctt_findings.specs.FactValues.{content_of};
+
+    ghost Value = { KeyedValue };
+
+    ghost view = { λ f. record { key = f.key.now; value = content_of f.value } };
+}
+
+impl<'i> Fact<'i> {
+    ghost use Rattle.std.specs.Prelude.{◌≡◌};
+    ghost use Rattle.ctt_findings.specs.Lines.{fact, number, word};
+    ghost use Rattle.ctt_findings.specs.FactValues.{content_of};
+
+    /// A fact whose value is a word.
+    pub fn word(key: &'static str, text: &'i str) -> Self
+        ensures { result ≡ fact key.now (word text.now) }
+    {
+        Fact {
+            key,
+            value: FactValue::Word(text),
+        }
+    }
+
+    /// A fact whose value is a number.
+    pub fn number(key: &'static str, count: u64) -> Self
+        ensures { result ≡ fact key.now (number count) }
+    {
+        Fact {
+            key,
+            value: FactValue::Number(count),
+        }
+    }
+
+    /// The key.
+    pub fn key(&self) -> &'static str
+        ensures { result.now ≡ self.now.key }
+    {
+        self.key
+    }
+
+    /// The value.
+    pub fn value(&self) -> FactValue<'i>
+        ensures { content_of result ≡ self.now.value }
+    {
+        self.value
+    }
+}
+
+impl<'i> Default for Fact<'i> {
+    /// An empty word without a key.
+    fn default() -> Self {
+        Fact::word("", "")
+    }
+}

@@ -1,0 +1,54 @@
+//! Words as text.
+
+ghost use Rattle.std.specs.Prelude.{◌≡◌, ◌++◌, OnOk, string_bytes};
+ghost use Rattle.ctt_line.specs.Lines.{line, rest_of_line, words_part};
+
+use crate::word::{Form, Word};
+use itoa::Buffer;
+use std::alloc::AllocError;
+
+/// Adds a word.
+fn push_word(text: &mut String, word: &Word<'_>) -> Result<(), AllocError>
+    ensures { OnOk result (string_bytes text.new ≡ string_bytes text.old ++ word.now) }
+{
+    match word.form() {
+        Form::Text(word) => text.push_str(word),
+        Form::Number(number) => text.push_str(Buffer::new().format(number)),
+        Form::Amount(amount) => text.push_str(Buffer::new().format(amount)),
+    }
+}
+
+/// Adds words, with a blank before each.
+pub fn push_words(text: &mut String, words: &[Word<'_>]) -> Result<(), AllocError>
+    ensures { OnOk result (string_bytes text.new
+        ≡ string_bytes text.old ++ words_part words.now) }
+{
+    for word in words {
+        text.push(' ')?;
+        push_word(text, word)?;
+    }
+    Ok(())
+}
+
+/// Adds words as the rest of a line, with a blank before each.
+fn end_line(text: &mut String, words: &[Word<'_>]) -> Result<(), AllocError>
+    ensures { OnOk result (string_bytes text.new
+        ≡ string_bytes text.old ++ rest_of_line words.now) }
+{
+    for word in words {
+        text.push(' ')?;
+        push_word(text, word)?;
+    }
+    text.push('\n')
+}
+
+/// Adds words as a line, with one blank between two.
+pub fn push_line(text: &mut String, words: &[Word<'_>]) -> Result<(), AllocError>
+    ensures { OnOk result (string_bytes text.new ≡ string_bytes text.old ++ line words.now) }
+{
+    let Some((first, rest)) = words.split_first() else {
+        return text.push('\n');
+    };
+    push_word(text, first)?;
+    end_line(text, rest)
+}
