@@ -5,14 +5,14 @@ use Rattle.ctt_files.specs.declared.fault.Fault.TheVariants.{WordsNotText, NoMem
 use Rattle.ctt_files.specs.declared.outcome.Outcome.TheVariants.{Done, Differs, Unlawful, Incomplete}
 use Rattle.ctt_words.specs.Jobs.{faults_of}
 use Rattle.ctt_tool.specs.Faults.{SaysFault}
-use Rattle.ctt_tool.specs.Work.{DoesAsAsked, EndsAsDone, AsksForRefusedText, AsksToStore, AsksToSay, SaysAsAsked, KeepAsAsked, AreTurnedDown, HasCause, WarnsAsAsked}
+use Rattle.ctt_tool.specs.Work.{DoesAsAsked, EndsAsDone, AsksForRefusedText, AsksToStore, AsksToSay, AsksToWarn, SaysAsAsked, KeepAsAsked, AreTurnedDown, HasCause, WarnsAsAsked}
 
 -- what the program has done for these words, by the status with which it ends: of standard output `taken` says what it took, and
 -- `failed` whether it failed; of standard error `told` and `broken` say so
 pub record IsServed {W V : Type 0} (taken : W → Option (List ℕ)) (failed : W → Bool) (told : V → Option (List ℕ)) (broken : V → Bool) (words : List (List ℕ)) (status : ℕ) (before after : Held) (out new_out : W) (err new_err : V) : Type 0 where
   pub done : status ≡ 0 → DoesAsAsked words Done before after (taken out) (taken new_out)
   pub unsaid : status ≡ 0 → AsksToSay words ⊎ (new_err ≡ err)
-  pub says : status ≡ 0 → (broken new_err ≡ true) ⊎ SaysAsAsked words before (told err) (told new_err)
+  pub says : status ≡ 0 → (AsksToWarn words × (broken new_err ≡ true)) ⊎ SaysAsAsked words before (told err) (told new_err)
   pub one : status ≡ 1 → (AsksForRefusedText words before × (new_out ≡ out)) ⊎ (DoesAsAsked words Differs before after (taken out) (taken new_out) × (new_err ≡ err))
   pub four : status ≡ 4 → DoesAsAsked words Unlawful before after (taken out) (taken new_out) × (new_err ≡ err)
   pub five : status ≡ 5 → DoesAsAsked words Incomplete before after (taken out) (taken new_out) × (new_err ≡ err)

@@ -23,7 +23,7 @@ use Rattle.ctt_files.specs.declared.outcome.Outcome.TheVariants.{Done}
 use Rattle.ctt_tool.specs.Audits.{AuditsJournal}
 use Rattle.ctt_tool.specs.Crews.{PrintsCrew}
 use Rattle.ctt_tool.specs.Desks.{PrintsLast, SaysLast, Warns}
-use Rattle.ctt_tool.specs.Jobs.{HasBadSeats, Saying, Storing, scripts_of, stored_by}
+use Rattle.ctt_tool.specs.Jobs.{HasBadSeats, Saying, Storing, Warning, scripts_of, stored_by}
 use Rattle.ctt_tool.specs.Lists.{ListsJournal, PrintsJournal, SaysTornOf}
 use Rattle.ctt_tool.specs.Mends.{PrintsMendedOf, SaysAsideOf}
 use Rattle.ctt_tool.specs.Refusals.{IsOfAudit, IsOfCrew, IsOfDesk, IsOfMending, IsOfRecovery, IsOfRun}
@@ -118,6 +118,10 @@ AreTurnedDown words = AreRefused words ⊎ (AsksForTooMany words ⊎ AsksForBadS
 -- the words ask for a job that may say something where it is done
 abbrev pub AsksToSay : List (List ℕ) → Type 0
 AsksToSay words = (job : Job) × IsJobOf words job × Saying job.task
+
+-- the words ask for a job that may warn
+abbrev pub AsksToWarn : List (List ℕ) → Type 0
+AsksToWarn words = (job : Job) × IsJobOf words job × Warning job.task
 
 -- nothing is said, or what the job says for which the words ask
 abbrev pub SaysAsAsked : List (List ℕ) → Held → Option (List ℕ) → Option (List ℕ) → Type 0

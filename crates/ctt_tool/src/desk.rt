@@ -1,6 +1,6 @@
 //! The command `desk`.
 
-ghost use Rattle.std.specs.Prelude.{◌≡◌, ◌⊎◌, ◌≤◌, ◌<◌, ◌++◌, Err, true, is_some, length, codes, OnOk, OnErr, IfOk, IfErr};
+ghost use Rattle.std.specs.Prelude.{◌≡◌, ◌⊎◌, ◌≤◌, ◌<◌, ◌++◌, Err, true, false, is_some, length, codes, OnOk, OnErr, IfOk, IfErr};
 ghost use Rattle.std.specs.String.{string_bytes};
 ghost use Rattle.ctt_office.specs.OfficeFaults.{IsOfficeFault};
 ghost use Rattle.ctt_files.specs.Faults.{IfUnwritten, MayHaveWritten};
@@ -9,7 +9,7 @@ ghost use Rattle.ctt_files.specs.declared.fault.Fault.TheVariants.{BadSeats, Can
 ghost use Rattle.ctt_files.specs.declared.outcome.Outcome.TheVariants.{Done};
 ghost use Rattle.ctt_tool.specs.Desks.{IsOfDeskFrom, IsOfDeskOn, IsOpenOn, PrintsLast, SaysLast, TellsLines, Warns};
 ghost use Rattle.ctt_tool.specs.Refusals.{IsOfDesk, IsOfOldMinutes, IsOfOpening, IsOfSeats, IsOfWork, IsToldOf, IsUnread, IsUnreadAt};
-ghost use Rattle.ctt_tool.specs.Seats.{has_seat, has_twice};
+ghost use Rattle.ctt_tool.specs.Seats.{has_seat, has_standard, has_twice};
 
 use crate::office::{Office, STANDARD};
 use crate::printed::print_last;
@@ -140,8 +140,9 @@ fn minutes_in<O: Office>(office: &O, minutes: Option<String>) -> Result<Option<O
 
 /// Says that what is committed ends with the desk, unless minutes are written.
 fn warn<V: Sink>(err: &mut V, is_written: bool)
-    ensures { (V.has_failed err.new ≡ true)
+    ensures warns { (V.has_failed err.new ≡ true)
         ⊎ Warns is_written (V.taken err.old) (V.taken err.new) }
+    ensures quiet { is_written ≡ true → err.new ≡ err.old }
 {
     if !is_written {
         complain(err, NO_MINUTES.as_bytes());
@@ -173,6 +174,7 @@ fn keep<R: Threads + Wait + Sync, F: Files, O: Office, V: Sink>(
         ⊎ Warns (is_some minutes) (V.taken err.old) (V.taken err.new)) }
     ensures said { OnErr result ((err.new ≡ err.old) ⊎ ((V.has_failed err.new ≡ true)
         ⊎ Warns (is_some minutes) (V.taken err.old) (V.taken err.new))) }
+    ensures quiet { is_some minutes ≡ true → err.new ≡ err.old }
 {
     let is_written = minutes.is_some();
     let opened = open_on::<GridSheet, F>(alloc, files, instance, start)?;
@@ -215,6 +217,7 @@ fn report<R: Threads + Wait + Sync, F: Files, O: Office, V: Sink>(
         ⊎ Warns (is_some minutes) (V.taken err.old) (V.taken err.new)) }
     ensures said { OnErr result ((err.new ≡ err.old) ⊎ ((V.has_failed err.new ≡ true)
         ⊎ Warns (is_some minutes) (V.taken err.old) (V.taken err.new))) }
+    ensures quiet { is_some minutes ≡ true → err.new ≡ err.old }
 {
     let instance = fetch_instance(alloc, files, instance, barred)?;
     let kept = keep(
@@ -239,6 +242,7 @@ fn print_report<W: Sink, V: Sink>(
         × (V.has_failed err.new ≡ V.has_failed err.old)) }
     ensures cause { IfErr result (λ fault. fault ≡ CannotWrite) }
     ensures unsaid { OnErr result ((err.new ≡ err.old) ⊎ (V.has_failed err.new ≡ true)) }
+    ensures quiet { is_seat ≡ false → err.new ≡ err.old }
 {
     if is_seat {
         print_last(err, report)
@@ -266,9 +270,11 @@ pub fn desk<R: Threads + Wait + Sync, F: Files, O: Office, W: Sink, V: Sink>(
     requires { 1 ≤ length seats.items }
     ensures prints { OnOk result (PrintsLast instance barred seats.items start (F.held files.old)
         (W.taken out.old) (W.taken out.new)) }
-    ensures says { OnOk result ((V.has_failed err.new ≡ true)
+    ensures says { OnOk result (((is_some minutes ≡ false) × (V.has_failed err.new ≡ true))
         ⊎ SaysLast instance barred seats.items start minutes (F.held files.old)
         (V.taken err.old) (V.taken err.new)) }
+    ensures quiet { OnOk result ((is_some minutes ≡ false)
+        ⊎ ((has_standard seats.items ≡ true) ⊎ (err.new ≡ err.old))) }
     ensures done { IfOk result (λ outcome. outcome ≡ Done) }
     ensures many { 64 < length seats.items → result ≡ Err BadSeats }
     ensures twice { has_twice seats.items ≡ true → result ≡ Err BadSeats }
@@ -280,7 +286,7 @@ pub fn desk<R: Threads + Wait + Sync, F: Files, O: Office, W: Sink, V: Sink>(
         × (W.has_failed out.new ≡ W.has_failed out.old))) }
     ensures unwritten { IfErr result (λ fault. MayHaveWritten fault ⊎ (out.new ≡ out.old)) }
     ensures unsaid { OnErr result ((err.new ≡ err.old) ⊎ ((V.has_failed err.new ≡ true)
-        ⊎ Warns (is_some minutes) (V.taken err.old) (V.taken err.new))) }
+        ⊎ ((is_some minutes ≡ false) × Warns false (V.taken err.old) (V.taken err.new)))) }
 {
     if seats.len() > SEAT_LIMIT || has_twice(&seats) {
         return Err(Fault::BadSeats);

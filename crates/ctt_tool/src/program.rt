@@ -6,10 +6,10 @@ ghost use Rattle.ctt_files.specs.Faults.{IfUnwritten, MayHaveWritten, status_of}
 ghost use Rattle.ctt_files.specs.declared.fault.Fault.TheVariants.{NoMemory};
 ghost use Rattle.ctt_files.specs.declared.outcome.Outcome.TheVariants.{Done};
 ghost use Rattle.ctt_tool.specs.Faults.{KeptUnless, SaysFault};
-ghost use Rattle.ctt_tool.specs.Jobs.{Saying, Storing, stored_by};
+ghost use Rattle.ctt_tool.specs.Jobs.{Saying, Storing, Warning, stored_by};
 ghost use Rattle.ctt_tool.specs.Runs.{KeepOthers};
 ghost use Rattle.ctt_tool.specs.Served.{IsServed};
-ghost use Rattle.ctt_tool.specs.Work.{AsksToSay, AsksToStore, DoesAsAsked, DoesJob, GivesHelp, HasCause, IsOfHelp, IsOfJob, KeepAsAsked, PrintsHelp, SaysAsAsked, SaysOfTask, WarnsAsAsked, WarnsOfTask, texts};
+ghost use Rattle.ctt_tool.specs.Work.{AsksToSay, AsksToStore, AsksToWarn, DoesAsAsked, DoesJob, GivesHelp, HasCause, IsOfHelp, IsOfJob, KeepAsAsked, PrintsHelp, SaysAsAsked, SaysOfTask, WarnsAsAsked, WarnsOfTask, texts};
 
 use crate::audit::audit;
 use crate::crew::crew;
@@ -53,7 +53,7 @@ fn do_job<R: Threads + Wait + Sync, F: Files, O: Office, W: Sink, V: Sink>(
     ensures others { KeepOthers (stored_by job.task) (F.held files.old) (F.held files.new) }
     ensures quiet { IfOk result (λ outcome.
         (Saying job.task × (outcome ≡ Done)) ⊎ (err.new ≡ err.old)) }
-    ensures says { OnOk result ((V.has_failed err.new ≡ true)
+    ensures says { OnOk result ((Warning job.task × (V.has_failed err.new ≡ true))
         ⊎ SaysOfTask job.instance job.barred job.task (F.held files.old)
         (V.taken err.old) (V.taken err.new)) }
     ensures unsaid { OnErr result ((err.new ≡ err.old) ⊎ ((V.has_failed err.new ≡ true)
@@ -133,7 +133,7 @@ fn do_as_asked<R: Threads + Wait + Sync, F: Files, O: Office, W: Sink, V: Sink>(
     ensures taken { IfErr result (λ fault. status_of fault ≡ 1 → faults_of (texts words.now) ≡ []) }
     ensures quiet { IfOk result (λ outcome.
         (AsksToSay (texts words.now) × (outcome ≡ Done)) ⊎ (err.new ≡ err.old)) }
-    ensures says { OnOk result ((V.has_failed err.new ≡ true)
+    ensures says { OnOk result ((AsksToWarn (texts words.now) × (V.has_failed err.new ≡ true))
         ⊎ SaysAsAsked (texts words.now) (F.held files.old) (V.taken err.old) (V.taken err.new)) }
     ensures unsaid { OnErr result ((V.has_failed err.new ≡ true)
         ⊎ WarnsAsAsked (texts words.now) (V.taken err.old) (V.taken err.new)) }

@@ -40,7 +40,7 @@ pub returns-in-Ok-clause-others : goal.returns-in-Ok-clause-others
 returns-in-Ok-clause-others g c = inr (c.in-Ok.job, c.in-Ok.ensures.job, c.do_job.ensures.others)
 
 pub returns-in-Ok-clause-says : goal.returns-in-Ok-clause-says
-returns-in-Ok-clause-says g c = on_ok_weaker c.do_job.result _ _ (λ says. ⊎_elim inl (λ said. inr (inr (c.in-Ok.job, c.in-Ok.ensures.job, said))) says) c.do_job.ensures.says
+returns-in-Ok-clause-says g c = on_ok_weaker c.do_job.result _ _ (λ says. ⊎_elim (λ failed. inl ((c.in-Ok.job, c.in-Ok.ensures.job, failed.0), failed.1)) (λ said. inr (inr (c.in-Ok.job, c.in-Ok.ensures.job, said))) says) c.do_job.ensures.says
 
 pub returns-in-Err-clause-says : goal.returns-in-Err-clause-says
 returns-in-Err-clause-says g c = on_ok_too c.answer_words.result _ (inr (inl refl))

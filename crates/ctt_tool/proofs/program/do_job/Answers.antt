@@ -1,7 +1,8 @@
 use Rattle.std.proofs.Common.{◌≡◌, ◌⊎◌, inl, inr, ap, refl, subst, sym, true, ⊎_elim}
 use Rattle.std.proofs.lemmas.Result.{IfErr-weaker, IfOk-weaker}
 use Rattle.ctt_files.specs.Faults.{IfUnwritten}
-use Rattle.ctt_tool.specs.Jobs.{Saying, Storing, stored_by}
+use Rattle.ctt_tool.specs.Desks.{Warns}
+use Rattle.ctt_tool.specs.Jobs.{Saying, Storing, Warning, stored_by}
 use Rattle.ctt_tool.specs.Runs.{KeepOthers}
 use Rattle.ctt_tool.specs.Work.{DoesTask, IsOfTask, SaysOfTask, WarnsOfTask}
 use Rattle.ctt_files.proofs.Plain.{on_ok_weaker, unwritten_more}
@@ -64,7 +65,8 @@ returns-in-Journal-clause-done g c = done_so c.journal.result _ _ c.journal.ensu
     (λ outcome done does. subst (λ task. DoesTask c.args.job.instance c.args.job.barred task outcome (g.F.Files.held c.args.files.now) (g.F.Files.held c.journal.new.files) (g.W.Sink.taken c.args.out.now) (g.W.Sink.taken c.journal.new.out)) (sym c.in-Journal.is) (done, c.journal.ensures.kept, does))
 
 pub returns-in-Desk-clause-quiet : goal.returns-in-Desk-clause-quiet
-returns-in-Desk-clause-quiet g c = IfOk-weaker c.desk.result _ _ (λ outcome done. inl (subst Saying (sym c.in-Desk.is) tt, done)) c.desk.ensures.done
+returns-in-Desk-clause-quiet g c = done_so c.desk.result _ _ c.desk.ensures.done c.desk.ensures.quiet
+    (λ outcome done quiet. ⊎_elim (λ unminuted. inl (subst Saying (sym c.in-Desk.is) (inl unminuted), done)) (λ other. ⊎_elim (λ seat. inl (subst Saying (sym c.in-Desk.is) (inr seat), done)) inr other) quiet)
 
 pub returns-in-Journal-clause-quiet : goal.returns-in-Journal-clause-quiet
 returns-in-Journal-clause-quiet g c = IfOk-weaker c.journal.result _ _ (λ outcome done. inl (subst Saying (sym c.in-Journal.is) tt, done)) c.journal.ensures.done
@@ -110,15 +112,15 @@ returns-in-Listing-clause-says g c = on_ok_too c.list.result _ (inr (subst (λ t
 
 pub returns-in-Desk-clause-says : goal.returns-in-Desk-clause-says
 returns-in-Desk-clause-says g c = on_ok_weaker c.desk.result _ _
-    (λ says. ⊎_elim inl (λ last. inr (subst (λ task. SaysOfTask c.args.job.instance c.args.job.barred task (g.F.Files.held c.args.files.now) (g.V.Sink.taken c.args.err.now) (g.V.Sink.taken c.desk.new.err)) (sym c.in-Desk.is) last)) says) c.desk.ensures.says
+    (λ says. ⊎_elim (λ failed. inl (subst Warning (sym c.in-Desk.is) failed.0, failed.1)) (λ last. inr (subst (λ task. SaysOfTask c.args.job.instance c.args.job.barred task (g.F.Files.held c.args.files.now) (g.V.Sink.taken c.args.err.now) (g.V.Sink.taken c.desk.new.err)) (sym c.in-Desk.is) last)) says) c.desk.ensures.says
 
 pub returns-in-Desk-clause-unsaid : goal.returns-in-Desk-clause-unsaid
 returns-in-Desk-clause-unsaid g c = on_err_weaker c.desk.result _ _
-    (λ unsaid. ⊎_elim inl (λ other. inr (⊎_elim inl (λ warns. inr (subst (λ task. WarnsOfTask task (g.V.Sink.taken c.args.err.now) (g.V.Sink.taken c.desk.new.err)) (sym c.in-Desk.is) warns)) other)) unsaid) c.desk.ensures.unsaid
+    (λ unsaid. ⊎_elim inl (λ other. inr (⊎_elim inl (λ warns. inr (subst (λ task. WarnsOfTask task (g.V.Sink.taken c.args.err.now) (g.V.Sink.taken c.desk.new.err)) (sym c.in-Desk.is) (subst (λ given. Warns given (g.V.Sink.taken c.args.err.now) (g.V.Sink.taken c.desk.new.err)) (sym warns.0) warns.1))) other)) unsaid) c.desk.ensures.unsaid
 
 pub returns-in-Journal-clause-says : goal.returns-in-Journal-clause-says
 returns-in-Journal-clause-says g c = on_ok_weaker c.journal.result _ _
-    (λ says. ⊎_elim inl (λ torn. inr (subst (λ task. SaysOfTask c.args.job.instance c.args.job.barred task (g.F.Files.held c.args.files.now) (g.V.Sink.taken c.args.err.now) (g.V.Sink.taken c.journal.new.err)) (sym c.in-Journal.is) torn)) says) c.journal.ensures.says
+    (λ says. ⊎_elim (λ failed. inl (subst Warning (sym c.in-Journal.is) tt, failed)) (λ torn. inr (subst (λ task. SaysOfTask c.args.job.instance c.args.job.barred task (g.F.Files.held c.args.files.now) (g.V.Sink.taken c.args.err.now) (g.V.Sink.taken c.journal.new.err)) (sym c.in-Journal.is) torn)) says) c.journal.ensures.says
 
 pub returns-in-Mending-clause-cause : goal.returns-in-Mending-clause-cause
 returns-in-Mending-clause-cause g c =
@@ -137,4 +139,4 @@ returns-in-Mending-clause-others g c = all_kept (stored_by c.args.job.task) _ _ 
 
 pub returns-in-Mending-clause-says : goal.returns-in-Mending-clause-says
 returns-in-Mending-clause-says g c = on_ok_weaker c.mend.result _ _
-    (λ says. ⊎_elim inl (λ aside. inr (subst (λ task. SaysOfTask c.args.job.instance c.args.job.barred task (g.F.Files.held c.args.files.now) (g.V.Sink.taken c.args.err.now) (g.V.Sink.taken c.mend.new.err)) (sym c.in-Mending.is) aside)) says) c.mend.ensures.says
+    (λ says. ⊎_elim (λ failed. inl (subst Warning (sym c.in-Mending.is) tt, failed)) (λ aside. inr (subst (λ task. SaysOfTask c.args.job.instance c.args.job.barred task (g.F.Files.held c.args.files.now) (g.V.Sink.taken c.args.err.now) (g.V.Sink.taken c.mend.new.err)) (sym c.in-Mending.is) aside)) says) c.mend.ensures.says
