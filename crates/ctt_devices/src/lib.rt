@@ -8,5 +8,5 @@ mod source;
 
 pub use device::Device;
 pub use input::{INPUT_LIMIT, InputFault, read_all};
-pub use sink::{Sink, put_all, put_whole};
+pub use sink::{Sink, put_all, put_long, put_whole};
 pub use source::{Failed, Source};

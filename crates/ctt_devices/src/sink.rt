@@ -1,8 +1,8 @@
 //! A writer, and whole texts for it.
 
-ghost use Rattle.std.specs.Prelude.{◌≡◌, ◌<◌, ◌≤◌, [], true, length, take, IfOk, OnOk, OnErr};
+ghost use Rattle.std.specs.Prelude.{◌≡◌, ◌<◌, ◌≤◌, [], true, length, take, IfOk, OnOk, OnErr, string_bytes};
 ghost use Rattle.std.specs.Io.KnownBytes.{Appends, Keeps};
-ghost use Rattle.ctt_devices.specs.Output.{AppendsFront, AppendsPart};
+ghost use Rattle.ctt_devices.specs.Output.{AppendsFront, AppendsPart, WritesOut};
 
 use crate::source::Failed;
 
@@ -76,4 +76,28 @@ pub fn put_whole<W: Sink>(writer: &mut W, bytes: &[u8]) -> Result<(), Failed>
 {
     put_all(writer, bytes)?;
     writer.flush()
+}
+
+/// From how many bytes on a text is long: few writes, and little memory.
+const LONG: usize = 32_768;
+
+/// Writes a text that is long, and clears it; a shorter one stays as it is.
+///
+/// `Failed` if a write fails or takes nothing.
+pub fn put_long<W: Sink>(writer: &mut W, text: &mut String) -> Result<(), Failed>
+    ensures written { OnOk result
+        (WritesOut (W.taken writer.old) (W.taken writer.new) (string_bytes text.old)
+        (string_bytes text.new)) }
+    ensures front { OnErr result
+        (AppendsFront (W.taken writer.old) (W.taken writer.new) (string_bytes text.old)) }
+
+    ensures marked { OnErr result (W.has_failed writer.new ≡ true) }
+    ensures unmarked { OnOk result (W.has_failed writer.new ≡ W.has_failed writer.old) }
+{
+    if text.len() < LONG {
+        return Ok(());
+    }
+    put_all(writer, text.as_bytes())?;
+    text.clear();
+    Ok(())
 }
