@@ -3,6 +3,7 @@
 
 mod amounts;
 mod answers;
+mod call_words;
 mod calls;
 mod engine;
 mod gathered;
