@@ -10,13 +10,15 @@ ghost use Rattle.ctt_draft.specs.Drafts.{AskedFits};
 ghost use Rattle.ctt_core.specs.Entries.{EntryFits};
 ghost use Rattle.ctt_script.specs.Entries.{IsShort};
 ghost use Rattle.ctt_script.specs.JournalText.{JournalSpells};
-ghost use Rattle.ctt_script.specs.WrittenText.{line, asked_text, entry_text, journal_text};
+ghost use Rattle.ctt_line.specs.Lines.{line};
+ghost use Rattle.ctt_script.specs.WrittenText.{asked_text, entry_text, journal_text};
 
-use crate::written_calls::write_call;
-use crate::written_replies::write_reply;
+use crate::answers::write_reply;
+use crate::call_words::{two, words_of_call};
 use ctt_core::{JournalEntry, PlannerNo};
 use ctt_draft::Asked;
-use ctt_text::{Instance, NoMemory, end_with_count, push_count};
+use ctt_line::{Word, push_line};
+use ctt_text::{Instance, NoMemory};
 use std::alloc::{AllocError, Global};
 
 /// Adds the lines of a call and its reply.
@@ -25,7 +27,7 @@ fn write_asked(text: &mut String, instance: &Instance, asked: &Asked) -> Result<
     ensures { OnOk result (string_bytes text.new
         ≡ string_bytes text.old ++ asked_text instance.now asked.now) }
 {
-    write_call(text, instance, &asked.call)?;
+    push_line(text, words_of_call(instance, &asked.call).as_slice())?;
     write_reply(text, instance, &asked.reply)
 }
 
@@ -34,9 +36,9 @@ fn write_entry_head(text: &mut String, planner: PlannerNo, calls: u64) -> Result
     ensures { OnOk result (string_bytes text.new
         ≡ string_bytes text.old ++ line (codes "entry" ∷ decimal planner ∷ decimal calls ∷ [])) }
 {
-    text.push_str("entry")?;
-    push_count(text, u64::from(planner.get()))?;
-    end_with_count(text, calls)
+    let mut words = two("entry", Word::number(u64::from(planner.get())));
+    words.push(Word::number(calls));
+    push_line(text, words.as_slice())
 }
 
 /// Adds the lines of the entry of a planner's draft with these calls.
@@ -76,8 +78,8 @@ pub fn write_journal(
     instance.limits_hold();
     instance.names_are_words();
     let mut text = String::new(alloc);
-    text.push_str("journal")?;
-    end_with_count(&mut text, entries.len() as u64)?;
+    let head = two("journal", Word::number(entries.len() as u64));
+    push_line(&mut text, head.as_slice())?;
     for entry in entries {
         write_entry(&mut text, instance, entry.planner, entry.asked.as_slice())?;
     }

@@ -1,0 +1,71 @@
+//! The items of the lists that replies give.
+
+use crate::call_words::{MOST, after, course, day, period, room, two, words_of_edit};
+use arrayvec::ArrayVec;
+use ctt_edits::{PricedEdit, Shortfall};
+use ctt_line::Word;
+use ctt_text::{Instance, Placed};
+
+/// What a list of a reply has.
+pub(crate) trait Item {
+    ghost use Rattle.std.specs.Prelude.{◌≡◌, List, ℕ};
+    ghost use Rattle.ctt_text.specs.Problem.{Problem};
+
+    /// It is of an instance.
+    ghost fits: { Problem → Self → Type 0 };
+
+    /// Its words in a line.
+    ghost words: { Problem → Self → List (List ℕ) };
+
+    /// Its words in a line.
+    fn words<'i>(&self, instance: &'i Instance) -> ArrayVec<Word<'i>, MOST>
+        requires { fits instance.now self.now }
+        ensures { result.items ≡ words instance.now self.now };
+}
+
+impl Item for Placed {
+    ghost use Rattle.ctt_text.specs.Timetable.{Fits};
+    ghost use Rattle.ctt_script.specs.WrittenWords.{lecture_words};
+
+    ghost fits = { Fits };
+
+    ghost words = { lecture_words };
+
+    fn words<'i>(&self, instance: &'i Instance) -> ArrayVec<Word<'i>, MOST> {
+        let mut words = ArrayVec::new();
+        words.push(course(instance, self.course));
+        words.push(room(instance, self.room));
+        words.push(day(instance, self.slot));
+        words.push(period(instance, self.slot));
+        words
+    }
+}
+
+impl Item for Shortfall {
+    ghost use Rattle.ctt_edits.specs.Fitting.{ShortfallFits};
+    ghost use Rattle.ctt_script.specs.WrittenWords.{shortfall_words};
+
+    ghost fits = { ShortfallFits };
+
+    ghost words = { shortfall_words };
+
+    fn words<'i>(&self, instance: &'i Instance) -> ArrayVec<Word<'i>, MOST> {
+        two(
+            instance.course_name(self.course),
+            Word::number(u64::from(self.missing)),
+        )
+    }
+}
+
+impl Item for PricedEdit {
+    ghost use Rattle.ctt_edits.specs.Fitting.{PricedFits};
+    ghost use Rattle.ctt_script.specs.WrittenWords.{priced_words};
+
+    ghost fits = { PricedFits };
+
+    ghost words = { priced_words };
+
+    fn words<'i>(&self, instance: &'i Instance) -> ArrayVec<Word<'i>, MOST> {
+        after(Word::amount(self.price), words_of_edit(instance, &self.edit))
+    }
+}
