@@ -11,8 +11,9 @@ ghost use Rattle.ctt_crew.specs.declared.crew_fault.CrewFault.TheVariants as cre
 use crate::crew_fault::CrewFault;
 use ctt_board::Timetable;
 use ctt_desk::{Closed, Naming, Planner, SharedDesk};
+use ctt_line::push_line;
 use ctt_rules::Cost;
-use ctt_script::write_costs;
+use ctt_script::words_of_costs;
 use ctt_text::{NoMemory, let_go};
 use std::alloc::Global;
 use std::fmt::Write;
@@ -47,7 +48,7 @@ fn crew_report(
         text.push_str(&lines)?;
     }
     writeln!(text, "journal {entries}")?;
-    write_costs(&mut text, cost)?;
+    push_line(&mut text, words_of_costs(cost).as_slice())?;
     Ok(text.into_bytes())
 }
 

@@ -6,7 +6,8 @@ ghost use Rattle.ctt_edits.specs.Fitting.{FaultFits};
 ghost use Rattle.ctt_mend.specs.Mended.{aside_line};
 
 use ctt_edits::EditFault;
-use ctt_script::write_fault;
+use ctt_line::push_line;
+use ctt_script::words_of_fault;
 use ctt_text::{Instance, Placed};
 use std::alloc::AllocError;
 use std::fmt::Write;
@@ -28,5 +29,5 @@ pub fn write_aside(
     let day = instance.day_of(lecture.slot);
     let period = instance.period_of(lecture.slot);
     write!(text, "timedesk: set aside {course} {room} {day} {period} ")?;
-    write_fault(text, instance, fault)
+    push_line(text, words_of_fault(instance, fault).as_slice())
 }

@@ -25,7 +25,8 @@ use ctt_crew::{Seat, Told, write_told};
 use ctt_desk::{Drafting, Naming, Planner, SharedFault};
 use ctt_draft::{Asked, AskedCalls};
 use ctt_edits::{Call, Edit, EditFault, Look, Reply};
-use ctt_script::{push_edit, push_fault};
+use ctt_line::push_words;
+use ctt_script::{words_of_edit, words_of_fault};
 use ctt_text::{Instance, NoMemory, let_go, push_count};
 use std::alloc::{AllocError, Global};
 
@@ -52,8 +53,8 @@ fn push_left_out(
 {
     text.push_str(" refused")?;
     push_count(text, number)?;
-    push_edit(text, instance, edit)?;
-    push_fault(text, instance, fault)
+    push_words(text, words_of_edit(instance, edit).as_slice())?;
+    push_words(text, words_of_fault(instance, fault).as_slice())
 }
 
 /// The fault that a reply tells, if it tells one.

@@ -13,7 +13,8 @@ use ctt_core::Answer;
 use ctt_crew::{Seat, Told, write_told};
 use ctt_desk::{Drafting, Naming};
 use ctt_edits::{Call, Edit, Reply};
-use ctt_script::{push_edit, write_fault};
+use ctt_line::{push_line, push_words};
+use ctt_script::{words_of_edit, words_of_fault};
 use ctt_text::Instance;
 use std::alloc::AllocError;
 
@@ -32,11 +33,11 @@ fn write_undone(
     match reply {
         Reply::Refused(fault) => {
             text.push_str("refused ")?;
-            write_fault(text, instance, fault)
+            push_line(text, words_of_fault(instance, fault).as_slice())
         }
         _ => {
             text.push_str("done")?;
-            push_edit(text, instance, edit)?;
+            push_words(text, words_of_edit(instance, edit).as_slice())?;
             text.push('\n')
         }
     }

@@ -7,7 +7,8 @@ ghost use Rattle.ctt_tool.specs.Faults.{IsOpeningFault, fault_of_journal, openin
 
 use ctt_edits::EditFault;
 use ctt_files::Fault;
-use ctt_script::{JournalFault, write_fault};
+use ctt_line::push_line;
+use ctt_script::{JournalFault, words_of_fault};
 use ctt_text::Instance;
 use std::alloc::{AllocError, Global};
 use std::fmt::Write;
@@ -24,7 +25,7 @@ fn opening_line(
 {
     let mut line = String::new(alloc);
     write!(line, "timedesk: opening {at} ")?;
-    write_fault(&mut line, instance, fault)?;
+    push_line(&mut line, words_of_fault(instance, fault).as_slice())?;
     Ok(line)
 }
 
