@@ -4,8 +4,8 @@ use Rattle.std.specs.Prelude.{codes, nat_lt, slice_index_or, unsigned_abs}
 use Rattle.std.specs.List.{list_all, AllByRecursion as Each}
 use Rattle.std.specs.Fmt.{decimal, signed_decimal}
 use Rattle.std.proofs.lemmas.Bool.{and_parts, ltb-true}
+use Rattle.ctt_line.specs.Lines.{line, rest_of_line, words_part}
 use Rattle.ctt_text.specs.Words.{words, is_blank}
-use Rattle.ctt_text.specs.Labels.{IsLabelOf, slot_words}
 use Rattle.ctt_text.specs.Problem.{Problem, IsProblem, day_of, period_of, course_count, room_count, slot_count, teacher_count, curriculum_count}
 use Rattle.ctt_text.specs.Named.{IsWord, IsNamed}
 use Rattle.ctt_text.specs.Timetable.{Fits}
@@ -38,17 +38,8 @@ use Rattle.ctt_core.specs.Entries.{EntryFits}
 use Rattle.ctt_script.specs.Entries.{IsShort, IsAsked, IsEntry}
 use Rattle.ctt_script.specs.JournalText.{JournalSpells}
 use Rattle.ctt_script.specs.WrittenWords.{course_word, room_word, day_word, period_word, edit_words, room_choice_word, day_choice_word, period_choice_word, pattern_words, look_words, call_words, fault_words, lecture_words, shortfall_words, priced_words, reply_words, asked_words, entry_words, journal_words}
-use Rattle.ctt_script.specs.WrittenText.{line, rest_of_line, words_part, lecture_part, asked_text, entry_text, journal_text}
+use Rattle.ctt_script.specs.WrittenText.{asked_text, entry_text, journal_text}
 use Rattle.ctt_script.proofs.WrittenWords.{journal_fills}
-
--- the labels of a lecture, one behind the other
-pub labelled : (i : Problem) (l : Placed) (old one two all course room slot : List ℕ) → one ≡ old ++ course → two ≡ one ++ room → all ≡ two ++ slot
-    → IsLabelOf (course_word i l.course) (Some course) → IsLabelOf (room_word i l.room) (Some room) → IsLabelOf (slot_words (day_of i l.slot) (period_of i l.slot)) (Some slot) → all ≡ old ++ lecture_part i l
-labelled i l old one two all course room slot e f g c r s =
-    rw (g, f, e) (append_assoc (old ++ course) room slot ∙ append_assoc old course (room ++ slot) ∙ ap (λ rest. old ++ rest) parts)
-  where
-    parts : course ++ (room ++ slot) ≡ lecture_part i l
-    parts = rw (c, r) (ap (λ q. 32 ∷ (course_word i l.course ++ (32 ∷ (room_word i l.room ++ q)))) s)
 
 -- words, each of them
 abbrev pub AreWords : List (List ℕ) → Type 0
@@ -105,17 +96,6 @@ module _ {A : Type 0} (P : A → Type 0) (text : A → List ℕ) (spelled : A �
 -- two texts, one behind the other
 two_words : (a b : List ℕ) (us vs : List (List ℕ)) (rest : List ℕ) → ((r : List ℕ) → words (a ++ r) ≡ us ++ words r) → ((r : List ℕ) → words (b ++ r) ≡ vs ++ words r) → words ((a ++ b) ++ rest) ≡ (us ++ vs) ++ words rest
 two_words a b us vs rest h k = ap (λ bs. words bs) (append_assoc a b rest) ∙ h (b ++ rest) ∙ ap (λ ws. us ++ ws) (k rest) ∙ sym (append_assoc us vs (words rest))
-
--- the words of lectures at the end of a line
-pub lectures_end : (i : Problem) (ls : List Placed) → rest_of_line (flat_map (lecture_words i) ls) ≡ flat_map (lecture_part i) ls ++ codes "\n"
-lectures_end i [] = refl
-lectures_end i (l ∷ ls) =
-    ap (λ x. 32 ∷ (course_word i l.course ++ (32 ∷ (room_word i l.room ++ (32 ∷ (day_word i l.slot ++ (32 ∷ (period_word i l.slot ++ x)))))))) (lectures_end i ls)
-    ∙ sym (apart (course_word i l.course) (room_word i l.room) (day_word i l.slot) (period_word i l.slot) (flat_map (lecture_part i) ls ++ codes "\n"))
-    ∙ sym (append_assoc (lecture_part i l) (flat_map (lecture_part i) ls) (codes "\n"))
-  where
-    apart : (a b c d x : List ℕ) → (32 ∷ (a ++ (32 ∷ (b ++ (32 ∷ (c ++ (32 ∷ d))))))) ++ x ≡ 32 ∷ (a ++ (32 ∷ (b ++ (32 ∷ (c ++ (32 ∷ (d ++ x)))))))
-    apart a b c d x = ap (λ q. 32 ∷ q) (append_assoc a _ x ∙ ap (λ q. a ++ 32 ∷ q) (append_assoc b _ x ∙ ap (λ q. b ++ 32 ∷ q) (append_assoc c _ x)))
 
 -- words in two parts at the end of a line
 rest_part : (ws vs : List (List ℕ)) → rest_of_line (ws ++ vs) ≡ words_part ws ++ rest_of_line vs

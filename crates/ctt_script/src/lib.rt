@@ -3,9 +3,10 @@
 
 mod amounts;
 mod answers;
+mod call_words;
+mod call_words;
 mod calls;
 mod engine;
-mod gathered;
 mod journal;
 mod journal_fault;
 mod kinds;
@@ -14,10 +15,11 @@ mod lines;
 mod patterns;
 mod places;
 mod replies;
+mod reply_words;
 mod script;
 mod script_fault;
+mod words;
 mod written;
-mod written_calls;
 mod written_replies;
 
 pub use answers::{write_answer, write_bad_line};
@@ -26,8 +28,7 @@ pub use journal::{read_entry, read_journal};
 pub use journal_fault::JournalFault;
 pub use kinds::is_word;
 pub use lines::{Lines, line_end};
-pub use script::{PLANNERS, has_words, read_line, read_own_line, read_own_line_of, read_own_text};
+pub use script::{PLANNERS, has_words, read_line, read_own_line, read_own_text};
 pub use script_fault::ScriptFault;
 pub use written::{write_entry, write_journal};
-pub use written_calls::push_edit;
-pub use written_replies::{push_fault, write_costs, write_fault};
+pub use written_replies::{push_edit, push_fault, write_costs, write_fault};

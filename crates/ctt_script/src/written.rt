@@ -10,12 +10,14 @@ ghost use Rattle.ctt_draft.specs.Drafts.{AskedFits};
 ghost use Rattle.ctt_core.specs.Entries.{EntryFits};
 ghost use Rattle.ctt_script.specs.Entries.{IsShort};
 ghost use Rattle.ctt_script.specs.JournalText.{JournalSpells};
-ghost use Rattle.ctt_script.specs.WrittenText.{line, asked_text, entry_text, journal_text};
+ghost use Rattle.ctt_line.specs.Lines.{line};
+ghost use Rattle.ctt_script.specs.WrittenText.{asked_text, entry_text, journal_text};
 
-use crate::written_calls::write_call;
+use crate::call_words::call_words;
 use crate::written_replies::write_reply;
 use ctt_core::{JournalEntry, PlannerNo};
 use ctt_draft::Asked;
+use ctt_line::push_line;
 use ctt_text::{Instance, NoMemory, end_with_count, push_count};
 use std::alloc::{AllocError, Global};
 
@@ -25,7 +27,7 @@ fn write_asked(text: &mut String, instance: &Instance, asked: &Asked) -> Result<
     ensures { OnOk result (string_bytes text.new
         ≡ string_bytes text.old ++ asked_text instance.now asked.now) }
 {
-    write_call(text, instance, &asked.call)?;
+    push_line(text, call_words(instance, &asked.call).as_slice())?;
     write_reply(text, instance, &asked.reply)
 }
 
