@@ -15,7 +15,7 @@ use Rattle.ctt_desk.specs.declared.shared_fault.SharedFault.{SharedFault}
 use Rattle.ctt_desk.specs.declared.shared_fault.SharedFault.TheVariants.{Unlawful, NoPlace as Unplaced, NoMemory}
 use Rattle.ctt_script.specs.AnswerText.{answer_words}
 use Rattle.ctt_script.specs.Entries.{AnswerFits}
-use Rattle.ctt_script.specs.WrittenText.{line}
+use Rattle.ctt_line.specs.Lines.{line}
 use Rattle.ctt_script.specs.WrittenWords.{cost_words}
 use Rattle.ctt_crew.specs.declared.crew_fault.CrewFault.{CrewFault}
 use Rattle.ctt_crew.specs.declared.crew_fault.CrewFault.TheVariants as crew_fault

@@ -22,7 +22,8 @@ use Rattle.ctt_desk.specs.declared.refusal.RefreshRefusal.TheVariants as unrefre
 use Rattle.ctt_desk.specs.declared.shared_fault.SharedFault.{SharedFault}
 use Rattle.ctt_script.specs.AnswerText.{bad_line}
 use Rattle.ctt_crew.specs.CrewText.{told_unread, told_words}
-use Rattle.ctt_script.specs.WrittenText.{entry_text, line}
+use Rattle.ctt_line.specs.Lines.{line}
+use Rattle.ctt_script.specs.WrittenText.{entry_text}
 use Rattle.ctt_crew.specs.declared.seat.Seat.{Seat}
 use Rattle.ctt_crew.specs.declared.seat.Seat.TheVariants.{Free, Drafting}
 use Rattle.ctt_crew.specs.declared.seat.Told.{Told}

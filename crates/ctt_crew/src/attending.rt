@@ -6,7 +6,7 @@ ghost use Rattle.ctt_core.specs.Runs.{EventFits};
 ghost use Rattle.ctt_crew.specs.CrewText.{call_in, ToldFits, told_words};
 ghost use Rattle.ctt_crew.specs.Attended.{Attends, IsAttended, leaver};
 ghost use Rattle.ctt_crew.specs.Seats.{AnswersCall, AnswersLine};
-ghost use Rattle.ctt_script.specs.WrittenText.{line};
+ghost use Rattle.ctt_line.specs.Lines.{line};
 
 use crate::gate::Gate;
 use crate::seat::{Seat, Told};

@@ -5,7 +5,7 @@ use Rattle.ctt_text.specs.declared.placed.Placed.{Placed}
 use Rattle.ctt_edits.specs.Edits.{edit_fault, edited}
 use Rattle.ctt_edits.specs.declared.edit.Edit.TheVariants.{Place}
 use Rattle.ctt_edits.specs.declared.fault.EditFault.{EditFault}
-use Rattle.ctt_script.specs.WrittenText.{line}
+use Rattle.ctt_line.specs.Lines.{line}
 use Rattle.ctt_script.specs.WrittenWords.{course_word, day_word, fault_words, period_word, room_word}
 
 -- a lecture that is set aside, with what stands against it

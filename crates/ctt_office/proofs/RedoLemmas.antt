@@ -22,7 +22,7 @@ use Rattle.ctt_draft.proofs.DraftSteps.{calls-push}
 use Rattle.ctt_core.specs.declared.answer.Answer.TheVariants.{NoMemory}
 use Rattle.ctt_desk.specs.Planners.{DraftingValue, Grows, IsOpen, PlannerValue, asked_also, present_of}
 use Rattle.ctt_desk.specs.declared.shared_fault.SharedFault.TheVariants as shared
-use Rattle.ctt_script.specs.WrittenText.{words_part}
+use Rattle.ctt_line.specs.Lines.{words_part}
 use Rattle.ctt_script.proofs.WrittenText.{parts_end}
 use Rattle.ctt_crew.specs.declared.seat.Seat.TheVariants.{Drafting, Free}
 use Rattle.ctt_crew.specs.declared.seat.Told.TheVariants.{Answer as Answered}

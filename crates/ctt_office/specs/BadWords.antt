@@ -2,7 +2,7 @@
 use Rattle.std.specs.Prelude.{ℕ, ◌+◌, ◌-◌, List, [], ◌∷◌, codes, slice_index_or, if◌then◌else◌}
 use Rattle.std.specs.Fmt.{decimal}
 use Rattle.std.specs.Str.{is_utf8}
-use Rattle.ctt_script.specs.WrittenText.{line}
+use Rattle.ctt_line.specs.Lines.{line}
 
 -- its number, counted from 1, and the word; none where the line ends too early, or the word is no text
 pub record BadValue : Type 0 where

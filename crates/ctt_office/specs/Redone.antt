@@ -11,7 +11,7 @@ use Rattle.ctt_edits.specs.declared.reply.Reply.{Reply}
 use Rattle.ctt_edits.specs.declared.reply.Reply.TheVariants.{Done, Refused}
 use Rattle.ctt_draft.specs.declared.asked.Asked.{Asked}
 use Rattle.ctt_desk.specs.Planners.{DraftingValue, asked_also, present_of}
-use Rattle.ctt_script.specs.WrittenText.{line, words_part}
+use Rattle.ctt_line.specs.Lines.{line, words_part}
 use Rattle.ctt_script.specs.WrittenWords.{edit_words, fault_words}
 
 -- an edit that is left out, as the one of this number, and why

@@ -20,7 +20,7 @@ use Rattle.ctt_script.specs.AnswerText.{bad_line}
 use Rattle.ctt_crew.specs.Attended.{leaver}
 use Rattle.ctt_crew.specs.CrewText.{told_words}
 use Rattle.ctt_crew.specs.Seats.{Commits, IsUntold, Takes, Views, told_of}
-use Rattle.ctt_script.specs.WrittenText.{line}
+use Rattle.ctt_line.specs.Lines.{line}
 use Rattle.ctt_crew.specs.declared.seat.Seat.{Seat}
 use Rattle.ctt_crew.specs.declared.seat.Seat.TheVariants.{Drafting, Free}
 use Rattle.ctt_crew.specs.declared.seat.Told.{Told}

@@ -10,7 +10,7 @@ ghost use Rattle.ctt_edits.specs.Fitting.{FaultFits};
 ghost use Rattle.ctt_edits.specs.declared.fault.EditFault.{EditFault as Fault};
 ghost use Rattle.ctt_edits.specs.declared.reply.Reply.TheVariants.{Refused};
 ghost use Rattle.ctt_desk.specs.Planners.{present_of};
-ghost use Rattle.ctt_script.specs.WrittenText.{words_part};
+ghost use Rattle.ctt_line.specs.Lines.{words_part};
 ghost use Rattle.ctt_crew.specs.Attended.{leaver};
 ghost use Rattle.ctt_crew.specs.CrewText.{told_unread};
 ghost use Rattle.ctt_office.specs.Ended.{EndedFits};

@@ -18,7 +18,7 @@ use Rattle.ctt_script.specs.AnswerText.{answer_words, bad_line, answered, answer
 use Rattle.ctt_script.specs.Answering.{IsAtRun, Answered, Answering, WritesOut, Wrote, WroteFront}
 use Rattle.ctt_devices.specs.Output.{AppendsFront}
 use Rattle.ctt_script.specs.ScriptText.{items_of}
-use Rattle.ctt_script.specs.WrittenText.{line}
+use Rattle.ctt_line.specs.Lines.{line}
 use Rattle.ctt_script.proofs.AnswersFit.{answer_fits}
 use Rattle.ctt_script.proofs.ScriptLaws.{items_then}
 

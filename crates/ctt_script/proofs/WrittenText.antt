@@ -6,7 +6,7 @@ use Rattle.std.specs.Fmt.{decimal, signed_decimal}
 use Rattle.std.proofs.lemmas.Bool.{and_parts, ltb-true}
 use Rattle.ctt_line.specs.Lines.{line, rest_of_line, words_part}
 use Rattle.ctt_text.specs.Words.{words, is_blank}
-use Rattle.ctt_text.specs.Problem.{Problem, IsProblem, day_of, period_of, course_count, room_count, slot_count, teacher_count, curriculum_count}
+use Rattle.ctt_text.specs.Problem.{Problem, IsProblem, course_count, room_count, slot_count, teacher_count, curriculum_count}
 use Rattle.ctt_text.specs.Named.{IsWord, IsNamed}
 use Rattle.ctt_text.specs.Timetable.{Fits}
 use Rattle.ctt_text.specs.declared.placed.Placed.{Placed}

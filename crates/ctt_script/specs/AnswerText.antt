@@ -11,7 +11,7 @@ use Rattle.ctt_core.specs.declared.answer.Answer.TheVariants.{Opened, AlreadyOpe
 use Rattle.ctt_core.specs.declared.event.Event.{Event}
 use Rattle.ctt_core.specs.declared.standing.Standing.{Standing}
 use Rattle.ctt_script.specs.ScriptText.{script}
-use Rattle.ctt_script.specs.WrittenText.{line}
+use Rattle.ctt_line.specs.Lines.{line}
 use Rattle.ctt_script.specs.WrittenWords.{course_word, day_word, period_word, reply_words}
 
 abbrev pub row_words : Problem → Row → List (List ℕ)

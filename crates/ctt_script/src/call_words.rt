@@ -1,292 +1,191 @@
 //! The words of calls.
 
-ghost use Rattle.std.specs.Prelude.{◌≡◌, ◌<◌, ◌≤◌, ◌+◌, ◌∷◌, [], codes};
+ghost use Rattle.std.specs.Prelude.{◌≡◌, ◌<◌, ◌≤◌, ◌∷◌, [], codes};
+ghost use Rattle.std.specs.Fmt.{decimal};
 ghost use Rattle.arrayvec.specs.ArrayVec.{array_vec_len};
-ghost use Rattle.ctt_text.specs.Problem.{course_count, room_count, slot_count};
+ghost use Rattle.ctt_text.specs.Problem.{course_count, slot_count};
+ghost use Rattle.ctt_text.specs.Timetable.{Fits};
+ghost use Rattle.ctt_edits.specs.Calls.{CallFits};
 ghost use Rattle.ctt_edits.specs.Edits.{EditFits};
 ghost use Rattle.ctt_edits.specs.Looks.{LookFits};
-ghost use Rattle.ctt_edits.specs.Patterns.{FitsIfGiven, PatternFits};
-ghost use Rattle.ctt_edits.specs.Calls.{CallFits};
-ghost use Rattle.ctt_script.specs.WrittenWords.{course_word, room_word, day_word, period_word, room_choice_word, day_choice_word, period_choice_word, edit_words, pattern_words, look_words, call_words};
+ghost use Rattle.ctt_edits.specs.Patterns.{PatternFits};
+ghost use Rattle.ctt_script.specs.WrittenWords.{call_words, course_word, day_word, edit_words, lecture_words, look_words, pattern_words, period_word};
 
+use crate::words::{
+    Words, course_word, named, one_word, push_slot, push_slot_choice, room_choice_word, room_word,
+};
 use arrayvec::ArrayVec;
 use ctt_edits::{Call, Edit, Look, Pattern};
 use ctt_line::Word;
-use ctt_text::{CourseNo, Instance, RoomNo, SlotNo};
+use ctt_text::{CourseNo, Instance, Placed, SlotNo};
 
-/// The most words that a part of a line without lists has.
-pub const MOST: usize = 9;
-
-/// The name of a course.
-pub(crate) fn course<'i>(instance: &'i Instance, number: CourseNo) -> Word<'i>
-    requires { number < course_count instance.now }
-    ensures { result ≡ course_word instance.now number }
-{
-    Word::text(instance.course_name(number))
-}
-
-/// The name of a room.
-pub(crate) fn room<'i>(instance: &'i Instance, number: RoomNo) -> Word<'i>
-    requires { number < room_count instance.now }
-    ensures { result ≡ room_word instance.now number }
-{
-    Word::text(instance.room_name(number))
-}
-
-/// The day of a slot.
-pub(crate) fn day<'i>(instance: &'i Instance, slot: SlotNo) -> Word<'i>
-    requires { slot < slot_count instance.now }
-    ensures { result ≡ day_word instance.now slot }
-{
-    Word::number(u64::from(instance.day_of(slot)))
-}
-
-/// The period of a slot.
-pub(crate) fn period<'i>(instance: &'i Instance, slot: SlotNo) -> Word<'i>
-    requires { slot < slot_count instance.now }
-    ensures { result ≡ period_word instance.now slot }
-{
-    Word::number(u64::from(instance.period_of(slot)))
-}
-
-/// The words of a kind with a course and a slot.
-fn of_course_and_slot<'i>(
-    kind: &'i str,
-    instance: &'i Instance,
-    number: CourseNo,
-    slot: SlotNo,
-) -> ArrayVec<Word<'i>, MOST>
-    requires course { number < course_count instance.now }
-    requires slot { slot < slot_count instance.now }
-    ensures words { result.items ≡ kind.now ∷ course_word instance.now number
-        ∷ day_word instance.now slot ∷ period_word instance.now slot ∷ [] }
+/// The words of a lecture.
+pub(crate) fn lecture_words<'i>(instance: &'i Instance, lecture: &Placed) -> Words<'i>
+    requires { Fits instance.now lecture.now }
+    ensures items { result.items ≡ lecture_words instance.now lecture.now }
     ensures few { array_vec_len result ≡ 4 }
 {
     let mut words = ArrayVec::new();
-    words.push(Word::text(kind));
-    words.push(course(instance, number));
-    words.push(day(instance, slot));
-    words.push(period(instance, slot));
+    words.push(course_word(instance, lecture.course));
+    words.push(room_word(instance, lecture.room));
+    push_slot(&mut words, instance, lecture.slot);
     words
 }
 
-/// The words of a kind with a course, a room and a slot.
-fn of_lecture<'i>(
-    kind: &'i str,
-    instance: &'i Instance,
-    number: CourseNo,
-    slot: SlotNo,
-    place: RoomNo,
-) -> ArrayVec<Word<'i>, MOST>
-    requires course { number < course_count instance.now }
-    requires slot { slot < slot_count instance.now }
-    requires room { place < room_count instance.now }
-    ensures words { result.items ≡ kind.now ∷ course_word instance.now number
-        ∷ room_word instance.now place
-        ∷ day_word instance.now slot ∷ period_word instance.now slot ∷ [] }
+/// The words of an edit that names a course, a room and a slot.
+fn roomed<'i>(kind: &'i str, instance: &'i Instance, lecture: &Placed) -> Words<'i>
+    requires { Fits instance.now lecture.now }
+    ensures items { result.items ≡ kind.now ∷ lecture_words instance.now lecture.now }
     ensures few { array_vec_len result ≡ 5 }
 {
-    let mut words = ArrayVec::new();
-    words.push(Word::text(kind));
-    words.push(course(instance, number));
-    words.push(room(instance, place));
-    words.push(day(instance, slot));
-    words.push(period(instance, slot));
+    let mut words = lecture_words(instance, lecture);
+    words.insert(0, Word::text(kind));
+    words
+}
+
+/// A word, a course and a slot.
+fn placed_at<'i>(
+    kind: &'i str,
+    instance: &'i Instance,
+    course: CourseNo,
+    slot: SlotNo,
+) -> Words<'i>
+    requires course { course < course_count instance.now }
+    requires slot { slot < slot_count instance.now }
+    ensures items { result.items ≡ kind.now ∷ course_word instance.now course
+        ∷ day_word instance.now slot ∷ period_word instance.now slot ∷ [] }
+    ensures few { array_vec_len result ≡ 4 }
+{
+    let mut words = named(kind, instance.course_name(course));
+    push_slot(&mut words, instance, slot);
     words
 }
 
 /// The words of an edit.
-pub fn words_of_edit<'i>(instance: &'i Instance, edit: &Edit) -> ArrayVec<Word<'i>, MOST>
+pub(crate) fn edit_words<'i>(instance: &'i Instance, edit: &Edit) -> Words<'i>
     requires { EditFits instance.now edit.now }
-    ensures words { result.items ≡ edit_words instance.now edit.now }
+    ensures items { result.items ≡ edit_words instance.now edit.now }
     ensures few { array_vec_len result ≤ 7 }
 {
     match *edit {
-        Edit::Place(course, slot, room) => of_lecture("place", instance, course, slot, room),
-        Edit::Reroom(course, slot, room) => of_lecture("reroom", instance, course, slot, room),
-        Edit::Drop(course, slot) => of_course_and_slot("drop", instance, course, slot),
-        Edit::Move(number, slot, target, place) => {
-            let mut words = of_course_and_slot("move", instance, number, slot);
-            words.push(room(instance, place));
-            words.push(day(instance, target));
-            words.push(period(instance, target));
+        Edit::Place(course, slot, room) => {
+            roomed("place", instance, &Placed { course, slot, room })
+        }
+        Edit::Move(course, slot, target, room) => {
+            let mut words = placed_at("move", instance, course, slot);
+            words.push(room_word(instance, room));
+            push_slot(&mut words, instance, target);
             words
         }
-        Edit::Swap(number, slot, other, other_slot) => {
-            let mut words = of_course_and_slot("swap", instance, number, slot);
-            words.push(course(instance, other));
-            words.push(day(instance, other_slot));
-            words.push(period(instance, other_slot));
+        Edit::Swap(course, slot, other, other_slot) => {
+            let mut words = placed_at("swap", instance, course, slot);
+            words.push(course_word(instance, other));
+            push_slot(&mut words, instance, other_slot);
             words
         }
-    }
-}
-
-/// Any, for what is left open.
-fn any<'i>() -> Word<'i>
-    ensures { result ≡ codes "*" }
-{
-    Word::text("*")
-}
-
-/// A room, or any.
-fn room_choice<'i>(instance: &'i Instance, choice: &Option<RoomNo>) -> Word<'i>
-    requires { FitsIfGiven (room_count instance.now) choice.now }
-    ensures { result ≡ room_choice_word instance.now choice.now }
-{
-    match choice {
-        Some(number) => room(instance, *number),
-        None => any(),
-    }
-}
-
-/// The day of a slot, or any.
-fn day_choice<'i>(instance: &'i Instance, choice: &Option<SlotNo>) -> Word<'i>
-    requires { FitsIfGiven (slot_count instance.now) choice.now }
-    ensures { result ≡ day_choice_word instance.now choice.now }
-{
-    match choice {
-        Some(slot) => day(instance, *slot),
-        None => any(),
-    }
-}
-
-/// The period of a slot, or any.
-fn period_choice<'i>(instance: &'i Instance, choice: &Option<SlotNo>) -> Word<'i>
-    requires { FitsIfGiven (slot_count instance.now) choice.now }
-    ensures { result ≡ period_choice_word instance.now choice.now }
-{
-    match choice {
-        Some(slot) => period(instance, *slot),
-        None => any(),
+        Edit::Reroom(course, slot, room) => {
+            roomed("reroom", instance, &Placed { course, slot, room })
+        }
+        Edit::Drop(course, slot) => placed_at("drop", instance, course, slot),
     }
 }
 
 /// The words of an edit pattern.
-fn words_of_pattern<'i>(instance: &'i Instance, pattern: &Pattern) -> ArrayVec<Word<'i>, MOST>
+fn pattern_words<'i>(instance: &'i Instance, pattern: &Pattern) -> Words<'i>
     requires { PatternFits instance.now pattern.now }
-    ensures words { result.items ≡ pattern_words instance.now pattern.now }
+    ensures items { result.items ≡ pattern_words instance.now pattern.now }
     ensures few { array_vec_len result ≤ 7 }
 {
-    match pattern {
-        Pattern::Place(number, slot, place) => {
-            let mut words = ArrayVec::new();
-            words.push(Word::text("place"));
-            words.push(course(instance, *number));
-            words.push(room_choice(instance, place));
-            words.push(day_choice(instance, slot));
-            words.push(period_choice(instance, slot));
+    match *pattern {
+        Pattern::Place(course, slot, room) => {
+            let mut words = named("place", instance.course_name(course));
+            words.push(room_choice_word(instance, room));
+            push_slot_choice(&mut words, instance, slot);
             words
         }
-        Pattern::Move(number, slot, target, place) => {
-            let mut words = of_course_and_slot("move", instance, *number, *slot);
-            words.push(room_choice(instance, place));
-            words.push(day_choice(instance, target));
-            words.push(period_choice(instance, target));
+        Pattern::Move(course, slot, target, room) => {
+            let mut words = placed_at("move", instance, course, slot);
+            words.push(room_choice_word(instance, room));
+            push_slot_choice(&mut words, instance, target);
             words
         }
-        Pattern::Swap(number, slot) => {
-            let mut words = of_course_and_slot("swap", instance, *number, *slot);
-            words.push(any());
-            words.push(any());
-            words.push(any());
+        Pattern::Swap(course, slot) => {
+            let mut words = placed_at("swap", instance, course, slot);
+            words.push(Word::text("*"));
+            words.push(Word::text("*"));
+            words.push(Word::text("*"));
             words
         }
-        Pattern::Reroom(number, slot, place) => {
-            let mut words = ArrayVec::new();
-            words.push(Word::text("reroom"));
-            words.push(course(instance, *number));
-            words.push(room_choice(instance, place));
-            words.push(day(instance, *slot));
-            words.push(period(instance, *slot));
+        Pattern::Reroom(course, slot, room) => {
+            let mut words = named("reroom", instance.course_name(course));
+            words.push(room_choice_word(instance, room));
+            push_slot(&mut words, instance, slot);
             words
         }
     }
 }
 
-/// One word alone.
-pub(crate) fn one<'i>(word: Word<'i>) -> ArrayVec<Word<'i>, MOST>
-    ensures words { result.items ≡ word.entry ∷ [] }
-    ensures few { array_vec_len result ≡ 1 }
-{
-    let mut words = ArrayVec::new();
-    words.push(word);
-    words
-}
-
-/// A kind and one word more.
-pub(crate) fn two<'i>(kind: &'i str, word: Word<'i>) -> ArrayVec<Word<'i>, MOST>
-    ensures words { result.items ≡ kind.now ∷ word.entry ∷ [] }
-    ensures few { array_vec_len result ≡ 2 }
-{
-    let mut words = one(Word::text(kind));
-    words.push(word);
-    words
-}
-
-/// The words of a slot.
-pub(crate) fn words_of_slot<'i>(
-    kind: &'i str,
-    instance: &'i Instance,
-    slot: SlotNo,
-) -> ArrayVec<Word<'i>, MOST>
+/// The words of the look at a slot.
+fn slot_words<'i>(instance: &'i Instance, slot: SlotNo) -> Words<'i>
     requires { slot < slot_count instance.now }
-    ensures words { result.items ≡ kind.now ∷ day_word instance.now slot
+    ensures items { result.items ≡ codes "slot" ∷ day_word instance.now slot
         ∷ period_word instance.now slot ∷ [] }
     ensures few { array_vec_len result ≡ 3 }
 {
-    let mut words = two(kind, day(instance, slot));
-    words.push(period(instance, slot));
+    let mut words = one_word("slot");
+    push_slot(&mut words, instance, slot);
     words
 }
 
-/// Words after another one.
-pub(crate) fn after<'i>(
-    first: Word<'i>,
-    words: ArrayVec<Word<'i>, MOST>,
-) -> ArrayVec<Word<'i>, MOST>
-    requires { array_vec_len words ≤ 8 }
-    ensures words { result.items ≡ first.entry ∷ words.entry.items }
-    ensures few { array_vec_len result ≡ array_vec_len words.entry + 1 }
+/// The words of the look at the price of an edit.
+fn price_words<'i>(instance: &'i Instance, edit: &Edit) -> Words<'i>
+    requires { EditFits instance.now edit.now }
+    ensures { result.items ≡ codes "price" ∷ edit_words instance.now edit.now }
 {
-    let mut words = words;
-    words.insert(0, first);
+    let mut words = edit_words(instance, edit);
+    words.insert(0, Word::text("price"));
+    words
+}
+
+/// The words of the look at the cheapest edits of a pattern.
+fn cheapest_words<'i>(instance: &'i Instance, count: u16, pattern: &Pattern) -> Words<'i>
+    requires { PatternFits instance.now pattern.now }
+    ensures { result.items ≡ codes "cheapest" ∷ decimal count
+        ∷ pattern_words instance.now pattern.now }
+{
+    let mut words = pattern_words(instance, pattern);
+    words.insert(0, Word::number(u64::from(count)));
+    words.insert(0, Word::text("cheapest"));
     words
 }
 
 /// The words of a look.
-fn words_of_look<'i>(instance: &'i Instance, look: &Look) -> ArrayVec<Word<'i>, MOST>
+fn look_words<'i>(instance: &'i Instance, look: &Look) -> Words<'i>
     requires { LookFits instance.now look.now }
     ensures { result.items ≡ look_words instance.now look.now }
 {
     match look {
-        Look::Course(number) => two("course", course(instance, *number)),
-        Look::Slot(slot) => words_of_slot("slot", instance, *slot),
-        Look::Teacher(number) => two("teacher", Word::text(instance.teacher_name(*number))),
-        Look::Curriculum(number) => {
-            two("curriculum", Word::text(instance.curriculum_name(*number)))
+        Look::Course(course) => named("course", instance.course_name(*course)),
+        Look::Slot(slot) => slot_words(instance, *slot),
+        Look::Teacher(teacher) => named("teacher", instance.teacher_name(*teacher)),
+        Look::Curriculum(curriculum) => {
+            named("curriculum", instance.curriculum_name(*curriculum))
         }
-        Look::CourseCost(number) => two("coursecost", course(instance, *number)),
-        Look::Cost => one(Word::text("cost")),
-        Look::Price(edit) => after(Word::text("price"), words_of_edit(instance, edit)),
-        Look::Missing => one(Word::text("missing")),
-        Look::Cheapest(count, pattern) => {
-            let words = after(
-                Word::number(u64::from(*count)),
-                words_of_pattern(instance, pattern),
-            );
-            after(Word::text("cheapest"), words)
-        }
+        Look::CourseCost(course) => named("coursecost", instance.course_name(*course)),
+        Look::Cost => one_word("cost"),
+        Look::Price(edit) => price_words(instance, edit),
+        Look::Missing => one_word("missing"),
+        Look::Cheapest(count, pattern) => cheapest_words(instance, *count, pattern),
     }
 }
 
 /// The words of a call.
-pub fn words_of_call<'i>(instance: &'i Instance, call: &Call) -> ArrayVec<Word<'i>, MOST>
+pub(crate) fn call_words<'i>(instance: &'i Instance, call: &Call) -> Words<'i>
     requires { CallFits instance.now call.now }
     ensures { result.items ≡ call_words instance.now call.now }
 {
     match call {
-        Call::Look(look) => words_of_look(instance, look),
-        Call::Edit(edit) => words_of_edit(instance, edit),
+        Call::Look(look) => look_words(instance, look),
+        Call::Edit(edit) => edit_words(instance, edit),
     }
 }

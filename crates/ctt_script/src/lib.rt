@@ -4,7 +4,6 @@
 mod amounts;
 mod answers;
 mod call_words;
-mod call_words;
 mod calls;
 mod engine;
 mod journal;

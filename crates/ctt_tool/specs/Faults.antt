@@ -8,7 +8,7 @@ use Rattle.std.specs.declared.string.String.{String}
 use Rattle.ctt_text.specs.Problem.{Problem}
 use Rattle.ctt_edits.specs.Fitting.{FaultFits}
 use Rattle.ctt_edits.specs.declared.fault.EditFault.{EditFault}
-use Rattle.ctt_script.specs.WrittenText.{line}
+use Rattle.ctt_line.specs.Lines.{line}
 use Rattle.ctt_script.specs.WrittenWords.{fault_words}
 use Rattle.ctt_crew.specs.declared.crew_fault.CrewFault.{CrewFault}
 use Rattle.ctt_crew.specs.declared.crew_fault.CrewFault.TheVariants as crew

@@ -3,7 +3,7 @@ use Rattle.ctt_core.specs.Runs.{EventFits}
 use Rattle.ctt_core.specs.Desks.{DeskValue}
 use Rattle.ctt_script.specs.AnswerText.{answer_words}
 use Rattle.ctt_script.specs.Entries.{AnswerFits}
-use Rattle.ctt_script.specs.WrittenText.{line}
+use Rattle.ctt_line.specs.Lines.{line}
 use Rattle.ctt_script.proofs.AnsweringLemmas.{answer_can, event_answered}
 use Rattle.ctt_script.proofs.engine.answer_event.Goals as goal
 

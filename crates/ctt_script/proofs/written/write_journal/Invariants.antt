@@ -1,6 +1,7 @@
 use Rattle.std.proofs.Common.{◌≡◌, ◌++◌, ◌∷◌, [], take, length, flat_map, string_bytes, codes}
 use Rattle.std.specs.Fmt.{decimal}
-use Rattle.ctt_script.specs.WrittenText.{line, entry_text}
+use Rattle.ctt_line.specs.Lines.{line}
+use Rattle.ctt_script.specs.WrittenText.{entry_text}
 use Rattle.ctt_script.proofs.written.write_journal.Given as goal
 
 -- the entries so far

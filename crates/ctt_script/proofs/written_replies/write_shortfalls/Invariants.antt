@@ -1,6 +1,6 @@
 use Rattle.std.proofs.Common.{◌≡◌, ◌++◌, take, length, flat_map, string_bytes, codes}
 use Rattle.std.specs.Fmt.{decimal}
-use Rattle.ctt_script.specs.WrittenText.{words_part}
+use Rattle.ctt_line.specs.Lines.{words_part}
 use Rattle.ctt_script.specs.WrittenWords.{shortfall_words}
 use Rattle.ctt_script.proofs.written_replies.write_shortfalls.Given as goal
 
