@@ -197,6 +197,15 @@ fn only_event(reader: &Reader, read: Result<Event, JournalFault>) -> Option<Even
     }
 }
 
+/// A line as text, if it is text.
+fn text_of(line: &[u8]) -> Option<&str>
+    ensures text { IfSome result (λ text. text.now ≡ line.now) }
+    ensures utf8 { OnSome result (IsUtf8 line.now) }
+    ensures none { IfNone result (¬ IsUtf8 line.now) }
+{
+    str::from_utf8(line).ok()
+}
+
 /// The event that a line asks for; none for a line of any other form.
 pub fn read_line(instance: &Instance, line: &[u8]) -> Option<Event>
     ensures item { result ≡ item instance.now line.now }
@@ -204,7 +213,7 @@ pub fn read_line(instance: &Instance, line: &[u8]) -> Option<Event>
     ensures fits { IfSome result (EventFits instance.now 64) }
 {
     instance.limits_hold();
-    let text = str::from_utf8(line).ok()?;
+    let text = text_of(line)?;
     let mut reader = Reader::new(text);
     let read = read_event(&mut reader, instance);
     only_event(&reader, read)
@@ -219,7 +228,7 @@ pub fn read_own_line(instance: &Instance, planner: PlannerNo, line: &[u8]) -> Op
         → IfSome result (EventFits instance.now planners) }
 {
     instance.limits_hold();
-    let text = str::from_utf8(line).ok()?;
+    let text = text_of(line)?;
     let mut reader = Reader::new(text);
     let read = read_own_event(&mut reader, instance, planner);
     only_event(&reader, read)

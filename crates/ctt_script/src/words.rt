@@ -1,6 +1,6 @@
 //! Names, days and periods as words.
 
-ghost use Rattle.std.specs.Prelude.{◌≡◌, ◌<◌, ◌≤◌, ◌++◌, ◌∷◌, [], codes};
+ghost use Rattle.std.specs.Prelude.{◌≡◌, ◌<◌, ◌≤◌, ◌+◌, ◌++◌, ◌∷◌, [], codes};
 ghost use Rattle.arrayvec.specs.ArrayVec.{array_vec_len};
 ghost use Rattle.ctt_text.specs.Problem.{course_count, room_count, slot_count};
 ghost use Rattle.ctt_edits.specs.Patterns.{FitsIfGiven};
