@@ -14,7 +14,7 @@ use ctt_board::{GridSheet, Sheet};
 use ctt_core::{Answer, Event, PlannerNo};
 use ctt_desk::{Naming, Planner, SharedDesk};
 use ctt_edits::Call;
-use ctt_script::{Lines, has_words, read_own_line_of, write_answer, write_bad_line};
+use ctt_script::{Lines, has_words, read_own_line, write_answer, write_bad_line};
 use ctt_text::{Instance, NoMemory, let_go};
 use std::alloc::{AllocError, Global};
 use std::fmt::Write;
@@ -137,10 +137,9 @@ fn attend<'i, 'x, S: Sheet<'i>, J: Naming, R: Wait, G: Gate>(
         return Err(NoMemory);
     };
     let mut seat = seat;
-    let is_text = str::from_utf8(script).is_ok();
     let mut at = 0u64;
     for line in Lines::new(script) {
-        let read = read_own_line_of(instance, number, line, is_text);
+        let read = read_own_line(instance, number, line);
         if read.is_some() || has_words(line) {
             at = at.saturating_add(1);
             gate.before(number, at);

@@ -1,16 +1,13 @@
 -- Lines of a script, as their events.
-use Rattle.std.proofs.Common.{◌≡◌, ℕ, zero, suc, ◌+◌, ◌-◌, ◌<◌, ◌≤◌, get_or, length-drop, map, filter, ◌==◌, List, [], ◌∷◌, ◌++◌, length, take, drop, position, arith, Bool, true, false, cond, Option, Some, None, Result, Ok, Err, MatchResult, refl, sym, ap, subst, ◌∙◌}
-use Rattle.std.specs.List.{AllByRecursion as Each}
-use Rattle.std.specs.Result.{is_ok}
-use Rattle.std.specs.Str.{IsUtf8, IsCharBoundary, is_utf8}
-use Rattle.std.proofs.lemmas.Bool.{eqb-true}
+use Rattle.std.proofs.Common.{◌≡◌, ℕ, ◌+◌, ◌-◌, ◌<◌, map, filter, ◌==◌, List, [], ◌∷◌, ◌++◌, length, take, drop, position, arith, Bool, true, false, cond, Option, Some, None, Result, Ok, Err, refl, sym, ap, subst, ◌∙◌}
+use Rattle.std.specs.Str.{IsUtf8, is_utf8}
 use Rattle.std.proofs.lemmas.List.{append-nil}
-use Rattle.std.proofs.lemmas.Str.{IsUtf8-from_is_utf8, is_utf8-from_IsUtf8, IsUtf8-take, IsUtf8-drop, IsCharBoundary-after_ascii}
+use Rattle.std.proofs.lemmas.Str.{IsUtf8-from_is_utf8, is_utf8-from_IsUtf8}
 use Rattle.std.proofs.lemmas.Grind.{common_steps}
 use Rattle.std.specs.Prelude.{slice_index, OnSome}
 use Rattle.std.specs.List.{position_or_len}
 use Rattle.std.proofs.lemmas.List.Quantifiers.{position-Some}
-use Rattle.std.proofs.lemmas.List.Sums.{passes_at_first, fails_before_first, position_or_len_is}
+use Rattle.std.proofs.lemmas.List.Sums.{fails_before_first, position_or_len_is}
 use Rattle.memchr.specs.Find.{IsFirstByte, is_byte}
 use Rattle.std.proofs.lemmas.List.Splits.{slice_split_first, slice_split_none}
 use Rattle.ctt_text.proofs.WordLemmas.{position_is, position_none}
@@ -156,32 +153,3 @@ only_line text h =
     let none = position_none ends_line text h in
     slice_split_none ends_line text (λ k e m. let at = fails_before_first ends_line text k e in grind (arith, common_steps, none, at))
 
--- the lines of a text are texts
-line_ends : (text : List ℕ) (end : ℕ) → position (λ b. b == 10) text ≡ Some end → (end < length text) × (get_or text end 0 ≡ 10)
-line_ends text end h =
-    let at = position_is ends_line text end h in
-    (at.1, eqb-true (get_or text end 0) 10 (rw (← at.0) at (passes_at_first ends_line text 0 (subst (λ n. n < length text) at.0 at.1))))
-
-lines_step : (text : List ℕ) → IsUtf8 text → ((end : ℕ) → position ends_line text ≡ Some end → Each IsUtf8 (lines_of (drop (end + 1) text))) → (o : Option ℕ) → position ends_line text ≡ o → Each IsUtf8 (lines_of text)
-lines_step text is rest None e = subst (Each IsUtf8) (sym (only_line text e)) (is, tt)
-lines_step text is rest (Some end) e =
-    let at = line_ends text end e in
-    let before : IsCharBoundary text end = (omega (arith, at.0), λ l h. absurd (omega (arith, h, at.1))) in
-    subst (Each IsUtf8) (sym (first_line text end e)) (IsUtf8-take text end is before, rest end e)
-
-behind_line : (text : List ℕ) (end : ℕ) → IsUtf8 text → position ends_line text ≡ Some end → IsUtf8 (drop (end + 1) text)
-behind_line text end is e =
-    let at = line_ends text end e in
-    IsUtf8-drop text (end + 1) is (IsCharBoundary-after_ascii text end is at.0 (omega (arith, at.1)))
-
-lines_within : (n : ℕ) (text : List ℕ) → length text ≤ n → IsUtf8 text → Each IsUtf8 (lines_of text)
-lines_within zero text le is = lines_step text is (λ end e. absurd (omega (arith, le, (line_ends text end e).0))) (position ends_line text) refl
-lines_within (suc n) text le is = lines_step text is (λ end e. lines_within n (drop (end + 1) text) (omega (arith, length-drop (end + 1) text, le, (line_ends text end e).0)) (behind_line text end is e)) (position ends_line text) refl
-
-pub lines_are_text : (text : List ℕ) → IsUtf8 text → Each IsUtf8 (lines_of text)
-lines_are_text text is = lines_within (length text) text (omega arith) is
-
--- what holds beside the value of a result that has one
-pub ok_part : {T E : Type 0} {P : Type 0} (A : T → Type 0) (B : E → Type 0) (r : Result T E) → is_ok r ≡ true → MatchResult r (λ t. A t × P) B → P
-ok_part A B (Ok t) is m = m.1
-ok_part A B (Err e) is m = cc

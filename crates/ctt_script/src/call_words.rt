@@ -14,8 +14,8 @@ use ctt_edits::{Call, Edit, Look, Pattern};
 use ctt_line::Word;
 use ctt_text::{CourseNo, Instance, RoomNo, SlotNo};
 
-/// The most words that a part of a line without lists has.
-pub const MOST: usize = 9;
+/// The words of a line, or of a part of one, that has no list.
+pub type Words<'i> = ArrayVec<Word<'i>, 9>;
 
 /// The name of a course.
 pub(crate) fn course<'i>(instance: &'i Instance, number: CourseNo) -> Word<'i>
@@ -55,7 +55,7 @@ fn of_course_and_slot<'i>(
     instance: &'i Instance,
     number: CourseNo,
     slot: SlotNo,
-) -> ArrayVec<Word<'i>, MOST>
+) -> Words<'i>
     requires course { number < course_count instance.now }
     requires slot { slot < slot_count instance.now }
     ensures words { result.items ≡ kind.now ∷ course_word instance.now number
@@ -77,7 +77,7 @@ fn of_lecture<'i>(
     number: CourseNo,
     slot: SlotNo,
     place: RoomNo,
-) -> ArrayVec<Word<'i>, MOST>
+) -> Words<'i>
     requires course { number < course_count instance.now }
     requires slot { slot < slot_count instance.now }
     requires room { place < room_count instance.now }
@@ -96,7 +96,7 @@ fn of_lecture<'i>(
 }
 
 /// The words of an edit.
-pub fn words_of_edit<'i>(instance: &'i Instance, edit: &Edit) -> ArrayVec<Word<'i>, MOST>
+pub fn words_of_edit<'i>(instance: &'i Instance, edit: &Edit) -> Words<'i>
     requires { EditFits instance.now edit.now }
     ensures words { result.items ≡ edit_words instance.now edit.now }
     ensures few { array_vec_len result ≤ 7 }
@@ -163,7 +163,7 @@ fn period_choice<'i>(instance: &'i Instance, choice: &Option<SlotNo>) -> Word<'i
 }
 
 /// The words of an edit pattern.
-fn words_of_pattern<'i>(instance: &'i Instance, pattern: &Pattern) -> ArrayVec<Word<'i>, MOST>
+fn words_of_pattern<'i>(instance: &'i Instance, pattern: &Pattern) -> Words<'i>
     requires { PatternFits instance.now pattern.now }
     ensures words { result.items ≡ pattern_words instance.now pattern.now }
     ensures few { array_vec_len result ≤ 7 }
@@ -205,7 +205,7 @@ fn words_of_pattern<'i>(instance: &'i Instance, pattern: &Pattern) -> ArrayVec<W
 }
 
 /// One word alone.
-pub(crate) fn one<'i>(word: Word<'i>) -> ArrayVec<Word<'i>, MOST>
+pub(crate) fn one<'i>(word: Word<'i>) -> Words<'i>
     ensures words { result.items ≡ word.entry ∷ [] }
     ensures few { array_vec_len result ≡ 1 }
 {
@@ -215,7 +215,7 @@ pub(crate) fn one<'i>(word: Word<'i>) -> ArrayVec<Word<'i>, MOST>
 }
 
 /// A kind and one word more.
-pub(crate) fn two<'i>(kind: &'i str, word: Word<'i>) -> ArrayVec<Word<'i>, MOST>
+pub(crate) fn two<'i>(kind: &'i str, word: Word<'i>) -> Words<'i>
     ensures words { result.items ≡ kind.now ∷ word.entry ∷ [] }
     ensures few { array_vec_len result ≡ 2 }
 {
@@ -229,7 +229,7 @@ pub(crate) fn words_of_slot<'i>(
     kind: &'i str,
     instance: &'i Instance,
     slot: SlotNo,
-) -> ArrayVec<Word<'i>, MOST>
+) -> Words<'i>
     requires { slot < slot_count instance.now }
     ensures words { result.items ≡ kind.now ∷ day_word instance.now slot
         ∷ period_word instance.now slot ∷ [] }
@@ -243,8 +243,8 @@ pub(crate) fn words_of_slot<'i>(
 /// Words after another one.
 pub(crate) fn after<'i>(
     first: Word<'i>,
-    words: ArrayVec<Word<'i>, MOST>,
-) -> ArrayVec<Word<'i>, MOST>
+    words: Words<'i>,
+) -> Words<'i>
     requires { array_vec_len words ≤ 8 }
     ensures words { result.items ≡ first.entry ∷ words.entry.items }
     ensures few { array_vec_len result ≡ array_vec_len words.entry + 1 }
@@ -255,7 +255,7 @@ pub(crate) fn after<'i>(
 }
 
 /// The words of a look.
-fn words_of_look<'i>(instance: &'i Instance, look: &Look) -> ArrayVec<Word<'i>, MOST>
+fn words_of_look<'i>(instance: &'i Instance, look: &Look) -> Words<'i>
     requires { LookFits instance.now look.now }
     ensures { result.items ≡ look_words instance.now look.now }
 {
@@ -281,7 +281,7 @@ fn words_of_look<'i>(instance: &'i Instance, look: &Look) -> ArrayVec<Word<'i>, 
 }
 
 /// The words of a call.
-pub fn words_of_call<'i>(instance: &'i Instance, call: &Call) -> ArrayVec<Word<'i>, MOST>
+pub fn words_of_call<'i>(instance: &'i Instance, call: &Call) -> Words<'i>
     requires { CallFits instance.now call.now }
     ensures { result.items ≡ call_words instance.now call.now }
 {

@@ -3,7 +3,6 @@
 ghost use Rattle.std.specs.Prelude.{◌≡◌, ◌⊎◌, ◌↔◌, ℕ, ◌+◌, ◌++◌, ◌∷◌, [], ◌<◌, ◌≤◌, List, length, true, false, Ok, Err, IfOk, IfErr, OnOk, OnErr, IfSome, Some, string_bytes};
 ghost use Rattle.std.specs.List.{AllByRecursion as Each};
 ghost use Rattle.std.specs.Io.KnownBytes.{Appends};
-ghost use Rattle.std.specs.Str.{IsUtf8};
 ghost use Rattle.ctt_text.specs.Timetable.{Fits};
 ghost use Rattle.ctt_text.specs.declared.placed.Placed.{Placed as Lecture};
 ghost use Rattle.ctt_edits.specs.declared.fault.EditFault.{EditFault};
@@ -21,7 +20,7 @@ ghost use Rattle.ctt_script.specs.declared.script_fault.ScriptFault.TheVariants 
 
 use crate::answers::{write_answer, write_bad_line};
 use crate::lines::Lines;
-use crate::script::{PLANNERS, has_words, read_line_of};
+use crate::script::{PLANNERS, has_words, read_line};
 use crate::script_fault::ScriptFault;
 use ctt_board::{GridSheet, Sheet};
 use ctt_core::{Answer, Desk, Event};
@@ -62,10 +61,8 @@ fn answer_line<'i, S: Sheet<'i>>(
     desk: &mut Desk<'i, S>,
     instance: &Instance,
     line: &[u8],
-    is_text: bool,
     answers: &mut String,
 ) -> Result<(), NoMemory>
-    requires text { is_text ≡ true → IsUtf8 line.now }
     requires same { desk.old.problem ≡ instance.now }
     requires planners { length desk.old.drafts ≡ 64 }
     requires stands { IsAtRun desk.old }
@@ -73,7 +70,7 @@ fn answer_line<'i, S: Sheet<'i>>(
         (Answered desk.old desk.new (string_bytes answers.old) (string_bytes answers.new)
         (items_of instance.now (line.now ∷ []))) }
 {
-    match read_line_of(instance, line, is_text) {
+    match read_line(instance, line) {
         Some(event) => answer_event(desk, instance, &event, answers),
         None if has_words(line) => Ok(write_bad_line(answers)?),
         None => Ok(()),
@@ -121,10 +118,9 @@ fn answer_lines<'i, S: Sheet<'i>, W: Sink>(
     ensures unmarked { (result ≡ Err script_fault.Write)
         ⊎ (W.has_failed writer.new ≡ W.has_failed writer.old) }
 {
-    let is_text = str::from_utf8(text).is_ok();
     let mut answers = String::new(alloc);
     for line in Lines::new(text) {
-        answer_line(desk, instance, line, is_text, &mut answers)?;
+        answer_line(desk, instance, line, &mut answers)?;
         write_full(writer, &mut answers)?;
     }
     put_whole(writer, answers.as_bytes())?;

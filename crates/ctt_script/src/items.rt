@@ -1,6 +1,6 @@
 //! The items of the lists that replies give.
 
-use crate::call_words::{MOST, after, course, day, period, room, two, words_of_edit};
+use crate::call_words::{Words, after, course, day, period, room, two, words_of_edit};
 use arrayvec::ArrayVec;
 use ctt_edits::{PricedEdit, Shortfall};
 use ctt_line::Word;
@@ -18,7 +18,7 @@ pub(crate) trait Item {
     ghost words: { Problem → Self → List (List ℕ) };
 
     /// Its words in a line.
-    fn words<'i>(&self, instance: &'i Instance) -> ArrayVec<Word<'i>, MOST>
+    fn words<'i>(&self, instance: &'i Instance) -> Words<'i>
         requires { fits instance.now self.now }
         ensures { result.items ≡ words instance.now self.now };
 }
@@ -31,7 +31,7 @@ impl Item for Placed {
 
     ghost words = { lecture_words };
 
-    fn words<'i>(&self, instance: &'i Instance) -> ArrayVec<Word<'i>, MOST> {
+    fn words<'i>(&self, instance: &'i Instance) -> Words<'i> {
         let mut words = ArrayVec::new();
         words.push(course(instance, self.course));
         words.push(room(instance, self.room));
@@ -49,7 +49,7 @@ impl Item for Shortfall {
 
     ghost words = { shortfall_words };
 
-    fn words<'i>(&self, instance: &'i Instance) -> ArrayVec<Word<'i>, MOST> {
+    fn words<'i>(&self, instance: &'i Instance) -> Words<'i> {
         two(
             instance.course_name(self.course),
             Word::number(u64::from(self.missing)),
@@ -65,7 +65,7 @@ impl Item for PricedEdit {
 
     ghost words = { priced_words };
 
-    fn words<'i>(&self, instance: &'i Instance) -> ArrayVec<Word<'i>, MOST> {
+    fn words<'i>(&self, instance: &'i Instance) -> Words<'i> {
         after(Word::amount(self.price), words_of_edit(instance, &self.edit))
     }
 }

@@ -21,13 +21,13 @@ mod script_fault;
 mod written;
 
 pub use answers::{write_answer, write_bad_line};
-pub use call_words::{MOST, words_of_call, words_of_edit};
+pub use call_words::{Words, words_of_call, words_of_edit};
 pub use engine::run_script;
 pub use journal::{read_entry, read_journal};
 pub use journal_fault::JournalFault;
 pub use kinds::is_word;
 pub use lines::{Lines, line_end};
 pub use reply_words::{words_of_costs, words_of_fault};
-pub use script::{PLANNERS, has_words, read_line, read_own_line, read_own_line_of, read_own_text};
+pub use script::{PLANNERS, has_words, read_line, read_own_line, read_own_text};
 pub use script_fault::ScriptFault;
 pub use written::{write_entry, write_journal};

@@ -7,8 +7,7 @@ ghost use Rattle.ctt_script.specs.AnswerText.{freshness_words, row_words, standi
 ghost use Rattle.ctt_script.specs.Entries.{RowFits};
 ghost use Rattle.ctt_script.specs.WrittenWords.{cost_words, fault_words};
 
-use crate::call_words::{MOST, after, course, one, two, words_of_slot};
-use arrayvec::ArrayVec;
+use crate::call_words::{Words, after, course, one, two, words_of_slot};
 use ctt_core::Standing;
 use ctt_edits::{EditFault, Row};
 use ctt_line::Word;
@@ -16,7 +15,7 @@ use ctt_rules::Cost;
 use ctt_text::Instance;
 
 /// The words of a fault.
-pub fn words_of_fault<'i>(instance: &'i Instance, fault: &EditFault) -> ArrayVec<Word<'i>, MOST>
+pub fn words_of_fault<'i>(instance: &'i Instance, fault: &EditFault) -> Words<'i>
     requires { FaultFits instance.now fault.now }
     ensures words { result.items ≡ fault_words instance.now fault.now }
     ensures few { array_vec_len result ≤ 2 }
@@ -35,7 +34,7 @@ pub fn words_of_fault<'i>(instance: &'i Instance, fault: &EditFault) -> ArrayVec
 }
 
 /// The words of four costs.
-pub fn words_of_costs<'i>(cost: &Cost) -> ArrayVec<Word<'i>, MOST>
+pub fn words_of_costs<'i>(cost: &Cost) -> Words<'i>
     ensures { result.items ≡ cost_words cost.now }
 {
     let mut words = two("costs", Word::number(cost.capacity));
@@ -46,7 +45,7 @@ pub fn words_of_costs<'i>(cost: &Cost) -> ArrayVec<Word<'i>, MOST>
 }
 
 /// The words of a row.
-fn words_of_row<'i>(instance: &'i Instance, row: &Row) -> ArrayVec<Word<'i>, MOST>
+fn words_of_row<'i>(instance: &'i Instance, row: &Row) -> Words<'i>
     requires { RowFits instance.now row.now }
     ensures words { result.items ≡ row_words instance.now row.now }
     ensures few { array_vec_len result ≤ 3 }
@@ -58,7 +57,7 @@ fn words_of_row<'i>(instance: &'i Instance, row: &Row) -> ArrayVec<Word<'i>, MOS
 }
 
 /// The words by which a draft is stale, since this row has changed.
-pub(crate) fn words_of_stale<'i>(instance: &'i Instance, row: &Row) -> ArrayVec<Word<'i>, MOST>
+pub(crate) fn words_of_stale<'i>(instance: &'i Instance, row: &Row) -> Words<'i>
     requires { RowFits instance.now row.now }
     ensures words { result.items ≡ codes "stale" ∷ row_words instance.now row.now }
     ensures few { array_vec_len result ≤ 4 }
@@ -70,7 +69,7 @@ pub(crate) fn words_of_stale<'i>(instance: &'i Instance, row: &Row) -> ArrayVec<
 fn words_of_freshness<'i>(
     instance: &'i Instance,
     stale: &Option<Row>,
-) -> ArrayVec<Word<'i>, MOST>
+) -> Words<'i>
     requires { IfSome stale.now (RowFits instance.now) }
     ensures words { result.items ≡ freshness_words instance.now stale.now }
     ensures few { array_vec_len result ≤ 4 }
@@ -85,7 +84,7 @@ fn words_of_freshness<'i>(
 pub(crate) fn words_of_standing<'i>(
     instance: &'i Instance,
     standing: &Standing,
-) -> ArrayVec<Word<'i>, MOST>
+) -> Words<'i>
     requires { IfSome standing.now.stale (RowFits instance.now) }
     ensures { result.items ≡ standing_words instance.now standing.now }
 {

@@ -197,33 +197,13 @@ fn only_event(reader: &Reader, read: Result<Event, JournalFault>) -> Option<Even
     }
 }
 
-/// A line as text, if it is text; that may be known before.
-fn text_of(line: &[u8], is_text: bool) -> Option<&str>
-    requires { is_text ≡ true → IsUtf8 line.now }
+/// A line as text, if it is text.
+fn text_of(line: &[u8]) -> Option<&str>
     ensures text { IfSome result (λ text. text.now ≡ line.now) }
     ensures utf8 { OnSome result (IsUtf8 line.now) }
     ensures none { IfNone result (¬ IsUtf8 line.now) }
 {
-    if is_text {
-        // SAFETY: the caller knows that it is text.
-        return Some(unsafe { str::from_utf8_unchecked(line) });
-    }
     str::from_utf8(line).ok()
-}
-
-/// The event that a line asks for; none for a line of any other form. That the line is text may be known
-/// before, of a whole script at once.
-pub(crate) fn read_line_of(instance: &Instance, line: &[u8], is_text: bool) -> Option<Event>
-    requires { is_text ≡ true → IsUtf8 line.now }
-    ensures item { result ≡ item instance.now line.now }
-    ensures words { OnSome result (has_words line.now ≡ true) }
-    ensures fits { IfSome result (EventFits instance.now 64) }
-{
-    instance.limits_hold();
-    let text = text_of(line, is_text)?;
-    let mut reader = Reader::new(text);
-    let read = read_event(&mut reader, instance);
-    only_event(&reader, read)
 }
 
 /// The event that a line asks for; none for a line of any other form.
@@ -232,27 +212,10 @@ pub fn read_line(instance: &Instance, line: &[u8]) -> Option<Event>
     ensures words { OnSome result (has_words line.now ≡ true) }
     ensures fits { IfSome result (EventFits instance.now 64) }
 {
-    read_line_of(instance, line, false)
-}
-
-/// The event that a line asks for in a script of one planner, where no line names him; none for a
-/// line of any other form. That the line is text may be known before, of a whole script at once.
-pub fn read_own_line_of(
-    instance: &Instance,
-    planner: PlannerNo,
-    line: &[u8],
-    is_text: bool,
-) -> Option<Event>
-    requires { is_text ≡ true → IsUtf8 line.now }
-    ensures item { result ≡ own_item instance.now planner line.now }
-    ensures words { OnSome result (has_words line.now ≡ true) }
-    ensures fits { (planners : ℕ) → planner < planners
-        → IfSome result (EventFits instance.now planners) }
-{
     instance.limits_hold();
-    let text = text_of(line, is_text)?;
+    let text = text_of(line)?;
     let mut reader = Reader::new(text);
-    let read = read_own_event(&mut reader, instance, planner);
+    let read = read_event(&mut reader, instance);
     only_event(&reader, read)
 }
 
@@ -264,7 +227,11 @@ pub fn read_own_line(instance: &Instance, planner: PlannerNo, line: &[u8]) -> Op
     ensures fits { (planners : ℕ) → planner < planners
         → IfSome result (EventFits instance.now planners) }
 {
-    read_own_line_of(instance, planner, line, false)
+    instance.limits_hold();
+    let text = text_of(line)?;
+    let mut reader = Reader::new(text);
+    let read = read_own_event(&mut reader, instance, planner);
+    only_event(&reader, read)
 }
 
 /// The number of the word at which reading stopped.

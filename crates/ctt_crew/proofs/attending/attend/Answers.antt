@@ -1,7 +1,5 @@
 use Rattle.std.proofs.Common.{rules, string_bytes, ◌≡◌, true, false, [], ◌∷◌, ◌∙◌, ℕ, ◌+◌, ◌<◌, List, Option, Result, Ok, Err, OnOk, OnSome, Some, None, arith, is_err, is_some, refl, sym, subst}
-use Rattle.std.specs.List.{AllByRecursion as Each}
 use Rattle.std.specs.Prelude.{IfSome}
-use Rattle.std.specs.Str.{IsUtf8}
 use Rattle.ctt_text.specs.Problem.{Problem}
 use Rattle.ctt_text.specs.declared.placed.Placed.{Placed}
 use Rattle.ctt_edits.specs.Calls.{CallFits}
@@ -9,7 +7,6 @@ use Rattle.ctt_core.specs.Runs.{EventFits}
 use Rattle.ctt_core.specs.declared.event.Event.{Event}
 use Rattle.ctt_core.specs.declared.event.Event.TheVariants.{Open, Ask, Peek, Status, Commit, Refresh, Abandon, Show}
 use Rattle.ctt_script.specs.ScriptText.{has_words, lines_of, own_item}
-use Rattle.ctt_script.proofs.ScriptLaws.{lines_are_text, ok_part}
 use Rattle.ctt_crew.specs.CrewText.{call_in}
 use Rattle.ctt_crew.specs.Attended.{AnswersItems, IsAttending, own_items}
 use Rattle.ctt_crew.specs.Seats.{AnswersLine}
@@ -41,22 +38,14 @@ pub loop-line-init : goal.loop-line-init
 loop-line-init g c =
     let all : List (List ℕ) = lines_of c.args.attendance.script.now in
     let first : c.into_iter-line-iterator.result ≡ all = search rules in
-    record {
-      attending = subst (λ ls. IsAttending g.J.Naming.problem g.J.Naming.opening c.args.number all ls c.args.seat c.args.seat (string_bytes c.in-Ok.text)) (sym first) (begins _ _ _ all c.args.seat (string_bytes c.in-Ok.text) (search rules));
-      texts = λ e. subst (Each IsUtf8) (sym first) (lines_are_text c.args.attendance.script.now (ok_part _ _ c.from_utf8.result (sym c.is_ok-is_text.ensures.value ∙ e) c.from_utf8.ensures.cases));
-    }
-
-pub read_own_line_of-read-requires : goal.read_own_line_of-read-requires
-read_own_line_of-read-requires g c e =
-    let step : c.loop-line.line-iterator ≡ c.in-Some.line.now ∷ c.next.new.self = search rules in
-    (subst (Each IsUtf8) step (c.loop-line.invariant.texts e)).0
+    subst (λ ls. IsAttending g.J.Naming.problem g.J.Naming.opening c.args.number all ls c.args.seat c.args.seat (string_bytes c.in-Ok.text)) (sym first) (begins _ _ _ all c.args.seat (string_bytes c.in-Ok.text) (search rules))
 
 pub answer_call-requires : goal.answer_call-requires
 answer_call-requires g c κs =
     let i : Problem = c.args.attendance.instance.now in
     let n : ℕ = c.args.number + 1 in
     let lt : c.args.number < c.args.number + 1 = omega arith in
-    let found : IfSome (call_in c.read_own_line_of-read.result) (CallFits i) = call_fits i n c.read_own_line_of-read.result (c.read_own_line_of-read.ensures.fits n lt) in
+    let found : IfSome (call_in c.read_own_line-read.result) (CallFits i) = call_fits i n c.read_own_line-read.result (c.read_own_line-read.ensures.fits n lt) in
     let fits : CallFits i c.in-Some-call_in.call = subst (λ o. IfSome o (CallFits i)) (sym c.call_in.ensures ∙ c.in-Some-call_in.is) found in
     search rules
 
@@ -64,24 +53,21 @@ pub loop-line-preserved : goal.loop-line-preserved
 loop-line-preserved g c =
     let step : c.loop-line.line-iterator ≡ c.in-Some.line.now ∷ c.next.new.self = search rules in
     let none : has_words c.in-Some.line.now ≡ false = sym c.has_words.ensures ∙ c.if-has_words.false in
-    let so_far = subst (λ ls. IsAttending g.J.Naming.problem g.J.Naming.opening c.args.number (lines_of c.args.attendance.script.now) ls c.args.seat c.loop-line.seat (string_bytes c.loop-line.text)) step c.loop-line.invariant.attending in
-    record {
-      attending = passed_over _ _ _ _ c.args.seat c.in-Some.line.now c.next.new.self c.loop-line.seat (string_bytes c.loop-line.text) so_far none;
-      texts = λ e. (subst (Each IsUtf8) step (c.loop-line.invariant.texts e)).1;
-    }
+    let so_far = subst (λ ls. IsAttending g.J.Naming.problem g.J.Naming.opening c.args.number (lines_of c.args.attendance.script.now) ls c.args.seat c.loop-line.seat (string_bytes c.loop-line.text)) step c.loop-line.invariant in
+    passed_over _ _ _ _ c.args.seat c.in-Some.line.now c.next.new.self c.loop-line.seat (string_bytes c.loop-line.text) so_far none
 
 pub loop-line-preserved-in-loop-line : goal.loop-line-preserved-in-loop-line
 loop-line-preserved-in-loop-line g c =
     let i : Problem = c.args.attendance.instance.now in
     let t0 : List Placed = g.J.Naming.opening in
     let words : List ℕ = c.in-Some.line.now in
-    let read : Option Event = c.read_own_line_of-read.result in
+    let read : Option Event = c.read_own_line-read.result in
     let old : List ℕ = string_bytes c.loop-line.text in
     let new : List ℕ = string_bytes c.match-call_in.text in
     let step : c.loop-line.line-iterator ≡ words ∷ c.next.new.self = search rules in
-    let so_far = subst (λ ls. IsAttending g.J.Naming.problem t0 c.args.number (lines_of c.args.attendance.script.now) ls c.args.seat c.loop-line.seat old) step c.loop-line.invariant.attending in
+    let so_far = subst (λ ls. IsAttending g.J.Naming.problem t0 c.args.number (lines_of c.args.attendance.script.now) ls c.args.seat c.loop-line.seat old) step c.loop-line.invariant in
     let some : has_words words ≡ true = elim c.then-is_some.branch [
-      | then-is_some-via-then-is_some w ↦ some_part read (sym c.is_some.ensures ∙ w.if-is_some.true) c.read_own_line_of-read.ensures.words
+      | then-is_some-via-then-is_some w ↦ some_part read (sym c.is_some.ensures ∙ w.if-is_some.true) c.read_own_line-read.ensures.words
       | then-is_some-via-else-is_some+then-has_words w ↦ sym w.has_words.ensures ∙ w.if-has_words.true
     ]
     in
@@ -92,12 +78,9 @@ loop-line-preserved-in-loop-line g c =
       | in_default-call_in+in-Ok-answer_own_line w ↦ rw (w.seat-is, w.text-is) w.in-Ok-answer_own_line.ensures
     ]
     in
-    let is_item : AnswersLine i t0 (own_item i c.args.number words) c.loop-line.seat c.match-call_in.seat old new = subst (λ it. AnswersLine i t0 it c.loop-line.seat c.match-call_in.seat old new) c.read_own_line_of-read.ensures.item is_read in
-    record {
-      attending = one_more _ _ _ _ c.args.seat words c.next.new.self c.loop-line.seat c.match-call_in.seat old new so_far some
-          (subst (λ j. AnswersLine j t0 (own_item j c.args.number words) c.loop-line.seat c.match-call_in.seat old new) (sym c.args.attendance.same) is_item);
-      texts = λ e. (subst (Each IsUtf8) step (c.loop-line.invariant.texts e)).1;
-    }
+    let is_item : AnswersLine i t0 (own_item i c.args.number words) c.loop-line.seat c.match-call_in.seat old new = subst (λ it. AnswersLine i t0 it c.loop-line.seat c.match-call_in.seat old new) c.read_own_line-read.ensures.item is_read in
+    one_more _ _ _ _ c.args.seat words c.next.new.self c.loop-line.seat c.match-call_in.seat old new so_far some
+          (subst (λ j. AnswersLine j t0 (own_item j c.args.number words) c.loop-line.seat c.match-call_in.seat old new) (sym c.args.attendance.same) is_item)
 
 pub returns : goal.returns
 returns g c =
@@ -106,5 +89,5 @@ returns g c =
     let all : List (List ℕ) = lines_of c.args.attendance.script.now in
     let new : List ℕ = string_bytes c.loop-line.text in
     let none : c.loop-line.line-iterator ≡ [] = search rules in
-    let done = subst (λ ls. IsAttending i t0 c.args.number all ls c.args.seat c.loop-line.seat new) none c.loop-line.invariant.attending in
+    let done = subst (λ ls. IsAttending i t0 c.args.number all ls c.args.seat c.loop-line.seat new) none c.loop-line.invariant in
     (c.loop-line.seat, subst (λ p. AnswersItems i t0 (own_items i p all) c.args.seat c.loop-line.seat [] new) c.requires (done c.loop-line.seat new (refl, refl)), c.leave.ensures)

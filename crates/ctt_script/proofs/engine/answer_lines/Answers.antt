@@ -1,13 +1,10 @@
-use Rattle.std.proofs.Common.{rules, ◌≡◌, true, ◌∷◌, [], ◌∙◌, List, ℕ, length, Option, sym, subst, refl, string_bytes}
+use Rattle.std.proofs.Common.{rules, ◌≡◌, ◌∷◌, [], ◌∙◌, List, ℕ, length, Option, sym, subst, refl, string_bytes}
 use Rattle.std.specs.Io.KnownBytes.{Appends}
-use Rattle.std.specs.List.{AllByRecursion as Each}
-use Rattle.std.specs.Str.{IsUtf8}
 use Rattle.std.proofs.KnownBytes.{Appends-nil}
 use Rattle.ctt_core.specs.Desks.{DeskValue}
 use Rattle.ctt_script.specs.Answering.{Answered, Answering, IsAtRun, Wrote, WroteFront}
 use Rattle.ctt_devices.specs.Output.{AppendsFront}
 use Rattle.ctt_script.specs.ScriptText.{lines_of, items_of}
-use Rattle.ctt_script.proofs.ScriptLaws.{lines_are_text, ok_part}
 use Rattle.ctt_script.proofs.AnsweringLemmas.{begins, all_written, one_more_line, more_written, front_written, still_at_run}
 use Rattle.ctt_devices.proofs.OutputLemmas.{on_err}
 use Rattle.ctt_script.proofs.engine.answer_lines.Goals as goal
@@ -20,7 +17,6 @@ loop-line-init g c =
     let first : c.into_iter-line-iterator.result ≡ all = search rules in
     record {
       answering = subst (λ ls. Answering v v all ls taken taken (string_bytes c.new-answers.result)) (sym first) (begins v all taken (string_bytes c.new-answers.result) c.new-answers.ensures.bytes);
-      texts = λ e. subst (Each IsUtf8) (sym first) (lines_are_text c.args.text.now (ok_part _ _ c.from_utf8.result (sym c.is_ok-is_text.ensures.value ∙ e) c.from_utf8.ensures.cases));
       unmarked = refl;
     }
 
@@ -30,8 +26,6 @@ answer_line-requires g c κs =
     let h = c.loop-line.invariant.answering in
     let same : c.loop-line.desk.problem ≡ c.args.instance.now = h.answered.same.problem ∙ c.requires.same in
     let planners : length c.loop-line.desk.drafts ≡ 64 = h.answered.same.planners ∙ c.requires.planners in
-    let step : c.loop-line.line-iterator ≡ c.in-Some.line.now ∷ c.next.new.self = search rules in
-    let text : c.is_ok-is_text.result ≡ true → IsUtf8 c.in-Some.line.now = λ e. (subst (Each IsUtf8) step (c.loop-line.invariant.texts e)).0 in
     let at : IsAtRun c.loop-line.desk = still_at_run v (lines_of c.args.text.now) (g.W.Sink.taken c.args.writer.now) c.loop-line.desk c.loop-line.line-iterator (g.W.Sink.taken c.loop-line.writer) (string_bytes c.loop-line.answers) c.requires.stands h in
     search rules
 
@@ -54,7 +48,6 @@ loop-line-preserved g c =
     let next : Answering v c.answer_line.new.desk all c.next.new.self before taken (string_bytes c.answer_line.new.answers) = one_more_line v all before c.loop-line.desk c.answer_line.new.desk taken c.in-Some.line.now c.loop-line.line-iterator c.next.new.self (string_bytes c.loop-line.answers) (string_bytes c.answer_line.new.answers) step c.loop-line.invariant.answering more in
     record {
       answering = more_written v all before c.answer_line.new.desk c.next.new.self taken (g.W.Sink.taken c.write_full.new.writer) (string_bytes c.answer_line.new.answers) next (string_bytes c.write_full.new.answers) c.in_ok-write_full.ensures.written;
-      texts = λ e. (subst (Each IsUtf8) step (c.loop-line.invariant.texts e)).1;
       unmarked = c.in_ok-write_full.ensures.unmarked ∙ c.loop-line.invariant.unmarked;
     }
 

@@ -1,6 +1,4 @@
-use Rattle.std.proofs.Common.{◌≡◌, true, string_bytes}
-use Rattle.std.specs.List.{AllByRecursion as Each}
-use Rattle.std.specs.Str.{IsUtf8}
+use Rattle.std.proofs.Common.{◌≡◌, string_bytes}
 use Rattle.ctt_script.specs.Answering.{Answering}
 use Rattle.ctt_script.specs.ScriptText.{lines_of}
 use Rattle.ctt_script.proofs.engine.answer_lines.Given as goal
@@ -9,6 +7,5 @@ use Rattle.ctt_script.proofs.engine.answer_lines.Given as goal
 abbrev pub invariant-loop-line : goal.invariant-loop-line
 invariant-loop-line g l = record {
   answering : Answering l.initial.desk l.desk (lines_of l.text) l.line-iterator (g.W.Sink.taken l.fn.writer) (g.W.Sink.taken l.writer) (string_bytes l.answers);
-  texts : l.is_text ≡ true → Each IsUtf8 l.line-iterator;
   unmarked : g.W.Sink.has_failed l.writer ≡ g.W.Sink.has_failed l.fn.writer;
 }

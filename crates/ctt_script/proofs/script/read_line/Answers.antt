@@ -3,7 +3,7 @@ use Rattle.ctt_script.specs.JournalWords.{reads}
 use Rattle.ctt_script.specs.ScriptPlaces.{event_form}
 use Rattle.ctt_script.proofs.EventLemmas.{item_fits}
 use Rattle.ctt_script.proofs.ScriptLaws.{bad_text, item_has_words, text_asks}
-use Rattle.ctt_script.proofs.script.read_line_of.Goals as goal
+use Rattle.ctt_script.proofs.script.read_line.Goals as goal
 
 pub returns-in_err-text-clause-item : goal.returns-in_err-text-clause-item
 returns-in_err-text-clause-item c = c.from_residual.ensures ∙ bad_text (event_form c.args.instance.now) c.args.line.now c.in_err-text.ensures.none

@@ -4,7 +4,7 @@ use Rattle.ctt_script.specs.ScriptPlaces.{own_form}
 use Rattle.ctt_script.specs.ScriptText.{own_item}
 use Rattle.ctt_script.proofs.EventLemmas.{own_item_fits}
 use Rattle.ctt_script.proofs.ScriptLaws.{bad_text, own_item_has_words, text_asks}
-use Rattle.ctt_script.proofs.script.read_own_line_of.Goals as goal
+use Rattle.ctt_script.proofs.script.read_own_line.Goals as goal
 
 pub returns-in_err-text-clause-item : goal.returns-in_err-text-clause-item
 returns-in_err-text-clause-item c = c.from_residual.ensures ∙ bad_text (own_form c.args.instance.now c.args.planner) c.args.line.now c.in_err-text.ensures.none
