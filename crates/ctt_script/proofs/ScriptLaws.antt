@@ -152,4 +152,3 @@ pub only_line : (text : List ℕ) → position (λ b. b == 10) text ≡ None →
 only_line text h =
     let none = position_none ends_line text h in
     slice_split_none ends_line text (λ k e m. let at = fails_before_first ends_line text k e in grind (arith, common_steps, none, at))
-

@@ -225,11 +225,7 @@ pub(crate) fn two<'i>(kind: &'i str, word: Word<'i>) -> Words<'i>
 }
 
 /// The words of a slot.
-pub(crate) fn words_of_slot<'i>(
-    kind: &'i str,
-    instance: &'i Instance,
-    slot: SlotNo,
-) -> Words<'i>
+pub(crate) fn words_of_slot<'i>(kind: &'i str, instance: &'i Instance, slot: SlotNo) -> Words<'i>
     requires { slot < slot_count instance.now }
     ensures words { result.items ≡ kind.now ∷ day_word instance.now slot
         ∷ period_word instance.now slot ∷ [] }
@@ -241,10 +237,7 @@ pub(crate) fn words_of_slot<'i>(
 }
 
 /// Words after another one.
-pub(crate) fn after<'i>(
-    first: Word<'i>,
-    words: Words<'i>,
-) -> Words<'i>
+pub(crate) fn after<'i>(first: Word<'i>, words: Words<'i>) -> Words<'i>
     requires { array_vec_len words ≤ 8 }
     ensures words { result.items ≡ first.entry ∷ words.entry.items }
     ensures few { array_vec_len result ≡ array_vec_len words.entry + 1 }

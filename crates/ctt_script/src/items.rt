@@ -66,6 +66,9 @@ impl Item for PricedEdit {
     ghost words = { priced_words };
 
     fn words<'i>(&self, instance: &'i Instance) -> Words<'i> {
-        after(Word::amount(self.price), words_of_edit(instance, &self.edit))
+        after(
+            Word::amount(self.price),
+            words_of_edit(instance, &self.edit),
+        )
     }
 }

@@ -66,10 +66,7 @@ pub(crate) fn words_of_stale<'i>(instance: &'i Instance, row: &Row) -> Words<'i>
 }
 
 /// The words by which a draft is fresh, or stale by a row.
-fn words_of_freshness<'i>(
-    instance: &'i Instance,
-    stale: &Option<Row>,
-) -> Words<'i>
+fn words_of_freshness<'i>(instance: &'i Instance, stale: &Option<Row>) -> Words<'i>
     requires { IfSome stale.now (RowFits instance.now) }
     ensures words { result.items ≡ freshness_words instance.now stale.now }
     ensures few { array_vec_len result ≤ 4 }
@@ -81,14 +78,14 @@ fn words_of_freshness<'i>(
 }
 
 /// The words of how a draft stands.
-pub(crate) fn words_of_standing<'i>(
-    instance: &'i Instance,
-    standing: &Standing,
-) -> Words<'i>
+pub(crate) fn words_of_standing<'i>(instance: &'i Instance, standing: &Standing) -> Words<'i>
     requires { IfSome standing.now.stale (RowFits instance.now) }
     ensures { result.items ≡ standing_words instance.now standing.now }
 {
     let freshness = words_of_freshness(instance, &standing.stale);
     let since = after(Word::number(standing.behind), freshness);
-    after(Word::text("draft"), after(Word::number(standing.edits), since))
+    after(
+        Word::text("draft"),
+        after(Word::number(standing.edits), since),
+    )
 }

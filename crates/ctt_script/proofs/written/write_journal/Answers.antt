@@ -8,7 +8,7 @@ use Rattle.ctt_script.proofs.WrittenText.{written_spells}
 use Rattle.ctt_script.proofs.written.write_journal.Goals as goal
 
 pub returns-clause-utf8 : goal.returns-clause-utf8
-returns-clause-utf8 c = rw c.into_bytes.ensures.value (IsUtf8-string_bytes c.push_str-2.new.self)
+returns-clause-utf8 c = rw c.into_bytes.ensures.value (IsUtf8-string_bytes c.push_str.new.self)
 
 pub returns-clause-spelled : goal.returns-clause-spelled
 returns-clause-spelled c =
