@@ -1,5 +1,5 @@
 -- Findings by name, and as lines of text.
-use Rattle.std.specs.Prelude.{ℕ, List, [], ◌∷◌, ◌++◌, codes, flat_map, map, slice_index_or}
+use Rattle.std.specs.Prelude.{ℕ, List, [], ◌∷◌, codes, flat_map, map, slice_index_or}
 use Rattle.std.specs.Fmt.{decimal}
 use Rattle.ctt_line.specs.Lines.{line as line_of}
 use Rattle.ctt_text.specs.Problem.{Problem, day_of, period_of}

@@ -3,6 +3,7 @@ use Rattle.std.specs.Prelude.{◌≡◌, ◌↔◌, ◌++◌, ◌∷◌, ℕ, Bo
 use Rattle.std.specs.Fmt.{decimal}
 use Rattle.serde_json.specs.Data.{Data, Members, boolean, member, no_members, number, object, put, string, unsigned}
 use Rattle.serde_json.specs.Written.{comma_if, compact_text}
+use Rattle.ctt_line.specs.Lines.{line as line_of}
 use Rattle.ctt_text.specs.Problem.{Problem, has_barred}
 use Rattle.ctt_text.specs.declared.placed.Placed.{Placed}
 use Rattle.ctt_rules.specs.declared.cost.Cost.{Cost}
@@ -12,15 +13,15 @@ use Rattle.ctt_rules.specs.Penalty.{penalty, total}
 use Rattle.ctt_findings.specs.Lines.{explained}
 use Rattle.ctt_findings.specs.Objects.{all_objects}
 
--- a line: what is said of, a blank, what is said, and the line's end
+-- a line: a key, and what is said of it
 abbrev pub line : List ℕ → List ℕ → List ℕ
-line key text = key ++ codes " " ++ text ++ codes "\n"
+line key text = line_of (key ∷ text ∷ [])
 
 abbrev pub count_line : List ℕ → ℕ → List ℕ
 count_line key count = line key (decimal count)
 
-abbrev pub answer_line : List ℕ → Bool → List ℕ
-answer_line key answer = line key (if answer then codes "yes" else codes "no")
+abbrev pub answer_word : Bool → List ℕ
+answer_word b = if b then codes "yes" else codes "no"
 
 -- the line of the lectures in barred rooms, where some room is barred
 abbrev pub barred_line : Bool → ℕ → List ℕ
@@ -42,8 +43,8 @@ text_of name barred hard cost lawful complete = line (codes "instance") name
     ++ count_line (codes "compactness") cost.compactness
     ++ count_line (codes "stability") cost.stability
     ++ count_line (codes "total") (total cost)
-    ++ answer_line (codes "lawful") lawful
-    ++ answer_line (codes "complete") complete
+    ++ line (codes "lawful") (answer_word lawful)
+    ++ line (codes "complete") (answer_word complete)
 
 -- the member of the lectures in barred rooms, where some room is barred, before the others
 abbrev pub barred_member : Bool → ℕ → Members → Members
