@@ -1,8 +1,8 @@
 -- The texts of the report on a timetable.
-use Rattle.std.specs.Prelude.{◌≡◌, ◌↔◌, ◌++◌, ◌∷◌, ℕ, Bool, true, false, IsTrue, List, [], codes, if◌then◌else◌}
+use Rattle.std.specs.Prelude.{◌≡◌, ◌↔◌, ◌++◌, ◌∷◌, ℕ, Bool, true, false, IsTrue, List, [], codes, ◌==◌, if◌then◌else◌}
 use Rattle.std.specs.Fmt.{decimal}
 use Rattle.serde_json.specs.Data.{Data, Members, boolean, member, no_members, number, object, put, string, unsigned}
-use Rattle.serde_json.specs.Written.{comma_if, compact_text}
+use Rattle.serde_json.specs.Written.{compact_text}
 use Rattle.ctt_line.specs.Lines.{line as line_of}
 use Rattle.ctt_text.specs.Problem.{Problem, has_barred}
 use Rattle.ctt_text.specs.declared.placed.Placed.{Placed}
@@ -72,30 +72,39 @@ members_behind name hard cost lawful =
     (member (codes "stability") (number (unsigned cost.stability))
     (member (codes "total") (number (unsigned (total cost))) no_members)))))
 
--- and those behind it put to others
-abbrev pub with_behind : List ℕ → Hard → Cost → Bool → Members → Members
-with_behind name hard cost lawful others =
+-- and all of them
+abbrev pub members_of : List ℕ → Bool → Hard → Cost → Bool → Bool → Members
+members_of name barred hard cost lawful complete = members_before barred hard cost complete (members_behind name hard cost lawful)
+
+-- members put to others: how often the hard rules are broken, and what the soft ones cost
+abbrev pub with_barred : Bool → ℕ → Members → Members
+with_barred true count others = put (codes "barred") (number (unsigned count)) others
+with_barred false count others = others
+
+abbrev pub with_hard : Bool → Hard → Members → Members
+with_hard barred hard others =
+    with_barred barred hard.barred
+    (put (codes "occupancy") (number (unsigned hard.occupancy))
+    (put (codes "availability") (number (unsigned hard.availability))
+    (put (codes "conflicts") (number (unsigned hard.conflicts))
+    (put (codes "lectures") (number (unsigned hard.lectures)) others))))
+
+abbrev pub with_cost : Cost → Members → Members
+with_cost cost others =
     put (codes "total") (number (unsigned (total cost)))
     (put (codes "stability") (number (unsigned cost.stability))
-    (put (codes "occupancy") (number (unsigned hard.occupancy))
-    (put (codes "lectures") (number (unsigned hard.lectures))
-    (put (codes "lawful") (boolean lawful)
-    (put (codes "instance") (string name) others)))))
+    (put (codes "compactness") (number (unsigned cost.compactness))
+    (put (codes "days") (number (unsigned cost.days))
+    (put (codes "capacity") (number (unsigned cost.capacity)) others))))
 
--- the text of members without the closing bracket
-abbrev pub open_text : Bool → Members → List ℕ
-open_text later no_members = []
-open_text later (member k d ms) = comma_if later ++ (compact_text (string k) ++ 58 ∷ (compact_text d ++ open_text true ms))
-
--- the text of the report's object up to the first of its findings
-abbrev pub text_to_findings : Bool → Hard → Cost → Bool → List ℕ
-text_to_findings barred hard cost complete =
-    codes "{" ++ (open_text false (members_before barred hard cost complete no_members) ++ codes ",\"findings\":[")
+-- the byte by which a list begins
+abbrev pub is_bracket : ℕ → Bool
+is_bracket b = b == 91
 
 -- the report as a JSON object
 unfoldable pub data_of : List ℕ → Bool → Hard → Cost → Bool → Bool → Data
 data_of name barred hard cost lawful complete =
-    object (members_before barred hard cost complete (members_behind name hard cost lawful))
+    object (members_of name barred hard cost lawful complete)
 
 -- and with its findings
 unfoldable pub explained_data_of : Data → List ℕ → Bool → Hard → Cost → Bool → Bool → Data
