@@ -64,11 +64,7 @@ fn put_hard(
 }
 
 /// Adds what the timetable costs.
-fn put_cost(
-    alloc: Global,
-    report: &mut Map<String, Value>,
-    cost: &Cost,
-) -> Result<(), AllocError>
+fn put_cost(alloc: Global, report: &mut Map<String, Value>, cost: &Cost) -> Result<(), AllocError>
     requires { total cost.now < 2 ^ 64 }
     ensures { OnOk result (members_view report.new.entries
         ≡ with_cost cost.now (members_view report.old.entries)) }
