@@ -1,4 +1,4 @@
-use Rattle.std.proofs.Common.{rules, ◌≡◌, ◌∙◌, ◌++◌, ◌∷◌, ◌+◌, [], Some, ap, ap₂, false, position, sym, ℕ, List, drop, take}
+use Rattle.std.proofs.Common.{rules, ◌≡◌, ◌∙◌, ◌++◌, ◌+◌, [], Some, ap, ap₂, false, position, sym, ℕ, List, drop, take}
 use Rattle.std.specs.List.{position_or_len}
 use Rattle.ctt_findings.specs.Findings.{findings}
 use Rattle.ctt_findings.specs.Objects.{all_objects, item_texts}

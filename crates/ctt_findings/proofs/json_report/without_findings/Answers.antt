@@ -1,10 +1,10 @@
-use Rattle.std.proofs.Common.{rules, ◌≡◌, ◌∙◌, ◌++◌, ap, codes, OnOk, IfOk, Result, Ok, Err, subst}
+use Rattle.std.proofs.Common.{rules, ◌≡◌, ◌∙◌, ◌++◌, ap, codes}
 use Rattle.serde_json.specs.Data.{Data, array, no_items, object, put}
 use Rattle.serde_json.specs.View.{members_view, view}
 use Rattle.serde_json.specs.Written.{compact_text, has_float}
 use Rattle.serde_json.specs.declared.value.Value.{Array}
 use Rattle.serde_json.proofs.Views.{view-Array}
-use Rattle.ctt_findings.specs.ReportText.{explained_data_of, explained_json_of, members_of}
+use Rattle.ctt_findings.specs.ReportText.{explained_data_of}
 use Rattle.ctt_findings.proofs.ReportLemmas.{findings_put, no_float_explained}
 use Rattle.ctt_findings.proofs.json_report.without_findings.Goals as goal
 
