@@ -1,15 +1,20 @@
 -- The text of the report's object, and of the parts around its findings.
-use Rattle.std.proofs.Common.{◌≡◌, ℕ, Bool, true, false, cond, List, [], ◌∷◌, ◌++◌, ◌-◌, ◌≤◌, drop, length, take, arith, codes, refl, sym, ap, ap₂, ◌∙◌, append_assoc}
+use Rattle.std.proofs.Common.{◌≡◌, ℕ, zero, suc, ◌+◌, ◌<◌, Bool, true, false, true≢false, if◌then◌else◌, ◌||◌, ◌==◌, List, [], ◌∷◌, ◌++◌, ◌/◌, ◌%◌, drop, length, take, arith, codes, refl, sym, ap, ap₂, ◌∙◌, append_assoc, inl, inr, one-add, position, Some}
+use Rattle.std.specs.Bool.{⊤}
+use Rattle.std.specs.Fmt.{decimal, digit_glyph, digits, digits_onto}
+use Rattle.std.specs.List.{list_any, position_or_len}
 use Rattle.std.proofs.Math.Seq.{take-append_seam}
+use Rattle.std.proofs.lemmas.Bool.{cases_eq, eq-eqb, lt-ltb, ne_eqb}
 use Rattle.std.proofs.lemmas.List.{drop_at, length-append}
-use Rattle.serde_json.specs.Data.{Data, Members, array, boolean, member, no_items, no_members, number, object, put, string, unsigned}
+use Rattle.std.proofs.lemmas.List.Folds.{list_any-append}
+use Rattle.serde_json.specs.Data.{Data, Members, array, boolean, member, no_items, no_members, object, put, string}
 use Rattle.serde_json.specs.Written.{comma_if, compact_text, has_float, items_text, members_text}
 use Rattle.serde_json.proofs.OnLiterals.{serde_json_on_literals}
 use Rattle.ctt_text.specs.Problem.{Problem}
 use Rattle.ctt_rules.specs.declared.cost.Cost.{Cost}
 use Rattle.ctt_rules.specs.declared.hard.Hard.{Hard}
 use Rattle.ctt_findings.specs.Objects.{item_texts, objects_of}
-use Rattle.ctt_findings.specs.ReportText.{data_of, explained_data_of, explained_json_of, members_before, members_behind, open_text, text_to_findings, with_behind}
+use Rattle.ctt_findings.specs.ReportText.{data_of, explained_data_of, explained_json_of, is_bracket, members_before, members_behind, members_of, with_cost, with_hard}
 use Rattle.ctt_findings.specs.declared.finding.Finding.{Finding}
 use Rattle.ctt_findings.proofs.ObjectLemmas.{items_are}
 
@@ -17,44 +22,20 @@ use Rattle.ctt_findings.proofs.ObjectLemmas.{items_are}
 pub adds : {new old members : Members} (key : List ℕ) (value : Data) → new ≡ put key value old → old ≡ members → new ≡ put key value members
 adds key value e was = e ∙ ap (put key value) was
 
--- the member of barred rooms, where some room is barred
-abbrev pub with_barred : Bool → ℕ → Members → Members
-with_barred barred count others = cond barred (put (codes "barred") (number (unsigned count)) others) others
-
--- the members put one after another: those before the findings, where some room is barred and where none is
-pub before_put : (barred : Bool) (hard : Hard) (cost : Cost) (complete : Bool)
-    → put (codes "days") (number (unsigned cost.days))
-    (put (codes "conflicts") (number (unsigned hard.conflicts))
-    (put (codes "complete") (boolean complete)
-    (put (codes "compactness") (number (unsigned cost.compactness))
-    (put (codes "capacity") (number (unsigned cost.capacity))
-    (with_barred barred hard.barred (put (codes "availability") (number (unsigned hard.availability)) no_members))))))
-    ≡ members_before barred hard cost complete no_members
-unfolding members_before serde_json_on_literals
-before_put true hard cost complete = refl
-before_put false hard cost complete = refl
-
--- with an empty list of findings after them
-abbrev pub to_findings : Bool → Hard → Cost → Bool → Members
-to_findings barred hard cost complete = members_before barred hard cost complete (member (codes "findings") (array no_items) no_members)
-
-pub findings_put : (barred : Bool) (hard : Hard) (cost : Cost) (complete : Bool) → put (codes "findings") (array no_items) (members_before barred hard cost complete no_members) ≡ to_findings barred hard cost complete
-unfolding members_before serde_json_on_literals
-findings_put true hard cost complete = refl
-findings_put false hard cost complete = refl
-
--- and the other members, without the findings and with an empty list of them
+-- the members put one after another, where some room is barred and where none is
 pub all_put : (name : List ℕ) (barred : Bool) (hard : Hard) (cost : Cost) (lawful complete : Bool)
-    → object (with_behind name hard cost lawful (members_before barred hard cost complete no_members)) ≡ data_of name barred hard cost lawful complete
-unfolding data_of members_before members_behind serde_json_on_literals
+    → put (codes "complete") (boolean complete) (put (codes "lawful") (boolean lawful) (with_cost cost (with_hard barred hard (put (codes "instance") (string name) no_members))))
+    ≡ members_of name barred hard cost lawful complete
+unfolding members_before members_behind serde_json_on_literals
 all_put name true hard cost lawful complete = refl
 all_put name false hard cost lawful complete = refl
 
-pub explained_put : (name : List ℕ) (barred : Bool) (hard : Hard) (cost : Cost) (lawful complete : Bool)
-    → object (with_behind name hard cost lawful (to_findings barred hard cost complete)) ≡ explained_data_of (array no_items) name barred hard cost lawful complete
+-- with an empty list of findings
+pub findings_put : (name : List ℕ) (barred : Bool) (hard : Hard) (cost : Cost) (lawful complete : Bool)
+    → object (put (codes "findings") (array no_items) (members_of name barred hard cost lawful complete)) ≡ explained_data_of (array no_items) name barred hard cost lawful complete
 unfolding explained_data_of members_before members_behind serde_json_on_literals
-explained_put name true hard cost lawful complete = refl
-explained_put name false hard cost lawful complete = refl
+findings_put name true hard cost lawful complete = refl
+findings_put name false hard cost lawful complete = refl
 
 -- no number is a float
 pub no_float : (name : List ℕ) (barred : Bool) (hard : Hard) (cost : Cost) (lawful complete : Bool) → has_float (data_of name barred hard cost lawful complete) ≡ false
@@ -62,15 +43,15 @@ unfolding data_of members_before members_behind
 no_float name true hard cost lawful complete = refl
 no_float name false hard cost lawful complete = refl
 
-no_float_to_findings : (barred : Bool) (hard : Hard) (cost : Cost) (complete : Bool) → has_float (object (to_findings barred hard cost complete)) ≡ false
-unfolding members_before
-no_float_to_findings true hard cost complete = refl
-no_float_to_findings false hard cost complete = refl
-
 pub no_float_explained : (name : List ℕ) (barred : Bool) (hard : Hard) (cost : Cost) (lawful complete : Bool) → has_float (explained_data_of (array no_items) name barred hard cost lawful complete) ≡ false
 unfolding explained_data_of members_before members_behind
 no_float_explained name true hard cost lawful complete = refl
 no_float_explained name false hard cost lawful complete = refl
+
+-- the text of members without the closing bracket
+open_text : Bool → Members → List ℕ
+open_text later no_members = []
+open_text later (member k d ms) = comma_if later ++ (compact_text (string k) ++ 58 ∷ (compact_text d ++ open_text true ms))
 
 -- members in front of others
 in_front : Members → Members → Members
@@ -83,7 +64,7 @@ after later no_members = later
 after later (member k d ms) = after true ms
 
 opened : (later : Bool) (ms others : Members) → members_text later (in_front ms others) ≡ open_text later ms ++ members_text (after later ms) others
-unfolding in_front after
+unfolding in_front after open_text
 opened later no_members others = refl
 opened later (member k d ms) others =
     let so_far : List ℕ = open_text true ms in
@@ -115,11 +96,12 @@ regroup front key items behind end =
     ∙ ap (λ text. front ++ text) (append_assoc key ((items ++ 93 ∷ []) ++ 44 ∷ behind) end
     ∙ ap (λ text. key ++ text) (append_assoc (items ++ 93 ∷ []) (44 ∷ behind) end ∙ append_assoc items (93 ∷ []) (44 ∷ (behind ++ end)))))
 
--- all but the last byte
-pub before_last : (text front : List ℕ) (last n : ℕ) → text ≡ front ++ last ∷ [] → n ≡ length text → take (n - 1) text ≡ front
-before_last text front last n is count =
-    let at : n - 1 ≡ length front = omega (arith, count, ap length is, length-append front (last ∷ [])) in
-    ap (λ k. take k text) at ∙ ap (take (length front)) is ∙ take-append_seam front (last ∷ [])
+-- the text up to the list of findings, and up to the first of them
+pub text_to_list : Bool → Hard → Cost → Bool → List ℕ
+text_to_list barred hard cost complete = codes "{" ++ (open_text false (members_before barred hard cost complete no_members) ++ codes ",\"findings\":")
+
+abbrev pub text_to_findings : Bool → Hard → Cost → Bool → List ℕ
+text_to_findings barred hard cost complete = text_to_list barred hard cost complete ++ 91 ∷ []
 
 -- the text after the items of the findings
 abbrev pub text_after_findings : List ℕ → Hard → Cost → Bool → List ℕ
@@ -129,7 +111,7 @@ text_after_findings name hard cost lawful = codes "]," ++ (members_text false (m
 pub explained_is : (i : Problem) (fs : List Finding) (name : List ℕ) (barred : Bool) (hard : Hard) (cost : Cost) (lawful complete : Bool)
     → text_to_findings barred hard cost complete ++ (item_texts i false fs ++ text_after_findings name hard cost lawful)
     ≡ explained_json_of (array (objects_of i fs)) name barred hard cost lawful complete
-unfolding explained_data_of
+unfolding explained_data_of text_to_list
 explained_is i fs name barred hard cost lawful complete =
     let front : List ℕ = open_text false (members_before barred hard cost complete no_members) in
     let behind : Members = members_behind name hard cost lawful in
@@ -138,24 +120,90 @@ explained_is i fs name barred hard cost lawful complete =
     key_of_findings (items_text false (objects_of i fs) ++ members_text true behind)
     ∙ ap (λ text. codes ",\"findings\":[" ++ (text ++ members_text true behind)) (sym (items_are i false fs))
     ∙ ap (λ text. codes ",\"findings\":[" ++ ((items ++ 93 ∷ []) ++ text)) (behind_later name hard cost lawful) in
-    ap (λ text. 123 ∷ text) (regroup front (codes ",\"findings\":[") items (members_text false behind) (codes "\n")
+    ap (λ text. 123 ∷ (text ++ (items ++ text_after_findings name hard cost lawful))) (append_assoc front (codes ",\"findings\":") (91 ∷ []))
+    ∙ ap (λ text. 123 ∷ text) (regroup front (codes ",\"findings\":[") items (members_text false behind) (codes "\n")
     ∙ ap (λ text. (front ++ text) ++ codes "\n") (sym between)
     ∙ ap (λ text. text ++ codes "\n") (sym (before_opens barred hard cost complete (member (codes "findings") (array (objects_of i fs)) behind))))
 
--- the text of the object of the members up to the findings: it ends by two brackets
-pub closed_text : (barred : Bool) (hard : Hard) (cost : Cost) (complete : Bool) (value : Data) (text : List ℕ) → value ≡ object (to_findings barred hard cost complete)
-    → (has_float value ≡ false → text ≡ compact_text value) → text ≡ (text_to_findings barred hard cost complete ++ 93 ∷ []) ++ 125 ∷ []
-closed_text barred hard cost complete value text is written =
-    let front : List ℕ = open_text false (members_before barred hard cost complete no_members) in
-    let key : List ℕ = codes ",\"findings\":[" in
-    written (ap has_float is ∙ no_float_to_findings barred hard cost complete) ∙ ap compact_text is
-    ∙ ap (λ t. 123 ∷ t) (before_opens barred hard cost complete (member (codes "findings") (array no_items) no_members)
-    ∙ ap (λ t. front ++ t) (key_of_findings (93 ∷ 125 ∷ [])) ∙ sym (append_assoc front key (93 ∷ 125 ∷ [])))
-    ∙ sym (append_assoc (text_to_findings barred hard cost complete) (93 ∷ []) (125 ∷ []))
+-- no list begins in a number
+no_list_in_digits : (k n : ℕ) (acc : List ℕ) → list_any is_bracket acc ≡ false → list_any is_bracket (digits_onto k 10 false n acc) ≡ false
+no_list_in_digits zero n acc h = h
+no_list_in_digits (suc k) n acc h = by (n / 10 == 0) (no_list_in_digits k (n / 10) (digit_glyph false (n % 10) ∷ acc))
+  where
+    digit : n % 10 < 10
+    digit = omega arith
 
--- what is left of a text after its front
-pub rest_is : (n : ℕ) (items front rest text view : List ℕ) → n ≡ length items → items ≡ front → view ≡ text → text ≡ front ++ rest → drop n view ≡ rest
-rest_is n items front rest text view count is same whole = ap₂ (λ k (t : List ℕ). drop k t) (count ∙ ap length is) (same ∙ whole) ∙ drop_at front rest (length front) refl
+    glyph : digit_glyph false (n % 10) ≡ 48 + n % 10
+    glyph = rw (lt-ltb (n % 10) 10 digit) refl
 
-pub front_fits : (n : ℕ) (items front rest text view : List ℕ) → n ≡ length items → items ≡ front → view ≡ text → text ≡ front ++ rest → n ≤ length view
-front_fits n items front rest text view count is same whole = omega (arith, count, ap length is, ap length same, ap length whole, length-append front rest)
+    more : list_any is_bracket (digit_glyph false (n % 10) ∷ acc) ≡ false
+    more = ap₂ (λ a b. a || b) (ap is_bracket glyph ∙ ne_eqb (48 + n % 10) 91 (λ e. omega (arith, e, digit))) h
+
+    rest : List ℕ
+    rest = digits_onto k 10 false (n / 10) (digit_glyph false (n % 10) ∷ acc)
+
+    by : (b : Bool) → (list_any is_bracket (digit_glyph false (n % 10) ∷ acc) ≡ false → list_any is_bracket rest ≡ false) → list_any is_bracket (if b then digit_glyph false (n % 10) ∷ acc else rest) ≡ false
+    by true go = more
+    by false go = go more
+
+no_list_in_number : (n : ℕ) → list_any is_bracket (decimal n) ≡ false
+unfolding digits
+no_list_in_number n = no_list_in_digits 64 n [] refl
+
+no_list_in_answer : (b : Bool) → list_any is_bracket (compact_text (boolean b)) ≡ false
+no_list_in_answer true = refl
+no_list_in_answer false = refl
+
+no_list_in_both : (a b : List ℕ) → list_any is_bracket a ≡ false → list_any is_bracket b ≡ false → list_any is_bracket (a ++ b) ≡ false
+no_list_in_both a b p q = list_any-append is_bracket a b ∙ ap₂ (λ x y. x || y) p q
+
+-- in none of these members a list begins
+ArePlain : Members → Type 0
+ArePlain no_members = ⊤
+ArePlain (member k d ms) = (list_any is_bracket (compact_text (string k)) ≡ false) × (list_any is_bracket (compact_text d) ≡ false) × ArePlain ms
+
+no_list_in_comma : (later : Bool) → list_any is_bracket (comma_if later) ≡ false
+no_list_in_comma true = refl
+no_list_in_comma false = refl
+
+no_list_in_members : (later : Bool) (ms : Members) → ArePlain ms → list_any is_bracket (open_text later ms) ≡ false
+unfolding open_text ArePlain
+no_list_in_members later no_members h = refl
+no_list_in_members later (member k d ms) h =
+    no_list_in_both (comma_if later) (compact_text (string k) ++ 58 ∷ (compact_text d ++ open_text true ms)) (no_list_in_comma later)
+    (no_list_in_both (compact_text (string k)) (58 ∷ (compact_text d ++ open_text true ms)) h.0
+    (no_list_in_both (compact_text d) (open_text true ms) h.1 (no_list_in_members true ms h.2)))
+
+before_plain : (barred : Bool) (hard : Hard) (cost : Cost) (complete : Bool) → ArePlain (members_before barred hard cost complete no_members)
+unfolding members_before ArePlain serde_json_on_literals
+before_plain true hard cost complete = (refl, no_list_in_number hard.availability, (refl, no_list_in_number hard.barred, (refl, no_list_in_number cost.capacity, (refl, no_list_in_number cost.compactness, (refl, no_list_in_answer complete, (refl, no_list_in_number hard.conflicts, (refl, no_list_in_number cost.days, tt)))))))
+before_plain false hard cost complete = (refl, no_list_in_number hard.availability, (refl, no_list_in_number cost.capacity, (refl, no_list_in_number cost.compactness, (refl, no_list_in_answer complete, (refl, no_list_in_number hard.conflicts, (refl, no_list_in_number cost.days, tt))))))
+
+pub no_list_before : (barred : Bool) (hard : Hard) (cost : Cost) (complete : Bool) → list_any is_bracket (text_to_list barred hard cost complete) ≡ false
+unfolding text_to_list
+no_list_before barred hard cost complete = no_list_in_both (open_text false (members_before barred hard cost complete no_members)) (codes ",\"findings\":") (no_list_in_members false (members_before barred hard cost complete no_members) (before_plain barred hard cost complete)) refl
+
+-- the first list of a text, by what stands before it and behind its bracket
+first_at : (front rest : List ℕ) → list_any is_bracket front ≡ false → position_or_len is_bracket (front ++ 91 ∷ rest) ≡ length front
+first_at [] rest h = refl
+first_at (x ∷ xs) rest h = elim (cases_eq x 91) [
+  | inl same ↦ absurd (true≢false (sym (rw (eq-eqb x 91 same) refl) ∙ h))
+  | inr other ↦ (let none : is_bracket x ≡ false = ne_eqb x 91 other in
+      rw (none, one-add) (ap suc (first_at xs rest (sym (ap (λ b. b || list_any is_bracket xs) none) ∙ h))))
+]
+
+module _ (front rest text : List ℕ) (none : list_any is_bracket front ≡ false) (is : text ≡ (front ++ 91 ∷ []) ++ rest) where
+  at : position_or_len is_bracket text + 1 ≡ length (front ++ 91 ∷ [])
+  at = omega (arith, ap (position_or_len is_bracket) (is ∙ append_assoc front (91 ∷ []) rest), first_at front rest none, length-append front (91 ∷ []))
+
+  pub list_within : position_or_len is_bracket text < length text
+  list_within = omega (arith, at, ap length is, length-append (front ++ 91 ∷ []) rest)
+
+  pub to_list : take (position_or_len is_bracket text + 1) text ≡ front ++ 91 ∷ []
+  to_list = ap₂ (λ k (t : List ℕ). take k t) at is ∙ take-append_seam (front ++ 91 ∷ []) rest
+
+  pub behind_list : drop (position_or_len is_bracket text + 1) text ≡ rest
+  behind_list = ap₂ (λ k (t : List ℕ). drop k t) at is ∙ drop_at (front ++ 91 ∷ []) rest (length (front ++ 91 ∷ [])) refl
+
+  pub list_found : position is_bracket text ≡ Some (position_or_len is_bracket text)
+  list_found = rw (lt-ltb (position_or_len is_bracket text) (length text) list_within) refl

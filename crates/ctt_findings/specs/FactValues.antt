@@ -1,8 +1,8 @@
 -- What the value of a fact says.
 use Rattle.ctt_findings.specs.Lines.{Told, number, word}
 use Rattle.ctt_findings.specs.declared.fact.FactValue.{FactValue}
-use Rattle.ctt_findings.specs.declared.fact.FactValue.TheVariants.{Word, Number}
+use Rattle.ctt_findings.specs.declared.fact.FactValue.TheVariants.{Text, Number}
 
 abbrev pub content_of : FactValue → Told
-content_of (Word w) = word w.now
+content_of (Text w) = word w.now
 content_of (Number n) = number n

@@ -1,6 +1,7 @@
 -- Findings by name, and as lines of text.
-use Rattle.std.specs.Prelude.{ℕ, List, [], ◌∷◌, ◌++◌, flat_map, codes, slice_index_or}
+use Rattle.std.specs.Prelude.{ℕ, List, [], ◌∷◌, codes, flat_map, map, slice_index_or}
 use Rattle.std.specs.Fmt.{decimal}
+use Rattle.ctt_line.specs.Lines.{line as line_of}
 use Rattle.ctt_text.specs.Problem.{Problem, day_of, period_of}
 use Rattle.ctt_text.specs.declared.placed.Placed.{Placed}
 use Rattle.ctt_findings.specs.Findings.{findings}
@@ -69,19 +70,12 @@ abbrev pub text_of : Told → List ℕ
 text_of (word w) = w
 text_of (number n) = decimal n
 
--- facts behind others on a line: a blank before each, and the end of the line
-abbrev pub rest_of_line : List Fact → List ℕ
-rest_of_line [] = codes "\n"
-rest_of_line (f ∷ fs) = codes " " ++ (text_of f.value ++ rest_of_line fs)
-
--- facts with one blank between, and the end of the line
-abbrev pub line_of : List Fact → List ℕ
-line_of [] = codes "\n"
-line_of (f ∷ fs) = text_of f.value ++ rest_of_line fs
+abbrev pub text_of_fact : Fact → List ℕ
+text_of_fact f = text_of f.value
 
 -- the line of a finding
 abbrev pub line : Problem → Finding → List ℕ
-line i finding = line_of (facts i finding)
+line i finding = line_of (map text_of_fact (facts i finding))
 
 -- the lines of a timetable's findings
 abbrev pub explained : Problem → List Placed → List ℕ

@@ -1,8 +1,9 @@
 -- The texts of the report on a timetable.
-use Rattle.std.specs.Prelude.{◌≡◌, ◌↔◌, ◌++◌, ◌∷◌, ℕ, Bool, true, false, IsTrue, List, [], codes, if◌then◌else◌}
+use Rattle.std.specs.Prelude.{◌≡◌, ◌↔◌, ◌++◌, ◌∷◌, ℕ, Bool, true, false, IsTrue, List, [], codes, ◌==◌, if◌then◌else◌}
 use Rattle.std.specs.Fmt.{decimal}
 use Rattle.serde_json.specs.Data.{Data, Members, boolean, member, no_members, number, object, put, string, unsigned}
-use Rattle.serde_json.specs.Written.{comma_if, compact_text}
+use Rattle.serde_json.specs.Written.{compact_text}
+use Rattle.ctt_line.specs.Lines.{line as line_of}
 use Rattle.ctt_text.specs.Problem.{Problem, has_barred}
 use Rattle.ctt_text.specs.declared.placed.Placed.{Placed}
 use Rattle.ctt_rules.specs.declared.cost.Cost.{Cost}
@@ -12,15 +13,15 @@ use Rattle.ctt_rules.specs.Penalty.{penalty, total}
 use Rattle.ctt_findings.specs.Lines.{explained}
 use Rattle.ctt_findings.specs.Objects.{all_objects}
 
--- a line: what is said of, a blank, what is said, and the line's end
+-- a line: a key, and what is said of it
 abbrev pub line : List ℕ → List ℕ → List ℕ
-line key text = key ++ codes " " ++ text ++ codes "\n"
+line key text = line_of (key ∷ text ∷ [])
 
 abbrev pub count_line : List ℕ → ℕ → List ℕ
 count_line key count = line key (decimal count)
 
-abbrev pub answer_line : List ℕ → Bool → List ℕ
-answer_line key answer = line key (if answer then codes "yes" else codes "no")
+abbrev pub answer_word : Bool → List ℕ
+answer_word b = if b then codes "yes" else codes "no"
 
 -- the line of the lectures in barred rooms, where some room is barred
 abbrev pub barred_line : Bool → ℕ → List ℕ
@@ -42,8 +43,8 @@ text_of name barred hard cost lawful complete = line (codes "instance") name
     ++ count_line (codes "compactness") cost.compactness
     ++ count_line (codes "stability") cost.stability
     ++ count_line (codes "total") (total cost)
-    ++ answer_line (codes "lawful") lawful
-    ++ answer_line (codes "complete") complete
+    ++ line (codes "lawful") (answer_word lawful)
+    ++ line (codes "complete") (answer_word complete)
 
 -- the member of the lectures in barred rooms, where some room is barred, before the others
 abbrev pub barred_member : Bool → ℕ → Members → Members
@@ -71,30 +72,39 @@ members_behind name hard cost lawful =
     (member (codes "stability") (number (unsigned cost.stability))
     (member (codes "total") (number (unsigned (total cost))) no_members)))))
 
--- and those behind it put to others
-abbrev pub with_behind : List ℕ → Hard → Cost → Bool → Members → Members
-with_behind name hard cost lawful others =
+-- and all of them
+abbrev pub members_of : List ℕ → Bool → Hard → Cost → Bool → Bool → Members
+members_of name barred hard cost lawful complete = members_before barred hard cost complete (members_behind name hard cost lawful)
+
+-- members put to others: how often the hard rules are broken, and what the soft ones cost
+abbrev pub with_barred : Bool → ℕ → Members → Members
+with_barred true count others = put (codes "barred") (number (unsigned count)) others
+with_barred false count others = others
+
+abbrev pub with_hard : Bool → Hard → Members → Members
+with_hard barred hard others =
+    with_barred barred hard.barred
+    (put (codes "occupancy") (number (unsigned hard.occupancy))
+    (put (codes "availability") (number (unsigned hard.availability))
+    (put (codes "conflicts") (number (unsigned hard.conflicts))
+    (put (codes "lectures") (number (unsigned hard.lectures)) others))))
+
+abbrev pub with_cost : Cost → Members → Members
+with_cost cost others =
     put (codes "total") (number (unsigned (total cost)))
     (put (codes "stability") (number (unsigned cost.stability))
-    (put (codes "occupancy") (number (unsigned hard.occupancy))
-    (put (codes "lectures") (number (unsigned hard.lectures))
-    (put (codes "lawful") (boolean lawful)
-    (put (codes "instance") (string name) others)))))
+    (put (codes "compactness") (number (unsigned cost.compactness))
+    (put (codes "days") (number (unsigned cost.days))
+    (put (codes "capacity") (number (unsigned cost.capacity)) others))))
 
--- the text of members without the closing bracket
-abbrev pub open_text : Bool → Members → List ℕ
-open_text later no_members = []
-open_text later (member k d ms) = comma_if later ++ (compact_text (string k) ++ 58 ∷ (compact_text d ++ open_text true ms))
-
--- the text of the report's object up to the first of its findings
-abbrev pub text_to_findings : Bool → Hard → Cost → Bool → List ℕ
-text_to_findings barred hard cost complete =
-    codes "{" ++ (open_text false (members_before barred hard cost complete no_members) ++ codes ",\"findings\":[")
+-- the byte by which a list begins
+abbrev pub is_bracket : ℕ → Bool
+is_bracket b = b == 91
 
 -- the report as a JSON object
 unfoldable pub data_of : List ℕ → Bool → Hard → Cost → Bool → Bool → Data
 data_of name barred hard cost lawful complete =
-    object (members_before barred hard cost complete (members_behind name hard cost lawful))
+    object (members_of name barred hard cost lawful complete)
 
 -- and with its findings
 unfoldable pub explained_data_of : Data → List ℕ → Bool → Hard → Cost → Bool → Bool → Data

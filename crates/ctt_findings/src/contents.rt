@@ -17,7 +17,7 @@ use ctt_text::{CourseNo, CurriculumNo, Instance, Placed, RoomNo, SlotNo};
 fn kind<'i>(name: &'i str) -> Fact<'i>
     ensures { result ≡ kind name.now }
 {
-    Fact::word("kind", name)
+    Fact::text("kind", name)
 }
 
 /// The name of a course.
@@ -25,7 +25,7 @@ fn course<'i>(instance: &'i Instance, number: CourseNo) -> Fact<'i>
     requires { number < course_count instance.now }
     ensures { result ≡ course instance.now number }
 {
-    Fact::word("course", instance.course_name(number))
+    Fact::text("course", instance.course_name(number))
 }
 
 /// The name of a room.
@@ -33,7 +33,7 @@ fn room<'i>(instance: &'i Instance, number: RoomNo) -> Fact<'i>
     requires { number < room_count instance.now }
     ensures { result ≡ room instance.now number }
 {
-    Fact::word("room", instance.room_name(number))
+    Fact::text("room", instance.room_name(number))
 }
 
 /// The day of a slot.
@@ -108,7 +108,7 @@ fn conflict<'i>(
     let mut facts = ArrayVec::new();
     facts.push(kind("conflict"));
     facts.push(course(instance, number));
-    facts.push(Fact::word("other", instance.course_name(other)));
+    facts.push(Fact::text("other", instance.course_name(other)));
     facts.push(day(instance, slot));
     facts.push(period(instance, slot));
     push_cause(&mut facts, instance, cause);
@@ -121,8 +121,8 @@ fn push_named<'i>(facts: &mut ArrayVec<Fact<'i>, 8>, cause: &'i str, name: &'i s
     ensures { facts.new.items ≡ facts.old.items
         ++ fact (codes "cause") (word cause.now) ∷ fact (codes "name") (word name.now) ∷ [] }
 {
-    facts.push(Fact::word("cause", cause));
-    facts.push(Fact::word("name", name));
+    facts.push(Fact::text("cause", cause));
+    facts.push(Fact::text("name", name));
 }
 
 /// Adds why two courses clash.
@@ -216,7 +216,7 @@ fn compactness<'i>(
 {
     let mut facts = ArrayVec::new();
     facts.push(kind("compactness"));
-    facts.push(Fact::word("curriculum", instance.curriculum_name(curriculum)));
+    facts.push(Fact::text("curriculum", instance.curriculum_name(curriculum)));
     facts.push(course(instance, lecture.course));
     facts.push(day(instance, lecture.slot));
     facts.push(period(instance, lecture.slot));

@@ -1,10 +1,8 @@
 //! What is found of each course by its lectures.
 
-ghost use Rattle.std.specs.Prelude.{◌≡◌, ◌<◌, IfSome, IfErr, OnOk};
-ghost use Rattle.ctt_text.specs.Problem.{course_count};
-ghost use Rattle.ctt_text.specs.Timetable.{IsTimetable, course_row};
-ghost use Rattle.ctt_findings.specs.Findings.{by_course, days_finding, lectures_finding, stability_finding};
-ghost use Rattle.ctt_findings.specs.Fitting.{FindingFits};
+ghost use Rattle.std.specs.Prelude.{IfErr, OnOk};
+ghost use Rattle.ctt_text.specs.Timetable.{IsTimetable};
+ghost use Rattle.ctt_findings.specs.Findings.{by_course};
 ghost use Rattle.ctt_findings.specs.Hearing.{Hears, HearsFront};
 
 use crate::finding::Finding;
@@ -13,106 +11,94 @@ use crate::untold::Untold;
 use ctt_rules::{course_cost, course_row};
 use ctt_text::{CourseNo, Instance, Placed};
 
-/// Missing or surplus lectures of a course.
-fn lectures(instance: &Instance, timetable: &[Placed], course: CourseNo) -> Option<Finding>
-    requires timetable { IsTimetable instance.now timetable.now }
-    requires course { course < course_count instance.now }
-    ensures finding { result
-        ≡ lectures_finding instance.now course (course_row course timetable.now) }
-    ensures fits { IfSome result (FindingFits instance.now) }
-{
-    let placed = course_row(instance, timetable, course).len() as u64;
-    let stated = instance.lectures(course);
-    if placed == u64::from(stated) {
-        return None;
-    }
-    Some(Finding::Lectures(course, placed, stated))
+/// What a course can break or cost by its lectures.
+pub(crate) trait OfCourse {
+    ghost use Rattle.std.specs.Prelude.{◌≡◌, ◌<◌, ℕ, List, Option, IfSome};
+    ghost use Rattle.ctt_text.specs.Problem.{Problem, course_count};
+    ghost use Rattle.ctt_text.specs.Timetable.{IsTimetable, course_row};
+    ghost use Rattle.ctt_text.specs.declared.placed.Placed.{Placed as Lecture};
+    ghost use Rattle.ctt_findings.specs.Fitting.{FindingFits};
+    ghost use Rattle.ctt_findings.specs.declared.finding.Finding.{Finding as Found};
+
+    /// What is found of a course with these lectures.
+    ghost finding: { Problem → ℕ → List Lecture → Option Found };
+
+    /// What is found of a course.
+    fn find(instance: &Instance, timetable: &[Placed], course: CourseNo) -> Option<Finding>
+        requires timetable { IsTimetable instance.now timetable.now }
+        requires course { course < course_count instance.now }
+        ensures finding { result ≡ finding instance.now course (course_row course timetable.now) }
+        ensures fits { IfSome result (FindingFits instance.now) };
 }
 
-/// Too few days of a course: five points for each that is missing.
-fn days(instance: &Instance, timetable: &[Placed], course: CourseNo) -> Option<Finding>
-    requires timetable { IsTimetable instance.now timetable.now }
-    requires course { course < course_count instance.now }
-    ensures finding { result
-        ≡ days_finding instance.now course (course_row course timetable.now) }
-    ensures fits { IfSome result (FindingFits instance.now) }
-{
-    let points = course_cost(instance, timetable, course).days;
-    if points == 0 {
-        return None;
+/// Missing or surplus lectures.
+pub(crate) struct LectureCount;
+
+impl OfCourse for LectureCount {
+    ghost use Rattle.ctt_findings.specs.Findings.{lectures_finding};
+
+    ghost finding = { lectures_finding };
+
+    fn find(instance: &Instance, timetable: &[Placed], course: CourseNo) -> Option<Finding> {
+        let placed = course_row(instance, timetable, course).len() as u64;
+        let stated = instance.lectures(course);
+        if placed == u64::from(stated) {
+            return None;
+        }
+        Some(Finding::Lectures(course, placed, stated))
     }
-    let minimum = instance.min_days(course);
-    let days = u64::from(minimum) - points / 5;
-    Some(Finding::Days(course, days, minimum, points))
 }
 
-/// Rooms of a course beyond the first: a point for each.
-fn stability(instance: &Instance, timetable: &[Placed], course: CourseNo) -> Option<Finding>
-    requires timetable { IsTimetable instance.now timetable.now }
-    requires course { course < course_count instance.now }
-    ensures finding { result
-        ≡ stability_finding instance.now course (course_row course timetable.now) }
-    ensures fits { IfSome result (FindingFits instance.now) }
-{
-    let points = course_cost(instance, timetable, course).stability;
-    if points == 0 {
-        return None;
+/// Too few days: five points for each that is missing.
+pub(crate) struct DayCount;
+
+impl OfCourse for DayCount {
+    ghost use Rattle.ctt_findings.specs.Findings.{days_finding};
+
+    ghost finding = { days_finding };
+
+    fn find(instance: &Instance, timetable: &[Placed], course: CourseNo) -> Option<Finding> {
+        let points = course_cost(instance, timetable, course).days;
+        if points == 0 {
+            return None;
+        }
+        let minimum = instance.min_days(course);
+        let days = u64::from(minimum) - points / 5;
+        Some(Finding::Days(course, days, minimum, points))
     }
-    Some(Finding::Stability(course, points + 1, points))
 }
 
-/// Tells of the courses that have fewer lectures than are stated, or more.
-pub(crate) fn tell_lectures<L: Listener>(
+/// Rooms beyond the first: a point for each.
+pub(crate) struct RoomCount;
+
+impl OfCourse for RoomCount {
+    ghost use Rattle.ctt_findings.specs.Findings.{stability_finding};
+
+    ghost finding = { stability_finding };
+
+    fn find(instance: &Instance, timetable: &[Placed], course: CourseNo) -> Option<Finding> {
+        let points = course_cost(instance, timetable, course).stability;
+        if points == 0 {
+            return None;
+        }
+        Some(Finding::Stability(course, points + 1, points))
+    }
+}
+
+/// Tells of what is found of the courses, one after another.
+pub(crate) fn tell_of_courses<K: OfCourse, L: Listener>(
     listener: &mut L,
     instance: &Instance,
     timetable: &[Placed],
 ) -> Result<(), Untold>
     requires { IsTimetable instance.now timetable.now }
     ensures heard { OnOk result (Hears (L.hears instance.now) listener.old
-        (by_course instance.now timetable.now (lectures_finding instance.now)) listener.new) }
+        (by_course instance.now timetable.now (K.finding instance.now)) listener.new) }
     ensures front { IfErr result (HearsFront (L.hears instance.now) L.fails listener.old
-        (by_course instance.now timetable.now (lectures_finding instance.now)) listener.new) }
+        (by_course instance.now timetable.now (K.finding instance.now)) listener.new) }
 {
     for number in 0..instance.courses() {
-        let finding = lectures(instance, timetable, CourseNo::new(number));
-        tell(listener, instance, finding)?;
-    }
-    Ok(())
-}
-
-/// Tells of the courses that are on too few days.
-pub(crate) fn tell_days<L: Listener>(
-    listener: &mut L,
-    instance: &Instance,
-    timetable: &[Placed],
-) -> Result<(), Untold>
-    requires { IsTimetable instance.now timetable.now }
-    ensures heard { OnOk result (Hears (L.hears instance.now) listener.old
-        (by_course instance.now timetable.now (days_finding instance.now)) listener.new) }
-    ensures front { IfErr result (HearsFront (L.hears instance.now) L.fails listener.old
-        (by_course instance.now timetable.now (days_finding instance.now)) listener.new) }
-{
-    for number in 0..instance.courses() {
-        let finding = days(instance, timetable, CourseNo::new(number));
-        tell(listener, instance, finding)?;
-    }
-    Ok(())
-}
-
-/// Tells of the courses that are in several rooms.
-pub(crate) fn tell_stability<L: Listener>(
-    listener: &mut L,
-    instance: &Instance,
-    timetable: &[Placed],
-) -> Result<(), Untold>
-    requires { IsTimetable instance.now timetable.now }
-    ensures heard { OnOk result (Hears (L.hears instance.now) listener.old
-        (by_course instance.now timetable.now (stability_finding instance.now)) listener.new) }
-    ensures front { IfErr result (HearsFront (L.hears instance.now) L.fails listener.old
-        (by_course instance.now timetable.now (stability_finding instance.now)) listener.new) }
-{
-    for number in 0..instance.courses() {
-        let finding = stability(instance, timetable, CourseNo::new(number));
+        let finding = K::find(instance, timetable, CourseNo::new(number));
         tell(listener, instance, finding)?;
     }
     Ok(())

@@ -1,12 +1,13 @@
 //! What a finding says, fact by fact.
 
+use ctt_line::Word;
 use std::marker::Model;
 
 /// A word or a number.
 #[derive(Clone, Copy, Drop)]
 pub enum FactValue<'i> {
     /// A name of the instance, or a word of the program's own.
-    Word(&'i str),
+    Text(&'i str),
     /// A number.
     Number(u64),
 }
@@ -29,16 +30,16 @@ impl<'i> Model for Fact<'i> {
 
 impl<'i> Fact<'i> {
     ghost use Rattle.std.specs.Prelude.{◌≡◌};
-    ghost use Rattle.ctt_findings.specs.Lines.{fact, number, word};
+    ghost use Rattle.ctt_findings.specs.Lines.{fact, number, text_of, word};
     ghost use Rattle.ctt_findings.specs.FactValues.{content_of};
 
-    /// A fact whose value is a word.
-    pub fn word(key: &'static str, text: &'i str) -> Self
+    /// A fact whose value is a text.
+    pub fn text(key: &'static str, text: &'i str) -> Self
         ensures { result ≡ fact key.now (word text.now) }
     {
         Fact {
             key,
-            value: FactValue::Word(text),
+            value: FactValue::Text(text),
         }
     }
 
@@ -65,11 +66,21 @@ impl<'i> Fact<'i> {
     {
         self.value
     }
+
+    /// The value as a word of a line.
+    pub fn word(&self) -> Word<'i>
+        ensures { result ≡ text_of self.now.value }
+    {
+        match self.value {
+            FactValue::Text(word) => Word::text(word),
+            FactValue::Number(number) => Word::number(number),
+        }
+    }
 }
 
 impl<'i> Default for Fact<'i> {
     /// An empty word without a key.
     fn default() -> Self {
-        Fact::word("", "")
+        Fact::text("", "")
     }
 }

@@ -25,7 +25,7 @@ fn put_fact(
         ≡ with_member fact.now.key (value_of fact.now.value) (members_view members.old.entries)) }
 {
     match fact.value() {
-        FactValue::Word(word) => put_text(alloc, members, fact.key(), word),
+        FactValue::Text(word) => put_text(alloc, members, fact.key(), word),
         FactValue::Number(number) => put_count(alloc, members, fact.key(), number),
     }
 }

@@ -25,7 +25,7 @@ pub use fact::{Fact, FactValue};
 pub use finding::{Cause, Finding};
 pub use items::push_item;
 pub use json_report::{report_around, report_json};
-pub use lines::{push_facts, push_line};
+pub use lines::push_line;
 pub use listener::Listener;
 pub use report::report_text;
 pub use telling::tell_findings;

@@ -4,46 +4,42 @@ ghost use Rattle.std.specs.Prelude.{◌≡◌, ◌++◌, ◌^◌, ◌<◌, IfOk,
 ghost use Rattle.std.specs.String.{string_bytes};
 ghost use Rattle.ctt_text.specs.Timetable.{IsTimetable};
 ghost use Rattle.ctt_rules.specs.Penalty.{total};
-ghost use Rattle.ctt_findings.specs.ReportText.{IsTextReport, answer_line, barred_line, count_line, line, text_of};
+ghost use Rattle.ctt_findings.specs.ReportText.{IsTextReport, answer_word, barred_line, line, text_of};
 
+use ctt_line::{Word, push_line};
 use ctt_rules::{Assessment, assess};
 use ctt_text::{Instance, NoMemory, Placed};
 use std::alloc::{AllocError, Global};
 
-/// Adds a line that says a text.
-fn push_line(report: &mut String, key: &str, text: &str) -> Result<(), AllocError>
+/// Adds a line of a key and what is said of it.
+fn push_entry(report: &mut String, key: &str, value: Word<'_>) -> Result<(), AllocError>
     ensures { OnOk result (string_bytes report.new
-        ≡ string_bytes report.old ++ line key.now text.now) }
+        ≡ string_bytes report.old ++ line key.now value.entry) }
 {
-    writeln!(report, "{key} {text}")
+    push_line(report, &[Word::text(key), value])
 }
 
-/// Adds a line that says a number.
-fn push_count(report: &mut String, key: &str, count: u64) -> Result<(), AllocError>
-    ensures { OnOk result (string_bytes report.new
-        ≡ string_bytes report.old ++ count_line key.now count) }
-{
-    writeln!(report, "{key} {count}")
-}
-
-/// Adds the line of the lectures in barred rooms, where some room is barred.
+/// Adds the line of the lectures in barred rooms, if some room is barred.
 fn push_barred(report: &mut String, barred: bool, count: u64) -> Result<(), AllocError>
     ensures { OnOk result (string_bytes report.new
         ≡ string_bytes report.old ++ barred_line barred count) }
 {
     if barred {
-        push_count(report, "barred", count)
+        push_entry(report, "barred", Word::number(count))
     } else {
         Ok(())
     }
 }
 
-/// Adds a line that says yes or no.
-fn push_answer(report: &mut String, key: &str, answer: bool) -> Result<(), AllocError>
-    ensures { OnOk result (string_bytes report.new
-        ≡ string_bytes report.old ++ answer_line key.now answer) }
+/// Yes or no, as a word.
+fn answer(yes: bool) -> Word<'static>
+    ensures { result ≡ answer_word yes }
 {
-    push_line(report, key, if answer { "yes" } else { "no" })
+    if yes {
+        Word::text("yes")
+    } else {
+        Word::text("no")
+    }
 }
 
 /// The report as text. `barred` says whether some room is barred.
@@ -65,19 +61,19 @@ fn text(
         complete,
     } = assessment;
     let mut report = String::new(alloc);
-    push_line(&mut report, "instance", name)?;
-    push_count(&mut report, "lectures", hard.lectures)?;
-    push_count(&mut report, "conflicts", hard.conflicts)?;
-    push_count(&mut report, "availability", hard.availability)?;
-    push_count(&mut report, "occupancy", hard.occupancy)?;
+    push_entry(&mut report, "instance", Word::text(name))?;
+    push_entry(&mut report, "lectures", Word::number(hard.lectures))?;
+    push_entry(&mut report, "conflicts", Word::number(hard.conflicts))?;
+    push_entry(&mut report, "availability", Word::number(hard.availability))?;
+    push_entry(&mut report, "occupancy", Word::number(hard.occupancy))?;
     push_barred(&mut report, barred, hard.barred)?;
-    push_count(&mut report, "capacity", cost.capacity)?;
-    push_count(&mut report, "days", cost.days)?;
-    push_count(&mut report, "compactness", cost.compactness)?;
-    push_count(&mut report, "stability", cost.stability)?;
-    push_count(&mut report, "total", cost.total())?;
-    push_answer(&mut report, "lawful", lawful)?;
-    push_answer(&mut report, "complete", complete)?;
+    push_entry(&mut report, "capacity", Word::number(cost.capacity))?;
+    push_entry(&mut report, "days", Word::number(cost.days))?;
+    push_entry(&mut report, "compactness", Word::number(cost.compactness))?;
+    push_entry(&mut report, "stability", Word::number(cost.stability))?;
+    push_entry(&mut report, "total", Word::number(cost.total()))?;
+    push_entry(&mut report, "lawful", answer(lawful))?;
+    push_entry(&mut report, "complete", answer(complete))?;
     Ok(report)
 }
 

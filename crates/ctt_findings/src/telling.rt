@@ -7,8 +7,8 @@ ghost use Rattle.ctt_findings.specs.Hearing.{Hears, HearsFront};
 
 use crate::compactness::tell_compactness;
 use crate::conflicts::tell_conflicts;
-use crate::courses::{tell_days, tell_lectures, tell_stability};
-use crate::lectures::{tell_availability, tell_barred, tell_capacity};
+use crate::courses::{DayCount, LectureCount, RoomCount, tell_of_courses};
+use crate::lectures::{BarredRoom, Overfull, Unavailable, tell_of_lectures};
 use crate::listener::Listener;
 use crate::occupancy::tell_occupancy;
 use crate::untold::Untold;
@@ -28,11 +28,11 @@ fn tell_hard<L: Listener>(
     ensures front { IfErr result (HearsFront (L.hears instance.now) L.fails listener.old
         (hard_findings instance.now timetable.now) listener.new) }
 {
-    tell_lectures(listener, instance, timetable)?;
+    tell_of_courses::<LectureCount, L>(listener, instance, timetable)?;
     tell_conflicts(listener, instance, timetable)?;
-    tell_availability(listener, instance, timetable)?;
+    tell_of_lectures::<Unavailable, L>(listener, instance, timetable)?;
     tell_occupancy(alloc, listener, instance, timetable)?;
-    tell_barred(listener, instance, timetable)
+    tell_of_lectures::<BarredRoom, L>(listener, instance, timetable)
 }
 
 /// Tells of what costs points.
@@ -48,10 +48,10 @@ fn tell_soft<L: Listener>(
     ensures front { IfErr result (HearsFront (L.hears instance.now) L.fails listener.old
         (soft_findings instance.now timetable.now) listener.new) }
 {
-    tell_capacity(listener, instance, timetable)?;
-    tell_days(listener, instance, timetable)?;
+    tell_of_lectures::<Overfull, L>(listener, instance, timetable)?;
+    tell_of_courses::<DayCount, L>(listener, instance, timetable)?;
     tell_compactness(alloc, listener, instance, timetable)?;
-    tell_stability(listener, instance, timetable)
+    tell_of_courses::<RoomCount, L>(listener, instance, timetable)
 }
 
 /// Tells a listener of all that is wrong with a timetable and of all that costs points, each thing once, as

@@ -1,19 +1,22 @@
-use Rattle.std.proofs.Common.{rules, ◌≡◌, ◌∙◌, ◌++◌, [], ap, sym, false, ℕ, List, length}
+use Rattle.std.proofs.Common.{rules, ◌≡◌, ◌∙◌, ◌++◌, ◌+◌, [], Some, ap, ap₂, false, position, sym, ℕ, List, drop, take}
+use Rattle.std.specs.List.{position_or_len}
 use Rattle.ctt_findings.specs.Findings.{findings}
 use Rattle.ctt_findings.specs.Objects.{all_objects, item_texts}
-use Rattle.ctt_findings.specs.ReportText.{explained_json_of, text_to_findings}
-use Rattle.ctt_findings.proofs.ReportLemmas.{explained_is, front_fits, rest_is, text_after_findings}
+use Rattle.ctt_findings.specs.ReportText.{explained_json_of, is_bracket}
+use Rattle.ctt_findings.proofs.ReportLemmas.{behind_list, explained_is, list_found, no_list_before, text_after_findings, text_to_findings, text_to_list, to_list}
 use Rattle.ctt_findings.proofs.json_report.report_around.Goals as goal
 
-pub after_front-requires : goal.after_front-requires
-after_front-requires c =
+pub unwrap-place-requires : goal.unwrap-place-requires
+unwrap-place-requires c =
     let i = c.args.instance.now in
     let found = c.assess-assessment.result in
     let name = c.name.result.now in
     let barred = c.has_barred-barred.result in
-    let count : c.len.result ≡ length c.in_ok-front.front.items = search rules in
-    front_fits _ _ (text_to_findings barred found.hard found.cost found.complete) (text_after_findings name found.hard found.cost found.lawful) _ _ count c.in_ok-front.ensures c.deref.ensures.value
-    (c.in_ok-report.ensures ∙ sym (explained_is i [] name barred found.hard found.cost found.lawful found.complete))
+    let is : c.deref.result.now ≡ text_to_findings barred found.hard found.cost found.complete ++ text_after_findings name found.hard found.cost found.lawful =
+    c.deref.ensures.value ∙ c.in_ok-front.ensures ∙ sym (explained_is i [] name barred found.hard found.cost found.lawful found.complete) in
+    let place : c.first_list.result ≡ Some (position_or_len is_bracket c.deref.result.now) =
+    c.first_list.ensures ∙ list_found (text_to_list barred found.hard found.cost found.complete) (text_after_findings name found.hard found.cost found.lawful) c.deref.result.now (no_list_before barred found.hard found.cost found.complete) is in
+    search (rules, place)
 
 pub returns : goal.returns
 returns c =
@@ -22,14 +25,19 @@ returns c =
     let found = c.assess-assessment.result in
     let name = c.name.result.now in
     let barred = c.has_barred-barred.result in
+    let text : List ℕ = c.in_ok-front.front.items in
     let front : List ℕ = text_to_findings barred found.hard found.cost found.complete in
     let after : List ℕ = text_after_findings name found.hard found.cost found.lawful in
-    let count : c.len.result ≡ length c.in_ok-front.front.items = search rules in
-    let rest : c.in_ok-rest.rest.items ≡ after = c.in_ok-rest.ensures ∙ rest_is _ _ front after _ _ count c.in_ok-front.ensures c.deref.ensures.value
-    (c.in_ok-report.ensures ∙ sym (explained_is i [] name barred found.hard found.cost found.lawful found.complete)) in
-    let whole : c.in_ok-front.front.items ++ (item_texts i false (findings i t) ++ c.in_ok-rest.rest.items) ≡ explained_json_of (all_objects i t) name barred found.hard found.cost found.lawful found.complete =
-    ap (λ (text : List ℕ). text ++ (item_texts i false (findings i t) ++ c.in_ok-rest.rest.items)) c.in_ok-front.ensures
-    ∙ ap (λ (text : List ℕ). front ++ (item_texts i false (findings i t) ++ text)) rest
+    let is : text ≡ front ++ after = c.in_ok-front.ensures ∙ sym (explained_is i [] name barred found.hard found.cost found.lawful found.complete) in
+    let none = no_list_before barred found.hard found.cost found.complete in
+    let list : List ℕ = text_to_list barred found.hard found.cost found.complete in
+    let place_is : c.first_list.result ≡ Some (position_or_len is_bracket text) =
+    c.first_list.ensures ∙ ap (position is_bracket) c.deref.ensures.value ∙ list_found list after text none is in
+    let place : c.unwrap-place.result ≡ position_or_len is_bracket text = search (rules, place_is) in
+    let before : c.split_off.new.self.items ≡ front = c.in_ok-rest.ensures.items ∙ ap (λ n. take (n + 1) text) place ∙ to_list list after text none is in
+    let behind : c.in_ok-rest.rest.items ≡ after = c.in_ok-rest.ensures.tail ∙ ap (λ n. drop (n + 1) text) place ∙ behind_list list after text none is in
+    let whole : c.split_off.new.self.items ++ (item_texts i false (findings i t) ++ c.in_ok-rest.rest.items) ≡ explained_json_of (all_objects i t) name barred found.hard found.cost found.lawful found.complete =
+    ap₂ (λ (a b : List ℕ). a ++ (item_texts i false (findings i t) ++ b)) before behind
     ∙ explained_is i (findings i t) name barred found.hard found.cost found.lawful found.complete in
     record {
       lawful = found.lawful;

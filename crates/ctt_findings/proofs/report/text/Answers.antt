@@ -1,28 +1,25 @@
-use Rattle.std.proofs.Common.{◌≡◌, ◌∙◌, ◌++◌, ap, List, ℕ, codes}
-use Rattle.std.specs.String.{string_bytes}
-use Rattle.ctt_rules.specs.Penalty.{total}
-use Rattle.ctt_findings.specs.ReportText.{answer_line, barred_line, count_line, line, text_of}
+use Rattle.std.proofs.Common.{◌≡◌, ◌∙◌, ◌++◌, ap, ap₂, List, ℕ, codes}
+use Rattle.std.specs.Fmt.{decimal}
+use Rattle.ctt_findings.specs.ReportText.{barred_line, line, text_of}
 use Rattle.ctt_findings.proofs.report.text.Goals as goal
 
 -- a line more
-adds : {new old text : List ℕ} (more : List ℕ) → new ≡ old ++ more → old ≡ text → new ≡ text ++ more
-adds more e was = e ∙ ap (λ (s : List ℕ). s ++ more) was
+adds : {new old text word value : List ℕ} (key : List ℕ) → new ≡ old ++ line key word → word ≡ value → old ≡ text → new ≡ text ++ line key value
+adds key e is was = e ∙ ap₂ (λ (s w : List ℕ). s ++ line key w) was is
 
 pub returns : goal.returns
 unfolding text_of
 returns c =
-    let hard = c.args.assessment.hard in
-    let cost = c.args.assessment.cost in
-    adds (answer_line (codes "complete") c.args.assessment.complete) c.in_ok-push_answer-2.ensures
-    (adds (answer_line (codes "lawful") c.args.assessment.lawful) c.in_ok-push_answer.ensures
-    (adds (count_line (codes "total") (total cost)) (c.in_ok-push_count-9.ensures ∙ ap (λ n. string_bytes c.push_count-8.new.report ++ count_line (codes "total") n) c.total.ensures)
-    (adds (count_line (codes "stability") cost.stability) c.in_ok-push_count-8.ensures
-    (adds (count_line (codes "compactness") cost.compactness) c.in_ok-push_count-7.ensures
-    (adds (count_line (codes "days") cost.days) c.in_ok-push_count-6.ensures
-    (adds (count_line (codes "capacity") cost.capacity) c.in_ok-push_count-5.ensures
-    (adds (barred_line c.args.barred hard.barred) c.in_ok-push_barred.ensures
-    (adds (count_line (codes "occupancy") hard.occupancy) c.in_ok-push_count-4.ensures
-    (adds (count_line (codes "availability") hard.availability) c.in_ok-push_count-3.ensures
-    (adds (count_line (codes "conflicts") hard.conflicts) c.in_ok-push_count-2.ensures
-    (adds (count_line (codes "lectures") hard.lectures) c.in_ok-push_count.ensures
-    (adds (line (codes "instance") c.args.name.now) c.in_ok-push_line.ensures c.new-report.ensures.bytes))))))))))))
+    adds (codes "complete") c.in_ok-push_entry-12.ensures c.answer-2.ensures
+    (adds (codes "lawful") c.in_ok-push_entry-11.ensures c.answer.ensures
+    (adds (codes "total") c.in_ok-push_entry-10.ensures (c.number-9.ensures ∙ ap decimal c.total.ensures)
+    (adds (codes "stability") c.in_ok-push_entry-9.ensures c.number-8.ensures
+    (adds (codes "compactness") c.in_ok-push_entry-8.ensures c.number-7.ensures
+    (adds (codes "days") c.in_ok-push_entry-7.ensures c.number-6.ensures
+    (adds (codes "capacity") c.in_ok-push_entry-6.ensures c.number-5.ensures
+    (c.in_ok-push_barred.ensures ∙ ap (λ (s : List ℕ). s ++ barred_line c.args.barred c.args.assessment.hard.barred)
+    (adds (codes "occupancy") c.in_ok-push_entry-5.ensures c.number-4.ensures
+    (adds (codes "availability") c.in_ok-push_entry-4.ensures c.number-3.ensures
+    (adds (codes "conflicts") c.in_ok-push_entry-3.ensures c.number-2.ensures
+    (adds (codes "lectures") c.in_ok-push_entry-2.ensures c.number.ensures
+    (adds (codes "instance") c.in_ok-push_entry.ensures c.text.ensures c.new-report.ensures.bytes))))))))))))

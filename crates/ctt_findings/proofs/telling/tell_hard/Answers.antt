@@ -12,19 +12,19 @@ returns-clause-heard g c =
     let i = c.args.instance.now in
     let t = c.args.timetable.now in
     let R = g.L.Listener.hears i in
-    heard_in R c.args.listener.now (by_course i t (lectures_finding i)) c.tell_lectures.new.listener _ c.tell_barred.new.listener c.tell_barred.result c.in_ok-tell_lectures.ensures.heard
-    (heard_in R c.tell_lectures.new.listener (conflict_findings i t) c.tell_conflicts.new.listener _ c.tell_barred.new.listener c.tell_barred.result c.in_ok-tell_conflicts.ensures.heard
-    (heard_in R c.tell_conflicts.new.listener (filter_map (availability_finding i) t) c.tell_availability.new.listener _ c.tell_barred.new.listener c.tell_barred.result c.in_ok-tell_availability.ensures.heard
-    (heard_in R c.tell_availability.new.listener (occupancy_from [] t) c.tell_occupancy.new.listener (filter_map (barred_finding i) t) c.tell_barred.new.listener c.tell_barred.result c.in_ok-tell_occupancy.ensures.heard c.tell_barred.ensures.heard)))
+    heard_in R c.args.listener.now (by_course i t (lectures_finding i)) c.tell_of_courses.new.listener _ c.tell_of_lectures-2.new.listener c.tell_of_lectures-2.result c.in_ok-tell_of_courses.ensures.heard
+    (heard_in R c.tell_of_courses.new.listener (conflict_findings i t) c.tell_conflicts.new.listener _ c.tell_of_lectures-2.new.listener c.tell_of_lectures-2.result c.in_ok-tell_conflicts.ensures.heard
+    (heard_in R c.tell_conflicts.new.listener (filter_map (availability_finding i) t) c.tell_of_lectures.new.listener _ c.tell_of_lectures-2.new.listener c.tell_of_lectures-2.result c.in_ok-tell_of_lectures.ensures.heard
+    (heard_in R c.tell_of_lectures.new.listener (occupancy_from [] t) c.tell_occupancy.new.listener (filter_map (barred_finding i) t) c.tell_of_lectures-2.new.listener c.tell_of_lectures-2.result c.in_ok-tell_occupancy.ensures.heard c.tell_of_lectures-2.ensures.heard)))
 
-pub returns-in_err-tell_lectures-clause-front : goal.returns-in_err-tell_lectures-clause-front
-returns-in_err-tell_lectures-clause-front g c =
+pub returns-in_err-tell_of_courses-clause-front : goal.returns-in_err-tell_of_courses-clause-front
+returns-in_err-tell_of_courses-clause-front g c =
     let i = c.args.instance.now in
     let t = c.args.timetable.now in
     let R = g.L.Listener.hears i in
     let F = g.L.Listener.fails in
-    let failed : IfErr c.from_residual.result (HearsFront R F c.args.listener.now (by_course i t (lectures_finding i)) c.tell_lectures.new.listener) = search rules in
-    err_first R F c.from_residual.result c.args.listener.now (by_course i t (lectures_finding i)) ((conflict_findings i t) ++ ((filter_map (availability_finding i) t) ++ ((occupancy_from [] t) ++ (filter_map (barred_finding i) t)))) c.tell_lectures.new.listener failed
+    let failed : IfErr c.from_residual.result (HearsFront R F c.args.listener.now (by_course i t (lectures_finding i)) c.tell_of_courses.new.listener) = search rules in
+    err_first R F c.from_residual.result c.args.listener.now (by_course i t (lectures_finding i)) ((conflict_findings i t) ++ ((filter_map (availability_finding i) t) ++ ((occupancy_from [] t) ++ (filter_map (barred_finding i) t)))) c.tell_of_courses.new.listener failed
 
 pub returns-in_err-tell_conflicts-clause-front : goal.returns-in_err-tell_conflicts-clause-front
 returns-in_err-tell_conflicts-clause-front g c =
@@ -32,20 +32,20 @@ returns-in_err-tell_conflicts-clause-front g c =
     let t = c.args.timetable.now in
     let R = g.L.Listener.hears i in
     let F = g.L.Listener.fails in
-    let failed : IfErr c.from_residual-in_err-tell_conflicts.result (HearsFront R F c.tell_lectures.new.listener (conflict_findings i t) c.tell_conflicts.new.listener) = search rules in
-    err_second R F c.from_residual-in_err-tell_conflicts.result c.args.listener.now (by_course i t (lectures_finding i)) c.tell_lectures.new.listener ((conflict_findings i t) ++ ((filter_map (availability_finding i) t) ++ ((occupancy_from [] t) ++ (filter_map (barred_finding i) t)))) c.tell_conflicts.new.listener c.in_ok-tell_lectures.ensures.heard
-    (err_first R F c.from_residual-in_err-tell_conflicts.result c.tell_lectures.new.listener (conflict_findings i t) ((filter_map (availability_finding i) t) ++ ((occupancy_from [] t) ++ (filter_map (barred_finding i) t))) c.tell_conflicts.new.listener failed)
+    let failed : IfErr c.from_residual-in_err-tell_conflicts.result (HearsFront R F c.tell_of_courses.new.listener (conflict_findings i t) c.tell_conflicts.new.listener) = search rules in
+    err_second R F c.from_residual-in_err-tell_conflicts.result c.args.listener.now (by_course i t (lectures_finding i)) c.tell_of_courses.new.listener ((conflict_findings i t) ++ ((filter_map (availability_finding i) t) ++ ((occupancy_from [] t) ++ (filter_map (barred_finding i) t)))) c.tell_conflicts.new.listener c.in_ok-tell_of_courses.ensures.heard
+    (err_first R F c.from_residual-in_err-tell_conflicts.result c.tell_of_courses.new.listener (conflict_findings i t) ((filter_map (availability_finding i) t) ++ ((occupancy_from [] t) ++ (filter_map (barred_finding i) t))) c.tell_conflicts.new.listener failed)
 
-pub returns-in_err-tell_availability-clause-front : goal.returns-in_err-tell_availability-clause-front
-returns-in_err-tell_availability-clause-front g c =
+pub returns-in_err-tell_of_lectures-clause-front : goal.returns-in_err-tell_of_lectures-clause-front
+returns-in_err-tell_of_lectures-clause-front g c =
     let i = c.args.instance.now in
     let t = c.args.timetable.now in
     let R = g.L.Listener.hears i in
     let F = g.L.Listener.fails in
-    let failed : IfErr c.from_residual-in_err-tell_availability.result (HearsFront R F c.tell_conflicts.new.listener (filter_map (availability_finding i) t) c.tell_availability.new.listener) = search rules in
-    err_second R F c.from_residual-in_err-tell_availability.result c.args.listener.now (by_course i t (lectures_finding i)) c.tell_lectures.new.listener ((conflict_findings i t) ++ ((filter_map (availability_finding i) t) ++ ((occupancy_from [] t) ++ (filter_map (barred_finding i) t)))) c.tell_availability.new.listener c.in_ok-tell_lectures.ensures.heard
-    (err_second R F c.from_residual-in_err-tell_availability.result c.tell_lectures.new.listener (conflict_findings i t) c.tell_conflicts.new.listener ((filter_map (availability_finding i) t) ++ ((occupancy_from [] t) ++ (filter_map (barred_finding i) t))) c.tell_availability.new.listener c.in_ok-tell_conflicts.ensures.heard
-    (err_first R F c.from_residual-in_err-tell_availability.result c.tell_conflicts.new.listener (filter_map (availability_finding i) t) ((occupancy_from [] t) ++ (filter_map (barred_finding i) t)) c.tell_availability.new.listener failed))
+    let failed : IfErr c.from_residual-in_err-tell_of_lectures.result (HearsFront R F c.tell_conflicts.new.listener (filter_map (availability_finding i) t) c.tell_of_lectures.new.listener) = search rules in
+    err_second R F c.from_residual-in_err-tell_of_lectures.result c.args.listener.now (by_course i t (lectures_finding i)) c.tell_of_courses.new.listener ((conflict_findings i t) ++ ((filter_map (availability_finding i) t) ++ ((occupancy_from [] t) ++ (filter_map (barred_finding i) t)))) c.tell_of_lectures.new.listener c.in_ok-tell_of_courses.ensures.heard
+    (err_second R F c.from_residual-in_err-tell_of_lectures.result c.tell_of_courses.new.listener (conflict_findings i t) c.tell_conflicts.new.listener ((filter_map (availability_finding i) t) ++ ((occupancy_from [] t) ++ (filter_map (barred_finding i) t))) c.tell_of_lectures.new.listener c.in_ok-tell_conflicts.ensures.heard
+    (err_first R F c.from_residual-in_err-tell_of_lectures.result c.tell_conflicts.new.listener (filter_map (availability_finding i) t) ((occupancy_from [] t) ++ (filter_map (barred_finding i) t)) c.tell_of_lectures.new.listener failed))
 
 pub returns-in_err-tell_occupancy-clause-front : goal.returns-in_err-tell_occupancy-clause-front
 returns-in_err-tell_occupancy-clause-front g c =
@@ -53,11 +53,11 @@ returns-in_err-tell_occupancy-clause-front g c =
     let t = c.args.timetable.now in
     let R = g.L.Listener.hears i in
     let F = g.L.Listener.fails in
-    let failed : IfErr c.from_residual-in_err-tell_occupancy.result (HearsFront R F c.tell_availability.new.listener (occupancy_from [] t) c.tell_occupancy.new.listener) = search rules in
-    err_second R F c.from_residual-in_err-tell_occupancy.result c.args.listener.now (by_course i t (lectures_finding i)) c.tell_lectures.new.listener ((conflict_findings i t) ++ ((filter_map (availability_finding i) t) ++ ((occupancy_from [] t) ++ (filter_map (barred_finding i) t)))) c.tell_occupancy.new.listener c.in_ok-tell_lectures.ensures.heard
-    (err_second R F c.from_residual-in_err-tell_occupancy.result c.tell_lectures.new.listener (conflict_findings i t) c.tell_conflicts.new.listener ((filter_map (availability_finding i) t) ++ ((occupancy_from [] t) ++ (filter_map (barred_finding i) t))) c.tell_occupancy.new.listener c.in_ok-tell_conflicts.ensures.heard
-    (err_second R F c.from_residual-in_err-tell_occupancy.result c.tell_conflicts.new.listener (filter_map (availability_finding i) t) c.tell_availability.new.listener ((occupancy_from [] t) ++ (filter_map (barred_finding i) t)) c.tell_occupancy.new.listener c.in_ok-tell_availability.ensures.heard
-    (err_first R F c.from_residual-in_err-tell_occupancy.result c.tell_availability.new.listener (occupancy_from [] t) (filter_map (barred_finding i) t) c.tell_occupancy.new.listener failed)))
+    let failed : IfErr c.from_residual-in_err-tell_occupancy.result (HearsFront R F c.tell_of_lectures.new.listener (occupancy_from [] t) c.tell_occupancy.new.listener) = search rules in
+    err_second R F c.from_residual-in_err-tell_occupancy.result c.args.listener.now (by_course i t (lectures_finding i)) c.tell_of_courses.new.listener ((conflict_findings i t) ++ ((filter_map (availability_finding i) t) ++ ((occupancy_from [] t) ++ (filter_map (barred_finding i) t)))) c.tell_occupancy.new.listener c.in_ok-tell_of_courses.ensures.heard
+    (err_second R F c.from_residual-in_err-tell_occupancy.result c.tell_of_courses.new.listener (conflict_findings i t) c.tell_conflicts.new.listener ((filter_map (availability_finding i) t) ++ ((occupancy_from [] t) ++ (filter_map (barred_finding i) t))) c.tell_occupancy.new.listener c.in_ok-tell_conflicts.ensures.heard
+    (err_second R F c.from_residual-in_err-tell_occupancy.result c.tell_conflicts.new.listener (filter_map (availability_finding i) t) c.tell_of_lectures.new.listener ((occupancy_from [] t) ++ (filter_map (barred_finding i) t)) c.tell_occupancy.new.listener c.in_ok-tell_of_lectures.ensures.heard
+    (err_first R F c.from_residual-in_err-tell_occupancy.result c.tell_of_lectures.new.listener (occupancy_from [] t) (filter_map (barred_finding i) t) c.tell_occupancy.new.listener failed)))
 
 pub returns-clause-front : goal.returns-clause-front
 returns-clause-front g c =
@@ -65,8 +65,8 @@ returns-clause-front g c =
     let t = c.args.timetable.now in
     let R = g.L.Listener.hears i in
     let F = g.L.Listener.fails in
-    err_second R F c.tell_barred.result c.args.listener.now (by_course i t (lectures_finding i)) c.tell_lectures.new.listener ((conflict_findings i t) ++ ((filter_map (availability_finding i) t) ++ ((occupancy_from [] t) ++ (filter_map (barred_finding i) t)))) c.tell_barred.new.listener c.in_ok-tell_lectures.ensures.heard
-    (err_second R F c.tell_barred.result c.tell_lectures.new.listener (conflict_findings i t) c.tell_conflicts.new.listener ((filter_map (availability_finding i) t) ++ ((occupancy_from [] t) ++ (filter_map (barred_finding i) t))) c.tell_barred.new.listener c.in_ok-tell_conflicts.ensures.heard
-    (err_second R F c.tell_barred.result c.tell_conflicts.new.listener (filter_map (availability_finding i) t) c.tell_availability.new.listener ((occupancy_from [] t) ++ (filter_map (barred_finding i) t)) c.tell_barred.new.listener c.in_ok-tell_availability.ensures.heard
-    (err_second R F c.tell_barred.result c.tell_availability.new.listener (occupancy_from [] t) c.tell_occupancy.new.listener (filter_map (barred_finding i) t) c.tell_barred.new.listener c.in_ok-tell_occupancy.ensures.heard
-    c.tell_barred.ensures.front)))
+    err_second R F c.tell_of_lectures-2.result c.args.listener.now (by_course i t (lectures_finding i)) c.tell_of_courses.new.listener ((conflict_findings i t) ++ ((filter_map (availability_finding i) t) ++ ((occupancy_from [] t) ++ (filter_map (barred_finding i) t)))) c.tell_of_lectures-2.new.listener c.in_ok-tell_of_courses.ensures.heard
+    (err_second R F c.tell_of_lectures-2.result c.tell_of_courses.new.listener (conflict_findings i t) c.tell_conflicts.new.listener ((filter_map (availability_finding i) t) ++ ((occupancy_from [] t) ++ (filter_map (barred_finding i) t))) c.tell_of_lectures-2.new.listener c.in_ok-tell_conflicts.ensures.heard
+    (err_second R F c.tell_of_lectures-2.result c.tell_conflicts.new.listener (filter_map (availability_finding i) t) c.tell_of_lectures.new.listener ((occupancy_from [] t) ++ (filter_map (barred_finding i) t)) c.tell_of_lectures-2.new.listener c.in_ok-tell_of_lectures.ensures.heard
+    (err_second R F c.tell_of_lectures-2.result c.tell_of_lectures.new.listener (occupancy_from [] t) c.tell_occupancy.new.listener (filter_map (barred_finding i) t) c.tell_of_lectures-2.new.listener c.in_ok-tell_occupancy.ensures.heard
+    c.tell_of_lectures-2.ensures.front)))

@@ -11,28 +11,28 @@ returns-clause-heard g c =
     let i = c.args.instance.now in
     let t = c.args.timetable.now in
     let R = g.L.Listener.hears i in
-    heard_in R c.args.listener.now (filter_map (capacity_finding i) t) c.tell_capacity.new.listener _ c.tell_stability.new.listener c.tell_stability.result c.in_ok-tell_capacity.ensures.heard
-    (heard_in R c.tell_capacity.new.listener (by_course i t (days_finding i)) c.tell_days.new.listener _ c.tell_stability.new.listener c.tell_stability.result c.in_ok-tell_days.ensures.heard
-    (heard_in R c.tell_days.new.listener (compactness_findings i t) c.tell_compactness.new.listener (by_course i t (stability_finding i)) c.tell_stability.new.listener c.tell_stability.result c.in_ok-tell_compactness.ensures.heard c.tell_stability.ensures.heard))
+    heard_in R c.args.listener.now (filter_map (capacity_finding i) t) c.tell_of_lectures.new.listener _ c.tell_of_courses-2.new.listener c.tell_of_courses-2.result c.in_ok-tell_of_lectures.ensures.heard
+    (heard_in R c.tell_of_lectures.new.listener (by_course i t (days_finding i)) c.tell_of_courses.new.listener _ c.tell_of_courses-2.new.listener c.tell_of_courses-2.result c.in_ok-tell_of_courses.ensures.heard
+    (heard_in R c.tell_of_courses.new.listener (compactness_findings i t) c.tell_compactness.new.listener (by_course i t (stability_finding i)) c.tell_of_courses-2.new.listener c.tell_of_courses-2.result c.in_ok-tell_compactness.ensures.heard c.tell_of_courses-2.ensures.heard))
 
-pub returns-in_err-tell_capacity-clause-front : goal.returns-in_err-tell_capacity-clause-front
-returns-in_err-tell_capacity-clause-front g c =
+pub returns-in_err-tell_of_lectures-clause-front : goal.returns-in_err-tell_of_lectures-clause-front
+returns-in_err-tell_of_lectures-clause-front g c =
     let i = c.args.instance.now in
     let t = c.args.timetable.now in
     let R = g.L.Listener.hears i in
     let F = g.L.Listener.fails in
-    let failed : IfErr c.from_residual.result (HearsFront R F c.args.listener.now (filter_map (capacity_finding i) t) c.tell_capacity.new.listener) = search rules in
-    err_first R F c.from_residual.result c.args.listener.now (filter_map (capacity_finding i) t) ((by_course i t (days_finding i)) ++ ((compactness_findings i t) ++ (by_course i t (stability_finding i)))) c.tell_capacity.new.listener failed
+    let failed : IfErr c.from_residual.result (HearsFront R F c.args.listener.now (filter_map (capacity_finding i) t) c.tell_of_lectures.new.listener) = search rules in
+    err_first R F c.from_residual.result c.args.listener.now (filter_map (capacity_finding i) t) ((by_course i t (days_finding i)) ++ ((compactness_findings i t) ++ (by_course i t (stability_finding i)))) c.tell_of_lectures.new.listener failed
 
-pub returns-in_err-tell_days-clause-front : goal.returns-in_err-tell_days-clause-front
-returns-in_err-tell_days-clause-front g c =
+pub returns-in_err-tell_of_courses-clause-front : goal.returns-in_err-tell_of_courses-clause-front
+returns-in_err-tell_of_courses-clause-front g c =
     let i = c.args.instance.now in
     let t = c.args.timetable.now in
     let R = g.L.Listener.hears i in
     let F = g.L.Listener.fails in
-    let failed : IfErr c.from_residual-in_err-tell_days.result (HearsFront R F c.tell_capacity.new.listener (by_course i t (days_finding i)) c.tell_days.new.listener) = search rules in
-    err_second R F c.from_residual-in_err-tell_days.result c.args.listener.now (filter_map (capacity_finding i) t) c.tell_capacity.new.listener ((by_course i t (days_finding i)) ++ ((compactness_findings i t) ++ (by_course i t (stability_finding i)))) c.tell_days.new.listener c.in_ok-tell_capacity.ensures.heard
-    (err_first R F c.from_residual-in_err-tell_days.result c.tell_capacity.new.listener (by_course i t (days_finding i)) ((compactness_findings i t) ++ (by_course i t (stability_finding i))) c.tell_days.new.listener failed)
+    let failed : IfErr c.from_residual-in_err-tell_of_courses.result (HearsFront R F c.tell_of_lectures.new.listener (by_course i t (days_finding i)) c.tell_of_courses.new.listener) = search rules in
+    err_second R F c.from_residual-in_err-tell_of_courses.result c.args.listener.now (filter_map (capacity_finding i) t) c.tell_of_lectures.new.listener ((by_course i t (days_finding i)) ++ ((compactness_findings i t) ++ (by_course i t (stability_finding i)))) c.tell_of_courses.new.listener c.in_ok-tell_of_lectures.ensures.heard
+    (err_first R F c.from_residual-in_err-tell_of_courses.result c.tell_of_lectures.new.listener (by_course i t (days_finding i)) ((compactness_findings i t) ++ (by_course i t (stability_finding i))) c.tell_of_courses.new.listener failed)
 
 pub returns-in_err-tell_compactness-clause-front : goal.returns-in_err-tell_compactness-clause-front
 returns-in_err-tell_compactness-clause-front g c =
@@ -40,10 +40,10 @@ returns-in_err-tell_compactness-clause-front g c =
     let t = c.args.timetable.now in
     let R = g.L.Listener.hears i in
     let F = g.L.Listener.fails in
-    let failed : IfErr c.from_residual-in_err-tell_compactness.result (HearsFront R F c.tell_days.new.listener (compactness_findings i t) c.tell_compactness.new.listener) = search rules in
-    err_second R F c.from_residual-in_err-tell_compactness.result c.args.listener.now (filter_map (capacity_finding i) t) c.tell_capacity.new.listener ((by_course i t (days_finding i)) ++ ((compactness_findings i t) ++ (by_course i t (stability_finding i)))) c.tell_compactness.new.listener c.in_ok-tell_capacity.ensures.heard
-    (err_second R F c.from_residual-in_err-tell_compactness.result c.tell_capacity.new.listener (by_course i t (days_finding i)) c.tell_days.new.listener ((compactness_findings i t) ++ (by_course i t (stability_finding i))) c.tell_compactness.new.listener c.in_ok-tell_days.ensures.heard
-    (err_first R F c.from_residual-in_err-tell_compactness.result c.tell_days.new.listener (compactness_findings i t) (by_course i t (stability_finding i)) c.tell_compactness.new.listener failed))
+    let failed : IfErr c.from_residual-in_err-tell_compactness.result (HearsFront R F c.tell_of_courses.new.listener (compactness_findings i t) c.tell_compactness.new.listener) = search rules in
+    err_second R F c.from_residual-in_err-tell_compactness.result c.args.listener.now (filter_map (capacity_finding i) t) c.tell_of_lectures.new.listener ((by_course i t (days_finding i)) ++ ((compactness_findings i t) ++ (by_course i t (stability_finding i)))) c.tell_compactness.new.listener c.in_ok-tell_of_lectures.ensures.heard
+    (err_second R F c.from_residual-in_err-tell_compactness.result c.tell_of_lectures.new.listener (by_course i t (days_finding i)) c.tell_of_courses.new.listener ((compactness_findings i t) ++ (by_course i t (stability_finding i))) c.tell_compactness.new.listener c.in_ok-tell_of_courses.ensures.heard
+    (err_first R F c.from_residual-in_err-tell_compactness.result c.tell_of_courses.new.listener (compactness_findings i t) (by_course i t (stability_finding i)) c.tell_compactness.new.listener failed))
 
 pub returns-clause-front : goal.returns-clause-front
 returns-clause-front g c =
@@ -51,7 +51,7 @@ returns-clause-front g c =
     let t = c.args.timetable.now in
     let R = g.L.Listener.hears i in
     let F = g.L.Listener.fails in
-    err_second R F c.tell_stability.result c.args.listener.now (filter_map (capacity_finding i) t) c.tell_capacity.new.listener ((by_course i t (days_finding i)) ++ ((compactness_findings i t) ++ (by_course i t (stability_finding i)))) c.tell_stability.new.listener c.in_ok-tell_capacity.ensures.heard
-    (err_second R F c.tell_stability.result c.tell_capacity.new.listener (by_course i t (days_finding i)) c.tell_days.new.listener ((compactness_findings i t) ++ (by_course i t (stability_finding i))) c.tell_stability.new.listener c.in_ok-tell_days.ensures.heard
-    (err_second R F c.tell_stability.result c.tell_days.new.listener (compactness_findings i t) c.tell_compactness.new.listener (by_course i t (stability_finding i)) c.tell_stability.new.listener c.in_ok-tell_compactness.ensures.heard
-    c.tell_stability.ensures.front))
+    err_second R F c.tell_of_courses-2.result c.args.listener.now (filter_map (capacity_finding i) t) c.tell_of_lectures.new.listener ((by_course i t (days_finding i)) ++ ((compactness_findings i t) ++ (by_course i t (stability_finding i)))) c.tell_of_courses-2.new.listener c.in_ok-tell_of_lectures.ensures.heard
+    (err_second R F c.tell_of_courses-2.result c.tell_of_lectures.new.listener (by_course i t (days_finding i)) c.tell_of_courses.new.listener ((compactness_findings i t) ++ (by_course i t (stability_finding i))) c.tell_of_courses-2.new.listener c.in_ok-tell_of_courses.ensures.heard
+    (err_second R F c.tell_of_courses-2.result c.tell_of_courses.new.listener (compactness_findings i t) c.tell_compactness.new.listener (by_course i t (stability_finding i)) c.tell_of_courses-2.new.listener c.in_ok-tell_compactness.ensures.heard
+    c.tell_of_courses-2.ensures.front))
