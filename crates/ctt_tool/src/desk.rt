@@ -140,9 +140,9 @@ fn minutes_in<O: Office>(office: &O, minutes: Option<String>) -> Result<Option<O
 
 /// Says that what is committed ends with the desk, unless minutes are written.
 fn warn<V: Sink>(err: &mut V, is_written: bool)
-    ensures warns { (V.has_failed err.new ≡ true)
+    ensures warns { ((is_written ≡ false) × (V.has_failed err.new ≡ true))
         ⊎ Warns is_written (V.taken err.old) (V.taken err.new) }
-    ensures quiet { is_written ≡ true → err.new ≡ err.old }
+    ensures quiet { (is_written ≡ false) ⊎ (err.new ≡ err.old) }
 {
     if !is_written {
         complain(err, NO_MINUTES.as_bytes());
@@ -170,11 +170,11 @@ fn keep<R: Threads + Wait + Sync, F: Files, O: Office, V: Sink>(
     ensures cause { IfErr result (λ fault. IfUnwritten fault
         (Unit {0})
         (IsOfSeats seats.now start (F.held files.old) instance.now fault)) }
-    ensures says { OnOk result ((V.has_failed err.new ≡ true)
+    ensures says { OnOk result (((is_some minutes ≡ false) × (V.has_failed err.new ≡ true))
         ⊎ Warns (is_some minutes) (V.taken err.old) (V.taken err.new)) }
     ensures said { OnErr result ((err.new ≡ err.old) ⊎ ((V.has_failed err.new ≡ true)
         ⊎ Warns (is_some minutes) (V.taken err.old) (V.taken err.new))) }
-    ensures quiet { is_some minutes ≡ true → err.new ≡ err.old }
+    ensures quiet { (is_some minutes ≡ false) ⊎ (err.new ≡ err.old) }
 {
     let is_written = minutes.is_some();
     let opened = open_on::<GridSheet, F>(alloc, files, instance, start)?;
@@ -213,11 +213,11 @@ fn report<R: Threads + Wait + Sync, F: Files, O: Office, V: Sink>(
     ensures cause { IfErr result (λ fault. IfUnwritten fault
         (Unit {0})
         (IsOfInstanceOr (IsOfSeats seats.now start) (F.held files.old) instance barred fault)) }
-    ensures says { OnOk result ((V.has_failed err.new ≡ true)
+    ensures says { OnOk result (((is_some minutes ≡ false) × (V.has_failed err.new ≡ true))
         ⊎ Warns (is_some minutes) (V.taken err.old) (V.taken err.new)) }
     ensures said { OnErr result ((err.new ≡ err.old) ⊎ ((V.has_failed err.new ≡ true)
         ⊎ Warns (is_some minutes) (V.taken err.old) (V.taken err.new))) }
-    ensures quiet { is_some minutes ≡ true → err.new ≡ err.old }
+    ensures quiet { (is_some minutes ≡ false) ⊎ (err.new ≡ err.old) }
 {
     let instance = fetch_instance(alloc, files, instance, barred)?;
     let kept = keep(
@@ -242,7 +242,7 @@ fn print_report<W: Sink, V: Sink>(
         × (V.has_failed err.new ≡ V.has_failed err.old)) }
     ensures cause { IfErr result (λ fault. fault ≡ CannotWrite) }
     ensures unsaid { OnErr result ((err.new ≡ err.old) ⊎ (V.has_failed err.new ≡ true)) }
-    ensures quiet { is_seat ≡ false → err.new ≡ err.old }
+    ensures quiet { (is_seat ≡ true) ⊎ (err.new ≡ err.old) }
 {
     if is_seat {
         print_last(err, report)
@@ -286,7 +286,8 @@ pub fn desk<R: Threads + Wait + Sync, F: Files, O: Office, W: Sink, V: Sink>(
         × (W.has_failed out.new ≡ W.has_failed out.old))) }
     ensures unwritten { IfErr result (λ fault. MayHaveWritten fault ⊎ (out.new ≡ out.old)) }
     ensures unsaid { OnErr result ((err.new ≡ err.old) ⊎ ((V.has_failed err.new ≡ true)
-        ⊎ ((is_some minutes ≡ false) × Warns false (V.taken err.old) (V.taken err.new)))) }
+        ⊎ ((is_some minutes ≡ false)
+        × Warns (is_some minutes) (V.taken err.old) (V.taken err.new)))) }
 {
     if seats.len() > SEAT_LIMIT || has_twice(&seats) {
         return Err(Fault::BadSeats);

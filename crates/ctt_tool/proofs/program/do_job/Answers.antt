@@ -1,7 +1,6 @@
 use Rattle.std.proofs.Common.{◌≡◌, ◌⊎◌, inl, inr, ap, refl, subst, sym, true, ⊎_elim}
 use Rattle.std.proofs.lemmas.Result.{IfErr-weaker, IfOk-weaker}
 use Rattle.ctt_files.specs.Faults.{IfUnwritten}
-use Rattle.ctt_tool.specs.Desks.{Warns}
 use Rattle.ctt_tool.specs.Jobs.{Saying, Storing, Warning, stored_by}
 use Rattle.ctt_tool.specs.Runs.{KeepOthers}
 use Rattle.ctt_tool.specs.Work.{DoesTask, IsOfTask, SaysOfTask, WarnsOfTask}
@@ -116,7 +115,7 @@ returns-in-Desk-clause-says g c = on_ok_weaker c.desk.result _ _
 
 pub returns-in-Desk-clause-unsaid : goal.returns-in-Desk-clause-unsaid
 returns-in-Desk-clause-unsaid g c = on_err_weaker c.desk.result _ _
-    (λ unsaid. ⊎_elim inl (λ other. inr (⊎_elim inl (λ warns. inr (subst (λ task. WarnsOfTask task (g.V.Sink.taken c.args.err.now) (g.V.Sink.taken c.desk.new.err)) (sym c.in-Desk.is) (subst (λ given. Warns given (g.V.Sink.taken c.args.err.now) (g.V.Sink.taken c.desk.new.err)) (sym warns.0) warns.1))) other)) unsaid) c.desk.ensures.unsaid
+    (λ unsaid. ⊎_elim inl (λ other. inr (⊎_elim inl (λ warns. inr (subst (λ task. WarnsOfTask task (g.V.Sink.taken c.args.err.now) (g.V.Sink.taken c.desk.new.err)) (sym c.in-Desk.is) warns.1)) other)) unsaid) c.desk.ensures.unsaid
 
 pub returns-in-Journal-clause-says : goal.returns-in-Journal-clause-says
 returns-in-Journal-clause-says g c = on_ok_weaker c.journal.result _ _
