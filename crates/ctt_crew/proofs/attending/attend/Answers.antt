@@ -80,7 +80,7 @@ loop-line-preserved-in-loop-line g c =
     in
     let is_item : AnswersLine i t0 (own_item i c.args.number words) c.loop-line.seat c.match-call_in.seat old new = subst (λ it. AnswersLine i t0 it c.loop-line.seat c.match-call_in.seat old new) c.read_own_line-read.ensures.item is_read in
     one_more _ _ _ _ c.args.seat words c.next.new.self c.loop-line.seat c.match-call_in.seat old new so_far some
-          (subst (λ j. AnswersLine j t0 (own_item j c.args.number words) c.loop-line.seat c.match-call_in.seat old new) (sym c.args.attendance.same) is_item)
+    (subst (λ j. AnswersLine j t0 (own_item j c.args.number words) c.loop-line.seat c.match-call_in.seat old new) (sym c.args.attendance.same) is_item)
 
 pub returns : goal.returns
 returns g c =
