@@ -3,8 +3,8 @@
 
     tools/rooms.py [--write | --check]
 
---write puts this into docs/ARCHITECTURE.md, between two comments. --check says which lines differ there,
-and ends with status 1 if any does.
+--write puts this into docs/ARCHITECTURE.md, between two comments. --check prints the lines that differ there,
+and ends with status 1 if there are any.
 """
 import difflib
 import pathlib
@@ -37,6 +37,12 @@ def sentence(path):
     return found[1]
 
 
+def short(what):
+    """A sentence up to its colon, unless hardly anything stands before that: the source has the rest."""
+    front = what.split(":")[0]
+    return front if len(front.split()) > 2 else what
+
+
 def entry(name, what, indent):
     """A name with what it is for, in lines that are not too long."""
     return textwrap.wrap(f"{name}: {what}", WIDTH, initial_indent=indent, subsequent_indent=indent + "    ",
@@ -48,16 +54,14 @@ def rooms():
     lines = ["```"]
     for crate in crates():
         folder = TOP / "crates" / crate
-        sources = sorted((folder / "src").rglob("*.rt"))
+        sources = sorted((folder / "src").rglob("*.rt"), key=lambda path: path.with_suffix("").parts)
         tops = [path for path in sources if path.name in ("lib.rt", "main.rt")]
         if len(lines) > 1:
             lines.append("")
         lines += entry(crate, "; ".join(map(sentence, tops)), "")
         for path in sources:
             if path not in tops:
-                # a colon begins an explanation, which the source has
-                what = sentence(path).split(":")[0]
-                lines += entry(path.relative_to(folder / "src").as_posix(), what, "  ")
+                lines += entry(path.relative_to(folder / "src").as_posix(), short(sentence(path)), "  ")
         specs = sorted(path.stem for path in (folder / "specs").glob("*.antt") if path.stem != "Lib")
         if specs:
             lines += entry("specs", ", ".join(specs), "  ")
@@ -78,7 +82,8 @@ def main(words):
     if words == ["--write"]:
         PAGE.write_text("".join(page[:begin] + wanted + page[end:]), encoding="utf-8")
         return 0
-    differing = [line for line in difflib.ndiff(page[begin:end], wanted) if line[0] in "-+"]
+    changes = difflib.unified_diff(page[begin:end], wanted, n=0)
+    differing = [line for line in changes if line[0] in "-+"][2:]
     sys.stdout.writelines(differing)
     return 1 if differing else 0
 
