@@ -65,7 +65,4 @@ barred_instance i table h marks =
       barred = marks;
       belonging = record { size = h.belonging.size; list = h.belonging.list };
       taught = record { size = h.taught.size; list = h.taught.list };
-      course_labels = h.course_labels;
-      room_labels = h.room_labels;
-      slot_labels = h.slot_labels;
     }

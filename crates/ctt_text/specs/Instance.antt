@@ -7,7 +7,6 @@ use Rattle.ctt_text.specs.Named.{IsNamed}
 use Rattle.ctt_text.specs.Tables.{mark_at, MarkTable, IsTableOf}
 use Rattle.ctt_text.specs.Belonging.{AreCurricula}
 use Rattle.ctt_text.specs.Taught.{AreTaught}
-use Rattle.ctt_text.specs.Labels.{AreLabels, AreSlotLabels}
 use Rattle.ctt_text.specs.declared.instance.Instance.TheInside.{Inside}
 
 -- so many marks: those of a table, and none where there is no table
@@ -50,6 +49,3 @@ pub record IsInstance (i : Inside) : Type 0 where
   pub barred : IfSome i.barred (HasMarks (course_count (problem_in i)) (room_count (problem_in i)))
   pub belonging : AreCurricula (problem_in i) (map (λ q. q.items) i.belonging.items)
   pub taught : AreTaught (problem_in i) (map (λ q. q.items) i.taught.items)
-  pub course_labels : AreLabels i.course_names i.course_labels.items
-  pub room_labels : AreLabels i.room_names i.room_labels.items
-  pub slot_labels : AreSlotLabels (slot_count (problem_in i)) i.periods i.slot_labels.items

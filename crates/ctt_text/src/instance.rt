@@ -26,7 +26,6 @@ mod unavailability;
 
 use crate::course_facts::CourseFacts;
 use crate::ids::{CourseNo, CurriculumNo, RoomNo, SlotNo, TeacherNo};
-use crate::label::Label;
 use crate::marks::Marks;
 use crate::names::Names;
 pub use barred::read_barred;
@@ -58,12 +57,6 @@ pub struct Instance {
     belonging: Vec<Vec<CurriculumNo>>,
     /// For each teacher, his courses.
     taught: Vec<Vec<CourseNo>>,
-    /// The names of the courses, ready to be copied.
-    course_labels: Vec<Option<Label>>,
-    /// Those of the rooms.
-    room_labels: Vec<Option<Label>>,
-    /// The day and the period of each slot, ready to be copied.
-    slot_labels: Vec<Option<Label>>,
 }
 
 // A derived `Drop` is proved anew in each crate above.
@@ -85,9 +78,6 @@ impl Drop for Instance {
             clashes: _,
             belonging: _,
             taught: _,
-            course_labels: _,
-            room_labels: _,
-            slot_labels: _,
         } = self;
     }
 }

@@ -5,7 +5,6 @@ ghost use Rattle.std.specs.Str.{IsUtf8};
 ghost use Rattle.std.specs.Str.Lossy.{utf8_valid_len};
 ghost use Rattle.ctt_text.specs.Words.{words};
 ghost use Rattle.ctt_text.specs.Forms.{times};
-ghost use Rattle.ctt_text.specs.Places.{known_name};
 ghost use Rattle.ctt_text.specs.Reading.{Gives};
 ghost use Rattle.ctt_text.specs.Problem.{course_count, room_count};
 ghost use Rattle.ctt_text.specs.Instance.{marks_in, HasMarks};
@@ -13,12 +12,12 @@ ghost use Rattle.ctt_text.specs.BarredPlaces.{GivesBarred, reads_barred, wants_m
 ghost use Rattle.ctt_text.specs.BarredText.{BarSpells, BarBreaksAt};
 ghost use Rattle.ctt_text.specs.BarredLaws.{barred_answer, IsBarredCauseOf};
 ghost use Rattle.ctt_text.specs.declared.fault.BarredFault.{BarredFault};
-ghost use Rattle.ctt_text.specs.declared.fault.BarredFault.TheVariants.{NotText, NoMemory, UnknownCourse, UnknownRoom};
+ghost use Rattle.ctt_text.specs.declared.fault.BarredFault.TheVariants.{NotText, NoMemory};
 
 use crate::fault::BarredFault;
 use crate::instance::Instance;
 use crate::instance::pair_marks::PairMarks;
-use crate::places::{next_fixed, next_number, next_word};
+use crate::places::{next_course, next_fixed, next_number, next_room};
 use crate::reader::Reader;
 use std::alloc::Global;
 
@@ -37,43 +36,13 @@ fn read_count(reader: &mut Reader, greatest: u32) -> Result<u32, BarredFault>
     }
 }
 
-/// A course by its name, and its number. The guess is of use where it is right.
-#[tactic(auto, using(crate::proofs::Steps::read_known), unfolding(crate::specs::Places::known_name))]
-fn read_course(reader: &mut Reader, instance: &Instance, guess: usize) -> Result<usize, BarredFault>
-    ensures within { IfOk result (λ course. course < course_count instance.now) }
-    ensures exact { GivesBarred (λ course. (course, reader.new)) result
-        (reads_barred (known_name UnknownCourse instance.now.course_names) reader.old) }
-{
-    let at = reader.next();
-    let name = next_word::<BarredFault>(reader)?;
-    instance
-        .course_near(guess, name)
-        .ok_or(BarredFault::UnknownCourse(at))
-}
-
-/// A room by its name, and its number, with a guess.
-#[tactic(auto, using(crate::proofs::Steps::read_known), unfolding(crate::specs::Places::known_name))]
-fn read_room(reader: &mut Reader, instance: &Instance, guess: usize) -> Result<usize, BarredFault>
-    ensures within { IfOk result (λ room. room < room_count instance.now) }
-    ensures exact { GivesBarred (λ room. (room, reader.new)) result
-        (reads_barred (known_name UnknownRoom instance.now.room_names) reader.old) }
-{
-    let at = reader.next();
-    let name = next_word::<BarredFault>(reader)?;
-    instance
-        .room_near(guess, name)
-        .ok_or(BarredFault::UnknownRoom(at))
-}
-
-/// Reads one pair, and marks it. Most files name each course with one room after another, so the course
-/// of the pair before is looked at first, and the room behind its room.
+/// Reads one pair, and marks it.
 #[tactic(auto, using(crate::proofs::Steps::read_bind, crate::proofs::Steps::read_done), unfolding(crate::specs::BarredPlaces::barred_pair))]
 fn read_pair(
     reader: &mut Reader,
     instance: &Instance,
-    before: (usize, usize),
     table: &mut PairMarks,
-) -> Result<(usize, usize), BarredFault>
+) -> Result<(), BarredFault>
     requires rows { table.old.rows ≡ course_count instance.now }
     requires width { table.old.width ≡ room_count instance.now }
     ensures rows { table.new.rows ≡ table.old.rows }
@@ -81,10 +50,10 @@ fn read_pair(
     ensures exact { GivesBarred (λ _. (table.new.marks, reader.new)) result
         (reads_barred (barred_pair instance.now table.old.marks) reader.old) }
 {
-    let course = read_course(reader, instance, before.0)?;
-    let room = read_room(reader, instance, before.1.saturating_add(1))?;
-    table.mark(course, room);
-    Ok((course, room))
+    let course = next_course::<BarredFault>(reader, instance)?;
+    let room = next_room::<BarredFault>(reader, instance)?;
+    table.mark(course.get() as usize, room.get() as usize);
+    Ok(())
 }
 
 /// Reads so many pairs, and marks them.
@@ -101,9 +70,8 @@ fn read_pairs(
     ensures exact { GivesBarred (λ _. (table.new.marks, reader.new)) result
         (reads_barred (times (barred_pair instance.now) count table.old.marks) reader.old) }
 {
-    let mut pair = (0, 0);
     for _ in 0..count {
-        pair = read_pair(reader, instance, pair, table)?;
+        read_pair(reader, instance, table)?;
     }
     Ok(())
 }

@@ -6,13 +6,12 @@ ghost use Rattle.std.specs.String.{string_bytes};
 ghost use Rattle.std.specs.Str.Lossy.{utf8_valid_len};
 ghost use Rattle.ctt_text.specs.Words.{words};
 ghost use Rattle.ctt_text.specs.Reading.{Gives};
-ghost use Rattle.ctt_text.specs.Problem.{Problem, IsProblem, slot_count};
+ghost use Rattle.ctt_text.specs.Problem.{Problem, IsProblem};
 ghost use Rattle.ctt_text.specs.Named.{IsNamed};
 ghost use Rattle.ctt_text.specs.Ranked.{AreRanked};
 ghost use Rattle.ctt_text.specs.Instance.{AreClashes};
 ghost use Rattle.ctt_text.specs.Belonging.{AreCurricula};
 ghost use Rattle.ctt_text.specs.Taught.{AreTaught};
-ghost use Rattle.ctt_text.specs.Labels.{AreLabels, AreSlotLabels};
 ghost use Rattle.ctt_text.specs.InstancePlaces.{GivesRead, reads, wants_memory, instance};
 ghost use Rattle.ctt_text.specs.LastSections.{last_sections};
 ghost use Rattle.ctt_text.specs.InstanceText.{Spells, InstanceBreaksAt};
@@ -33,7 +32,6 @@ use crate::instance::places::read_fixed;
 use crate::instance::rooms::{RoomSection, read_room_section};
 use crate::instance::taught::taught;
 use crate::instance::unavailability::read_unavailability_section;
-use crate::label::{Label, labels, slot_labels};
 use crate::letting::let_go;
 use crate::marks::Marks;
 use crate::reader::Reader;
@@ -71,9 +69,6 @@ struct Tables {
     clashes: Vec<Marks>,
     belonging: Vec<Vec<CurriculumNo>>,
     taught: Vec<Vec<CourseNo>>,
-    course_labels: Vec<Option<Label>>,
-    room_labels: Vec<Option<Label>>,
-    slot_labels: Vec<Option<Label>>,
 }
 
 /// What stands behind the rooms.
@@ -149,10 +144,6 @@ impl<'a> Sections<'a> {
         requires clashes { AreClashes self tables.clashes.items }
         requires belonging { AreCurricula self (map (λ q. q.items) tables.belonging.items) }
         requires taught { AreTaught self (map (λ q. q.items) tables.taught.items) }
-        requires course_labels { AreLabels self.course_names tables.course_labels.items }
-        requires room_labels { AreLabels self.room_names tables.room_labels.items }
-        requires slot_labels { AreSlotLabels (slot_count self) self.periods
-            tables.slot_labels.items }
         ensures { result ≡ self.entry }
     {
         let Sections {
@@ -178,9 +169,6 @@ impl<'a> Sections<'a> {
             clashes: tables.clashes,
             belonging: tables.belonging,
             taught: tables.taught,
-            course_labels: tables.course_labels,
-            room_labels: tables.room_labels,
-            slot_labels: tables.slot_labels,
         }
     }
 
@@ -213,18 +201,6 @@ impl<'a> Sections<'a> {
         Ok(lists)
     }
 
-    /// The labels of the slots.
-    fn slot_labels(&self, alloc: Global) -> Result<Vec<Option<Label>>, AllocError>
-        requires problem { IsProblem self.now }
-        ensures { IfOk result (λ labels.
-            AreSlotLabels (slot_count self.now) self.now.periods labels.items) }
-    {
-        let periods = self.header.periods as u16;
-        let slots = self.header.days as u16 * periods;
-        let labels = slot_labels(alloc, slots, periods)?;
-        Ok(labels)
-    }
-
     /// What the instance has beside the sections, which are lent: where memory is refused, none of
     /// them is let go here.
     fn tables(&self, alloc: Global) -> Result<Tables, AllocError>
@@ -235,27 +211,16 @@ impl<'a> Sections<'a> {
         ensures belonging { IfOk result (λ t.
             AreCurricula self.now (map (λ q. q.items) t.belonging.items)) }
         ensures taught { IfOk result (λ t. AreTaught self.now (map (λ q. q.items) t.taught.items)) }
-        ensures course_labels { IfOk result (λ t.
-            AreLabels self.now.course_names t.course_labels.items) }
-        ensures room_labels { IfOk result (λ t. AreLabels self.now.room_names t.room_labels.items) }
-        ensures slot_labels { IfOk result (λ t.
-            AreSlotLabels (slot_count self.now) self.now.periods t.slot_labels.items) }
     {
         let clashes = self.clashes(alloc)?;
         let belonging = self.belonging(alloc)?;
         let taught = self.taught(alloc)?;
-        let course_labels = labels(alloc, &self.courses.names)?;
-        let room_labels = labels(alloc, &self.rooms.names)?;
-        let slot_labels = self.slot_labels(alloc)?;
         let name = String::from_str(alloc, self.header.name)?;
         Ok(Tables {
             name,
             clashes,
             belonging,
             taught,
-            course_labels,
-            room_labels,
-            slot_labels,
         })
     }
 

@@ -10,7 +10,7 @@ use crate::fault::ReadFault;
 use crate::instance::courses::CourseSection;
 use crate::instance::header::Header;
 use crate::instance::pair_marks::PairMarks;
-use crate::instance::places::{read_course_near, read_day, read_fixed, read_period};
+use crate::instance::places::{read_course, read_day, read_fixed, read_period};
 use crate::names::Names;
 use crate::reader::Reader;
 use std::alloc::Global;
@@ -20,11 +20,10 @@ use std::alloc::Global;
 fn read_one_period(
     reader: &mut Reader,
     courses: &Names,
-    guess: usize,
     days: u32,
     periods: u32,
     table: &mut PairMarks,
-) -> Result<usize, ReadFault>
+) -> Result<(), ReadFault>
     requires slots { days * periods ≤ 2000 }
     requires rows { table.old.rows ≡ length courses.now }
     requires width { table.old.width ≡ days * periods }
@@ -33,11 +32,11 @@ fn read_one_period(
     ensures exact { GivesRead (λ _. (table.new.marks, reader.new)) result
         (reads (unavailability courses.now days periods table.old.marks) reader.old) }
 {
-    let course = read_course_near(reader, courses, guess)?;
+    let course = read_course(reader, courses)?;
     let day = read_day(reader, days)?;
     let period = read_period(reader, periods)?;
     table.mark(course, (day * periods + period) as usize);
-    Ok(course)
+    Ok(())
 }
 
 /// Reads so many periods in which a course is unavailable.
@@ -57,9 +56,8 @@ fn read_periods(
     ensures exact { GivesRead (λ _. (table.new.marks, reader.new)) result
         (reads (times (unavailability courses.now days periods) count table.old.marks) reader.old) }
 {
-    let mut course = 0;
     for _ in 0..count {
-        course = read_one_period(reader, courses, course, days, periods, table)?;
+        read_one_period(reader, courses, days, periods, table)?;
     }
     Ok(())
 }
