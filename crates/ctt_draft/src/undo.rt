@@ -66,7 +66,8 @@ impl Undo {
         requires slot { slot < self.now.slots }
         ensures { result ≡ is_named course slot self.now.cells }
     {
-        self.marks.is_marked(slot.get() as usize, course.get() as usize)
+        self.marks
+            .is_marked(slot.get() as usize, course.get() as usize)
     }
 
     /// Records these cells, of those that are not recorded yet, with the rooms that are there.
