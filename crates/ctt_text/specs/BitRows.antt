@@ -1,5 +1,6 @@
 -- Rows of bits, which mark small numbers.
-use Rattle.std.specs.Prelude.{◌≡◌, ◌≤◌, ℕ, ◌+◌, ◌*◌, ◌/◌, Bool, false, cond, ◌&&◌, ◌==◌, List, length, take, drop}
+use Rattle.std.specs.Prelude.{◌≡◌, ◌≤◌, ℕ, ◌+◌, ◌*◌, ◌/◌, ◌%◌, Bool, false, cond, ◌&&◌, ◌==◌, List, length, take, drop, map}
+use Rattle.std.specs.List.{range_with_len}
 use Rattle.ctt_text.specs.Marks.{is_marked}
 
 -- rows of so many numbers, by the words that hold their marks
@@ -19,6 +20,14 @@ words_of g row = take (words_for g.width) (drop (row * words_for g.width) g.word
 -- whether a number of a row is marked
 unfoldable pub is_marked_in : BitTable → ℕ → ℕ → Bool
 is_marked_in g row n = is_marked (words_of g row) n
+
+-- the marks of all rows, one row after another
+unfoldable pub marks_of : BitTable → List Bool
+marks_of g = map (λ k. is_marked_in g (k / g.width) (k % g.width)) (range_with_len 0 (g.rows * g.width))
+
+-- the table has so many rows and columns
+abbrev pub HasSize : BitTable → ℕ → ℕ → Type 0
+HasSize g rows width = (g.rows ≡ rows) × (g.width ≡ width)
 
 -- each row has its words, and marks on its numbers alone
 pub record IsBitTable (g : BitTable) : Type 0 where

@@ -1,8 +1,9 @@
 //! Rows of bits, which mark small numbers in each row anew.
 
 ghost use Rattle.std.specs.Prelude.{◌≡◌, ◌<◌, ◌≤◌, ℕ, true, false, IfOk};
+ghost use Rattle.std.specs.List.{list_any};
 ghost use Rattle.ctt_text.specs.Marks.{is_marked};
-ghost use Rattle.ctt_text.specs.BitRows.{is_marked_in, words_for, SetsMark};
+ghost use Rattle.ctt_text.specs.BitRows.{is_marked_in, marks_of, words_for, HasSize, SetsMark};
 
 use crate::marks::Marks;
 use std::alloc::{AllocError, Global};
@@ -41,7 +42,7 @@ impl BitRows {
     pub fn new(alloc: Global, rows: usize, width: usize) -> Result<Self, AllocError>
         requires rows { rows ≤ 2000 }
         requires width { width ≤ 2000 }
-        ensures size { IfOk result (λ b. (b.rows ≡ rows) × (b.width ≡ width)) }
+        ensures size { IfOk result (λ b. HasSize b rows width) }
         ensures marks { IfOk result (λ b. (row n : ℕ) → is_marked_in b row n ≡ false) }
     {
         let words = vec![in alloc; 0; rows * words_for(width)]?;
@@ -76,6 +77,18 @@ impl BitRows {
     {
         let place = row * words_for(self.width) + number / 64;
         (self.words[place] >> (number % 64)) & 1 == 1
+    }
+
+    /// Whether any number of any row is marked.
+    pub(crate) fn has_marks(&self) -> bool
+        ensures { result ≡ list_any (λ b. b) (marks_of self.now) }
+    {
+        for word in &self.words {
+            if *word != 0 {
+                return true;
+            }
+        }
+        false
     }
 
     /// The marks of a row.
