@@ -26,7 +26,6 @@ mod CutLemmas
 pub mod LawfulLemmas
 pub mod SettleLemmas
 pub mod FitLemmas
-mod MarkRowLemmas
 mod MeetingLemmas
 mod ClashLemmas
 pub mod SameLemmas

@@ -11,7 +11,7 @@ use Rattle.std.proofs.lemmas.Bool.{eqb-true, eqb-false}
 use Rattle.std.proofs.lemmas.Bool.Decides.{nat_tests}
 use Rattle.ctt_text.specs.Lists.{has}
 use Rattle.ctt_text.specs.Marks.{is_marked}
-use Rattle.ctt_text.specs.Tables.{mark_at, AddsMarks, MarkTable, marks_below}
+use Rattle.ctt_text.specs.Tables.{mark_at, AddsMarks}
 
 -- by cases
 pub bool_case : (C : Type 0) (b : Bool) → (b ≡ true → C) → (b ≡ false → C) → C
@@ -128,39 +128,9 @@ same_element [] i d e lt = absurd (omega (arith, lt))
 same_element (x ∷ xs) zero d e lt = refl
 same_element (x ∷ xs) (suc i) d e lt = same_element xs i d e (omega (arith, lt))
 
--- two tables of one width
-pub table_same : (r s w : ℕ) (m n : List Bool) → r ≡ s → m ≡ n → ◌≡◌ {A = MarkTable} (record { rows = r; width = w; marks = m }) (record { rows = s; width = w; marks = n })
-table_same r s w m n rows marks = ap₂ (λ a b. record { rows = a; width = w; marks = b }) rows marks
-
 -- a place of a table is in it
 pub place_within : (r c w n : ℕ) → r < n → c < w → r * w + c < n * w
 place_within r c w n row column = omega (arith, row_fits r w n w row (le_refl w))
-
--- the marks below a number
-pub mark_of : (n : ℕ) (words : List ℕ) (k : ℕ) → k < n → get_or (marks_below n words) k false ≡ is_marked words k
-unfolding marks_below
-mark_of n words k lt = get_or-map-range_with_len (λ k. is_marked words k) 0 n k k false lt (zero-add k)
-
-marks_length : (n : ℕ) (words : List ℕ) → length (marks_below n words) ≡ n
-unfolding marks_below
-marks_length n words = length-map-range_with_len (λ k. is_marked words k) 0 n
-
--- none is marked
-pub marks_none : (n : ℕ) (words : List ℕ) → ((k : ℕ) → is_marked words k ≡ false) → marks_below n words ≡ replicate n false
-marks_none n words none = ext_get_or false (marks_below n words) (replicate n false) (marks_length n words ∙ sym (length-replicate n false))
-    (λ k lt.
-    let less : k < n = subst (λ m. k < m) (marks_length n words) lt in
-    mark_of n words k less ∙ none k ∙ sym (get_or-replicate n k false false less))
-
--- one more is marked
-pub marks_more : (n : ℕ) (words next : List ℕ) (m : ℕ) → m < n → ((k : ℕ) → is_marked next k ≡ cond (k == m) true (is_marked words k)) → marks_below n next ≡ slice_set (marks_below n words) m true
-marks_more n words next m within wrote = ext_get_or false (marks_below n next) (slice_set (marks_below n words) m true)
-    (marks_length n next ∙ sym (length-set (marks_below n words) m true ∙ marks_length n words))
-    (λ k lt.
-    let less : k < n = subst (λ j. k < j) (marks_length n next) lt in
-    mark_of n next k less ∙ wrote k ∙ bool_case _ (k == m)
-    (λ is. rw is (sym (get_or-set_at (marks_below n words) m k true false (eqb-true k m is) (subst (λ j. m < j) (sym (marks_length n words)) within))))
-    (λ isnt. rw isnt (sym (get_or-set_other (marks_below n words) m k true false (eqb-false k m isnt) ∙ mark_of n words k less))))
 
 -- in rows that are all alike, where none is marked
 pub alike_unmarked : (words : List ℕ) (k r n : ℕ) → ((m : ℕ) → is_marked words m ≡ false) → mark_at (replicate k words) r n ≡ false

@@ -4,15 +4,11 @@ use Rattle.std.specs.List.{list_any}
 use Rattle.std.specs.String.{string_bytes}
 use Rattle.ctt_text.specs.Problem.{Problem, IsProblem, course_count, slot_count, room_count, clash}
 use Rattle.ctt_text.specs.Named.{IsNamed}
-use Rattle.ctt_text.specs.Tables.{mark_at, MarkTable, IsTableOf}
+use Rattle.ctt_text.specs.Tables.{mark_at}
+use Rattle.ctt_text.specs.BitRows.{marks_of, HasSize}
 use Rattle.ctt_text.specs.Belonging.{AreCurricula}
 use Rattle.ctt_text.specs.Taught.{AreTaught}
 use Rattle.ctt_text.specs.declared.instance.Instance.TheInside.{Inside}
-
--- so many marks: those of a table, and none where there is no table
-abbrev pub marks_in : ℕ → Option MarkTable → List Bool
-marks_in n None = replicate n false
-marks_in n (Some table) = table.marks
 
 abbrev pub problem_in : Inside → Problem
 problem_in i = record {
@@ -26,8 +22,8 @@ problem_in i = record {
   curricula = map (λ q. q.items) i.curricula.items;
   days = i.days;
   periods = i.periods;
-  unavailable = i.unavailable.marks;
-  barred = marks_in (length i.courses.items * length i.capacities.items) i.barred;
+  unavailable = marks_of i.unavailable;
+  barred = marks_of i.barred;
 }
 
 -- the rows of the clashes
@@ -35,17 +31,11 @@ pub record AreClashes (p : Problem) (rows : List (List ℕ)) : Type 0 where
   pub size : length rows ≡ course_count p
   pub marks : (c d : ℕ) → c < course_count p → mark_at rows c d ≡ (nat_lt d (course_count p) && clash p c d)
 
--- a table of so many rows and columns, which has a mark
-pub record HasMarks (rows width : ℕ) (table : MarkTable) : Type 0 where
-  pub size : IsTableOf rows width table
-  pub all : length table.marks ≡ rows * width
-  pub some : list_any (λ b. b) table.marks ≡ true
-
 pub record IsInstance (i : Inside) : Type 0 where
   pub problem : IsProblem (problem_in i)
   pub named : IsNamed (problem_in i)
   pub clashes : AreClashes (problem_in i) i.clashes.items
-  pub available : IsTableOf (course_count (problem_in i)) (slot_count (problem_in i)) i.unavailable
-  pub barred : IfSome i.barred (HasMarks (course_count (problem_in i)) (room_count (problem_in i)))
+  pub available : HasSize i.unavailable (course_count (problem_in i)) (slot_count (problem_in i))
+  pub barred : HasSize i.barred (course_count (problem_in i)) (room_count (problem_in i))
   pub belonging : AreCurricula (problem_in i) (map (λ q. q.items) i.belonging.items)
   pub taught : AreTaught (problem_in i) (map (λ q. q.items) i.taught.items)

@@ -6,7 +6,8 @@ ghost use Rattle.std.specs.String.{string_bytes};
 ghost use Rattle.std.specs.Str.Lossy.{utf8_valid_len};
 ghost use Rattle.ctt_text.specs.Words.{words};
 ghost use Rattle.ctt_text.specs.Reading.{Gives};
-ghost use Rattle.ctt_text.specs.Problem.{Problem, IsProblem};
+ghost use Rattle.ctt_text.specs.Problem.{Problem, IsProblem, course_count, room_count, slot_count};
+ghost use Rattle.ctt_text.specs.BitRows.{marks_of, HasSize};
 ghost use Rattle.ctt_text.specs.Named.{IsNamed};
 ghost use Rattle.ctt_text.specs.Ranked.{AreRanked};
 ghost use Rattle.ctt_text.specs.Instance.{AreClashes};
@@ -19,6 +20,7 @@ ghost use Rattle.ctt_text.specs.InstanceLaws.{answer, IsCauseOf};
 ghost use Rattle.ctt_text.specs.declared.fault.ReadFault.{ReadFault};
 ghost use Rattle.ctt_text.specs.declared.fault.ReadFault.TheVariants.{NoMemory, NotText};
 
+use crate::bit_rows::BitRows;
 use crate::fault::ReadFault;
 use crate::ids::{CourseNo, CurriculumNo};
 use crate::instance::Instance;
@@ -27,7 +29,6 @@ use crate::instance::clashes::clash_rows;
 use crate::instance::courses::{CourseSection, read_course_section};
 use crate::instance::curricula::{CurriculumSection, read_curriculum_section};
 use crate::instance::header::{Header, read_header};
-use crate::instance::pair_marks::PairMarks;
 use crate::instance::places::read_fixed;
 use crate::instance::rooms::{RoomSection, read_room_section};
 use crate::instance::taught::taught;
@@ -45,27 +46,28 @@ struct Sections<'a> {
     courses: CourseSection,
     rooms: RoomSection,
     curricula: CurriculumSection,
-    unavailable: PairMarks,
+    unavailable: BitRows,
 }
 
 impl<'a> Model for Sections<'a> {
     ghost use Rattle.ctt_text.specs.Problem.{Problem};
     ghost use Rattle.std.specs.Prelude.{◌*◌, length};
     ghost use Rattle.ctt_text.specs.InstancePlaces.{problem_of};
-    ghost use Rattle.ctt_text.specs.Tables.{IsTableOf};
+    ghost use Rattle.ctt_text.specs.BitRows.{marks_of, HasSize};
 
     ghost Value = { Problem };
 
-    ghost view = { λ s. problem_of s.header s.courses s.rooms s.curricula s.unavailable.marks };
+    ghost view = { λ s. problem_of s.header s.courses s.rooms s.curricula (marks_of s.unavailable) };
 
     ghost invariant = { λ s.
-        IsTableOf (length s.courses.names) (s.header.days * s.header.periods) s.unavailable };
+        HasSize s.unavailable (length s.courses.names) (s.header.days * s.header.periods) };
 }
 
 /// What an instance has beside the sections of its text.
 #[derive(Drop)]
 struct Tables {
     name: String,
+    barred: BitRows,
     clashes: Vec<Marks>,
     belonging: Vec<Vec<CurriculumNo>>,
     taught: Vec<Vec<CourseNo>>,
@@ -75,7 +77,7 @@ struct Tables {
 #[derive(Drop)]
 struct LastSections {
     curricula: CurriculumSection,
-    unavailable: PairMarks,
+    unavailable: BitRows,
 }
 
 /// Reads what stands behind the rooms, up to the word at the end.
@@ -89,10 +91,9 @@ fn read_last_sections<'a>(
     requires slots { header.now.days * header.now.periods ≤ 2000 }
     requires courses { length courses.now.names ≡ header.now.courses }
     requires few { header.now.courses ≤ 2000 }
-    ensures rows { IfOk result (λ last. last.unavailable.rows ≡ header.now.courses) }
-    ensures width { IfOk result (λ last.
-        last.unavailable.width ≡ header.now.days * header.now.periods) }
-    ensures exact { GivesRead (λ last. ((last.curricula, last.unavailable.marks), reader.new))
+    ensures size { IfOk result (λ last.
+        HasSize last.unavailable header.now.courses (header.now.days * header.now.periods)) }
+    ensures exact { GivesRead (λ last. ((last.curricula, marks_of last.unavailable), reader.new))
         result (reads (last_sections header.now courses.now.names) reader.old) }
 {
     let curricula = read_curriculum_section(alloc, reader, header, courses)?;
@@ -141,6 +142,8 @@ impl<'a> Sections<'a> {
         requires problem { IsProblem self }
         requires named { IsNamed self }
         requires name { string_bytes tables.name ≡ self.name }
+        requires barred { HasSize tables.barred (course_count self) (room_count self) }
+        requires none_barred { marks_of tables.barred ≡ self.barred }
         requires clashes { AreClashes self tables.clashes.items }
         requires belonging { AreCurricula self (map (λ q. q.items) tables.belonging.items) }
         requires taught { AreTaught self (map (λ q. q.items) tables.taught.items) }
@@ -165,11 +168,27 @@ impl<'a> Sections<'a> {
             days: header.days as u16,
             periods: header.periods as u16,
             unavailable,
-            barred: None,
+            barred: tables.barred,
             clashes: tables.clashes,
             belonging: tables.belonging,
             taught: tables.taught,
         }
+    }
+
+    /// No room is barred for any course.
+    #[tactic(auto, using(crate::proofs::BitRowLemmas::marks_none))]
+    fn barred(&self, alloc: Global) -> Result<BitRows, AllocError>
+        requires problem { IsProblem self.now }
+        ensures size { IfOk result (λ table.
+            HasSize table (course_count self.now) (room_count self.now)) }
+        ensures none { IfOk result (λ table. marks_of table ≡ self.now.barred) }
+    {
+        let table = BitRows::new(
+            alloc,
+            self.courses.facts.len(),
+            self.rooms.capacities.len(),
+        )?;
+        Ok(table)
     }
 
     /// For each course, those that it clashes with.
@@ -207,17 +226,22 @@ impl<'a> Sections<'a> {
         requires problem { IsProblem self.now }
         requires ranked { AreRanked self.now.courses }
         ensures name { IfOk result (λ t. string_bytes t.name ≡ self.now.name) }
+        ensures barred { IfOk result (λ t.
+            HasSize t.barred (course_count self.now) (room_count self.now)) }
+        ensures none_barred { IfOk result (λ t. marks_of t.barred ≡ self.now.barred) }
         ensures clashes { IfOk result (λ t. AreClashes self.now t.clashes.items) }
         ensures belonging { IfOk result (λ t.
             AreCurricula self.now (map (λ q. q.items) t.belonging.items)) }
         ensures taught { IfOk result (λ t. AreTaught self.now (map (λ q. q.items) t.taught.items)) }
     {
+        let barred = self.barred(alloc)?;
         let clashes = self.clashes(alloc)?;
         let belonging = self.belonging(alloc)?;
         let taught = self.taught(alloc)?;
         let name = String::from_str(alloc, self.header.name)?;
         Ok(Tables {
             name,
+            barred,
             clashes,
             belonging,
             taught,
