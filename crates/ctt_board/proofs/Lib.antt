@@ -15,14 +15,12 @@ pub mod CountsLemmas
 pub mod SeenLemmas
 pub mod SlotFacts
 pub mod GridLemmas
-mod ColumnLemmas
 pub mod BetweenLemmas
 pub mod SheetLemmas
 pub mod GainLemmas
 pub mod HolderLemmas
 mod AfterLemmas
 mod FewLemmas
-mod CutLemmas
 pub mod LawfulLemmas
 pub mod SettleLemmas
 pub mod FitLemmas
@@ -30,4 +28,3 @@ mod MarkRowLemmas
 mod MeetingLemmas
 mod ClashLemmas
 pub mod SameLemmas
-mod FilledLemmas
