@@ -5,10 +5,10 @@ use Rattle.std.specs.Int.{bit_at, bit_not}
 use Rattle.std.proofs.lemmas.Bool.{eq-eqb, eqb-true, eqb-false}
 use Rattle.std.proofs.lemmas.List.{get_or-set_same, get_or-set_other, length-set, ext_get_or}
 use Rattle.std.proofs.lemmas.List.FromFn.{length-map-range_with_len, get_or-map-range_with_len}
-use Rattle.std.proofs.lemmas.Nat.{mod_below, div_below}
-use Rattle.std.proofs.lemmas.Nat.Bits.{bit_at-lt, shr_and_one, bit_at_set_same, bit_at_set_other, bit_at_clear_same, bit_at_clear_other}
+use Rattle.std.proofs.lemmas.Nat.{div_below}
+use Rattle.std.proofs.lemmas.Nat.Bits.{bit_at-lt, shr_and_one}
 use Rattle.ctt_text.specs.Marks.{is_marked}
-use Rattle.ctt_text.proofs.MarkLemmas.{one_changed}
+use Rattle.ctt_text.proofs.BitRowLemmas.{marked_set, marked_clear}
 use Rattle.ctt_text.proofs.TableLemmas.{bool_case}
 use Rattle.ctt_board.specs.Tables.{Grid, at, Adds, AreBits, one_at, bits_of}
 use Rattle.ctt_board.proofs.TableLemmas.{in_table, at_set, set_more}
@@ -49,19 +49,6 @@ one_more rows width row column words next less lt none wrote =
     let cells = bits_set (rows * width) words next (row * width + column) true within wrote in
     set_more (table rows width words) (table rows width next) row column 1 refl refl (omega (arith, none))
     (λ r k d small. ap (λ list. get_or list (r * width + k) d) cells ∙ at_set (bits_of (rows * width) words) width row column r k 1 d lt small (omega (arith, within, bits_length (rows * width) words)))
-
--- one bit of a word, by the number of the bit among all
-pub marked_set : (words : List ℕ) (n number low w : ℕ) → number ≡ n / 64 → low ≡ n % 64 → number < length words → w ≡ get_or words number 0 → (k : ℕ) → is_marked (slice_set words number (bit_or w (1 * 2 ^ low % 2 ^ 64))) k ≡ cond (k == n) true (is_marked words k)
-marked_set words n number low w en el within is =
-    rw (en, el) (one_changed words n (bit_or w (1 * 2 ^ (n % 64) % 2 ^ 64)) true (omega (arith, within, en))
-    (ap (λ b. b == 1) (bit_at_set_same w64 w (n % 64) (mod_below n 64 (omega arith))))
-    (λ k small other. bit_at_set_other w64 w (n % 64) (mod_below n 64 (omega arith)) k other ∙ ap (λ v. bit_at v k) (is ∙ ap (λ m. get_or words m 0) en)))
-
-pub marked_clear : (words : List ℕ) (n number low w : ℕ) → number ≡ n / 64 → low ≡ n % 64 → number < length words → w ≡ get_or words number 0 → (k : ℕ) → is_marked (slice_set words number (bit_and w (bit_not w64 (1 * 2 ^ low % 2 ^ 64)))) k ≡ cond (k == n) false (is_marked words k)
-marked_clear words n number low w en el within is =
-    rw (en, el) (one_changed words n (bit_and w (bit_not w64 (1 * 2 ^ (n % 64) % 2 ^ 64))) false (omega (arith, within, en))
-    (ap (λ b. b == 1) (bit_at_clear_same w64 w (n % 64) (mod_below n 64 (omega arith))))
-    (λ k small other. bit_at_clear_other w64 w (n % 64) (mod_below n 64 (omega arith)) k small other ∙ ap (λ v. bit_at v k) (is ∙ ap (λ m. get_or words m 0) en)))
 
 module _ (rows width row column : ℕ) (words : List ℕ) (less : row < rows) (lt : column < width) (are : AreBits (rows * width) words) where
   within : row * width + column < rows * width

@@ -24,7 +24,6 @@ mod FewLemmas
 pub mod LawfulLemmas
 pub mod SettleLemmas
 pub mod FitLemmas
-mod MarkRowLemmas
 mod MeetingLemmas
 mod ClashLemmas
 pub mod SameLemmas

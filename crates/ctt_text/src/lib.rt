@@ -1,6 +1,7 @@
 //! The texts of curriculum-based course timetabling: instances, solutions and barred rooms.
 #![tactic(auto)]
 
+mod bit_rows;
 mod compact;
 mod course_facts;
 mod fault;
@@ -24,6 +25,7 @@ mod solution;
 mod timetable;
 mod words;
 
+pub use bit_rows::BitRows;
 pub use compact::Compact;
 pub use course_facts::CourseFacts;
 pub use fault::{BarredFault, ReadFault, SolutionFault};
