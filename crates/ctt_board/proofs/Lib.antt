@@ -7,7 +7,6 @@ pub mod RowLemmas
 pub mod CostLemmas
 pub mod MoreLemmas
 pub mod TableLemmas
-mod BitLemmas
 pub mod CountedLemmas
 pub mod JoiningLemmas
 pub mod AloneLemmas

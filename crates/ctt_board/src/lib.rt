@@ -2,7 +2,6 @@
 #![tactic(auto)]
 
 mod after;
-mod bits;
 mod cell;
 mod change;
 mod clashes;
