@@ -1,7 +1,7 @@
 -- Counts that are seen through a change are those of the timetable after it.
 use Rattle.std.proofs.Common.{◌≡◌, ℕ, ◌+◌, ◌-◌, ◌<◌, ◌≤◌, Bool, true, false, cond, ◌&&◌, ◌||◌, ◌==◌, ltb, List, [], ◌∷◌, ◌++◌, length, refl, ◌∙◌, sym, ap, ap₂, subst, arith, inl, inr}
-use Rattle.std.specs.List.{sum_by, count_by, list_any, AllByRecursion as Each}
-use Rattle.std.proofs.lemmas.Bool.{cases_lt, eq-eqb, ne_eqb, lt-ltb, le-ltb, or_parts}
+use Rattle.std.specs.List.{sum_by, count_by, AllByRecursion as Each}
+use Rattle.std.proofs.lemmas.Bool.{cases_lt, eq-eqb, ne_eqb, lt-ltb, le-ltb}
 use Rattle.std.proofs.lemmas.Bool.Decides.{nat_tests}
 use Rattle.std.proofs.lemmas.List.Sums.{sum_by-cons, sum_by-append, length-filter}
 use Rattle.ctt_text.specs.Lists.{has}
@@ -51,19 +51,6 @@ none_there i q s (x ∷ xs) le h =
     let lt : x.slot < slot_count i = h.0 in
     let no' : in_slot q s x ≡ false = ap (λ b. has x.course q && b) (ne_eqb x.slot s (λ e. omega (arith, e, lt, le))) ∙ turned_and (has x.course q) false in
     omega (arith, sum_by-cons (λ l. cond (in_slot q s l) 1 0) x xs, none_there i q s xs le h.1, ap (λ b. cond {A = ℕ} b 1 0) no')
-
-none_in_slot : (q : List ℕ) (s : ℕ) (ls : List Placed) → list_any (λ (l : Placed). l.slot == s) ls ≡ false → count_by (in_slot q s) ls ≡ 0
-none_in_slot q s [] e = refl
-none_in_slot q s (x ∷ xs) e =
-    let parts = or_parts (x.slot == s) (list_any (λ (l : Placed). l.slot == s) xs) e in
-    let other : in_slot q s x ≡ false = ap (λ b. has x.course q && b) parts.0 ∙ turned_and (has x.course q) false in
-    omega (arith, sum_by-cons (λ l. cond (in_slot q s l) 1 0) x xs, none_in_slot q s xs parts.1, ap (λ b. cond {A = ℕ} b 1 0) other)
-
--- a slot that no lecture comes to, or leaves
-pub unchanged : (v : Later) (q : List ℕ) (s n : ℕ) → (list_any (λ (l : Placed). l.slot == s) v.added.items || list_any (λ (l : Placed). l.slot == s) v.removed.items) ≡ false → seen v (in_slot q s) n ≡ n
-unchanged v q s n e =
-    let parts = or_parts (list_any (λ (l : Placed). l.slot == s) v.added.items) (list_any (λ (l : Placed). l.slot == s) v.removed.items) e in
-    omega (arith, none_in_slot q s v.added.items parts.0, none_in_slot q s v.removed.items parts.1)
 
 module _ (i : Problem) (v : Later) (t : List Placed) (h : Sees i v t) where
   seen_is : (p : Placed → Bool) (n : ℕ) → n ≡ count_by p h.base → seen v p n ≡ count_by p t

@@ -1,10 +1,10 @@
 -- Writes to a table.
-use Rattle.std.proofs.Common.{◌≡◌, ◌≢◌, ℕ, suc, ◌+◌, ◌-◌, ◌*◌, ◌<◌, ◌≤◌, Bool, true, false, cond, ◌&&◌, ◌==◌, List, length, take, drop, get_or, set, count_by, refl, ◌∙◌, sym, ap, ap₂, arith, inl, inr}
+use Rattle.std.proofs.Common.{◌≡◌, ◌≢◌, ℕ, suc, ◌+◌, ◌*◌, ◌<◌, ◌≤◌, Bool, true, false, cond, ◌&&◌, ◌==◌, List, length, take, get_or, set, count_by, refl, ◌∙◌, sym, ap, ap₂, arith, inl, inr}
 use Rattle.std.proofs.lemmas.Bool.{cases_Bool, cases_eq, cases_order, eq-eqb, ne_eqb, eqb-true, and_parts}
 use Rattle.std.proofs.lemmas.Bool.Decides.{nat_tests}
 use Rattle.std.proofs.lemmas.List.Sums.{sum_by_more, sum_by-take-le}
 use Rattle.ctt_board.specs.Tables.{Grid, at, Adds, one_at, in_column}
-use Rattle.std.proofs.lemmas.List.{get_or-set_same, get_or-set_other, get_or-take, get_or-drop, length-take-le, length-drop}
+use Rattle.std.proofs.lemmas.List.{get_or-set_same, get_or-set_other}
 use Rattle.std.proofs.Math.Nat.{mul-le-mul_right}
 
 -- a place in a row before is another place
@@ -34,16 +34,6 @@ at_set cells w r c r2 c2 x d lt lt2 within = elim (cases_order r2 r) [
 -- a place of a row that there is
 pub in_table : (w rows r c : ℕ) → r < rows → c < w → r * w + c < rows * w
 in_table w rows r c less lt = (let all : suc r * w ≤ rows * w = mul-le-mul_right w less in omega (arith, all))
-
--- the cells of a row, cut out of all cells
-pub row_inside : (w rows r : ℕ) → r < rows → r * w + w ≤ rows * w
-row_inside w rows r less = (let all : suc r * w ≤ rows * w = mul-le-mul_right w less in omega (arith, all))
-
-pub row_of : {X : Type 0} (cells : List X) (start w column : ℕ) (d : X) → column < w → get_or (take (start + w - start) (drop start cells)) column d ≡ get_or cells (start + column) d
-row_of cells start w column d lt = get_or-take (start + w - start) (drop start cells) column d (omega (arith, lt)) ∙ get_or-drop start cells column d
-
-pub length_of_row : {X : Type 0} (cells : List X) (start w : ℕ) → start + w ≤ length cells → length (take (start + w - start) (drop start cells)) ≡ w
-length_of_row cells start w le = length-take-le (start + w - start) (drop start cells) (rw length-drop (omega (arith, le))) ∙ omega arith
 
 -- one more at a place
 pub set_more : (old new : Grid ℕ) (row column n : ℕ) → new.rows ≡ old.rows → new.width ≡ old.width → n ≡ at old row column 0 + 1 → ((r k d : ℕ) → k < old.width → at new r k d ≡ cond (r == row && k == column) n (at old r k d)) → Adds old new (one_at true row column)

@@ -4,7 +4,6 @@ ghost use Rattle.std.specs.Prelude.{◌≡◌, ◌<◌, true, IfOk, []};
 ghost use Rattle.ctt_text.specs.Timetable.{Fits};
 ghost use Rattle.ctt_board.specs.Counts.{AreCounts, HaveSizes, HaveRoom, HaveNone, HaveLecture, AddsLecture};
 
-use crate::bits::Bits;
 use crate::table::Table;
 use crate::tally::{add, add_column, add_one, take, take_column, take_one};
 use ctt_text::{CourseNo, Instance, Placed, SlotNo};
@@ -21,8 +20,8 @@ pub(crate) struct Counts {
     pub(crate) used: Table<u16>,
     /// The lectures of each course in each room.
     pub(crate) rooms: Table<u16>,
-    /// Those of each curriculum in each slot, of which there is one at most.
-    pub(crate) curricula: Bits,
+    /// Those of each curriculum in each slot.
+    pub(crate) curricula: Table<u16>,
 }
 
 impl Counts {
@@ -40,7 +39,7 @@ impl Counts {
             days: Table::new(alloc, courses, instance.days() as usize, 0)?,
             used: Table::new(alloc, 1, courses, 0)?,
             rooms: Table::new(alloc, courses, instance.rooms() as usize, 0)?,
-            curricula: Bits::new(alloc, curricula, slots)?,
+            curricula: Table::new(alloc, curricula, slots, 0)?,
         })
     }
 

@@ -81,13 +81,6 @@ fn is_in_slot(instance: &Instance, lecture: &Placed, curriculum: CurriculumNo, s
     lecture.slot == slot && instance.members(curriculum).contains(&lecture.course)
 }
 
-/// Whether one of the lectures is in a slot.
-fn is_any_in(lectures: &[Placed], slot: SlotNo) -> bool
-    ensures { result ≡ list_any (λ l. l.slot == slot) lectures.now }
-{
-    lectures.iter().any(|l| l.slot == slot)
-}
-
 /// How many of the lectures are of a curriculum in a slot.
 fn in_slot(instance: &Instance, lectures: &[Placed], curriculum: CurriculumNo, slot: SlotNo) -> u64
     requires few { length lectures.now ≤ 4 }
@@ -214,41 +207,9 @@ impl<'a> Later<'a> {
             .counts
             .curricula
             .get(curriculum.get() as usize, slot.get() as usize);
-        if self.changes(slot) {
-            self.changed_in_slot(instance, curriculum, slot, count)
-        } else {
-            count
-        }
-    }
-
-    /// Whether a lecture comes to a slot, or leaves it.
-    fn changes(&self, slot: SlotNo) -> bool
-        ensures { result
-            ≡ (list_any (λ l. l.slot == slot) self.now.added.items
-            || list_any (λ l. l.slot == slot) self.now.removed.items) }
-    {
-        is_any_in(&self.added, slot) || is_any_in(&self.removed, slot)
-    }
-
-    /// So many lectures of a curriculum in a slot, with those that come to it and without those
-    /// that leave it.
-    #[inline(never)]
-    fn changed_in_slot(
-        &self,
-        instance: &Instance,
-        curriculum: CurriculumNo,
-        slot: SlotNo,
-        count: u64,
-    ) -> u64
-        requires curriculum { curriculum < curriculum_count instance.now }
-        requires count { count ≤ 1 }
-        ensures value { result
-            ≡ seen self.now (in_slot (members instance.now curriculum) slot) count }
-        ensures bound { result ≤ 5000000000 }
-    {
         let more = in_slot(instance, &self.added, curriculum, slot);
         let less = in_slot(instance, &self.removed, curriculum, slot);
-        (count + more).saturating_sub(less)
+        (u64::from(count) + more).saturating_sub(less)
     }
 
     /// Lets a lecture come. Answers what it adds to the penalty.

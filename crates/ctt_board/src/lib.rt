@@ -2,14 +2,11 @@
 #![tactic(auto)]
 
 mod after;
-mod bits;
 mod cell;
 mod change;
 mod clashes;
 mod counts;
-mod course_rows;
 mod delta;
-mod filled;
 mod fitting;
 mod grid_sheet;
 mod joining;

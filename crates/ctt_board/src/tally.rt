@@ -1,10 +1,9 @@
-//! Tables of counts, and of bits.
+//! Tables of counts.
 
 ghost use Rattle.std.specs.Prelude.{◌≡◌, ℕ, ◌+◌, ◌<◌, ◌≤◌, true};
 ghost use Rattle.std.specs.List.{AllByRecursion as Each};
 ghost use Rattle.ctt_board.specs.Tables.{at, Adds, one_at, in_column};
 
-use crate::bits::Bits;
 use crate::table::Table;
 use ctt_text::CurriculumNo;
 
@@ -60,28 +59,28 @@ pub(crate) fn take(counts: &mut Table<u16>, row: usize, column: usize, wanted: b
     }
 }
 
-/// Sets the bits of one column in these rows, each named once, where they are zero.
-pub(crate) fn add_column(bits: &mut Bits, rows: &[CurriculumNo], column: usize)
-    requires rows { Each (λ r. r < bits.old.rows) rows.now }
-    requires column { column < bits.old.width }
-    requires zero { (r : ℕ) → r < bits.old.rows
-        → in_column rows.now column r column + at bits.old r column 0 ≤ 1 }
-    ensures { Adds bits.old bits.new (in_column rows.now column) }
+/// Counts one more in one column of each of these rows.
+pub(crate) fn add_column(counts: &mut Table<u16>, rows: &[CurriculumNo], column: usize)
+    requires rows { Each (λ r. r < counts.old.rows) rows.now }
+    requires column { column < counts.old.width }
+    requires few { (r : ℕ) → r < counts.old.rows
+        → in_column rows.now column r column + at counts.old r column 0 ≤ 1 }
+    ensures { Adds counts.old counts.new (in_column rows.now column) }
 {
     for row in rows {
-        bits.set(row.get() as usize, column);
+        add(counts, row.get() as usize, column, true);
     }
 }
 
-/// Clears those bits, where they are one.
-pub(crate) fn take_column(bits: &mut Bits, rows: &[CurriculumNo], column: usize)
-    requires rows { Each (λ r. r < bits.old.rows) rows.now }
-    requires column { column < bits.old.width }
-    requires one { (r : ℕ) → r < bits.old.rows
-        → in_column rows.now column r column ≤ at bits.old r column 0 }
-    ensures { Adds bits.new bits.old (in_column rows.now column) }
+/// Counts one less there.
+pub(crate) fn take_column(counts: &mut Table<u16>, rows: &[CurriculumNo], column: usize)
+    requires rows { Each (λ r. r < counts.old.rows) rows.now }
+    requires column { column < counts.old.width }
+    requires some { (r : ℕ) → r < counts.old.rows
+        → in_column rows.now column r column ≤ at counts.old r column 0 }
+    ensures { Adds counts.new counts.old (in_column rows.now column) }
 {
     for row in rows {
-        bits.clear(row.get() as usize, column);
+        take(counts, row.get() as usize, column, true);
     }
 }
