@@ -1,6 +1,6 @@
 -- A timetable is the list of its cells, and so what a table of rooms shows.
 use Rattle.std.proofs.Common.{◌≡◌, ℕ, zero, suc, ◌<◌, ◌≤◌, true, false, cond, ◌&&◌, ◌==◌, ltb, List, [], ◌++◌, ◌+◌, Option, Some, None, is_some, refl, ◌∙◌, sym, ap, ap₂, subst, arith}
-use Rattle.std.specs.List.{filter, sum_by, count_by, AllByRecursion as Each}
+use Rattle.std.specs.List.{filter, sum_by, AllByRecursion as Each}
 use Rattle.std.proofs.lemmas.Bool.{lt-ltb, le-ltb}
 use Rattle.std.proofs.lemmas.Bool.Decides.{nat_tests}
 use Rattle.ctt_text.specs.Problem.{Problem, course_count, slot_count}
@@ -8,7 +8,7 @@ use Rattle.ctt_text.specs.Timetable.{before, IsTimetable, Fits, course_row, slot
 use Rattle.ctt_text.specs.declared.placed.Placed.{Placed}
 use Rattle.ctt_text.proofs.TimetableLemmas.{Each-map}
 use Rattle.ctt_rules.specs.Hard.{Lawful}
-use Rattle.ctt_rules.specs.Penalty.{penalty, days_of}
+use Rattle.ctt_rules.specs.Penalty.{penalty}
 use Rattle.ctt_board.specs.Joining.{Joins, with_joining, without_joining}
 use Rattle.ctt_board.specs.Seen.{Sees}
 use Rattle.ctt_board.specs.declared.joining.Joining.{Joining}
@@ -100,12 +100,11 @@ pub cost_without : (i : Problem) (t u : List Placed) (j : Joining) → Joins i t
 cost_without i t u j h = cost_same (without_joining (penalty i u) j) (penalty i t) (omega (arith, h.capacity)) (omega (arith, h.days)) (omega (arith, h.compactness)) (omega (arith, h.stability))
 
 -- nothing leaves and nothing comes
-pub sees_now : (i : Problem) (t : List Placed) (v : Later) (c : Counts) → AreCounts i t c → v.counts.now ≡ c → v.removed.items ≡ [] → v.added.items ≡ [] → v.gone.items ≡ [] → v.fresh.items ≡ [] → Sees i v t
-sees_now i t v c h e1 e2 e3 e4 e5 = record {
+pub sees_now : (i : Problem) (t : List Placed) (v : Later) (c : Counts) → AreCounts i t c → v.counts.now ≡ c → v.removed.items ≡ [] → v.added.items ≡ [] → Sees i v t
+sees_now i t v c h e1 e2 e3 = record {
   base = t;
   counts = subst (λ x. AreCounts i t x) (sym e1) h;
   balance = λ f. ap (λ a. sum_by f t + sum_by f a) (e2 ∙ sym e3);
-  days = λ d lt. ap (λ a. days_of i (course_row d t) + count_by (λ x. x == d) a) (e4 ∙ sym e5);
 }
 
 pub column_same : (s : ℕ) (f g : ℕ → Option ℕ) (n : ℕ) → ((c : ℕ) → c < n → f c ≡ g c) → column_below f s n ≡ column_below g s n

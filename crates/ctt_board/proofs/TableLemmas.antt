@@ -36,10 +36,10 @@ pub in_table : (w rows r c : ℕ) → r < rows → c < w → r * w + c < rows * 
 in_table w rows r c less lt = (let all : suc r * w ≤ rows * w = mul-le-mul_right w less in omega (arith, all))
 
 -- one more at a place
-pub set_more : (old new : Grid ℕ) (row column n : ℕ) → new.rows ≡ old.rows → new.width ≡ old.width → n ≡ at old row column 0 + 1 → ((r k d : ℕ) → k < old.width → at new r k d ≡ cond (r == row && k == column) n (at old r k d)) → Adds old new (one_at true row column)
+pub set_more : (old new : Grid ℕ) (row column n : ℕ) → new.rows ≡ old.rows → new.width ≡ old.width → n ≡ at old row column 0 + 1 → ((r k d : ℕ) → k < old.width → at new r k d ≡ cond (r == row && k == column) n (at old r k d)) → Adds old new (one_at row column)
 set_more old new row column n rows width is wrote = record { rows = rows; width = width; sums = λ r k lt. wrote r k 0 lt ∙ each r k }
   where
-    each : (r k : ℕ) → cond (r == row && k == column) n (at old r k 0) ≡ cond (true && (r == row && k == column)) 1 0 + at old r k 0
+    each : (r k : ℕ) → cond (r == row && k == column) n (at old r k 0) ≡ cond (r == row && k == column) 1 0 + at old r k 0
     each r k = elim (cases_Bool (r == row && k == column)) [
       | inl y ↦ (
           let parts = and_parts (r == row) (k == column) y in
@@ -49,12 +49,12 @@ set_more old new row column n rows width is wrote = record { rows = rows; width 
     ]
 
 -- one row more of a column
-pub column_more : (rows : List ℕ) (n row column : ℕ) → n < length rows → row ≡ get_or rows n row → (r k : ℕ) → in_column (take (n + 1) rows) column r k ≡ one_at true row column r k + in_column (take n rows) column r k
+pub column_more : (rows : List ℕ) (n row column : ℕ) → n < length rows → row ≡ get_or rows n row → (r k : ℕ) → in_column (take (n + 1) rows) column r k ≡ one_at row column r k + in_column (take n rows) column r k
 column_more rows n row column lt is r k =
     ap (λ m. cond (k == column) m 0) (sum_by_more (λ q. cond (q == r) 1 0) rows n row lt ∙ ap (λ q. count_by (λ q. q == r) (take n rows) + cond (q == r) 1 0) (sym is))
     ∙ by (k == column) (count_by (λ q. q == r) (take n rows)) (row == r) (r == row) (grind (arith, nat_tests))
   where
-    by : (b : Bool) (m : ℕ) (x y : Bool) → x ≡ y → cond b (m + cond x 1 0) 0 ≡ cond (true && (y && b)) 1 0 + cond b m 0
+    by : (b : Bool) (m : ℕ) (x y : Bool) → x ≡ y → cond b (m + cond x 1 0) 0 ≡ cond (y && b) 1 0 + cond b m 0
     by true m true y e = rw (sym e) (omega arith)
     by true m false y e = rw (sym e) (omega arith)
     by false m x true e = omega arith
@@ -64,7 +64,7 @@ column_more rows n row column lt is r k =
 pub one_left : (rows : List ℕ) (n row column : ℕ) → n < length rows → row ≡ get_or rows n row → in_column (take n rows) column row column + 1 ≤ in_column rows column row column
 one_left rows n row column lt is =
     let more = column_more rows n row column lt is row column in
-    let one : one_at true row column row column ≡ 1 = rw (eq-eqb row row refl, eq-eqb column column refl) refl in
+    let one : one_at row column row column ≡ 1 = rw (eq-eqb row row refl, eq-eqb column column refl) refl in
     let most : count_by (λ q. q == row) (take (n + 1) rows) ≤ count_by (λ q. q == row) rows = sum_by-take-le (λ q. cond (q == row) 1 0) rows (n + 1) in
     let there : (m : ℕ) → cond (column == column) m 0 ≡ m = λ m. rw (eq-eqb column column refl) refl in
     omega (arith, more, one, most, there (count_by (λ q. q == row) (take (n + 1) rows)), there (count_by (λ q. q == row) rows))

@@ -1,5 +1,5 @@
 -- A table of a fixed size.
-use Rattle.std.specs.Prelude.{◌≡◌, ◌<◌, ◌≤◌, ℕ, ◌+◌, ◌*◌, Bool, cond, ◌&&◌, ◌==◌, List, get_or, count_by, refl}
+use Rattle.std.specs.Prelude.{◌≡◌, ◌<◌, ◌≤◌, ℕ, ◌+◌, ◌*◌, cond, ◌&&◌, ◌==◌, List, get_or, count_by, refl}
 use Rattle.std.specs.Coded.{Coded, code_by, coded×, coded_ℕ, coded_list}
 
 -- rows of one width, one behind the other
@@ -23,9 +23,9 @@ pub record Adds (old new : Grid ℕ) (w : ℕ → ℕ → ℕ) : Type 0 where
   pub width : new.width ≡ old.width
   pub sums : (r k : ℕ) → k < old.width → at new r k 0 ≡ w r k + at old r k 0
 
--- one at a place, if it is wanted
-abbrev pub one_at : Bool → ℕ → ℕ → ℕ → ℕ → ℕ
-one_at wanted row column r k = cond (wanted && (r == row && k == column)) 1 0
+-- one at a place
+abbrev pub one_at : ℕ → ℕ → ℕ → ℕ → ℕ
+one_at row column r k = cond (r == row && k == column) 1 0
 
 -- in one column, each row as often as it is named
 abbrev pub in_column : List ℕ → ℕ → ℕ → ℕ → ℕ

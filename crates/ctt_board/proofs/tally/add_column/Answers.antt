@@ -3,8 +3,8 @@ use Rattle.ctt_text.proofs.TimetableLemmas.{Each-at}
 use Rattle.ctt_board.proofs.TableLemmas.{one_left}
 use Rattle.ctt_board.proofs.tally.add_column.Goals as goal
 
-pub add-requires-clause-few : goal.add-requires-clause-few
-add-requires-clause-few c =
+pub add_one-requires-clause-few : goal.add_one-requires-clause-few
+add_one-requires-clause-few c =
     let row = c.row-item.result in
     let number : c.get.result ≡ row = search rules in
     let within : row < c.args.counts.now.rows = subst (λ r. r < c.args.counts.now.rows) (sym c.row-item.is) (Each-at (λ r. r < c.args.counts.now.rows) c.args.rows.now c.requires.rows c.loop-row.row-index row c.loop-row-test.true) in
