@@ -189,8 +189,8 @@ module _ (g : BitTable) (are : IsBitTable g) where
       let word : n / 64 ≡ at.column = div-mul-add at.column 64 bit low.0 in
       let flat : (at.row * count) * 64 + n ≡ p * 64 + bit = omega (arith, at.place) in
       let marked : is_marked_in g at.row n ≡ true =
-          in_row g at.row n (omega (arith, word, at.column_below)) ∙ ap (is_marked g.words) flat
-          ∙ ap₂ (λ q b. bit_at (get_or g.words q 0) b == 1) (div-mul-add p 64 bit low.0) (mod-mul-add p 64 bit low.0) ∙ ap (λ b. b == 1) low.1 in
+      in_row g at.row n (omega (arith, word, at.column_below)) ∙ ap (is_marked g.words) flat
+      ∙ ap₂ (λ q b. bit_at (get_or g.words q 0) b == 1) (div-mul-add p 64 bit low.0) (mod-mul-add p 64 bit low.0) ∙ ap (λ b. b == 1) low.1 in
       elim (cases_lt n g.width) [
         | inl lt ↦ list_any_at (λ b. b) (marks_of g) (at.row * g.width + n) false (subst (λ m. at.row * g.width + n < m) (sym (marks_length g)) (place_within at.row n g.width g.rows at.row_below lt)) (mark_at g at.row n at.row_below lt ∙ marked)
         | inr past ↦ absurd (true≢false (sym marked ∙ are.within at.row n past))

@@ -1,16 +1,12 @@
 -- Rows of marks.
-use Rattle.std.proofs.Common.{◌≡◌, ◌≢◌, ℕ, zero, suc, ◌+◌, ◌*◌, ◌%◌, ◌<◌, ◌≤◌, List, [], ◌∷◌, ◌++◌, length, get_or, Bool, true, false, not, cond, ◌==◌, ◌&&◌, ◌||◌, take, take_all, replicate, refl, sym, ap, ap₂, subst, ◌∙◌, arith, nat_lt, zero-add}
-use Rattle.std.specs.List.{slice_set, list_any, AllByRecursion as Each}
-use Rattle.std.proofs.lemmas.List.{get_or-set_other, get_or-replicate, length-set, length-replicate, take-append-le, ext_get_or}
-use Rattle.std.proofs.lemmas.List.FromFn.{length-map-range_with_len, get_or-map-range_with_len}
+use Rattle.std.proofs.Common.{◌≡◌, ℕ, zero, suc, ◌+◌, ◌*◌, ◌<◌, ◌≤◌, List, [], ◌∷◌, ◌++◌, length, get_or, Bool, true, false, not, cond, ◌==◌, ◌&&◌, ◌||◌, take, take_all, refl, sym, ap, ◌∙◌, arith, nat_lt}
+use Rattle.std.specs.List.{list_any, AllByRecursion as Each}
+use Rattle.std.proofs.lemmas.List.{take-append-le}
 use Rattle.std.proofs.Math.Nat.{le_refl}
 use Rattle.std.proofs.lemmas.Nat.{row_fits}
-use Rattle.std.proofs.lemmas.Nat.Bits.{bit_at-zero}
-use Rattle.std.proofs.lemmas.Grind.{get_or-set_at}
 use Rattle.std.proofs.lemmas.Bool.{eqb-true, eqb-false}
 use Rattle.std.proofs.lemmas.Bool.Decides.{nat_tests}
 use Rattle.ctt_text.specs.Lists.{has}
-use Rattle.ctt_text.specs.Marks.{is_marked}
 use Rattle.ctt_text.specs.BitRows.{BitTable, is_marked_in, AddsMarks, SetsMark}
 
 -- by cases

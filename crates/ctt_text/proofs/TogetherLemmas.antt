@@ -20,9 +20,9 @@ has_below p zero n = sym (ap (λ b. b && p n) (le-ltb n zero (omega arith)))
 has_below p (suc m) n = list_any-append (λ x. x == n) (below p m) (cond (p m) (m ∷ []) []) ∙ ap₂ (λ a b. a || b) (has_below p m n) (last (p m)) ∙ elim (cases_eq m n) [
   | inl same ↦ rw (eq-eqb m n same, le-ltb n m (omega (arith, same)), lt-ltb n (suc m) (omega (arith, same))) (and_true (p m) ∙ ap p same)
   | inr other ↦ rw (ne_eqb m n other) (none (nat_lt n m && p n) (p m) ∙ ap (λ b. b && p n) (elim (cases_lt n m) [
-      | inl less ↦ rw (lt-ltb n m less, lt-ltb n (suc m) (omega (arith, less))) refl
-      | inr past ↦ rw (le-ltb n m past, le-ltb n (suc m) (omega (arith, past, other))) refl
-    ]))
+    | inl less ↦ rw (lt-ltb n m less, lt-ltb n (suc m) (omega (arith, less))) refl
+    | inr past ↦ rw (le-ltb n m past, le-ltb n (suc m) (omega (arith, past, other))) refl
+  ]))
 ]
   where
     last : (b : Bool) → list_any (λ x. x == n) (cond b (m ∷ []) []) ≡ (b && m == n)

@@ -293,7 +293,8 @@ impl Instance {
         requires room { room < room_count self.now }
         ensures { result ≡ is_barred self.now course room }
     {
-        self.barred.is_marked(course.get() as usize, room.get() as usize)
+        self.barred
+            .is_marked(course.get() as usize, room.get() as usize)
     }
 
     /// Bars the rooms that a table marks for each course, and no others.

@@ -193,11 +193,7 @@ impl<'a> Sections<'a> {
             HasSize table (course_count self.now) (room_count self.now)) }
         ensures none { IfOk result (λ table. marks_of table ≡ self.now.barred) }
     {
-        let table = BitRows::new(
-            alloc,
-            self.courses.facts.len(),
-            self.rooms.capacities.len(),
-        )?;
+        let table = BitRows::new(alloc, self.courses.facts.len(), self.rooms.capacities.len())?;
         Ok(table)
     }
 
