@@ -1,24 +1,21 @@
 -- The laws of the texts of barred rooms.
-use Rattle.std.proofs.Common.{◌≡◌, ◌⊎◌, inl, inr, ℕ, zero, suc, ◌+◌, ◌*◌, ◌<◌, List, [], ◌∷◌, ◌++◌, length, flat_map, Bool, true, false, ◌||◌, ◌==◌, Ok, Err, refl, sym, ap, subst, ◌∙◌, arith, mul_comm}
+use Rattle.std.proofs.Common.{◌≡◌, ◌⊎◌, inl, inr, ℕ, ◌+◌, ◌*◌, ◌<◌, List, [], ◌∷◌, ◌++◌, length, flat_map, Bool, true, false, ◌==◌, Ok, Err, refl, sym, ap, subst, ◌∙◌, mul_comm}
 use Rattle.std.specs.Prelude.{codes, get_or, slice_set}
 use Rattle.std.specs.List.{list_any, AllByRecursion as Each}
 use Rattle.std.specs.Str.{bytes_eq}
-use Rattle.std.proofs.lemmas.Bool.{lt-ltb, eq-eqb}
+use Rattle.std.proofs.lemmas.Bool.{lt-ltb}
 use Rattle.std.proofs.lemmas.Nat.{mul-add-lt}
 use Rattle.ctt_text.specs.declared.fault.BarredFault.{BarredFault}
 use Rattle.ctt_text.specs.declared.fault.BarredFault.TheVariants.{Expected, BadNumber, TooLarge, UnknownCourse, UnknownRoom}
-use Rattle.ctt_text.specs.Left.{Left}
 use Rattle.ctt_text.specs.Numbers.{value}
 use Rattle.ctt_text.specs.Forms.{done, ◌>>=◌, times, Fills}
 use Rattle.ctt_text.specs.Places.{one, known, known_name, number_if, fixed}
 use Rattle.ctt_text.specs.Problem.{Problem, IsProblem, course_count, room_count, place_of, is_barred}
-use Rattle.ctt_text.specs.Reading.{reading}
 use Rattle.ctt_text.specs.InstanceText.{IsUpTo}
 use Rattle.ctt_text.specs.BarredPlaces.{pair_count, barred_pair, none_barred, barred_rooms, ends_early}
 use Rattle.ctt_text.specs.BarredText.{BarredWords, spelled_barred, spelled_pairs, IsBarredPair, bars, BarSpells, BarBreaksAt}
 use Rattle.ctt_text.specs.BarredLaws.{barred_answer, ReadsBarred, SpellsOneBarred, BarredFailsWhereBroken, BarredBreaksOnce, BarredSpellsOrBreaks}
-use Rattle.ctt_text.proofs.FormLaws.{fills_both, bind_case, read_fills, answer_fills, fills_answer, answer_breaks, breaks_answer, breaks_once, answered, ok_same, ok_is_err}
-use Rattle.ctt_text.proofs.Steps.{read_done}
+use Rattle.ctt_text.proofs.FormLaws.{fills_both, bind_case, answer_fills, fills_answer, answer_breaks, breaks_answer, breaks_once, answered, ok_same, ok_is_err}
 use Rattle.ctt_text.proofs.SectionLaws.{Entry, entries_fill, entries_taken, each_apart, each_together}
 use Rattle.ctt_text.proofs.MarkLaws.{marked, marks_made, marks_many, marks_same, place_in_rows, Row, row_of}
 use Rattle.ctt_text.proofs.PlaceLaws.{a_name, name_given, up_to_passes, passed_up_to, is_fixed, after_case}

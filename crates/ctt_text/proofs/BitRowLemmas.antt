@@ -1,21 +1,22 @@
 -- Rows of bits.
-use Rattle.std.proofs.Common.{true≢false, zero-add, nat_lt, ◌≡◌, ◌≢◌, ℕ, zero, suc, ◌+◌, ◌-◌, ◌*◌, ◌/◌, ◌%◌, ◌^◌, ◌<◌, ◌≤◌, Bool, true, false, cond, ◌==◌, ◌&&◌, List, length, take, drop, get_or, refl, ◌∙◌, sym, ap, ap₂, subst, arith, w64, inl, inr}
+use Rattle.std.proofs.Common.{true≢false, zero-add, nat_lt, ◌≡◌, ◌≢◌, ℕ, zero, suc, ◌+◌, ◌-◌, ◌*◌, ◌/◌, ◌%◌, ◌^◌, ◌<◌, ◌≤◌, Bool, true, false, cond, ◌==◌, ◌&&◌, ◌||◌, ◌++◌, List, length, take, drop, get_or, refl, ◌∙◌, sym, ap, ap₂, subst, arith, w64, inl, inr}
 use Rattle.std.specs.Prelude.{replicate, slice_set, bit_and, bit_or}
 use Rattle.std.specs.List.{list_any}
 use Rattle.std.specs.Int.{bit_at, bit_not, trailing_zeros}
 use Rattle.std.proofs.lemmas.List.Folds.{list_any_at}
 use Rattle.std.proofs.lemmas.Bool.{lt-ltb, cases_eq, cases_lt, cases_order, eq-eqb, ne_eqb}
-use Rattle.std.proofs.lemmas.List.{get_or-take, get_or-drop, length-take, length-set, length-replicate, get_or-replicate, get_or-set_other, get_or_past, ext_get_or}
+use Rattle.std.proofs.lemmas.List.{get_or-take, get_or-drop, length-take, length-drop, length-append, length-set, length-take-le, take_at, drop_at, drop-take, length-replicate, get_or-replicate, get_or-set_other, get_or_past, ext_get_or}
 use Rattle.std.proofs.lemmas.List.FromFn.{length-map-range_with_len, get_or-map-range_with_len}
 use Rattle.std.proofs.lemmas.Grind.{get_or-set_at}
+use Rattle.std.proofs.lemmas.Slice.{take-put_mid_below, drop-put_mid}
 use Rattle.std.proofs.lemmas.Nat.{mod_below, div-mul-add, mod-mul-add}
 use Rattle.std.proofs.lemmas.Nat.Bits.{bit_at-zero, bit_at-trailing_zeros, bit_at_set_same, bit_at_set_other, bit_at_clear_same, bit_at_clear_other}
 use Rattle.std.proofs.Math.Nat.{mul-le-mul_right}
 use Rattle.ctt_text.specs.Marks.{is_marked}
-use Rattle.ctt_text.proofs.TableLemmas.{same_element, place_within}
+use Rattle.ctt_text.proofs.TableLemmas.{same_element, place_within, written}
 use Rattle.ctt_text.proofs.MarkLemmas.{none_marked, past_words, read_mark, one_changed}
 use Rattle.ctt_text.proofs.MarkLaws.{place_in_rows, Row, row_of}
-use Rattle.ctt_text.specs.BitRows.{BitTable, words_for, words_of, is_marked_in, marks_of, HasSize, IsBitTable, SetsMark}
+use Rattle.ctt_text.specs.BitRows.{BitTable, words_for, words_of, is_marked_in, marks_of, HasSize, IsBitTable, SetsMark, AddsMarks}
 
 -- one bit of a word, by the number of the bit among all
 pub marked_set : (words : List ℕ) (n number low w : ℕ) → number ≡ n / 64 → low ≡ n % 64 → number < length words → w ≡ get_or words number 0 → (k : ℕ) → is_marked (slice_set words number (bit_or w (1 * 2 ^ low % 2 ^ 64))) k ≡ cond (k == n) true (is_marked words k)
@@ -188,8 +189,8 @@ module _ (g : BitTable) (are : IsBitTable g) where
       let word : n / 64 ≡ at.column = div-mul-add at.column 64 bit low.0 in
       let flat : (at.row * count) * 64 + n ≡ p * 64 + bit = omega (arith, at.place) in
       let marked : is_marked_in g at.row n ≡ true =
-          in_row g at.row n (omega (arith, word, at.column_below)) ∙ ap (is_marked g.words) flat
-          ∙ ap₂ (λ q b. bit_at (get_or g.words q 0) b == 1) (div-mul-add p 64 bit low.0) (mod-mul-add p 64 bit low.0) ∙ ap (λ b. b == 1) low.1 in
+      in_row g at.row n (omega (arith, word, at.column_below)) ∙ ap (is_marked g.words) flat
+      ∙ ap₂ (λ q b. bit_at (get_or g.words q 0) b == 1) (div-mul-add p 64 bit low.0) (mod-mul-add p 64 bit low.0) ∙ ap (λ b. b == 1) low.1 in
       elim (cases_lt n g.width) [
         | inl lt ↦ list_any_at (λ b. b) (marks_of g) (at.row * g.width + n) false (subst (λ m. at.row * g.width + n < m) (sym (marks_length g)) (place_within at.row n g.width g.rows at.row_below lt)) (mark_at g at.row n at.row_below lt ∙ marked)
         | inr past ↦ absurd (true≢false (sym marked ∙ are.within at.row n past))
@@ -226,11 +227,85 @@ none_in rows width words k row n are = elim (cases_lt (n / 64) (words_for width)
   | inr beyond ↦ past_row (rows_of rows width words) row n beyond
 ]
 
+pub left : (start count : ℕ) → start + count - start ≡ count
+left start count = omega arith
+
 -- the words of a row as they are cut out
 pub cut_row : (rows width row count n : ℕ) (words items : List ℕ) → count ≡ words_for width → words ≡ items → is_marked (take (row * count + count - row * count) (drop (row * count) words)) n ≡ is_marked_in (rows_of rows width items) row n
 unfolding is_marked_in
 cut_row rows width row count n words items e same =
     ap (λ k. is_marked (take k (drop (row * count) words)) n) (left (row * count) count) ∙ ap₂ (λ w ws. is_marked (take w (drop (row * w) ws)) n) e same
-  where
-    left : (start count : ℕ) → start + count - start ≡ count
-    left start count = omega arith
+
+-- a row written over
+module _ (rows width row : ℕ) (words ys : List ℕ) (less : row < rows) (are : IsBitTable (rows_of rows width words)) (long : length ys ≡ words_for width) where
+  abbrev put : List ℕ
+  put = take (row * words_for width) words ++ (ys ++ drop (words_for width) (drop (row * words_for width) words))
+
+  row_inside : row * words_for width + words_for width ≤ length words
+  row_inside = (let all : suc row * words_for width ≤ rows * words_for width = mul-le-mul_right (words_for width) less in omega (arith, all, are.size))
+
+  pub put_length : length put ≡ length words
+  put_length =
+      let start = row * words_for width in
+      let rest : List ℕ = drop (words_for width) (drop start words) in
+      omega (arith, length-append (take start words) (ys ++ rest), length-append ys rest, length-take-le start words (omega (arith, row_inside)), length-drop (words_for width) (drop start words), length-drop start words, long, row_inside)
+
+  -- as a write to the row leaves it
+  pub put_left : (count len m : ℕ) (now : List ℕ) → count ≡ words_for width → now ≡ words → length now ≡ len
+      → take len ((take (row * count) now ++ (ys ++ drop (row * count + count - row * count) (drop (row * count) now))) ++ drop m words) ≡ put
+  put_left count len m now e same size =
+      rw (e, same) (ap (λ k. take len ((take (row * words_for width) words ++ (ys ++ drop k (drop (row * words_for width) words))) ++ drop m words)) (left (row * words_for width) (words_for width)) ∙ written len put (drop m words) (put_length ∙ sym (ap length same) ∙ size))
+
+  words_put : (r : ℕ) → words_of (rows_of rows width put) r ≡ cond (r == row) ys (words_of (rows_of rows width words) r)
+  words_put r =
+      let count = words_for width in
+      let start = row * count in
+      let le : start ≤ length words = omega (arith, row_inside) in
+      elim (cases_order r row) [
+        | inl same ↦ rw (eq-eqb r row same)
+            (ap (λ q. take count (drop (q * count) put)) same ∙ ap (take count) (drop_at (take start words) (ys ++ drop count (drop start words)) start (length-take-le start words le)) ∙ take_at ys (drop count (drop start words)) count long)
+        | inr (inl before) ↦ (
+            let below : suc r * count ≤ start = mul-le-mul_right count before in
+            rw (ne_eqb r row (λ e. omega (arith, e, before)))
+            (sym (drop-take (r * count) count put) ∙ ap (drop (r * count)) (take-put_mid_below start count words ys (r * count + count) (omega (arith, below)) le) ∙ drop-take (r * count) count words))
+        | inr (inr after) ↦ (
+            let above : suc row * count ≤ r * count = mul-le-mul_right count after in
+            rw (ne_eqb r row (λ e. omega (arith, e, after)))
+            (ap (take count) (drop-put_mid start count words ys (r * count) (omega (arith, above)) le long)))
+      ]
+
+  module _ (all more : List ℕ) (is : ys ≡ take (words_for width) all) (marked : (n : ℕ) → is_marked all n ≡ (is_marked_in (rows_of rows width words) row n || is_marked more n))
+      (within : (n : ℕ) → width ≤ n → is_marked more n ≡ false) where
+    row_marked : (n : ℕ) → is_marked ys n ≡ (is_marked_in (rows_of rows width words) row n || is_marked more n)
+    unfolding is_marked
+    row_marked n = elim (cases_lt (n / 64) (words_for width)) [
+      | inl inside ↦ ap (λ w. is_marked w n) is ∙ ap (λ w. bit_at w (n % 64) == 1) (get_or-take (words_for width) all (n / 64) 0 inside) ∙ marked n
+      | inr beyond ↦ (
+          let past : width ≤ n = omega (arith, beyond) in
+          past_words ys n (omega (arith, long, beyond)) ∙ sym (ap₂ (λ a b. a || b) (are.within row n past) (within n past)))
+    ]
+
+    pub put_adds : AddsMarks (rows_of rows width words) (rows_of rows width put) (λ r n. r == row && is_marked more n)
+    unfolding is_marked_in
+    put_adds = record { size = (refl, refl); marks = each }
+      where
+        no_more : (b : Bool) → b ≡ (b || false)
+        no_more true = refl
+        no_more false = refl
+
+        each : (r n : ℕ) → is_marked_in (rows_of rows width put) r n ≡ (is_marked_in (rows_of rows width words) r n || (r == row && is_marked more n))
+        each r n = ap (λ ws. is_marked ws n) (words_put r) ∙ elim (cases_eq r row) [
+          | inl same ↦ rw (eq-eqb r row same) (row_marked n ∙ ap (λ k. is_marked_in (rows_of rows width words) k n || is_marked more n) (sym same))
+          | inr other ↦ rw (ne_eqb r row other) (no_more (is_marked_in (rows_of rows width words) r n))
+        ]
+
+    pub put_are : IsBitTable (rows_of rows width put)
+    put_are = record {
+      few = are.few;
+      size = put_length ∙ are.size;
+      within = λ r n past. put_adds.marks r n ∙ ap₂ (λ a b. a || (r == row && b)) (are.within r n past) (within n past) ∙ none (r == row);
+    }
+      where
+        none : (b : Bool) → (false || (b && false)) ≡ false
+        none true = refl
+        none false = refl

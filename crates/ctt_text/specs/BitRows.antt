@@ -1,5 +1,5 @@
 -- Rows of bits, which mark small numbers.
-use Rattle.std.specs.Prelude.{◌≡◌, ◌≤◌, ℕ, ◌+◌, ◌*◌, ◌/◌, ◌%◌, Bool, false, cond, ◌&&◌, ◌==◌, List, length, take, drop, map}
+use Rattle.std.specs.Prelude.{◌≡◌, ◌≤◌, ℕ, ◌+◌, ◌*◌, ◌/◌, ◌%◌, Bool, false, cond, ◌&&◌, ◌||◌, ◌==◌, List, length, take, drop, map}
 use Rattle.std.specs.List.{range_with_len}
 use Rattle.ctt_text.specs.Marks.{is_marked}
 
@@ -40,3 +40,8 @@ pub record SetsMark (old new : BitTable) (row number : ℕ) (marked : Bool) : Ty
   pub rows : new.rows ≡ old.rows
   pub width : new.width ≡ old.width
   pub marks : (r n : ℕ) → is_marked_in new r n ≡ cond (r == row && n == number) marked (is_marked_in old r n)
+
+-- beside the marks that were, those for which the test holds
+pub record AddsMarks (old new : BitTable) (test : ℕ → ℕ → Bool) : Type 0 where
+  pub size : HasSize new old.rows old.width
+  pub marks : (r n : ℕ) → is_marked_in new r n ≡ (is_marked_in old r n || test r n)

@@ -1,11 +1,9 @@
 -- The fields of an instance, and the problem that they are.
-use Rattle.std.specs.Prelude.{◌≡◌, ◌<◌, ◌*◌, ◌&&◌, ℕ, List, Bool, true, false, length, map, nat_lt, replicate, Option, Some, None, IfSome}
-use Rattle.std.specs.List.{list_any}
+use Rattle.std.specs.Prelude.{◌≡◌, ◌<◌, ◌&&◌, ℕ, map, nat_lt}
 use Rattle.std.specs.String.{string_bytes}
 use Rattle.ctt_text.specs.Problem.{Problem, IsProblem, course_count, slot_count, room_count, clash}
 use Rattle.ctt_text.specs.Named.{IsNamed}
-use Rattle.ctt_text.specs.Tables.{mark_at}
-use Rattle.ctt_text.specs.BitRows.{marks_of, HasSize}
+use Rattle.ctt_text.specs.BitRows.{BitTable, is_marked_in, marks_of, HasSize}
 use Rattle.ctt_text.specs.Belonging.{AreCurricula}
 use Rattle.ctt_text.specs.Taught.{AreTaught}
 use Rattle.ctt_text.specs.declared.instance.Instance.TheInside.{Inside}
@@ -27,14 +25,14 @@ problem_in i = record {
 }
 
 -- the rows of the clashes
-pub record AreClashes (p : Problem) (rows : List (List ℕ)) : Type 0 where
-  pub size : length rows ≡ course_count p
-  pub marks : (c d : ℕ) → c < course_count p → mark_at rows c d ≡ (nat_lt d (course_count p) && clash p c d)
+pub record AreClashes (p : Problem) (rows : BitTable) : Type 0 where
+  pub size : HasSize rows (course_count p) (course_count p)
+  pub marks : (c d : ℕ) → c < course_count p → is_marked_in rows c d ≡ (nat_lt d (course_count p) && clash p c d)
 
 pub record IsInstance (i : Inside) : Type 0 where
   pub problem : IsProblem (problem_in i)
   pub named : IsNamed (problem_in i)
-  pub clashes : AreClashes (problem_in i) i.clashes.items
+  pub clashes : AreClashes (problem_in i) i.clashes
   pub available : HasSize i.unavailable (course_count (problem_in i)) (slot_count (problem_in i))
   pub barred : HasSize i.barred (course_count (problem_in i)) (room_count (problem_in i))
   pub belonging : AreCurricula (problem_in i) (map (λ q. q.items) i.belonging.items)

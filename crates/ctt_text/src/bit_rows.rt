@@ -1,9 +1,9 @@
 //! Rows of bits, which mark small numbers in each row anew.
 
-ghost use Rattle.std.specs.Prelude.{◌≡◌, ◌<◌, ◌≤◌, ℕ, true, false, IfOk};
+ghost use Rattle.std.specs.Prelude.{◌≡◌, ◌<◌, ◌≤◌, ◌==◌, ◌&&◌, ℕ, true, false, IfOk};
 ghost use Rattle.std.specs.List.{list_any};
 ghost use Rattle.ctt_text.specs.Marks.{is_marked};
-ghost use Rattle.ctt_text.specs.BitRows.{is_marked_in, marks_of, words_for, HasSize, SetsMark};
+ghost use Rattle.ctt_text.specs.BitRows.{is_marked_in, marks_of, words_for, AddsMarks, HasSize, SetsMark};
 
 use crate::marks::Marks;
 use std::alloc::{AllocError, Global};
@@ -57,6 +57,19 @@ impl BitRows {
     {
         let place = row * words_for(self.width) + number / 64;
         self.words[place] |= 1 << (number % 64);
+    }
+
+    /// Marks more numbers of a row.
+    pub(crate) fn mark_all(&mut self, row: usize, marks: &Marks)
+        requires row { row < self.old.rows }
+        requires within { (n : ℕ) → self.old.width ≤ n → is_marked marks.now n ≡ false }
+        ensures { AddsMarks self.old self.new (λ r n. r == row && is_marked marks.now n) }
+    {
+        let count = words_for(self.width);
+        let start = row * count;
+        let mut all = self.row(row);
+        all.add(marks);
+        self.words[start..start + count].copy_from_slice(&all.words()[..count]);
     }
 
     /// Takes the mark from a number of a row.

@@ -52,7 +52,7 @@ pub struct Instance {
     /// For each course, the rooms that are barred for it.
     barred: BitRows,
     /// For each course, those that it clashes with.
-    clashes: Vec<Marks>,
+    clashes: BitRows,
     /// For each course, its curricula.
     belonging: Vec<Vec<CurriculumNo>>,
     /// For each teacher, his courses.
@@ -253,17 +253,18 @@ impl Instance {
         requires other { other < course_count self.now }
         ensures { result ≡ clash self.now course other }
     {
-        self.clashes[course.get() as usize].is_marked(other.get() as usize)
+        self.clashes
+            .is_marked(course.get() as usize, other.get() as usize)
     }
 
     /// The courses that clash with a course.
-    pub fn clashing(&self, course: CourseNo) -> &Marks
+    pub fn clashing(&self, course: CourseNo) -> Marks
         requires { course < course_count self.now }
         ensures { (d : ℕ)
-            → is_marked result.now d
+            → is_marked result d
             ≡ (nat_lt d (course_count self.now) && clash self.now course d) }
     {
-        &self.clashes[course.get() as usize]
+        self.clashes.row(course.get() as usize)
     }
 
     /// Whether a course is unavailable in a slot.
@@ -282,7 +283,8 @@ impl Instance {
         requires room { room < room_count self.now }
         ensures { result ≡ is_barred self.now course room }
     {
-        self.barred.is_marked(course.get() as usize, room.get() as usize)
+        self.barred
+            .is_marked(course.get() as usize, room.get() as usize)
     }
 
     /// Bars the rooms that a table marks for each course, and no others.

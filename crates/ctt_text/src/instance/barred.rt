@@ -115,11 +115,7 @@ fn read_rooms(
 }
 
 /// Reads which rooms are barred from a text.
-fn read_text(
-    alloc: Global,
-    instance: &Instance,
-    text: &str,
-) -> Result<BitRows, BarredFault>
+fn read_text(alloc: Global, instance: &Instance, text: &str) -> Result<BitRows, BarredFault>
     ensures size { IfOk result (λ table.
         HasSize table (course_count instance.now) (room_count instance.now)) }
     ensures exact { Gives wants_memory marks_of result

@@ -9,7 +9,6 @@ ghost use Rattle.ctt_text.specs.Reading.{Gives};
 ghost use Rattle.ctt_text.specs.Problem.{Problem, IsProblem, course_count, room_count, slot_count};
 ghost use Rattle.ctt_text.specs.BitRows.{marks_of, HasSize};
 ghost use Rattle.ctt_text.specs.Named.{IsNamed};
-ghost use Rattle.ctt_text.specs.Ranked.{AreRanked};
 ghost use Rattle.ctt_text.specs.Instance.{AreClashes};
 ghost use Rattle.ctt_text.specs.Belonging.{AreCurricula};
 ghost use Rattle.ctt_text.specs.Taught.{AreTaught};
@@ -34,7 +33,6 @@ use crate::instance::rooms::{RoomSection, read_room_section};
 use crate::instance::taught::taught;
 use crate::instance::unavailability::read_unavailability_section;
 use crate::letting::let_go;
-use crate::marks::Marks;
 use crate::reader::Reader;
 use std::alloc::{AllocError, Global};
 use std::marker::Model;
@@ -68,7 +66,7 @@ impl<'a> Model for Sections<'a> {
 struct Tables {
     name: String,
     barred: BitRows,
-    clashes: Vec<Marks>,
+    clashes: BitRows,
     belonging: Vec<Vec<CurriculumNo>>,
     taught: Vec<Vec<CourseNo>>,
 }
@@ -144,7 +142,7 @@ impl<'a> Sections<'a> {
         requires name { string_bytes tables.name ≡ self.name }
         requires barred { HasSize tables.barred (course_count self) (room_count self) }
         requires none_barred { marks_of tables.barred ≡ self.barred }
-        requires clashes { AreClashes self tables.clashes.items }
+        requires clashes { AreClashes self tables.clashes }
         requires belonging { AreCurricula self (map (λ q. q.items) tables.belonging.items) }
         requires taught { AreTaught self (map (λ q. q.items) tables.taught.items) }
         ensures { result ≡ self.entry }
@@ -183,21 +181,18 @@ impl<'a> Sections<'a> {
             HasSize table (course_count self.now) (room_count self.now)) }
         ensures none { IfOk result (λ table. marks_of table ≡ self.now.barred) }
     {
-        let table = BitRows::new(
-            alloc,
-            self.courses.facts.len(),
-            self.rooms.capacities.len(),
-        )?;
+        let table = BitRows::new(alloc, self.courses.facts.len(), self.rooms.capacities.len())?;
         Ok(table)
     }
 
     /// For each course, those that it clashes with.
-    fn clashes(&self, alloc: Global) -> Result<Vec<Marks>, AllocError>
+    fn clashes(&self, alloc: Global, taught: &[Vec<CourseNo>]) -> Result<BitRows, AllocError>
         requires problem { IsProblem self.now }
-        requires ranked { AreRanked self.now.courses }
-        ensures { IfOk result (λ rows. AreClashes self.now rows.items) }
+        requires taught { AreTaught self.now (map (λ q. q.items) taught.now) }
+        ensures { IfOk result (AreClashes self.now) }
     {
-        let rows = clash_rows(alloc, &self.courses.facts, &self.curricula.members)?;
+        let courses = self.courses.facts.len();
+        let rows = clash_rows(alloc, courses, taught, &self.curricula.members)?;
         Ok(rows)
     }
 
@@ -224,20 +219,19 @@ impl<'a> Sections<'a> {
     /// them is let go here.
     fn tables(&self, alloc: Global) -> Result<Tables, AllocError>
         requires problem { IsProblem self.now }
-        requires ranked { AreRanked self.now.courses }
         ensures name { IfOk result (λ t. string_bytes t.name ≡ self.now.name) }
         ensures barred { IfOk result (λ t.
             HasSize t.barred (course_count self.now) (room_count self.now)) }
         ensures none_barred { IfOk result (λ t. marks_of t.barred ≡ self.now.barred) }
-        ensures clashes { IfOk result (λ t. AreClashes self.now t.clashes.items) }
+        ensures clashes { IfOk result (λ t. AreClashes self.now t.clashes) }
         ensures belonging { IfOk result (λ t.
             AreCurricula self.now (map (λ q. q.items) t.belonging.items)) }
         ensures taught { IfOk result (λ t. AreTaught self.now (map (λ q. q.items) t.taught.items)) }
     {
         let barred = self.barred(alloc)?;
-        let clashes = self.clashes(alloc)?;
         let belonging = self.belonging(alloc)?;
         let taught = self.taught(alloc)?;
+        let clashes = self.clashes(alloc, &taught)?;
         let name = String::from_str(alloc, self.header.name)?;
         Ok(Tables {
             name,
@@ -252,7 +246,6 @@ impl<'a> Sections<'a> {
     fn into_instance(self, alloc: Global) -> Result<Instance, AllocError>
         requires problem { IsProblem self }
         requires named { IsNamed self }
-        requires ranked { AreRanked self.courses }
         ensures { IfOk result (λ i. i ≡ self.entry) }
     {
         match self.tables(alloc) {

@@ -1,4 +1,4 @@
-use Rattle.std.proofs.Common.{rules, ◌≡◌, ◌<◌, ◌^◌, length, get_or, sym, ap, ◌∙◌, arith}
+use Rattle.std.proofs.Common.{rules, ◌<◌, ◌^◌, length, get_or, sym, ap, ◌∙◌, arith}
 use Rattle.ctt_text.specs.BitRows.{BitTable}
 use Rattle.ctt_text.proofs.BitRowLemmas.{rows_of, some_marked, nowhere_marked}
 use Rattle.ctt_text.proofs.bit_rows.BitRows.has_marks.Goals as goal

@@ -1,7 +1,7 @@
 use Rattle.std.proofs.Common.{take, ◌&&◌}
 use Rattle.ctt_text.specs.Lists.{has}
-use Rattle.ctt_text.specs.Tables.{AddsMarks}
-use Rattle.ctt_text.proofs.instance.clashes.add_members.Given as goal
+use Rattle.ctt_text.specs.BitRows.{AddsMarks}
+use Rattle.ctt_text.proofs.instance.clashes.add_group.Given as goal
 
 -- the marks in the rows of the members so far
 abbrev pub invariant-loop-member : goal.invariant-loop-member
