@@ -1,7 +1,5 @@
 -- A room or a course, or none, as one number.
-use Rattle.std.specs.Prelude.{◌≡◌, ℕ, zero, suc, ◌+◌, ◌/◌, ◌%◌, List, [], ◌∷◌, Option, Some, None, refl}
-use Rattle.ctt_text.specs.declared.placed.Placed.{Placed}
-use Rattle.ctt_text.specs.Problem.{Problem}
+use Rattle.std.specs.Prelude.{◌≡◌, ℕ, zero, suc, Option, Some, None, refl}
 
 -- a room, or none, as one number: 0 for none, and else the one after the room's
 abbrev pub room_by_code : ℕ → Option ℕ
