@@ -27,6 +27,20 @@ pub record Answering (v w : DeskValue) (all left : List (List ℕ)) (before afte
   pub answered : Answered v w [] (written ++ kept) done
   pub taken : Appends before after written
 
+-- the desk v has answered these items and is the desk w; the text has grown by the answers
+pub record Answered (v w : DeskValue) (old new : List ℕ) (items : List (Option Event)) : Type 0 where
+  pub same : SameDesk v w
+  pub goes_on : (past : List Turn) → Stands v past → Stands w (run_after v.problem v.opening past items)
+  pub grown : (past : List Turn) → Stands v past → new ≡ old ++ answers_after v.problem v.opening past items
+
+-- of all lines these are left; the answers to the others were written, but for the text that is kept back
+pub record Answering (v w : DeskValue) (all left : List (List ℕ)) (before after : Option (List ℕ)) (kept : List ℕ) : Type 0 where
+  pub done : List (Option Event)
+  pub written : List ℕ
+  pub lines : items_of v.problem all ≡ done ++ items_of v.problem left
+  pub answered : Answered v w [] (written ++ kept) done
+  pub taken : Appends before after written
+
 -- a front of the text was written out, and what follows it is kept
 pub record WritesOut (before after : Option (List ℕ)) (text kept : List ℕ) : Type 0 where
   pub front : List ℕ
