@@ -15,7 +15,6 @@ mod names;
 mod no_memory;
 mod number_lists;
 mod numbers;
-mod pieces;
 mod placed;
 mod places;
 mod reader;
@@ -34,9 +33,6 @@ pub use marks::Marks;
 pub use no_memory::NoMemory;
 pub use number_lists::{add_to, empty_lists};
 pub use numbers::number;
-pub use pieces::{
-    end_with_count, end_with_slot, end_with_word, push_count, push_number, push_slot, push_word,
-};
 pub use placed::Placed;
 pub use places::{
     FixedFault, PlaceFault, RoomFault, SlotFault, next_course, next_fixed, next_number, next_room,
