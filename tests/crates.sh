@@ -36,7 +36,7 @@ done
 if [[ " ${MEET-} " == *" $name "* ]]; then
     : >"$ROOM/at.$name"
     for each in $MEET; do
-        for ((tries = 0; tries < 200; tries++)); do
+        for ((tries = 0; tries < 2000; tries++)); do
             [ ! -e "$ROOM/at.$each" ] || continue 2
             sleep 0.05
         done
@@ -48,7 +48,7 @@ mkdir -p out/incremental out/rlib
 echo "$name" >>out/incremental/kept
 if [ "${HANGS-}" = "$name" ]; then
     echo $$ >"$ROOM/pid"
-    exec sleep 60
+    exec sleep 600
 fi
 [ -z "${SLOW-}" ] || { echo "so far: 1 of 2 functions checked"; sleep "$SLOW"; }
 if grep -q wrong src/*; then
@@ -144,7 +144,7 @@ tell_to_end() {
     anew 9
     : >"$room/calls"
     HANGS=$3 env --default-signal=INT "$top/timedesk" >"$room/out" 2>"$room/err" &
-    for ((tries = 0; tries < 200; tries++)); do
+    for ((tries = 0; tries < 2000; tries++)); do
         [ ! -s "$room/pid" ] || break
         sleep 0.05
     done
