@@ -35,7 +35,7 @@ same_course None c e = cc
 same_course (Some d) c e = ap Some (eqb-true d c e)
 
 -- a course that left the slot has no room there
-nowhere_left : (c s d e : ℕ) (t : List Placed) → s ≡ d → holder_at d e (without c s t) ≡ Some c → ⊥
+pub nowhere_left : (c s d e : ℕ) (t : List Placed) → s ≡ d → holder_at d e (without c s t) ≡ Some c → ⊥
 nowhere_left c s d e t same h =
     let there = named_somewhere (λ l. not (is_at c s l) ≡ true) (is_in d e) (without c s t) c (Each-filter_passes (λ l. not (is_at c s l)) t) (sym (holder_is d e (without c s t)) ∙ h) in
     no there.0 there.1 there.2 there.3

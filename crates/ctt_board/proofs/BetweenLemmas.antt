@@ -17,14 +17,14 @@ use Rattle.ctt_board.proofs.PutLemmas.{filter-put_no}
 use Rattle.ctt_board.proofs.RoomLemmas.{is_at, room_is, rooms_after}
 
 -- what isn't found is nowhere
-nowhere : {X : Type 0} (p : X → Bool) (xs : List X) → find p xs ≡ None → Each (λ x. not (p x) ≡ true) xs
+pub nowhere : {X : Type 0} (p : X → Bool) (xs : List X) → find p xs ≡ None → Each (λ x. not (p x) ≡ true) xs
 nowhere p [] e = tt
 nowhere {X = X} p (x ∷ xs) e = elim (cases_Bool (p x)) [
   | inl y ↦ (let e' : ◌≡◌ {A = Option X} (Some x) None = (rw y at e) in cc)
   | inr n ↦ (let e' : find p xs ≡ None = (rw n at e) in (ap not n, nowhere p xs e'))
 ]
 
-none_of : (o : Option Placed) → is_some (room_of o) ≡ false → o ≡ None
+pub none_of : (o : Option Placed) → is_some (room_of o) ≡ false → o ≡ None
 none_of None e = refl
 none_of (Some l) e = cc
 

@@ -20,7 +20,7 @@ use Rattle.ctt_board.specs.Changes.{room_at, apply_at, CellFits}
 use Rattle.ctt_board.specs.Cells.{lecture_at, row_below}
 use Rattle.ctt_board.specs.Tables.{Grid, at}
 use Rattle.ctt_board.specs.Counts.{AreCounts, HasSize}
-use Rattle.ctt_board.specs.Grids.{rows_below, column_below, listed, AreRooms, AreHolders, AreStanding, AreTables}
+use Rattle.ctt_board.specs.Grids.{rows_below, column_below, listed, AreRooms, AreHolders, AreTables}
 use Rattle.ctt_board.specs.declared.counts.Counts.{Counts}
 use Rattle.ctt_board.specs.declared.tables.Tables.{Tables}
 use Rattle.ctt_board.proofs.PutLemmas.{filter_filter}
@@ -66,14 +66,13 @@ rooms_after_cell i t old new c s o h rows width wrote fits = record {
     turned d e = grind (arith, nat_tests)
 
 -- tables that are each those of a timetable
-pub made : (i : Problem) (u : List Placed) (g : Tables) → Lawful i u → AreRooms i u g.rooms → AreHolders i u g.courses → AreStanding i u g.standing → AreCounts i u g.counts → AreTables i g × (listed i g.rooms ≡ u)
-made i u g lawful are_rooms are_courses are_standing are_counts =
+pub made : (i : Problem) (u : List Placed) (g : Tables) → Lawful i u → AreRooms i u g.rooms → AreHolders i u g.courses → AreCounts i u g.counts → AreTables i g × (listed i g.rooms ≡ u)
+made i u g lawful are_rooms are_courses are_counts =
     let e : u ≡ listed i g.rooms = sym (shown i u g.rooms lawful.timetable are_rooms) in (
       record {
         lawful = subst (Lawful i) e lawful;
         rooms_are = subst (λ t. AreRooms i t g.rooms) e are_rooms;
         courses_are = subst (λ t. AreHolders i t g.courses) e are_courses;
-        standing_are = subst (λ t. AreStanding i t g.standing) e are_standing;
         counts_are = subst (λ t. AreCounts i t g.counts) e are_counts;
       },
       sym e,

@@ -25,4 +25,5 @@ pub mod SettleLemmas
 pub mod FitLemmas
 mod MeetingLemmas
 mod ClashLemmas
+mod StandingLemmas
 pub mod SameLemmas

@@ -31,10 +31,10 @@ has_lecture i g l p h fits there = have_lecture i l (without l.course l.slot (li
 
 -- tables that say where the lectures are, with counts
 pub places : (i : Problem) (g : Tables) (k : Counts) → AreTables i g → ArePlaces i (listed i g.rooms) (record g { counts = k })
-places i g k h = record { rooms_are = h.rooms_are; courses_are = h.courses_are; standing_are = h.standing_are }
+places i g k h = record { rooms_are = h.rooms_are; courses_are = h.courses_are }
 
 pub made_of : (i : Problem) (u : List Placed) (g : Tables) (k : Counts) → Lawful i u → ArePlaces i u g → g.counts ≡ k → AreCounts i u k → AreTables i g × (listed i g.rooms ≡ u)
-made_of i u g k lawful h e counted = made i u g lawful h.rooms_are h.courses_are h.standing_are (subst (AreCounts i u) (sym e) counted)
+made_of i u g k lawful h e counted = made i u g lawful h.rooms_are h.courses_are (subst (AreCounts i u) (sym e) counted)
 
 -- the costs with a lecture more, and with one less
 module _ (i : Problem) (t u : List Placed) (l : Placed) (v : Later) (j : Joining) (more : IsMore l t u) (lawful : Lawful i t) (lawful' : Lawful i u) (fits : Fits i l) (sees : Sees i v t) (is : j ≡ seen_joining i v l) where

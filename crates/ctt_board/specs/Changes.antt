@@ -24,6 +24,11 @@ course_named found = option_map (λ (l : Placed). l.course) found
 abbrev pub holder_at : ℕ → ℕ → List Placed → Option ℕ
 holder_at s r t = course_named (find (λ l. l.room == r) (slot_row s t))
 
+-- the course that may be named is this one
+abbrev pub is_named : Option ℕ → ℕ → Bool
+is_named None c = false
+is_named (Some d) c = d == c
+
 -- the first course with a lecture in the slot that clashes with this one
 abbrev pub clash_at : Problem → ℕ → ℕ → List Placed → Option ℕ
 clash_at i c s t = course_named (find (λ l. clash i c l.course) (slot_row s t))

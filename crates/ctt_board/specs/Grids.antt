@@ -1,5 +1,5 @@
 -- A sheet of tables.
-use Rattle.std.specs.Prelude.{◌≡◌, ◌<◌, ℕ, zero, suc, List, [], ◌++◌, Option, None, is_some}
+use Rattle.std.specs.Prelude.{◌≡◌, ◌<◌, ℕ, zero, suc, List, [], ◌++◌, Option, None}
 use Rattle.ctt_text.specs.Problem.{Problem, course_count, slot_count, room_count}
 use Rattle.ctt_text.specs.declared.placed.Placed.{Placed}
 use Rattle.ctt_rules.specs.Hard.{Lawful}
@@ -8,7 +8,6 @@ use Rattle.ctt_rules.specs.declared.cost.Cost.{Cost}
 use Rattle.ctt_board.specs.Changes.{room_at, holder_at}
 use Rattle.ctt_board.specs.Cells.{row_below, lecture_at}
 use Rattle.ctt_board.specs.Tables.{Grid, at}
-use Rattle.ctt_text.specs.BitRows.{BitTable, is_marked_in}
 use Rattle.ctt_board.specs.Counts.{HasSize, AreCounts}
 use Rattle.ctt_board.specs.declared.tables.Tables.{Tables}
 
@@ -36,32 +35,20 @@ pub record AreHolders (i : Problem) (t : List Placed) (g : Grid (Option ℕ)) : 
   pub size : HasSize g (slot_count i) (room_count i)
   pub courses : (s r : ℕ) → s < slot_count i → r < room_count i → at g s r None ≡ holder_at s r t
 
--- there is a row of marks on the courses for each slot
-abbrev pub HaveRows : BitTable → Problem → Type 0
-HaveRows g i = (g.rows ≡ slot_count i) × (g.width ≡ course_count i)
-
--- the courses that stand in each slot
-pub record AreStanding (i : Problem) (t : List Placed) (g : BitTable) : Type 0 where
-  pub size : HaveRows g i
-  pub courses : (s c : ℕ) → s < slot_count i → is_marked_in g s c ≡ is_some (room_at c s t)
-
 -- the tables that say where the lectures are
 pub record ArePlaces (i : Problem) (t : List Placed) (g : Tables) : Type 0 where
   pub rooms_are : AreRooms i t g.rooms
   pub courses_are : AreHolders i t g.courses
-  pub standing_are : AreStanding i t g.standing
 
 pub record HavePlaceSizes (i : Problem) (g : Tables) : Type 0 where
   pub rooms : HasSize g.rooms (course_count i) (slot_count i)
   pub courses : HasSize g.courses (slot_count i) (room_count i)
-  pub standing : HaveRows g.standing i
 
 -- each table is what the timetable says that the rooms show
 pub record AreTables (i : Problem) (g : Tables) : Type 0 where
   pub lawful : Lawful i (listed i g.rooms)
   pub rooms_are : AreRooms i (listed i g.rooms) g.rooms
   pub courses_are : AreHolders i (listed i g.rooms) g.courses
-  pub standing_are : AreStanding i (listed i g.rooms) g.standing
   pub counts_are : AreCounts i (listed i g.rooms) g.counts
 
 -- and so are the costs

@@ -1,10 +1,11 @@
 //! A sheet that keeps tables of fixed size, and its costs.
 
-ghost use Rattle.std.specs.Prelude.{◌≡◌, ◌<◌, ◌+◌, pos, ◌-ℤ◌, ◌++◌, ℕ, [], false, Some, is_some, length, OnOk};
-ghost use Rattle.ctt_text.specs.Problem.{course_count, slot_count};
+ghost use Rattle.std.specs.Prelude.{◌≡◌, ◌<◌, ◌+◌, pos, ◌-ℤ◌, ◌++◌, ◌||◌, ℕ, [], false, Some, is_some, length, OnOk};
+ghost use Rattle.ctt_text.specs.Marks.{is_marked};
+ghost use Rattle.ctt_text.specs.Problem.{course_count, slot_count, room_count};
 ghost use Rattle.ctt_text.specs.Timetable.{course_row, slot_row, with, without, Fits};
 ghost use Rattle.ctt_rules.specs.Hard.{Lawful};
-ghost use Rattle.ctt_board.specs.Changes.{CellFits, CellsFit, room_at, apply_at, apply};
+ghost use Rattle.ctt_board.specs.Changes.{CellFits, CellsFit, room_at, holder_at, is_named, apply_at, apply};
 ghost use Rattle.ctt_rules.specs.Penalty.{penalty, total};
 ghost use Rattle.ctt_board.specs.Seen.{Sees, HasPlaces};
 ghost use Rattle.ctt_board.specs.Cells.{lecture_at};
@@ -110,6 +111,22 @@ impl<'i> GridSheet<'i> {
         }
     }
 
+    /// Marks the course that has a room in a slot, if there is one.
+    fn mark_holder(&self, standing: &mut Marks, slot: SlotNo, room: RoomNo)
+        requires slot { slot < slot_count self.now.problem }
+        requires room { room < room_count self.now.problem }
+        ensures { (course : ℕ)
+            → is_marked standing.new course
+            ≡ (is_marked standing.old course
+            || is_named (holder_at slot room self.now.list) course) }
+    {
+        self.lawful();
+        self.instance.limits_hold();
+        if let Some(course) = self.holder(slot, room) {
+            standing.mark(course.get() as usize);
+        }
+    }
+
     /// Appends the lecture of a course in a slot, if there is one.
     fn append_lecture(
         &self,
@@ -164,7 +181,12 @@ impl<'i> Rooms for GridSheet<'i> {
     }
 
     fn standing(&self, slot: SlotNo) -> Marks {
-        self.tables.standing.row(slot.get() as usize)
+        self.lawful();
+        let mut standing = Marks::new();
+        for room in 0..self.instance.rooms() {
+            self.mark_holder(&mut standing, slot, RoomNo::new(room));
+        }
+        standing
     }
 
     fn count(&self, course: CourseNo) -> u32 {

@@ -10,7 +10,7 @@ ghost use Rattle.ctt_board.specs.Grids.{listed, AreTables, ArePlaces, HavePlaceS
 
 use crate::counts::Counts;
 use crate::table::Table;
-use ctt_text::{BitRows, Compact, CourseNo, Instance, Placed, RoomNo, SlotNo};
+use ctt_text::{Compact, CourseNo, Instance, Placed, RoomNo, SlotNo};
 use std::alloc::{AllocError, Global};
 
 /// The lectures of a timetable in a table by course and slot, beside which lie others that say the same
@@ -21,8 +21,6 @@ pub(crate) struct Tables {
     pub(crate) rooms: Table<Compact>,
     /// The courses by slot and room.
     pub(crate) courses: Table<Compact>,
-    /// The courses that stand in each slot, a row a slot.
-    pub(crate) standing: BitRows,
     pub(crate) counts: Counts,
 }
 
@@ -39,7 +37,6 @@ impl Tables {
         Ok(Tables {
             rooms: Table::new(alloc, courses, slots, none)?,
             courses: Table::new(alloc, slots, instance.rooms() as usize, none)?,
-            standing: BitRows::new(alloc, slots, courses)?,
             counts: Counts::new(alloc, instance)?,
         })
     }
@@ -50,7 +47,6 @@ impl Tables {
         Ok(Tables {
             rooms: self.rooms.copy()?,
             courses: self.courses.copy()?,
-            standing: self.standing.copy()?,
             counts: self.counts.copy()?,
         })
     }
@@ -72,7 +68,6 @@ impl Tables {
     }
 
     /// Writes a lecture where lectures are looked up.
-    #[inline(always)]
     fn lay(&mut self, instance: &Instance, lecture: &Placed)
         requires fits { Fits instance.now lecture.now }
         requires sizes { HavePlaceSizes instance.now self.old }
@@ -89,11 +84,9 @@ impl Tables {
         let room = lecture.room.get() as usize;
         self.courses
             .set(slot, room, Compact::of_course(lecture.course));
-        self.standing.mark(slot, course);
     }
 
     /// Takes a lecture away from there.
-    #[inline(always)]
     fn lift(&mut self, instance: &Instance, lecture: &Placed)
         requires fits { Fits instance.now lecture.now }
         requires sizes { HavePlaceSizes instance.now self.old }
@@ -110,10 +103,8 @@ impl Tables {
         self.rooms.set(course, slot, none);
         let room = lecture.room.get() as usize;
         self.courses.set(slot, room, none);
-        self.standing.unmark(slot, course);
     }
 
-    #[inline(always)]
     pub(crate) fn add(&mut self, instance: &Instance, lecture: &Placed)
         requires tables { AreTables instance.now self.old }
         requires fits { Fits instance.now lecture.now }
@@ -132,7 +123,6 @@ impl Tables {
     }
 
     /// Removes a lecture that is there.
-    #[inline(always)]
     pub(crate) fn remove(&mut self, instance: &Instance, lecture: &Placed)
         requires tables { AreTables instance.now self.old }
         requires fits { Fits instance.now lecture.now }
