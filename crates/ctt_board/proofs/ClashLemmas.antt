@@ -13,7 +13,7 @@ use Rattle.ctt_rules.specs.Hard.{Lawful}
 use Rattle.ctt_board.specs.Cells.{lecture_at}
 use Rattle.ctt_board.specs.Changes.{room_at, room_of, room_by, course_named, clash_at, stands_by, apply_at, CellFits}
 use Rattle.ctt_board.specs.Grids.{column_below, AreStanding, HaveRows}
-use Rattle.ctt_board.specs.MarkRows.{RowsOfMarks, is_marked_in, SetsMark}
+use Rattle.ctt_text.specs.BitRows.{BitTable, is_marked_in, SetsMark}
 use Rattle.ctt_board.specs.declared.cell.Cell.{Cell}
 use Rattle.ctt_board.proofs.BetweenLemmas.{there_fits, some_room}
 use Rattle.ctt_board.proofs.GridLemmas.{slot_row_is}
@@ -37,9 +37,9 @@ stands_by_room (x ∷ xs) c s o = ap (stands_by xs c s) (inside (x.course == c &
     inside false = refl
 
 -- the table of those that stand, after a cell that fits, and of the empty timetable
-pub standing_after_cell : (i : Problem) (t : List Placed) (old new : RowsOfMarks) (c s : ℕ) (o : Option ℕ) → AreStanding i t old → SetsMark old new s c (is_some o) → CellFits t c s o → AreStanding i (apply_at c s o t) new
+pub standing_after_cell : (i : Problem) (t : List Placed) (old new : BitTable) (c s : ℕ) (o : Option ℕ) → AreStanding i t old → SetsMark old new s c (is_some o) → CellFits t c s o → AreStanding i (apply_at c s o t) new
 standing_after_cell i t old new c s o h w fits = record {
-  size = (w.rows ∙ h.size.0, w.numbers ∙ h.size.1);
+  size = (w.rows ∙ h.size.0, w.width ∙ h.size.1);
   courses = λ e d le. w.marks e d ∙ ap (cond (e == s && d == c) (is_some o)) (h.courses e d le) ∙ inside (e == s && d == c) (c == d && s == e) (room_at d e t) (turned d e) ∙ ap is_some (sym (room_after c s o d e t fits));
 }
   where
@@ -52,7 +52,7 @@ standing_after_cell i t old new c s o h w fits = record {
     inside true false p e = cc
     inside false true p e = cc
 
-pub none_stand : (i : Problem) (g : RowsOfMarks) → HaveRows g i → ((s c : ℕ) → is_marked_in g s c ≡ false) → AreStanding i [] g
+pub none_stand : (i : Problem) (g : BitTable) → HaveRows g i → ((s c : ℕ) → is_marked_in g s c ≡ false) → AreStanding i [] g
 none_stand i g size none = record { size = size; courses = λ s c _. none s c }
 
 -- the first course of a slot that passes

@@ -9,15 +9,12 @@ use Rattle.ctt_text.specs.Belonging.{curricula_of}
 use Rattle.ctt_text.specs.Problem.{Problem, IsProblem, course_count, room_count, curriculum_count, slot_count, members, day_of}
 use Rattle.ctt_text.specs.Timetable.{Fits, course_row}
 use Rattle.ctt_text.specs.declared.placed.Placed.{Placed}
-use Rattle.ctt_rules.specs.Penalty.{days_of}
 use Rattle.ctt_rules.proofs.SlotLemmas.{day_fits}
-use Rattle.ctt_rules.proofs.SumLemmas.{sum_below_zero}
 use Rattle.ctt_board.specs.Joining.{IsMore, on_day, in_room, in_slot}
 use Rattle.ctt_board.specs.Tables.{Grid, at, Adds, one_at, in_column}
 use Rattle.ctt_board.specs.Counts.{HaveSizes, Counted, AreCounts, AddsLecture, HaveNone, HaveLecture}
 use Rattle.ctt_board.specs.declared.counts.Counts.{Counts}
-use Rattle.ctt_board.proofs.CountedLemmas.{counted_more, days_counted}
-use Rattle.ctt_board.proofs.JoiningLemmas.{more_days, same_used, at_least}
+use Rattle.ctt_board.proofs.CountedLemmas.{counted_more}
 
 -- each of the numbers that pass stands once among them
 pub named_once : (p : ℕ → Bool) (r n : ℕ) → count_by (λ q. q == r) (below p n) ≡ cond (p r && ltb r n) 1 0
@@ -60,41 +57,23 @@ counted_down a b w f g rows width adds e h = record {
 }
 
 module _ (i : Problem) (l : Placed) (t u : List Placed) (more : IsMore l t u) (fits : Fits i l) where
-  pub lectures_step : (r k : ℕ) → r < 1 → length (course_row k u) ≡ one_at true 0 l.course r k + length (course_row k t)
+  pub lectures_step : (r k : ℕ) → r < 1 → length (course_row k u) ≡ one_at 0 l.course r k + length (course_row k t)
   lectures_step r k lr = length-filter (λ x. x.course == k) u ∙ counted_more l t u more (λ x. x.course == k) ∙ ap₂ (λ b n. cond b 1 0 + n) test (sym (length-filter (λ x. x.course == k) t))
     where
-      test : (l.course == k) ≡ (true && (r == 0 && k == l.course))
+      test : (l.course == k) ≡ (r == 0 && k == l.course)
       test = grind (arith, nat_tests)
 
-  pub days_step : (r k : ℕ) → count_by (on_day i r k) u ≡ one_at true l.course (day_of i l.slot) r k + count_by (on_day i r k) t
+  pub days_step : (r k : ℕ) → count_by (on_day i r k) u ≡ one_at l.course (day_of i l.slot) r k + count_by (on_day i r k) t
   days_step r k = counted_more l t u more (on_day i r k) ∙ ap (λ b. cond b 1 0 + count_by (on_day i r k) t) test
     where
-      test : (l.course == r && day_of i l.slot == k) ≡ (true && (r == l.course && k == day_of i l.slot))
+      test : (l.course == r && day_of i l.slot == k) ≡ (r == l.course && k == day_of i l.slot)
       test = grind (arith, nat_tests)
 
-  pub rooms_step : (r k : ℕ) → count_by (in_room r k) u ≡ one_at true l.course l.room r k + count_by (in_room r k) t
+  pub rooms_step : (r k : ℕ) → count_by (in_room r k) u ≡ one_at l.course l.room r k + count_by (in_room r k) t
   rooms_step r k = counted_more l t u more (in_room r k) ∙ ap (λ b. cond b 1 0 + count_by (in_room r k) t) test
     where
-      test : (l.course == r && l.room == k) ≡ (true && (r == l.course && k == l.room))
+      test : (l.course == r && l.room == k) ≡ (r == l.course && k == l.room)
       test = grind (arith, nat_tests)
-
-  pub used_step : (b : Bool) → b ≡ (count_by (on_day i l.course (day_of i l.slot)) t == 0) → (r k : ℕ) → r < 1 → days_of i (course_row k u) ≡ one_at b 0 l.course r k + days_of i (course_row k t)
-  used_step b is r k lr = elim (cases_eq k l.course) [
-    | inl same ↦ (
-        let own = ap (λ d. days_of i (course_row d u)) same ∙ more_days i l t u more fits ∙ ap (λ d. days_of i (course_row d t) + cond (count_by (on_day i l.course (day_of i l.slot)) t == 0) 1 0) (sym same) in
-        let first : (r == 0) ≡ true = eq-eqb r 0 (omega (arith, lr)) in
-        rw (is, first, eq-eqb k l.course same) (own ∙ by (count_by (on_day i l.course (day_of i l.slot)) t == 0) (days_of i (course_row k t))))
-    | inr other ↦ rw (ne_eqb k l.course other) (same_used i l t u more fits k (ne_eqb k l.course other) ∙ none b (r == 0) (days_of i (course_row k t)))
-  ]
-    where
-      by : (b : Bool) (n : ℕ) → n + cond b 1 0 ≡ cond (b && (true && true)) 1 0 + n
-      by true n = omega arith
-      by false n = omega arith
-
-      none : (a b : Bool) (n : ℕ) → n ≡ cond (a && (b && false)) 1 0 + n
-      none true true n = omega arith
-      none true false n = omega arith
-      none false b n = omega arith
 
   pub curricula_step : (r k : ℕ) → r < curriculum_count i → count_by (in_slot (members i r) k) u ≡ in_column (curricula_of i l.course) l.slot r k + count_by (in_slot (members i r) k) t
   curricula_step r k lr = counted_more l t u more (in_slot (members i r) k) ∙ ap (λ n. n + count_by (in_slot (members i r) k) t) (by (has l.course (members i r)) (named_once (λ q. has l.course (members i q)) r (curriculum_count i)))
@@ -114,23 +93,18 @@ module _ (i : Problem) (l : Placed) (t u : List Placed) (more : IsMore l t u) (f
   module _ (a b : Counts) (adds : AddsLecture i l a b) where
     pub counts_more : AreCounts i t a → AreCounts i u b
     counts_more h =
-        let new = ap (λ n. n == 0) (h.days.counts l.course (day_of i l.slot) fits.0 (day_fits i l.slot fits.1)) in
         record {
           lectures = counted_up a.lectures b.lectures _ _ _ _ _ adds.lectures (λ r k lr lk. lectures_step r k lr) h.lectures;
           days = counted_up a.days b.days _ _ _ _ _ adds.days (λ r k lr lk. days_step r k) h.days;
-          used = counted_up a.used b.used _ _ _ _ _ adds.used (λ r k lr lk. used_step _ new r k lr) h.used;
           rooms = counted_up a.rooms b.rooms _ _ _ _ _ adds.rooms (λ r k lr lk. rooms_step r k) h.rooms;
           curricula = counted_up a.curricula b.curricula _ _ _ _ _ adds.curricula (λ r k lr lk. curricula_step r k lr) h.curricula;
         }
 
     pub counts_less : AreCounts i u b → AreCounts i t a
     counts_less h =
-        let days = counted_down a.days b.days _ (λ course day. count_by (on_day i course day) t) _ _ _ adds.days (λ r k lr lk. days_step r k) h.days in
-        let new = ap (λ n. n == 0) (days.counts l.course (day_of i l.slot) fits.0 (day_fits i l.slot fits.1)) in
         record {
           lectures = counted_down a.lectures b.lectures _ _ _ _ _ adds.lectures (λ r k lr lk. lectures_step r k lr) h.lectures;
-          days = days;
-          used = counted_down a.used b.used _ _ _ _ _ adds.used (λ r k lr lk. used_step _ new r k lr) h.used;
+          days = counted_down a.days b.days _ _ _ _ _ adds.days (λ r k lr lk. days_step r k) h.days;
           rooms = counted_down a.rooms b.rooms _ _ _ _ _ adds.rooms (λ r k lr lk. rooms_step r k) h.rooms;
           curricula = counted_down a.curricula b.curricula _ _ _ _ _ adds.curricula (λ r k lr lk. curricula_step r k lr) h.curricula;
         }
@@ -142,34 +116,23 @@ module _ (i : Problem) (l : Placed) (t u : List Placed) (more : IsMore l t u) (f
   -- a lecture that is there is counted
   pub have_lecture : (b : Counts) → IsProblem i → AreCounts i u b → HaveLecture i l b
   have_lecture b p h =
-      let one : (x y : ℕ) → one_at true x y x y ≡ 1 = λ x y. rw (eq-eqb x x refl, eq-eqb y y refl) refl in
+      let one : (x y : ℕ) → one_at x y x y ≡ 1 = λ x y. rw (eq-eqb x x refl, eq-eqb y y refl) refl in
       let day = day_fits i l.slot fits.1 in
       record {
         lectures = omega (arith, h.lectures.counts 0 l.course (omega arith) fits.0, lectures_step 0 l.course (omega arith), one 0 l.course);
         days = omega (arith, h.days.counts l.course (day_of i l.slot) fits.0 day, days_step l.course (day_of i l.slot), one l.course (day_of i l.slot));
-        used = omega (arith, h.used.counts 0 l.course (omega arith) fits.0, some_day);
         rooms = omega (arith, h.rooms.counts l.course l.room fits.0 fits.2, rooms_step l.course l.room, one l.course l.room);
         curricula = λ q lt. omega (arith, h.curricula.counts q l.slot lt fits.1, curricula_step q l.slot lt);
       }
-    where
-      day_one : one_at true l.course (day_of i l.slot) l.course (day_of i l.slot) ≡ 1
-      day_one = rw (eq-eqb l.course l.course refl, eq-eqb (day_of i l.slot) (day_of i l.slot) refl) refl
-
-      some_day : 1 ≤ days_of i (course_row l.course u)
-      some_day =
-          let term = at_least (λ d. cond (ltb 0 (count_by (on_day i l.course d) u)) 1 0) (day_of i l.slot) i.days (day_fits i l.slot fits.1) in
-          let here : 0 < count_by (on_day i l.course (day_of i l.slot)) u = omega (arith, days_step l.course (day_of i l.slot), day_one) in
-          omega (arith, term, days_counted i l.course u, ap (λ b. cond {A = ℕ} b 1 0) (lt-ltb 0 (count_by (on_day i l.course (day_of i l.slot)) u) here))
 
 -- tables of nothing are the counts of the empty timetable
 abbrev pub IsZero : Grid ℕ → ℕ → ℕ → Type 0
 IsZero g rows width = (r k : ℕ) → r < rows → k < width → at g r k 0 ≡ 0
 
-pub none_counted : (i : Problem) (c : Counts) → HaveSizes i c → IsZero c.lectures 1 (course_count i) → IsZero c.days (course_count i) i.days → IsZero c.used 1 (course_count i) → IsZero c.rooms (course_count i) (room_count i) → IsZero c.curricula (curriculum_count i) (slot_count i) → AreCounts i [] c
-none_counted i c h lectures days used rooms curricula = record {
+pub none_counted : (i : Problem) (c : Counts) → HaveSizes i c → IsZero c.lectures 1 (course_count i) → IsZero c.days (course_count i) i.days → IsZero c.rooms (course_count i) (room_count i) → IsZero c.curricula (curriculum_count i) (slot_count i) → AreCounts i [] c
+none_counted i c h lectures days rooms curricula = record {
   lectures = record { size = h.lectures; counts = lectures };
   days = record { size = h.days; counts = days };
-  used = record { size = h.used; counts = λ r k lr lk. used r k lr lk ∙ sym (sum_below_zero (λ d. 0) i.days (λ d lt. refl)) };
   rooms = record { size = h.rooms; counts = rooms };
   curricula = record { size = h.curricula; counts = curricula };
 }

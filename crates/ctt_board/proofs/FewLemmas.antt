@@ -1,13 +1,12 @@
 -- No count of a timetable is large.
 use Rattle.std.proofs.Common.{refl, cond, false, [], ◌∷◌, ◌+◌, ◌≡◌, ℕ, zero, suc, ◌≤◌, Bool, true, ◌==◌, List, length, Option, Some, None, ap, arith}
-use Rattle.std.specs.List.{count_by, list_any}
+use Rattle.std.specs.List.{count_by}
 use Rattle.std.proofs.lemmas.Bool.{and_parts}
 use Rattle.std.proofs.lemmas.List.{length-append}
 use Rattle.std.proofs.lemmas.List.Sums.{length-filter}
 use Rattle.ctt_text.specs.Problem.{Problem, IsProblem, slot_count, day_of}
 use Rattle.ctt_text.specs.Timetable.{IsTimetable, course_row}
 use Rattle.ctt_text.specs.declared.placed.Placed.{Placed}
-use Rattle.ctt_rules.proofs.SumLemmas.{count_below_le}
 use Rattle.ctt_board.specs.Cells.{lecture_at, row_below}
 use Rattle.ctt_board.specs.Changes.{room_at}
 use Rattle.ctt_board.specs.Counts.{AreCounts, HaveRoom}
@@ -50,6 +49,5 @@ pub have_room : (i : Problem) (t : List Placed) (c : Counts) → AreCounts i t c
 have_room i t c h is p = record {
   lectures = λ r k lr lk. omega (arith, h.lectures.counts r k (omega (arith, lr, h.lectures.size.0)) (omega (arith, lk, h.lectures.size.1)), course_short i t is p k);
   days = λ r k lr lk. omega (arith, h.days.counts r k (omega (arith, lr, h.days.size.0)) (omega (arith, lk, h.days.size.1)), of_course i t is p (on_day i r k) r (λ l e. (and_parts (l.course == r) (day_of i l.slot == k) e).0));
-  used = λ r k lr lk. omega (arith, h.used.counts r k (omega (arith, lr, h.used.size.0)) (omega (arith, lk, h.used.size.1)), count_below_le (λ d. list_any (λ (l : Placed). day_of i l.slot == d) (course_row k t)) i.days, p.days_few);
   rooms = λ r k lr lk. omega (arith, h.rooms.counts r k (omega (arith, lr, h.rooms.size.0)) (omega (arith, lk, h.rooms.size.1)), of_course i t is p (in_room r k) r (λ l e. (and_parts (l.course == r) (l.room == k) e).0));
 }

@@ -1,6 +1,6 @@
 -- A timetable is the list of its cells, and so what a table of rooms shows.
-use Rattle.std.proofs.Common.{◌≡◌, ℕ, zero, suc, ◌<◌, ◌≤◌, true, false, cond, ◌&&◌, ◌==◌, ltb, List, [], ◌++◌, ◌+◌, Option, Some, None, is_some, add-one, append_assoc, refl, ◌∙◌, sym, ap, ap₂, subst, arith}
-use Rattle.std.specs.List.{filter, sum_by, count_by, AllByRecursion as Each}
+use Rattle.std.proofs.Common.{◌≡◌, ℕ, zero, suc, ◌<◌, ◌≤◌, true, false, cond, ◌&&◌, ◌==◌, ltb, List, [], ◌++◌, ◌+◌, Option, Some, None, is_some, refl, ◌∙◌, sym, ap, ap₂, subst, arith}
+use Rattle.std.specs.List.{filter, sum_by, AllByRecursion as Each}
 use Rattle.std.proofs.lemmas.Bool.{lt-ltb, le-ltb}
 use Rattle.std.proofs.lemmas.Bool.Decides.{nat_tests}
 use Rattle.ctt_text.specs.Problem.{Problem, course_count, slot_count}
@@ -8,7 +8,7 @@ use Rattle.ctt_text.specs.Timetable.{before, IsTimetable, Fits, course_row, slot
 use Rattle.ctt_text.specs.declared.placed.Placed.{Placed}
 use Rattle.ctt_text.proofs.TimetableLemmas.{Each-map}
 use Rattle.ctt_rules.specs.Hard.{Lawful}
-use Rattle.ctt_rules.specs.Penalty.{penalty, days_of}
+use Rattle.ctt_rules.specs.Penalty.{penalty}
 use Rattle.ctt_board.specs.Joining.{Joins, with_joining, without_joining}
 use Rattle.ctt_board.specs.Seen.{Sees}
 use Rattle.ctt_board.specs.declared.joining.Joining.{Joining}
@@ -51,9 +51,6 @@ rows_same f g m (suc n) e = ap₂ (λ a b. a ++ b) (rows_same f g m n (λ c s lt
 -- a table that has the rooms of a timetable shows it
 pub shown : (i : Problem) (t : List Placed) (g : Grid (Option ℕ)) → IsTimetable i t → AreRooms i t g → listed i g ≡ t
 shown i t g h rooms = rows_same (λ c s. at g c s None) (λ c s. room_at c s t) (slot_count i) (course_count i) rooms.rooms ∙ sym (timetable_is i t h)
-
-pub row_shown : (i : Problem) (t : List Placed) (g : Grid (Option ℕ)) (c : ℕ) → IsTimetable i t → AreRooms i t g → c < course_count i → row_below (λ s. at g c s None) c (slot_count i) ≡ course_row c t
-row_shown i t g c h rooms lt = row_same (λ s. at g c s None) (λ s. room_at c s t) c (slot_count i) (λ s k. rooms.rooms c s lt k) ∙ sym (course_row_is i t c h)
 
 -- the rooms after a cell
 abbrev pub WroteRoom : Problem → Grid (Option ℕ) → Grid (Option ℕ) → ℕ → ℕ → Option ℕ → Type 0
@@ -103,24 +100,12 @@ pub cost_without : (i : Problem) (t u : List Placed) (j : Joining) → Joins i t
 cost_without i t u j h = cost_same (without_joining (penalty i u) j) (penalty i t) (omega (arith, h.capacity)) (omega (arith, h.days)) (omega (arith, h.compactness)) (omega (arith, h.stability))
 
 -- nothing leaves and nothing comes
-pub sees_now : (i : Problem) (t : List Placed) (v : Later) (c : Counts) → AreCounts i t c → v.counts.now ≡ c → v.removed.items ≡ [] → v.added.items ≡ [] → v.gone.items ≡ [] → v.fresh.items ≡ [] → Sees i v t
-sees_now i t v c h e1 e2 e3 e4 e5 = record {
+pub sees_now : (i : Problem) (t : List Placed) (v : Later) (c : Counts) → AreCounts i t c → v.counts.now ≡ c → v.removed.items ≡ [] → v.added.items ≡ [] → Sees i v t
+sees_now i t v c h e1 e2 e3 = record {
   base = t;
   counts = subst (λ x. AreCounts i t x) (sym e1) h;
   balance = λ f. ap (λ a. sum_by f t + sum_by f a) (e2 ∙ sym e3);
-  days = λ d lt. ap (λ a. days_of i (course_row d t) + count_by (λ x. x == d) a) (e4 ∙ sym e5);
 }
-
--- one cell more
-pub row_goes_on : (xs : List Placed) (f : ℕ → Option ℕ) (c n m : ℕ) → m ≡ n → ((xs ++ row_below f c n) ++ lecture_at c m (f m)) ≡ xs ++ row_below f c (n + 1)
-row_goes_on xs f c n m e = rw (add-one, e) (append_assoc xs (row_below f c n) (lecture_at c n (f n)))
-
-pub row_with : (xs before after : List Placed) (f : ℕ → Option ℕ) (c n m : ℕ) (o : Option ℕ) → after ≡ before ++ lecture_at c m o → before ≡ xs ++ row_below f c n → m ≡ n → o ≡ f n → after ≡ xs ++ row_below f c (n + 1)
-row_with xs before after f c n m o more so_far e same =
-    more ∙ ap₂ (λ ys k. ys ++ lecture_at c m k) so_far same ∙ ap (λ k. (xs ++ row_below f c n) ++ lecture_at c m k) (ap f (sym e)) ∙ row_goes_on xs f c n m e
-
-pub column_goes_on : (f : ℕ → Option ℕ) (s n m : ℕ) → m ≡ n → (column_below f s n ++ lecture_at m s (f m)) ≡ column_below f s (n + 1)
-column_goes_on f s n m e = rw (add-one, e) refl
 
 pub column_same : (s : ℕ) (f g : ℕ → Option ℕ) (n : ℕ) → ((c : ℕ) → c < n → f c ≡ g c) → column_below f s n ≡ column_below g s n
 column_same s f g zero e = refl
@@ -141,9 +126,6 @@ module _ (i : Problem) (t : List Placed) (s : ℕ) (h : IsTimetable i t) where
   slot_row_is =
       let courses : Each (λ (l : Placed). ltb l.course (course_count i) ≡ true) (slot_row s t) = Each-map (Fits i) (λ (l : Placed). ltb l.course (course_count i) ≡ true) (λ l f. lt-ltb l.course (course_count i) f.0) (slot_row s t) (Each-filter (Fits i) (λ l. l.slot == s) t h.fits) in
       sym (filter_every (λ (l : Placed). ltb l.course (course_count i)) (slot_row s t) courses) ∙ column_is (course_count i)
-
-  pub column_shown : (g : Grid (Option ℕ)) → AreRooms i t g → s < slot_count i → column_below (λ c. at g c s None) s (course_count i) ≡ slot_row s t
-  column_shown g rooms lt = column_same s (λ c. at g c s None) (λ c. room_at c s t) (course_count i) (λ c lc. rooms.rooms c s lc lt) ∙ sym slot_row_is
 
 -- the empty timetable
 pub none_lawful : (i : Problem) → Lawful i []

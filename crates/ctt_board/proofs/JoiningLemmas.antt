@@ -40,7 +40,7 @@ sum_by_balance a b c d [] h = refl
 sum_by_balance a b c d (x ∷ xs) h = omega (arith, sum_by_balance a b c d xs h, h x, sum_by-cons a x xs, sum_by-cons b x xs, sum_by-cons c x xs, sum_by-cons d x xs)
 
 -- a term is at most its sum
-pub at_least : (f : ℕ → ℕ) (k n : ℕ) → k < n → f k ≤ sum_below f n
+at_least : (f : ℕ → ℕ) (k n : ℕ) → k < n → f k ≤ sum_below f n
 at_least f k zero lt = absurd (omega (arith, lt))
 at_least f k (suc n) lt = elim (cases_eq k n) [
   | inl same ↦ (let e : f k ≡ f n = ap f same in omega (arith, e))
@@ -52,7 +52,7 @@ sum_by_twice f [] = refl
 sum_by_twice f (x ∷ xs) = omega (arith, sum_by_twice f xs, sum_by-cons (λ x. 2 * f x) x xs, sum_by-cons f x xs)
 
 module _ (i : Problem) (l : Placed) (t u : List Placed) (more : IsMore l t u) (fits : Fits i l) where
-  abbrev pub c : ℕ
+  abbrev c : ℕ
   c = l.course
 
   -- a course that the lecture is not of
@@ -72,12 +72,12 @@ module _ (i : Problem) (l : Placed) (t u : List Placed) (more : IsMore l t u) (f
       test : (l.course == c && day_of i l.slot == d) ≡ (d == day_of i l.slot)
       test = grind (arith, nat_tests)
 
-  pub more_days : days_of i (course_row c u) ≡ days_of i (course_row c t) + cond (count_by (on_day i c (day_of i l.slot)) t == 0) 1 0
+  more_days : days_of i (course_row c u) ≡ days_of i (course_row c t) + cond (count_by (on_day i c (day_of i l.slot)) t == 0) 1 0
   more_days =
       days_counted i c u ∙ one_more (λ d. count_by (on_day i c d) t) (λ d. count_by (on_day i c d) u) (day_of i l.slot) i.days on_days (day_fits i l.slot fits.1)
       ∙ ap (λ n. n + cond (count_by (on_day i c (day_of i l.slot)) t == 0) 1 0) (sym (days_counted i c t))
 
-  pub same_used : (d : ℕ) → (d == c) ≡ false → days_of i (course_row d u) ≡ days_of i (course_row d t)
+  same_used : (d : ℕ) → (d == c) ≡ false → days_of i (course_row d u) ≡ days_of i (course_row d t)
   same_used d e = days_counted i d u ∙ sum_below_same (λ k. cond (ltb 0 (count_by (on_day i d k) u)) 1 0) (λ k. cond (ltb 0 (count_by (on_day i d k) t)) 1 0) i.days each ∙ sym (days_counted i d t)
     where
       each : (k : ℕ) → cond (ltb 0 (count_by (on_day i d k) u)) 1 0 ≡ cond {A = ℕ} (ltb 0 (count_by (on_day i d k) t)) 1 0

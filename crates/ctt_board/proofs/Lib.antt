@@ -7,7 +7,6 @@ pub mod RowLemmas
 pub mod CostLemmas
 pub mod MoreLemmas
 pub mod TableLemmas
-mod BitLemmas
 pub mod CountedLemmas
 pub mod JoiningLemmas
 pub mod AloneLemmas
@@ -15,19 +14,15 @@ pub mod CountsLemmas
 pub mod SeenLemmas
 pub mod SlotFacts
 pub mod GridLemmas
-mod ColumnLemmas
 pub mod BetweenLemmas
 pub mod SheetLemmas
 pub mod GainLemmas
 pub mod HolderLemmas
 mod AfterLemmas
 mod FewLemmas
-mod CutLemmas
 pub mod LawfulLemmas
 pub mod SettleLemmas
 pub mod FitLemmas
-mod MarkRowLemmas
 mod MeetingLemmas
 mod ClashLemmas
 pub mod SameLemmas
-mod FilledLemmas

@@ -1,8 +1,7 @@
 -- Counts that are seen through a change are those of the timetable after it.
 use Rattle.std.proofs.Common.{◌≡◌, ℕ, ◌+◌, ◌-◌, ◌<◌, ◌≤◌, Bool, true, false, cond, ◌&&◌, ◌||◌, ◌==◌, ltb, List, [], ◌∷◌, ◌++◌, length, refl, ◌∙◌, sym, ap, ap₂, subst, arith, inl, inr}
-use Rattle.std.specs.List.{sum_by, count_by, list_any, AllByRecursion as Each}
-use Rattle.std.proofs.lemmas.Bool.{cases_lt, eq-eqb, ne_eqb, lt-ltb, le-ltb, or_parts}
-use Rattle.std.proofs.lemmas.Bool.Decides.{nat_tests}
+use Rattle.std.specs.List.{sum_by, count_by, AllByRecursion as Each}
+use Rattle.std.proofs.lemmas.Bool.{cases_lt, ne_eqb, lt-ltb, le-ltb}
 use Rattle.std.proofs.lemmas.List.Sums.{sum_by-cons, sum_by-append, length-filter}
 use Rattle.ctt_text.specs.Lists.{has}
 use Rattle.ctt_text.specs.Belonging.{curricula_of}
@@ -13,13 +12,13 @@ use Rattle.ctt_rules.specs.Penalty.{days_of}
 use Rattle.ctt_rules.proofs.SlotLemmas.{day_fits}
 use Rattle.ctt_rules.proofs.TimetableLemmas.{slots_fit}
 use Rattle.ctt_board.specs.Joining.{IsMore, on_day, in_room, in_slot, by_slot, alone_at, alone_beside, stands_alone, joining}
-use Rattle.ctt_board.specs.Tables.{at, one_at}
+use Rattle.ctt_board.specs.Tables.{at}
 use Rattle.ctt_board.specs.Counts.{AreCounts}
 use Rattle.ctt_board.specs.Seen.{Sees, seen, seen_day, seen_room, seen_lectures, seen_curriculum, seen_days, seen_joining}
 use Rattle.ctt_board.specs.declared.later.Later.{Later}
-use Rattle.ctt_board.proofs.CountsLemmas.{used_step}
 use Rattle.ctt_text.proofs.BelongingLemmas.{curricula_fit}
-use Rattle.ctt_board.proofs.CountedLemmas.{counted_more}
+use Rattle.ctt_text.proofs.MarkLemmas.{count_below_same}
+use Rattle.ctt_board.proofs.CountedLemmas.{days_counted}
 
 pub turned_and : (a b : Bool) → (a && b) ≡ (b && a)
 turned_and true true = refl
@@ -52,19 +51,6 @@ none_there i q s (x ∷ xs) le h =
     let no' : in_slot q s x ≡ false = ap (λ b. has x.course q && b) (ne_eqb x.slot s (λ e. omega (arith, e, lt, le))) ∙ turned_and (has x.course q) false in
     omega (arith, sum_by-cons (λ l. cond (in_slot q s l) 1 0) x xs, none_there i q s xs le h.1, ap (λ b. cond {A = ℕ} b 1 0) no')
 
-none_in_slot : (q : List ℕ) (s : ℕ) (ls : List Placed) → list_any (λ (l : Placed). l.slot == s) ls ≡ false → count_by (in_slot q s) ls ≡ 0
-none_in_slot q s [] e = refl
-none_in_slot q s (x ∷ xs) e =
-    let parts = or_parts (x.slot == s) (list_any (λ (l : Placed). l.slot == s) xs) e in
-    let other : in_slot q s x ≡ false = ap (λ b. has x.course q && b) parts.0 ∙ turned_and (has x.course q) false in
-    omega (arith, sum_by-cons (λ l. cond (in_slot q s l) 1 0) x xs, none_in_slot q s xs parts.1, ap (λ b. cond {A = ℕ} b 1 0) other)
-
--- a slot that no lecture comes to, or leaves
-pub unchanged : (v : Later) (q : List ℕ) (s n : ℕ) → (list_any (λ (l : Placed). l.slot == s) v.added.items || list_any (λ (l : Placed). l.slot == s) v.removed.items) ≡ false → seen v (in_slot q s) n ≡ n
-unchanged v q s n e =
-    let parts = or_parts (list_any (λ (l : Placed). l.slot == s) v.added.items) (list_any (λ (l : Placed). l.slot == s) v.removed.items) e in
-    omega (arith, none_in_slot q s v.added.items parts.0, none_in_slot q s v.removed.items parts.1)
-
 module _ (i : Problem) (v : Later) (t : List Placed) (h : Sees i v t) where
   seen_is : (p : Placed → Bool) (n : ℕ) → n ≡ count_by p h.base → seen v p n ≡ count_by p t
   seen_is p n e = omega (arith, e, h.balance (λ l. cond (p l) 1 0))
@@ -78,8 +64,8 @@ module _ (i : Problem) (v : Later) (t : List Placed) (h : Sees i v t) where
   lectures_is : (c : ℕ) → c < course_count i → seen_lectures v c ≡ length (course_row c t)
   lectures_is c lc = seen_is (λ l. l.course == c) (at v.counts.now.lectures 0 c 0) (h.counts.lectures.counts 0 c (omega arith) lc ∙ length-filter (λ l. l.course == c) h.base) ∙ sym (length-filter (λ l. l.course == c) t)
 
-  days_is : (c : ℕ) → c < course_count i → seen_days v c ≡ days_of i (course_row c t)
-  days_is c lc = omega (arith, h.counts.used.counts 0 c (omega arith) lc, h.days c lc)
+  days_is : (c : ℕ) → c < course_count i → seen_days i v c ≡ days_of i (course_row c t)
+  days_is c lc = count_below_same (λ d. ltb 0 (seen_day i v c d)) (λ d. ltb 0 (count_by (on_day i c d) t)) i.days (λ d ld. ap (ltb 0) (day_is c d lc ld)) ∙ sym (days_counted i c t)
 
   pub curriculum_is : Each (Fits i) t → (q : ℕ) → q < curriculum_count i → (s : ℕ) → seen_curriculum i v q s ≡ by_slot (members i q) t s
   curriculum_is fit q lq s = elim (cases_lt s (slot_count i)) [
@@ -95,70 +81,18 @@ module _ (i : Problem) (v : Later) (t : List Placed) (h : Sees i v t) where
       let company = sum_by_each (λ q. alone_beside i (seen_curriculum i v q) l.slot) (λ q. alone_beside i (by_slot (members i q) t) l.slot) qs (Each-each (λ q. q < curriculum_count i) (λ q. alone_beside i (seen_curriculum i v q) l.slot ≡ alone_beside i (by_slot (members i q) t) l.slot) (λ q lt. beside_same i (seen_curriculum i v q) (by_slot (members i q) t) (curriculum_is fit q lt) l.slot) qs known) in
       rw (day_is l.course (day_of i l.slot) fits.0 (day_fits i l.slot fits.1), days_is l.course fits.0, lectures_is l.course fits.0, room_is l.course l.room fits.0 fits.2, alone, company) refl
 
--- a lecture that leaves was one of its course on its day
-pub day_left : (i : Problem) (l : Placed) (v w : Later) → w.counts.now ≡ v.counts.now → w.added.items ≡ v.added.items → w.removed.items ≡ v.removed.items ++ l ∷ [] → seen_day i w l.course (day_of i l.slot) ≡ seen_day i v l.course (day_of i l.slot) - 1
-day_left i l v w counts added removed = omega (arith, gone, ap (count_by p) added, ap (λ c. at c.days l.course (day_of i l.slot) 0) counts)
-  where
-    p : Placed → Bool
-    p = on_day i l.course (day_of i l.slot)
-
-    mine : p l ≡ true
-    mine = rw (eq-eqb l.course l.course refl, eq-eqb (day_of i l.slot) (day_of i l.slot) refl) refl
-
-    gone : count_by p w.removed.items ≡ count_by p v.removed.items + 1
-    gone = ap (count_by p) removed ∙ sum_by-append (λ x. cond (p x) 1 0) v.removed.items (l ∷ []) ∙ ap (λ n. count_by p v.removed.items + n) (sum_by-cons (λ x. cond (p x) 1 0) l [] ∙ ap (λ b. cond {A = ℕ} b 1 0 + 0) mine)
-
 -- a lecture comes
-pub sees_come : (i : Problem) (l : Placed) (t u : List Placed) (v w : Later) → IsMore l t u → Fits i l → Sees i v t → w.counts.now ≡ v.counts.now → w.removed.items ≡ v.removed.items → w.gone.items ≡ v.gone.items
-    → w.added.items ≡ v.added.items ++ l ∷ [] → w.fresh.items ≡ v.fresh.items ++ cond (seen_day i v l.course (day_of i l.slot) == 0) (l.course ∷ []) [] → Sees i w u
-sees_come i l t u v w more fits h counts removed gone added fresh = record {
+pub sees_come : (i : Problem) (l : Placed) (t u : List Placed) (v w : Later) → IsMore l t u → Sees i v t → w.counts.now ≡ v.counts.now → w.removed.items ≡ v.removed.items → w.added.items ≡ v.added.items ++ l ∷ [] → Sees i w u
+sees_come i l t u v w more h counts removed added = record {
   base = h.base;
   counts = subst (λ x. AreCounts i h.base x) (sym counts) h.counts;
   balance = λ f. omega (arith, more f, h.balance f, ap (sum_by f) removed, ap (sum_by f) added ∙ sum_by-append f v.added.items (l ∷ []), sum_by-cons f l []);
-  days = λ c lt. omega (arith, used_step i l t u more fits new refl 0 c (omega arith), h.days c lt, ap (count_by (λ d. d == c)) gone, ap (count_by (λ d. d == c)) fresh ∙ sum_by-append (λ d. cond (d == c) 1 0) v.fresh.items (cond (seen_day i v l.course (day_of i l.slot) == 0) (l.course ∷ []) []) ∙ ap (λ x. count_by (λ d. d == c) v.fresh.items + count_by (λ d. d == c) (cond (x == 0) (l.course ∷ []) [])) there, named new c);
 }
-  where
-    new : Bool
-    new = count_by (on_day i l.course (day_of i l.slot)) t == 0
-
-    there : seen_day i v l.course (day_of i l.slot) ≡ count_by (on_day i l.course (day_of i l.slot)) t
-    there = day_is i v t h l.course (day_of i l.slot) fits.0 (day_fits i l.slot fits.1)
-
-    named : (b : Bool) (c : ℕ) → count_by (λ d. d == c) (cond b (l.course ∷ []) []) ≡ one_at b 0 l.course 0 c
-    named true c = omega (arith, ap (λ b. cond {A = ℕ} b 1 0) (turned l.course c))
-      where
-        turned : (a b : ℕ) → (a == b) ≡ (true && (0 == 0 && b == a))
-        turned a b = grind (arith, nat_tests)
-    named false c = refl
 
 -- a lecture leaves
-pub sees_leave : (i : Problem) (l : Placed) (t u : List Placed) (v w : Later) → IsMore l u t → Fits i l → Sees i v t → w.counts.now ≡ v.counts.now → w.added.items ≡ v.added.items → w.fresh.items ≡ v.fresh.items
-    → w.removed.items ≡ v.removed.items ++ l ∷ [] → w.gone.items ≡ v.gone.items ++ cond (seen_day i v l.course (day_of i l.slot) == 1) (l.course ∷ []) [] → Sees i w u
-sees_leave i l t u v w more fits h counts added fresh removed gone = record {
+pub sees_leave : (i : Problem) (l : Placed) (t u : List Placed) (v w : Later) → IsMore l u t → Sees i v t → w.counts.now ≡ v.counts.now → w.added.items ≡ v.added.items → w.removed.items ≡ v.removed.items ++ l ∷ [] → Sees i w u
+sees_leave i l t u v w more h counts added removed = record {
   base = h.base;
   counts = subst (λ x. AreCounts i h.base x) (sym counts) h.counts;
   balance = λ f. omega (arith, more f, h.balance f, ap (sum_by f) added, ap (sum_by f) removed ∙ sum_by-append f v.removed.items (l ∷ []), sum_by-cons f l []);
-  days = λ c lt. omega (arith, used_step i l u t more fits new refl 0 c (omega arith), h.days c lt, ap (count_by (λ d. d == c)) fresh, ap (count_by (λ d. d == c)) gone ∙ sum_by-append (λ d. cond (d == c) 1 0) v.gone.items (cond (seen_day i v l.course (day_of i l.slot) == 1) (l.course ∷ []) []) ∙ ap (λ x. count_by (λ d. d == c) v.gone.items + count_by (λ d. d == c) (cond x (l.course ∷ []) [])) there, named new c);
 }
-  where
-    new : Bool
-    new = count_by (on_day i l.course (day_of i l.slot)) u == 0
-
-    mine : on_day i l.course (day_of i l.slot) l ≡ true
-    mine = rw (eq-eqb l.course l.course refl, eq-eqb (day_of i l.slot) (day_of i l.slot) refl) refl
-
-    one : count_by (on_day i l.course (day_of i l.slot)) t ≡ 1 + count_by (on_day i l.course (day_of i l.slot)) u
-    one = counted_more l u t more (on_day i l.course (day_of i l.slot)) ∙ ap (λ x. cond x 1 0 + count_by (on_day i l.course (day_of i l.slot)) u) mine
-
-    last : (m n : ℕ) → m ≡ 1 + n → (m == 1) ≡ (n == 0)
-    last m n e = grind (arith, nat_tests, e)
-
-    there : (seen_day i v l.course (day_of i l.slot) == 1) ≡ new
-    there = ap (λ n. n == 1) (day_is i v t h l.course (day_of i l.slot) fits.0 (day_fits i l.slot fits.1)) ∙ last (count_by (on_day i l.course (day_of i l.slot)) t) (count_by (on_day i l.course (day_of i l.slot)) u) one
-
-    named : (b : Bool) (c : ℕ) → count_by (λ d. d == c) (cond b (l.course ∷ []) []) ≡ one_at b 0 l.course 0 c
-    named true c = omega (arith, ap (λ b. cond {A = ℕ} b 1 0) (turned l.course c))
-      where
-        turned : (a b : ℕ) → (a == b) ≡ (true && (0 == 0 && b == a))
-        turned a b = grind (arith, nat_tests)
-    named false c = refl

@@ -2,8 +2,7 @@
 use Rattle.std.proofs.Common.{◌≡◌, ℕ, zero, suc, ◌+◌, ◌-◌, ◌*◌, ◌/◌, ◌∙◌, ap, ◌%◌, ◌<◌, ◌≤◌, arith}
 use Rattle.std.proofs.Math.Nat.{zero-mod, div-add-mod, mul-add-mod_self_left, mod-eq_of_lt, mod-lt}
 use Rattle.std.proofs.lemmas.Bool.{lt-ltb}
-use Rattle.std.proofs.lemmas.Nat.{div-add-mod'}
-use Rattle.ctt_text.specs.Problem.{Problem, slot_count, day_of, period_of}
+use Rattle.ctt_text.specs.Problem.{Problem, slot_count, period_of}
 use Rattle.ctt_rules.proofs.SlotLemmas.{periods_above}
 use Rattle.ctt_board.proofs.AloneLemmas.{next_fits}
 
@@ -27,13 +26,6 @@ before s p some lt =
     let same : s - 1 ≡ p * (s / p) + (s % p - 1) = omega (arith, div-add-mod s p, lt) in
     let less : s % p - 1 < p = omega (arith, mod-lt s some) in
     ap (λ n. n % p) same ∙ mul-add-mod_self_left p (s / p) (s % p - 1) ∙ mod-eq_of_lt less
-
--- where the day of a slot begins, and the period of the slot from there
-pub day_begins : (i : Problem) (s d p : ℕ) → d ≡ day_of i s → p ≡ i.periods → d * p ≤ s
-day_begins i s d p e f = rw (e, f) (omega (arith, div-add-mod' s i.periods))
-
-pub period_on_day : (i : Problem) (s d p : ℕ) → d ≡ day_of i s → p ≡ i.periods → s - d * p ≡ period_of i s
-period_on_day i s d p e f = rw (e, f) (omega (arith, div-add-mod' s i.periods))
 
 -- the periods of the slots beside a slot
 pub period_after : (i : Problem) (s : ℕ) → period_of i s + 1 < i.periods → period_of i (s + 1) ≡ period_of i s + 1

@@ -1,10 +1,10 @@
 -- Writes to a table.
-use Rattle.std.proofs.Common.{◌≡◌, ◌≢◌, ℕ, suc, ◌+◌, ◌-◌, ◌*◌, ◌<◌, ◌≤◌, Bool, true, false, cond, ◌&&◌, ◌==◌, List, length, take, drop, get_or, set, count_by, refl, ◌∙◌, sym, ap, ap₂, arith, inl, inr}
+use Rattle.std.proofs.Common.{◌≡◌, ◌≢◌, ℕ, suc, ◌+◌, ◌*◌, ◌<◌, ◌≤◌, Bool, true, false, cond, ◌&&◌, ◌==◌, List, length, take, get_or, set, count_by, refl, ◌∙◌, sym, ap, ap₂, arith, inl, inr}
 use Rattle.std.proofs.lemmas.Bool.{cases_Bool, cases_eq, cases_order, eq-eqb, ne_eqb, eqb-true, and_parts}
 use Rattle.std.proofs.lemmas.Bool.Decides.{nat_tests}
 use Rattle.std.proofs.lemmas.List.Sums.{sum_by_more, sum_by-take-le}
 use Rattle.ctt_board.specs.Tables.{Grid, at, Adds, one_at, in_column}
-use Rattle.std.proofs.lemmas.List.{get_or-set_same, get_or-set_other, get_or-take, get_or-drop, length-take-le, length-drop}
+use Rattle.std.proofs.lemmas.List.{get_or-set_same, get_or-set_other}
 use Rattle.std.proofs.Math.Nat.{mul-le-mul_right}
 
 -- a place in a row before is another place
@@ -35,21 +35,11 @@ at_set cells w r c r2 c2 x d lt lt2 within = elim (cases_order r2 r) [
 pub in_table : (w rows r c : ℕ) → r < rows → c < w → r * w + c < rows * w
 in_table w rows r c less lt = (let all : suc r * w ≤ rows * w = mul-le-mul_right w less in omega (arith, all))
 
--- the cells of a row, cut out of all cells
-pub row_inside : (w rows r : ℕ) → r < rows → r * w + w ≤ rows * w
-row_inside w rows r less = (let all : suc r * w ≤ rows * w = mul-le-mul_right w less in omega (arith, all))
-
-pub row_of : {X : Type 0} (cells : List X) (start w column : ℕ) (d : X) → column < w → get_or (take (start + w - start) (drop start cells)) column d ≡ get_or cells (start + column) d
-row_of cells start w column d lt = get_or-take (start + w - start) (drop start cells) column d (omega (arith, lt)) ∙ get_or-drop start cells column d
-
-pub length_of_row : {X : Type 0} (cells : List X) (start w : ℕ) → start + w ≤ length cells → length (take (start + w - start) (drop start cells)) ≡ w
-length_of_row cells start w le = length-take-le (start + w - start) (drop start cells) (rw length-drop (omega (arith, le))) ∙ omega arith
-
 -- one more at a place
-pub set_more : (old new : Grid ℕ) (row column n : ℕ) → new.rows ≡ old.rows → new.width ≡ old.width → n ≡ at old row column 0 + 1 → ((r k d : ℕ) → k < old.width → at new r k d ≡ cond (r == row && k == column) n (at old r k d)) → Adds old new (one_at true row column)
+pub set_more : (old new : Grid ℕ) (row column n : ℕ) → new.rows ≡ old.rows → new.width ≡ old.width → n ≡ at old row column 0 + 1 → ((r k d : ℕ) → k < old.width → at new r k d ≡ cond (r == row && k == column) n (at old r k d)) → Adds old new (one_at row column)
 set_more old new row column n rows width is wrote = record { rows = rows; width = width; sums = λ r k lt. wrote r k 0 lt ∙ each r k }
   where
-    each : (r k : ℕ) → cond (r == row && k == column) n (at old r k 0) ≡ cond (true && (r == row && k == column)) 1 0 + at old r k 0
+    each : (r k : ℕ) → cond (r == row && k == column) n (at old r k 0) ≡ cond (r == row && k == column) 1 0 + at old r k 0
     each r k = elim (cases_Bool (r == row && k == column)) [
       | inl y ↦ (
           let parts = and_parts (r == row) (k == column) y in
@@ -59,12 +49,12 @@ set_more old new row column n rows width is wrote = record { rows = rows; width 
     ]
 
 -- one row more of a column
-pub column_more : (rows : List ℕ) (n row column : ℕ) → n < length rows → row ≡ get_or rows n row → (r k : ℕ) → in_column (take (n + 1) rows) column r k ≡ one_at true row column r k + in_column (take n rows) column r k
+pub column_more : (rows : List ℕ) (n row column : ℕ) → n < length rows → row ≡ get_or rows n row → (r k : ℕ) → in_column (take (n + 1) rows) column r k ≡ one_at row column r k + in_column (take n rows) column r k
 column_more rows n row column lt is r k =
     ap (λ m. cond (k == column) m 0) (sum_by_more (λ q. cond (q == r) 1 0) rows n row lt ∙ ap (λ q. count_by (λ q. q == r) (take n rows) + cond (q == r) 1 0) (sym is))
     ∙ by (k == column) (count_by (λ q. q == r) (take n rows)) (row == r) (r == row) (grind (arith, nat_tests))
   where
-    by : (b : Bool) (m : ℕ) (x y : Bool) → x ≡ y → cond b (m + cond x 1 0) 0 ≡ cond (true && (y && b)) 1 0 + cond b m 0
+    by : (b : Bool) (m : ℕ) (x y : Bool) → x ≡ y → cond b (m + cond x 1 0) 0 ≡ cond (y && b) 1 0 + cond b m 0
     by true m true y e = rw (sym e) (omega arith)
     by true m false y e = rw (sym e) (omega arith)
     by false m x true e = omega arith
@@ -74,7 +64,7 @@ column_more rows n row column lt is r k =
 pub one_left : (rows : List ℕ) (n row column : ℕ) → n < length rows → row ≡ get_or rows n row → in_column (take n rows) column row column + 1 ≤ in_column rows column row column
 one_left rows n row column lt is =
     let more = column_more rows n row column lt is row column in
-    let one : one_at true row column row column ≡ 1 = rw (eq-eqb row row refl, eq-eqb column column refl) refl in
+    let one : one_at row column row column ≡ 1 = rw (eq-eqb row row refl, eq-eqb column column refl) refl in
     let most : count_by (λ q. q == row) (take (n + 1) rows) ≤ count_by (λ q. q == row) rows = sum_by-take-le (λ q. cond (q == row) 1 0) rows (n + 1) in
     let there : (m : ℕ) → cond (column == column) m 0 ≡ m = λ m. rw (eq-eqb column column refl) refl in
     omega (arith, more, one, most, there (count_by (λ q. q == row) (take (n + 1) rows)), there (count_by (λ q. q == row) rows))

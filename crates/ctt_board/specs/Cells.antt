@@ -11,8 +11,3 @@ lecture_at c s (Some r) = record { course = c; slot = s; room = r } ∷ []
 abbrev pub row_below : (ℕ → Option ℕ) → ℕ → ℕ → List Placed
 row_below f c zero = []
 row_below f c (suc n) = row_below f c n ++ lecture_at c n (f n)
-
--- the lectures of a course in the slots from s on, of which these are the rooms, or none
-abbrev pub row_from : List (Option ℕ) → ℕ → ℕ → List Placed
-row_from [] c s = []
-row_from (here ∷ cells) c s = lecture_at c s here ++ row_from cells c (suc s)

@@ -1,10 +1,9 @@
 -- The tables of a sheet, by its timetable.
-use Rattle.std.specs.Prelude.{◌≡◌, ◌<◌, ◌≤◌, ◌+◌, ℕ, true, List, length, count_by, ◌==◌}
+use Rattle.std.specs.Prelude.{◌≡◌, ◌<◌, ◌≤◌, ◌+◌, ℕ, List, length, count_by}
 use Rattle.ctt_text.specs.Belonging.{curricula_of}
 use Rattle.ctt_text.specs.Problem.{Problem, course_count, room_count, curriculum_count, slot_count, members, day_of}
 use Rattle.ctt_text.specs.Timetable.{course_row}
 use Rattle.ctt_text.specs.declared.placed.Placed.{Placed}
-use Rattle.ctt_rules.specs.Penalty.{days_of}
 use Rattle.ctt_board.specs.Joining.{on_day, in_room, in_slot}
 use Rattle.ctt_board.specs.Tables.{Grid, at, Adds, AreFew, one_at, in_column}
 use Rattle.ctt_board.specs.declared.counts.Counts.{Counts}
@@ -16,7 +15,6 @@ HasSize g rows width = (g.rows ≡ rows) × (g.width ≡ width)
 pub record HaveSizes (i : Problem) (c : Counts) : Type 0 where
   pub lectures : HasSize c.lectures 1 (course_count i)
   pub days : HasSize c.days (course_count i) i.days
-  pub used : HasSize c.used 1 (course_count i)
   pub rooms : HasSize c.rooms (course_count i) (room_count i)
   pub curricula : HasSize c.curricula (curriculum_count i) (slot_count i)
 
@@ -25,27 +23,24 @@ pub record Counted (g : Grid ℕ) (rows width : ℕ) (count : ℕ → ℕ → �
   pub size : HasSize g rows width
   pub counts : (r k : ℕ) → r < rows → k < width → at g r k 0 ≡ count r k
 
--- of each course the lectures, those on each day, the days, and those in each room; of each curriculum those in each slot
+-- of each course the lectures, those on each day, and those in each room; of each curriculum those in each slot
 pub record AreCounts (i : Problem) (t : List Placed) (c : Counts) : Type 0 where
   pub lectures : Counted c.lectures 1 (course_count i) (λ _ course. length (course_row course t))
   pub days : Counted c.days (course_count i) i.days (λ course day. count_by (on_day i course day) t)
-  pub used : Counted c.used 1 (course_count i) (λ _ course. days_of i (course_row course t))
   pub rooms : Counted c.rooms (course_count i) (room_count i) (λ course room. count_by (in_room course room) t)
   pub curricula : Counted c.curricula (curriculum_count i) (slot_count i) (λ q slot. count_by (in_slot (members i q) slot) t)
 
 -- what one lecture more adds to each table
 pub record AddsLecture (i : Problem) (l : Placed) (old new : Counts) : Type 0 where
-  pub lectures : Adds old.lectures new.lectures (one_at true 0 l.course)
-  pub days : Adds old.days new.days (one_at true l.course (day_of i l.slot))
-  pub used : Adds old.used new.used (one_at (at old.days l.course (day_of i l.slot) 0 == 0) 0 l.course)
-  pub rooms : Adds old.rooms new.rooms (one_at true l.course l.room)
+  pub lectures : Adds old.lectures new.lectures (one_at 0 l.course)
+  pub days : Adds old.days new.days (one_at l.course (day_of i l.slot))
+  pub rooms : Adds old.rooms new.rooms (one_at l.course l.room)
   pub curricula : Adds old.curricula new.curricula (in_column (curricula_of i l.course) l.slot)
 
 -- no number is large, so that one more fits
 pub record HaveRoom (c : Counts) : Type 0 where
   pub lectures : AreFew c.lectures
   pub days : AreFew c.days
-  pub used : AreFew c.used
   pub rooms : AreFew c.rooms
 
 -- no curriculum of a lecture's course has one in its slot, so that it can have this one
@@ -56,6 +51,5 @@ HaveNone i l c = (q : ℕ) → q < curriculum_count i → in_column (curricula_o
 pub record HaveLecture (i : Problem) (l : Placed) (c : Counts) : Type 0 where
   pub lectures : 1 ≤ at c.lectures 0 l.course 0
   pub days : 1 ≤ at c.days l.course (day_of i l.slot) 0
-  pub used : 1 ≤ at c.used 0 l.course 0
   pub rooms : 1 ≤ at c.rooms l.course l.room 0
   pub curricula : (q : ℕ) → q < curriculum_count i → in_column (curricula_of i l.course) l.slot q l.slot ≤ at c.curricula q l.slot 0

@@ -8,7 +8,7 @@ use Rattle.ctt_rules.specs.declared.cost.Cost.{Cost}
 use Rattle.ctt_board.specs.Changes.{room_at, holder_at}
 use Rattle.ctt_board.specs.Cells.{row_below, lecture_at}
 use Rattle.ctt_board.specs.Tables.{Grid, at}
-use Rattle.ctt_board.specs.MarkRows.{RowsOfMarks, is_marked_in}
+use Rattle.ctt_text.specs.BitRows.{BitTable, is_marked_in}
 use Rattle.ctt_board.specs.Counts.{HasSize, AreCounts}
 use Rattle.ctt_board.specs.declared.tables.Tables.{Tables}
 
@@ -37,11 +37,11 @@ pub record AreHolders (i : Problem) (t : List Placed) (g : Grid (Option ℕ)) : 
   pub courses : (s r : ℕ) → s < slot_count i → r < room_count i → at g s r None ≡ holder_at s r t
 
 -- there is a row of marks on the courses for each slot
-abbrev pub HaveRows : RowsOfMarks → Problem → Type 0
-HaveRows g i = (g.rows ≡ slot_count i) × (g.numbers ≡ course_count i)
+abbrev pub HaveRows : BitTable → Problem → Type 0
+HaveRows g i = (g.rows ≡ slot_count i) × (g.width ≡ course_count i)
 
 -- the courses that stand in each slot
-pub record AreStanding (i : Problem) (t : List Placed) (g : RowsOfMarks) : Type 0 where
+pub record AreStanding (i : Problem) (t : List Placed) (g : BitTable) : Type 0 where
   pub size : HaveRows g i
   pub courses : (s c : ℕ) → s < slot_count i → is_marked_in g s c ≡ is_some (room_at c s t)
 

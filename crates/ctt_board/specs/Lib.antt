@@ -7,7 +7,6 @@ pub mod Joining
 pub mod Tables
 pub mod Counts
 pub mod Seen
-pub mod MarkRows
 pub mod Grids
 pub mod Ways
 pub mod Fitting

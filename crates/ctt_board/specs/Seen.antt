@@ -1,11 +1,10 @@
 -- Counts of a timetable, seen through lectures that leave it and lectures that come.
-use Rattle.std.specs.Prelude.{◌≡◌, ◌<◌, ◌≤◌, length, ℕ, ◌+◌, ◌-◌, Bool, cond, List, sum_by, count_by, ◌==◌, nat_lt}
+use Rattle.std.specs.Prelude.{◌≡◌, ◌≤◌, length, ℕ, ◌+◌, ◌-◌, Bool, cond, List, sum_by, count_by, ◌==◌, nat_lt}
 use Rattle.std.specs.List.{AllByRecursion as Each}
+use Rattle.ctt_text.specs.Lists.{count_below}
 use Rattle.ctt_text.specs.Belonging.{curricula_of}
-use Rattle.ctt_text.specs.Problem.{Problem, course_count, slot_count, members, day_of}
-use Rattle.ctt_text.specs.Timetable.{course_row}
+use Rattle.ctt_text.specs.Problem.{Problem, slot_count, members, day_of}
 use Rattle.ctt_text.specs.declared.placed.Placed.{Placed}
-use Rattle.ctt_rules.specs.Penalty.{days_of}
 use Rattle.ctt_board.specs.Joining.{on_day, in_room, in_slot, joining_by}
 use Rattle.ctt_board.specs.Tables.{at}
 use Rattle.ctt_board.specs.Counts.{AreCounts}
@@ -28,13 +27,13 @@ seen_lectures v c = seen v (λ l. l.course == c) (at v.counts.now.lectures 0 c 0
 abbrev pub seen_curriculum : Problem → Later → ℕ → ℕ → ℕ
 seen_curriculum i v q s = cond (nat_lt s (slot_count i)) (seen v (in_slot (members i q) s) (at v.counts.now.curricula q s 0)) 0
 
--- the days of a course, with those that it gained and without those that it lost
-abbrev pub seen_days : Later → ℕ → ℕ
-seen_days v c = (at v.counts.now.used 0 c 0 + count_by (λ d. d == c) v.fresh.items) - count_by (λ d. d == c) v.gone.items
+-- the days of a course
+abbrev pub seen_days : Problem → Later → ℕ → ℕ
+seen_days i v c = count_below (λ d. nat_lt 0 (seen_day i v c d)) i.days
 
 -- what a lecture would add and take
 abbrev pub seen_joining : Problem → Later → Placed → Joining
-seen_joining i v l = joining_by i l (seen_day i v l.course (day_of i l.slot)) (seen_days v l.course) (seen_lectures v l.course) (seen_room v l.course l.room) (seen_curriculum i v)
+seen_joining i v l = joining_by i l (seen_day i v l.course (day_of i l.slot)) (seen_days i v l.course) (seen_lectures v l.course) (seen_room v l.course l.room) (seen_curriculum i v)
 
 -- the curricula of its course have no lecture in its slot, or at most one each
 abbrev pub NoneThere : Problem → Later → Placed → Type 0
@@ -48,11 +47,8 @@ pub record Sees (i : Problem) (v : Later) (t : List Placed) : Type 0 where
   pub base : List Placed
   pub counts : AreCounts i base v.counts.now
   pub balance : (f : Placed → ℕ) → sum_by f t + sum_by f v.removed.items ≡ sum_by f base + sum_by f v.added.items
-  pub days : (c : ℕ) → c < course_count i → days_of i (course_row c t) + count_by (λ d. d == c) v.gone.items ≡ days_of i (course_row c base) + count_by (λ d. d == c) v.fresh.items
 
 -- no list of what leaves and comes is longer than n
 pub record HasPlaces (v : Later) (n : ℕ) : Type 0 where
   pub removed : length v.removed.items ≤ n
   pub added : length v.added.items ≤ n
-  pub gone : length v.gone.items ≤ n
-  pub fresh : length v.fresh.items ≤ n

@@ -1,8 +1,6 @@
 -- A table of a fixed size.
-use Rattle.std.specs.Prelude.{◌≡◌, ◌<◌, ◌≤◌, ℕ, ◌+◌, ◌*◌, Bool, cond, ◌&&◌, ◌==◌, List, map, length, get_or, count_by, refl}
-use Rattle.std.specs.List.{range_with_len}
+use Rattle.std.specs.Prelude.{◌≡◌, ◌<◌, ◌≤◌, ℕ, ◌+◌, ◌*◌, cond, ◌&&◌, ◌==◌, List, get_or, count_by, refl}
 use Rattle.std.specs.Coded.{Coded, code_by, coded×, coded_ℕ, coded_list}
-use Rattle.ctt_text.specs.Marks.{is_marked}
 
 -- rows of one width, one behind the other
 pub record Grid (T : Type 0) : Type 0 where
@@ -25,22 +23,13 @@ pub record Adds (old new : Grid ℕ) (w : ℕ → ℕ → ℕ) : Type 0 where
   pub width : new.width ≡ old.width
   pub sums : (r k : ℕ) → k < old.width → at new r k 0 ≡ w r k + at old r k 0
 
--- one at a place, if it is wanted
-abbrev pub one_at : Bool → ℕ → ℕ → ℕ → ℕ → ℕ
-one_at wanted row column r k = cond (wanted && (r == row && k == column)) 1 0
+-- one at a place
+abbrev pub one_at : ℕ → ℕ → ℕ → ℕ → ℕ
+one_at row column r k = cond (r == row && k == column) 1 0
 
 -- in one column, each row as often as it is named
 abbrev pub in_column : List ℕ → ℕ → ℕ → ℕ → ℕ
 in_column rows column r k = cond (k == column) (count_by (λ q. q == r) rows) 0
-
--- the bits of some words below n, each as the number zero or one
-unfoldable pub bits_of : ℕ → List ℕ → List ℕ
-bits_of n words = map (λ k. cond (is_marked words k) 1 0) (range_with_len 0 n)
-
--- there are words for so many bits
-pub record AreBits (n : ℕ) (words : List ℕ) : Type 0 where
-  pub few : n ≤ 100000000
-  pub words_are : n ≤ length words * 64
 
 -- no number is large
 abbrev pub AreFew : Grid ℕ → Type 0

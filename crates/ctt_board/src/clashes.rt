@@ -20,7 +20,7 @@ fn first_clash_among(instance: &Instance, standing: &Marks, course: CourseNo) ->
 {
     instance.limits_hold();
     let courses = instance.courses() as usize;
-    let number = standing.first_common_below(instance.clashing(course), courses)?;
+    let number = standing.first_common_below(&instance.clashing(course), courses)?;
     Some(CourseNo::new(number as u16))
 }
 

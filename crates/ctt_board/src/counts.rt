@@ -4,9 +4,8 @@ ghost use Rattle.std.specs.Prelude.{◌≡◌, ◌<◌, true, IfOk, []};
 ghost use Rattle.ctt_text.specs.Timetable.{Fits};
 ghost use Rattle.ctt_board.specs.Counts.{AreCounts, HaveSizes, HaveRoom, HaveNone, HaveLecture, AddsLecture};
 
-use crate::bits::Bits;
 use crate::table::Table;
-use crate::tally::{add, add_column, add_one, take, take_column, take_one};
+use crate::tally::{add_column, add_one, take_column, take_one};
 use ctt_text::{CourseNo, Instance, Placed, SlotNo};
 use std::alloc::{AllocError, Global};
 
@@ -17,12 +16,10 @@ pub(crate) struct Counts {
     pub(crate) lectures: Table<u16>,
     /// Those of each course on each day.
     pub(crate) days: Table<u16>,
-    /// The days on which each course has lectures, in one row.
-    pub(crate) used: Table<u16>,
     /// The lectures of each course in each room.
     pub(crate) rooms: Table<u16>,
-    /// Those of each curriculum in each slot, of which there is one at most.
-    pub(crate) curricula: Bits,
+    /// Those of each curriculum in each slot.
+    pub(crate) curricula: Table<u16>,
 }
 
 impl Counts {
@@ -38,9 +35,8 @@ impl Counts {
         Ok(Counts {
             lectures: Table::new(alloc, 1, courses, 0)?,
             days: Table::new(alloc, courses, instance.days() as usize, 0)?,
-            used: Table::new(alloc, 1, courses, 0)?,
             rooms: Table::new(alloc, courses, instance.rooms() as usize, 0)?,
-            curricula: Bits::new(alloc, curricula, slots)?,
+            curricula: Table::new(alloc, curricula, slots, 0)?,
         })
     }
 
@@ -50,14 +46,12 @@ impl Counts {
         Ok(Counts {
             lectures: self.lectures.copy()?,
             days: self.days.copy()?,
-            used: self.used.copy()?,
             rooms: self.rooms.copy()?,
             curricula: self.curricula.copy()?,
         })
     }
 
     /// Counts one lecture more.
-    #[inline(always)]
     pub(crate) fn add(&mut self, instance: &Instance, lecture: &Placed)
         requires fits { Fits instance.now lecture.now }
         requires sizes { HaveSizes instance.now self.old }
@@ -68,16 +62,14 @@ impl Counts {
         instance.limits_hold();
         let course = lecture.course.get() as usize;
         let day = instance.day_of(lecture.slot) as usize;
-        let before = add_one(&mut self.days, course, day);
-        add(&mut self.lectures, 0, course, true);
-        add(&mut self.used, 0, course, before == 0);
-        add(&mut self.rooms, course, lecture.room.get() as usize, true);
+        add_one(&mut self.lectures, 0, course);
+        add_one(&mut self.days, course, day);
+        add_one(&mut self.rooms, course, lecture.room.get() as usize);
         let curricula = instance.curricula_of(lecture.course);
         add_column(&mut self.curricula, curricula, lecture.slot.get() as usize);
     }
 
     /// Counts one lecture less.
-    #[inline(always)]
     pub(crate) fn take(&mut self, instance: &Instance, lecture: &Placed)
         requires fits { Fits instance.now lecture.now }
         requires sizes { HaveSizes instance.now self.old }
@@ -87,10 +79,9 @@ impl Counts {
         instance.limits_hold();
         let course = lecture.course.get() as usize;
         let day = instance.day_of(lecture.slot) as usize;
-        let left = take_one(&mut self.days, course, day);
-        take(&mut self.lectures, 0, course, true);
-        take(&mut self.used, 0, course, left == 0);
-        take(&mut self.rooms, course, lecture.room.get() as usize, true);
+        take_one(&mut self.lectures, 0, course);
+        take_one(&mut self.days, course, day);
+        take_one(&mut self.rooms, course, lecture.room.get() as usize);
         let curricula = instance.curricula_of(lecture.course);
         take_column(&mut self.curricula, curricula, lecture.slot.get() as usize);
     }

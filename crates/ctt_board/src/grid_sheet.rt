@@ -1,19 +1,18 @@
 //! A sheet that keeps tables of fixed size, and its costs.
 
-ghost use Rattle.std.specs.Prelude.{◌≡◌, ◌<◌, ◌+◌, pos, ◌-ℤ◌, ◌++◌, ℕ, [], false, Some, None, is_some, length, take, OnOk, OnErr};
-ghost use Rattle.ctt_text.specs.Marks.{is_marked};
+ghost use Rattle.std.specs.Prelude.{◌≡◌, ◌<◌, ◌+◌, pos, ◌-ℤ◌, ◌++◌, ℕ, [], false, Some, is_some, length, OnOk};
 ghost use Rattle.ctt_text.specs.Problem.{course_count, slot_count};
 ghost use Rattle.ctt_text.specs.Timetable.{course_row, slot_row, with, without, Fits};
 ghost use Rattle.ctt_rules.specs.Hard.{Lawful};
 ghost use Rattle.ctt_board.specs.Changes.{CellFits, CellsFit, room_at, apply_at, apply};
 ghost use Rattle.ctt_rules.specs.Penalty.{penalty, total};
 ghost use Rattle.ctt_board.specs.Seen.{Sees, HasPlaces};
+ghost use Rattle.ctt_board.specs.Cells.{lecture_at};
 ghost use Rattle.ctt_board.specs.Ways.{Ready};
 
 use crate::after::last_room;
 use crate::cell::Cell;
 use crate::change::Change;
-use crate::course_rows::or_cut;
 use crate::fitting::fits;
 use crate::joining::{joining_of, with_lecture, without_lecture};
 use crate::later::Later;
@@ -22,11 +21,8 @@ use crate::sheet::{Rooms, Sheet, Timetable};
 use crate::tables::Tables;
 use ctt_rules::Cost;
 use ctt_text::{CourseNo, Instance, Marks, NoMemory, Placed, RoomNo, SlotNo};
-use rows::{append_column, append_row};
 use std::alloc::{AllocError, Global};
 use std::marker::Model;
-
-mod rows;
 
 /// A sheet whose lectures lie in a table by course and slot, beside which lie the counts of which
 /// its costs are made, and the costs themselves. No change takes memory.
@@ -114,37 +110,35 @@ impl<'i> GridSheet<'i> {
         }
     }
 
-    /// Appends the lectures of a course. Where it has none, none of its cells is looked at.
-    #[inline(always)]
-    fn append_if_any(&self, list: &mut Vec<Placed>, course: CourseNo) -> Result<(), AllocError>
-        requires { course < course_count self.now.problem }
-        ensures row { OnOk result
-            (list.new.items ≡ list.old.items ++ course_row course self.now.list) }
-        ensures begins { OnErr result
-            (take (length list.old.items) list.new.items ≡ list.old.items) }
-    {
-        if self.count(course) == 0 {
-            return Ok(());
-        }
-        append_row(list, &self.tables.rooms, self.instance, course)
-    }
-
-    /// Appends the lectures of the courses that stand in a slot.
-    #[inline(always)]
-    fn append_standing(
+    /// Appends the lecture of a course in a slot, if there is one.
+    fn append_lecture(
         &self,
         list: &mut Vec<Placed>,
-        standing: &Marks,
+        course: CourseNo,
         slot: SlotNo,
     ) -> Result<(), AllocError>
+        requires course { course < course_count self.now.problem }
         requires slot { slot < slot_count self.now.problem }
-        requires standing { (course : ℕ)
-            → is_marked standing.now course ≡ is_some (room_at course slot self.now.list) }
-        ensures { OnOk result (list.new.items ≡ list.old.items ++ slot_row slot self.now.list) }
+        ensures { OnOk result
+            (list.new.items
+            ≡ list.old.items ++ lecture_at course slot (room_at course slot self.now.list)) }
     {
-        self.instance.limits_hold();
-        let courses = self.instance.courses() as usize;
-        append_column(list, &self.tables.rooms, standing, courses, slot)
+        if let Some(room) = self.room_at(course, slot) {
+            list.push(Placed { course, slot, room })?;
+        }
+        Ok(())
+    }
+
+    /// Appends the lectures of a course, by slot.
+    fn append_course(&self, list: &mut Vec<Placed>, course: CourseNo) -> Result<(), AllocError>
+        requires { course < course_count self.now.problem }
+        ensures { OnOk result (list.new.items ≡ list.old.items ++ course_row course self.now.list) }
+    {
+        self.lawful();
+        for slot in 0..self.instance.slots() {
+            self.append_lecture(list, course, SlotNo::new(slot))?;
+        }
+        Ok(())
     }
 }
 
@@ -255,39 +249,30 @@ impl<'i> Timetable for GridSheet<'i> {
     }
 
     fn course_row(&self, course: CourseNo) -> Result<Vec<Placed>, NoMemory> {
-        let count = self.count(course) as usize;
-        let mut row = Vec::with_capacity(self.alloc, count)?;
-        self.append_if_any(&mut row, course)?;
+        let mut row = Vec::new(self.alloc);
+        self.append_course(&mut row, course)?;
         Ok(row)
     }
 
     fn append_course_row(&self, course: CourseNo, list: &mut Vec<Placed>) -> Result<(), NoMemory> {
-        let length = list.len();
-        let appended = self.append_if_any(list, course);
-        or_cut(list, length, appended)
+        let row = self.course_row(course)?;
+        Ok(list.extend_from_slice(&row)?)
     }
 
     fn slot_row(&self, slot: SlotNo) -> Result<Vec<Placed>, NoMemory> {
-        self.instance.limits_hold();
-        let standing = self.standing(slot);
-        let first = standing.next_between(0, self.instance.courses() as usize);
-        // No two lectures of a slot share a room.
-        let most = first.map_or(0, |_| self.instance.rooms() as usize);
-        let mut row = Vec::with_capacity(self.alloc, most)?;
-        self.append_standing(&mut row, &standing, slot)?;
+        self.lawful();
+        let mut row = Vec::new(self.alloc);
+        for course in 0..self.instance.courses() {
+            self.append_lecture(&mut row, CourseNo::new(course), slot)?;
+        }
         Ok(row)
     }
 
     fn list(&self) -> Result<Vec<Placed>, NoMemory> {
-        self.instance.limits_hold();
+        self.lawful();
         let mut list = Vec::new(self.alloc);
-        for number in 0..self.instance.courses() {
-            append_row(
-                &mut list,
-                &self.tables.rooms,
-                self.instance,
-                CourseNo::new(number),
-            )?;
+        for course in 0..self.instance.courses() {
+            self.append_course(&mut list, CourseNo::new(course))?;
         }
         Ok(list)
     }

@@ -1,7 +1,7 @@
 //! What one lecture more does to the penalty.
 
 ghost use Rattle.std.specs.Prelude.{◌≡◌, ◌<◌, ◌≤◌, ◌+◌, ◌-◌, ◌*◌, ◌&&◌, ◌==◌, nat_lt, cond};
-ghost use Rattle.ctt_text.specs.Problem.{course_of, day_of, period_of, slot_count};
+ghost use Rattle.ctt_text.specs.Problem.{course_of, day_of};
 ghost use Rattle.ctt_text.specs.Timetable.{Fits};
 ghost use Rattle.ctt_rules.specs.Penalty.{total};
 ghost use Rattle.ctt_board.specs.Joining.{IsSmallJoining, with_joining, without_joining, gain_of};
@@ -11,7 +11,7 @@ ghost use Rattle.ctt_board.specs.Seen.{seen_day, seen_room, seen_lectures, seen_
 use crate::later::Later;
 use crate::meeting::meetings;
 use ctt_rules::Cost;
-use ctt_text::{Instance, Placed, SlotNo};
+use ctt_text::{Instance, Placed};
 
 /// What a lecture adds to the costs of a timetable, and takes from them.
 #[derive(Clone, Copy, Default, PartialEq, Eq)]
@@ -28,25 +28,28 @@ pub(crate) struct Joining {
     pub(crate) room: u64,
 }
 
-/// Five, if a lecture would be the first of its course on a day that was missing, where so many are
-/// on its day.
-fn missing_day(later: &Later, instance: &Instance, lecture: &Placed, on_day: u64) -> u64
+/// Five, if a lecture would be the first of its course on a day that was missing.
+fn missing_day(later: &Later, instance: &Instance, lecture: &Placed) -> u64
     requires fits { Fits instance.now lecture.now }
     requires sizes { HaveSizes instance.now later.now.counts.now }
     ensures value { result
-        ≡ cond (on_day == 0
-        && nat_lt (seen_days later.now lecture.now.course)
+        ≡ cond (seen_day instance.now later.now lecture.now.course
+        (day_of instance.now lecture.now.slot) == 0
+        && nat_lt (seen_days instance.now later.now lecture.now.course)
         (course_of instance.now lecture.now.course).min_days) 5 0 }
     ensures bound { result ≤ 5 }
 {
     let course = lecture.course;
     let least = u64::from(instance.min_days(course));
-    let is_short = later.days(instance, course) < least;
-    if on_day == 0 && is_short { 5 } else { 0 }
+    let is_new = later.on_day(instance, course, instance.day_of(lecture.slot)) == 0;
+    if is_new && later.days(instance, course) < least {
+        5
+    } else {
+        0
+    }
 }
 
 /// One, if a lecture would give its course a further room.
-#[inline(always)]
 fn further_room(later: &Later, instance: &Instance, lecture: &Placed) -> u64
     requires fits { Fits instance.now lecture.now }
     requires sizes { HaveSizes instance.now later.now.counts.now }
@@ -61,53 +64,7 @@ fn further_room(later: &Later, instance: &Instance, lecture: &Placed) -> u64
     if is_new && has_others { 1 } else { 0 }
 }
 
-/// The period of a slot that is on this day, without a division.
-#[tactic(auto, using(crate::proofs::SlotFacts::day_begins, crate::proofs::SlotFacts::period_on_day))]
-pub(crate) fn period_on(instance: &Instance, slot: SlotNo, day: u16) -> u16
-    requires slot { slot < slot_count instance.now }
-    requires day { day ≡ day_of instance.now slot }
-    ensures { result ≡ period_of instance.now slot }
-{
-    let begin = day * instance.periods();
-    slot.get() - begin
-}
-
-/// What a lecture would add to the costs, and take from them, where its day is this one and so many
-/// of its course are on it.
-#[inline(always)]
-pub(crate) fn joining_on(
-    later: &Later,
-    instance: &Instance,
-    lecture: &Placed,
-    day: u16,
-    on_day: u64,
-) -> Joining
-    requires fits { Fits instance.now lecture.now }
-    requires sizes { HaveSizes instance.now later.now.counts.now }
-    requires own { NoneThere instance.now later.now lecture.now }
-    requires day { day ≡ day_of instance.now lecture.now.slot }
-    requires on_day { on_day
-        ≡ seen_day instance.now later.now lecture.now.course
-        (day_of instance.now lecture.now.slot) }
-    ensures value { result ≡ seen_joining instance.now later.now lecture.now }
-    ensures bound { IsSmallJoining result }
-{
-    instance.limits_hold();
-    let curricula = instance.curricula_of(lecture.course);
-    let students = instance.students(lecture.course);
-    let period = period_on(instance, lecture.slot, day);
-    let met = meetings(later, instance, curricula, lecture.slot, period);
-    Joining {
-        seats: u64::from(students.saturating_sub(instance.capacity(lecture.room))),
-        day: missing_day(later, instance, lecture, on_day),
-        alone: 2 * met.alone,
-        company: 2 * met.company,
-        room: further_room(later, instance, lecture),
-    }
-}
-
 /// What a lecture would add to the costs, and take from them.
-#[inline(always)]
 pub(crate) fn joining_of(later: &Later, instance: &Instance, lecture: &Placed) -> Joining
     requires fits { Fits instance.now lecture.now }
     requires sizes { HaveSizes instance.now later.now.counts.now }
@@ -116,9 +73,17 @@ pub(crate) fn joining_of(later: &Later, instance: &Instance, lecture: &Placed) -
     ensures bound { IsSmallJoining result }
 {
     instance.limits_hold();
-    let day = instance.day_of(lecture.slot);
-    let on_day = later.on_day(instance, lecture.course, day);
-    joining_on(later, instance, lecture, day, on_day)
+    let students = instance.students(lecture.course);
+    let curricula = instance.curricula_of(lecture.course);
+    let period = instance.period_of(lecture.slot);
+    let met = meetings(later, instance, curricula, lecture.slot, period);
+    Joining {
+        seats: u64::from(students.saturating_sub(instance.capacity(lecture.room))),
+        day: missing_day(later, instance, lecture),
+        alone: 2 * met.alone,
+        company: 2 * met.company,
+        room: further_room(later, instance, lecture),
+    }
 }
 
 /// The costs with a lecture.

@@ -5,12 +5,12 @@ ghost use Rattle.std.specs.Prelude.{◌≡◌, ◌<◌, ◌≤◌, ◌+◌, ◌-
 ghost use Rattle.std.specs.List.{list_any};
 ghost use Rattle.ctt_text.specs.Problem.{course_count, slot_count, room_count, curriculum_count, members, day_of};
 ghost use Rattle.ctt_text.specs.Timetable.{Fits};
-ghost use Rattle.ctt_board.specs.Joining.{on_day, in_room, in_slot, gain_of, IsSmallJoining};
+ghost use Rattle.ctt_board.specs.Joining.{on_day, in_room, in_slot, gain_of};
 ghost use Rattle.ctt_board.specs.Counts.{HaveSizes};
 ghost use Rattle.ctt_board.specs.Seen.{seen, seen_day, seen_room, seen_lectures, seen_curriculum, seen_days, seen_joining, NoneThere, OneThere};
 
 use crate::counts::Counts;
-use crate::joining::{gain, joining_on};
+use crate::joining::{gain, joining_of};
 use arrayvec::ArrayVec;
 use ctt_text::{CourseNo, CurriculumNo, Instance, Placed, RoomNo, SlotNo};
 
@@ -20,10 +20,6 @@ pub(crate) struct Later<'a> {
     pub(crate) counts: &'a Counts,
     pub(crate) removed: ArrayVec<Placed, 4>,
     pub(crate) added: ArrayVec<Placed, 4>,
-    /// The courses that lost a day.
-    pub(crate) gone: ArrayVec<CourseNo, 4>,
-    /// The courses that gained a day.
-    pub(crate) fresh: ArrayVec<CourseNo, 4>,
 }
 
 /// How many of the lectures are of a course on a day.
@@ -81,13 +77,6 @@ fn is_in_slot(instance: &Instance, lecture: &Placed, curriculum: CurriculumNo, s
     lecture.slot == slot && instance.members(curriculum).contains(&lecture.course)
 }
 
-/// Whether one of the lectures is in a slot.
-fn is_any_in(lectures: &[Placed], slot: SlotNo) -> bool
-    ensures { result ≡ list_any (λ l. l.slot == slot) lectures.now }
-{
-    lectures.iter().any(|l| l.slot == slot)
-}
-
 /// How many of the lectures are of a curriculum in a slot.
 fn in_slot(instance: &Instance, lectures: &[Placed], curriculum: CurriculumNo, slot: SlotNo) -> u64
     requires few { length lectures.now ≤ 4 }
@@ -105,46 +94,17 @@ fn in_slot(instance: &Instance, lectures: &[Placed], curriculum: CurriculumNo, s
     count
 }
 
-/// How often a course is named.
-fn times(courses: &[CourseNo], course: CourseNo) -> u64
-    requires { length courses.now ≤ 4 }
-    ensures value { result ≡ count_by (λ d. d == course) courses.now }
-    ensures bound { result ≤ 4 }
-{
-    let mut count = 0;
-    for other in courses {
-        if *other == course {
-            count += 1;
-        }
-    }
-    count
-}
-
-/// Names a course, if it is wanted.
-fn name_if(courses: &mut ArrayVec<CourseNo, 4>, course: CourseNo, wanted: bool)
-    requires { length courses.old.items < 4 }
-    ensures { courses.new.items ≡ courses.old.items ++ cond wanted (course ∷ []) [] }
-{
-    if wanted {
-        courses.push(course);
-    }
-}
-
 impl<'a> Later<'a> {
     /// The counts as they are.
     pub(crate) fn now(counts: &'a Counts) -> Self
         ensures counts { result.counts.now ≡ counts.now }
         ensures removed { result.removed.items ≡ [] }
         ensures added { result.added.items ≡ [] }
-        ensures gone { result.gone.items ≡ [] }
-        ensures fresh { result.fresh.items ≡ [] }
     {
         Later {
             counts,
             removed: ArrayVec::new(),
             added: ArrayVec::new(),
-            gone: ArrayVec::new(),
-            fresh: ArrayVec::new(),
         }
     }
 
@@ -193,13 +153,17 @@ impl<'a> Later<'a> {
     /// The days of a course.
     pub(crate) fn days(&self, instance: &Instance, course: CourseNo) -> u64
         requires course { course < course_count instance.now }
+        requires some { 0 < instance.now.periods }
         requires sizes { HaveSizes instance.now self.now.counts.now }
-        ensures { result ≡ seen_days self.now course }
+        ensures { result ≡ seen_days instance.now self.now course }
     {
-        let count = self.counts.used.get(0, course.get() as usize);
-        let more = times(&self.fresh, course);
-        let less = times(&self.gone, course);
-        (u64::from(count) + more).saturating_sub(less)
+        let mut count = 0;
+        for day in 0..instance.days() {
+            if self.on_day(instance, course, day) > 0 {
+                count += 1;
+            }
+        }
+        count
     }
 
     /// The lectures of a curriculum in a slot.
@@ -214,41 +178,9 @@ impl<'a> Later<'a> {
             .counts
             .curricula
             .get(curriculum.get() as usize, slot.get() as usize);
-        if self.changes(slot) {
-            self.changed_in_slot(instance, curriculum, slot, count)
-        } else {
-            count
-        }
-    }
-
-    /// Whether a lecture comes to a slot, or leaves it.
-    fn changes(&self, slot: SlotNo) -> bool
-        ensures { result
-            ≡ (list_any (λ l. l.slot == slot) self.now.added.items
-            || list_any (λ l. l.slot == slot) self.now.removed.items) }
-    {
-        is_any_in(&self.added, slot) || is_any_in(&self.removed, slot)
-    }
-
-    /// So many lectures of a curriculum in a slot, with those that come to it and without those
-    /// that leave it.
-    #[inline(never)]
-    fn changed_in_slot(
-        &self,
-        instance: &Instance,
-        curriculum: CurriculumNo,
-        slot: SlotNo,
-        count: u64,
-    ) -> u64
-        requires curriculum { curriculum < curriculum_count instance.now }
-        requires count { count ≤ 1 }
-        ensures value { result
-            ≡ seen self.now (in_slot (members instance.now curriculum) slot) count }
-        ensures bound { result ≤ 5000000000 }
-    {
         let more = in_slot(instance, &self.added, curriculum, slot);
         let less = in_slot(instance, &self.removed, curriculum, slot);
-        (count + more).saturating_sub(less)
+        (u64::from(count) + more).saturating_sub(less)
     }
 
     /// Lets a lecture come. Answers what it adds to the penalty.
@@ -256,23 +188,13 @@ impl<'a> Later<'a> {
         requires fits { Fits instance.now lecture.now }
         requires sizes { HaveSizes instance.now self.old.counts.now }
         requires room { length self.old.added.items < 4 }
-        requires fresh_room { length self.old.fresh.items < 4 }
         requires own { NoneThere instance.now self.old lecture.now }
         ensures gain { result ≡ gain_of (seen_joining instance.now self.old lecture.now) }
-        ensures small { IsSmallJoining (seen_joining instance.now self.old lecture.now) }
         ensures counts { self.new.counts.now ≡ self.old.counts.now }
         ensures removed { self.new.removed.items ≡ self.old.removed.items }
-        ensures gone { self.new.gone.items ≡ self.old.gone.items }
         ensures added { self.new.added.items ≡ self.old.added.items ++ lecture.now ∷ [] }
-        ensures fresh { self.new.fresh.items
-            ≡ self.old.fresh.items
-            ++ cond (seen_day instance.now self.old lecture.now.course
-            (day_of instance.now lecture.now.slot) == 0) (lecture.now.course ∷ []) [] }
     {
-        let day = instance.day_of(lecture.slot);
-        let on_day = self.on_day(instance, lecture.course, day);
-        let joining = joining_on(self, instance, lecture, day, on_day);
-        name_if(&mut self.fresh, lecture.course, on_day == 0);
+        let joining = joining_of(self, instance, lecture);
         self.added.push(*lecture);
         gain(&joining)
     }
@@ -282,23 +204,13 @@ impl<'a> Later<'a> {
         requires fits { Fits instance.now lecture.now }
         requires sizes { HaveSizes instance.now self.old.counts.now }
         requires room { length self.old.removed.items < 4 }
-        requires gone_room { length self.old.gone.items < 4 }
         requires own { OneThere instance.now self.old lecture.now }
         ensures gain { result ≡ gain_of (seen_joining instance.now self.new lecture.now) }
-        ensures small { IsSmallJoining (seen_joining instance.now self.new lecture.now) }
         ensures counts { self.new.counts.now ≡ self.old.counts.now }
         ensures added { self.new.added.items ≡ self.old.added.items }
-        ensures fresh { self.new.fresh.items ≡ self.old.fresh.items }
         ensures removed { self.new.removed.items ≡ self.old.removed.items ++ lecture.now ∷ [] }
-        ensures gone { self.new.gone.items
-            ≡ self.old.gone.items
-            ++ cond (seen_day instance.now self.old lecture.now.course
-            (day_of instance.now lecture.now.slot) == 1) (lecture.now.course ∷ []) [] }
     {
-        let day = instance.day_of(lecture.slot);
-        let on_day = self.on_day(instance, lecture.course, day);
-        name_if(&mut self.gone, lecture.course, on_day == 1);
         self.removed.push(*lecture);
-        gain(&joining_on(self, instance, lecture, day, on_day.saturating_sub(1)))
+        gain(&joining_of(self, instance, lecture))
     }
 }

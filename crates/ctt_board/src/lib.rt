@@ -2,21 +2,17 @@
 #![tactic(auto)]
 
 mod after;
-mod bits;
 mod cell;
 mod change;
 mod clashes;
 mod counts;
-mod course_rows;
 mod delta;
-mod filled;
 mod fitting;
 mod grid_sheet;
 mod joining;
 mod later;
 pub mod laws;
 mod list_sheet;
-mod mark_rows;
 mod meeting;
 mod sheet;
 mod standing;
@@ -30,5 +26,4 @@ pub use change::Change;
 pub use clashes::{first_clash, first_clash_without};
 pub use grid_sheet::GridSheet;
 pub use list_sheet::ListSheet;
-pub use mark_rows::MarkRows;
 pub use sheet::{Rooms, Sheet, Timetable};

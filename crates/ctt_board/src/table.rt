@@ -1,5 +1,5 @@
 //! A table of a fixed size.
-ghost use Rattle.std.specs.Prelude.{◌≡◌, ℕ, ◌<◌, ◌≤◌, ◌*◌, ◌==◌, ◌&&◌, cond, length, get_or, IfOk};
+ghost use Rattle.std.specs.Prelude.{◌≡◌, ℕ, ◌<◌, ◌≤◌, ◌*◌, ◌==◌, ◌&&◌, cond, length, IfOk};
 ghost use Rattle.ctt_board.specs.Tables.{at};
 
 use std::alloc::{AllocError, Global};
@@ -52,18 +52,6 @@ impl<T: Copy> Table<T> {
         ensures { (d : T) → result ≡ at self.now row column d }
     {
         self.cells[row * self.width + column]
-    }
-
-    /// What stands in a row, column by column.
-    #[tactic(auto, using(crate::proofs::TableLemmas::row_inside))]
-    pub(crate) fn row(&self, row: usize) -> &[T]
-        requires { row < self.now.rows }
-        ensures width { length result.now ≡ self.now.width }
-        ensures cells { (column : ℕ) (d : T) → column < self.now.width
-            → get_or result.now column d ≡ at self.now row column d }
-    {
-        let start = row * self.width;
-        &self.cells[start..start + self.width]
     }
 
     /// Lets a value stand in a row and a column.

@@ -9,9 +9,8 @@ ghost use Rattle.ctt_board.specs.Changes.{room_at};
 ghost use Rattle.ctt_board.specs.Grids.{listed, AreTables, ArePlaces, HavePlaceSizes};
 
 use crate::counts::Counts;
-use crate::mark_rows::MarkRows;
 use crate::table::Table;
-use ctt_text::{Compact, CourseNo, Instance, Placed, RoomNo, SlotNo};
+use ctt_text::{BitRows, Compact, CourseNo, Instance, Placed, RoomNo, SlotNo};
 use std::alloc::{AllocError, Global};
 
 /// The lectures of a timetable in a table by course and slot, beside which lie others that say the same
@@ -23,7 +22,7 @@ pub(crate) struct Tables {
     /// The courses by slot and room.
     pub(crate) courses: Table<Compact>,
     /// The courses that stand in each slot, a row a slot.
-    pub(crate) standing: MarkRows,
+    pub(crate) standing: BitRows,
     pub(crate) counts: Counts,
 }
 
@@ -40,7 +39,7 @@ impl Tables {
         Ok(Tables {
             rooms: Table::new(alloc, courses, slots, none)?,
             courses: Table::new(alloc, slots, instance.rooms() as usize, none)?,
-            standing: MarkRows::new(alloc, slots, courses)?,
+            standing: BitRows::new(alloc, slots, courses)?,
             counts: Counts::new(alloc, instance)?,
         })
     }

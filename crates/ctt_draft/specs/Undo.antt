@@ -5,7 +5,7 @@ use Rattle.ctt_text.specs.Problem.{Problem, course_count, slot_count}
 use Rattle.ctt_text.specs.declared.placed.Placed.{Placed}
 use Rattle.ctt_board.specs.Changes.{cell, room_at, room_by}
 use Rattle.ctt_board.specs.Grids.{rows_below}
-use Rattle.ctt_board.specs.MarkRows.{RowsOfMarks, is_marked_in}
+use Rattle.ctt_text.specs.BitRows.{BitTable, is_marked_in}
 use Rattle.ctt_board.specs.declared.cell.Cell.{Cell}
 
 -- the cell is the one of a course in a slot
@@ -64,6 +64,6 @@ all_noted t [] so_far = so_far
 all_noted t (x ∷ xs) so_far = all_noted t xs (noted t x so_far)
 
 -- in the rows of the slots the courses of the cells that are recorded are marked, and no other
-pub record IsUndo (cells : List Cell) (marks : RowsOfMarks) : Type 0 where
-  pub within : AreWithin marks.numbers marks.rows cells
-  pub tells : (c s : ℕ) → c < marks.numbers → s < marks.rows → is_marked_in marks s c ≡ is_named c s cells
+pub record IsUndo (cells : List Cell) (marks : BitTable) : Type 0 where
+  pub within : AreWithin marks.width marks.rows cells
+  pub tells : (c s : ℕ) → c < marks.width → s < marks.rows → is_marked_in marks s c ≡ is_named c s cells

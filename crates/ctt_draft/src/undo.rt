@@ -5,8 +5,8 @@ ghost use Rattle.std.specs.Vec.{vec_len, vec_capacity};
 ghost use Rattle.ctt_text.specs.Problem.{course_count, slot_count};
 ghost use Rattle.ctt_draft.specs.Undo.{is_named, noted, all_noted, AreWithin, IsUndo};
 
-use ctt_board::{Cell, MarkRows, Rooms};
-use ctt_text::{CourseNo, Instance, NoMemory, SlotNo};
+use ctt_board::{Cell, Rooms};
+use ctt_text::{BitRows, CourseNo, Instance, NoMemory, SlotNo};
 use std::alloc::Global;
 use std::marker::Model;
 
@@ -16,7 +16,7 @@ use std::marker::Model;
 pub(crate) struct Undo {
     cells: Vec<Cell>,
     /// For each slot, the courses of the cells that are recorded.
-    marks: MarkRows,
+    marks: BitRows,
 }
 
 impl Model for Undo {
@@ -25,7 +25,7 @@ impl Model for Undo {
     ghost Value = { UndoValue };
 
     ghost view = { λ u. record {
-      courses = u.marks.numbers;
+      courses = u.marks.width;
       slots = u.marks.rows;
       cells = u.cells.items;
     } };
@@ -48,7 +48,7 @@ impl Undo {
         let slots = instance.slots() as usize;
         Ok(Undo {
             cells: Vec::new(alloc),
-            marks: MarkRows::new(alloc, slots, courses)?,
+            marks: BitRows::new(alloc, slots, courses)?,
         })
     }
 
@@ -66,7 +66,8 @@ impl Undo {
         requires slot { slot < self.now.slots }
         ensures { result ≡ is_named course slot self.now.cells }
     {
-        self.marks.has(slot.get() as usize, course.get() as usize)
+        self.marks
+            .is_marked(slot.get() as usize, course.get() as usize)
     }
 
     /// Records these cells, of those that are not recorded yet, with the rooms that are there.
@@ -85,17 +86,17 @@ impl Undo {
 }
 
 /// Records a cell, if it is not recorded yet, with the room that is there.
-fn note<R: Rooms>(recorded: &mut Vec<Cell>, marks: &mut MarkRows, rooms: &R, cell: &Cell)
+fn note<R: Rooms>(recorded: &mut Vec<Cell>, marks: &mut BitRows, rooms: &R, cell: &Cell)
     requires room { vec_len recorded.old < vec_capacity recorded.old }
     requires undo { IsUndo recorded.old.items marks.old }
-    requires courses { marks.old.numbers ≡ course_count (R.problem rooms.now) }
+    requires courses { marks.old.width ≡ course_count (R.problem rooms.now) }
     requires slots { marks.old.rows ≡ slot_count (R.problem rooms.now) }
-    requires course { cell.now.course < marks.old.numbers }
+    requires course { cell.now.course < marks.old.width }
     requires slot { cell.now.slot < marks.old.rows }
     ensures cells { recorded.new.items ≡ noted (R.list rooms.now) cell.now recorded.old.items }
     ensures len { vec_len recorded.new ≤ vec_len recorded.old + 1 }
     ensures capacity { vec_capacity recorded.old ≤ vec_capacity recorded.new }
-    ensures courses { marks.new.numbers ≡ marks.old.numbers }
+    ensures courses { marks.new.width ≡ marks.old.width }
     ensures slots { marks.new.rows ≡ marks.old.rows }
     ensures undo { IsUndo recorded.new.items marks.new }
 {
@@ -103,7 +104,7 @@ fn note<R: Rooms>(recorded: &mut Vec<Cell>, marks: &mut MarkRows, rooms: &R, cel
     let slot = cell.slot;
     let row = slot.get() as usize;
     let number = course.get() as usize;
-    if !marks.has(row, number) {
+    if !marks.is_marked(row, number) {
         marks.mark(row, number);
         let room = rooms.room_at(course, slot);
         recorded.push(Cell { course, slot, room }).unwrap();
@@ -111,14 +112,14 @@ fn note<R: Rooms>(recorded: &mut Vec<Cell>, marks: &mut MarkRows, rooms: &R, cel
 }
 
 /// Records cells in turn. There is room for them.
-fn note_all<R: Rooms>(recorded: &mut Vec<Cell>, marks: &mut MarkRows, rooms: &R, cells: &[Cell])
+fn note_all<R: Rooms>(recorded: &mut Vec<Cell>, marks: &mut BitRows, rooms: &R, cells: &[Cell])
     requires room { vec_len recorded.old + length cells.now ≤ vec_capacity recorded.old }
     requires undo { IsUndo recorded.old.items marks.old }
-    requires courses { marks.old.numbers ≡ course_count (R.problem rooms.now) }
+    requires courses { marks.old.width ≡ course_count (R.problem rooms.now) }
     requires slots { marks.old.rows ≡ slot_count (R.problem rooms.now) }
-    requires within { AreWithin marks.old.numbers marks.old.rows cells.now }
+    requires within { AreWithin marks.old.width marks.old.rows cells.now }
     ensures cells { recorded.new.items ≡ all_noted (R.list rooms.now) cells.now recorded.old.items }
-    ensures courses { marks.new.numbers ≡ marks.old.numbers }
+    ensures courses { marks.new.width ≡ marks.old.width }
     ensures slots { marks.new.rows ≡ marks.old.rows }
     ensures undo { IsUndo recorded.new.items marks.new }
 {

@@ -1,15 +1,15 @@
 -- The faults of texts and files: none is of the words, nor of what is written.
-use Rattle.std.proofs.Common.{◌≡◌, ⊎_elim, ◌∷◌, [], ◌∙◌, inl, inr, sym, subst, ℕ, List, IfErr, IfSome, IsErrAnd, OnOk, Option, Some, None, Result, Ok, Err}
+use Rattle.std.proofs.Common.{◌≡◌, ⊎_elim, ◌∷◌, [], ◌∙◌, inl, inr, sym, subst, ℕ, List, IfErr, IfSome, IsErrAnd, OnOk, Option, Some, None, Result, Ok, Err, Bool, true, false, if◌then◌else◌}
 use Rattle.std.specs.Global.{Global}
 use Rattle.std.specs.String.{string_bytes}
 use Rattle.std.specs.declared.string.String.{String}
 use Rattle.ctt_text.specs.Problem.{Problem}
+use Rattle.ctt_text.specs.BarredPlaces as barred
+use Rattle.ctt_text.specs.InstancePlaces as instance
+use Rattle.ctt_text.specs.SolutionPlaces.{lacks_memory}
 use Rattle.ctt_text.specs.declared.fault.BarredFault.{BarredFault}
-use Rattle.ctt_text.specs.declared.fault.BarredFault.TheVariants as barred
 use Rattle.ctt_text.specs.declared.fault.ReadFault.{ReadFault}
-use Rattle.ctt_text.specs.declared.fault.ReadFault.TheVariants as instance
 use Rattle.ctt_text.specs.declared.fault.SolutionFault.{SolutionFault}
-use Rattle.ctt_text.specs.declared.fault.SolutionFault.TheVariants as solution
 use Rattle.ctt_devices.specs.declared.input.InputFault.{InputFault}
 use Rattle.ctt_devices.specs.declared.input.InputFault.TheVariants as input
 use Rattle.ctt_files.specs.Faults.{IfUnwritten, fault_of_barred, fault_of_input, fault_of_instance, fault_of_solution}
@@ -28,9 +28,9 @@ IsPlain BadSeats = ⊥
 IsPlain _ = Unit {0}
 
 pub plain_written : (fault : Fault) (P Q : Type 0) → IsPlain fault → Q → IfUnwritten fault P Q
-plain_written (Instance number at) P Q plain q = q
-plain_written (Solution number at) P Q plain q = q
-plain_written (Barred number at) P Q plain q = q
+plain_written (Instance met) P Q plain q = q
+plain_written (Solution met) P Q plain q = q
+plain_written (Barred met) P Q plain q = q
 plain_written (Journal number at) P Q plain q = q
 plain_written (Opening text) P Q plain q = q
 plain_written (CannotRead name) P Q plain q = q
@@ -51,9 +51,9 @@ plain_written (NoCourse name) P Q plain q = q
 plain_written (NoRoom name) P Q plain q = q
 
 pub unwritten_more : (fault : Fault) (P Q R S : Type 0) → (P → R) → (Q → S) → IfUnwritten fault P Q → IfUnwritten fault R S
-unwritten_more (Instance number at) P Q R S p q is = q is
-unwritten_more (Solution number at) P Q R S p q is = q is
-unwritten_more (Barred number at) P Q R S p q is = q is
+unwritten_more (Instance met) P Q R S p q is = q is
+unwritten_more (Solution met) P Q R S p q is = q is
+unwritten_more (Barred met) P Q R S p q is = q is
 unwritten_more (Journal number at) P Q R S p q is = q is
 unwritten_more (Opening text) P Q R S p q is = q is
 unwritten_more (CannotRead name) P Q R S p q is = q is
@@ -73,38 +73,19 @@ unwritten_more (NoTeacher name) P Q R S p q is = q is
 unwritten_more (NoCourse name) P Q R S p q is = q is
 unwritten_more (NoRoom name) P Q R S p q is = q is
 
+-- want of memory, or else this fault
+plain_or_memory : (wants : Bool) (fault : Fault) → IsPlain fault → IsPlain (if wants then NoMemory else fault)
+plain_or_memory true fault plain = tt
+plain_or_memory false fault plain = plain
+
 instance_plain : (met : ReadFault) → IsPlain (fault_of_instance met)
-instance_plain (instance.NotText byte) = tt
-instance_plain (instance.Missing word) = tt
-instance_plain (instance.Expected word) = tt
-instance_plain (instance.BadNumber word) = tt
-instance_plain (instance.TooLarge word) = tt
-instance_plain (instance.RepeatedName word) = tt
-instance_plain (instance.UnknownCourse word) = tt
-instance_plain (instance.DayOut word) = tt
-instance_plain (instance.PeriodOut word) = tt
-instance_plain instance.NoMemory = tt
+instance_plain met = plain_or_memory (instance.wants_memory met) (Instance met) tt
 
 solution_plain : (met : SolutionFault) → IsPlain (fault_of_solution met)
-solution_plain (solution.NotText byte) = tt
-solution_plain (solution.Cut word) = tt
-solution_plain (solution.UnknownCourse word) = tt
-solution_plain (solution.UnknownRoom word) = tt
-solution_plain (solution.BadNumber word) = tt
-solution_plain (solution.DayOut word) = tt
-solution_plain (solution.PeriodOut word) = tt
-solution_plain (solution.Repeated word) = tt
-solution_plain solution.NoMemory = tt
+solution_plain met = plain_or_memory (lacks_memory met) (Solution met) tt
 
 barred_plain : (met : BarredFault) → IsPlain (fault_of_barred met)
-barred_plain (barred.NotText byte) = tt
-barred_plain (barred.Missing word) = tt
-barred_plain (barred.Expected word) = tt
-barred_plain (barred.BadNumber word) = tt
-barred_plain (barred.TooLarge word) = tt
-barred_plain (barred.UnknownCourse word) = tt
-barred_plain (barred.UnknownRoom word) = tt
-barred_plain barred.NoMemory = tt
+barred_plain met = plain_or_memory (barred.wants_memory met) (Barred met) tt
 
 input_plain : (name : String Global) (met : InputFault) → IsPlain (fault_of_input name met)
 input_plain name input.Read = tt

@@ -1,54 +1,30 @@
 -- The faults of the program: their numbers and their statuses.
-use Rattle.std.specs.Prelude.{◌≡◌, ◌++◌, ℕ, List, codes}
+use Rattle.std.specs.Prelude.{◌≡◌, ◌++◌, ℕ, List, codes, if◌then◌else◌}
 use Rattle.std.specs.Global.{Global}
 use Rattle.std.specs.String.{string_bytes}
 use Rattle.std.specs.declared.string.String.{String}
 use Rattle.ctt_devices.specs.declared.input.InputFault.{InputFault}
 use Rattle.ctt_devices.specs.declared.input.InputFault.TheVariants as input
-use Rattle.ctt_text.specs.declared.fault.ReadFault.{ReadFault}
-use Rattle.ctt_text.specs.declared.fault.ReadFault.TheVariants as instance
-use Rattle.ctt_text.specs.declared.fault.SolutionFault.{SolutionFault}
-use Rattle.ctt_text.specs.declared.fault.SolutionFault.TheVariants as solution
+use Rattle.ctt_text.specs.BarredPlaces as barred
+use Rattle.ctt_text.specs.InstancePlaces as instance
+use Rattle.ctt_text.specs.SolutionPlaces.{lacks_memory}
 use Rattle.ctt_text.specs.declared.fault.BarredFault.{BarredFault}
-use Rattle.ctt_text.specs.declared.fault.BarredFault.TheVariants as barred
+use Rattle.ctt_text.specs.declared.fault.ReadFault.{ReadFault}
+use Rattle.ctt_text.specs.declared.fault.SolutionFault.{SolutionFault}
 use Rattle.ctt_files.specs.declared.fault.Fault.{Fault}
 use Rattle.ctt_files.specs.declared.fault.Fault.TheVariants.{BadSeats, Barred, CannotRead, CannotWrite, Instance, Journal, MinutesExist, NoCourse, NoCurriculum, NoMemory, NoPlace, NoRoom, NoTeacher, NoThread, NotYours, Opening, Solution, TooLong, TooManyScripts, Words, WordsNotText}
 
--- the fault of an instance, by its number and the byte or the word that it names
+-- the fault of an instance, of which want of memory is the program's own
 abbrev pub fault_of_instance : ReadFault → Fault
-fault_of_instance (instance.NotText byte) = Instance 1 byte
-fault_of_instance (instance.Missing word) = Instance 2 word
-fault_of_instance (instance.Expected word) = Instance 3 word
-fault_of_instance (instance.BadNumber word) = Instance 4 word
-fault_of_instance (instance.TooLarge word) = Instance 5 word
-fault_of_instance (instance.RepeatedName word) = Instance 6 word
-fault_of_instance (instance.UnknownCourse word) = Instance 7 word
-fault_of_instance (instance.DayOut word) = Instance 8 word
-fault_of_instance (instance.PeriodOut word) = Instance 9 word
-fault_of_instance instance.NoMemory = NoMemory
+fault_of_instance met = if instance.wants_memory met then NoMemory else Instance met
 
 -- the fault of a solution
 abbrev pub fault_of_solution : SolutionFault → Fault
-fault_of_solution (solution.NotText byte) = Solution 1 byte
-fault_of_solution (solution.Cut word) = Solution 2 word
-fault_of_solution (solution.UnknownCourse word) = Solution 3 word
-fault_of_solution (solution.UnknownRoom word) = Solution 4 word
-fault_of_solution (solution.BadNumber word) = Solution 5 word
-fault_of_solution (solution.DayOut word) = Solution 6 word
-fault_of_solution (solution.PeriodOut word) = Solution 7 word
-fault_of_solution (solution.Repeated word) = Solution 8 word
-fault_of_solution solution.NoMemory = NoMemory
+fault_of_solution met = if lacks_memory met then NoMemory else Solution met
 
 -- the fault of barred rooms
 abbrev pub fault_of_barred : BarredFault → Fault
-fault_of_barred (barred.NotText byte) = Barred 1 byte
-fault_of_barred (barred.Missing word) = Barred 2 word
-fault_of_barred (barred.Expected word) = Barred 3 word
-fault_of_barred (barred.BadNumber word) = Barred 4 word
-fault_of_barred (barred.TooLarge word) = Barred 5 word
-fault_of_barred (barred.UnknownCourse word) = Barred 6 word
-fault_of_barred (barred.UnknownRoom word) = Barred 7 word
-fault_of_barred barred.NoMemory = NoMemory
+fault_of_barred met = if barred.wants_memory met then NoMemory else Barred met
 
 -- the fault of the file of this name, by that of reading it
 abbrev pub fault_of_input : String Global → InputFault → Fault
@@ -58,9 +34,9 @@ fault_of_input name input.NoMemory = NoMemory
 
 -- 1 where a text is refused, or has no such name, 2 where the words are refused, and 3 where the machine failed
 abbrev pub status_of : Fault → ℕ
-status_of (Instance number at) = 1
-status_of (Solution number at) = 1
-status_of (Barred number at) = 1
+status_of (Instance met) = 1
+status_of (Solution met) = 1
+status_of (Barred met) = 1
 status_of (Journal number at) = 1
 status_of (Opening text) = 1
 status_of (NoCurriculum name) = 1

@@ -19,15 +19,15 @@ pub enum Fault {
     /// A word of the command line is no text.
     #[error("timedesk: words that are not text")]
     WordsNotText,
-    /// The instance is not as it has to be, at this byte or word.
-    #[error("timedesk: instance I{number} {at}")]
-    Instance { number: u8, at: u64 },
-    /// The solution is not as it has to be, at this byte or word.
-    #[error("timedesk: solution S{number} {at}")]
-    Solution { number: u8, at: u64 },
-    /// The barred rooms are not as they have to be, at this byte or word.
-    #[error("timedesk: barred B{number} {at}")]
-    Barred { number: u8, at: u64 },
+    /// The instance is not as it has to be.
+    #[error("timedesk: {0}")]
+    Instance(ReadFault),
+    /// The solution is not as it has to be.
+    #[error("timedesk: {0}")]
+    Solution(SolutionFault),
+    /// The barred rooms are not as they have to be.
+    #[error("timedesk: {0}")]
+    Barred(BarredFault),
     /// The journal is not as it has to be, at this byte or word.
     #[error("timedesk: journal J{number} {at}")]
     Journal { number: u8, at: u64 },
@@ -95,9 +95,9 @@ impl Fault {
         ensures { result ≡ status_of self.now }
     {
         match self {
-            Fault::Instance { .. }
-            | Fault::Solution { .. }
-            | Fault::Barred { .. }
+            Fault::Instance(_)
+            | Fault::Solution(_)
+            | Fault::Barred(_)
             | Fault::Journal { .. }
             | Fault::Opening(_)
             | Fault::NoCurriculum(_)
@@ -148,19 +148,10 @@ impl From<ReadFault> for Fault {
     ghost from_gives = { λ read fault. fault ≡ fault_of_instance read };
 
     fn from(fault: ReadFault) -> Fault {
-        let (number, at) = match fault {
-            ReadFault::NotText(byte) => (1, byte),
-            ReadFault::Missing(word) => (2, word),
-            ReadFault::Expected(word) => (3, word),
-            ReadFault::BadNumber(word) => (4, word),
-            ReadFault::TooLarge(word) => (5, word),
-            ReadFault::RepeatedName(word) => (6, word),
-            ReadFault::UnknownCourse(word) => (7, word),
-            ReadFault::DayOut(word) => (8, word),
-            ReadFault::PeriodOut(word) => (9, word),
-            ReadFault::NoMemory => return Fault::NoMemory,
-        };
-        Fault::Instance { number, at }
+        match fault {
+            ReadFault::NoMemory => Fault::NoMemory,
+            _ => Fault::Instance(fault),
+        }
     }
 }
 
@@ -168,18 +159,10 @@ impl From<SolutionFault> for Fault {
     ghost from_gives = { λ read fault. fault ≡ fault_of_solution read };
 
     fn from(fault: SolutionFault) -> Fault {
-        let (number, at) = match fault {
-            SolutionFault::NotText(byte) => (1, byte),
-            SolutionFault::Cut(word) => (2, word),
-            SolutionFault::UnknownCourse(word) => (3, word),
-            SolutionFault::UnknownRoom(word) => (4, word),
-            SolutionFault::BadNumber(word) => (5, word),
-            SolutionFault::DayOut(word) => (6, word),
-            SolutionFault::PeriodOut(word) => (7, word),
-            SolutionFault::Repeated(word) => (8, word),
-            SolutionFault::NoMemory => return Fault::NoMemory,
-        };
-        Fault::Solution { number, at }
+        match fault {
+            SolutionFault::NoMemory => Fault::NoMemory,
+            _ => Fault::Solution(fault),
+        }
     }
 }
 
@@ -187,17 +170,10 @@ impl From<BarredFault> for Fault {
     ghost from_gives = { λ read fault. fault ≡ fault_of_barred read };
 
     fn from(fault: BarredFault) -> Fault {
-        let (number, at) = match fault {
-            BarredFault::NotText(byte) => (1, byte),
-            BarredFault::Missing(word) => (2, word),
-            BarredFault::Expected(word) => (3, word),
-            BarredFault::BadNumber(word) => (4, word),
-            BarredFault::TooLarge(word) => (5, word),
-            BarredFault::UnknownCourse(word) => (6, word),
-            BarredFault::UnknownRoom(word) => (7, word),
-            BarredFault::NoMemory => return Fault::NoMemory,
-        };
-        Fault::Barred { number, at }
+        match fault {
+            BarredFault::NoMemory => Fault::NoMemory,
+            _ => Fault::Barred(fault),
+        }
     }
 }
 

@@ -4,7 +4,8 @@ ghost use Rattle.std.specs.Prelude.{◌≡◌, ◌++◌, [], OnOk, string_bytes}
 ghost use Rattle.ctt_text.specs.Words.{words};
 ghost use Rattle.ctt_office.specs.BadWords.{bad_word, bad_word_line, first_untext};
 
-use ctt_text::{Reader, Words, push_count, push_word};
+use ctt_line::{Word, push_words};
+use ctt_text::{Reader, Words};
 use std::alloc::AllocError;
 use std::marker::Model;
 
@@ -55,9 +56,9 @@ impl<'a> BadWord<'a> {
             ≡ string_bytes text.old ++ bad_word_line self.now) }
     {
         text.push_str("bad line")?;
-        push_count(text, self.at)?;
+        push_words(text, &[Word::number(self.at)])?;
         if !self.word.is_empty() {
-            push_word(text, self.word)?;
+            push_words(text, &[Word::text(self.word)])?;
         }
         text.push('\n')
     }

@@ -25,9 +25,9 @@ use ctt_crew::{Seat, Told, write_told};
 use ctt_desk::{Drafting, Naming, Planner, SharedFault};
 use ctt_draft::{Asked, AskedCalls};
 use ctt_edits::{Call, Edit, EditFault, Look, Reply};
-use ctt_line::push_words;
+use ctt_line::{Word, push_words};
 use ctt_script::{words_of_edit, words_of_fault};
-use ctt_text::{Instance, NoMemory, let_go, push_count};
+use ctt_text::{Instance, NoMemory, let_go};
 use std::alloc::{AllocError, Global};
 
 /// How many accepted edits an ended draft had, and how many of them were made again.
@@ -51,8 +51,7 @@ fn push_left_out(
         ≡ string_bytes text.old ++ words_part (left_out_words instance.now
         (record { number = number; edit = edit.now; fault = fault.now }))) }
 {
-    text.push_str(" refused")?;
-    push_count(text, number)?;
+    push_words(text, &[Word::text("refused"), Word::number(number)])?;
     push_words(text, words_of_edit(instance, edit).as_slice())?;
     push_words(text, words_of_fault(instance, fault).as_slice())
 }
@@ -152,9 +151,8 @@ fn redone_text(alloc: Global, redone: &Tally, omitted: &str) -> Result<String, N
 {
     let mut text = String::new(alloc);
     text.push_str("redone")?;
-    push_count(&mut text, redone.made)?;
-    text.push_str(" of")?;
-    push_count(&mut text, redone.edits)?;
+    let counts = [Word::number(redone.made), Word::text("of"), Word::number(redone.edits)];
+    push_words(&mut text, &counts)?;
     text.push_str(omitted)?;
     text.push('\n')?;
     Ok(text)

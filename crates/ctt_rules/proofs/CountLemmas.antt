@@ -5,10 +5,9 @@ use Rattle.std.proofs.lemmas.Bool.Decides.{nat_tests}
 use Rattle.std.proofs.lemmas.Bool.{cases_Bool, cases_eq, cases_lt, ne_eqb}
 use Rattle.std.proofs.lemmas.List.{get_or_past}
 use Rattle.ctt_text.specs.Lists.{Pairwise, sum_below}
-use Rattle.ctt_text.specs.Problem.{Problem, course_of, course_count, slot_count, room_count, is_unavailable, is_barred, has_barred}
+use Rattle.ctt_text.specs.Problem.{Problem, course_of, course_count, slot_count, room_count, is_unavailable, is_barred}
 use Rattle.ctt_text.specs.Timetable.{IsTimetable, Fits, course_row}
 use Rattle.ctt_text.specs.declared.placed.Placed.{Placed}
-use Rattle.ctt_text.proofs.BarredTables.{barred_nowhere}
 use Rattle.ctt_text.proofs.TimetableLemmas.{Each-map}
 use Rattle.ctt_rules.specs.Hard.{Lawful, IsAllowed, conflicts, share_room, missing_count, conflict_count, unavailable_count, barred_count, occupancy_count}
 use Rattle.ctt_rules.proofs.ListLemmas.{filter_none, Each-both}
@@ -84,14 +83,6 @@ zero_terms f (suc n) h k lt =
       | inl same ↦ (ap f same ∙ omega arith)
       | inr other ↦ zero_terms f n (omega arith) k (omega arith)
     ]
-
--- where no room is barred, no lecture is in a barred one
-pub none_barred : (i : Problem) (t : List Placed) → has_barred i ≡ false → barred_count i t ≡ 0
-none_barred i t h = count_none (λ l. is_barred i l.course l.room) t (each t)
-  where
-    each : (xs : List Placed) → Each (λ l. is_barred i l.course l.room ≡ false) xs
-    each [] = tt
-    each (x ∷ xs) = (barred_nowhere i x.course x.room h, each xs)
 
 module _ (i : Problem) (t : List Placed) (h : IsTimetable i t) where
   pub counted : Lawful i t → NoneCounted i t

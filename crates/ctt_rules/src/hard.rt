@@ -56,14 +56,11 @@ fn unavailable(instance: &Instance, lectures: &[Placed]) -> u64
     count
 }
 
-/// The lectures in rooms that are barred for their courses. Where no room is barred, none is looked at.
+/// The lectures in rooms that are barred for their courses.
 fn barred(instance: &Instance, lectures: &[Placed]) -> u64
     requires { Each (Fits instance.now) lectures.now }
     ensures { result ≡ barred_count instance.now lectures.now }
 {
-    if !instance.has_barred() {
-        return 0;
-    }
     let mut count = 0;
     for lecture in lectures {
         if instance.barred(lecture.course, lecture.room) {

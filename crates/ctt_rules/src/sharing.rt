@@ -120,7 +120,7 @@ impl Block {
         if self.first <= slot && slot - self.first < 64 {
             let row = (slot - self.first) as usize;
             let clashing = instance.clashing(lecture.course);
-            self.sharing.conflicts += u64::from(self.courses.common_count(row, clashing));
+            self.sharing.conflicts += u64::from(self.courses.common_count(row, &clashing));
             self.courses.mark(row, lecture.course.get() as usize);
             let is_taken = !self.rooms.mark(row, lecture.room.get() as usize);
             self.sharing.occupancy += u64::from(is_taken);

@@ -15,7 +15,8 @@ use Rattle.ctt_core.specs.Desks.{DeskValue, SameDesk}
 use Rattle.ctt_core.specs.Laws.{Stands}
 use Rattle.ctt_script.specs.Entries.{AnswerFits}
 use Rattle.ctt_script.specs.AnswerText.{answer_words, bad_line, answered, answers_after, run_after}
-use Rattle.ctt_script.specs.Answering.{IsAtRun, Answered, Answering, WritesOut, Wrote, WroteFront}
+use Rattle.ctt_devices.specs.Output.{WritesOut}
+use Rattle.ctt_script.specs.Answering.{IsAtRun, Answered, Answering, Wrote, WroteFront}
 use Rattle.ctt_devices.specs.Output.{AppendsFront}
 use Rattle.ctt_script.specs.ScriptText.{items_of}
 use Rattle.ctt_line.specs.Lines.{line}
@@ -126,10 +127,10 @@ module _ (v : DeskValue) (all : List (List ℕ)) (before : Option (List ℕ)) wh
     pub more_written : (rest : List ℕ) → WritesOut taken later kept rest → Answering v w all left before later rest
     more_written rest k = record {
       done = h.done;
-      written = h.written ++ k.front;
+      written = h.written ++ k.prefix;
       lines = h.lines;
-      answered = subst (λ bs. Answered v w [] bs h.done) (ap (λ bs. h.written ++ bs) k.all ∙ sym (append_assoc h.written k.front rest)) h.answered;
-      taken = Appends-trans before taken later h.written k.front h.taken k.taken;
+      answered = subst (λ bs. Answered v w [] bs h.done) (ap (λ bs. h.written ++ bs) k.all ∙ sym (append_assoc h.written k.prefix rest)) h.answered;
+      taken = Appends-trans before taken later h.written k.prefix h.taken k.taken;
     }
 
     -- where a write fails, or no more is done, a front was written

@@ -27,12 +27,6 @@ pub record Answering (v w : DeskValue) (all left : List (List ℕ)) (before afte
   pub answered : Answered v w [] (written ++ kept) done
   pub taken : Appends before after written
 
--- a front of the text was written out, and what follows it is kept
-pub record WritesOut (before after : Option (List ℕ)) (text kept : List ℕ) : Type 0 where
-  pub front : List ℕ
-  pub taken : Appends before after front
-  pub all : text ≡ front ++ kept
-
 -- the desk v has answered these items and is the desk w; the answers were written
 pub record Wrote (v w : DeskValue) (items : List (Option Event)) (before after : Option (List ℕ)) : Type 0 where
   pub text : List ℕ

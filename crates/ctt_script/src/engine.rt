@@ -11,7 +11,7 @@ ghost use Rattle.ctt_core.specs.Laws.{Stands};
 ghost use Rattle.ctt_edits.specs.Openings.{opening};
 ghost use Rattle.ctt_core.specs.declared.desk_fault.DeskFault.TheVariants as desk_fault;
 ghost use Rattle.ctt_script.specs.AnswerText.{answer_text, script_run};
-ghost use Rattle.ctt_script.specs.Answering.{Answered, IsAtRun, WritesOut, Wrote, WroteFront};
+ghost use Rattle.ctt_script.specs.Answering.{Answered, IsAtRun, Wrote, WroteFront};
 ghost use Rattle.ctt_script.specs.Entries.{IsWritable};
 ghost use Rattle.ctt_devices.specs.Output.{AppendsFront};
 ghost use Rattle.ctt_script.specs.RunFaults.{IsCauseOf, MayHaveWritten};
@@ -24,12 +24,9 @@ use crate::script::{PLANNERS, has_words, read_line};
 use crate::script_fault::ScriptFault;
 use ctt_board::{GridSheet, Sheet};
 use ctt_core::{Answer, Desk, Event};
-use ctt_devices::{Failed, INPUT_LIMIT, Sink, Source, put_all, put_whole, read_all};
+use ctt_devices::{INPUT_LIMIT, Sink, Source, put_long, put_whole, read_all};
 use ctt_text::{Instance, NoMemory, Placed, let_go};
 use std::alloc::Global;
-
-/// From how many bytes on answers are written out: few writes, and little room.
-const PIECE: usize = 32_768;
 
 /// Answers an event, and adds the line of the answer.
 fn answer_event<'i, S: Sheet<'i>>(
@@ -77,24 +74,6 @@ fn answer_line<'i, S: Sheet<'i>>(
     }
 }
 
-/// Writes answers out where they are many.
-fn write_full<W: Sink>(writer: &mut W, answers: &mut String) -> Result<(), Failed>
-    ensures written { OnOk result
-        (WritesOut (W.taken writer.old) (W.taken writer.new) (string_bytes answers.old)
-        (string_bytes answers.new)) }
-    ensures part { OnErr result
-        (AppendsFront (W.taken writer.old) (W.taken writer.new) (string_bytes answers.old)) }
-    ensures marked { OnErr result (W.has_failed writer.new ≡ true) }
-    ensures unmarked { OnOk result (W.has_failed writer.new ≡ W.has_failed writer.old) }
-{
-    if answers.len() < PIECE {
-        return Ok(());
-    }
-    put_all(writer, answers.as_bytes())?;
-    answers.clear();
-    Ok(())
-}
-
 /// Answers the lines of a script, writes the answers, and passes them on.
 fn answer_lines<'i, S: Sheet<'i>, W: Sink>(
     alloc: Global,
@@ -121,7 +100,7 @@ fn answer_lines<'i, S: Sheet<'i>, W: Sink>(
     let mut answers = String::new(alloc);
     for line in Lines::new(text) {
         answer_line(desk, instance, line, &mut answers)?;
-        write_full(writer, &mut answers)?;
+        put_long(writer, &mut answers)?;
     }
     put_whole(writer, answers.as_bytes())?;
     Ok(())

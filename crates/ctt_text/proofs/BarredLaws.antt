@@ -1,26 +1,21 @@
 -- The laws of the texts of barred rooms.
-use Rattle.std.proofs.Common.{◌≡◌, ◌⊎◌, inl, inr, ℕ, zero, suc, ◌+◌, ◌*◌, ◌<◌, List, [], ◌∷◌, ◌++◌, length, flat_map, Bool, true, false, ◌||◌, ◌==◌, Ok, Err, refl, sym, ap, subst, ◌∙◌, arith, mul_comm}
+use Rattle.std.proofs.Common.{◌≡◌, ◌⊎◌, inl, inr, ℕ, ◌+◌, ◌*◌, ◌<◌, List, [], ◌∷◌, ◌++◌, length, flat_map, Bool, true, false, ◌==◌, Ok, Err, refl, sym, ap, subst, ◌∙◌, mul_comm}
 use Rattle.std.specs.Prelude.{codes, get_or, slice_set}
 use Rattle.std.specs.List.{list_any, AllByRecursion as Each}
 use Rattle.std.specs.Str.{bytes_eq}
-use Rattle.std.proofs.lemmas.Bool.{lt-ltb, eq-eqb}
+use Rattle.std.proofs.lemmas.Bool.{lt-ltb}
 use Rattle.std.proofs.lemmas.Nat.{mul-add-lt}
 use Rattle.ctt_text.specs.declared.fault.BarredFault.{BarredFault}
 use Rattle.ctt_text.specs.declared.fault.BarredFault.TheVariants.{Expected, BadNumber, TooLarge, UnknownCourse, UnknownRoom}
-use Rattle.ctt_text.specs.Left.{Left}
 use Rattle.ctt_text.specs.Numbers.{value}
 use Rattle.ctt_text.specs.Forms.{done, ◌>>=◌, times, Fills}
 use Rattle.ctt_text.specs.Places.{one, known, known_name, number_if, fixed}
 use Rattle.ctt_text.specs.Problem.{Problem, IsProblem, course_count, room_count, place_of, is_barred}
-use Rattle.ctt_text.specs.Reading.{reading}
-use Rattle.ctt_text.specs.Tables.{MarkTable, IsTableOf}
-use Rattle.ctt_text.specs.Instance.{HasMarks}
 use Rattle.ctt_text.specs.InstanceText.{IsUpTo}
 use Rattle.ctt_text.specs.BarredPlaces.{pair_count, barred_pair, none_barred, barred_rooms, ends_early}
 use Rattle.ctt_text.specs.BarredText.{BarredWords, spelled_barred, spelled_pairs, IsBarredPair, bars, BarSpells, BarBreaksAt}
 use Rattle.ctt_text.specs.BarredLaws.{barred_answer, ReadsBarred, SpellsOneBarred, BarredFailsWhereBroken, BarredBreaksOnce, BarredSpellsOrBreaks}
-use Rattle.ctt_text.proofs.FormLaws.{fills_both, bind_case, read_fills, answer_fills, fills_answer, answer_breaks, breaks_answer, breaks_once, answered, ok_same, ok_is_err}
-use Rattle.ctt_text.proofs.Steps.{read_done}
+use Rattle.ctt_text.proofs.FormLaws.{fills_both, bind_case, answer_fills, fills_answer, answer_breaks, breaks_answer, breaks_once, answered, ok_same, ok_is_err}
 use Rattle.ctt_text.proofs.SectionLaws.{Entry, entries_fill, entries_taken, each_apart, each_together}
 use Rattle.ctt_text.proofs.MarkLaws.{marked, marks_made, marks_many, marks_same, place_in_rows, Row, row_of}
 use Rattle.ctt_text.proofs.PlaceLaws.{a_name, name_given, up_to_passes, passed_up_to, is_fixed, after_case}
@@ -39,13 +34,6 @@ unfolding fixed known one ◌>>=◌
 end_taken x t [] h = absurd h
 end_taken x t (w ∷ []) h = (ap (λ q. q ∷ []) (is_fixed Expected w (codes "END.") h.0), h.1)
 end_taken x t (w ∷ more ∷ ws) h = absurd h.1
-
--- a list in which some place is marked has a mark
-any_at : (xs : List Bool) (k : ℕ) → get_or xs k false ≡ true → list_any (λ b. b) xs ≡ true
-any_at [] k h = cc
-any_at (true ∷ xs) k h = refl
-any_at (false ∷ xs) zero h = cc
-any_at (false ∷ xs) (suc k) h = any_at xs k h
 
 -- the parts of a text, one behind another
 all_parts : (words us vs us2 vs2 ws : List (List ℕ)) (count : List ℕ) → words ≡ codes "Barred:" ∷ us ++ vs → us ≡ count ∷ [] → vs ≡ us2 ++ vs2 → us2 ≡ ws → vs2 ≡ codes "END." ∷ [] → words ≡ codes "Barred:" ∷ count ∷ ws ++ codes "END." ∷ []
@@ -180,27 +168,6 @@ module _ (i : Problem) where
         ap (λ ws. barred_answer i ws) s.all
         ∙ fills_answer ends_early (barred_rooms i) (spelled_pairs s.count s.given) s.rest t
         (subst (λ x. Fills (barred_rooms i) (spelled_pairs s.count s.given) x) (table_same s.given s.pairs t s.marks s.barred) (spelled_fills s.count s.given s.few s.counted s.pairs))
-
-    -- where some pair was read, there is a mark
-    some_marked : (n : ℕ) (words : List (List ℕ)) (t : List Bool) → 0 < n → Pairs n words t → list_any (λ b. b) t ≡ true
-    some_marked n words t lt p = subst (λ x. list_any (λ b. b) x ≡ true) p.gives (of p.given p.each (subst (λ m. 0 < m) (sym p.count) lt))
-      where
-        of : (given : List BarredWords) → Each (IsBarredPair i) given → 0 < length given → list_any (λ b. b) (table_of given) ≡ true
-        of [] each lt = absurd (omega (arith, lt))
-        of (w ∷ given) each lt = any_at (table_of (w ∷ given)) (mark_of w)
-            (marks_made mark_of (course_count i * room_count i) (w ∷ given) (mark_of w) (mark_within w each.0) ∙ ap (λ b. b || list_any (λ v. mark_of v == mark_of w) given) (eq-eqb (mark_of w) (mark_of w) refl))
-
-    -- a table that was read of some pairs has so many marks, and one that is set
-    pub some_read : (n : ℕ) (left after : Left) (table : MarkTable) → 0 < n → IsTableOf (course_count i) (room_count i) table → reading ends_early (times (barred_pair i) n (none_barred i)) left ≡ Ok (table.marks, after) → HasMarks (course_count i) (room_count i) table
-    some_read n left after table lt size h =
-        let r = read_fills ends_early (times (barred_pair i) n (none_barred i)) left.words left.next (table.marks, after) h in
-        let p = pairs_taken n r.front table.marks r.fills in
-        record { size = size; all = ap (λ x. length x) (sym p.gives) ∙ marks_many mark_of (course_count i * room_count i) p.given; some = some_marked n r.front table.marks lt p }
-
--- where there are no pairs, none is read
-pub none_read : (i : Problem) (n : ℕ) (left : Left) → n ≡ 0 → reading ends_early (times (barred_pair i) n (none_barred i)) left ≡ Ok (none_barred i, left)
-unfolding times
-none_read i n left none = rw none (read_done ends_early (none_barred i) left)
 
 pub reads_barred : ReadsBarred
 reads_barred i words t is = (read_spelled i is words t, spelled_read i is words t)

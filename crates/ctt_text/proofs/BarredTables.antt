@@ -1,44 +1,13 @@
--- A table of barred rooms, or none.
-use Rattle.std.proofs.Common.{◌≡◌, ℕ, zero, suc, ◌+◌, ◌*◌, List, [], ◌∷◌, Bool, true, false, ◌&&◌, Option, Some, None, IfSome, is_some, length, refl, sym}
-use Rattle.std.specs.Prelude.{replicate, get_or, nat_lt}
-use Rattle.std.specs.List.{list_any}
-use Rattle.std.proofs.lemmas.List.{length-replicate}
-use Rattle.ctt_text.specs.Problem.{Problem, room_count, is_barred, has_barred}
-use Rattle.ctt_text.specs.Tables.{MarkTable}
-use Rattle.ctt_text.specs.Instance.{marks_in, HasMarks, IsInstance}
+-- An instance in which other rooms are barred.
+use Rattle.std.proofs.Common.{◌*◌, ◌∙◌, length, ap₂}
+use Rattle.ctt_text.specs.BitRows.{BitTable, HasSize}
+use Rattle.ctt_text.specs.Instance.{IsInstance}
 use Rattle.ctt_text.specs.declared.instance.Instance.TheInside.{Inside}
+use Rattle.ctt_text.proofs.BitRowLemmas.{marks_length}
 
-none_any : (n : ℕ) → list_any (λ b. b) (replicate n false) ≡ false
-none_any zero = refl
-none_any (suc n) = none_any n
-
--- there is a table exactly where there is a mark
-pub has_mark : (rows width : ℕ) (table : Option MarkTable) → IfSome table (HasMarks rows width) → is_some table ≡ list_any (λ b. b) (marks_in (rows * width) table)
-has_mark rows width None h = sym (none_any (rows * width))
-has_mark rows width (Some table) h = sym h.some
-
-none_at : (xs : List Bool) (k : ℕ) → list_any (λ b. b) xs ≡ false → get_or xs k false ≡ false
-none_at [] k h = refl
-none_at (true ∷ xs) k h = cc
-none_at (false ∷ xs) zero h = refl
-none_at (false ∷ xs) (suc k) h = none_at xs k h
-
--- where no room is barred, none is for any course
-pub barred_nowhere : (i : Problem) (c r : ℕ) → has_barred i ≡ false → is_barred i c r ≡ false
-barred_nowhere i c r h = rw (none_at i.barred (c * room_count i + r) h) (no (nat_lt r (room_count i)))
-  where
-    no : (b : Bool) → (b && false) ≡ false
-    no true = refl
-    no false = refl
-
--- so many marks
-marks_many : (rows width : ℕ) (table : Option MarkTable) → IfSome table (HasMarks rows width) → length (marks_in (rows * width) table) ≡ rows * width
-marks_many rows width None h = length-replicate (rows * width) false
-marks_many rows width (Some table) h = h.all
-
--- an instance in which other rooms are barred is one
-pub barred_instance : (i : Inside) (table : Option MarkTable) → IsInstance i → IfSome table (HasMarks (length i.courses.items) (length i.capacities.items)) → IsInstance (record i { barred = table })
-barred_instance i table h marks =
+-- it is one again
+pub barred_instance : (i : Inside) (table : BitTable) → IsInstance i → HasSize table (length i.courses.items) (length i.capacities.items) → IsInstance (record i { barred = table })
+barred_instance i table h size =
     let p = h.problem in
     let n = h.named in
     record {
@@ -51,7 +20,7 @@ barred_instance i table h marks =
         periods_few = p.periods_few;
         slots_few = p.slots_few;
         marked = p.marked;
-        rooms_marked = marks_many (length i.courses.items) (length i.capacities.items) table marks;
+        rooms_marked = marks_length table ∙ ap₂ (λ a b. a * b) size.0 size.1;
         courses_named = p.courses_named;
         rooms_named = p.rooms_named;
         curricula_named = p.curricula_named;
@@ -62,10 +31,7 @@ barred_instance i table h marks =
       named = record { name = n.name; courses = n.courses; teachers = n.teachers; rooms = n.rooms; curricula = n.curricula };
       clashes = record { size = h.clashes.size; marks = h.clashes.marks };
       available = h.available;
-      barred = marks;
+      barred = size;
       belonging = record { size = h.belonging.size; list = h.belonging.list };
       taught = record { size = h.taught.size; list = h.taught.list };
-      course_labels = h.course_labels;
-      room_labels = h.room_labels;
-      slot_labels = h.slot_labels;
     }

@@ -1,8 +1,7 @@
 -- The names of an instance that a text spells: words of the text, and distinct.
-use Rattle.std.proofs.Common.{◌≡◌, ℕ, List, [], ◌∷◌, ◌++◌, map, flat_map, String, Global, Bool, true, false, cond, ◌||◌, ◌-◌, take, drop, refl, sym, subst, ◌∙◌, arith}
+use Rattle.std.proofs.Common.{◌≡◌, ℕ, List, [], ◌∷◌, ◌++◌, map, flat_map, Bool, true, false, cond, ◌||◌, ◌-◌, take, drop, refl, sym, subst, ◌∙◌, arith}
 use Rattle.std.specs.Prelude.{codes}
-use Rattle.std.specs.List.{IsDistinct, AllByRecursion as Each}
-use Rattle.std.specs.String.{string_bytes, string_eq}
+use Rattle.std.specs.List.{AllByRecursion as Each}
 use Rattle.std.specs.Str.{bytes_eq}
 use Rattle.std.proofs.lemmas.Bool.{or_from}
 use Rattle.std.proofs.lemmas.List.Folds.{list_any-append}
@@ -12,7 +11,6 @@ use Rattle.ctt_text.specs.Problem.{is_among}
 use Rattle.ctt_text.specs.InstanceText.{CourseWords, RoomWords, CurriculumWords, Given, spelled, spelled_header, spelled_course, spelled_room, spelled_curriculum, spelled_pair, AreNew, AreDistinct, course_names, room_names, curriculum_names, Obey, SaysInstance}
 use Rattle.ctt_text.specs.Named.{IsWord, AreNames}
 use Rattle.ctt_text.specs.InstanceLaws.{SpelledIsNamed}
-use Rattle.ctt_text.proofs.NameLemmas.{texts}
 use Rattle.ctt_text.proofs.ListLaws.{Each-front, Each-rest, once_each, once_apart, apart_turned, bytes_sound}
 
 -- a byte in front of words that is not blank
@@ -68,19 +66,6 @@ pairs_distinct names pairs = new_names [] names (all_apart names) pairs
     all_apart : (ns : List (List ℕ)) → Each (λ n. is_among [] n ≡ false) ns
     all_apart [] = tt
     all_apart (n ∷ ns) = (refl, all_apart ns)
-
--- the texts of different keys are distinct
-key_apart : (k : String Global) (ks : List (String Global)) → Each (λ x. string_eq k x ≡ false) ks → Each (λ name. bytes_eq (string_bytes k) name ≡ false) (texts ks)
-key_apart k [] h = tt
-key_apart k (x ∷ xs) h = (h.0, key_apart k xs h.1)
-
-keys_apart : (ks : List (String Global)) → IsDistinct string_eq ks → Pairwise (λ a b. bytes_eq a b ≡ false) (texts ks)
-unfolding IsDistinct
-keys_apart [] h = tt
-keys_apart (k ∷ ks) h = (key_apart k ks h.0, keys_apart ks h.1)
-
-pub keys_distinct : (ks : List (String Global)) → IsDistinct string_eq ks → AreDistinct (texts ks)
-keys_distinct ks h = pairs_distinct (texts ks) (keys_apart ks h)
 
 -- each once is distinct
 teachers_distinct : (names : List (List ℕ)) → AreDistinct (each_once bytes_eq names)

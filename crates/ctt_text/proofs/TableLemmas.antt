@@ -1,17 +1,13 @@
 -- Rows of marks.
-use Rattle.std.proofs.Common.{◌≡◌, ◌≢◌, ℕ, zero, suc, ◌+◌, ◌*◌, ◌%◌, ◌<◌, ◌≤◌, List, [], ◌∷◌, ◌++◌, length, get_or, Bool, true, false, not, cond, ◌==◌, ◌&&◌, ◌||◌, take, take_all, replicate, refl, sym, ap, ap₂, subst, ◌∙◌, arith, nat_lt, zero-add}
-use Rattle.std.specs.List.{slice_set, list_any, AllByRecursion as Each}
-use Rattle.std.proofs.lemmas.List.{get_or-set_other, get_or-replicate, length-set, length-replicate, take-append-le, ext_get_or}
-use Rattle.std.proofs.lemmas.List.FromFn.{length-map-range_with_len, get_or-map-range_with_len}
+use Rattle.std.proofs.Common.{◌≡◌, ℕ, zero, suc, ◌+◌, ◌*◌, ◌<◌, ◌≤◌, List, [], ◌∷◌, ◌++◌, length, get_or, Bool, true, false, not, cond, ◌==◌, ◌&&◌, ◌||◌, take, take_all, refl, sym, ap, ◌∙◌, arith, nat_lt}
+use Rattle.std.specs.List.{list_any, AllByRecursion as Each}
+use Rattle.std.proofs.lemmas.List.{take-append-le}
 use Rattle.std.proofs.Math.Nat.{le_refl}
 use Rattle.std.proofs.lemmas.Nat.{row_fits}
-use Rattle.std.proofs.lemmas.Nat.Bits.{bit_at-zero}
-use Rattle.std.proofs.lemmas.Grind.{get_or-set_at}
 use Rattle.std.proofs.lemmas.Bool.{eqb-true, eqb-false}
 use Rattle.std.proofs.lemmas.Bool.Decides.{nat_tests}
 use Rattle.ctt_text.specs.Lists.{has}
-use Rattle.ctt_text.specs.Marks.{is_marked}
-use Rattle.ctt_text.specs.Tables.{mark_at, AddsMarks, MarkTable, marks_below}
+use Rattle.ctt_text.specs.BitRows.{BitTable, is_marked_in, AddsMarks, SetsMark}
 
 -- by cases
 pub bool_case : (C : Type 0) (b : Bool) → (b ≡ true → C) → (b ≡ false → C) → C
@@ -27,58 +23,32 @@ or_or true b c = refl
 or_or false b c = refl
 
 -- more marks, beside those that were added before
-pub more_added : (s t u : List (List ℕ)) (test more other : ℕ → ℕ → Bool) → AddsMarks s t test → AddsMarks t u more → ((r n : ℕ) → other r n ≡ (test r n || more r n)) → AddsMarks s u other
+pub more_added : (s t u : BitTable) (test more other : ℕ → ℕ → Bool) → AddsMarks s t test → AddsMarks t u more → ((r n : ℕ) → other r n ≡ (test r n || more r n)) → AddsMarks s u other
 more_added s t u test more other h k alike = record {
-  size = k.size ∙ h.size;
-  marks = λ r n lt. k.marks r n (rw h.size lt) ∙ ap (λ b. b || more r n) (h.marks r n lt) ∙ or_or (mark_at s r n) (test r n) (more r n) ∙ ap (λ b. mark_at s r n || b) (sym (alike r n));
-}
-
--- one row with more marks
-pub one_added : (s : List (List ℕ)) (row : ℕ) (new : List ℕ) (test : ℕ → Bool) → row < length s → ((n : ℕ) → is_marked new n ≡ (mark_at s row n || test n)) → AddsMarks s (slice_set s row new) (λ r n. r == row && test n)
-one_added s row new test within here = record {
-  size = length-set s row new;
-  marks = λ r n lt. bool_case _ (r == row)
-      (λ is.
-      let e : r ≡ row = eqb-true r row is in
-      ap (λ m. is_marked m n) (get_or-set_at s row r new [] e within) ∙ here n ∙ ap (λ k. mark_at s k n || test n) (sym e) ∙ ap (λ b. mark_at s r n || (b && test n)) (sym is))
-      (λ isnt.
-      ap (λ m. is_marked m n) (get_or-set_other s row r new [] (eqb-false r row isnt)) ∙ sym (or_false (mark_at s r n)) ∙ ap (λ b. mark_at s r n || (b && test n)) (sym isnt));
+  size = (k.size.0 ∙ h.size.0, k.size.1 ∙ h.size.1);
+  marks = λ r n. k.marks r n ∙ ap (λ b. b || more r n) (h.marks r n) ∙ or_or (is_marked_in s r n) (test r n) (more r n) ∙ ap (λ b. is_marked_in s r n || b) (sym (alike r n));
 }
 
 -- a row whose own number is taken out, below a row number
-pub own_more : (s t : List (List ℕ)) (row : ℕ) (new : List ℕ) → row < length s → length t ≡ length s
-    → ((r n : ℕ) → r < length s → mark_at t r n ≡ (not (nat_lt r row && r == n) && mark_at s r n))
-    → ((n : ℕ) → is_marked new n ≡ (not (n == row) && mark_at t row n))
-    → (r n : ℕ) → r < length s → mark_at (slice_set t row new) r n ≡ (not (nat_lt r (row + 1) && r == n) && mark_at s r n)
-own_more s t row new within size before here r n lt = bool_case _ (r == row)
-    (λ is.
-    let e : r ≡ row = eqb-true r row is in
-    ap (λ m. is_marked m n) (get_or-set_at t row r new [] e (rw size within)) ∙ here n ∙ ap (λ b. not (n == row) && b) (before row n within) ∙ now r e (mark_at s row n) ∙ ap (λ k. not (nat_lt r (row + 1) && r == n) && mark_at s k n) (sym e))
-    (λ isnt.
-    ap (λ m. is_marked m n) (get_or-set_other t row r new [] (eqb-false r row isnt)) ∙ before r n lt ∙ ap (λ b. not (b && r == n) && mark_at s r n) (there r isnt))
+pub own_more : (s t new : BitTable) (row : ℕ) → ((r n : ℕ) → is_marked_in t r n ≡ (not (nat_lt r row && r == n) && is_marked_in s r n)) → SetsMark t new row row false
+    → (r n : ℕ) → is_marked_in new r n ≡ (not (nat_lt r (row + 1) && r == n) && is_marked_in s r n)
+own_more s t new row before set r n = set.marks r n ∙ ap (λ b. cond (r == row && n == row) false b) (before r n) ∙ bool_case _ (r == row)
+    (λ is. rw is (here (eqb-true r row is) (is_marked_in s r n)))
+    (λ isnt. rw isnt (there isnt (is_marked_in s r n)))
   where
-    now : (r : ℕ) → r ≡ row → (b : Bool) → (not (n == row) && (not (nat_lt row row && row == n) && b)) ≡ (not (nat_lt r (row + 1) && r == n) && b)
-    now r e b = grind (arith, nat_tests)
+    here : r ≡ row → (b : Bool) → cond (n == row) false (not (nat_lt r row && r == n) && b) ≡ (not (nat_lt r (row + 1) && r == n) && b)
+    here e b = bool_case _ (n == row)
+        (λ is. let own : (nat_lt r (row + 1) && r == n) ≡ true = grind (arith, nat_tests, e, eqb-true n row is) in rw (is, own) refl)
+        (λ isnt. let other : (r == n) ≡ false = grind (arith, nat_tests, e, eqb-false n row isnt) in rw (isnt, other) (both (nat_lt r row) (nat_lt r (row + 1)) b))
+      where
+        both : (x y b : Bool) → (not (x && false) && b) ≡ (not (y && false) && b)
+        both true true b = refl
+        both true false b = refl
+        both false true b = refl
+        both false false b = refl
 
-    there : (r : ℕ) → (r == row) ≡ false → nat_lt r row ≡ nat_lt r (row + 1)
-    there r isnt = grind (arith, nat_tests)
-
--- one row more is that of a teacher, and those below it are as they were
-module _ (s t : List (List ℕ)) (teacher : ℕ → ℕ) (row : ℕ) (new : List ℕ) (within : row < length t)
-    (kept : (c d : ℕ) → c < row + 1 → mark_at t c d ≡ mark_at s c d) where
-  pub kept_below : (c d : ℕ) → c < row → mark_at (slice_set t row new) c d ≡ mark_at s c d
-  kept_below c d lt = ap (λ m. is_marked m d) (get_or-set_other t row c new [] (λ e. absurd (omega (arith, lt, e)))) ∙ kept c d (omega (arith, lt))
-
-  pub given_more : (n : ℕ) → ((c d : ℕ) → row + 1 ≤ c → c < n → mark_at t c d ≡ mark_at s (teacher c) d)
-      → teacher row ≤ row → new ≡ get_or t (teacher row) []
-      → (c d : ℕ) → row ≤ c → c < n → mark_at (slice_set t row new) c d ≡ mark_at s (teacher c) d
-  given_more n given ranked is c d le lt = bool_case _ (c == row)
-      (λ same.
-      let e : c ≡ row = eqb-true c row same in
-      ap (λ m. is_marked m d) (get_or-set_at t row c new [] e within ∙ is) ∙ kept (teacher row) d (omega (arith, ranked)) ∙ ap (λ k. mark_at s (teacher k) d) (sym e))
-      (λ other.
-      let apart : c ≢ row = eqb-false c row other in
-      ap (λ m. is_marked m d) (get_or-set_other t row c new [] apart) ∙ given c d (omega (arith, le, apart)) lt)
+    there : (r == row) ≡ false → (b : Bool) → (not (nat_lt r row && r == n) && b) ≡ (not (nat_lt r (row + 1) && r == n) && b)
+    there isnt b = (let same : nat_lt r row ≡ nat_lt r (row + 1) = grind (arith, nat_tests, eqb-false r row isnt) in ap (λ x. not (x && r == n) && b) same)
 
 -- a course that is no member
 pub no_member : (n d : ℕ) → n ≤ d → (ms : List ℕ) → Each (λ m. m < n) ms → has d ms ≡ false
@@ -96,28 +66,6 @@ no_mates members n c d le (q ∷ qs) each = rw (no_member n d le (members q) eac
     none true = refl
     none false = refl
 
--- one mark: that of the teacher, and then those of the curricula
-pub clash_marks : {X : Type 0} (members : X → List ℕ) (teacher : ℕ → ℕ) (n : ℕ) (qs : List X) → Each (λ q. Each (λ m. m < n) (members q)) qs
-    → (c d : ℕ) (taught row mark : Bool) → taught ≡ (nat_lt d n && teacher c == teacher d) → row ≡ taught
-    → mark ≡ (not (c == d) && (row || list_any (λ q. has c (members q) && has d (members q)) qs))
-    → mark ≡ (nat_lt d n && (not (c == d) && (teacher c == teacher d || list_any (λ q. has c (members q) && has d (members q)) qs)))
-clash_marks members teacher n qs each c d taught row mark has_taught has_row has_mark =
-    has_mark ∙ ap (λ b. not (c == d) && (b || list_any (λ q. has c (members q) && has d (members q)) qs)) (has_row ∙ has_taught) ∙ bool_case _ (nat_lt d n)
-    (λ is. rw is (by (not (c == d)) (teacher c == teacher d) (list_any (λ q. has c (members q) && has d (members q)) qs)))
-    (λ isnt. rw (isnt, no_mates members n c d (not_below d n isnt) qs each) (none (not (c == d))))
-  where
-    not_below : (d n : ℕ) → nat_lt d n ≡ false → n ≤ d
-    not_below d n h = grind (arith, nat_tests)
-
-    by : (a b o : Bool) → (a && ((true && b) || o)) ≡ (true && (a && (b || o)))
-    by true true o = refl
-    by true false o = refl
-    by false b o = refl
-
-    none : (a : Bool) → (a && ((false && (teacher c == teacher d)) || false)) ≡ false
-    none true = refl
-    none false = refl
-
 -- what was written over the whole of a list
 pub written : {X : Type 0} (n : ℕ) (xs ys : List X) → length xs ≡ n → take n (xs ++ ys) ≡ xs
 written n xs ys h = take-append-le n xs ys (omega (arith, h)) ∙ take_all n xs (omega (arith, h))
@@ -128,43 +76,6 @@ same_element [] i d e lt = absurd (omega (arith, lt))
 same_element (x ∷ xs) zero d e lt = refl
 same_element (x ∷ xs) (suc i) d e lt = same_element xs i d e (omega (arith, lt))
 
--- two tables of one width
-pub table_same : (r s w : ℕ) (m n : List Bool) → r ≡ s → m ≡ n → ◌≡◌ {A = MarkTable} (record { rows = r; width = w; marks = m }) (record { rows = s; width = w; marks = n })
-table_same r s w m n rows marks = ap₂ (λ a b. record { rows = a; width = w; marks = b }) rows marks
-
 -- a place of a table is in it
 pub place_within : (r c w n : ℕ) → r < n → c < w → r * w + c < n * w
 place_within r c w n row column = omega (arith, row_fits r w n w row (le_refl w))
-
--- the marks below a number
-pub mark_of : (n : ℕ) (words : List ℕ) (k : ℕ) → k < n → get_or (marks_below n words) k false ≡ is_marked words k
-unfolding marks_below
-mark_of n words k lt = get_or-map-range_with_len (λ k. is_marked words k) 0 n k k false lt (zero-add k)
-
-marks_length : (n : ℕ) (words : List ℕ) → length (marks_below n words) ≡ n
-unfolding marks_below
-marks_length n words = length-map-range_with_len (λ k. is_marked words k) 0 n
-
--- none is marked
-pub marks_none : (n : ℕ) (words : List ℕ) → ((k : ℕ) → is_marked words k ≡ false) → marks_below n words ≡ replicate n false
-marks_none n words none = ext_get_or false (marks_below n words) (replicate n false) (marks_length n words ∙ sym (length-replicate n false))
-    (λ k lt.
-    let less : k < n = subst (λ m. k < m) (marks_length n words) lt in
-    mark_of n words k less ∙ none k ∙ sym (get_or-replicate n k false false less))
-
--- one more is marked
-pub marks_more : (n : ℕ) (words next : List ℕ) (m : ℕ) → m < n → ((k : ℕ) → is_marked next k ≡ cond (k == m) true (is_marked words k)) → marks_below n next ≡ slice_set (marks_below n words) m true
-marks_more n words next m within wrote = ext_get_or false (marks_below n next) (slice_set (marks_below n words) m true)
-    (marks_length n next ∙ sym (length-set (marks_below n words) m true ∙ marks_length n words))
-    (λ k lt.
-    let less : k < n = subst (λ j. k < j) (marks_length n next) lt in
-    mark_of n next k less ∙ wrote k ∙ bool_case _ (k == m)
-    (λ is. rw is (sym (get_or-set_at (marks_below n words) m k true false (eqb-true k m is) (subst (λ j. m < j) (sym (marks_length n words)) within))))
-    (λ isnt. rw isnt (sym (get_or-set_other (marks_below n words) m k true false (eqb-false k m isnt) ∙ mark_of n words k less))))
-
--- in rows that are all alike, where none is marked
-pub alike_unmarked : (words : List ℕ) (k r n : ℕ) → ((m : ℕ) → is_marked words m ≡ false) → mark_at (replicate k words) r n ≡ false
-unfolding is_marked
-alike_unmarked words zero r n none = rw (bit_at-zero (n % 64)) refl
-alike_unmarked words (suc k) zero n none = none n
-alike_unmarked words (suc k) (suc r) n none = alike_unmarked words k r n none

@@ -1,5 +1,5 @@
 -- What is written of a timetable.
-use Rattle.std.proofs.Common.{◌≡◌, ℕ, zero, suc, ◌+◌, ◌*◌, ◌^◌, ◌<◌, ◌≤◌, List, [], ◌∷◌, ◌++◌, length, map, flat_map, Bool, true, false, cond, not, ◌&&◌, ◌||◌, ◌==◌, refl, sym, ap, subst, Some, None, ◌∙◌, arith, rules, append_assoc, true≢false}
+use Rattle.std.proofs.Common.{◌≡◌, ℕ, zero, suc, ◌+◌, ◌*◌, ◌^◌, ◌<◌, ◌≤◌, List, [], ◌∷◌, ◌++◌, length, map, flat_map, Bool, true, false, cond, not, ◌&&◌, ◌||◌, ◌==◌, refl, sym, ap, subst, ◌∙◌, arith, rules, append_assoc, true≢false}
 use Rattle.std.specs.Prelude.{codes, fold, slice_index_or}
 use Rattle.std.specs.List.{list_any, list_all, position_or_len, AllByRecursion as Each}
 use Rattle.std.specs.Str.{bytes_eq}
@@ -13,7 +13,7 @@ use Rattle.std.proofs.lemmas.Str.Parse.{IsNumeralModel, numerals_by_fold}
 use Rattle.ctt_text.specs.declared.placed.Placed.{Placed}
 use Rattle.ctt_text.specs.Numbers.{is_digit, with_digit, value}
 use Rattle.ctt_text.specs.Words.{words, is_blank, grow}
-use Rattle.ctt_text.specs.Problem.{Problem, IsProblem, is_among, place_of, number_in, day_of, period_of}
+use Rattle.ctt_text.specs.Problem.{Problem, IsProblem, is_among, place_of, day_of, period_of}
 use Rattle.ctt_text.specs.Named.{IsWord, IsNamed}
 use Rattle.ctt_text.specs.Timetable.{Fits, before, Ascending}
 use Rattle.ctt_text.specs.InstanceText.{AreNew, AreDistinct, IsNumber}
@@ -78,13 +78,6 @@ pub among_at : (names : List (List ℕ)) (n : ℕ) → n < length names → is_a
 among_at [] n lt = absurd (omega (arith, lt))
 among_at (x ∷ xs) zero lt = or_left (bytes_eq x x) (is_among xs x) (same_bytes x)
 among_at (x ∷ xs) (suc n) lt = or_right (bytes_eq (slice_index_or xs n []) x) (is_among xs (slice_index_or xs n [])) (among_at xs n (omega (arith, lt)))
-
--- a name by its number has that number
-pub number_at : (names : List (List ℕ)) (n : ℕ) (name : List ℕ) → AreDistinct names → n < length names → name ≡ slice_index_or names n [] → Some n ≡ number_in names name
-number_at names n name new lt same =
-    sym (ap (number_in names) same
-    ∙ ap (λ b. cond b (Some (place_of names (slice_index_or names n []))) None) (among_at names n lt)
-    ∙ ap Some (place_at names n new lt))
 
 -- lectures that ascend are apart
 apart_from_ascending : (t : List Placed) → Ascending t → AreApart t

@@ -1,19 +1,12 @@
 -- The fields of an instance, and the problem that they are.
-use Rattle.std.specs.Prelude.{◌≡◌, ◌<◌, ◌*◌, ◌&&◌, ℕ, List, Bool, true, false, length, map, nat_lt, replicate, Option, Some, None, IfSome}
-use Rattle.std.specs.List.{list_any}
+use Rattle.std.specs.Prelude.{◌≡◌, ◌<◌, ◌&&◌, ℕ, map, nat_lt}
 use Rattle.std.specs.String.{string_bytes}
 use Rattle.ctt_text.specs.Problem.{Problem, IsProblem, course_count, slot_count, room_count, clash}
 use Rattle.ctt_text.specs.Named.{IsNamed}
-use Rattle.ctt_text.specs.Tables.{mark_at, MarkTable, IsTableOf}
+use Rattle.ctt_text.specs.BitRows.{BitTable, is_marked_in, marks_of, HasSize}
 use Rattle.ctt_text.specs.Belonging.{AreCurricula}
 use Rattle.ctt_text.specs.Taught.{AreTaught}
-use Rattle.ctt_text.specs.Labels.{AreLabels, AreSlotLabels}
 use Rattle.ctt_text.specs.declared.instance.Instance.TheInside.{Inside}
-
--- so many marks: those of a table, and none where there is no table
-abbrev pub marks_in : ℕ → Option MarkTable → List Bool
-marks_in n None = replicate n false
-marks_in n (Some table) = table.marks
 
 abbrev pub problem_in : Inside → Problem
 problem_in i = record {
@@ -27,29 +20,20 @@ problem_in i = record {
   curricula = map (λ q. q.items) i.curricula.items;
   days = i.days;
   periods = i.periods;
-  unavailable = i.unavailable.marks;
-  barred = marks_in (length i.courses.items * length i.capacities.items) i.barred;
+  unavailable = marks_of i.unavailable;
+  barred = marks_of i.barred;
 }
 
 -- the rows of the clashes
-pub record AreClashes (p : Problem) (rows : List (List ℕ)) : Type 0 where
-  pub size : length rows ≡ course_count p
-  pub marks : (c d : ℕ) → c < course_count p → mark_at rows c d ≡ (nat_lt d (course_count p) && clash p c d)
-
--- a table of so many rows and columns, which has a mark
-pub record HasMarks (rows width : ℕ) (table : MarkTable) : Type 0 where
-  pub size : IsTableOf rows width table
-  pub all : length table.marks ≡ rows * width
-  pub some : list_any (λ b. b) table.marks ≡ true
+pub record AreClashes (p : Problem) (rows : BitTable) : Type 0 where
+  pub size : HasSize rows (course_count p) (course_count p)
+  pub marks : (c d : ℕ) → c < course_count p → is_marked_in rows c d ≡ (nat_lt d (course_count p) && clash p c d)
 
 pub record IsInstance (i : Inside) : Type 0 where
   pub problem : IsProblem (problem_in i)
   pub named : IsNamed (problem_in i)
-  pub clashes : AreClashes (problem_in i) i.clashes.items
-  pub available : IsTableOf (course_count (problem_in i)) (slot_count (problem_in i)) i.unavailable
-  pub barred : IfSome i.barred (HasMarks (course_count (problem_in i)) (room_count (problem_in i)))
+  pub clashes : AreClashes (problem_in i) i.clashes
+  pub available : HasSize i.unavailable (course_count (problem_in i)) (slot_count (problem_in i))
+  pub barred : HasSize i.barred (course_count (problem_in i)) (room_count (problem_in i))
   pub belonging : AreCurricula (problem_in i) (map (λ q. q.items) i.belonging.items)
   pub taught : AreTaught (problem_in i) (map (λ q. q.items) i.taught.items)
-  pub course_labels : AreLabels i.course_names i.course_labels.items
-  pub room_labels : AreLabels i.room_names i.room_labels.items
-  pub slot_labels : AreSlotLabels (slot_count (problem_in i)) i.periods i.slot_labels.items

@@ -1,7 +1,11 @@
 -- The courses of each teacher.
 use Rattle.std.specs.Prelude.{◌≡◌, ◌<◌, ◌==◌, ℕ, List, [], length, get_or}
 use Rattle.ctt_text.specs.Lists.{below}
+use Rattle.ctt_text.specs.declared.course_facts.CourseFacts.{CourseFacts}
 use Rattle.ctt_text.specs.Problem.{Problem, course_of, course_count, teacher_count}
+
+abbrev pub teacher_at : List CourseFacts → ℕ → ℕ
+teacher_at courses c = (get_or courses c (record { teacher = 0; lectures = 0; min_days = 0; students = 0 })).teacher
 
 -- the courses of a teacher, ascending
 abbrev pub courses_taught_by : Problem → ℕ → List ℕ

@@ -1,9 +1,10 @@
 -- The written form of a timetable.
-use Rattle.std.specs.Prelude.{ℕ, List, [], ◌++◌, flat_map, codes, slice_index_or}
+use Rattle.std.specs.Prelude.{ℕ, List, [], flat_map, slice_index_or}
 use Rattle.std.specs.Fmt.{decimal}
 use Rattle.ctt_text.specs.declared.placed.Placed.{Placed}
 use Rattle.ctt_text.specs.Problem.{Problem, day_of, period_of}
-use Rattle.ctt_text.specs.SolutionText.{EntryWords}
+use Rattle.ctt_line.specs.Lines.{line}
+use Rattle.ctt_text.specs.SolutionText.{EntryWords, spelled_entry}
 
 -- the words of a lecture
 abbrev pub words_of : Problem → Placed → EntryWords
@@ -16,7 +17,7 @@ words_of i l = record {
 
 -- with one blank between, and the end of the line
 abbrev pub line_of : EntryWords → List ℕ
-line_of w = w.course ++ (codes " " ++ (w.room ++ (codes " " ++ (w.day ++ (codes " " ++ (w.period ++ codes "\n"))))))
+line_of w = line (spelled_entry w)
 
 -- one line a lecture, in their order
 abbrev pub soltext : Problem → List Placed → List ℕ

@@ -3,7 +3,7 @@
 use crate::ids::TeacherNo;
 
 /// What an instance says of a course beside its name. The numbers are at most 999,999,999.
-#[derive(Clone, Copy, PartialEq, Eq)]
+#[derive(Clone, Copy, Debug, PartialEq, Eq, Hash)]
 pub struct CourseFacts {
     /// Who teaches it.
     pub teacher: TeacherNo,

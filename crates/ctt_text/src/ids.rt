@@ -5,7 +5,7 @@ ghost use Rattle.std.specs.Prelude.{◌≡◌};
 use std::marker::Model;
 
 /// The number of a course, from 0 in the order of the instance.
-#[derive(Clone, Copy, Default, PartialEq, Eq, PartialOrd, Ord, Hash)]
+#[derive(Clone, Copy, Debug, Default, PartialEq, Eq, PartialOrd, Ord, Hash)]
 pub struct CourseNo(u16);
 
 impl Model for CourseNo {
@@ -36,7 +36,7 @@ impl CourseNo {
 }
 
 /// The number of a room, from 0 in the order of the instance.
-#[derive(Clone, Copy, Default, PartialEq, Eq, PartialOrd, Ord, Hash)]
+#[derive(Clone, Copy, Debug, Default, PartialEq, Eq, PartialOrd, Ord, Hash)]
 pub struct RoomNo(u16);
 
 impl Model for RoomNo {
@@ -67,7 +67,7 @@ impl RoomNo {
 }
 
 /// The number of a slot: the day times the periods of a day, plus the period.
-#[derive(Clone, Copy, Default, PartialEq, Eq, PartialOrd, Ord, Hash)]
+#[derive(Clone, Copy, Debug, Default, PartialEq, Eq, PartialOrd, Ord, Hash)]
 pub struct SlotNo(u16);
 
 impl Model for SlotNo {
@@ -98,7 +98,7 @@ impl SlotNo {
 }
 
 /// The number of a teacher, from 0 in the order in which the courses name them.
-#[derive(Clone, Copy, Default, PartialEq, Eq, PartialOrd, Ord, Hash)]
+#[derive(Clone, Copy, Debug, Default, PartialEq, Eq, PartialOrd, Ord, Hash)]
 pub struct TeacherNo(u16);
 
 impl Model for TeacherNo {
@@ -129,7 +129,7 @@ impl TeacherNo {
 }
 
 /// The number of a curriculum, from 0 in the order of the instance.
-#[derive(Clone, Copy, Default, PartialEq, Eq, PartialOrd, Ord, Hash)]
+#[derive(Clone, Copy, Debug, Default, PartialEq, Eq, PartialOrd, Ord, Hash)]
 pub struct CurriculumNo(u16);
 
 impl Model for CurriculumNo {

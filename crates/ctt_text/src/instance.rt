@@ -4,7 +4,7 @@ ghost use Rattle.std.specs.Prelude.{◌≡◌, ◌<◌, ◌≤◌, ◌*◌, ◌&
 ghost use Rattle.std.specs.List.{AllByRecursion as Each};
 ghost use Rattle.ctt_text.specs.Problem.{IsProblem, course_of, capacity_of, members, course_count, room_count, teacher_count, curriculum_count, slot_count, slot_of, day_of, period_of, clash, is_unavailable, is_barred, has_barred, IsSmall, AreMembers};
 ghost use Rattle.ctt_text.specs.Marks.{is_marked};
-ghost use Rattle.ctt_text.specs.Instance.{marks_in, HasMarks};
+ghost use Rattle.ctt_text.specs.BitRows.{marks_of, HasSize};
 ghost use Rattle.ctt_text.specs.Named.{IsNamed};
 ghost use Rattle.ctt_text.specs.Belonging.{curricula_of};
 ghost use Rattle.ctt_text.specs.Taught.{courses_taught_by};
@@ -17,20 +17,18 @@ mod curricula;
 mod header;
 mod members;
 mod naming;
-mod pair_marks;
 mod places;
 mod read;
 mod rooms;
 mod taught;
 mod unavailability;
 
+use crate::bit_rows::BitRows;
 use crate::course_facts::CourseFacts;
 use crate::ids::{CourseNo, CurriculumNo, RoomNo, SlotNo, TeacherNo};
-use crate::label::Label;
 use crate::marks::Marks;
 use crate::names::Names;
 pub use barred::read_barred;
-use pair_marks::PairMarks;
 pub use read::read_instance;
 use std::marker::Model;
 
@@ -49,21 +47,16 @@ pub struct Instance {
     curricula: Vec<Vec<CourseNo>>,
     days: u16,
     periods: u16,
-    unavailable: PairMarks,
-    /// Which rooms are barred for each course, where some are.
-    barred: Option<PairMarks>,
+    /// For each course, the slots in which it is unavailable.
+    unavailable: BitRows,
+    /// For each course, the rooms that are barred for it.
+    barred: BitRows,
     /// For each course, those that it clashes with.
-    clashes: Vec<Marks>,
+    clashes: BitRows,
     /// For each course, its curricula.
     belonging: Vec<Vec<CurriculumNo>>,
     /// For each teacher, his courses.
     taught: Vec<Vec<CourseNo>>,
-    /// The names of the courses, ready to be copied.
-    course_labels: Vec<Option<Label>>,
-    /// Those of the rooms.
-    room_labels: Vec<Option<Label>>,
-    /// The day and the period of each slot, ready to be copied.
-    slot_labels: Vec<Option<Label>>,
 }
 
 // A derived `Drop` is proved anew in each crate above.
@@ -85,9 +78,6 @@ impl Drop for Instance {
             clashes: _,
             belonging: _,
             taught: _,
-            course_labels: _,
-            room_labels: _,
-            slot_labels: _,
         } = self;
     }
 }
@@ -263,17 +253,18 @@ impl Instance {
         requires other { other < course_count self.now }
         ensures { result ≡ clash self.now course other }
     {
-        self.clashes[course.get() as usize].is_marked(other.get() as usize)
+        self.clashes
+            .is_marked(course.get() as usize, other.get() as usize)
     }
 
     /// The courses that clash with a course.
-    pub fn clashing(&self, course: CourseNo) -> &Marks
+    pub fn clashing(&self, course: CourseNo) -> Marks
         requires { course < course_count self.now }
         ensures { (d : ℕ)
-            → is_marked result.now d
+            → is_marked result d
             ≡ (nat_lt d (course_count self.now) && clash self.now course d) }
     {
-        &self.clashes[course.get() as usize]
+        self.clashes.row(course.get() as usize)
     }
 
     /// Whether a course is unavailable in a slot.
@@ -282,8 +273,8 @@ impl Instance {
         requires slot { slot < slot_count self.now }
         ensures { result ≡ is_unavailable self.now course slot }
     {
-        let (course, slot) = (course.get() as usize, slot.get() as usize);
-        self.unavailable.is_marked(course, slot)
+        self.unavailable
+            .is_marked(course.get() as usize, slot.get() as usize)
     }
 
     /// Whether a room is barred for a course.
@@ -292,18 +283,14 @@ impl Instance {
         requires room { room < room_count self.now }
         ensures { result ≡ is_barred self.now course room }
     {
-        match &self.barred {
-            Some(table) => table.is_marked(course.get() as usize, room.get() as usize),
-            None => false,
-        }
+        self.barred
+            .is_marked(course.get() as usize, room.get() as usize)
     }
 
     /// Bars the rooms that a table marks for each course, and no others.
-    fn bar(&mut self, table: Option<PairMarks>)
-        requires { IfSome table (HasMarks (course_count self.old) (room_count self.old)) }
-        ensures { self.new
-            ≡ record self.old
-            { barred = marks_in (course_count self.old * room_count self.old) table } }
+    fn bar(&mut self, table: BitRows)
+        requires { HasSize table (course_count self.old) (room_count self.old) }
+        ensures { self.new ≡ record self.old { barred = marks_of table } }
     {
         self.barred = table;
     }
@@ -312,7 +299,7 @@ impl Instance {
     pub fn has_barred(&self) -> bool
         ensures { result ≡ has_barred self.now }
     {
-        self.barred.is_some()
+        self.barred.has_marks()
     }
 
     /// The slot of a period in a day.

@@ -1,14 +1,13 @@
 //! The texts of curriculum-based course timetabling: instances, solutions and barred rooms.
 #![tactic(auto)]
 
+mod bit_rows;
 mod compact;
 mod course_facts;
 mod fault;
 mod fits;
-mod gathered;
 mod ids;
 mod instance;
-mod label;
 pub mod laws;
 mod letting;
 mod marks;
@@ -16,7 +15,6 @@ mod names;
 mod no_memory;
 mod number_lists;
 mod numbers;
-mod pieces;
 mod placed;
 mod places;
 mod reader;
@@ -24,21 +22,17 @@ mod solution;
 mod timetable;
 mod words;
 
+pub use bit_rows::BitRows;
 pub use compact::Compact;
 pub use course_facts::CourseFacts;
 pub use fault::{BarredFault, ReadFault, SolutionFault};
-pub use gathered::Gathered;
 pub use ids::{CourseNo, CurriculumNo, RoomNo, SlotNo, TeacherNo};
 pub use instance::{Instance, read_barred, read_instance};
-pub use label::Label;
 pub use letting::let_go;
 pub use marks::Marks;
 pub use no_memory::NoMemory;
 pub use number_lists::{add_to, empty_lists};
 pub use numbers::number;
-pub use pieces::{
-    end_with_count, end_with_slot, end_with_word, push_count, push_number, push_slot, push_word,
-};
 pub use placed::Placed;
 pub use places::{
     FixedFault, PlaceFault, RoomFault, SlotFault, next_course, next_fixed, next_number, next_room,

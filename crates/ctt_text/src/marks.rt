@@ -44,6 +44,14 @@ impl Marks {
         Marks { words: all }
     }
 
+    /// The words, of which each has 64 numbers.
+    pub(crate) fn words(&self) -> &[u64]
+        ensures value { result.now ≡ self.now }
+        ensures size { length result.now ≡ 32 }
+    {
+        &self.words
+    }
+
     /// Marks a number, and answers whether it was new.
     pub fn mark(&mut self, number: usize) -> bool
         requires { number < 2000 }

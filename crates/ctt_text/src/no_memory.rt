@@ -1,9 +1,11 @@
 //! Want of memory.
 
 use std::alloc::{AllocError, AllocFailed};
+use thiserror::Error;
 
 /// There is not enough memory.
-#[derive(Clone, Copy, PartialEq, Eq)]
+#[derive(Clone, Copy, Debug, PartialEq, Eq, Hash, Error)]
+#[error("no memory")]
 pub struct NoMemory;
 
 impl From<AllocError> for NoMemory {

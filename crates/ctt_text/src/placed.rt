@@ -3,7 +3,7 @@
 use crate::ids::{CourseNo, RoomNo, SlotNo};
 
 /// A lecture of a course in a slot and a room.
-#[derive(Clone, Copy, Default, PartialEq, Eq)]
+#[derive(Clone, Copy, Debug, Default, PartialEq, Eq, Hash)]
 pub struct Placed {
     /// Which course it is of.
     pub course: CourseNo,

@@ -3,7 +3,6 @@
 mod lectures;
 mod places;
 mod read;
-mod room_table;
 mod write;
 
 pub use read::read_solution;

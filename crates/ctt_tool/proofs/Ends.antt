@@ -74,9 +74,9 @@ differs_taken words before after old new (inr does) = does.0
 pub ended_kept : (fault : Fault) (status : ℕ) (S K : Type 0) → (status ≡ status_of fault) ⊎ (status ≡ 3) → KeptUnless fault S K → K ⊎ ((status ≡ 3) × S)
 ended_kept CannotWrite status S K is kept = ⊎_elim inl (λ stored. inr (⊎_elim (λ same. same) (λ three. three) is, stored)) kept
 ended_kept NoMemory status S K is kept = inl kept
-ended_kept (Instance number at) status S K is kept = inl kept
-ended_kept (Solution number at) status S K is kept = inl kept
-ended_kept (Barred number at) status S K is kept = inl kept
+ended_kept (Instance met) status S K is kept = inl kept
+ended_kept (Solution met) status S K is kept = inl kept
+ended_kept (Barred met) status S K is kept = inl kept
 ended_kept (Journal number at) status S K is kept = inl kept
 ended_kept (Opening text) status S K is kept = inl kept
 ended_kept (CannotRead name) status S K is kept = inl kept
@@ -139,9 +139,9 @@ other_kept words outcome before after old new (inr (taken, (job, is, does))) oth
 may_is_three : (fault : Fault) → MayHaveWritten fault → status_of fault ≡ 3
 may_is_three CannotWrite may = refl
 may_is_three NoMemory may = refl
-may_is_three (Instance number at) may = absurd may
-may_is_three (Solution number at) may = absurd may
-may_is_three (Barred number at) may = absurd may
+may_is_three (Instance met) may = absurd may
+may_is_three (Solution met) may = absurd may
+may_is_three (Barred met) may = absurd may
 may_is_three (Journal number at) may = absurd may
 may_is_three (Opening text) may = absurd may
 may_is_three (CannotRead name) may = absurd may
@@ -170,9 +170,9 @@ unprinted_two fault P unwritten two = ⊎_elim (λ may. absurd (omega (arith, ma
 pub status_between : (fault : Fault) → (1 ≤ status_of fault) × (status_of fault ≤ 3)
 status_between CannotWrite = (omega arith, omega arith)
 status_between NoMemory = (omega arith, omega arith)
-status_between (Instance number at) = (omega arith, omega arith)
-status_between (Solution number at) = (omega arith, omega arith)
-status_between (Barred number at) = (omega arith, omega arith)
+status_between (Instance met) = (omega arith, omega arith)
+status_between (Solution met) = (omega arith, omega arith)
+status_between (Barred met) = (omega arith, omega arith)
 status_between (Journal number at) = (omega arith, omega arith)
 status_between (Opening text) = (omega arith, omega arith)
 status_between (CannotRead name) = (omega arith, omega arith)

@@ -78,9 +78,9 @@ job_words job held fault word plain is = ⊎_elim plain (λ special. not_special
 
 -- the cause of a fault of a job
 pub job_caused : (words : List (List ℕ)) (held : Held) (failed : Bool) (job : Job) (U : Type 0) (fault : Fault) → IsJobOf words job → IfUnwritten fault ((failed ≡ true) ⊎ Storing job.task) (IsOfJob job held fault × U) → HasCause words held failed fault
-job_caused words held failed job U (Instance number at) is cause = (job, is, cause.0)
-job_caused words held failed job U (Solution number at) is cause = (job, is, cause.0)
-job_caused words held failed job U (Barred number at) is cause = (job, is, cause.0)
+job_caused words held failed job U (Instance met) is cause = (job, is, cause.0)
+job_caused words held failed job U (Solution met) is cause = (job, is, cause.0)
+job_caused words held failed job U (Barred met) is cause = (job, is, cause.0)
 job_caused words held failed job U (Journal number at) is cause = (job, is, cause.0)
 job_caused words held failed job U (Opening text) is cause = (job, is, cause.0)
 job_caused words held failed job U (CannotRead name) is cause = (job, is, cause.0)
@@ -109,9 +109,9 @@ one_is_none e = absurd (omega (arith, e))
 
 -- words are refused for their faults, for too many scripts, or for the seats of a desk
 pub refused_two : (words : List (List ℕ)) (held : Held) (failed : Bool) (fault : Fault) → HasCause words held failed fault → status_of fault ≡ 2 → AreRefused words ⊎ (AsksForTooMany words ⊎ AsksForBadSeats words)
-refused_two words held failed (Instance number at) has two = absurd (omega (arith, two))
-refused_two words held failed (Solution number at) has two = absurd (omega (arith, two))
-refused_two words held failed (Barred number at) has two = absurd (omega (arith, two))
+refused_two words held failed (Instance met) has two = absurd (omega (arith, two))
+refused_two words held failed (Solution met) has two = absurd (omega (arith, two))
+refused_two words held failed (Barred met) has two = absurd (omega (arith, two))
 refused_two words held failed (Journal number at) has two = absurd (omega (arith, two))
 refused_two words held failed (Opening text) has two = absurd (omega (arith, two))
 refused_two words held failed (CannotRead name) has two = absurd (omega (arith, two))
@@ -143,9 +143,9 @@ refused_two words held failed BadSeats has two = inr (inr (has.0, has.1, seats_o
 
 -- and a text is refused by a job that they ask for
 pub asked_one : (words : List (List ℕ)) (held : Held) (failed : Bool) (fault : Fault) → HasCause words held failed fault → status_of fault ≡ 1 → AsksForRefusedText words held
-asked_one words held failed (Instance number at) has one = ((Instance number at), one, has)
-asked_one words held failed (Solution number at) has one = ((Solution number at), one, has)
-asked_one words held failed (Barred number at) has one = ((Barred number at), one, has)
+asked_one words held failed (Instance met) has one = ((Instance met), one, has)
+asked_one words held failed (Solution met) has one = ((Solution met), one, has)
+asked_one words held failed (Barred met) has one = ((Barred met), one, has)
 asked_one words held failed (Journal number at) has one = ((Journal number at), one, has)
 asked_one words held failed (Opening text) has one = ((Opening text), one, has)
 asked_one words held failed (CannotRead name) has one = absurd (omega (arith, one))

@@ -1,24 +1,23 @@
 //! Reading which rooms are barred for which courses.
 
-ghost use Rattle.std.specs.Prelude.{◌≡◌, ◌<◌, ◌*◌, ◌⊎◌, ℕ, List, Bool, OnOk, IfOk, IfErr, IfSome, MatchResult, Err};
+ghost use Rattle.std.specs.Prelude.{◌≡◌, ◌<◌, ◌*◌, ◌⊎◌, ℕ, List, Bool, OnOk, IfOk, IfErr, MatchResult, Err};
 ghost use Rattle.std.specs.Str.{IsUtf8};
 ghost use Rattle.std.specs.Str.Lossy.{utf8_valid_len};
 ghost use Rattle.ctt_text.specs.Words.{words};
 ghost use Rattle.ctt_text.specs.Forms.{times};
-ghost use Rattle.ctt_text.specs.Places.{known_name};
 ghost use Rattle.ctt_text.specs.Reading.{Gives};
 ghost use Rattle.ctt_text.specs.Problem.{course_count, room_count};
-ghost use Rattle.ctt_text.specs.Instance.{marks_in, HasMarks};
+ghost use Rattle.ctt_text.specs.BitRows.{marks_of, HasSize};
 ghost use Rattle.ctt_text.specs.BarredPlaces.{GivesBarred, reads_barred, wants_memory, pair_count, barred_pair, none_barred, barred_rooms};
 ghost use Rattle.ctt_text.specs.BarredText.{BarSpells, BarBreaksAt};
 ghost use Rattle.ctt_text.specs.BarredLaws.{barred_answer, IsBarredCauseOf};
 ghost use Rattle.ctt_text.specs.declared.fault.BarredFault.{BarredFault};
-ghost use Rattle.ctt_text.specs.declared.fault.BarredFault.TheVariants.{NotText, NoMemory, UnknownCourse, UnknownRoom};
+ghost use Rattle.ctt_text.specs.declared.fault.BarredFault.TheVariants.{NotText, NoMemory};
 
+use crate::bit_rows::BitRows;
 use crate::fault::BarredFault;
 use crate::instance::Instance;
-use crate::instance::pair_marks::PairMarks;
-use crate::places::{next_fixed, next_number, next_word};
+use crate::places::{next_course, next_fixed, next_number, next_room};
 use crate::reader::Reader;
 use std::alloc::Global;
 
@@ -37,54 +36,22 @@ fn read_count(reader: &mut Reader, greatest: u32) -> Result<u32, BarredFault>
     }
 }
 
-/// A course by its name, and its number. The guess is of use where it is right.
-#[tactic(auto, using(crate::proofs::Steps::read_known), unfolding(crate::specs::Places::known_name))]
-fn read_course(reader: &mut Reader, instance: &Instance, guess: usize) -> Result<usize, BarredFault>
-    ensures within { IfOk result (λ course. course < course_count instance.now) }
-    ensures exact { GivesBarred (λ course. (course, reader.new)) result
-        (reads_barred (known_name UnknownCourse instance.now.course_names) reader.old) }
-{
-    let at = reader.next();
-    let name = next_word::<BarredFault>(reader)?;
-    instance
-        .course_near(guess, name)
-        .ok_or(BarredFault::UnknownCourse(at))
-}
-
-/// A room by its name, and its number, with a guess.
-#[tactic(auto, using(crate::proofs::Steps::read_known), unfolding(crate::specs::Places::known_name))]
-fn read_room(reader: &mut Reader, instance: &Instance, guess: usize) -> Result<usize, BarredFault>
-    ensures within { IfOk result (λ room. room < room_count instance.now) }
-    ensures exact { GivesBarred (λ room. (room, reader.new)) result
-        (reads_barred (known_name UnknownRoom instance.now.room_names) reader.old) }
-{
-    let at = reader.next();
-    let name = next_word::<BarredFault>(reader)?;
-    instance
-        .room_near(guess, name)
-        .ok_or(BarredFault::UnknownRoom(at))
-}
-
-/// Reads one pair, and marks it. Most files name each course with one room after another, so the course
-/// of the pair before is looked at first, and the room behind its room.
-#[tactic(auto, using(crate::proofs::Steps::read_bind, crate::proofs::Steps::read_done), unfolding(crate::specs::BarredPlaces::barred_pair))]
+/// Reads one pair, and marks it.
+#[tactic(auto, using(crate::proofs::Steps::read_bind, crate::proofs::Steps::read_done, crate::proofs::BitRowLemmas::marks_set), unfolding(crate::specs::BarredPlaces::barred_pair))]
 fn read_pair(
     reader: &mut Reader,
     instance: &Instance,
-    before: (usize, usize),
-    table: &mut PairMarks,
-) -> Result<(usize, usize), BarredFault>
-    requires rows { table.old.rows ≡ course_count instance.now }
-    requires width { table.old.width ≡ room_count instance.now }
-    ensures rows { table.new.rows ≡ table.old.rows }
-    ensures width { table.new.width ≡ table.old.width }
-    ensures exact { GivesBarred (λ _. (table.new.marks, reader.new)) result
-        (reads_barred (barred_pair instance.now table.old.marks) reader.old) }
+    table: &mut BitRows,
+) -> Result<(), BarredFault>
+    requires size { HasSize table.old (course_count instance.now) (room_count instance.now) }
+    ensures size { HasSize table.new (course_count instance.now) (room_count instance.now) }
+    ensures exact { GivesBarred (λ _. (marks_of table.new, reader.new)) result
+        (reads_barred (barred_pair instance.now (marks_of table.old)) reader.old) }
 {
-    let course = read_course(reader, instance, before.0)?;
-    let room = read_room(reader, instance, before.1.saturating_add(1))?;
-    table.mark(course, room);
-    Ok((course, room))
+    let course = next_course::<BarredFault>(reader, instance)?;
+    let room = next_room::<BarredFault>(reader, instance)?;
+    table.mark(course.get() as usize, room.get() as usize);
+    Ok(())
 }
 
 /// Reads so many pairs, and marks them.
@@ -92,47 +59,40 @@ fn read_pairs(
     reader: &mut Reader,
     instance: &Instance,
     count: u32,
-    table: &mut PairMarks,
+    table: &mut BitRows,
 ) -> Result<(), BarredFault>
-    requires rows { table.old.rows ≡ course_count instance.now }
-    requires width { table.old.width ≡ room_count instance.now }
-    ensures rows { table.new.rows ≡ table.old.rows }
-    ensures width { table.new.width ≡ table.old.width }
-    ensures exact { GivesBarred (λ _. (table.new.marks, reader.new)) result
-        (reads_barred (times (barred_pair instance.now) count table.old.marks) reader.old) }
+    requires size { HasSize table.old (course_count instance.now) (room_count instance.now) }
+    ensures size { HasSize table.new (course_count instance.now) (room_count instance.now) }
+    ensures exact { GivesBarred (λ _. (marks_of table.new, reader.new)) result
+        (reads_barred (times (barred_pair instance.now) count (marks_of table.old)) reader.old) }
 {
-    let mut pair = (0, 0);
     for _ in 0..count {
-        pair = read_pair(reader, instance, pair, table)?;
+        read_pair(reader, instance, table)?;
     }
     Ok(())
 }
 
-/// Reads so many pairs. Where there are none, there is no table, and no memory is taken.
+/// Reads so many pairs.
+#[tactic(auto, using(crate::proofs::BitRowLemmas::marks_none))]
 fn read_table(
     alloc: Global,
     reader: &mut Reader,
     instance: &Instance,
     count: u32,
-) -> Result<Option<PairMarks>, BarredFault>
-    ensures marks { IfOk result (λ table.
-        IfSome table (HasMarks (course_count instance.now) (room_count instance.now))) }
+) -> Result<BitRows, BarredFault>
+    ensures size { IfOk result (λ table.
+        HasSize table (course_count instance.now) (room_count instance.now)) }
     ensures exact { GivesBarred
-        (λ table.
-        (marks_in (course_count instance.now * room_count instance.now) table, reader.new))
-        result
+        (λ table. (marks_of table, reader.new)) result
         (reads_barred (times (barred_pair instance.now) count (none_barred instance.now))
         reader.old) }
 {
     instance.limits_hold();
-    if count == 0 {
-        return Ok(None);
-    }
     let courses = instance.courses() as usize;
     let rooms = instance.rooms() as usize;
-    let mut table = PairMarks::new(alloc, courses, rooms)?;
+    let mut table = BitRows::new(alloc, courses, rooms)?;
     read_pairs(reader, instance, count, &mut table)?;
-    Ok(Some(table))
+    Ok(table)
 }
 
 /// Reads the whole text, up to the word at the end.
@@ -141,13 +101,11 @@ fn read_rooms(
     alloc: Global,
     reader: &mut Reader,
     instance: &Instance,
-) -> Result<Option<PairMarks>, BarredFault>
-    ensures marks { IfOk result (λ table.
-        IfSome table (HasMarks (course_count instance.now) (room_count instance.now))) }
+) -> Result<BitRows, BarredFault>
+    ensures size { IfOk result (λ table.
+        HasSize table (course_count instance.now) (room_count instance.now)) }
     ensures exact { GivesBarred
-        (λ table.
-        (marks_in (course_count instance.now * room_count instance.now) table, reader.new))
-        result (reads_barred (barred_rooms instance.now) reader.old) }
+        (λ table. (marks_of table, reader.new)) result (reads_barred (barred_rooms instance.now) reader.old) }
 {
     next_fixed::<BarredFault>(reader, "Barred:")?;
     let count = read_count(reader, 2_000_000)?;
@@ -157,15 +115,10 @@ fn read_rooms(
 }
 
 /// Reads which rooms are barred from a text.
-fn read_text(
-    alloc: Global,
-    instance: &Instance,
-    text: &str,
-) -> Result<Option<PairMarks>, BarredFault>
-    ensures marks { IfOk result (λ table.
-        IfSome table (HasMarks (course_count instance.now) (room_count instance.now))) }
-    ensures exact { Gives wants_memory
-        (marks_in (course_count instance.now * room_count instance.now)) result
+fn read_text(alloc: Global, instance: &Instance, text: &str) -> Result<BitRows, BarredFault>
+    ensures size { IfOk result (λ table.
+        HasSize table (course_count instance.now) (room_count instance.now)) }
+    ensures exact { Gives wants_memory marks_of result
         (barred_answer instance.now (words text.now)) }
 {
     let mut reader = Reader::new(text);

@@ -1,13 +1,10 @@
 //! The names of an instance, and what they name.
 
 ghost use Rattle.std.specs.Prelude.{◌≡◌, ◌<◌, [], slice_index_or, IfSome};
-ghost use Rattle.std.specs.Option.{option_map};
-ghost use Rattle.ctt_text.specs.Problem.{course_count, room_count, teacher_count, curriculum_count, slot_count, day_of, period_of, number_in};
-ghost use Rattle.ctt_text.specs.Labels.{IsLabelOf, slot_words};
+ghost use Rattle.ctt_text.specs.Problem.{course_count, room_count, teacher_count, curriculum_count, number_in};
 
-use crate::ids::{CourseNo, CurriculumNo, RoomNo, SlotNo, TeacherNo};
+use crate::ids::{CourseNo, CurriculumNo, RoomNo, TeacherNo};
 use crate::instance::Instance;
-use crate::label::Label;
 
 impl Instance {
     /// The name of a course.
@@ -24,33 +21,6 @@ impl Instance {
         ensures { result.now ≡ slice_index_or self.now.room_names room [] }
     {
         self.room_names.name(room.get() as usize)
-    }
-
-    /// The label of a course's name; only a long name has none.
-    pub fn course_label(&self, course: CourseNo) -> Option<&Label>
-        requires { course < course_count self.now }
-        ensures { IsLabelOf (slice_index_or self.now.course_names course [])
-            (option_map (λ l. l.now) result) }
-    {
-        self.course_labels[course.get() as usize].as_ref()
-    }
-
-    /// The label of a room's name; only a long name has none.
-    pub fn room_label(&self, room: RoomNo) -> Option<&Label>
-        requires { room < room_count self.now }
-        ensures { IsLabelOf (slice_index_or self.now.room_names room [])
-            (option_map (λ l. l.now) result) }
-    {
-        self.room_labels[room.get() as usize].as_ref()
-    }
-
-    /// The label of a slot: its day and period, a blank between them.
-    pub fn slot_label(&self, slot: SlotNo) -> Option<&Label>
-        requires { slot < slot_count self.now }
-        ensures { IsLabelOf (slot_words (day_of self.now slot) (period_of self.now slot))
-            (option_map (λ l. l.now) result) }
-    {
-        self.slot_labels[slot.get() as usize].as_ref()
     }
 
     /// The name of a teacher.
@@ -76,22 +46,6 @@ impl Instance {
     {
         let number = self.course_names.number(name)?;
         Some(CourseNo::new(number as u16))
-    }
-
-    /// The number of a course by its name, which is first compared with that of a guessed course.
-    pub(crate) fn course_near(&self, guess: usize, name: &str) -> Option<usize>
-        ensures number { result ≡ number_in self.now.course_names name.now }
-        ensures within { IfSome result (λ course. course < course_count self.now) }
-    {
-        self.course_names.number_near(guess, name)
-    }
-
-    /// The number of a room by its name, which is first compared with that of a guessed room.
-    pub(crate) fn room_near(&self, guess: usize, name: &str) -> Option<usize>
-        ensures number { result ≡ number_in self.now.room_names name.now }
-        ensures within { IfSome result (λ room. room < room_count self.now) }
-    {
-        self.room_names.number_near(guess, name)
     }
 
     /// The number of a teacher by his name.

@@ -66,24 +66,6 @@ pub(crate) fn read_course(reader: &mut Reader, courses: &Names) -> Result<usize,
     courses.number(name).ok_or(ReadFault::UnknownCourse(at))
 }
 
-/// The number of a course that was named, which is first compared with a guessed course.
-#[tactic(auto, using(crate::proofs::Steps::read_known), unfolding(crate::specs::Places::known_name))]
-pub(crate) fn read_course_near(
-    reader: &mut Reader,
-    courses: &Names,
-    guess: usize,
-) -> Result<usize, ReadFault>
-    ensures known { IfOk result (λ course. course < length courses.now) }
-    ensures exact { GivesRead (λ course. (course, reader.new)) result
-        (reads (known_name UnknownCourse courses.now) reader.old) }
-{
-    let at = reader.next();
-    let name = next_word::<ReadFault>(reader)?;
-    courses
-        .number_near(guess, name)
-        .ok_or(ReadFault::UnknownCourse(at))
-}
-
 /// A number of at most `greatest`.
 #[tactic(auto, using(crate::proofs::Steps::read_number_if), unfolding(crate::specs::InstancePlaces::number_up_to))]
 pub(crate) fn read_number_up_to(reader: &mut Reader, greatest: u32) -> Result<u32, ReadFault>

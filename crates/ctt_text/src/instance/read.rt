@@ -6,13 +6,12 @@ ghost use Rattle.std.specs.String.{string_bytes};
 ghost use Rattle.std.specs.Str.Lossy.{utf8_valid_len};
 ghost use Rattle.ctt_text.specs.Words.{words};
 ghost use Rattle.ctt_text.specs.Reading.{Gives};
-ghost use Rattle.ctt_text.specs.Problem.{Problem, IsProblem, slot_count};
+ghost use Rattle.ctt_text.specs.Problem.{Problem, IsProblem, course_count, room_count, slot_count};
+ghost use Rattle.ctt_text.specs.BitRows.{marks_of, HasSize};
 ghost use Rattle.ctt_text.specs.Named.{IsNamed};
-ghost use Rattle.ctt_text.specs.Ranked.{AreRanked};
 ghost use Rattle.ctt_text.specs.Instance.{AreClashes};
 ghost use Rattle.ctt_text.specs.Belonging.{AreCurricula};
 ghost use Rattle.ctt_text.specs.Taught.{AreTaught};
-ghost use Rattle.ctt_text.specs.Labels.{AreLabels, AreSlotLabels};
 ghost use Rattle.ctt_text.specs.InstancePlaces.{GivesRead, reads, wants_memory, instance};
 ghost use Rattle.ctt_text.specs.LastSections.{last_sections};
 ghost use Rattle.ctt_text.specs.InstanceText.{Spells, InstanceBreaksAt};
@@ -20,6 +19,7 @@ ghost use Rattle.ctt_text.specs.InstanceLaws.{answer, IsCauseOf};
 ghost use Rattle.ctt_text.specs.declared.fault.ReadFault.{ReadFault};
 ghost use Rattle.ctt_text.specs.declared.fault.ReadFault.TheVariants.{NoMemory, NotText};
 
+use crate::bit_rows::BitRows;
 use crate::fault::ReadFault;
 use crate::ids::{CourseNo, CurriculumNo};
 use crate::instance::Instance;
@@ -28,14 +28,11 @@ use crate::instance::clashes::clash_rows;
 use crate::instance::courses::{CourseSection, read_course_section};
 use crate::instance::curricula::{CurriculumSection, read_curriculum_section};
 use crate::instance::header::{Header, read_header};
-use crate::instance::pair_marks::PairMarks;
 use crate::instance::places::read_fixed;
 use crate::instance::rooms::{RoomSection, read_room_section};
 use crate::instance::taught::taught;
 use crate::instance::unavailability::read_unavailability_section;
-use crate::label::{Label, labels, slot_labels};
 use crate::letting::let_go;
-use crate::marks::Marks;
 use crate::reader::Reader;
 use std::alloc::{AllocError, Global};
 use std::marker::Model;
@@ -47,40 +44,38 @@ struct Sections<'a> {
     courses: CourseSection,
     rooms: RoomSection,
     curricula: CurriculumSection,
-    unavailable: PairMarks,
+    unavailable: BitRows,
 }
 
 impl<'a> Model for Sections<'a> {
     ghost use Rattle.ctt_text.specs.Problem.{Problem};
     ghost use Rattle.std.specs.Prelude.{◌*◌, length};
     ghost use Rattle.ctt_text.specs.InstancePlaces.{problem_of};
-    ghost use Rattle.ctt_text.specs.Tables.{IsTableOf};
+    ghost use Rattle.ctt_text.specs.BitRows.{marks_of, HasSize};
 
     ghost Value = { Problem };
 
-    ghost view = { λ s. problem_of s.header s.courses s.rooms s.curricula s.unavailable.marks };
+    ghost view = { λ s. problem_of s.header s.courses s.rooms s.curricula (marks_of s.unavailable) };
 
     ghost invariant = { λ s.
-        IsTableOf (length s.courses.names) (s.header.days * s.header.periods) s.unavailable };
+        HasSize s.unavailable (length s.courses.names) (s.header.days * s.header.periods) };
 }
 
 /// What an instance has beside the sections of its text.
 #[derive(Drop)]
 struct Tables {
     name: String,
-    clashes: Vec<Marks>,
+    barred: BitRows,
+    clashes: BitRows,
     belonging: Vec<Vec<CurriculumNo>>,
     taught: Vec<Vec<CourseNo>>,
-    course_labels: Vec<Option<Label>>,
-    room_labels: Vec<Option<Label>>,
-    slot_labels: Vec<Option<Label>>,
 }
 
 /// What stands behind the rooms.
 #[derive(Drop)]
 struct LastSections {
     curricula: CurriculumSection,
-    unavailable: PairMarks,
+    unavailable: BitRows,
 }
 
 /// Reads what stands behind the rooms, up to the word at the end.
@@ -94,10 +89,9 @@ fn read_last_sections<'a>(
     requires slots { header.now.days * header.now.periods ≤ 2000 }
     requires courses { length courses.now.names ≡ header.now.courses }
     requires few { header.now.courses ≤ 2000 }
-    ensures rows { IfOk result (λ last. last.unavailable.rows ≡ header.now.courses) }
-    ensures width { IfOk result (λ last.
-        last.unavailable.width ≡ header.now.days * header.now.periods) }
-    ensures exact { GivesRead (λ last. ((last.curricula, last.unavailable.marks), reader.new))
+    ensures size { IfOk result (λ last.
+        HasSize last.unavailable header.now.courses (header.now.days * header.now.periods)) }
+    ensures exact { GivesRead (λ last. ((last.curricula, marks_of last.unavailable), reader.new))
         result (reads (last_sections header.now courses.now.names) reader.old) }
 {
     let curricula = read_curriculum_section(alloc, reader, header, courses)?;
@@ -146,13 +140,11 @@ impl<'a> Sections<'a> {
         requires problem { IsProblem self }
         requires named { IsNamed self }
         requires name { string_bytes tables.name ≡ self.name }
-        requires clashes { AreClashes self tables.clashes.items }
+        requires barred { HasSize tables.barred (course_count self) (room_count self) }
+        requires none_barred { marks_of tables.barred ≡ self.barred }
+        requires clashes { AreClashes self tables.clashes }
         requires belonging { AreCurricula self (map (λ q. q.items) tables.belonging.items) }
         requires taught { AreTaught self (map (λ q. q.items) tables.taught.items) }
-        requires course_labels { AreLabels self.course_names tables.course_labels.items }
-        requires room_labels { AreLabels self.room_names tables.room_labels.items }
-        requires slot_labels { AreSlotLabels (slot_count self) self.periods
-            tables.slot_labels.items }
         ensures { result ≡ self.entry }
     {
         let Sections {
@@ -174,23 +166,33 @@ impl<'a> Sections<'a> {
             days: header.days as u16,
             periods: header.periods as u16,
             unavailable,
-            barred: None,
+            barred: tables.barred,
             clashes: tables.clashes,
             belonging: tables.belonging,
             taught: tables.taught,
-            course_labels: tables.course_labels,
-            room_labels: tables.room_labels,
-            slot_labels: tables.slot_labels,
         }
     }
 
-    /// For each course, those that it clashes with.
-    fn clashes(&self, alloc: Global) -> Result<Vec<Marks>, AllocError>
+    /// No room is barred for any course.
+    #[tactic(auto, using(crate::proofs::BitRowLemmas::marks_none))]
+    fn barred(&self, alloc: Global) -> Result<BitRows, AllocError>
         requires problem { IsProblem self.now }
-        requires ranked { AreRanked self.now.courses }
-        ensures { IfOk result (λ rows. AreClashes self.now rows.items) }
+        ensures size { IfOk result (λ table.
+            HasSize table (course_count self.now) (room_count self.now)) }
+        ensures none { IfOk result (λ table. marks_of table ≡ self.now.barred) }
     {
-        let rows = clash_rows(alloc, &self.courses.facts, &self.curricula.members)?;
+        let table = BitRows::new(alloc, self.courses.facts.len(), self.rooms.capacities.len())?;
+        Ok(table)
+    }
+
+    /// For each course, those that it clashes with.
+    fn clashes(&self, alloc: Global, taught: &[Vec<CourseNo>]) -> Result<BitRows, AllocError>
+        requires problem { IsProblem self.now }
+        requires taught { AreTaught self.now (map (λ q. q.items) taught.now) }
+        ensures { IfOk result (AreClashes self.now) }
+    {
+        let courses = self.courses.facts.len();
+        let rows = clash_rows(alloc, courses, taught, &self.curricula.members)?;
         Ok(rows)
     }
 
@@ -213,49 +215,30 @@ impl<'a> Sections<'a> {
         Ok(lists)
     }
 
-    /// The labels of the slots.
-    fn slot_labels(&self, alloc: Global) -> Result<Vec<Option<Label>>, AllocError>
-        requires problem { IsProblem self.now }
-        ensures { IfOk result (λ labels.
-            AreSlotLabels (slot_count self.now) self.now.periods labels.items) }
-    {
-        let periods = self.header.periods as u16;
-        let slots = self.header.days as u16 * periods;
-        let labels = slot_labels(alloc, slots, periods)?;
-        Ok(labels)
-    }
-
     /// What the instance has beside the sections, which are lent: where memory is refused, none of
     /// them is let go here.
     fn tables(&self, alloc: Global) -> Result<Tables, AllocError>
         requires problem { IsProblem self.now }
-        requires ranked { AreRanked self.now.courses }
         ensures name { IfOk result (λ t. string_bytes t.name ≡ self.now.name) }
-        ensures clashes { IfOk result (λ t. AreClashes self.now t.clashes.items) }
+        ensures barred { IfOk result (λ t.
+            HasSize t.barred (course_count self.now) (room_count self.now)) }
+        ensures none_barred { IfOk result (λ t. marks_of t.barred ≡ self.now.barred) }
+        ensures clashes { IfOk result (λ t. AreClashes self.now t.clashes) }
         ensures belonging { IfOk result (λ t.
             AreCurricula self.now (map (λ q. q.items) t.belonging.items)) }
         ensures taught { IfOk result (λ t. AreTaught self.now (map (λ q. q.items) t.taught.items)) }
-        ensures course_labels { IfOk result (λ t.
-            AreLabels self.now.course_names t.course_labels.items) }
-        ensures room_labels { IfOk result (λ t. AreLabels self.now.room_names t.room_labels.items) }
-        ensures slot_labels { IfOk result (λ t.
-            AreSlotLabels (slot_count self.now) self.now.periods t.slot_labels.items) }
     {
-        let clashes = self.clashes(alloc)?;
+        let barred = self.barred(alloc)?;
         let belonging = self.belonging(alloc)?;
         let taught = self.taught(alloc)?;
-        let course_labels = labels(alloc, &self.courses.names)?;
-        let room_labels = labels(alloc, &self.rooms.names)?;
-        let slot_labels = self.slot_labels(alloc)?;
+        let clashes = self.clashes(alloc, &taught)?;
         let name = String::from_str(alloc, self.header.name)?;
         Ok(Tables {
             name,
+            barred,
             clashes,
             belonging,
             taught,
-            course_labels,
-            room_labels,
-            slot_labels,
         })
     }
 
@@ -263,7 +246,6 @@ impl<'a> Sections<'a> {
     fn into_instance(self, alloc: Global) -> Result<Instance, AllocError>
         requires problem { IsProblem self }
         requires named { IsNamed self }
-        requires ranked { AreRanked self.courses }
         ensures { IfOk result (λ i. i ≡ self.entry) }
     {
         match self.tables(alloc) {

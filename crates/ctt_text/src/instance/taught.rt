@@ -3,7 +3,7 @@
 ghost use Rattle.std.specs.Prelude.{◌≡◌, ℕ, ◌<◌, ◌≤◌, ◌==◌, [], length, map, get_or, IfOk, OnOk};
 ghost use Rattle.std.specs.List.{AllByRecursion as Each};
 ghost use Rattle.ctt_text.specs.Lists.{below};
-ghost use Rattle.ctt_text.specs.Tables.{teacher_at};
+ghost use Rattle.ctt_text.specs.Taught.{teacher_at};
 
 use crate::course_facts::CourseFacts;
 use crate::ids::CourseNo;

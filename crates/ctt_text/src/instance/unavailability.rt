@@ -3,41 +3,39 @@
 ghost use Rattle.std.specs.Prelude.{◌≡◌, ◌<◌, ◌≤◌, ◌+◌, ◌*◌, length, codes, IfOk, Ok};
 ghost use Rattle.ctt_text.specs.Places.{after};
 ghost use Rattle.ctt_text.specs.declared.fault.ReadFault.TheVariants.{Expected};
+ghost use Rattle.ctt_text.specs.BitRows.{marks_of, HasSize};
 ghost use Rattle.ctt_text.specs.Forms.{times};
 ghost use Rattle.ctt_text.specs.InstancePlaces.{GivesRead, reads, unavailability, all_available};
 
+use crate::bit_rows::BitRows;
 use crate::fault::ReadFault;
 use crate::instance::courses::CourseSection;
 use crate::instance::header::Header;
-use crate::instance::pair_marks::PairMarks;
-use crate::instance::places::{read_course_near, read_day, read_fixed, read_period};
+use crate::instance::places::{read_course, read_day, read_fixed, read_period};
 use crate::names::Names;
 use crate::reader::Reader;
 use std::alloc::Global;
 
 /// Reads one period in which a course is unavailable, and marks it.
-#[tactic(auto, using(crate::proofs::Steps::read_bind, crate::proofs::Steps::read_done), unfolding(crate::specs::InstancePlaces::unavailability))]
+#[tactic(auto, using(crate::proofs::Steps::read_bind, crate::proofs::Steps::read_done, crate::proofs::BitRowLemmas::marks_set), unfolding(crate::specs::InstancePlaces::unavailability))]
 fn read_one_period(
     reader: &mut Reader,
     courses: &Names,
-    guess: usize,
     days: u32,
     periods: u32,
-    table: &mut PairMarks,
-) -> Result<usize, ReadFault>
+    table: &mut BitRows,
+) -> Result<(), ReadFault>
     requires slots { days * periods ≤ 2000 }
-    requires rows { table.old.rows ≡ length courses.now }
-    requires width { table.old.width ≡ days * periods }
-    ensures rows { table.new.rows ≡ table.old.rows }
-    ensures width { table.new.width ≡ table.old.width }
-    ensures exact { GivesRead (λ _. (table.new.marks, reader.new)) result
-        (reads (unavailability courses.now days periods table.old.marks) reader.old) }
+    requires size { HasSize table.old (length courses.now) (days * periods) }
+    ensures size { HasSize table.new (length courses.now) (days * periods) }
+    ensures exact { GivesRead (λ _. (marks_of table.new, reader.new)) result
+        (reads (unavailability courses.now days periods (marks_of table.old)) reader.old) }
 {
-    let course = read_course_near(reader, courses, guess)?;
+    let course = read_course(reader, courses)?;
     let day = read_day(reader, days)?;
     let period = read_period(reader, periods)?;
     table.mark(course, (day * periods + period) as usize);
-    Ok(course)
+    Ok(())
 }
 
 /// Reads so many periods in which a course is unavailable.
@@ -47,38 +45,35 @@ fn read_periods(
     days: u32,
     periods: u32,
     count: u32,
-    table: &mut PairMarks,
+    table: &mut BitRows,
 ) -> Result<(), ReadFault>
     requires slots { days * periods ≤ 2000 }
-    requires rows { table.old.rows ≡ length courses.now }
-    requires width { table.old.width ≡ days * periods }
-    ensures rows { table.new.rows ≡ table.old.rows }
-    ensures width { table.new.width ≡ table.old.width }
-    ensures exact { GivesRead (λ _. (table.new.marks, reader.new)) result
-        (reads (times (unavailability courses.now days periods) count table.old.marks) reader.old) }
+    requires size { HasSize table.old (length courses.now) (days * periods) }
+    ensures size { HasSize table.new (length courses.now) (days * periods) }
+    ensures exact { GivesRead (λ _. (marks_of table.new, reader.new)) result
+        (reads (times (unavailability courses.now days periods) count (marks_of table.old)) reader.old) }
 {
-    let mut course = 0;
     for _ in 0..count {
-        course = read_one_period(reader, courses, course, days, periods, table)?;
+        read_one_period(reader, courses, days, periods, table)?;
     }
     Ok(())
 }
 
 /// Reads the section: its heading, and as many periods in which a course is
 /// unavailable as the header says.
-#[tactic(auto, using(crate::proofs::Steps::read_bind))]
+#[tactic(auto, using(crate::proofs::Steps::read_bind, crate::proofs::BitRowLemmas::marks_none))]
 pub(crate) fn read_unavailability_section(
     alloc: Global,
     reader: &mut Reader,
     header: &Header,
     courses: &CourseSection,
-) -> Result<PairMarks, ReadFault>
+) -> Result<BitRows, ReadFault>
     requires slots { header.now.days * header.now.periods ≤ 2000 }
     requires courses { length courses.now.names ≡ header.now.courses }
     requires few { header.now.courses ≤ 2000 }
-    ensures rows { IfOk result (λ table. table.rows ≡ header.now.courses) }
-    ensures width { IfOk result (λ table. table.width ≡ header.now.days * header.now.periods) }
-    ensures exact { GivesRead (λ table. (table.marks, reader.new)) result
+    ensures size { IfOk result (λ table.
+        HasSize table header.now.courses (header.now.days * header.now.periods)) }
+    ensures exact { GivesRead (λ table. (marks_of table, reader.new)) result
         (reads
         (after Expected (codes "UNAVAILABILITY_CONSTRAINTS:")
         (times (unavailability courses.now.names header.now.days header.now.periods)
@@ -86,7 +81,7 @@ pub(crate) fn read_unavailability_section(
 {
     read_fixed(reader, "UNAVAILABILITY_CONSTRAINTS:")?;
     let slots = (header.days * header.periods) as usize;
-    let mut table = PairMarks::new(alloc, header.courses as usize, slots)?;
+    let mut table = BitRows::new(alloc, header.courses as usize, slots)?;
     read_periods(
         reader,
         &courses.names,

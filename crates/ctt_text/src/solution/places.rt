@@ -1,12 +1,13 @@
 //! The place of the text of a solution that other texts do not have: a free slot of a course.
 
 ghost use Rattle.std.specs.Prelude.{◌≡◌, ◌<◌, IfOk, false};
-ghost use Rattle.ctt_text.specs.Problem.{course_count, slot_count};
+ghost use Rattle.ctt_text.specs.Problem.{slot_count};
 ghost use Rattle.ctt_text.specs.Timetable.{has_lecture};
 ghost use Rattle.ctt_text.specs.SolutionPlaces.{GivesLectures, reads_lectures, free_slot};
 
 use crate::fault::SolutionFault;
 use crate::ids::{CourseNo, SlotNo};
+use crate::instance::Instance;
 use crate::places::next_number;
 use crate::reader::Reader;
 use crate::solution::lectures::Lectures;
@@ -15,21 +16,19 @@ use crate::solution::lectures::Lectures;
 #[tactic(auto, using(crate::proofs::SolutionSteps::read_free_slot))]
 pub(crate) fn read_slot(
     reader: &mut Reader,
+    instance: &Instance,
     lectures: &Lectures,
     course: CourseNo,
     day: u16,
 ) -> Result<SlotNo, SolutionFault>
-    requires course { course < course_count lectures.now.problem }
-    requires day { day < lectures.now.problem.days }
-    ensures limit { IfOk result (λ slot. slot < slot_count lectures.now.problem) }
-    ensures free { IfOk result (λ slot. has_lecture course slot lectures.now.lectures ≡ false) }
+    requires { day < instance.now.days }
+    ensures limit { IfOk result (λ slot. slot < slot_count instance.now) }
+    ensures free { IfOk result (λ slot. has_lecture course slot lectures.now ≡ false) }
     ensures exact { GivesLectures (λ slot. (slot, reader.new)) result
-        (reads_lectures (free_slot lectures.now.problem lectures.now.lectures course day)
-        reader.old) }
+        (reads_lectures (free_slot instance.now lectures.now course day) reader.old) }
 {
     let at = reader.next();
     let period = next_number::<SolutionFault>(reader)?;
-    let instance = lectures.instance();
     if period >= u32::from(instance.periods()) {
         return Err(SolutionFault::PeriodOut(at));
     }

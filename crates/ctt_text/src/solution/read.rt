@@ -25,20 +25,18 @@ use std::alloc::Global;
 /// Reads one entry, and adds its lecture to those before it.
 #[tactic(auto, using(crate::proofs::Steps::read_bind, crate::proofs::Steps::read_done), unfolding(crate::specs::SolutionPlaces::entry))]
 fn read_entry(
-    alloc: Global,
     reader: &mut Reader,
+    instance: &Instance,
     lectures: &mut Lectures,
 ) -> Result<(), SolutionFault>
-    ensures problem { lectures.new.problem ≡ lectures.old.problem }
-    ensures exact { GivesLectures (λ _. (lectures.new.lectures, reader.new)) result
-        (reads_lectures (entry lectures.old.problem lectures.old.lectures) reader.old) }
+    ensures { GivesLectures (λ _. (lectures.new, reader.new)) result
+        (reads_lectures (entry instance.now lectures.old) reader.old) }
 {
-    let instance = lectures.instance();
     let course = next_course::<SolutionFault>(reader, instance)?;
     let room = next_room::<SolutionFault>(reader, instance)?;
     let day = next_day::<SolutionFault>(reader, instance)?;
-    let slot = read_slot(reader, lectures, course, day)?;
-    lectures.add(alloc, Placed { course, slot, room })?;
+    let slot = read_slot(reader, instance, lectures, course, day)?;
+    lectures.add(Placed { course, slot, room })?;
     Ok(())
 }
 
@@ -51,9 +49,9 @@ fn read_lectures(
     ensures { GivesLectures (λ list. (list.items, reader.new)) result
         (reads_lectures (solution instance.now reader.old.words) reader.old) }
 {
-    let mut lectures = Lectures::new(alloc, instance);
+    let mut lectures = Lectures::new(alloc);
     while !reader.is_at_end() {
-        read_entry(alloc, reader, &mut lectures)?;
+        read_entry(reader, instance, &mut lectures)?;
     }
     Ok(lectures.into_list(alloc)?)
 }

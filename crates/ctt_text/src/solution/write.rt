@@ -10,8 +10,8 @@ ghost use Rattle.ctt_text.specs.Written.{words_of, line_of, soltext};
 use crate::instance::Instance;
 use crate::no_memory::NoMemory;
 use crate::placed::Placed;
+use ctt_line::{Word, push_line};
 use std::alloc::{AllocError, Global};
-use std::fmt::Write;
 
 /// Adds the line of a lecture to the text.
 fn write_line(text: &mut String, instance: &Instance, lecture: &Placed) -> Result<(), AllocError>
@@ -20,11 +20,11 @@ fn write_line(text: &mut String, instance: &Instance, lecture: &Placed) -> Resul
         (string_bytes text.new
         ≡ string_bytes text.old ++ line_of (words_of instance.now lecture.now)) }
 {
-    let course = instance.course_name(lecture.course);
-    let room = instance.room_name(lecture.room);
-    let day = instance.day_of(lecture.slot);
-    let period = instance.period_of(lecture.slot);
-    writeln!(text, "{course} {room} {day} {period}")
+    let course = Word::text(instance.course_name(lecture.course));
+    let room = Word::text(instance.room_name(lecture.room));
+    let day = Word::number(u64::from(instance.day_of(lecture.slot)));
+    let period = Word::number(u64::from(instance.period_of(lecture.slot)));
+    push_line(text, &[course, room, day, period])
 }
 
 /// Writes a timetable as the text of a solution: one line a lecture, in their order.

@@ -61,7 +61,7 @@ module _ (c : goal.After-leave) where
   sees : Sees i c.leave.new.self u
   sees =
       let more = more_without l.course l.slot l.room t c.requires.lawful.timetable.ascending there in
-      sees_leave i l t u c.args.later.now c.leave.new.self more fits c.requires.sees c.leave.ensures.counts c.leave.ensures.added c.leave.ensures.fresh c.leave.ensures.removed c.leave.ensures.gone
+      sees_leave i l t u c.args.later.now c.leave.new.self more c.requires.sees c.leave.ensures.counts c.leave.ensures.added c.leave.ensures.removed
 
   value : c.leave.result ≡ pos (total (penalty i t)) -ℤ pos (total (penalty i u))
   value =
@@ -107,7 +107,7 @@ module _ (c : goal.After-come) where
   m_fits = comes_fits j m before after_lawful
 
   come_sees : Sees j c.come.new.self (with m before)
-  come_sees = sees_come j m before (with m before) c.args.later.now c.come.new.self (more_with m before) m_fits c.requires.sees c.come.ensures.counts c.come.ensures.removed c.come.ensures.gone c.come.ensures.added c.come.ensures.fresh
+  come_sees = sees_come j m before (with m before) c.args.later.now c.come.new.self (more_with m before) c.requires.sees c.come.ensures.counts c.come.ensures.removed c.come.ensures.added
 
 pub returns-in-Some-clause-sees : goal.returns-in-Some-clause-sees
 returns-in-Some-clause-sees c = rw c.in-Some.is (come_sees c)

@@ -3,4 +3,4 @@ use Rattle.ctt_board.specs.Tables.{Adds, in_column}
 use Rattle.ctt_board.proofs.tally.take_column.Given as goal
 
 abbrev pub invariant-loop-row : goal.invariant-loop-row
-invariant-loop-row l = Adds l.bits l.fn.bits (in_column (take l.row-index l.rows) l.column)
+invariant-loop-row l = Adds l.counts l.fn.counts (in_column (take l.row-index l.rows) l.column)

@@ -7,7 +7,7 @@ abbrev pub invariant-loop-cell : goal.invariant-loop-cell
 invariant-loop-cell g l = record {
   noted : all_noted (g.R.Rooms.list l.rooms) (drop l.cell-index l.cells) l.recorded.items ≡ all_noted (g.R.Rooms.list l.rooms) l.cells l.fn.recorded.items;
   room : vec_len l.recorded + (length l.cells - l.cell-index) ≤ vec_capacity l.recorded;
-  courses : l.marks.numbers ≡ l.fn.marks.numbers;
+  courses : l.marks.width ≡ l.fn.marks.width;
   slots : l.marks.rows ≡ l.fn.marks.rows;
   undo : IsUndo l.recorded.items l.marks;
 }

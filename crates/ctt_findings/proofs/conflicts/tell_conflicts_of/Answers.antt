@@ -18,7 +18,7 @@ tell_between-requires-clause-clash g c =
     let i = c.args.instance.now in
     let t = c.args.timetable.now in
     let own = c.args.course in
-    let marks : ℕ → Bool = λ n. is_marked c.clashing-clashing.result.now n in
+    let marks : ℕ → Bool = λ n. is_marked c.clashing-clashing.result n in
     let least : IsLeast (λ n. nat_lt n (course_count i) && (nat_le c.loop-number.from n && marks n)) (Some c.in-Some.number) = search rules in
     let at = next_passes marks (behind i own) (conflicts_between i t own) c.loop-number.from (course_count i) (passes_same i own marks c.clashing-clashing.ensures c.loop-number.from c.loop-number.invariant.past) c.in-Some.number least in
     let same : c.new.result ≡ c.in-Some.number = search rules in
@@ -39,7 +39,7 @@ loop-number-preserved g c =
     let i = c.args.instance.now in
     let t = c.args.timetable.now in
     let own = c.args.course in
-    let marks : ℕ → Bool = λ n. is_marked c.clashing-clashing.result.now n in
+    let marks : ℕ → Bool = λ n. is_marked c.clashing-clashing.result n in
     let known = passes_same i own marks c.clashing-clashing.ensures c.loop-number.from c.loop-number.invariant.past in
     let least : IsLeast (λ n. nat_lt n (course_count i) && (nat_le c.loop-number.from n && marks n)) (Some c.in-Some.number) = search rules in
     let at = next_passes marks (behind i own) (conflicts_between i t own) c.loop-number.from (course_count i) known c.in-Some.number least in
@@ -59,7 +59,7 @@ pub returns-clause-heard : goal.returns-clause-heard
 returns-clause-heard g c =
     let i = c.args.instance.now in
     let own = c.args.course in
-    let marks : ℕ → Bool = λ n. is_marked c.clashing-clashing.result.now n in
+    let marks : ℕ → Bool = λ n. is_marked c.clashing-clashing.result n in
     let least : IsLeast (λ n. nat_lt n (course_count i) && (nat_le c.loop-number.from n && marks n)) None = search rules in
     hears_last marks (behind i own) (conflicts_between i c.args.timetable.now own) c.loop-number.from (course_count i) (passes_same i own marks c.clashing-clashing.ensures c.loop-number.from c.loop-number.invariant.past)
     (g.L.Listener.hears i) c.args.listener.now c.loop-number.listener c.loop-number.invariant.within least c.loop-number.invariant.heard
@@ -70,7 +70,7 @@ returns-in_err-tell_between-clause-front g c =
     let t = c.args.timetable.now in
     let own = c.args.course in
     let R = g.L.Listener.hears i in
-    let marks : ℕ → Bool = λ n. is_marked c.clashing-clashing.result.now n in
+    let marks : ℕ → Bool = λ n. is_marked c.clashing-clashing.result n in
     let known = passes_same i own marks c.clashing-clashing.ensures c.loop-number.from c.loop-number.invariant.past in
     let least : IsLeast (λ n. nat_lt n (course_count i) && (nat_le c.loop-number.from n && marks n)) (Some c.in-Some.number) = search rules in
     let same : c.new.result ≡ c.in-Some.number = search rules in

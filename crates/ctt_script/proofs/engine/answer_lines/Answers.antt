@@ -47,12 +47,12 @@ loop-line-preserved g c =
     let more : Answered c.loop-line.desk c.answer_line.new.desk (string_bytes c.loop-line.answers) (string_bytes c.answer_line.new.answers) (items_of v.problem (c.in-Some.line.now ∷ [])) = rw c.requires.same c.in_ok-answer_line.ensures in
     let next : Answering v c.answer_line.new.desk all c.next.new.self before taken (string_bytes c.answer_line.new.answers) = one_more_line v all before c.loop-line.desk c.answer_line.new.desk taken c.in-Some.line.now c.loop-line.line-iterator c.next.new.self (string_bytes c.loop-line.answers) (string_bytes c.answer_line.new.answers) step c.loop-line.invariant.answering more in
     record {
-      answering = more_written v all before c.answer_line.new.desk c.next.new.self taken (g.W.Sink.taken c.write_full.new.writer) (string_bytes c.answer_line.new.answers) next (string_bytes c.write_full.new.answers) c.in_ok-write_full.ensures.written;
-      unmarked = c.in_ok-write_full.ensures.unmarked ∙ c.loop-line.invariant.unmarked;
+      answering = more_written v all before c.answer_line.new.desk c.next.new.self taken (g.W.Sink.taken c.put_long.new.writer) (string_bytes c.answer_line.new.answers) next (string_bytes c.put_long.new.answers) c.in_ok-put_long.ensures.written;
+      unmarked = c.in_ok-put_long.ensures.unmarked ∙ c.loop-line.invariant.unmarked;
     }
 
-pub returns-in_err-write_full-clause-part : goal.returns-in_err-write_full-clause-part
-returns-in_err-write_full-clause-part g c =
+pub returns-in_err-put_long-clause-part : goal.returns-in_err-put_long-clause-part
+returns-in_err-put_long-clause-part g c =
     let v : DeskValue = c.args.desk.now in
     let all : List (List ℕ) = lines_of c.args.text.now in
     let before : Option (List ℕ) = g.W.Sink.taken c.args.writer.now in
@@ -60,8 +60,8 @@ returns-in_err-write_full-clause-part g c =
     let step : c.loop-line.line-iterator ≡ c.in-Some.line.now ∷ c.next.new.self = search rules in
     let more : Answered c.loop-line.desk c.answer_line.new.desk (string_bytes c.loop-line.answers) (string_bytes c.answer_line.new.answers) (items_of v.problem (c.in-Some.line.now ∷ [])) = rw c.requires.same c.in_ok-answer_line.ensures in
     let next : Answering v c.answer_line.new.desk all c.next.new.self before taken (string_bytes c.answer_line.new.answers) = one_more_line v all before c.loop-line.desk c.answer_line.new.desk taken c.in-Some.line.now c.loop-line.line-iterator c.next.new.self (string_bytes c.loop-line.answers) (string_bytes c.answer_line.new.answers) step c.loop-line.invariant.answering more in
-    on_err c.from_residual-in_err-write_full.result (subst (λ i. WroteFront v (items_of i all) before (g.W.Sink.taken c.write_full.new.writer)) c.requires.same
-    (front_written v all before c.answer_line.new.desk c.next.new.self taken (g.W.Sink.taken c.write_full.new.writer) (string_bytes c.answer_line.new.answers) next c.in_err-write_full.ensures.part))
+    on_err c.from_residual-in_err-put_long.result (subst (λ i. WroteFront v (items_of i all) before (g.W.Sink.taken c.put_long.new.writer)) c.requires.same
+    (front_written v all before c.answer_line.new.desk c.next.new.self taken (g.W.Sink.taken c.put_long.new.writer) (string_bytes c.answer_line.new.answers) next c.in_err-put_long.ensures.front))
 
 pub returns-in_err-put_whole-clause-part : goal.returns-in_err-put_whole-clause-part
 returns-in_err-put_whole-clause-part g c =

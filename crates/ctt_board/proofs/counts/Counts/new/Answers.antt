@@ -13,17 +13,14 @@ returns c =
     let b = c.in_ok-new-2.ensures in
     let d = c.in_ok-new-3.ensures in
     let e = c.in_ok-new-4.ensures in
-    let f = c.in_ok-new-5.ensures in
     none_counted i _
     (record {
       lectures = (a.rows.0, a.rows.1 ∙ courses);
       days = (b.rows.0 ∙ courses, b.rows.1 ∙ c.days.ensures.exact);
-      used = (d.rows.0, d.rows.1 ∙ courses);
-      rooms = (e.rows.0 ∙ courses, e.rows.1 ∙ c.rooms.ensures.exact);
-      curricula = (f.rows.0 ∙ curricula, f.rows.1 ∙ slots);
+      rooms = (d.rows.0 ∙ courses, d.rows.1 ∙ c.rooms.ensures.exact);
+      curricula = (e.rows.0 ∙ curricula, e.rows.1 ∙ slots);
     })
     (λ r k lr lk. a.cells r k lr (omega (arith, lk, courses)))
     (λ r k lr lk. b.cells r k (omega (arith, lr, courses)) (omega (arith, lk, c.days.ensures.exact)))
-    (λ r k lr lk. d.cells r k lr (omega (arith, lk, courses)))
-    (λ r k lr lk. e.cells r k (omega (arith, lr, courses)) (omega (arith, lk, c.rooms.ensures.exact)))
-    (λ r k lr lk. f.cells r k (omega (arith, lr, curricula)) (omega (arith, lk, slots)))
+    (λ r k lr lk. d.cells r k (omega (arith, lr, courses)) (omega (arith, lk, c.rooms.ensures.exact)))
+    (λ r k lr lk. e.cells r k (omega (arith, lr, curricula)) (omega (arith, lk, slots)))

@@ -2,7 +2,7 @@ use Rattle.std.proofs.Common.{rules, ◌≡◌, ◌<◌, ◌∙◌, is_some, sym
 use Rattle.ctt_text.specs.Problem.{slot_count}
 use Rattle.ctt_board.specs.Boards.{Board}
 use Rattle.ctt_board.specs.Changes.{room_at}
-use Rattle.ctt_board.specs.MarkRows.{is_marked_in}
+use Rattle.ctt_text.specs.BitRows.{is_marked_in}
 use Rattle.ctt_board.proofs.grid_sheet.GridSheetRooms.standing.Goals as goal
 
 pub returns : goal.returns

@@ -1,6 +1,6 @@
 use Rattle.std.proofs.Common.{rules, ◌≡◌, ◌==◌, ◌&&◌, cond, Some, None, ◌∙◌, ap, ap₂, subst₂, arith, true}
 use Rattle.ctt_board.specs.Tables.{at}
-use Rattle.ctt_board.specs.MarkRows.{SetsMark}
+use Rattle.ctt_text.specs.BitRows.{SetsMark}
 use Rattle.ctt_board.proofs.ClashLemmas.{standing_after_cell}
 use Rattle.ctt_board.proofs.GridLemmas.{WroteRoom, with_rooms}
 use Rattle.ctt_board.proofs.HolderLemmas.{WroteCourse, holders_with}

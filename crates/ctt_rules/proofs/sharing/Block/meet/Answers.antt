@@ -17,6 +17,6 @@ returns-then-slot-self-lt64-clause-conflicts c =
     let clashing : ℕ = count_marked (λ n. in_row block.courses (x.slot - first) n && clashes_with i x.course n) in
     let here : c.from.result ≡ clashing =
     c.from.ensures ∙ c.common_count.ensures.count
-    ∙ marked_same (λ n. in_row block.courses (c.get-slot.result - first) n && is_marked c.clashing-clashing.result.now n) (λ n. in_row block.courses (x.slot - first) n && clashes_with i x.course n)
+    ∙ marked_same (λ n. in_row block.courses (c.get-slot.result - first) n && is_marked c.clashing-clashing.result n) (λ n. in_row block.courses (x.slot - first) n && clashes_with i x.course n)
     (λ n. ap₂ (λ a b. a && b) (ap (λ s. in_row block.courses (s - first) n) c.get-slot.ensures) (c.clashing-clashing.ensures n)) in
     ap (λ n. block.sharing.conflicts + n) (here ∙ sym (ap (λ b. cond b clashing 0) there))

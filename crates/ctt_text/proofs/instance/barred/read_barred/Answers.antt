@@ -1,8 +1,8 @@
-use Rattle.std.proofs.Common.{◌∙◌, ◌*◌, sym, ap, subst}
+use Rattle.std.proofs.Common.{◌∙◌, sym, ap, subst}
 use Rattle.std.proofs.lemmas.Result.{err_from_is_err_and}
 use Rattle.ctt_text.specs.Words.{words}
-use Rattle.ctt_text.specs.Problem.{Problem, course_count, room_count}
-use Rattle.ctt_text.specs.Instance.{marks_in}
+use Rattle.ctt_text.specs.Problem.{Problem}
+use Rattle.ctt_text.specs.BitRows.{marks_of}
 use Rattle.ctt_text.specs.BarredText.{BarSpells}
 use Rattle.ctt_text.proofs.BarredReading.{ok_spelled, ok_accepted, ok_unbroken, err_cause, err_accepted, err_broken, err_either}
 use Rattle.ctt_text.proofs.instance.barred.read_barred.Goals as goal
@@ -26,14 +26,14 @@ pub returns-in_ok-table-in-Ok-clause-spelled : goal.returns-in_ok-table-in-Ok-cl
 returns-in_ok-table-in-Ok-clause-spelled c =
     let i = c.args.instance.now in
     subst (λ (v : Problem). BarSpells i (words c.args.text.now) v.barred) (sym c.bar.ensures)
-    (ok_spelled i c.args.text.now c.limits_hold.ensures (marks_in (course_count i * room_count i) c.in_ok-table-in-Ok.table) (rw c.in-Ok.ensures.cases.0 at c.in_ok-table-in-Ok.ensures.exact))
+    (ok_spelled i c.args.text.now c.limits_hold.ensures (marks_of c.in_ok-table-in-Ok.table) (rw c.in-Ok.ensures.cases.0 at c.in_ok-table-in-Ok.ensures.exact))
 
 pub returns-in_ok-table-in-Ok-clause-accepted : goal.returns-in_ok-table-in-Ok-clause-accepted
 returns-in_ok-table-in-Ok-clause-accepted c =
     let i = c.args.instance.now in
-    λ table utf8 s. c.bar.ensures ∙ ap (λ b. record i { barred = b }) (ok_accepted i c.args.text.now c.limits_hold.ensures (marks_in (course_count i * room_count i) c.in_ok-table-in-Ok.table) table (rw c.in-Ok.ensures.cases.0 at c.in_ok-table-in-Ok.ensures.exact) s)
+    λ table utf8 s. c.bar.ensures ∙ ap (λ b. record i { barred = b }) (ok_accepted i c.args.text.now c.limits_hold.ensures (marks_of c.in_ok-table-in-Ok.table) table (rw c.in-Ok.ensures.cases.0 at c.in_ok-table-in-Ok.ensures.exact) s)
 
 pub returns-in_ok-table-in-Ok-clause-broken : goal.returns-in_ok-table-in-Ok-clause-broken
 returns-in_ok-table-in-Ok-clause-broken c =
     let i = c.args.instance.now in
-    λ k fault utf8 b. ok_unbroken i c.args.text.now _ (marks_in (course_count i * room_count i) c.in_ok-table-in-Ok.table) (rw c.in-Ok.ensures.cases.0 at c.in_ok-table-in-Ok.ensures.exact) k fault b
+    λ k fault utf8 b. ok_unbroken i c.args.text.now _ (marks_of c.in_ok-table-in-Ok.table) (rw c.in-Ok.ensures.cases.0 at c.in_ok-table-in-Ok.ensures.exact) k fault b

@@ -1,4 +1,6 @@
 use Rattle.std.proofs.Common.{◌≡◌, ◌-◌}
+use Rattle.ctt_text.specs.BitRows.{marks_of, HasSize}
+use Rattle.ctt_text.specs.Problem.{course_count, room_count}
 use Rattle.ctt_text.specs.Forms.{times}
 use Rattle.ctt_text.specs.BarredPlaces.{reads_barred, barred_pair}
 use Rattle.ctt_text.proofs.instance.barred.read_pairs.Given as goal
@@ -6,7 +8,6 @@ use Rattle.ctt_text.proofs.instance.barred.read_pairs.Given as goal
 -- what was read so far, and the rest read after it, is all
 abbrev pub invariant-loop : goal.invariant-loop
 invariant-loop l = record {
-  rows : l.table.rows ≡ l.fn.table.rows;
-  width : l.table.width ≡ l.fn.table.width;
-  exact : reads_barred (times (barred_pair l.instance) (l.count - l.counter) l.table.marks) l.reader ≡ reads_barred (times (barred_pair l.instance) l.count l.fn.table.marks) l.fn.reader;
+  size : HasSize l.table (course_count l.instance) (room_count l.instance);
+  exact : reads_barred (times (barred_pair l.instance) (l.count - l.counter) (marks_of l.table)) l.reader ≡ reads_barred (times (barred_pair l.instance) l.count (marks_of l.fn.table)) l.fn.reader;
 }

@@ -1,10 +1,10 @@
-use Rattle.std.proofs.Common.{◌≡◌, ◌<◌, ◌==◌, ◌&&◌, ℕ, length, not, nat_lt}
-use Rattle.ctt_text.specs.Tables.{mark_at}
+use Rattle.std.proofs.Common.{◌≡◌, ◌==◌, ◌&&◌, ℕ, not, nat_lt}
+use Rattle.ctt_text.specs.BitRows.{is_marked_in, HasSize}
 use Rattle.ctt_text.proofs.instance.clashes.unmark_own.Given as goal
 
 -- the rows so far
-abbrev pub invariant-loop-row : goal.invariant-loop-row
-invariant-loop-row l = record {
-  size : length l.rows ≡ length l.fn.rows;
-  marks : (r n : ℕ) → r < length l.fn.rows → mark_at l.rows r n ≡ (not (nat_lt r l.row && r == n) && mark_at l.fn.rows r n);
+abbrev pub invariant-loop-course : goal.invariant-loop-course
+invariant-loop-course l = record {
+  size : HasSize l.rows l.courses l.courses;
+  marks : (r n : ℕ) → is_marked_in l.rows r n ≡ (not (nat_lt r l.course && r == n) && is_marked_in l.fn.rows r n);
 }

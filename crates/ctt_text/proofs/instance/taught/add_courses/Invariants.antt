@@ -1,6 +1,6 @@
 use Rattle.std.proofs.Common.{◌≡◌, ◌<◌, ◌==◌, ℕ, [], map, get_or, length}
 use Rattle.ctt_text.specs.Lists.{below}
-use Rattle.ctt_text.specs.Tables.{teacher_at}
+use Rattle.ctt_text.specs.Taught.{teacher_at}
 use Rattle.ctt_text.proofs.instance.taught.add_courses.Given as goal
 
 abbrev pub invariant-loop-number : goal.invariant-loop-number

@@ -1,26 +1,30 @@
-use Rattle.std.proofs.Common.{sym, subst, ◌∙◌, ap, length, not, nat_lt, ◌&&◌, ◌||◌, ◌==◌}
-use Rattle.ctt_text.specs.Lists.{has}
-use Rattle.ctt_text.specs.Problem.{IsProblem}
-use Rattle.ctt_text.specs.Instance.{AreClashes}
-use Rattle.ctt_text.specs.Tables.{teacher_at}
-use Rattle.ctt_text.proofs.InstanceReading.{members_known, any_mapped}
+use Rattle.std.proofs.Common.{rules, ◌≡◌, ◌∙◌, sym, ap, subst, map, length}
+use Rattle.ctt_text.specs.Problem.{Problem, IsProblem, course_count}
+use Rattle.ctt_text.specs.BitRows.{HasSize}
+use Rattle.ctt_text.specs.Taught.{AreTaught}
+use Rattle.ctt_text.proofs.InstanceReading.{members_known}
+use Rattle.ctt_text.proofs.TogetherLemmas.{taught_known, are_clashes}
 use Rattle.ctt_text.proofs.instance.read.Sections.clashes.Goals as goal
 
-pub clash_rows-requires-clause-members : goal.clash_rows-requires-clause-members
-clash_rows-requires-clause-members c =
+pub clash_rows-requires-clause-taught : goal.clash_rows-requires-clause-taught
+clash_rows-requires-clause-taught c =
+    let same = rw (← c.self-inside.view_is) at c.self.view_is in
+    let taught = subst (λ p. AreTaught p (map (λ q. q.items) c.args.taught.now)) (sym same) c.requires.taught in
+    let len : c.len-courses.result ≡ length c.self-inside.inside.0.1.0.facts.items = search rules in
+    rw len (taught_known (λ q. q.items) _ c.args.taught.now taught)
+
+pub clash_rows-requires-clause-curricula : goal.clash_rows-requires-clause-curricula
+clash_rows-requires-clause-curricula c =
     let same = rw (← c.self-inside.view_is) at c.self.view_is in
     let problem = subst IsProblem (sym same) c.requires.problem in
-    rw (c.deref.ensures.value, c.deref-2.ensures.value) (members_known (λ q. q.items) (length c.self-inside.inside.0.1.0.facts.items) c.self-inside.inside.0.1.1.1.0.members.items problem.curricula)
+    let len : c.len-courses.result ≡ length c.self-inside.inside.0.1.0.facts.items = search rules in
+    rw (c.deref.ensures.value, len) (members_known (λ q. q.items) (length c.self-inside.inside.0.1.0.facts.items) c.self-inside.inside.0.1.1.1.0.members.items problem.curricula)
 
 pub returns : goal.returns
 returns c =
     let same = rw (← c.self-inside.view_is) at c.self.view_is in
-    let courses = c.self-inside.inside.0.1.0.facts.items in
-    let curricula = c.self-inside.inside.0.1.1.1.0.members.items in
-    let marks = rw (c.deref.ensures.value, c.deref-2.ensures.value) at c.in_ok-rows.ensures.marks in
-    let size = rw c.deref.ensures.value at c.in_ok-rows.ensures.size in
-    subst (λ p. AreClashes p c.in_ok-rows.rows.items) same (record {
-      size = size;
-      marks = λ a b la. marks a b la
-          ∙ ap (λ any. nat_lt b (length courses) && (not (a == b) && (teacher_at courses a == teacher_at courses b || any))) (sym (any_mapped (λ q. has a q && has b q) (λ q. q.items) curricula));
-    })
+    let len : c.len-courses.result ≡ length c.self-inside.inside.0.1.0.facts.items = search rules in
+    let count : c.len-courses.result ≡ course_count c.args.self.now = len ∙ ap (λ (p : Problem). course_count p) same in
+    let marks = rw (c.deref.ensures.value, count) at c.in_ok-rows.ensures.marks in
+    are_clashes (λ q. q.items) c.args.self.now c.in_ok-rows.rows c.args.taught.now c.self-inside.inside.0.1.1.1.0.members.items c.requires.problem c.requires.taught
+    (sym (ap (λ (p : Problem). p.curricula) same)) (subst (λ n. HasSize c.in_ok-rows.rows n n) count c.in_ok-rows.ensures.size) marks
