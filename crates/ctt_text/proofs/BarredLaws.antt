@@ -21,7 +21,7 @@ use Rattle.ctt_text.proofs.MarkLaws.{marked, marks_made, marks_many, marks_same,
 use Rattle.ctt_text.proofs.PlaceLaws.{a_name, name_given, up_to_passes, passed_up_to, is_fixed, after_case}
 use Rattle.ctt_text.proofs.ListLaws.{place_below}
 
--- how many pairs there are: what obeys that place is one number
+-- the number of pairs: what obeys that place is one number
 count_taken : (greatest : ℕ) (words : List (List ℕ)) (n : ℕ) → Fills (pair_count greatest) words n → (word : List ℕ) × (words ≡ word ∷ []) × IsUpTo greatest word × (value word ≡ n)
 unfolding pair_count number_if one
 count_taken greatest [] n h = absurd h
@@ -35,12 +35,12 @@ end_taken x t [] h = absurd h
 end_taken x t (w ∷ []) h = (ap (λ q. q ∷ []) (is_fixed Expected w (codes "END.") h.0), h.1)
 end_taken x t (w ∷ more ∷ ws) h = absurd h.1
 
--- the parts of a text, one behind another
+-- the parts of a text, one after another
 all_parts : (words us vs us2 vs2 ws : List (List ℕ)) (count : List ℕ) → words ≡ codes "Barred:" ∷ us ++ vs → us ≡ count ∷ [] → vs ≡ us2 ++ vs2 → us2 ≡ ws → vs2 ≡ codes "END." ∷ [] → words ≡ codes "Barred:" ∷ count ∷ ws ++ codes "END." ∷ []
 all_parts words us vs us2 vs2 ws count e0 e1 e2 e3 e4 = rw (e0, e1, e2, e3, e4) refl
 
 module _ (i : Problem) where
-  -- the place of a pair in the table
+  -- the index of a pair in the table
   abbrev mark_of : BarredWords → ℕ
   mark_of w = place_of i.course_names w.course * room_count i + place_of i.room_names w.room
 
@@ -50,12 +50,12 @@ module _ (i : Problem) where
   abbrev FitsPair : List Bool → BarredWords → Type 0
   FitsPair _ = IsBarredPair i
 
-  -- a known course and a known room fill two places
+  -- a known course and a known room fill the form of a pair
   pair_fills : (s : List Bool) (w : BarredWords) → FitsPair s w → Fills (barred_pair i s) (spelled_barred w) (add_pair s w)
   unfolding barred_pair known_name known one ◌>>=◌
   pair_fills s w fit = (rw fit.0 refl, (rw fit.1 refl, rw (fit.0, fit.1) refl))
 
-  -- what fills them is such a pair
+  -- what fills it is such a pair
   pair_taken : (s : List Bool) (words : List (List ℕ)) (t : List Bool) → Fills (barred_pair i s) words t → Entry spelled_barred add_pair FitsPair s words t
   unfolding barred_pair known_name known one ◌>>=◌
   pair_taken s [] t h = absurd h
@@ -72,7 +72,7 @@ module _ (i : Problem) where
   abbrev table_of : List BarredWords → List Bool
   table_of given = marked mark_of (none_barred i) given
 
-  -- so many pairs, and the table that they make
+  -- n pairs, and the table that they make
   record Pairs (n : ℕ) (words : List (List ℕ)) (t : List Bool) : Type 0 where
     given : List BarredWords
     count : length given ≡ n
@@ -116,18 +116,18 @@ module _ (i : Problem) where
     mark_within : (w : BarredWords) → IsBarredPair i w → mark_of w < course_count i * room_count i
     mark_within w e = within (place_of i.course_names w.course) (place_of i.room_names w.room) (subst (λ n. place_of i.course_names w.course < n) is.courses_named (place_below (bytes_eq w.course) i.course_names e.0)) (room_within w e)
 
-    -- a pair's mark is that of a course and a room just where the pair lists them
+    -- the index of a pair is that of a course and a room exactly if the pair lists them
     listed : (c r : ℕ) → r < room_count i → (given : List BarredWords) → Each (IsBarredPair i) given → list_any (λ w. mark_of w == c * room_count i + r) given ≡ list_any (bars i c r) given
     listed c r lt [] each = refl
     listed c r lt (w ∷ given) each =
         rw (place_in_rows (room_count i) (place_of i.course_names w.course) (place_of i.room_names w.room) c r (room_within w each.0) lt, listed c r lt given each.1) refl
 
     module _ (given : List BarredWords) (each : Each (IsBarredPair i) given) where
-      -- the table says of each course and room whether a pair lists them
+      -- the table tells for each course and room whether a pair lists them
       table_says : (c r : ℕ) → c < course_count i → r < room_count i → is_barred (record i { barred = table_of given }) c r ≡ list_any (bars i c r) given
       table_says c r known lt = looked_up (table_of given) c r lt ∙ marks_made mark_of (course_count i * room_count i) given (c * room_count i + r) (within c r known lt) ∙ listed c r lt given each
 
-      -- a table of its length that says so is the same
+      -- a table of the same length with the same marks is equal
       table_same : (table : List Bool) → length table ≡ course_count i * room_count i
           → ((c r : ℕ) → c < course_count i → r < room_count i → is_barred (record i { barred = table }) c r ≡ list_any (bars i c r) given) → table_of given ≡ table
       table_same table len says = marks_same mark_of (course_count i * room_count i) given table len (λ k lt.
@@ -156,13 +156,13 @@ module _ (i : Problem) where
           barred = subst (λ x. (c r : ℕ) → c < course_count i → r < room_count i → is_barred (record i { barred = x }) c r ≡ list_any (bars i c r) g.given) (g.gives ∙ end.1) (table_says g.given g.each);
         }))
 
-    -- what is read is spelled
+    -- what is parsed is spelled
     read_spelled : (words : List (List ℕ)) (t : List Bool) → barred_answer i words ≡ Ok t → BarSpells i words t
     read_spelled words t h =
         let r = answer_fills ends_early (barred_rooms i) words t h in
         subst (λ ws. BarSpells i ws t) (sym r.2) (form_taken r.0 r.1 t r.3)
 
-    -- what is spelled is read
+    -- what is spelled is parsed
     spelled_read : (words : List (List ℕ)) (t : List Bool) → BarSpells i words t → barred_answer i words ≡ Ok t
     spelled_read words t s =
         ap (λ ws. barred_answer i ws) s.all

@@ -1,4 +1,4 @@
--- What was read of barred rooms, and the cause of each fault.
+-- The parsed table of barred rooms, and the cause of each fault.
 use Rattle.std.proofs.Common.{◌≡◌, ◌⊎◌, ℕ, List, Bool, Result, Ok, Err, inl, inr, ⊎_elim, refl, sym, ap, ◌∙◌}
 use Rattle.std.specs.Str.{IsUtf8}
 use Rattle.ctt_text.specs.declared.fault.BarredFault.{BarredFault}
@@ -13,7 +13,7 @@ use Rattle.ctt_text.proofs.FormLaws.{ok_same, ok_is_err, err_same}
 use Rattle.ctt_text.proofs.FaultLaws.{FormFaults, bind_faults, times_faults, known_name_faults, number_if_faults, fixed_faults, answer_faults}
 use Rattle.ctt_text.proofs.BarredLaws.{reads_barred, barred_fails_where_broken}
 
--- a fault of a place, which names a word
+-- a fault of a place, which carries the number of a word
 abbrev IsOfWord : BarredFault → Type 0
 IsOfWord (NotText byte) = ⊥
 IsOfWord NoMemory = ⊥
@@ -36,7 +36,7 @@ all_faults i =
     bind_faults IsOfWord _ _ (times_faults IsOfWord (barred_pair i) (pair_faults i) count _) (λ table.
     bind_faults IsOfWord _ _ (fixed_faults IsOfWord Expected _ (λ k. tt)) (λ end. tt)))
 
--- reading words gives no fault but those of places
+-- parsing gives only faults of places
 of_word : (i : Problem) (ws : List (List ℕ)) (e : BarredFault) → barred_answer i ws ≡ Err e → IsOfWord e
 of_word i ws e h = answer_faults IsOfWord ends_early (barred_rooms i) ws e (λ k. tt) (all_faults i) h
 
@@ -51,7 +51,7 @@ has_cause i text utf8 (TooLarge n) h = (utf8, (barred_fails_where_broken i (word
 has_cause i text utf8 (UnknownCourse n) h = (utf8, (barred_fails_where_broken i (words text) (UnknownCourse n)).0 h)
 has_cause i text utf8 (UnknownRoom n) h = (utf8, (barred_fails_where_broken i (words text) (UnknownRoom n)).0 h)
 
--- a fault that is not the one that reading meets is want of memory
+-- a fault that is not the one that parsing gives is that memory ran out
 fault_or_memory : (e : BarredFault) (x : Result (List Bool) BarredFault) → Fails wants_memory e x → (x ≡ Err e) ⊎ (e ≡ NoMemory)
 fault_or_memory (NotText n) x h = inl h
 fault_or_memory NoMemory x h = inr refl
@@ -68,7 +68,7 @@ err_either e fault (inl same) = inl (ap (λ q. Err q) same)
 err_either e fault (inr memory) = inr (ap (λ q. Err q) memory)
 
 module _ (i : Problem) (text : List ℕ) where
-  -- a table that was read
+  -- a table that was parsed
   pub ok_spelled : IsProblem i → (t : List Bool) → barred_answer i (words text) ≡ Ok t → BarSpells i (words text) t
   ok_spelled is t h = (reads_barred i (words text) t is).0 h
 

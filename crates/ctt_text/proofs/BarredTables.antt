@@ -5,7 +5,7 @@ use Rattle.ctt_text.specs.Instance.{IsInstance}
 use Rattle.ctt_text.specs.declared.instance.Instance.TheInside.{Inside}
 use Rattle.ctt_text.proofs.BitRowLemmas.{marks_length}
 
--- it is one again
+-- it is an instance again
 pub barred_instance : (i : Inside) (table : BitTable) → IsInstance i → HasSize table (length i.courses.items) (length i.capacities.items) → IsInstance (record i { barred = table })
 barred_instance i table h size =
     let p = h.problem in

@@ -11,7 +11,7 @@ use Rattle.ctt_text.specs.Belonging.{curricula_of}
 use Rattle.ctt_text.proofs.NumberListLemmas.{below_fit, below_few}
 use Rattle.ctt_text.proofs.TimetableLemmas.{Each-at}
 
--- one course more, which did not pass before
+-- one more course, which did not pass before
 pub more_added : (old mid new : List (List ℕ)) (q : ℕ) (p r s : ℕ → Bool) → AddsNumber old mid q p → AddsNumber mid new q r → ((c : ℕ) → s c ≡ (p c || r c)) → ((c : ℕ) → p c ≡ true → r c ≡ false) → AddsNumber old new q s
 more_added old mid new q p r s h k same apart = record {
   size = k.size ∙ h.size;
@@ -24,7 +24,7 @@ more_added old mid new q p r s h k same apart = record {
     by xs true false e = append-nil (xs ++ q ∷ [])
     by xs false b e = ap (λ ys. ys ++ cond b (q ∷ []) []) (append-nil xs)
 
--- a member that comes once was not among those before it
+-- a member that occurs once is not among the earlier ones
 pub has_more : (c : ℕ) (ms : List ℕ) (k m : ℕ) → k < length ms → m ≡ get_or ms k m → has c (take (k + 1) ms) ≡ (has c (take k ms) || (m == c))
 has_more c ms k m lt is = list_any_more (λ x. x == c) ms k m lt ∙ ap (λ b. has c (take k ms) || b) (ap (λ x. x == c) (sym is))
 

@@ -18,7 +18,7 @@ use Rattle.ctt_text.proofs.MarkLemmas.{none_marked, past_words, read_mark, one_c
 use Rattle.ctt_text.proofs.MarkLaws.{place_in_rows, Row, row_of}
 use Rattle.ctt_text.specs.BitRows.{BitTable, words_for, words_of, is_marked_in, marks_of, HasSize, IsBitTable, SetsMark, AddsMarks}
 
--- one bit of a word, by the number of the bit among all
+-- setting the bit of a number marks this number alone
 pub marked_set : (words : List ℕ) (n number low w : ℕ) → number ≡ n / 64 → low ≡ n % 64 → number < length words → w ≡ get_or words number 0 → (k : ℕ) → is_marked (slice_set words number (bit_or w (1 * 2 ^ low % 2 ^ 64))) k ≡ cond (k == n) true (is_marked words k)
 marked_set words n number low w en el within is =
     rw (en, el) (one_changed words n (bit_or w (1 * 2 ^ (n % 64) % 2 ^ 64)) true (omega (arith, within, en))
@@ -34,7 +34,7 @@ marked_clear words n number low w en el within is =
 abbrev pub rows_of : ℕ → ℕ → List ℕ → BitTable
 rows_of rows width words = record { rows = rows; width = width; words = words }
 
--- the mark of a row is one of the words
+-- the mark of a row is a mark of the words
 in_row : (g : BitTable) (row n : ℕ) → n / 64 < words_for g.width → is_marked_in g row n ≡ is_marked g.words ((row * words_for g.width) * 64 + n)
 unfolding is_marked_in is_marked
 in_row g row n lt =
@@ -49,12 +49,12 @@ in_row g row n lt =
     low : (k n : ℕ) → n % 64 ≡ (k * 64 + n) % 64
     low k n = omega arith
 
--- and past its words it has none
+-- a row has no marks past its words
 pub past_row : (g : BitTable) (row n : ℕ) → words_for g.width ≤ n / 64 → is_marked_in g row n ≡ false
 unfolding is_marked_in
 past_row g row n past = past_words (words_of g row) n (omega (arith, past, length-take (words_for g.width) (drop (row * words_for g.width) g.words)))
 
--- the bits of two places are the same one only where the places are
+-- a bit of an earlier row differs from each bit of this row
 before_row : (stride r row k column : ℕ) → k < stride * 64 → r < row → (r * stride) * 64 + k ≢ (row * stride) * 64 + column
 before_row stride r row k column small less e = (let rows : suc r * stride ≤ row * stride = mul-le-mul_right stride less in omega (arith, rows, e, small))
 
@@ -70,7 +70,7 @@ same_bit stride r row k column small small' = elim (cases_order r row) [
   | inr (inr more) ↦ rw (ne_eqb ((r * stride) * 64 + k) ((row * stride) * 64 + column) (λ e. before_row stride row r column k small' more (sym e)), ne_eqb r row (λ e. omega (arith, e, more))) refl
 ]
 
--- another number is as it was
+-- another number is unchanged
 unset : (value a m : Bool) → m ≡ false → cond (a && false) value m ≡ false
 unset value true m e = e
 unset value false m e = e
@@ -109,7 +109,7 @@ module _ (rows width row number : ℕ) (words : List ℕ) (less : row < rows) (l
   low : number % 64 ≡ ((row * words_for width) * 64 + number) % 64
   low = omega arith
 
-  -- the word of the number, as it is read with any count of a row and any default
+  -- the word of a number, looked up with an equal count of words per row and any default
   pub word_read : (count d w : ℕ) → count ≡ words_for width → w ≡ get_or words (row * count + number / 64) d → w ≡ get_or words (row * words_for width + number / 64) 0
   word_read count d w e is = subst (λ k. w ≡ get_or words (row * k + number / 64) 0) e (is ∙ same_element words (row * count + number / 64) d 0 (subst (λ k. row * k + number / 64 < length words) (sym e) there))
 
@@ -130,7 +130,7 @@ module _ (rows width row number : ℕ) (words : List ℕ) (less : row < rows) (l
   pub unmark_are : (w : ℕ) → w ≡ get_or words (row * words_for width + number / 64) 0 → IsBitTable (rows_of rows width (slice_set words (row * words_for width + number / 64) (bit_and w (bit_not w64 (1 * 2 ^ (number % 64) % 2 ^ 64)))))
   unmark_are w is = sets_are false _ (length-set words (row * words_for width + number / 64) (bit_and w (bit_not w64 (1 * 2 ^ (number % 64) % 2 ^ 64)))) (unmark_sets w is)
 
--- the marks of all rows: how many there are, and which stands where
+-- the marks of all rows: their number, and the mark at each index
 pub marks_length : (g : BitTable) → length (marks_of g) ≡ g.rows * g.width
 unfolding marks_of
 marks_length g = length-map-range_with_len (λ k. is_marked_in g (k / g.width) (k % g.width)) 0 (g.rows * g.width)
@@ -141,23 +141,23 @@ mark_at g row n less lt =
     get_or-map-range_with_len (λ k. is_marked_in g (k / g.width) (k % g.width)) 0 (g.rows * g.width) (row * g.width + n) (row * g.width + n) false (place_within row n g.width g.rows less lt) (zero-add (row * g.width + n))
     ∙ ap₂ (is_marked_in g) (div-mul-add row g.width n lt) (mod-mul-add row g.width n lt)
 
--- as an instance asks for it
+-- the mark at an index, as an instance looks it up
 pub mark_asked : (g : BitTable) (rows width row n : ℕ) → HasSize g rows width → row < rows → n < width → is_marked_in g row n ≡ (nat_lt n width && get_or (marks_of g) (row * width + n) false)
 mark_asked g rows width row n size less lt = rw (lt-ltb n width lt, ← size.1) (sym (mark_at g row n (subst (λ m. row < m) (sym size.0) less) (subst (λ m. n < m) (sym size.1) lt)))
 
--- a list of the same marks is the same
+-- a list with the same marks is equal
 marks_same : (g : BitTable) (marks : List Bool) → length marks ≡ g.rows * g.width → ((row n : ℕ) → row < g.rows → n < g.width → get_or marks (row * g.width + n) false ≡ is_marked_in g row n) → marks_of g ≡ marks
 marks_same g marks size same = ext_get_or false (marks_of g) marks (marks_length g ∙ sym size) (λ k lt.
     let at : Row g.rows g.width k = row_of g.rows g.width k (subst (λ m. k < m) (marks_length g) lt) in
     subst (λ p. get_or (marks_of g) p false ≡ get_or marks p false) at.place (mark_at g at.row at.column at.row_below at.column_below ∙ sym (same at.row at.column at.row_below at.column_below)))
 
--- where none is marked
+-- if nothing is marked
 pub marks_none : (g : BitTable) (rows width : ℕ) → HasSize g rows width → ((row n : ℕ) → is_marked_in g row n ≡ false) → marks_of g ≡ replicate (rows * width) false
 marks_none g rows width size none = rw (← size.0, ← size.1)
     (marks_same g (replicate (g.rows * g.width) false) (length-replicate (g.rows * g.width) false)
     (λ row n less lt. get_or-replicate (g.rows * g.width) (row * g.width + n) false false (place_within row n g.width g.rows less lt) ∙ sym (none row n)))
 
--- after one more is marked
+-- after one more number is marked
 pub marks_set : (old new : BitTable) (rows width row n : ℕ) → HasSize old rows width → row < rows → n < width → SetsMark old new row n true → marks_of new ≡ slice_set (marks_of old) (row * width + n) true
 marks_set old new rows width row n size less lt set =
     let place = row * width + n in
@@ -176,7 +176,7 @@ marks_set old new rows width row n size less lt set =
       | inr other ↦ rw (ne_eqb k p other) (get_or-set_other marks p k true false other)
     ]
 
--- there is a mark where a word has a bit
+-- there is a mark if a word has a bit
 module _ (g : BitTable) (are : IsBitTable g) where
   pub some_marked : (p : ℕ) → p < length g.words → get_or g.words p 0 ≢ 0 → get_or g.words p 0 < 2 ^ 64 → list_any (λ b. b) (marks_of g) ≡ true
   unfolding is_marked
@@ -196,7 +196,7 @@ module _ (g : BitTable) (are : IsBitTable g) where
         | inr past ↦ absurd (true≢false (sym marked ∙ are.within at.row n past))
       ]
 
-  -- and else there is none
+  -- otherwise there is no mark
   pub nowhere_marked : ((p : ℕ) → p < length g.words → get_or g.words p 0 ≡ 0) → list_any (λ b. b) (marks_of g) ≡ false
   unfolding is_marked
   nowhere_marked zero_words = ap (list_any (λ b. b)) (marks_none g g.rows g.width (refl, refl) none) ∙ none_any (g.rows * g.width)
@@ -236,7 +236,7 @@ unfolding is_marked_in
 cut_row rows width row count n words items e same =
     ap (λ k. is_marked (take k (drop (row * count) words)) n) (left (row * count) count) ∙ ap₂ (λ w ws. is_marked (take w (drop (row * w) ws)) n) e same
 
--- a row written over
+-- a row that is overwritten
 module _ (rows width row : ℕ) (words ys : List ℕ) (less : row < rows) (are : IsBitTable (rows_of rows width words)) (long : length ys ≡ words_for width) where
   abbrev put : List ℕ
   put = take (row * words_for width) words ++ (ys ++ drop (words_for width) (drop (row * words_for width) words))
@@ -250,7 +250,7 @@ module _ (rows width row : ℕ) (words ys : List ℕ) (less : row < rows) (are :
       let rest : List ℕ = drop (words_for width) (drop start words) in
       omega (arith, length-append (take start words) (ys ++ rest), length-append ys rest, length-take-le start words (omega (arith, row_inside)), length-drop (words_for width) (drop start words), length-drop start words, long, row_inside)
 
-  -- as a write to the row leaves it
+  -- the row as a write leaves it
   pub put_left : (count len m : ℕ) (now : List ℕ) → count ≡ words_for width → now ≡ words → length now ≡ len
       → take len ((take (row * count) now ++ (ys ++ drop (row * count + count - row * count) (drop (row * count) now))) ++ drop m words) ≡ put
   put_left count len m now e same size =

@@ -17,7 +17,7 @@ module _ (course slot : ℕ) where
   is_same : (c s : ℕ) → is_eq (by_course_and_slot (course, slot) (c, s)) ≡ (c == course && s == slot)
   is_same c s = grind (arith, nat_tests)
 
-  -- a key is found where the course has a lecture in the slot
+  -- a key is found if the course has a lecture in the slot
   pub has_entry : (es : List ((ℕ × ℕ) × ℕ)) → is_some (lookup (is_at (by_course_and_slot (course, slot))) es) ≡ has_lecture course slot (map lecture_of es)
   has_entry [] = refl
   has_entry (e ∷ es) = by _ _ (is_same e.0.0 e.0.1) (has_entry es)
@@ -31,7 +31,7 @@ module _ (course slot : ℕ) where
   is_earlier : (c s room r : ℕ) → is_lt (by_course_and_slot (course, slot) (c, s)) ≡ before (record { course = course; slot = slot; room = room }) (record { course = c; slot = s; room = r })
   is_earlier c s room r = grind (arith, nat_tests)
 
-  -- a new key goes to the place of its lecture
+  -- a new key is inserted at the position of its lecture
   pub with_entry : (room : ℕ) (es : List ((ℕ × ℕ) × ℕ)) → has_lecture course slot (map lecture_of es) ≡ false
       → map lecture_of (insert_entry by_course_and_slot es (course, slot) room) ≡ with (record { course = course; slot = slot; room = room }) (map lecture_of es)
   with_entry room [] free = refl

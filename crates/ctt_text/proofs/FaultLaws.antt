@@ -54,7 +54,7 @@ module _ {F : Type 0} (P : F → Type 0) where
   unless_faults None fault broken h e k = subst (λ f. P (f k)) (some_same fault broken e) (h k)
   unless_faults (Some a) fault broken h e k = none_some _ broken e
 
-  -- a word that means something, or nothing
+  -- a word with or without a meaning
   pub known_faults : {A : Type 0} (fault : ℕ → F) (meaning : List ℕ → Option A) (otherwise : A) → ((k : ℕ) → P (fault k)) → FormFaults (known fault meaning otherwise)
   unfolding known one
   known_faults fault meaning otherwise h = (λ word broken e k. unless_faults (meaning word) fault broken h e k, λ word. tt)
@@ -79,7 +79,7 @@ module _ {F : Type 0} (P : F → Type 0) where
   unfolding known_name
   known_name_faults fault names h = known_faults fault (number_in names) 0 h
 
-  -- so each fault that reading gives is of this kind
+  -- each fault that parsing gives is of this kind
   pub read_faults : {A : Type 0} (missing : ℕ → F) (form : Form F A) (words : List (List ℕ)) (n : ℕ) (e : F) → ((k : ℕ) → P (missing k)) → FormFaults form → read missing form words n ≡ Err e → P e
   unfolding read
   read_faults missing (done a) words n e m h r = ok_is_err _ _ e r

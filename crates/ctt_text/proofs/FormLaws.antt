@@ -1,4 +1,4 @@
--- Any form: what is read fills it, and a fault that is read breaks it at one place.
+-- Any form: what is parsed fills it, and a fault of parsing breaks it at one place.
 use Rattle.std.proofs.Common.{◌≡◌, ◌⊎◌, inl, inr, ℕ, zero, suc, ◌+◌, List, [], ◌∷◌, ◌++◌, length, flat_map, Option, Some, None, Result, Ok, Err, refl, sym, ap, subst, ◌∙◌, append_assoc, arith}
 use Rattle.std.specs.List.{AllByRecursion as Each}
 use Rattle.std.proofs.lemmas.List.{append-nil, length-append}
@@ -6,7 +6,7 @@ use Rattle.ctt_text.specs.Left.{Left}
 use Rattle.ctt_text.specs.Forms.{Rule, Form, done, place, ◌>>=◌, times, one_more, list_of, Fills, StandsAfter, Breaks, BreaksAt, read, without_rest}
 use Rattle.ctt_text.proofs.TimetableLemmas.{Each-append}
 
--- what fills one form, and then the form after it, fills both
+-- what fills one form and then the following form fills both
 pub fills_both : {F A B : Type 0} (f : Form F A) (g : A → Form F B) (us vs : List (List ℕ)) (a : A) (b : B) → Fills f us a → Fills (g a) vs b → Fills (f >>= g) (us ++ vs) b
 unfolding ◌>>=◌
 fills_both (done x) g [] vs a b h k = subst (λ q. Fills (g q) vs b) (sym h) k
@@ -14,7 +14,7 @@ fills_both (done x) g (u ∷ us) vs a b h k = absurd h
 fills_both (place rule next) g [] vs a b h k = absurd h
 fills_both (place rule next) g (u ∷ us) vs a b h k = (h.0, fills_both (next u) g us vs a b h.1 k)
 
--- what fills two forms in turn is in two parts, of which each fills its own
+-- what fills two forms in sequence has two parts, each of which fills its form
 pub bind_case : {F A B : Type 0} (C : Type 0) (f : Form F A) (g : A → Form F B) (words : List (List ℕ)) (b : B) → Fills (f >>= g) words b
     → ((us vs : List (List ℕ)) (a : A) → Fills f us a → Fills (g a) vs b → words ≡ us ++ vs → C) → C
 unfolding ◌>>=◌
@@ -22,25 +22,25 @@ bind_case C (done x) g words b h then = then [] words x refl h refl
 bind_case C (place rule next) g [] b h then = absurd h
 bind_case C (place rule next) g (w ∷ ws) b h then = bind_case C (next w) g ws b h.1 (λ us vs a p q e. then (w ∷ us) vs a (h.0, p) q (ap (λ r. w ∷ r) e))
 
--- a form that has ended is filled by no words
+-- a form that is done is filled only by no words
 pub done_taken : (F : Type 0) {A : Type 0} (x a : A) (words : List (List ℕ)) → Fills {F = F} (done x) words a → (words ≡ []) × (x ≡ a)
 done_taken F x a [] h = (refl, h)
 done_taken F x a (w ∷ ws) h = absurd h
 
--- the words that were read, which fill the form
+-- the parsed words, which fill the form
 pub record IsRead {F A : Type 0} (form : Form F A) (words : List (List ℕ)) (n : ℕ) (x : A × Left) : Type 0 where
   pub front : List (List ℕ)
   pub all : words ≡ front ++ x.1.words
   pub next : x.1.next ≡ n + length front
   pub fills : Fills form front x.0
 
--- one place obeys its rule or breaks it
+-- a word obeys the rule of its place or breaks it
 pub read_case : {F X : Type 0} (C : Type 0) (o : Option (ℕ → F)) (n : ℕ) (rest r : Result X F) → elim o [ None ↦ rest | Some broken ↦ Err (broken n) ] ≡ r
     → (o ≡ None → rest ≡ r → C) → ((broken : ℕ → F) → o ≡ Some broken → Err (broken n) ≡ r → C) → C
 read_case C None n rest r h obeyed broke = obeyed refl h
 read_case C (Some broken) n rest r h obeyed broke = broke broken refl h
 
--- a value and a fault differ, and each is one
+-- a value and a fault differ, and both constructors are injective
 pub ok_is_err : {A F : Type 0} (C : Type 0) (a : A) (e : F) → ◌≡◌ {A = Result A F} (Ok a) (Err e) → C
 ok_is_err C a e h = cc
 
@@ -53,15 +53,15 @@ ok_same a b h = cc
 pub err_same : {A F : Type 0} (a b : F) → ◌≡◌ {A = Result A F} (Err a) (Err b) → a ≡ b
 err_same a b h = cc
 
--- the number of a word, counted from the one before
+-- the number of a word, counted from the previous one
 pub one_later : (n k : ℕ) → n + 1 + k ≡ n + suc k
 one_later n k = omega arith
 
--- the first word counted
+-- the number of the first word
 pub at_once : (n : ℕ) → n ≡ n + 0
 at_once n = omega arith
 
--- what is read fills the form
+-- what is parsed fills the form
 pub read_fills : {F A : Type 0} (missing : ℕ → F) (form : Form F A) (words : List (List ℕ)) (n : ℕ) (x : A × Left) → read missing form words n ≡ Ok x → IsRead form words n x
 unfolding read
 read_fills {F} {A} missing (done a) words n x h =
@@ -74,7 +74,7 @@ read_fills missing (place rule next) (w ∷ ws) n x h = read_case (IsRead (place
     record { front = w ∷ r.front; all = ap (λ q. w ∷ q) r.all; next = r.next ∙ one_later n (length r.front); fills = (obeyed, r.fills) })
     (λ broken is e. err_is_ok _ x _ e)
 
--- what fills the form is read, whatever follows it
+-- what fills the form is parsed, whatever follows it
 pub fills_read : {F A : Type 0} (missing : ℕ → F) (form : Form F A) (front rest : List (List ℕ)) (n : ℕ) (a : A) → Fills form front a
     → read missing form (front ++ rest) n ≡ Ok (a, record { words = rest; next = n + length front })
 unfolding read
@@ -83,7 +83,7 @@ fills_read missing (done x) (w ∷ ws) rest n a h = absurd h
 fills_read missing (place rule next) [] rest n a h = absurd h
 fills_read missing (place rule next) (w ∷ ws) rest n a h = rw h.0 (fills_read missing (next w) ws rest (n + 1) a h.1 ∙ ap (λ m. Ok (a, record { words = rest; next = m })) (one_later n (length ws)))
 
--- the place of a fault that was read, from word n on
+-- the place of a fault of parsing, from word n on
 pub record IsBroken {F A : Type 0} (missing : ℕ → F) (form : Form F A) (words : List (List ℕ)) (n : ℕ) (fault : F) : Type 0 where
   pub before : List (List ℕ)
   pub from : List (List ℕ)
@@ -92,7 +92,7 @@ pub record IsBroken {F A : Type 0} (missing : ℕ → F) (form : Form F A) (word
   pub obey : StandsAfter form before rule
   pub breaks : Breaks missing rule from (n + length before) fault
 
--- a fault that is read is that of a place which the words break
+-- a fault of parsing is that of a place that the words break
 pub read_breaks : {F A : Type 0} (missing : ℕ → F) (form : Form F A) (words : List (List ℕ)) (n : ℕ) (e : F) → read missing form words n ≡ Err e → IsBroken missing form words n e
 unfolding read
 read_breaks missing (done a) words n e h = ok_is_err _ _ e h
@@ -103,7 +103,7 @@ read_breaks missing (place rule next) (w ∷ ws) n e h = read_case (IsBroken mis
     record { before = w ∷ r.before; from = r.from; all = ap (λ q. w ∷ q) r.all; rule = r.rule; obey = (obeyed, r.obey); breaks = subst (λ k. Breaks missing r.rule r.from k e) (one_later n (length r.before)) r.breaks })
     (λ broken is same. record { before = []; from = w ∷ ws; all = refl; rule = rule; obey = refl; breaks = (broken, is, ap broken (sym (at_once n)) ∙ err_same _ e same) })
 
--- a place which the words break is read as its fault
+-- parsing gives the fault of a place that the words break
 pub breaks_read : {F A : Type 0} (missing : ℕ → F) (form : Form F A) (before from : List (List ℕ)) (n : ℕ) (e : F) (rule : Rule F) → StandsAfter form before rule → Breaks missing rule from (n + length before) e
     → read missing form (before ++ from) n ≡ Err e
 unfolding read
@@ -120,7 +120,7 @@ none_is_some : {X : Type 0} (C : Type 0) (o : Option X) (x : X) → o ≡ None �
 none_is_some C None x h k = cc
 none_is_some C (Some y) x h k = cc
 
--- lists that are one have one head and one tail, and none is empty that has a head
+-- equal lists have equal heads and tails, and a list with a head is not empty
 cons_head : {X : Type 0} (x y : X) (xs ys : List X) → x ∷ xs ≡ y ∷ ys → x ≡ y
 cons_head x y xs ys h = cc
 
@@ -130,7 +130,7 @@ cons_tail x y xs ys h = cc
 cons_nil : {X : Type 0} (C : Type 0) (x : X) (xs : List X) → x ∷ xs ≡ [] → C
 cons_nil C x xs h = cc
 
--- two places which the words break stand after as many words
+-- two places that the words break come after equally many words
 places_meet : {F A : Type 0} (missing : ℕ → F) (form : Form F A) (before from before' from' : List (List ℕ)) (k k' : ℕ) (e e' : F) (r r' : Rule F)
     → before ++ from ≡ before' ++ from' → StandsAfter form before r → Breaks missing r from k e → StandsAfter form before' r' → Breaks missing r' from' k' e' → length before ≡ length before'
 places_meet missing (done x) b f b' f' k k' e e' r r' same h p h' p' = absurd h
@@ -145,9 +145,9 @@ places_meet missing (place rule next) (w ∷ b) f (v ∷ b') f' k k' e e' r r' s
     let head = cons_head w v (b ++ f) (b' ++ f') same in
     ap suc (places_meet missing (next w) b f b' f' k k' e e' r r' (cons_tail w v (b ++ f) (b' ++ f') same) h.1 p (subst (λ q. StandsAfter (next q) b' r') (sym head) h'.1) p')
 
--- the answer of a whole reading
+-- the result of parsing a whole text
 module _ {F A : Type 0} (missing : ℕ → F) (form : Form F A) where
-  -- an answer was read with something left, and a fault as it is
+  -- a result comes with some remaining words, and a fault is unchanged
   with_rest : (C : Type 0) (r : Result (A × Left) F) (a : A) → without_rest r ≡ Ok a → ((left : Left) → r ≡ Ok (a, left) → C) → C
   with_rest C (Ok x) a h then = then x.1 (ap (λ q. Ok (q, x.1)) (ok_same x.0 a h))
   with_rest C (Err e) a h then = err_is_ok C a e h
@@ -156,30 +156,30 @@ module _ {F A : Type 0} (missing : ℕ → F) (form : Form F A) where
   same_fault (Ok x) e h = ok_is_err _ x.0 e h
   same_fault (Err d) e h = ap (λ q. Err q) (err_same d e h)
 
-  -- an answer is what words at the front fill the form with
+  -- if there is a result, a prefix of the words fills the form with it
   pub answer_fills : (words : List (List ℕ)) (a : A) → without_rest (read missing form words 1) ≡ Ok a → (front : List (List ℕ)) × (rest : List (List ℕ)) × (words ≡ front ++ rest) × Fills form front a
   answer_fills words a h = with_rest _ (read missing form words 1) a h (λ left e.
       let r = read_fills missing form words 1 (a, left) e in
       (r.front, left.words, r.all, r.fills))
 
-  -- and what words at the front fill the form with is the answer
+  -- if a prefix of the words fills the form with a value, it is the result
   pub fills_answer : (front rest : List (List ℕ)) (a : A) → Fills form front a → without_rest (read missing form (front ++ rest) 1) ≡ Ok a
   fills_answer front rest a h = ap (λ r. without_rest r) (fills_read missing form front rest 1 a h)
 
-  -- a fault is that of a place which the words break
+  -- a fault is that of a place that the words break
   pub answer_breaks : (words : List (List ℕ)) (e : F) → without_rest (read missing form words 1) ≡ Err e → (k : ℕ) × BreaksAt missing form words k e
   answer_breaks words e h =
       let b = read_breaks missing form words 1 e (same_fault (read missing form words 1) e h) in
       (1 + length b.before, record { before = b.before; from = b.from; all = b.all; number = omega arith; rule = b.rule; obey = b.obey; breaks = b.breaks })
 
-  -- and the fault of a place which the words break is the fault that is answered
+  -- the fault of a place that the words break is the result
   pub breaks_answer : (words : List (List ℕ)) (k : ℕ) (e : F) → BreaksAt missing form words k e → without_rest (read missing form words 1) ≡ Err e
   breaks_answer words k e b =
       let count : k ≡ 1 + length b.before = b.number ∙ omega arith in
       let fails = breaks_read missing form b.before b.from 1 e b.rule b.obey (subst (λ m. Breaks missing b.rule b.from m e) count b.breaks) in
       ap (λ ws. without_rest (read missing form ws 1)) b.all ∙ ap (λ r. without_rest r) fails
 
-  -- words break a form at one place, by one fault
+  -- words break a form at most at one place, with one fault
   pub breaks_once : (words : List (List ℕ)) (k k' : ℕ) (e e' : F) → BreaksAt missing form words k e → BreaksAt missing form words k' e' → (k ≡ k') × (e ≡ e')
   breaks_once words k k' e e' b b' =
       let size = places_meet missing form b.before b.from b'.before b'.from k k' e e' b.rule b'.rule (sym b.all ∙ b'.all) b.obey b.breaks b'.obey b'.breaks in
@@ -205,7 +205,7 @@ pub yields_bind : {F A B : Type 0} (P : A → Type 0) (Q : B → Type 0) (f : Fo
 yields_bind P Q f g h k words b fills = bind_case (Q b) f g words b fills (λ us vs a p q e. k a (h us a p) vs b q)
 
 module _ {F A : Type 0} (form : Form F A) (P : A → Type 0) where
-  -- so many, each of this kind
+  -- n values, each of this kind
   abbrev pub AreSo : ℕ → List A → Type 0
   AreSo n xs = Each P xs × (length xs ≡ n)
 
@@ -218,14 +218,14 @@ module _ {F A : Type 0} (form : Form F A) (P : A → Type 0) where
       let r = yields_more h n (k + 1) list all words xs fills in
       (r.0, r.1 ∙ omega arith))
 
-  -- a list of what the form gives
+  -- the list of the values of a form
   pub yields_list : Yields P form → (n : ℕ) → Yields (AreSo n) (list_of form n)
   unfolding list_of
   yields_list h n words xs fills =
       let r = yields_more h n 0 [] (tt, refl) words xs fills in
       (r.0, r.1 ∙ omega arith)
 
-  -- words of each fill the list
+  -- the words of each value fill the list
   more_fills : (spelled : A → List (List ℕ)) → ((a : A) → P a → Fills form (spelled a) a) → (xs so_far : List A) → Each P xs → Fills (times (one_more form) (length xs) so_far) (flat_map spelled xs) (so_far ++ xs)
   unfolding times one_more
   more_fills spelled h [] so_far each = sym (append-nil so_far)

@@ -12,11 +12,11 @@ use Rattle.ctt_text.specs.InstanceLaws.{SpelledIsProblem}
 use Rattle.ctt_text.proofs.TimetableLemmas.{Each-map}
 use Rattle.ctt_text.proofs.ListLaws.{Each-mapped, once_each, once_apart, once_found, once_few, place_below, bytes_sound, each_among}
 
--- a number of a file is small
+-- a number in a text is small
 number_small : (word : List ℕ) → IsNumber word → IsSmall (value word)
 number_small word h = leb-true (value word) 999999999 (and_parts (nat_lt 0 (length word) && list_all is_digit word) (nat_le (value word) 999999999) h).1
 
--- what is among names has a number of theirs
+-- what is among the names has a number below their count
 number_below : (names : List (List ℕ)) (word : List ℕ) → is_among names word ≡ true → place_of names word < length names
 number_below names word h = place_below (bytes_eq word) names h
 
@@ -36,12 +36,12 @@ teachers_known cs = Each-map (λ c. is_among (map (λ c. c.teacher) cs) c.teache
     unmapped P [] each = tt
     unmapped P (c ∷ cs) each = (each.0, unmapped P cs each.1)
 
--- two facts of each
+-- two facts of each element
 Each-both : {X : Type 0} (P Q : X → Type 0) (xs : List X) → Each P xs → Each Q xs → Each (λ x. P x × Q x) xs
 Each-both P Q [] p q = tt
 Each-both P Q (x ∷ xs) p q = ((p.0, q.0), Each-both P Q xs p.1 q.1)
 
--- the numbers of courses are small, and those of their teachers are numbers of teachers
+-- the numbers of courses are small, and their teachers are in range
 facts_are : (cs : List CourseWords) → Each IsCourse cs → Each (IsCourseFacts (length (teacher_names cs))) (map (facts_of (teacher_names cs)) cs)
 facts_are cs each = Each-mapped (IsCourseFacts (length (teacher_names cs))) (facts_of (teacher_names cs)) cs
     (Each-map (λ c. IsCourse c × (is_among (teacher_names cs) c.teacher ≡ true)) (λ c. IsCourseFacts (length (teacher_names cs)) (facts_of (teacher_names cs) c))

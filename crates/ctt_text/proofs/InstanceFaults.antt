@@ -1,4 +1,4 @@
--- The faults of the places of an instance name words.
+-- The faults of the places of an instance carry the number of a word.
 use Rattle.std.proofs.Common.{ℕ, List, Bool, codes}
 use Rattle.ctt_text.specs.declared.fault.ReadFault.{ReadFault}
 use Rattle.ctt_text.specs.declared.fault.ReadFault.TheVariants.{NotText, Expected, BadNumber, TooLarge, RepeatedName, UnknownCourse, DayOut, PeriodOut, NoMemory}
@@ -7,7 +7,7 @@ use Rattle.ctt_text.specs.Places.{after, number, new_name, known_name}
 use Rattle.ctt_text.specs.InstancePlaces.{Courses, Rooms, Curricula, number_up_to, period_count, two_counts, calendar, header, course, room, member, curriculum, day_below, period_below, unavailability, instance}
 use Rattle.ctt_text.proofs.FaultLaws.{FormFaults, bind_faults, times_faults, any_faults, fixed_faults, number_faults, number_if_faults, new_name_faults, known_name_faults}
 
--- a fault of a place, which names a word
+-- a fault of a place, which carries the number of a word
 abbrev pub IsOfWord : ReadFault → Type 0
 IsOfWord (NotText byte) = ⊥
 IsOfWord NoMemory = ⊥

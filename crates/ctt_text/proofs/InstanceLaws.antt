@@ -8,13 +8,13 @@ use Rattle.ctt_text.specs.InstanceLaws.{answer, ReadsWhatIsSpelled, SpellsOne, F
 use Rattle.ctt_text.proofs.FormLaws.{answer_fills, fills_answer, answer_breaks, breaks_answer, breaks_once, answered, ok_same, ok_is_err}
 use Rattle.ctt_text.proofs.InstanceWhole.{instance_fills, instance_taken}
 
--- what is read is spelled
+-- what is parsed is spelled
 read_spelled : (words : List (List ℕ)) (i : Problem) → answer words ≡ Ok i → Spells words i
 read_spelled words i h =
     let r = answer_fills missing instance words i h in
     subst (λ ws. Spells ws i) (sym r.2) (instance_taken r.0 r.1 i r.3)
 
--- what is spelled is read
+-- what is spelled is parsed
 spelled_read : (words : List (List ℕ)) (i : Problem) → Spells words i → answer words ≡ Ok i
 spelled_read words i s = ap (λ ws. answer ws) s.all ∙ fills_answer missing instance (spelled s.given) s.rest i (instance_fills s.given s.obey i s.says)
 

@@ -1,4 +1,4 @@
--- What was read of an instance, and the instance that is made of it.
+-- The parsed sections, and the instance that is made of them.
 use Rattle.std.proofs.Common.{◌≡◌, ◌<◌, ◌⊎◌, ℕ, List, [], ◌∷◌, map, Bool, ◌||◌, Result, Ok, Err, IfOk, IfErr, inl, inr, refl, sym, ap, ◌∙◌}
 use Rattle.std.specs.List.{list_any, AllByRecursion as Each}
 use Rattle.std.specs.Str.{IsUtf8}
@@ -24,7 +24,7 @@ pub any_mapped : {X Y : Type 0} (p : Y → Bool) (f : X → Y) (xs : List X) →
 any_mapped p f [] = refl
 any_mapped p f (x ∷ xs) = ap (λ b. p (f x) || b) (any_mapped p f xs)
 
--- reading words gives no fault but those of places
+-- parsing gives only faults of places
 of_word : (ws : List (List ℕ)) (e : ReadFault) → answer ws ≡ Err e → IsOfWord e
 of_word ws e h = answer_faults IsOfWord missing instance ws e (λ k. tt) instance_faults h
 
@@ -49,7 +49,7 @@ pub gives_spelled : (text : List ℕ) (r : Result Problem ReadFault) → Gives w
 gives_spelled text (Ok i) h = (reads_what_is_spelled (words text) i).0 h
 gives_spelled text (Err e) h = tt
 
--- what reading answers is answered, unless memory is wanted
+-- a fault is the result of parsing, unless memory ran out
 only_memory : (e : ReadFault) (x y : Result Problem ReadFault) → Fails wants_memory e x → x ≡ y → (◌≡◌ {A = Result Problem ReadFault} (Err e) y) ⊎ (◌≡◌ {A = Result Problem ReadFault} (Err e) (Err NoMemory))
 only_memory (NotText n) x y h k = inl (sym h ∙ k)
 only_memory NoMemory x y h k = inr refl

@@ -27,12 +27,12 @@ add_room s w = record { names = s.names ++ w.name ∷ []; capacities = s.capacit
 abbrev pub FitsRoom : Rooms → RoomWords → Type 0
 FitsRoom = Named (λ s. s.names) (λ w. w.name) IsRoom
 
--- a room whose name is new fills its two places
+-- a room with a new name fills its form
 pub room_fills : (s : Rooms) (w : RoomWords) → FitsRoom s w → Fills (room s) (spelled_room w) (add_room s w)
 unfolding room new_name number known one ◌>>=◌
 room_fills s w fit = (rw fit.0 refl, (rw fit.1 refl, rw fit.1 refl))
 
--- what fills them is such a room
+-- what fills this form is such a room
 pub room_taken : (s : Rooms) (words : List (List ℕ)) (t : Rooms) → Fills (room s) words t → Entry spelled_room add_room FitsRoom s words t
 unfolding room new_name number known one ◌>>=◌
 room_taken s [] t h = absurd h
@@ -52,12 +52,12 @@ add_course s w = record { names = s.names ++ w.name ∷ []; facts = s.facts ++ f
 abbrev pub FitsCourse : Courses → CourseWords → Type 0
 FitsCourse = Named (λ s. s.names) (λ w. w.name) IsCourse
 
--- a course whose name is new fills its five places
+-- a course with a new name fills its form
 pub course_fills : (s : Courses) (w : CourseWords) → FitsCourse s w → Fills (course s) (spelled_course w) (add_course s w)
 unfolding course new_name any number known one ◌>>=◌
 course_fills s w fit = (rw fit.0 refl, (refl, (rw fit.1.0 refl, (rw fit.1.1 refl, (rw fit.1.2 refl, rw (fit.1.0, fit.1.1, fit.1.2) refl)))))
 
--- what fills them is such a course
+-- what fills this form is such a course
 pub course_taken : (s : Courses) (words : List (List ℕ)) (t : Courses) → Fills (course s) words t → Entry spelled_course add_course FitsCourse s words t
 unfolding course new_name any number known one ◌>>=◌
 course_taken s [] t h = absurd h
@@ -76,7 +76,7 @@ course_taken s (name ∷ teacher ∷ lectures ∷ days ∷ students ∷ []) t h 
 }
 course_taken s (name ∷ teacher ∷ lectures ∷ days ∷ students ∷ more ∷ words) t h = absurd h.1.1.1.1.1
 
--- words of one word each
+-- the words of members: each is one word
 flat_single : {X : Type 0} (xs : List X) → flat_map (λ x. x ∷ []) xs ≡ xs
 flat_single [] = refl
 flat_single (x ∷ xs) = ap (λ r. x ∷ r) (flat_single xs)
@@ -89,7 +89,7 @@ module _ (names : List (List ℕ)) where
   abbrev FitsMember : List ℕ → List ℕ → Type 0
   FitsMember s w = is_among names w ≡ true
 
-  -- a known course fills the place of a member
+  -- a known course fills the form of a member
   member_fills : (s : List ℕ) (w : List ℕ) → FitsMember s w → Fills (member names s) (w ∷ []) (add_member s w)
   unfolding member known_name known one ◌>>=◌
   member_fills s w fit = (rw fit refl, rw fit refl)
@@ -105,11 +105,11 @@ module _ (names : List (List ℕ)) where
   abbrev numbers : List (List ℕ) → List ℕ
   numbers ws = each_once ◌==◌ (map (place_of names) ws)
 
-  -- members that are added one by one are each there once
+  -- members that are added one by one occur once each
   members_added : (ws : List (List ℕ)) → fold add_member [] ws ≡ numbers ws
   members_added ws = sym (fold-map (with_new ◌==◌) (place_of names) [] ws) ∙ grown_once ◌==◌ (λ x y. eqb-true x y) (map (place_of names) ws)
 
-  -- known courses fill the places of so many members
+  -- known courses fill the form of n members
   members_fill : (ws : List (List ℕ)) → Each (λ m. is_among names m ≡ true) ws → Fills (times (member names) (length ws) []) ws (numbers ws)
   members_fill ws known =
       let p = entries_fill (member names) (λ w. w ∷ []) add_member FitsMember member_fills ws [] (each_together add_member (λ m. is_among names m ≡ true) ws [] known) in
@@ -121,7 +121,7 @@ module _ (names : List (List ℕ)) where
     known : Each (λ m. is_among names m ≡ true) words
     gives : numbers words ≡ t
 
-  -- what fills them is known courses
+  -- what fills it is known courses
   members_taken : (n : ℕ) (words : List (List ℕ)) (t : List ℕ) → Fills (times (member names) n []) words t → Members n words t
   members_taken n words t h =
       let r = entries_taken (member names) (λ w. w ∷ []) add_member FitsMember member_taken n [] words t h in
@@ -139,7 +139,7 @@ module _ (names : List (List ℕ)) where
   abbrev with_members : Curricula → List ℕ → List ℕ → Curricula
   with_members s name members = record { names = s.names ++ name ∷ []; members = s.members ++ members ∷ [] }
 
-  -- a curriculum whose name is new, with as many members as it says, fills its places
+  -- a curriculum with a new name, and with as many members as it states, fills its form
   pub curriculum_fills : (s : Curricula) (w : CurriculumWords) → FitsCurriculum s w → Fills (curriculum names s) (spelled_curriculum w) (add_curriculum s w)
   unfolding curriculum new_name number known one ◌>>=◌
   curriculum_fills s w fit =
@@ -152,7 +152,7 @@ module _ (names : List (List ℕ)) where
         ),
       )
 
-  -- what fills them is such a curriculum
+  -- what fills this form is such a curriculum
   pub curriculum_taken : (s : Curricula) (words : List (List ℕ)) (t : Curricula) → Fills (curriculum names s) words t → Entry spelled_curriculum add_curriculum FitsCurriculum s words t
   unfolding curriculum new_name number known one ◌>>=◌
   curriculum_taken s [] t h = absurd h
@@ -170,7 +170,7 @@ module _ (names : List (List ℕ)) where
 
   -- unavailability
   module _ (days periods : ℕ) where
-    -- the place of a pair in the table
+    -- the index of a pair in the table
     abbrev pub mark_of : PairWords → ℕ
     mark_of p = place_of names p.course * (days * periods) + (value p.day * periods + value p.period)
 
@@ -180,12 +180,12 @@ module _ (names : List (List ℕ)) where
     abbrev pub FitsPair : List Bool → PairWords → Type 0
     FitsPair _ = IsPair names days periods
 
-    -- a known course with a day and a period in range fills three places
+    -- a known course with a day and a period in range fills the form of a pair
     pub pair_fills : (s : List Bool) (w : PairWords) → FitsPair s w → Fills (unavailability names days periods s) (spelled_pair w) (add_pair s w)
     unfolding unavailability known_name day_below period_below number_if known one ◌>>=◌
     pair_fills s w fit = (rw fit.0 refl, (below_passes BadNumber DayOut w.day days fit.1, (below_passes BadNumber PeriodOut w.period periods fit.2, rw fit.0 refl)))
 
-    -- what fills them is such a pair
+    -- what fills this form is such a pair
     pub pair_taken : (s : List Bool) (words : List (List ℕ)) (t : List Bool) → Fills (unavailability names days periods s) words t → Entry spelled_pair add_pair FitsPair s words t
     unfolding unavailability known_name day_below period_below number_if known one ◌>>=◌
     pair_taken s [] t h = absurd h

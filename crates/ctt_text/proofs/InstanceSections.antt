@@ -24,7 +24,7 @@ use Rattle.ctt_text.proofs.InstanceRows.{add_room, room_fills, room_taken, add_c
 abbrev pub rooms_of : List RoomWords → Rooms
 rooms_of given = record { names = room_names given; capacities = map (λ r. value r.capacity) given }
 
--- rooms are their two lists
+-- two sections are equal if their two lists are
 rooms_same : (n n' : List (List ℕ)) (c c' : List ℕ) → n ≡ n' → c ≡ c' → ◌≡◌ {A = Rooms} (record { names = n; capacities = c }) (record { names = n'; capacities = c' })
 rooms_same n n' c c' e0 e1 = rw (e0, e1) refl
 
@@ -32,18 +32,18 @@ rooms_same n n' c c' e0 e1 = rw (e0, e1) refl
 rooms_made : (given : List RoomWords) → fold add_room no_rooms given ≡ rooms_of given
 rooms_made given = rooms_same _ _ _ _ (list_grown add_room (λ s. s.names) (λ w. w.name) (λ s w. refl) given no_rooms) (list_grown add_room (λ s. s.capacities) (λ w. value w.capacity) (λ s w. refl) given no_rooms)
 
--- rooms of distinct names fill their section, and what fills it is such rooms
+-- rooms with distinct names fill their section, and what fills it is such rooms
 pub rooms_fill : (given : List RoomWords) → AreDistinct (room_names given) → Each IsRoom given → Fills (times room (length given) no_rooms) (flat_map spelled_room given) (rooms_of given)
 rooms_fill = section_fills room spelled_room add_room (λ s. s.names) (λ w. w.name) IsRoom (λ s w. refl) no_rooms rooms_of rooms_made room_fills
 
 pub rooms_taken : (n : ℕ) (words : List (List ℕ)) (t : Rooms) → Fills (times room n no_rooms) words t → Section spelled_room [] (λ (w : RoomWords). w.name) IsRoom rooms_of n words t
 rooms_taken = section_taken room spelled_room add_room (λ s. s.names) (λ w. w.name) IsRoom (λ s w. refl) no_rooms rooms_of rooms_made room_taken
 
--- courses, with the numbers that their teachers have at the end
+-- courses, with the final numbers of their teachers
 abbrev pub courses_of : List CourseWords → Courses
 courses_of given = record { names = course_names given; facts = map (facts_of (teacher_names given)) given; teachers = teacher_names given }
 
--- courses are their three lists
+-- two sections are equal if their three lists are
 courses_same : (n n' : List (List ℕ)) (f f' : List CourseFacts) (t t' : List (List ℕ)) → n ≡ n' → f ≡ f' → t ≡ t' → ◌≡◌ {A = Courses} (record { names = n; facts = f; teachers = t }) (record { names = n'; facts = f'; teachers = t' })
 courses_same n n' f f' t t' e0 e1 e2 = rw (e0, e1, e2) refl
 
@@ -52,7 +52,7 @@ teachers_added : (given : List CourseWords) (s : Courses) → (fold add_course s
 teachers_added [] s = refl
 teachers_added (w ∷ given) s = teachers_added given (add_course s w)
 
--- their facts, with the numbers that the teachers have in the end
+-- the facts of courses, with the final numbers of their teachers
 facts_added : (given : List CourseWords) (s : Courses) (teachers : List (List ℕ)) → fold (with_new bytes_eq) s.teachers (map (λ w. w.teacher) given) ≡ teachers
     → (fold add_course s given).facts ≡ s.facts ++ map (facts_of teachers) given
 facts_added [] s teachers h = sym (append-nil s.facts)
@@ -68,7 +68,7 @@ courses_made given =
     let teachers : fold (with_new bytes_eq) [] (map (λ (w : CourseWords). w.teacher) given) ≡ teacher_names given = grown_once bytes_eq bytes_sound (map (λ w. w.teacher) given) in
     courses_same _ _ _ _ _ _ (list_grown add_course (λ s. s.names) (λ w. w.name) (λ s w. refl) given no_courses) (facts_added given no_courses (teacher_names given) teachers) (teachers_added given no_courses ∙ teachers)
 
--- courses of distinct names fill their section, and what fills it is such courses
+-- courses with distinct names fill their section, and what fills it is such courses
 pub courses_fill : (given : List CourseWords) → AreDistinct (course_names given) → Each IsCourse given → Fills (times course (length given) no_courses) (flat_map spelled_course given) (courses_of given)
 courses_fill = section_fills course spelled_course add_course (λ s. s.names) (λ w. w.name) IsCourse (λ s w. refl) no_courses courses_of courses_made course_fills
 
@@ -81,7 +81,7 @@ module _ (names : List (List ℕ)) where
   abbrev pub curricula_of : List CurriculumWords → Curricula
   curricula_of given = record { names = curriculum_names given; members = map (members_of names) given }
 
-  -- curricula are their two lists
+  -- two sections are equal if their two lists are
   curricula_same : (n n' : List (List ℕ)) (m m' : List (List ℕ)) → n ≡ n' → m ≡ m' → ◌≡◌ {A = Curricula} (record { names = n; members = m }) (record { names = n'; members = m' })
   curricula_same n n' m m' e0 e1 = rw (e0, e1) refl
 
@@ -89,7 +89,7 @@ module _ (names : List (List ℕ)) where
   curricula_made : (given : List CurriculumWords) → fold (add_curriculum names) no_curricula given ≡ curricula_of given
   curricula_made given = curricula_same _ _ _ _ (list_grown (add_curriculum names) (λ s. s.names) (λ w. w.name) (λ s w. refl) given no_curricula) (list_grown (add_curriculum names) (λ s. s.members) (members_of names) (λ s w. refl) given no_curricula)
 
-  -- curricula of distinct names fill their section, and what fills it is such curricula
+  -- curricula with distinct names fill their section, and what fills it is such curricula
   pub curricula_fill : (given : List CurriculumWords) → AreDistinct (curriculum_names given) → Each (IsCurriculum names) given
       → Fills (times (curriculum names) (length given) no_curricula) (flat_map spelled_curriculum given) (curricula_of given)
   curricula_fill = section_fills (curriculum names) spelled_curriculum (add_curriculum names) (λ s. s.names) (λ w. w.name) (IsCurriculum names) (λ s w. refl) no_curricula curricula_of curricula_made (curriculum_fills names)
@@ -119,7 +119,7 @@ module _ (names : List (List ℕ)) where
         let r = entries_taken (unavailability names days periods) spelled_pair (add_pair names days periods) (FitsPair names days periods) (pair_taken names days periods) n s words t h in
         record { given = r.given; count = r.count; all = r.all; each = each_apart (add_pair names days periods) (IsPair names days periods) r.given s r.fit; gives = r.gives }
 
-    -- a pair's mark is that of a course and a slot just where the pair lists them
+    -- the index of a pair is that of a course and a slot exactly if the pair lists them
     listed : (c s : ℕ) → s < days * periods → (pairs : List PairWords) → Each (IsPair names days periods) pairs
         → list_any (λ p. mark_of names days periods p == c * (days * periods) + s) pairs ≡ list_any (is_listed names periods c s) pairs
     listed c s lt [] each = refl
@@ -132,18 +132,18 @@ module _ (names : List (List ℕ)) where
       abbrev pub table_of : List Bool
       table_of = marked (mark_of names days periods) (replicate (courses * (days * periods)) false) pairs
 
-      -- of so many marks
+      -- it has as many marks as there are courses and slots
       pub table_many : length table_of ≡ courses * (days * periods)
       table_many = marks_many (mark_of names days periods) (courses * (days * periods)) pairs
 
       module _ (each : Each (IsPair names days periods) pairs) where
-        -- it says of each course and slot whether a pair lists them
+        -- it tells for each course and slot whether a pair lists them
         pub table_says : (c s : ℕ) → c < courses → s < days * periods → get_or table_of (c * (days * periods) + s) false ≡ list_any (is_listed names periods c s) pairs
         table_says c s known lt =
             let within : c * (days * periods) + s < courses * (days * periods) = subst (λ n. c * (days * periods) + s < n) (mul_comm (days * periods) courses) (mul-add-lt c (days * periods) s courses known lt) in
             marks_made (mark_of names days periods) (courses * (days * periods)) pairs (c * (days * periods) + s) within ∙ listed c s lt pairs each
 
-        -- a table of its length that says so is the same
+        -- a table of the same length with the same marks is equal
         pub table_same : (table : List Bool) → length table ≡ courses * (days * periods)
             → ((c s : ℕ) → c < courses → s < days * periods → get_or table (c * (days * periods) + s) false ≡ list_any (is_listed names periods c s) pairs) → table_of ≡ table
         table_same table len says = marks_same (mark_of names days periods) (courses * (days * periods)) pairs table len (λ k lt.
@@ -154,7 +154,7 @@ module _ (names : List (List ℕ)) where
 abbrev pub header_of : HeaderWords → Header
 header_of h = record { name = h.name; courses = value h.courses; rooms = value h.rooms; days = value h.days; periods = value h.periods; curricula = value h.curricula; constraints = value h.constraints }
 
--- a header within the limits fills its fourteen places
+-- a header within the limits fills its form
 pub header_fills : (h : HeaderWords) → HeaderObeys h → Fills header (spelled_header h) (header_of h)
 unfolding header two_counts calendar number_up_to period_count number_if fixed any known one ◌>>=◌
 header_fills h o =
@@ -169,7 +169,7 @@ pub record HeaderTaken (words : List (List ℕ)) (x : Header) : Type 0 where
   pub obeys : HeaderObeys given
   pub gives : header_of given ≡ x
 
--- what fills them is such a header
+-- what fills this form is such a header
 pub header_taken : (words : List (List ℕ)) (x : Header) → Fills header words x → HeaderTaken words x
 unfolding header two_counts calendar number_up_to period_count number_if fixed any known one ◌>>=◌
 header_taken ([]) x h = absurd h

@@ -1,4 +1,4 @@
--- The whole text of an instance: what fills its form is what is spelled.
+-- The whole text of an instance: what fills its form is exactly what is spelled.
 use Rattle.std.proofs.Common.{◌≡◌, ℕ, ◌+◌, ◌*◌, ◌<◌, List, [], ◌∷◌, ◌++◌, length, map, flat_map, Bool, false, refl, sym, ap, subst, ◌∙◌}
 use Rattle.std.specs.Prelude.{codes, get_or, replicate}
 use Rattle.std.proofs.lemmas.List.{length-map}
@@ -16,7 +16,7 @@ use Rattle.ctt_text.proofs.FormLaws.{fills_both, bind_case}
 use Rattle.ctt_text.proofs.InstanceSections.{header_of, header_fills, header_taken, rooms_of, rooms_fill, rooms_taken, courses_of, courses_fill, courses_taken, curricula_of, curricula_fill, curricula_taken, pairs_fill, pairs_taken, table_of, table_many, table_says, table_same}
 use Rattle.ctt_text.proofs.PlaceLaws.{is_fixed, after_case}
 
--- the instance that given words say, with a table of where courses are unavailable
+-- the instance that the words describe, with a table of where courses are unavailable
 abbrev said : Given → List Bool → Problem
 said g table = problem_of (header_of g.head) (courses_of g.courses) (rooms_of g.rooms) (curricula_of (course_names g.courses) g.curricula) table
 
@@ -30,7 +30,7 @@ periods_of g = value g.head.periods
 abbrev table : Given → List Bool
 table g = table_of (course_names g.courses) (days_of g) (periods_of g) (value g.head.courses) g.pairs
 
--- problems are their fields
+-- problems are equal if their fields are
 problem_same : (n n' : List ℕ) (cn cn' : List (List ℕ)) (c c' : List CourseFacts) (t t' rn rn' : List (List ℕ)) (r r' : List ℕ) (qn qn' q q' : List (List ℕ)) (d d' p p' : ℕ) (u : List Bool)
     → n ≡ n' → cn ≡ cn' → c ≡ c' → t ≡ t' → rn ≡ rn' → r ≡ r' → qn ≡ qn' → q ≡ q' → d ≡ d' → p ≡ p'
     → ◌≡◌ {A = Problem}
@@ -38,7 +38,7 @@ problem_same : (n n' : List ℕ) (cn cn' : List (List ℕ)) (c c' : List CourseF
     (record { name = n'; course_names = cn'; courses = c'; teacher_names = t'; room_names = rn'; capacities = r'; curriculum_names = qn'; curricula = q'; days = d'; periods = p'; unavailable = u; barred = replicate (length c' * length r') false })
 problem_same n n' cn cn' c c' t t' rn rn' r r' qn qn' q q' d d' p p' u e0 e1 e2 e3 e4 e5 e6 e7 e8 e9 = rw (e0, e1, e2, e3, e4, e5, e6, e7, e8, e9) refl
 
--- what given words say is all but the table
+-- the words determine all but the table
 is_said : (g : Given) (i : Problem) → SaysInstance g i → i ≡ said g i.unavailable
 is_said g i says = ap (λ b. record i { barred = b }) says.barred ∙ problem_same _ _ _ _ _ _ _ _ _ _ _ _ _ _ _ _ _ _ _ _ i.unavailable
     says.name
@@ -52,7 +52,7 @@ is_said g i says = ap (λ b. record i { barred = b }) says.barred ∙ problem_sa
     says.days
     says.periods
 
--- so many courses
+-- the number of courses
 courses_many : (g : Given) → Obey g → length (said g (table g)).courses ≡ value g.head.courses
 courses_many g o = length-map g.courses _ ∙ sym o.courses_counted
 
@@ -60,7 +60,7 @@ courses_many g o = length-map g.courses _ ∙ sym o.courses_counted
 looked_up : (i : Problem) (c s : ℕ) → s < i.days * i.periods → is_unavailable i c s ≡ get_or i.unavailable (c * (i.days * i.periods) + s) false
 looked_up i c s lt = rw (lt-ltb s (i.days * i.periods) lt) refl
 
--- the table that the pairs make is the one that the words say
+-- the table that the pairs make is the one that the words describe
 table_is_said : (g : Given) (o : Obey g) (marks : List Bool) → SaysInstance g (said g marks) → table g ≡ marks
 table_is_said g o marks says =
     let many : length (said g marks).courses ≡ value g.head.courses = courses_many g o in
@@ -68,7 +68,7 @@ table_is_said g o marks says =
     (says.marks ∙ ap (λ n. n * (days_of g * periods_of g)) many)
     (λ c s known lt. sym (looked_up (said g marks) c s lt) ∙ says.unavailable c s (subst (λ n. c < n) (sym many) known) lt)
 
--- the given words say the instance with the table that their pairs make
+-- the words describe the instance with the table that their pairs make
 says_table : (g : Given) → Obey g → SaysInstance g (said g (table g))
 says_table g o =
     let many : length (said g (table g)).courses ≡ value g.head.courses = courses_many g o in
@@ -114,7 +114,7 @@ spelled_fills g o =
           ),
     )
 
--- what spells an instance fills the form with it
+-- words that spell an instance fill the form with it
 pub instance_fills : (g : Given) → Obey g → (i : Problem) → SaysInstance g i → Fills instance (spelled g) i
 instance_fills g o i says =
     let is : i ≡ said g i.unavailable = is_said g i says in
@@ -145,7 +145,7 @@ end_taken x i [] h = absurd h
 end_taken x i (w ∷ []) h = (ap (λ q. q ∷ []) (is_fixed Expected w (codes "END.") h.0), h.1)
 end_taken x i (w ∷ more ∷ ws) h = absurd h.1
 
--- the parts of a text, one behind another
+-- the parts of a text, one after another
 all_parts : (words us0 us1 us2 us3 us4 vs0 vs1 vs2 vs3 vs4 ws0 ws1 ws2 ws3 ws4 : List (List ℕ))
     → words ≡ us0 ++ vs0 → vs0 ≡ codes "COURSES:" ∷ us1 ++ vs1 → vs1 ≡ codes "ROOMS:" ∷ us2 ++ vs2 → vs2 ≡ codes "CURRICULA:" ∷ us3 ++ vs3 → vs3 ≡ codes "UNAVAILABILITY_CONSTRAINTS:" ∷ us4 ++ vs4 → vs4 ≡ codes "END." ∷ []
     → us0 ≡ ws0 → us1 ≡ ws1 → us2 ≡ ws2 → us3 ≡ ws3 → us4 ≡ ws4

@@ -1,4 +1,5 @@
--- Bytes that are seen a vector at a time: the mask of those that pass a test, and the run before the first of them.
+-- Bytes tested a vector at a time: the mask of those that pass a test, and the run before the first
+-- of them.
 use Rattle.std.proofs.Common.{◌≡◌, ℕ, ◌+◌, ◌-◌, ◌*◌, ◌%◌, ◌^◌, ◌<◌, ◌≤◌, eqb, ltb, Bool, true, false, not, cond, List, [], ◌∷◌, map, length, drop, ◌++◌, replicate, Fits, w8, refl, ap, ap₂, ◌∙◌, sym, subst, arith, zero-add}
 use Rattle.std.specs.Prelude.{bit_or}
 use Rattle.std.specs.List.{prefix_len}
@@ -10,11 +11,11 @@ use Rattle.std.proofs.lemmas.List.Sums.{prefix_len-le-length}
 use lib.Lanes.{zip2, Each1, mask_l, top, chunk}
 use lib.Count.{count_trailing_zeros}
 
--- what a test leaves in a lane
+-- the result of a test in a lane
 abbrev pub set_if : Bool → ℕ
 set_if b = cond b 255 0
 
--- a space, or one of the five bytes from 9 on, by which all before it come last
+-- a space, or one of the five bytes from 9 on; the subtraction wraps smaller bytes to large ones
 abbrev pub blank_lane : ℕ → ℕ
 blank_lane x = bit_or (set_if (eqb x 32)) (set_if (ltb ((x + (256 - 9)) % 256) 5))
 
@@ -39,7 +40,7 @@ each_byte : (f : ℕ → ℕ) (p : ℕ → Bool) → agree_below (λ x. top 7 (f
 each_byte f p all [] fits = refl
 each_byte f p all (x ∷ xs) fits = ap₂ (λ a b. a ∷ b) (agree_below_at (λ x. top 7 (f x)) p 256 x all fits.0.fits) (each_byte f p all xs fits.1)
 
--- what is computed lane by lane is held to a test at each of the 256 bytes
+-- what is computed lane by lane is compared with a test of each of the 256 bytes
 pub mask_is : (f : ℕ → ℕ) (p : ℕ → Bool) (xs z : List ℕ) → length xs ≤ 64 → Each1 (Fits w8) xs → z ≡ map f xs → agree_below (λ x. top 7 (f x)) p 256 ≡ true
     → mask_l (map (top 7) z) % 2 ^ 64 ≡ mask_l (map p xs)
 mask_is f p xs z short fits e all =
@@ -57,7 +58,7 @@ module _ (p : ℕ → Bool) where
   all_fail [] e = refl
   all_fail (x ∷ xs) e = none_passes (p x) _ (length xs) _ (prefix_len-le-length fails xs) (omega arith) (all_fail xs)
 
-  -- the run before the first byte that passes, by the first n bytes and those behind them
+  -- the run before the first byte that passes, from the first n bytes and the rest
   split : (xs : List ℕ) (n : ℕ) → prefix_len fails xs ≡ cond (eqb (prefix_len fails (chunk 0 n xs)) (length (chunk 0 n xs))) (length (chunk 0 n xs) + prefix_len fails (drop n xs)) (prefix_len fails (chunk 0 n xs))
   split xs n = ap (prefix_len fails) (chunk-drop 0 n xs ∙ ap (λ k. chunk 0 n xs ++ drop k xs) (zero-add n)) ∙ prefix_len-append fails (chunk 0 n xs) (drop n xs)
 

@@ -1,4 +1,4 @@
--- The last sections of an instance, read as one.
+-- The last sections of an instance, parsed as one.
 use Rattle.std.proofs.Common.{◌≡◌, List, Bool, Result, Ok, Err, refl, sym, ap, ◌∙◌, codes}
 use Rattle.ctt_text.specs.Left.{Left}
 use Rattle.ctt_text.specs.Forms.{Form, done, ◌>>=◌, times}
@@ -11,7 +11,7 @@ use Rattle.ctt_text.specs.Problem.{Problem}
 use Rattle.ctt_text.specs.LastSections.{last_sections}
 use Rattle.ctt_text.proofs.Steps.{and_then, read_bind, read_done}
 
--- one form reads what another one does, and makes something else of it
+-- one form parses the same words as another, and makes another value of them
 Makes : {A B : Type 0} → (A → B) → Form ReadFault B → Form ReadFault A → Type 0
 Makes g other form = (left : Left) → reading missing other left ≡ and_then (reading missing form left) (λ a rest. Ok (g a, rest))
 
@@ -27,7 +27,7 @@ behind {A} {B} {C} g form other next each left = read_bind missing form other le
     by (Ok x) = each x.0 x.1
     by (Err e) = refl
 
--- what stands behind the rooms makes the whole
+-- the sections after the rooms complete the whole
 pub last_read : (head : Header) (courses : Courses) (rooms : Rooms) (left : Left)
     → reading missing (after Expected (codes "CURRICULA:") (times (curriculum courses.names) head.curricula no_curricula) >>= λ curricula. after Expected (codes "UNAVAILABILITY_CONSTRAINTS:") (times (unavailability courses.names head.days head.periods) head.constraints (all_available head)) >>= λ unavailable. fixed Expected (codes "END.") >>= λ end. done (problem_of head courses rooms curricula unavailable)) left
     ≡ and_then (reading missing (last_sections head courses.names) left) (λ last rest. Ok (problem_of head courses rooms last.0 last.1, rest))

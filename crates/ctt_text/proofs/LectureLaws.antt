@@ -1,4 +1,4 @@
--- Lists of lectures: one more in its place, and the ascending list of given ones.
+-- Lists of lectures: inserting a lecture, and the ascending list of given lectures.
 use Rattle.std.proofs.Common.{◌≡◌, ◌⊎◌, inl, inr, ℕ, List, [], ◌∷◌, Bool, true, false, not, ◌&&◌, ◌||◌, ◌==◌, refl, sym, ap, subst, ◌∙◌, arith, true≢false, ⊎_elim}
 use Rattle.std.specs.List.{list_any, AllByRecursion as Each}
 use Rattle.std.proofs.lemmas.Bool.{and_parts, or_cases, or_left, or_right, or_parts, eqb-true, eq-eqb}
@@ -10,7 +10,7 @@ use Rattle.ctt_text.specs.SolutionText.{SameLectures}
 use Rattle.ctt_text.proofs.TableLemmas.{bool_case}
 use Rattle.ctt_text.proofs.TimetableLemmas.{before_trans, Each-map}
 
--- what is in a list with one more element
+-- membership in a list with one more element
 pub put_any : {X : Type 0} (lt : X → X → Bool) (p : X → Bool) (x : X) (ys : List X) → list_any p (put lt x ys) ≡ (p x || list_any p ys)
 put_any lt p x [] = refl
 put_any lt p x (y ∷ ys) = bool_case _ (lt x y) (λ is. rw is refl) (λ isnt. rw isnt (ap (λ b. p y || b) (put_any lt p x ys) ∙ turn (p y) (p x) (list_any p ys)))
@@ -20,7 +20,7 @@ put_any lt p x (y ∷ ys) = bool_case _ (lt x y) (λ is. rw is refl) (λ isnt. r
     turn true false c = refl
     turn false b c = refl
 
--- what holds of each, and of one more
+-- what holds of each element and of the new one
 pub Each-put : {X : Type 0} (P : X → Type 0) (lt : X → X → Bool) (x : X) (ys : List X) → P x → Each P ys → Each P (put lt x ys)
 Each-put P lt x [] h each = (h, tt)
 Each-put P lt x (y ∷ ys) h each = bool_case _ (lt x y) (λ is. rw is (h, each)) (λ isnt. rw isnt (each.0, Each-put P lt x ys h each.1))
@@ -38,7 +38,7 @@ before_either a b h k = grind (arith, nat_tests)
 pub before_once : (a b : Placed) → before a b ≡ true → before b a ≡ false
 before_once a b h = grind (arith, nat_tests)
 
--- one more lecture, where its course had none in its slot, leaves a list ascending
+-- inserting a lecture keeps a list ascending, if its course has none in its slot
 pub with_ascends : (t : List Placed) (l : Placed) → Ascending t → has_lecture l.course l.slot t ≡ false → Ascending (with l t)
 with_ascends [] l up new = (tt, tt)
 with_ascends (m ∷ t) l up new =
@@ -47,7 +47,7 @@ with_ascends (m ∷ t) l up new =
     (λ is. rw is ((is, Each-map (λ x. before m x ≡ true) (λ x. before l x ≡ true) (λ x h. before_trans l m x is h) t up.0), up))
     (λ isnt. rw isnt (Each-put (λ x. before m x ≡ true) before l t (before_either l m isnt apart.0) up.0, with_ascends t l up.1 apart.1))
 
--- a lecture as what is looked for
+-- a test for one lecture
 exactly : Placed → Placed → Bool
 exactly a b = (b.course == a.course && b.slot == a.slot) && a.room == b.room
 
@@ -69,12 +69,12 @@ exactly_after : (a b : Placed) → before a b ≡ true → exactly a b ≡ false
 unfolding exactly
 exactly_after a b h = rw (before_apart a b h) refl
 
--- what is found, with what holds of each
+-- an element that is found, with what holds of each element
 find_each : (C : Type 0) (P : Placed → Type 0) (p : Placed → Bool) (ls : List Placed) → Each P ls → list_any p ls ≡ true → ((l : Placed) → P l → p l ≡ true → C) → C
 find_each C P p [] each h then = absurd (true≢false (sym h))
 find_each C P p (l ∷ ls) each h then = ⊎_elim (λ is. then l each.0 is) (λ more. find_each C P p ls each.1 more then) (or_cases (p l) (list_any p ls) h)
 
--- a lecture that is looked for in a list stands at its head, or after it
+-- a lecture that is in a list is its head or is in its tail
 head_or_after : (a b : Placed) (u : List Placed) → Ascending (b ∷ u) → list_any (exactly a) (b ∷ u) ≡ true → (a ≡ b) ⊎ (before b a ≡ true)
 head_or_after a b u up found = by (or_cases (exactly a b) (list_any (exactly a) u) found)
   where
@@ -82,7 +82,7 @@ head_or_after a b u up found = by (or_cases (exactly a b) (list_any (exactly a) 
     by (inl is) = inl (exactly_is a b is)
     by (inr more) = find_each ((a ≡ b) ⊎ (before b a ≡ true)) (λ x. before b x ≡ true) (exactly a) u up.0 more (λ x after is. inr (ap (λ q. before b q) (exactly_is a x is) ∙ after))
 
--- ascending lists of the same lectures have one head
+-- ascending lists of the same lectures have the same head
 same_heads : (a b : Placed) (t u : List Placed) → Ascending (a ∷ t) → Ascending (b ∷ u) → SameLectures (a ∷ t) (b ∷ u) → a ≡ b
 same_heads a b t u up up' same =
     by (head_or_after a b u up' (sym (same (exactly a)) ∙ ap (λ x. x || list_any (exactly a) t) (exactly_self a))) (head_or_after b a t up (same (exactly b) ∙ ap (λ x. x || list_any (exactly b) u) (exactly_self b)))
@@ -92,7 +92,7 @@ same_heads a b t u up up' same =
     by (inr b_first) (inl e) = sym e
     by (inr b_first) (inr a_first) = absurd (true≢false (sym b_first ∙ before_once a b a_first))
 
--- and those behind the head are the same
+-- the tails have the same lectures too
 others_same : (a : Placed) (p : Placed → Bool) (ls : List Placed) → Each (λ m. before a m ≡ true) ls → list_any (λ x. p x && not (exactly a x)) ls ≡ list_any p ls
 others_same a p [] each = refl
 others_same a p (l ∷ ls) each = rw (exactly_after a l each.0, others_same a p ls each.1) (stays (p l) (list_any p ls))
@@ -111,7 +111,7 @@ same_tails a t u each each' same p =
     drops true c = refl
     drops false c = refl
 
--- ascending lists of the same lectures are one list
+-- ascending lists of the same lectures are equal
 pub one_list : (t u : List Placed) → Ascending t → Ascending u → SameLectures t u → t ≡ u
 one_list [] [] up up' same = refl
 one_list [] (b ∷ u) up up' same = absurd (true≢false (sym (same (λ _. true))))
@@ -123,7 +123,7 @@ one_list (a ∷ t) (b ∷ u) up up' same =
     let tail : t ≡ u = one_list t u up.1 up'.1 (same_tails a t u up.0 up_a.0 same_a) in
     ap (λ x. x ∷ t) head ∙ ap (λ x. b ∷ x) tail
 
--- what holds of each of a list holds of each lecture that is found there
+-- what holds of each element of a list holds of each lecture that is found in it
 pub Each-found : (P : Placed → Type 0) (ls : List Placed) → Each P ls → (t : List Placed) → ((p : Placed → Bool) → list_any p t ≡ true → list_any p ls ≡ true) → Each P t
 Each-found P ls each [] found = tt
 Each-found P ls each (a ∷ t) found = (

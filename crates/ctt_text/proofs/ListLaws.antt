@@ -1,4 +1,4 @@
--- Lists of which each element is taken once, and the places of names.
+-- Lists of distinct elements, and the indices of names.
 use Rattle.std.proofs.Common.{◌≡◌, ℕ, zero, suc, get_or, ◌+◌, ◌≤◌, ◌<◌, List, [], ◌∷◌, ◌++◌, length, map, Bool, true, false, cond, not, ◌||◌, refl, sym, ap, ◌∙◌, append_assoc, arith}
 use Rattle.std.specs.Prelude.{fold, filter}
 use Rattle.std.specs.List.{list_any, position_or_len, AllByRecursion as Each}
@@ -14,7 +14,7 @@ use Rattle.ctt_text.proofs.NameLemmas.{any_by_place}
 use Rattle.ctt_text.proofs.TableLemmas.{bool_case}
 use Rattle.ctt_text.proofs.TimetableLemmas.{Each-map}
 
--- what holds of each that a function gives, and of each in a part of a list
+-- what holds of each value of a function, and of each element of a sublist
 pub Each-mapped : {X Y : Type 0} (P : Y → Type 0) (f : X → Y) (xs : List X) → Each (λ x. P (f x)) xs → Each P (map f xs)
 Each-mapped P f [] each = tt
 Each-mapped P f (x ∷ xs) each = (each.0, Each-mapped P f xs each.1)
@@ -27,22 +27,22 @@ pub Each-rest : {X : Type 0} (P : X → Type 0) (xs ys : List X) → Each P (xs 
 Each-rest P [] ys each = each
 Each-rest P (x ∷ xs) ys each = Each-rest P xs ys each.1
 
--- what holds of each holds of those that a filter keeps
+-- what holds of each element holds after a filter
 Each-filter : {X : Type 0} (P : X → Type 0) (test : X → Bool) (xs : List X) → Each P xs → Each P (filter test xs)
 Each-filter P test [] each = tt
 Each-filter P test (x ∷ xs) each = bool_case _ (test x) (λ is. rw is (each.0, Each-filter P test xs each.1)) (λ isnt. rw isnt (Each-filter P test xs each.1))
 
--- what holds of each two holds of those that a filter keeps
+-- what holds of each pair of elements holds after a filter
 Pairwise-filter : {X : Type 0} (R : X → X → Type 0) (test : X → Bool) (xs : List X) → Pairwise R xs → Pairwise R (filter test xs)
 Pairwise-filter R test [] pairs = tt
 Pairwise-filter R test (x ∷ xs) pairs = bool_case _ (test x) (λ is. rw is (Each-filter (R x) test xs pairs.0, Pairwise-filter R test xs pairs.1)) (λ isnt. rw isnt (Pairwise-filter R test xs pairs.1))
 
--- those that a filter keeps pass its test
+-- the elements that a filter leaves pass its test
 Each-passes : {X : Type 0} (test : X → Bool) (xs : List X) → Each (λ x. test x ≡ true) (filter test xs)
 Each-passes test [] = tt
 Each-passes test (x ∷ xs) = bool_case _ (test x) (λ is. rw is (is, Each-passes test xs)) (λ isnt. rw isnt (Each-passes test xs))
 
--- they are no more than there were
+-- they are no more than before
 length-filter : {X : Type 0} (test : X → Bool) (xs : List X) → length (filter test xs) ≤ length xs
 length-filter test [] = omega arith
 length-filter test (x ∷ xs) =
@@ -50,15 +50,15 @@ length-filter test (x ∷ xs) =
     bool_case _ (test x) (λ is. rw is (omega arith)) (λ isnt. rw isnt (omega arith))
 
 module _ {X : Type 0} (same : X → X → Bool) (sound : (x y : X) → same x y ≡ true → x ≡ y) where
-  -- those that s has not
+  -- the elements that are not in s
   abbrev left : List X → List X → List X
   left s xs = filter (λ y. not (list_any (same y) s)) xs
 
-  -- those that are not x
+  -- the elements other than x
   abbrev others : X → List X → List X
   others x xs = filter (λ y. not (same y x)) xs
 
-  -- what is there already need not be taken out twice
+  -- an element that is in the list already need not be removed again
   twice : (s : List X) (x : X) → list_any (same x) s ≡ true → (xs : List X) → left s xs ≡ left s (others x xs)
   twice s x there [] = refl
   twice s x there (y ∷ ys) = bool_case _ (same y x)
@@ -67,7 +67,7 @@ module _ {X : Type 0} (same : X → X → Bool) (sound : (x y : X) → same x y 
       rw (is, gone) (twice s x there ys))
       (λ isnt. rw isnt (ap (λ r. cond (not (list_any (same y) s)) (y ∷ r) r) (twice s x there ys)))
 
-  -- one more to be taken out
+  -- one more element to be removed
   one_out : (s : List X) (x : X) (xs : List X) → left (s ++ x ∷ []) xs ≡ left s (others x xs)
   one_out s x [] = refl
   one_out s x (y ∷ ys) = bool_case _ (same y x)
@@ -86,7 +86,7 @@ module _ {X : Type 0} (same : X → X → Bool) (sound : (x y : X) → same x y 
       not_at_end true b h = refl
       not_at_end false b h = rw h refl
 
-  -- a list that grew by what was new in xs, has those of xs that it had not
+  -- a list that grew by the new elements of xs has those of xs that it did not have
   pub grown : (xs s : List X) → fold (with_new same) s xs ≡ s ++ left s (each_once same xs)
   grown [] s = sym (append-nil s)
   grown (x ∷ xs) s = bool_case _ (list_any (same x) s)
@@ -98,16 +98,16 @@ module _ {X : Type 0} (same : X → X → Bool) (sound : (x y : X) → same x y 
   all_left [] = refl
   all_left (x ∷ xs) = ap (λ r. x ∷ r) (all_left xs)
 
-  -- a list that grew from none has each once
+  -- a list that grew from the empty list has each element once
   pub grown_once : (xs : List X) → fold (with_new same) [] xs ≡ each_once same xs
   grown_once xs = grown xs [] ∙ all_left (each_once same xs)
 
-  -- what holds of each holds of those that are taken
+  -- what holds of each element holds of the distinct elements
   pub once_each : (P : X → Type 0) (xs : List X) → Each P xs → Each P (each_once same xs)
   once_each P [] each = tt
   once_each P (x ∷ xs) each = (each.0, Each-filter P (λ y. not (same y x)) (each_once same xs) (once_each P xs each.1))
 
-  -- two that differ do so either way
+  -- inequality is symmetric
   pub apart_turned : (x y : X) → same x y ≡ false → same y x ≡ false
   apart_turned x y h = bool_case _ (same y x)
       (λ is.
@@ -115,7 +115,7 @@ module _ {X : Type 0} (same : X → X → Bool) (sound : (x y : X) → same x y 
       absurd (both_ways (same x y) h (ap (λ q. same x q) e ∙ ap (λ q. same q x) (sym e) ∙ is)))
       (λ isnt. isnt)
 
-  -- those that are taken differ
+  -- the distinct elements differ from each other
   pub once_apart : (xs : List X) → Pairwise (λ x y. same x y ≡ false) (each_once same xs)
   once_apart [] = tt
   once_apart (x ∷ xs) = (
@@ -123,7 +123,7 @@ module _ {X : Type 0} (same : X → X → Bool) (sound : (x y : X) → same x y 
     Pairwise-filter (λ x y. same x y ≡ false) (λ y. not (same y x)) (each_once same xs) (once_apart xs),
   )
 
-  -- what another than x is found among, it is found among without x
+  -- an element other than x is found also after x is removed
   found_without : (x z : X) → same z x ≡ false → (ys : List X) → list_any (same z) (others x ys) ≡ list_any (same z) ys
   found_without x z isnt [] = refl
   found_without x z isnt (y ∷ ys) = bool_case _ (same y x)
@@ -132,19 +132,19 @@ module _ {X : Type 0} (same : X → X → Bool) (sound : (x y : X) → same x y 
       rw (gone, other) (found_without x z isnt ys))
       (λ stays. rw stays (ap (λ b. same z y || b) (found_without x z isnt ys)))
 
-  -- each is among those that are taken
+  -- each element is among the distinct elements
   pub once_found : (xs : List X) (z : X) → list_any (same z) (each_once same xs) ≡ list_any (same z) xs
   once_found [] z = refl
   once_found (x ∷ xs) z = bool_case _ (same z x)
       (λ is. rw is refl)
       (λ isnt. rw isnt (found_without x z isnt (each_once same xs) ∙ once_found xs z))
 
-  -- they are no more than there were
+  -- they are no more than before
   pub once_few : (xs : List X) → length (each_once same xs) ≤ length xs
   once_few [] = omega arith
   once_few (x ∷ xs) = omega (arith, length-filter (λ y. not (same y x)) (each_once same xs), once_few xs)
 
-  -- what passes keeps its place, or comes before it, where others are left out
+  -- the index of an element stays the same or decreases if others are removed
   place_left : (p q : X → Bool) → ((y : X) → p y ≡ true → q y ≡ true) → (ys : List X) → position_or_len p (filter q ys) ≤ position_or_len p ys
   place_left p q stays [] = omega arith
   place_left p q stays (y ∷ ys) =
@@ -153,7 +153,7 @@ module _ {X : Type 0} (same : X → X → Bool) (sound : (x y : X) → same x y 
       (λ is. rw (stays y is, is) (omega arith))
       (λ isnt. bool_case _ (q y) (λ kept. rw (kept, isnt) (omega (arith, rest))) (λ gone. rw (gone, isnt) (omega (arith, rest))))
 
-  -- one that is taken is no later than where it was
+  -- the index of a distinct element is at most its first index in the list
   pub once_place : ((x : X) → same x x ≡ true) → (d : X) (xs : List X) (k : ℕ) → k < length xs → position_or_len (same (get_or xs k d)) (each_once same xs) ≤ k
   once_place itself d [] k lt = absurd (omega (arith, lt))
   once_place itself d (x ∷ xs) zero lt = rw (itself x) (omega arith)
@@ -166,11 +166,11 @@ module _ {X : Type 0} (same : X → X → Bool) (sound : (x y : X) → same x y 
       let stays : (y : X) → same z y ≡ true → not (same y x) ≡ true = λ y is. ap (λ q. not (same q x)) (sym (sound z y is)) ∙ ap not isnt in
       rw isnt (omega (arith, before, place_left (same z) (λ y. not (same y x)) stays (each_once same xs))))
 
--- the place of what is found is a place of the list
+-- the index of an element that is found is within the list
 pub place_below : {X : Type 0} (test : X → Bool) (xs : List X) → list_any test xs ≡ true → position_or_len test xs < length xs
 place_below test xs h = ltb-true (position_or_len test xs) (length xs) (any_by_place test xs ∙ h)
 
--- the place of a name stays when names are added behind it
+-- the index of a name is unchanged if names are appended
 place_kept : {X : Type 0} (test : X → Bool) (xs ys : List X) → list_any test xs ≡ true → position_or_len test (xs ++ ys) ≡ position_or_len test xs
 place_kept test [] ys h = absurd (true≢false (sym h))
 place_kept test (x ∷ xs) ys h = by (test x) h (place_kept test xs ys)
@@ -180,7 +180,7 @@ place_kept test (x ∷ xs) ys h = by (test x) h (place_kept test xs ys)
     by true h rest = refl
     by false h rest = ap (λ n. 1 + n) (rest h)
 
--- a new name stands where the names before it end
+-- the index of a new name is the length of the list before it
 pub place_new : {X : Type 0} (test : X → Bool) (xs : List X) (y : X) (ys : List X) → list_any test xs ≡ false → test y ≡ true → position_or_len test (xs ++ y ∷ ys) ≡ position_or_len test xs
 place_new test [] y ys h is = rw is refl
 place_new test (x ∷ xs) y ys h is = by (test x) h (λ k. place_new test xs y ys k is)
@@ -190,14 +190,14 @@ place_new test (x ∷ xs) y ys h is = by (test x) h (λ k. place_new test xs y y
     by true h rest = refl
     by false h rest = ap (λ n. 1 + n) (rest h)
 
--- the test of bytes is true of equal bytes alone
+-- bytes_eq is true only for equal lists
 pub same_bytes : (xs : List ℕ) → bytes_eq xs xs ≡ true
 same_bytes xs = (bytes_eq-Decides xs xs).1 refl
 
 pub bytes_sound : (xs ys : List ℕ) → bytes_eq xs ys ≡ true → xs ≡ ys
 bytes_sound xs ys h = (bytes_eq-Decides xs ys).0 h
 
--- each name is among them
+-- each name is found among the names
 pub each_among : (names : List (List ℕ)) → Each (λ name. is_among names name ≡ true) names
 each_among [] = tt
 each_among (name ∷ names) = (
@@ -205,7 +205,7 @@ each_among (name ∷ names) = (
   Each-map (λ n. is_among names n ≡ true) (λ n. is_among (name ∷ names) n ≡ true) (λ n h. or_right (bytes_eq n name) (is_among names n) h) names (each_among names),
 )
 
--- the number of a name, once it is given, is its number among all
+-- the number of a name is unchanged in the list of all names
 pub place_grown : (name : List ℕ) (names more : List (List ℕ)) → place_of (fold (with_new bytes_eq) (with_new bytes_eq names name) more) name ≡ place_of names name
 place_grown name names more = bool_case _ (is_among names name)
     (λ there. rw there (ap (λ q. place_of q name) (grown bytes_eq bytes_sound more names) ∙ place_kept (bytes_eq name) names _ there))

@@ -26,7 +26,7 @@ pub none_marked : (k n : ℕ) → is_marked (replicate k 0) n ≡ false
 unfolding is_marked
 none_marked k n = rw (all_alike zero k (n / 64), bit_at-zero (n % 64)) refl
 
--- words of zeros behind others mark nothing more
+-- words of zeros after others add no marks
 left_alike : {X : Type 0} (x : X) (m k n : ℕ) → get_or (drop m (replicate k x)) n x ≡ x
 left_alike x zero k n = all_alike x k n
 left_alike x (suc m) zero n = refl
@@ -60,7 +60,7 @@ past_words words n past = rw (get_or_past words (n / 64) 0 past, bit_at-zero (n 
 not_below : (n m : ℕ) → nat_lt n m ≡ false → m ≤ n
 not_below n m h = grind (arith, nat_tests)
 
--- two numbers are one where their words and their bits are
+-- two numbers are equal if their words and their bits are
 pub same_number : (m n : ℕ) → n / 64 ≡ m / 64 → n % 64 ≡ m % 64 → n ≡ m
 same_number m n word bit = sym (div-add-mod' n 64) ∙ rw (word, bit) (div-add-mod' m 64)
 
@@ -147,7 +147,7 @@ module _ (words : List ℕ) (m : ℕ) (size : length words ≡ 32) (small : m < 
       (λ k lt other. bit_at_clear_other w64 w (m % 64) low k lt other) n
       ∙ if_false (n == m) (is_marked words n)
 
--- words after a change of one, if only numbers below 2,000 are marked after it
+-- words after a change of one word, if only numbers below 2,000 are marked then
 pub changed_are : (words : List ℕ) (p w : ℕ) → length words ≡ 32 → ((n : ℕ) → 2000 ≤ n → is_marked (slice_set words p w) n ≡ false) → AreMarks (slice_set words p w)
 changed_are words p w size within = record { size = length-set words p w ∙ size; within = within }
 
@@ -166,7 +166,7 @@ without_mark_are words m are small = changed_are words (m / 64) (bit_and (get_or
     and_no true = refl
     and_no false = refl
 
--- the bits of two words together, and those that are in both
+-- the bits of the union, and those of the intersection, of two words
 pub either_bit : (a b k : ℕ) → (bit_at (bit_or a b) k == 1) ≡ (bit_at a k == 1 || bit_at b k == 1)
 either_bit a b k = ap (λ n. n == 1) (bit_at_or a b k) ∙ bit_case _ a k
     (λ x. rw x (bit_case _ b k (λ y. rw y refl) (λ y. rw y refl)))
@@ -177,7 +177,7 @@ both_bits a b k = ap (λ n. n == 1) (bit_at_and a b k) ∙ bit_case _ a k
     (λ x. rw x (bit_case _ b k (λ y. rw y refl) (λ y. rw y refl)))
     (λ x. rw x (bit_case _ b k (λ y. rw y refl) (λ y. rw y refl)))
 
--- the words below p are those of both
+-- the marks of the other words are added in the words below p
 pub record AddedBelow (old other words : List ℕ) (p : ℕ) : Type 0 where
   pub size : length words ≡ length old
   pub marks : (n : ℕ) → is_marked words n ≡ (is_marked old n || (nat_lt (n / 64) p && is_marked other n))
@@ -210,17 +210,17 @@ added_more old other words p within so_far = record {
     there : (q : ℕ) → (q == p) ≡ false → nat_lt q p ≡ nat_lt q (p + 1)
     there q e = grind (arith, nat_tests)
 
--- how many numbers pass: of numbers that pass the same tests
+-- the count of numbers that pass: equal tests have equal counts
 pub count_below_same : (test other : ℕ → Bool) (n : ℕ) → ((k : ℕ) → k < n → test k ≡ other k) → count_below test n ≡ count_below other n
 count_below_same test other zero same = refl
 count_below_same test other (suc n) same = ap₂ (λ c b. c + cond b 1 0) (count_below_same test other n (λ k lt. same k (omega arith))) (same n (omega arith))
 
--- of a + b numbers
+-- the count for a + b numbers
 pub count_below_add : (test : ℕ → Bool) (a b : ℕ) → count_below test (a + b) ≡ count_below test a + count_below (λ k. test (a + k)) b
 count_below_add test a zero = rw (add-zero a, add-zero (count_below test a)) refl
 count_below_add test a (suc b) = ap (count_below test) (add-suc a b) ∙ ap (λ c. c + cond (test (a + b)) 1 0) (count_below_add test a b) ∙ add_assoc (count_below test a) (count_below (λ k. test (a + k)) b) (cond (test (a + b)) 1 0)
 
--- none passes
+-- the count is 0 if no number passes
 pub count_below_none : (test : ℕ → Bool) (n : ℕ) → ((k : ℕ) → k < n → test k ≡ false) → count_below test n ≡ 0
 count_below_none test zero none = refl
 count_below_none test (suc n) none = ap₂ (λ c b. c + cond b 1 0) (count_below_none test n (λ k lt. none k (omega arith))) (none n (omega arith))
@@ -228,7 +228,7 @@ count_below_none test (suc n) none = ap₂ (λ c b. c + cond b 1 0) (count_below
 count_below_one : (test : ℕ → Bool) → count_below test 1 ≡ cond (test 0) 1 0
 count_below_one test = zero-add (cond (test 0) 1 0)
 
--- the set digits of a number are its bits
+-- the number of set bits of a word is the count of its bits
 pub ones_are : (k w : ℕ) → w < 2 ^ k → ones w ≡ count_below (λ i. bit_at w i == 1) k
 unfolding ones
 ones_are zero w lt = ap ones (zero_is w lt)
@@ -249,7 +249,7 @@ ones_are (suc k) w lt =
     half : (w k : ℕ) → w < 2 ^ suc k → w / 2 < 2 ^ k
     half w k lt = div_below w 2 (2 ^ k) (omega arith) (rw pow-suc at lt)
 
--- both marks of the numbers of one word
+-- whether a number is marked in both
 abbrev pub in_both : List ℕ → List ℕ → ℕ → Bool
 in_both a b n = is_marked a n && is_marked b n
 
@@ -263,7 +263,7 @@ pub marked_in_word : (a : List ℕ) (p i : ℕ) → i < 64 → is_marked a (p * 
 unfolding is_marked
 marked_in_word a p i lt = ap₂ (λ q k. bit_at (get_or a q 0) k == 1) (div-mul-add p 64 i lt) (mod-mul-add p 64 i lt)
 
--- the count so far, with that of one more word
+-- the count so far, plus that of one more word
 pub common_more : (a b : List ℕ) (p count k : ℕ) → k ≡ 64 → bit_and (get_or a p 0) (get_or b p 0) < 2 ^ k → count ≡ count_below (in_both a b) (p * 64)
     → count + ones (bit_and (get_or a p 0) (get_or b p 0)) ≡ count_below (in_both a b) ((p + 1) * 64)
 common_more a b p count k is fits so_far =
@@ -274,12 +274,12 @@ common_more a b p count k is fits so_far =
     more : (p k : ℕ) → k ≡ 64 → p * 64 + k ≡ (p + 1) * 64
     more p k is = omega arith
 
--- none passes from n on
+-- no number from n on passes
 pub count_below_to : (test : ℕ → Bool) (n more : ℕ) → ((k : ℕ) → n ≤ k → test k ≡ false) → count_below test (n + more) ≡ count_below test n
 count_below_to test n more none =
     count_below_add test n more ∙ ap (λ c. count_below test n + c) (count_below_none (λ k. test (n + k)) more (λ k _. none (n + k) (omega arith))) ∙ add-zero (count_below test n)
 
--- 2,000, as a number that does not compute
+-- 2,000, as a number that does not reduce
 limit : ℕ
 limit = 2000
 
@@ -297,7 +297,7 @@ count_marked_above test n many none = ap (count_below test) (sym (up n limit man
     up : (n l : ℕ) → 2000 ≤ n → l ≡ 2000 → l + (n - l) ≡ n
     up n l few is = omega arith
 
--- the least number that passes, where those of the words before one do not
+-- the least number that passes, if no number of the earlier words does
 pub least_in_word : (test : ℕ → Bool) (p w : ℕ) → w < 2 ^ 64 → w ≢ 0 → ((i : ℕ) → i < 64 → test (p * 64 + i) ≡ (bit_at w i == 1))
     → ((n : ℕ) → n / 64 < p → test n ≡ false) → IsLeast test (Some (p * 64 + trailing_zeros w64 w))
 least_in_word test p w fits some bits before =
@@ -371,7 +371,7 @@ from_word a first i lt =
     inside_mask : nat_lt i (first % 64) ≡ false → (bit_at (bit_and (get_or a (first / 64) 0) ((2 ^ 64 - 1) * 2 ^ (first % 64) % 2 ^ 64)) i == 1) ≡ (bit_at (get_or a (first / 64) 0) i == 1)
     inside_mask isnt = masked ∙ ap (λ n. bit_at w i == 1 && n == 1) (bit_at_mask_inside (first % 64) 64 i (not_below i (first % 64) isnt) lt) ∙ and_all (bit_at w i == 1)
 
--- none in the words before one passes
+-- no number of the earlier words passes
 pub none_before : (a : List ℕ) (first n : ℕ) → n / 64 < first / 64 → marked_from first a n ≡ false
 none_before a first n lt = ap (λ b. b && is_marked a n) (before first n (div_apart first n lt))
   where
@@ -381,7 +381,7 @@ none_before a first n lt = ap (λ b. b && is_marked a n) (before first n (div_ap
     before : (first n : ℕ) → n < first → nat_le first n ≡ false
     before first n lt = grind (arith, nat_tests)
 
--- none from 2,000 on passes
+-- no number from 2,000 on passes
 pub none_past : (a : List ℕ) → AreMarks a → (first n : ℕ) → 2000 ≤ n → marked_from first a n ≡ false
 none_past a are first n large = ap (λ b. nat_le first n && b) (are.within n large) ∙ and_none (nat_le first n)
   where
@@ -389,7 +389,7 @@ none_past a are first n large = ap (λ b. nat_le first n && b) (are.within n lar
     and_none true = refl
     and_none false = refl
 
--- none stands between a number and one that is no greater
+-- no number is between a number and one that is not greater
 pub none_between : (a : List ℕ) (first end n : ℕ) → end ≤ first → (nat_lt n end && marked_from first a n) ≡ false
 none_between a first end n le = bool_case _ (nat_lt n end)
     (λ is. rw is (ap (λ b. b && is_marked a n) (before first n ((Decides-ltb n end).0 is) le)))
@@ -398,7 +398,7 @@ none_between a first end n le = bool_case _ (nat_lt n end)
     before : (first n : ℕ) → n < end → end ≤ first → nat_le first n ≡ false
     before first n lt le = grind (arith, nat_tests)
 
--- one of the later words, which all stand from the first number on
+-- one of the later words, whose numbers are all at least the first number
 pub later_word : (a : List ℕ) (first p i : ℕ) → first / 64 < p → i < 64 → marked_from first a (p * 64 + i) ≡ (bit_at (get_or a p 0) i == 1)
 later_word a first p i later lt = ap (λ b. b && is_marked a (p * 64 + i)) (after first p i later) ∙ marked_in_word a p i lt
   where
@@ -411,7 +411,7 @@ later_word a first p i later lt = ap (λ b. b && is_marked a (p * 64 + i)) (afte
 pub none_common : (a b : List ℕ) → AreMarks a → (n : ℕ) → 2000 ≤ n → in_both a b n ≡ false
 none_common a b are n large = ap (λ t. t && is_marked b n) (are.within n large)
 
--- the bits that are in both, in one of the words below p, are bits of this word
+-- the common bits in one of the words below p are bits of this word
 abbrev pub Seen : List ℕ → List ℕ → ℕ → ℕ → Type 0
 Seen a b p common = (n : ℕ) → n / 64 < p → in_both a b n ≡ true → (bit_at common (n % 64) == 1) ≡ true
 
@@ -432,7 +432,7 @@ seen_more a b p common so_far n lt is =
     or_true true = refl
     or_true false = refl
 
--- where that word is 0, nothing is in both
+-- if that word is 0, there are no common bits
 pub none_seen : (a b : List ℕ) (p common : ℕ) → 32 ≤ p → AreMarks a → common ≡ 0 → Seen a b p common → (n : ℕ) → in_both a b n ≡ false
 none_seen a b p common all are none so_far n = bool_case _ (nat_lt (n / 64) p)
     (λ below. bool_case _ (in_both a b n)
@@ -446,11 +446,11 @@ none_seen a b p common all are none so_far n = bool_case _ (nat_lt (n / 64) p)
 pub zero_of : (n : ℕ) → not (n == 0) ≡ false → n ≡ 0
 zero_of n h = grind (arith, nat_tests)
 
--- none is counted where none passes
+-- the count is 0 if no number passes
 pub count_none : (test : ℕ → Bool) → ((n : ℕ) → test n ≡ false) → 0 ≡ count_marked test
 count_none test none = sym (counted test ∙ count_below_none test limit (λ k lt. none k))
 
--- of the numbers below one: the least that passes is the least of them, if it is below
+-- the least number that passes is the least of those below a bound, if it is below the bound
 and_no : (a b : Bool) → b ≡ false → (a && b) ≡ false
 and_no true b e = e
 and_no false b e = refl
@@ -471,12 +471,12 @@ least_within count n = by (nat_lt n count) refl
     by true e = (Decides-ltb n count).0 e
     by false e = tt
 
--- the least that passes a test is the least that passes an equal one
+-- the least number that passes a test is the least that passes an equal test
 pub least_same : (f g : ℕ → Bool) → ((n : ℕ) → f n ≡ g n) → (found : Option ℕ) → IsLeast f found → IsLeast g found
 least_same f g same None h = λ n. sym (same n) ∙ h n
 least_same f g same (Some k) h = (sym (same k) ∙ h.0, λ m lt. sym (same m) ∙ h.1 m lt)
 
--- where none passes from a bound on, the least below the bound is the least of all
+-- if no number from a bound on passes, the least below the bound is the least of all
 pub least_of_all : (test : ℕ → Bool) (end : ℕ) → ((n : ℕ) → test n ≡ true → n < end) → (found : Option ℕ) → IsLeast (λ n. nat_lt n end && test n) found → IsLeast test found
 least_of_all test end within found least = least_same (λ n. nat_lt n end && test n) test (λ n. either n (test n) refl) found least
   where
@@ -484,18 +484,18 @@ least_of_all test end within found least = least_same (λ n. nat_lt n end && tes
     either n true e = let lt : n < end = within n e in let yes : nat_lt n end ≡ true = grind (arith, nat_tests) in ap (λ a. a && test n) yes
     either n false e = and_no (nat_lt n end) (test n) e ∙ sym e
 
--- the same of the marked numbers from one on, where all are below the bound
+-- the same for the marked numbers from one on, if all are below the bound
 pub next_of_all : (marks : ℕ → Bool) (first end : ℕ) → ((n : ℕ) → marks n ≡ true → n < end) → (found : Option ℕ)
     → IsLeast (λ n. nat_lt n end && (nat_le first n && marks n)) found → IsLeast (λ n. nat_le first n && marks n) found
 next_of_all marks first end within = least_of_all (λ n. nat_le first n && marks n) end (λ n h. within n (and_parts (nat_le first n) (marks n) h).1)
 
--- none passes where none of so many words has one
+-- no number passes if none passes in the first words
 pub none_below : (test : ℕ → Bool) (count p : ℕ) → count ≤ p * 64 → ((n : ℕ) → n / 64 < p → test n ≡ false) → (n : ℕ) → (nat_lt n count && test n) ≡ false
 none_below test count p le none n = bool_case _ (nat_lt n count)
     (λ is. and_no (nat_lt n count) (test n) (none n (let lt : n < count = (Decides-ltb n count).0 is in omega arith)))
     (λ isnt. rw isnt refl)
 
--- one word, with the bits of another one too
+-- the union of one word with other bits
 or_word : (words : List ℕ) (p w : ℕ) → p < length words → (n : ℕ) → is_marked (slice_set words p (bit_or (get_or words p 0) w)) n ≡ (is_marked words n || (n / 64 == p && bit_at w (n % 64) == 1))
 unfolding is_marked
 or_word words p w within n = bool_case _ (n / 64 == p)
@@ -538,7 +538,7 @@ filled_more old words p within so_far = record {
     join : (a : Bool) (q p : ℕ) → ((a || nat_lt q p) || (q == p && true)) ≡ (a || nat_lt q (p + 1))
     join a q p = grind (arith, nat_tests)
 
--- and the lower bits of the next one
+-- the lower bits of the next word are set too
 module _ (old words : List ℕ) (count : ℕ) (few : count ≤ 2000) (are : AreMarks old) (so_far : FilledBelow old words (count / 64)) where
   pub filled_is : (n : ℕ) → is_marked (slice_set words (count / 64) (bit_or (get_or words (count / 64) 0) (1 * 2 ^ (count % 64) % 2 ^ 64 - 1))) n ≡ (is_marked old n || nat_lt n count)
   filled_is n =

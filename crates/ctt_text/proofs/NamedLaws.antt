@@ -13,7 +13,7 @@ use Rattle.ctt_text.specs.Named.{IsWord, AreNames}
 use Rattle.ctt_text.specs.InstanceLaws.{SpelledIsNamed}
 use Rattle.ctt_text.proofs.ListLaws.{Each-front, Each-rest, once_each, once_apart, apart_turned, bytes_sound}
 
--- a byte in front of words that is not blank
+-- a byte that is not blank, added before words
 grow_words : (b : ℕ) (begins : Bool) (ws : List (List ℕ)) → is_blank b ≡ false → Each IsWord ws → Each IsWord (grow b begins ws)
 grow_words b true [] h each = ((omega arith, (h, tt)), tt)
 grow_words b true (w ∷ ws) h each = ((omega arith, (h, each.0.1)), each.1)
@@ -29,7 +29,7 @@ words_are_words (b ∷ bs) = by (words_are_words bs) (is_blank b) refl
     by rest true e = rest
     by rest false e = grow_words b (begins_word bs) (words bs) e rest
 
--- so is the first of them
+-- the first word of a text is a word
 pub first_is_word : (text : List ℕ) (start end : ℕ) → IsFirstWord text start end → IsWord (take (end - start) (drop start text))
 first_is_word text start end at = (subst (Each IsWord) at.first (words_are_words text)).0
 
@@ -51,7 +51,7 @@ module _ (P : List ℕ → Type 0) where
   curriculum_names_each [] each = tt
   curriculum_names_each (q ∷ qs) each = (each.0, curriculum_names_each qs (Each-rest P q.members (flat_map spelled_curriculum qs) each.1.1))
 
--- names of which no two are alike, and none is there before, are new
+-- names that are pairwise distinct and not among the earlier names are new
 new_names : (before names : List (List ℕ)) → Each (λ name. is_among before name ≡ false) names → Pairwise (λ a b. bytes_eq a b ≡ false) names → AreNew before names
 new_names before [] apart pairs = tt
 new_names before (name ∷ names) apart pairs = (apart.0, new_names (before ++ name ∷ []) names (behind names apart.1 pairs.0) pairs.1)
@@ -67,7 +67,7 @@ pairs_distinct names pairs = new_names [] names (all_apart names) pairs
     all_apart [] = tt
     all_apart (n ∷ ns) = (refl, all_apart ns)
 
--- each once is distinct
+-- the names without repetitions are distinct
 teachers_distinct : (names : List (List ℕ)) → AreDistinct (each_once bytes_eq names)
 teachers_distinct names = pairs_distinct (each_once bytes_eq names) (once_apart bytes_eq bytes_sound names)
 

@@ -11,7 +11,7 @@ use Rattle.ctt_text.specs.InstanceText.{IsUpTo, IsBelow}
 use Rattle.ctt_text.proofs.FormLaws.{bind_case, Yields}
 use Rattle.ctt_text.proofs.ListLaws.{bytes_sound}
 
--- what obeys a rule passed its test, or did not
+-- a word that obeys a rule passed its test, and one that breaks it did not
 pub passed : {F : Type 0} (b : Bool) (e : ℕ → F) → cond b None (Some e) ≡ None → b ≡ true
 passed true e h = refl
 passed false e h = cc
@@ -24,7 +24,7 @@ pub passed_both : {F : Type 0} (b c : Bool) (bad out : ℕ → F) → cond b (co
 passed_both true c bad out h = (refl, passed c out h)
 passed_both false c bad out h = cc
 
--- a word that means something where a test holds, and nothing else, obeys just where it holds
+-- if a word has a meaning exactly if a test holds, it obeys exactly if the test holds
 module _ {F A : Type 0} (fault : ℕ → F) (otherwise a : A) where
   obeyed : (b : Bool) → broken_unless fault (cond b (Some a) None) ≡ None → b ≡ true
   obeyed true h = refl
@@ -34,7 +34,7 @@ module _ {F A : Type 0} (fault : ℕ → F) (otherwise a : A) where
   is_meant b h = rw h refl
 
 module _ {F : Type 0} (fault : ℕ → F) (word : List ℕ) where
-  -- what obeys the place of a number is one, which is given
+  -- what obeys the place of a number is a number, which is the value
   pub a_number : broken_unless fault (number_of word) ≡ None → is_number word ≡ true
   a_number h = obeyed fault 0 (value word) (is_number word) h
 
@@ -42,14 +42,14 @@ module _ {F : Type 0} (fault : ℕ → F) (word : List ℕ) where
   number_given h = is_meant fault 0 (value word) (is_number word) (a_number h)
 
   module _ (names : List (List ℕ)) where
-    -- what obeys the place of a known name is one, whose number is given
+    -- what obeys the place of a known name is a known name, whose number is the value
     pub a_name : broken_unless fault (number_in names word) ≡ None → is_among names word ≡ true
     a_name h = obeyed fault 0 (place_of names word) (is_among names word) h
 
     pub name_given : broken_unless fault (number_in names word) ≡ None → meant 0 (number_in names word) ≡ place_of names word
     name_given h = is_meant fault 0 (place_of names word) (is_among names word) (a_name h)
 
--- numbers below a limit, and up to one
+-- numbers below a limit, and up to a limit
 module _ {F : Type 0} (bad out : ℕ → F) (word : List ℕ) (limit : ℕ) where
   pub below_passes : IsBelow limit word → passing_number bad (λ n. nat_lt n limit) out word ≡ None
   below_passes is = rw (is.0, lt-ltb (value word) limit is.1) refl
@@ -67,18 +67,18 @@ module _ {F : Type 0} (bad out : ℕ → F) (word : List ℕ) (limit : ℕ) wher
       let p = passed_both (is_number word) (nat_le (value word) limit) bad out h in
       (p.0, leb-true (value word) limit p.1)
 
--- what stands in the place of a fixed word is that word
+-- what obeys the place of a fixed word is that word
 pub is_fixed : {F : Type 0} (fault : ℕ → F) (word text : List ℕ) → broken_unless fault (exactly text word) ≡ None → word ≡ text
 is_fixed fault word text h = bytes_sound word text (obeyed fault tt tt (bytes_eq word text) h)
 
--- a fixed word and a form after it, and what follows both
+-- a fixed word followed by a form, and what fills both
 pub after_case : {F A B : Type 0} (C : Type 0) (fault : ℕ → F) (text : List ℕ) (f : Form F A) (g : A → Form F B) (words : List (List ℕ)) (b : B) → Fills (after fault text f >>= g) words b
     → ((us vs : List (List ℕ)) (a : A) → Fills f us a → Fills (g a) vs b → words ≡ text ∷ us ++ vs → C) → C
 unfolding fixed known one ◌>>=◌
 after_case C fault text f g [] b h then = absurd h
 after_case C fault text f g (w ∷ ws) b h then = bind_case C f g ws b h.1 (λ us vs a p q e. then us vs a p q (ap (λ x. x ∷ ws) (is_fixed fault w text h.0) ∙ ap (λ x. text ∷ x) e))
 
--- a word that means this gives it, and the words after it fill what comes after
+-- a word with this meaning gives it, and the words after it fill the following form
 pub then_fills : {F A B : Type 0} (fault : ℕ → F) (meaning : List ℕ → Option A) (otherwise : A) (g : A → Form F B) (w : List ℕ) (ws : List (List ℕ)) (a : A) (b : B) → meaning w ≡ Some a → Fills (g a) ws b → Fills (known fault meaning otherwise >>= g) (w ∷ ws) b
 unfolding known one ◌>>=◌
 then_fills fault meaning otherwise g w ws a b h k = rw h (refl, k)

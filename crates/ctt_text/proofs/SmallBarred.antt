@@ -1,4 +1,4 @@
--- Barred rooms of the small instance: what is read of them, and each fault.
+-- Barred rooms of the small instance: parsing them, and each fault.
 use Rattle.std.proofs.Common.{◌≡◌, [], ◌∷◌, true, false, Ok, Err, refl}
 use Rattle.std.specs.Prelude.{codes}
 use Rattle.ctt_text.specs.declared.fault.BarredFault.TheVariants.{Missing, Expected, BadNumber, TooLarge, UnknownCourse, UnknownRoom}
@@ -9,7 +9,7 @@ use Rattle.ctt_text.specs.BarredPlaces.{pair_count, barred_pair, barred_rooms}
 use Rattle.ctt_text.specs.BarredLaws.{barred_answer}
 use Rattle.ctt_text.proofs.SmallInstance.{small_instance}
 
--- a pair that is given twice counts once, and what follows the end is ignored
+-- a pair that occurs twice counts once, and words after END. are ignored
 is_read : barred_answer small_instance (words (codes "Barred: 2 top A top A END. more")) ≡ Ok (false ∷ false ∷ false ∷ false ∷ true ∷ false ∷ [])
 unfolding read ◌>>=◌ times words is_blank one known fixed known_name number_if pair_count barred_pair barred_rooms small_instance
 is_read = refl

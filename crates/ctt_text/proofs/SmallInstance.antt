@@ -1,4 +1,4 @@
--- The small instance of the examples, word by word: what is read of it, whole, cut short and written otherwise.
+-- The small instance of the examples, word by word: parsed whole, truncated and with variations.
 use Rattle.std.proofs.Common.{◌≡◌, ℕ, List, [], ◌∷◌, ◌++◌, ◌+◌, length, map, take, true, false, Ok, Err, refl}
 use Rattle.std.specs.Prelude.{codes}
 use Rattle.std.specs.List.{range_with_len}
@@ -37,12 +37,12 @@ written courses days periods constraints count =
     words (codes "Name: Small Courses:") ++ (courses ∷ words (codes "Rooms: 2 Days:") ++ (days ∷ codes "Periods_per_day:" ∷ periods ∷ words (codes "Curricula: 1 Constraints:")
     ++ (constraints ∷ words (codes "COURSES: alg t1 2 2 30 geo t2 2 1 20 top t1 1 1 50 ROOMS: A 25 B 40 CURRICULA: q1") ++ (count ∷ words (codes "alg geo UNAVAILABILITY_CONSTRAINTS: geo 0 0 END.")))))
 
--- it is read
+-- it is parsed
 is_read : answer small ≡ Ok small_instance
 unfolding read ◌>>=◌ times words is_blank one known any fixed number number_if new_name known_name number_up_to period_count two_counts calendar day_below period_below header course room member curriculum unavailability instance small small_instance
 is_read = refl
 
--- so it is spelled by its words
+-- its words spell it
 is_spelled : Spells small small_instance
 is_spelled = (reads_what_is_spelled small small_instance).0 is_read
 
@@ -51,7 +51,7 @@ cuts : map (λ k. answer (take k small)) (range_with_len 0 45) ≡ map (λ k. Er
 unfolding read ◌>>=◌ times words is_blank one known any fixed number number_if new_name known_name number_up_to period_count two_counts calendar day_below period_below header course room member curriculum unavailability instance small
 cuts = refl
 
--- so many words it has
+-- the number of its words
 small_words : length small ≡ 45
 unfolding read ◌>>=◌ times words is_blank one known any fixed number number_if new_name known_name number_up_to period_count two_counts calendar day_below period_below header course room member curriculum unavailability instance small
 small_words = refl
@@ -61,12 +61,12 @@ same_again : answer (written (codes "3") (codes "2") (codes "3") (codes "1") (co
 unfolding read ◌>>=◌ times words is_blank one known any fixed number number_if new_name known_name number_up_to period_count two_counts calendar day_below period_below header course room member curriculum unavailability instance written small_instance
 same_again = refl
 
--- four courses are said and three given: what follows them stands in the places of the fourth
+-- four courses are stated and three given: the words after them are parsed as the fourth
 four_courses : answer (written (codes "4") (codes "2") (codes "3") (codes "1") (codes "2")) ≡ Err (BadNumber 34)
 unfolding read ◌>>=◌ times words is_blank one known any fixed number number_if new_name known_name number_up_to period_count two_counts calendar day_below period_below header course room member curriculum unavailability instance written
 four_courses = refl
 
--- zeros before a number
+-- leading zeros of a number
 leading_zeros : answer (written (codes "0003") (codes "2") (codes "3") (codes "1") (codes "2")) ≡ Ok small_instance
 unfolding read ◌>>=◌ times words is_blank one known any fixed number number_if new_name known_name number_up_to period_count two_counts calendar day_below period_below header course room member curriculum unavailability instance written small_instance
 leading_zeros = refl
@@ -81,32 +81,32 @@ no_number : answer (written (codes "1000000000") (codes "2") (codes "3") (codes 
 unfolding read ◌>>=◌ times words is_blank one known any fixed number number_if new_name known_name number_up_to period_count two_counts calendar day_below period_below header course room member curriculum unavailability instance written
 no_number = refl
 
--- days and periods that are few, but too many slots
+-- few days and few periods, but too many slots
 many_slots : answer (written (codes "3") (codes "2000") (codes "2") (codes "1") (codes "2")) ≡ Err (TooLarge 10)
 unfolding read ◌>>=◌ times words is_blank one known any fixed number number_if new_name known_name number_up_to period_count two_counts calendar day_below period_below header course room member curriculum unavailability instance written
 many_slots = refl
 
--- more constraints than are given
+-- more constraints than there are pairs
 false_constraints : answer (written (codes "3") (codes "2") (codes "3") (codes "2000000") (codes "2")) ≡ Err (UnknownCourse 45)
 unfolding read ◌>>=◌ times words is_blank one known any fixed number number_if new_name known_name number_up_to period_count two_counts calendar day_below period_below header course room member curriculum unavailability instance written
 false_constraints = refl
 
--- more members than are given
+-- more members stated than given
 false_members : answer (written (codes "3") (codes "2") (codes "3") (codes "1") (codes "999999999")) ≡ Err (UnknownCourse 41)
 unfolding read ◌>>=◌ times words is_blank one known any fixed number number_if new_name known_name number_up_to period_count two_counts calendar day_below period_below header course room member curriculum unavailability instance written
 false_members = refl
 
--- a day of none
+-- a day that is out of range
 no_days : answer (written (codes "3") (codes "0") (codes "3") (codes "1") (codes "2")) ≡ Err (DayOut 43)
 unfolding read ◌>>=◌ times words is_blank one known any fixed number number_if new_name known_name number_up_to period_count two_counts calendar day_below period_below header course room member curriculum unavailability instance written
 no_days = refl
 
--- a period of none
+-- a period that is out of range
 no_periods : answer (written (codes "3") (codes "2") (codes "0") (codes "1") (codes "2")) ≡ Err (PeriodOut 44)
 unfolding read ◌>>=◌ times words is_blank one known any fixed number number_if new_name known_name number_up_to period_count two_counts calendar day_below period_below header course room member curriculum unavailability instance written
 no_periods = refl
 
--- blanks of any kind, a member and a pair named twice, and words after the end
+-- blanks of each kind, a member and a pair that occur twice, and words after the end
 otherwise_written : answer (words (codes "Name:\tSmall Courses: 0003  Rooms: 2 Days: 2 Periods_per_day: 3 Curricula: 1 Constraints: 2 COURSES: alg t1 2 2 30 geo t2 2 1 20 top t1 1 1 50 ROOMS: A 25 B 40 CURRICULA: q1 3 alg geo alg UNAVAILABILITY_CONSTRAINTS: geo 0 0 geo 0 0 END. and more")) ≡ Ok small_instance
 unfolding read ◌>>=◌ times words is_blank one known any fixed number number_if new_name known_name number_up_to period_count two_counts calendar day_below period_below header course room member curriculum unavailability instance small_instance
 otherwise_written = refl
@@ -117,7 +117,7 @@ all_zero : answer (words (codes "Name: none Courses: 0 Rooms: 0 Days: 0 Periods_
 unfolding read ◌>>=◌ times words is_blank one known any fixed number number_if new_name known_name number_up_to period_count two_counts calendar day_below period_below header course room member curriculum unavailability instance
 all_zero = refl
 
--- a name given twice
+-- a name that occurs twice
 twice_named : answer (words (codes "Name: none Courses: 0 Rooms: 2 Days: 0 Periods_per_day: 0 Curricula: 0 Constraints: 0 COURSES: ROOMS: A 1 A 2")) ≡ Err (RepeatedName 19)
 unfolding read ◌>>=◌ times words is_blank one known any fixed number number_if new_name known_name number_up_to period_count two_counts calendar day_below period_below header course room member curriculum unavailability instance
 twice_named = refl

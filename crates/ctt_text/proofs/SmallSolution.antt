@@ -1,4 +1,4 @@
--- Solutions of the small instance: what is read of them, whole, cut short and with each fault.
+-- Solutions of the small instance: parsed whole, truncated and with each fault.
 use Rattle.std.proofs.Common.{◌≡◌, ℕ, ◌+◌, ◌%◌, ◌==◌, not, List, [], ◌∷◌, map, take, Ok, Err, refl}
 use Rattle.std.specs.Prelude.{codes, filter}
 use Rattle.std.specs.List.{range_with_len}
@@ -30,7 +30,7 @@ is_read : solution_answer small_instance given ≡ Ok lectures
 unfolding read ◌>>=◌ times words is_blank one known known_name number_if free_slot entry begun small_instance given at lectures
 is_read = refl
 
--- so they are spelled by these words
+-- these words spell them
 is_spelled : SolSpells small_instance given lectures
 is_spelled = (reads_solutions small_instance given lectures).0 is_read
 
@@ -39,7 +39,7 @@ empty : solution_answer small_instance [] ≡ Ok []
 unfolding read ◌>>=◌ times words is_blank one known known_name number_if free_slot entry begun small_instance
 empty = refl
 
--- the places inside the entries
+-- the indices inside the entries
 unfoldable inside : List ℕ
 inside = filter (λ k. not (k % 4 == 0)) (range_with_len 0 20)
 
@@ -48,7 +48,7 @@ cuts : map (λ k. solution_answer small_instance (take k given)) inside ≡ map 
 unfolding read ◌>>=◌ times words is_blank one known known_name number_if free_slot entry begun small_instance given inside
 cuts = refl
 
--- cut between the entries, those before are read
+-- truncated between entries, the earlier entries are parsed
 entries_before : solution_answer small_instance (take 12 given) ≡ Ok (at 0 0 0 ∷ at 1 1 0 ∷ at 1 5 0 ∷ [])
 unfolding read ◌>>=◌ times words is_blank one known known_name number_if free_slot entry begun small_instance given at
 entries_before = refl
@@ -58,7 +58,7 @@ repeated : solution_answer small_instance (words (codes "alg A 0 0 alg B 0 0")) 
 unfolding read ◌>>=◌ times words is_blank one known known_name number_if free_slot entry begun small_instance
 repeated = refl
 
--- a word more than the entries
+-- one word after the last entry
 no_course : solution_answer small_instance (words (codes "alg A 0 0 nul")) ≡ Err (UnknownCourse 5)
 unfolding read ◌>>=◌ times words is_blank one known known_name number_if free_slot entry begun small_instance
 no_course = refl
@@ -79,7 +79,7 @@ late_period : solution_answer small_instance (words (codes "alg A 0 3")) ≡ Err
 unfolding read ◌>>=◌ times words is_blank one known known_name number_if free_slot entry begun small_instance
 late_period = refl
 
--- what is written of the five lectures
+-- the written form of the five lectures
 written : soltext small_instance lectures ≡ codes "alg A 0 0\nalg B 1 0\ngeo A 0 1\ngeo A 1 2\ntop B 0 2\n"
 unfolding small_instance at lectures digits
 written = refl

@@ -35,11 +35,11 @@ module _ (i : Problem) where
   abbrev pub add_entry : List Placed → EntryWords → List Placed
   add_entry s w = with (lecture_of i w) s
 
-  -- an entry of a course that has no lecture in its slot so far
+  -- an entry whose course has no lecture in its slot so far
   abbrev pub FitsEntry : List Placed → EntryWords → Type 0
   FitsEntry s w = IsEntry i w × (has_lecture (lecture_of i w).course (lecture_of i w).slot s ≡ false)
 
-  -- such an entry fills its four places
+  -- such an entry fills its form
   entry_fills : (s : List Placed) (w : EntryWords) → FitsEntry s w → Fills (entry i s) (spelled_entry w) (add_entry s w)
   unfolding entry free_slot known_name number_if known one ◌>>=◌
   entry_fills s w fit = (
@@ -47,7 +47,7 @@ module _ (i : Problem) where
     rw fit.0.0 (rw fit.0.1 refl, rw fit.0.1 (below_passes BadNumber DayOut w.day i.days fit.0.2, (rw (fit.0.3.0, lt-ltb (value w.period) i.periods fit.0.3.1, fit.1) refl, refl))),
   )
 
-  -- what fills them is such an entry
+  -- what fills it is such an entry
   pub entry_taken : (s : List Placed) (words : List (List ℕ)) (t : List Placed) → Fills (entry i s) words t → Entry spelled_entry add_entry FitsEntry s words t
   unfolding entry free_slot known_name number_if known one ◌>>=◌
   entry_taken s [] t h = absurd h
@@ -77,7 +77,8 @@ module _ (i : Problem) where
   abbrev IsNew : List Placed → Placed → Type 0
   IsNew s l = has_lecture l.course l.slot s ≡ false
 
-  -- what is new to a list with one more is new to the list, and apart from that one; and back
+  -- what is new to a list with one more lecture is new to the list and apart from that lecture, and
+  -- conversely
   new_parts : (s : List Placed) (l : Placed) (ls : List Placed) → Each (IsNew (with l s)) ls → Each (IsNew s) ls × Each (λ m. (l.course == m.course && l.slot == m.slot) ≡ false) ls
   new_parts s l [] each = (tt, tt)
   new_parts s l (m ∷ ls) each =
@@ -90,7 +91,7 @@ module _ (i : Problem) where
   new_both s l (m ∷ ls) new apart =
       (put_any before (λ x. x.course == m.course && x.slot == m.slot) l s ∙ or_from (l.course == m.course && l.slot == m.slot) (has_lecture m.course m.slot s) apart.0 new.0, new_both s l ls new.1 apart.1)
 
-  -- entries that fit one behind the other are entries whose lectures are apart, and new
+  -- entries that are valid one after another have lectures that are apart, and new
   entries_apart : (given : List EntryWords) (s : List Placed) → AllFit add_entry FitsEntry s given → Each (IsEntry i) given × Each (IsNew s) (lectures given) × AreApart (lectures given)
   entries_apart [] s fit = (tt, tt, tt)
   entries_apart (w ∷ given) s fit =
@@ -107,12 +108,12 @@ module _ (i : Problem) where
   all_new [] = tt
   all_new (l ∷ ls) = (refl, all_new ls)
 
-  -- lectures that are put in their places one by one ascend
+  -- lectures that are inserted one by one ascend
   entries_ascend : (given : List EntryWords) (s : List Placed) → AllFit add_entry FitsEntry s given → Ascending s → Ascending (fold add_entry s given)
   entries_ascend [] s fit up = up
   entries_ascend (w ∷ given) s fit up = entries_ascend given (add_entry s w) fit.1 (with_ascends s (lecture_of i w) up fit.0.1)
 
-  -- and are those that were given, with those that were there
+  -- they are the given lectures and the earlier ones
   entries_any : (p : Placed → Bool) (given : List EntryWords) (s : List Placed) → list_any p (fold add_entry s given) ≡ (list_any p s || list_any p (lectures given))
   entries_any p [] s = end (list_any p s)
     where
@@ -126,13 +127,13 @@ module _ (i : Problem) where
       turn true false c = refl
       turn false b c = refl
 
--- as many entries are begun as there are
+-- as many entries are begun as there are entries
 begun_spelled : (given : List EntryWords) → begun (flat_map spelled_entry given) ≡ length given
 unfolding begun
 begun_spelled [] = refl
 begun_spelled (w ∷ given) = ap suc (begun_spelled given)
 
--- and the entries that are begun have all words
+-- the entries that are begun are complete
 few_begun : (words : List (List ℕ)) → length words ≤ 4 * begun words
 unfolding begun
 few_begun [] = omega arith
@@ -148,7 +149,7 @@ four_each (w ∷ given) = omega (arith, four_each given)
 none_left : (words front rest : List (List ℕ)) (n : ℕ) → words ≡ front ++ rest → length front ≡ 4 * n → length words ≤ 4 * n → rest ≡ []
 none_left words front rest n all size few = nil_from_length rest (omega (arith, ap (λ (x : List (List ℕ)). length x) all ∙ length-append front rest, size, few))
 
--- what is read is spelled
+-- what is parsed is spelled
 read_spelled : (i : Problem) (words : List (List ℕ)) (t : List Placed) → solution_answer i words ≡ Ok t → SolSpells i words t
 read_spelled i words t h =
     let r = answer_fills cut (solution i words) words t h in
@@ -165,7 +166,7 @@ read_spelled i words t h =
       same = subst (λ x. SameLectures x (lectures i s.given)) s.gives (λ p. entries_any i p s.given []);
     }
 
--- what is spelled is read
+-- what is spelled is parsed
 spelled_read : (i : Problem) (words : List (List ℕ)) (t : List Placed) → SolSpells i words t → solution_answer i words ≡ Ok t
 spelled_read i words t s =
     let text : List (List ℕ) = flat_map spelled_entry s.given in

@@ -1,4 +1,4 @@
--- What was read of a solution, and the cause of each fault.
+-- The parsed solution, and the cause of each fault.
 use Rattle.std.proofs.Common.{◌≡◌, ◌⊎◌, ℕ, List, Vec, Global, Bool, true, false, cond, Option, Some, None, Result, Ok, Err, IfOk, IfErr, MatchResult, inl, inr, ⊎_elim, refl, sym, ap, ◌∙◌}
 use Rattle.std.specs.Prelude.{nat_lt}
 use Rattle.std.specs.Str.{IsUtf8}
@@ -18,7 +18,7 @@ use Rattle.ctt_text.proofs.FormLaws.{ok_same, ok_is_err, err_same}
 use Rattle.ctt_text.proofs.FaultLaws.{FormFaults, bind_faults, times_faults, known_name_faults, number_if_faults, taken_faults, test_faults, answer_faults}
 use Rattle.ctt_text.proofs.SolutionLaws.{reads_solutions, solution_fails_where_broken, spelled_is_timetable}
 
--- a fault of a place, which names a word
+-- a fault of a place, which carries the number of a word
 abbrev IsOfWord : SolutionFault → Type 0
 IsOfWord (NotText byte) = ⊥
 IsOfWord NoMemory = ⊥
@@ -41,7 +41,7 @@ entry_faults i so_far =
     bind_faults IsOfWord _ _ (number_if_faults IsOfWord BadNumber DayOut _ (λ k. tt) (λ k. tt)) (λ day.
     bind_faults IsOfWord _ _ (slot_faults i so_far course day) (λ slot. tt))))
 
--- reading words gives no fault but those of places
+-- parsing gives only faults of places
 of_word : (i : Problem) (ws : List (List ℕ)) (e : SolutionFault) → solution_answer i ws ≡ Err e → IsOfWord e
 of_word i ws e h = answer_faults IsOfWord cut (solution i ws) ws e (λ k. tt) (times_faults IsOfWord (entry i) (entry_faults i) (begun ws) _) h
 
@@ -57,7 +57,7 @@ has_cause i text utf8 (DayOut n) h = (utf8, (solution_fails_where_broken i (word
 has_cause i text utf8 (PeriodOut n) h = (utf8, (solution_fails_where_broken i (words text) (PeriodOut n)).0 h)
 has_cause i text utf8 (Repeated n) h = (utf8, (solution_fails_where_broken i (words text) (Repeated n)).0 h)
 
--- a fault that is not the one that reading meets is want of memory
+-- a fault that is not the one that parsing gives is that memory ran out
 fault_or_memory : (e : SolutionFault) (x : Result (List Placed) SolutionFault) → Fails lacks_memory e x → (x ≡ Err e) ⊎ (e ≡ NoMemory)
 fault_or_memory (NotText n) x h = inl h
 fault_or_memory NoMemory x h = inr refl
@@ -70,7 +70,7 @@ fault_or_memory (PeriodOut n) x h = inl h
 fault_or_memory (Repeated n) x h = inl h
 
 module _ (i : Problem) (text : List ℕ) where
-  -- what a function that reads the text returns
+  -- the result of the function that parses the text
   abbrev Returns : Result (Vec Placed Global) SolutionFault → Type 0
   Returns r = Gives lacks_memory (λ list. list.items) r (solution_answer i (words text))
 

@@ -1,4 +1,4 @@
--- Reading the text of a solution step by step, as code does.
+-- Parsing the text of a solution step by step, as the code does.
 use Rattle.std.proofs.Common.{◌≡◌, ℕ, suc, ◌<◌, List, [], ◌∷◌, ◌++◌, length, cond, Option, Some, None, Result, Ok, refl, ap, ◌∙◌, arith}
 use Rattle.std.specs.Prelude.{nat_lt}
 use Rattle.ctt_text.specs.Left.{Left}
@@ -16,24 +16,24 @@ use Rattle.ctt_text.proofs.FormLaws.{read_fills}
 use Rattle.ctt_text.proofs.SolutionLaws.{entry_taken}
 use Rattle.ctt_text.proofs.Steps.{and_then, judged, read_then, read_done, fails_there, read_number_by}
 
--- what a period that is a number is judged by
+-- the rule of a period that is a number
 abbrev pub free_judged : Problem → List Placed → ℕ → ℕ → ℕ → Option (ℕ → SolutionFault)
 free_judged i so_far course day n = cond (nat_lt n i.periods) (cond (has_lecture course (slot_of i day n) so_far) (Some Repeated) None) (Some PeriodOut)
 
--- a period, by what was read as a number
+-- parsing a period, given the parsed number
 pub read_free_slot : (i : Problem) (so_far : List Placed) (course day : ℕ) (left : Left)
     → reading cut (free_slot i so_far course day) left ≡ and_then (reading cut (number BadNumber) left) (λ n after. judged (free_judged i so_far course day n) left.next (slot_of i day n) after)
 unfolding free_slot
 read_free_slot i so_far course day left = read_number_by cut BadNumber (free_judged i so_far course day) (slot_of i day) left
 
--- the four words of an entry that was read
+-- the four words of a parsed entry
 four_words : (i : Problem) (s : List Placed) (left : Left) (t : List Placed) (after : Left) → reading cut (entry i s) left ≡ Ok (t, after) → (w : EntryWords) × (left.words ≡ spelled_entry w ++ after.words)
 four_words i s left t after h =
     let r = read_fills cut (entry i s) left.words left.next (t, after) h in
     let e = entry_taken i s r.front t r.fills in
     (e.given, r.all ∙ ap (λ ws. ws ++ after.words) e.all)
 
--- an entry less is begun after it
+-- after an entry, one entry less is begun
 one_less : (i : Problem) (s : List Placed) (left : Left) (t : List Placed) (after : Left) → reading cut (entry i s) left ≡ Ok (t, after) → begun left.words ≡ suc (begun after.words)
 unfolding begun
 one_less i s left t after h = ap (λ ws. begun ws) (four_words i s left t after h).1
@@ -41,7 +41,7 @@ one_less i s left t after h = ap (λ ws. begun ws) (four_words i s left t after 
 pub words_fewer : (i : Problem) (s : List Placed) (left : Left) (t : List Placed) (after : Left) → reading cut (entry i s) left ≡ Ok (t, after) → length after.words < length left.words
 words_fewer i s left t after h = omega (arith, ap (λ (ws : List (List ℕ)). length ws) (four_words i s left t after h).1)
 
--- where words are left, an entry is begun
+-- if words are left, an entry is begun
 some_begun : (words : List (List ℕ)) → (words ≡ [] → ⊥) → (n : ℕ) × (begun words ≡ suc n)
 unfolding begun
 some_begun [] some = absurd (some refl)
@@ -55,7 +55,7 @@ abbrev pub entries_left : Problem → List Placed → Left → Result (List Plac
 entries_left i s left = reading cut (times (entry i) (begun left.words) s) left
 
 module _ (i : Problem) (s : List Placed) (left : Left) where
-  -- one of them, and those after it
+  -- one entry, and those after it
   after_one : (n : ℕ) → begun left.words ≡ suc n → entries_left i s left ≡ reading cut (entry i s >>= times (entry i) n) left
   unfolding times
   after_one n e = ap (λ m. reading cut (times (entry i) m s) left) e

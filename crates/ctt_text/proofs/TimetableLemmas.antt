@@ -7,7 +7,7 @@ use Rattle.ctt_text.specs.declared.placed.Placed.{Placed}
 use Rattle.ctt_text.specs.Problem.{Problem}
 use Rattle.ctt_text.specs.Timetable.{IsTimetable, ByNeighbours, Ascending, Fits, before}
 
--- what holds of each, by index
+-- what holds of each element, by index
 pub Each-from_index : {X : Type 0} (P : X → Type 0) (xs : List X) → ((k : ℕ) (d : X) → k < length xs → P (get_or xs k d)) → Each P xs
 Each-from_index P [] h = tt
 Each-from_index P (x ∷ xs) h = (h 0 x (omega arith), Each-from_index P xs (λ k d lt. h (suc k) d (omega (arith, lt))))
@@ -31,7 +31,7 @@ before_trans a b c h k = grind (arith, nat_tests)
 later : (k : ℕ) → suc k + 1 ≡ suc (k + 1)
 later k = omega arith
 
--- a list whose neighbours are in order is in order
+-- a list whose neighbours are in order is sorted
 ascends_on : (x : Placed) (t : List Placed) → ((d : Placed) → 0 < length t → before x (get_or t 0 d) ≡ true) → Ascending t → Each (λ b. before x b ≡ true) t
 ascends_on x [] first rest = tt
 ascends_on x (y ∷ ys) first rest =
@@ -55,7 +55,7 @@ IsTimetable-from_neighbours i t h = record { ascending = Ascending-from_neighbou
 pub IsTimetable-neighbours : (i : Problem) (t : List Placed) → IsTimetable i t → ByNeighbours i t
 IsTimetable-neighbours i t h = record { fits = Each-at (Fits i) t h.fits; ascending = Ascending-at t h.ascending }
 
--- a test of one fact decides another that says the same
+-- a test that decides a fact decides each equivalent fact
 pub decides : (b : Bool) (P Q : Type 0) → OnTrue b P → OnFalse b (P → ⊥) → (P → Q) → (Q → P) → IsTrue b ↔ Q
 decides true P Q holds fails to from = (λ _. to holds, λ _. refl)
 decides false P Q holds fails to from = (λ h. cc, λ q. absurd (fails (from q)))

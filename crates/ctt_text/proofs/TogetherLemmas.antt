@@ -1,4 +1,4 @@
--- Courses that are together in a list, and so clash.
+-- Courses that occur together in a list, and therefore clash.
 use Rattle.std.proofs.Common.{◌≡◌, ℕ, zero, suc, ◌<◌, Bool, true, false, not, cond, ◌&&◌, ◌||◌, ◌==◌, nat_lt, List, [], ◌∷◌, length, map, get_or, refl, ◌∙◌, sym, ap, ap₂, subst, arith, inl, inr}
 use Rattle.std.specs.List.{list_any, AllByRecursion as Each}
 use Rattle.std.proofs.lemmas.List.{length-map, get_or-map}
@@ -14,7 +14,7 @@ use Rattle.ctt_text.proofs.TimetableLemmas.{Each-from_index, Each-at, Each-map}
 use Rattle.ctt_text.proofs.NumberListLemmas.{below_fit}
 use Rattle.ctt_text.proofs.InstanceReading.{any_mapped}
 
--- which numbers are in the list of those below the end that pass
+-- which numbers are in the list of those that pass
 pub has_below : (p : ℕ → Bool) (m n : ℕ) → has n (below p m) ≡ (nat_lt n m && p n)
 has_below p zero n = sym (ap (λ b. b && p n) (le-ltb n zero (omega arith)))
 has_below p (suc m) n = list_any-append (λ x. x == n) (below p m) (cond (p m) (m ∷ []) []) ∙ ap₂ (λ a b. a || b) (has_below p m n) (last (p m)) ∙ elim (cases_eq m n) [
@@ -42,7 +42,7 @@ has_below p (suc m) n = list_any-append (λ x. x == n) (below p m) (cond (p m) (
     none false true = refl
     none false false = refl
 
--- two courses are in the list of one teacher where they have the same
+-- two courses are in the list of one teacher if they have the same teacher
 pub taught_together : (i : Problem) (lists : List (List ℕ)) → AreTaught i lists → ((c : ℕ) → c < course_count i → (course_of i c).teacher < teacher_count i)
     → (a b : ℕ) → a < course_count i → list_any (λ q. has a q && has b q) lists ≡ (nat_lt b (course_count i) && (course_of i a).teacher == (course_of i b).teacher)
 taught_together i lists are known a b less = bool_case _ (nat_lt b (course_count i) && (course_of i a).teacher == (course_of i b).teacher)
@@ -77,14 +77,14 @@ taught_together i lists are known a b less = bool_case _ (nat_lt b (course_count
       | inr other ↦ rw (ne_eqb (course_of i a).teacher k other) refl
     ]
 
--- which are courses
+-- the numbers in these lists are courses
 pub taught_known : {X : Type 0} (items : X → List ℕ) (i : Problem) (lists : List X) → AreTaught i (map items lists) → Each (λ q. Each (λ c. c < course_count i) (items q)) lists
 taught_known items i lists are = Each-from_index (λ q. Each (λ c. c < course_count i) (items q)) lists (λ k d lt.
     let many : k < teacher_count i = omega (arith, lt, are.size, length-map lists items) in
     let list = sym (get_or-map items lists k d [] lt) ∙ are.list k many in
     subst (Each (λ c. c < course_count i)) (sym list) (below_fit (λ c. (course_of i c).teacher == k) (course_count i)))
 
--- the marks of both are the clashes
+-- the marks of both groups are the clashes
 pub are_clashes : {X : Type 0} (items : X → List ℕ) (i : Problem) (rows : BitTable) (taught curricula : List X) → IsProblem i → AreTaught i (map items taught) → i.curricula ≡ map items curricula
     → HasSize rows (course_count i) (course_count i)
     → ((c d : ℕ) → c < course_count i → is_marked_in rows c d ≡ (not (c == d) && (list_any (λ q. has c (items q) && has d (items q)) taught || list_any (λ q. has c (items q) && has d (items q)) curricula)))

@@ -1,4 +1,4 @@
--- What is written of a timetable.
+-- The written form of a timetable.
 use Rattle.std.proofs.Common.{◌≡◌, ℕ, zero, suc, ◌+◌, ◌*◌, ◌^◌, ◌<◌, ◌≤◌, List, [], ◌∷◌, ◌++◌, length, map, flat_map, Bool, true, false, cond, not, ◌&&◌, ◌||◌, ◌==◌, refl, sym, ap, subst, ◌∙◌, arith, rules, append_assoc, true≢false}
 use Rattle.std.specs.Prelude.{codes, fold, slice_index_or}
 use Rattle.std.specs.List.{list_any, list_all, position_or_len, AllByRecursion as Each}
@@ -54,7 +54,7 @@ digits_not_blank (b ∷ bs) h =
 pub decimal_word : (n : ℕ) → n < 2 ^ 64 → IsWord (decimal n)
 decimal_word n h = (decimal_nonempty n h, digits_not_blank (decimal n) (decimal_digits n h))
 
--- names and their places
+-- names and their indices
 none_before : (p : List ℕ → Bool) (xs : List (List ℕ)) → list_any p xs ≡ false → position_or_len p xs ≡ length xs
 none_before p [] h = refl
 none_before p (x ∷ xs) h = by (p x) h (none_before p xs)
@@ -84,7 +84,7 @@ apart_from_ascending : (t : List Placed) → Ascending t → AreApart t
 apart_from_ascending [] up = tt
 apart_from_ascending (l ∷ t) up = (Each-map (λ m. before l m ≡ true) (λ m. (l.course == m.course && l.slot == m.slot) ≡ false) (λ m h. before_apart_turned l m h) t up.0, apart_from_ascending t up.1)
 
--- a word with a blank behind it
+-- a word with a blank after it
 pub word_first : (w : List ℕ) (c : ℕ) (rest : List ℕ) → IsWord w → is_blank c ≡ true → words (w ++ c ∷ rest) ≡ w ∷ words rest
 unfolding words
 word_first [] c rest is blank = absurd (omega (arith, is.0))
@@ -117,7 +117,7 @@ line_words w rest course room day period =
     ∙ ap (λ x. w.course ∷ w.room ∷ w.day ∷ x) (word_then w.period 10 [] rest period line_end_blank)
 
 module _ (i : Problem) (is : IsProblem i) (named : IsNamed i) where
-  -- the numbers of a lecture that fits
+  -- the day and the period of a slot
   pub record IsSplit (s : ℕ) : Type 0 where
     pub day : day_of i s < i.days
     pub period : period_of i s < i.periods
@@ -147,7 +147,7 @@ module _ (i : Problem) (is : IsProblem i) (named : IsNamed i) where
         (decimal_number (period_of i l.slot) s.small_period, subst (λ n. n < i.periods) (sym (decimal_value (period_of i l.slot) (omega (arith, s.small_period)))) s.period),
       )
 
-  -- which says the lecture
+  -- this entry describes the lecture
   lecture_again : (l : Placed) → Fits i l → lecture_of i (words_of i l) ≡ l
   lecture_again l fits =
       let s = split l.slot fits.1 in

@@ -1,4 +1,4 @@
--- The places of the text of barred rooms, in their order, each with its rule and its faults.
+-- The form of the text of barred rooms: its places in order, each with its rule and its faults.
 use Rattle.std.specs.Prelude.{ℕ, ◌+◌, ◌*◌, List, Bool, true, false, nat_le, codes, replicate, Result}
 use Rattle.std.specs.List.{slice_set}
 use Rattle.ctt_text.specs.declared.fault.BarredFault.{BarredFault}
@@ -9,22 +9,22 @@ use Rattle.ctt_text.specs.Places.{fixed, number_if, known_name, after}
 use Rattle.ctt_text.specs.Problem.{Problem, course_count, room_count}
 use Rattle.ctt_text.specs.Reading.{Gives, reading}
 
--- how many pairs there are
+-- the number of pairs, up to a limit
 unfoldable pub pair_count : ℕ → Form BarredFault ℕ
 pair_count greatest = number_if BadNumber (λ n. nat_le n greatest) TooLarge
 
--- a course, and a room that is barred for it, marked beside those before it
+-- a course and a room that is barred for it, marked in addition to the pairs so far
 unfoldable pub barred_pair : Problem → List Bool → Form BarredFault (List Bool)
 barred_pair i so_far = do
   course ← known_name UnknownCourse i.course_names
   room ← known_name UnknownRoom i.room_names
   done (slice_set so_far (course * room_count i + room) true)
 
--- no room is barred
+-- the table in which no room is barred
 abbrev pub none_barred : Problem → List Bool
 none_barred i = replicate (course_count i * room_count i) false
 
--- for each course in turn, for each room in turn, whether it is barred
+-- the whole text, which gives for each course in turn, and each room in turn, whether it is barred
 unfoldable pub barred_rooms : Problem → Form BarredFault (List Bool)
 barred_rooms i = do
   count ← after Expected (codes "Barred:") (pair_count 2000000)
@@ -32,18 +32,19 @@ barred_rooms i = do
   end ← fixed Expected (codes "END.")
   done table
 
--- the fault of a word that is not there
+-- the fault of a missing word
 abbrev pub ends_early : ℕ → BarredFault
 ends_early k = Missing k
 
+-- whether the fault is that memory ran out
 abbrev pub wants_memory : BarredFault → Bool
 wants_memory NoMemory = true
 wants_memory _ = false
 
--- reading what is left of the text
+-- parsing the rest of the text by a form
 abbrev pub reads_barred : {A : Type 0} → Form BarredFault A → Left → Result (A × Left) BarredFault
 reads_barred form left = reading ends_early form left
 
--- What a function that reads a part of the text returned, is what the form of that part gives.
+-- The result of a parsing function is what its form gives, unless memory runs out.
 abbrev pub GivesBarred : {X Y : Type 0} → (X → Y) → Result X BarredFault → Result Y BarredFault → Type 0
 GivesBarred view result read = Gives wants_memory view result read

@@ -7,7 +7,7 @@ use Rattle.ctt_text.specs.Problem.{Problem, course_count, curriculum_count, memb
 abbrev pub curricula_of : Problem → ℕ → List ℕ
 curricula_of i c = below (λ q. has c (members i q)) (curriculum_count i)
 
--- among these, for each course
+-- the lists are the curricula of each course
 pub record AreCurricula (p : Problem) (lists : List (List ℕ)) : Type 0 where
   pub size : length lists ≡ course_count p
   pub list : (c : ℕ) → c < course_count p → get_or lists c [] ≡ curricula_of p c

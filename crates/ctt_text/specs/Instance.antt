@@ -1,4 +1,4 @@
--- The fields of an instance, and the problem that they are.
+-- The problem that the fields of an instance represent, and their invariant.
 use Rattle.std.specs.Prelude.{◌≡◌, ◌<◌, ◌&&◌, ℕ, map, nat_lt}
 use Rattle.std.specs.String.{string_bytes}
 use Rattle.ctt_text.specs.Problem.{Problem, IsProblem, course_count, slot_count, room_count, clash}
@@ -24,11 +24,12 @@ problem_in i = record {
   barred = marks_of i.barred;
 }
 
--- the rows of the clashes
+-- the table marks for each course the courses that it clashes with
 pub record AreClashes (p : Problem) (rows : BitTable) : Type 0 where
   pub size : HasSize rows (course_count p) (course_count p)
   pub marks : (c d : ℕ) → c < course_count p → is_marked_in rows c d ≡ (nat_lt d (course_count p) && clash p c d)
 
+-- the invariant of an instance
 pub record IsInstance (i : Inside) : Type 0 where
   pub problem : IsProblem (problem_in i)
   pub named : IsNamed (problem_in i)

@@ -1,4 +1,4 @@
--- What holds of each list of words: it spells one instance, or it breaks the form at one place.
+-- The laws of the text of an instance: words spell an instance, or break the form at one place.
 use Rattle.std.specs.Prelude.{◌≡◌, ◌⊎◌, ℕ, List, Result, Ok, Err}
 use Rattle.ctt_text.specs.declared.fault.ReadFault.{ReadFault}
 use Rattle.ctt_text.specs.declared.fault.ReadFault.TheVariants.{NotText, NoMemory}
@@ -11,30 +11,32 @@ use Rattle.ctt_text.specs.InstancePlaces.{instance, missing}
 use Rattle.ctt_text.specs.InstanceText.{Spells, InstanceBreaksAt}
 use Rattle.ctt_text.specs.Named.{IsNamed}
 
--- what reading the words from the first on answers
+-- the result of parsing the words
 abbrev pub answer : List (List ℕ) → Result Problem ReadFault
 answer words = without_rest (read missing instance words 1)
 
--- The cause of a fault in a text: NotText names the length of its longest valid beginning, NoMemory comes at any time, and each other fault is that of the place where the words break the form.
+-- The cause of a fault in a text: NotText carries the length of the longest valid UTF-8 prefix,
+-- NoMemory can occur at any time, and any other fault is that of the place where the words break
+-- the form.
 abbrev pub IsCauseOf : List ℕ → ReadFault → Type 0
 IsCauseOf text (NotText byte) = ¬ IsUtf8 text × (byte ≡ utf8_valid_len text)
 IsCauseOf text NoMemory = Unit {0}
 IsCauseOf text fault = IsUtf8 text × ((k : ℕ) × InstanceBreaksAt (words text) k fault)
 
--- Reading answers an instance exactly where the words spell it.
+-- Parsing returns an instance if and only if the words spell it.
 abbrev pub ReadsWhatIsSpelled : Type 0
 ReadsWhatIsSpelled = (words : List (List ℕ)) (i : Problem) → (answer words ≡ Ok i → Spells words i) × (Spells words i → answer words ≡ Ok i)
 
--- Words spell one instance at most.
+-- Words spell at most one instance.
 abbrev pub SpellsOne : Type 0
 SpellsOne = (words : List (List ℕ)) (i j : Problem) → Spells words i → Spells words j → i ≡ j
 
--- Reading answers a fault exactly where the words break the form, at the place of that fault.
+-- Parsing fails with a fault if and only if the words break the form at some place with that fault.
 abbrev pub FailsWhereBroken : Type 0
 FailsWhereBroken = (words : List (List ℕ)) (fault : ReadFault)
     → (answer words ≡ Err fault → (k : ℕ) × InstanceBreaksAt words k fault) × ((k : ℕ) → InstanceBreaksAt words k fault → answer words ≡ Err fault)
 
--- Words break the form at one place at most, by one fault.
+-- Words break the form at most at one place, with one fault.
 abbrev pub BreaksOnce : Type 0
 BreaksOnce = (words : List (List ℕ)) (k k' : ℕ) (fault fault' : ReadFault) → InstanceBreaksAt words k fault → InstanceBreaksAt words k' fault' → (k ≡ k') × (fault ≡ fault')
 
@@ -43,10 +45,10 @@ abbrev pub SpellsOrBreaks : Type 0
 SpellsOrBreaks = (words : List (List ℕ)) → (((i : Problem) × Spells words i) ⊎ ((k : ℕ) × (fault : ReadFault) × InstanceBreaksAt words k fault))
     × ((i : Problem) (k : ℕ) (fault : ReadFault) → Spells words i → InstanceBreaksAt words k fault → ⊥)
 
--- An instance that words spell is within the limits, and its numbers are those of teachers and courses.
+-- An instance that words spell is within the limits, with its references in range.
 abbrev pub SpelledIsProblem : Type 0
 SpelledIsProblem = (words : List (List ℕ)) (i : Problem) → Spells words i → IsProblem i
 
--- The names of an instance that a text spells are words, and distinct in each list.
+-- The names of an instance that a text spells are words, distinct within each list.
 abbrev pub SpelledIsNamed : Type 0
 SpelledIsNamed = (text : List ℕ) (i : Problem) → Spells (words text) i → IsNamed i

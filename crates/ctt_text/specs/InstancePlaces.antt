@@ -1,4 +1,4 @@
--- The places of the text of an instance, in their order, each with its rule and its faults.
+-- The form of the text of an instance: its places in order, each with its rule and its faults.
 use Rattle.std.specs.Prelude.{ℕ, ◌+◌, ◌*◌, List, [], ◌∷◌, ◌++◌, length, Bool, true, false, ◌&&◌, nat_lt, nat_le, ◌==◌, if◌then◌else◌, codes, replicate, Result}
 use Rattle.std.specs.List.{list_any, slice_set}
 use Rattle.std.specs.Str.{bytes_eq}
@@ -11,7 +11,7 @@ use Rattle.ctt_text.specs.Places.{any, fixed, number, number_if, new_name, known
 use Rattle.ctt_text.specs.Problem.{Problem, place_of}
 use Rattle.ctt_text.specs.Reading.{Gives, reading}
 
--- the numbers of the header
+-- the name and the counts of the header
 pub record Header : Type 0 where
   pub name : List ℕ
   pub courses : ℕ
@@ -35,22 +35,22 @@ pub record Curricula : Type 0 where
   pub names : List (List ℕ)
   pub members : List (List ℕ)
 
--- the numbers with their limits
+-- a number up to a limit
 unfoldable pub number_up_to : ℕ → Form ReadFault ℕ
 number_up_to greatest = number_if BadNumber (λ n. nat_le n greatest) TooLarge
 
--- periods per day: few enough that the slots are, too
+-- the number of periods per day, which also limits the number of slots
 unfoldable pub period_count : ℕ → Form ReadFault ℕ
 period_count days = number_if BadNumber (λ n. nat_le n 2000 && nat_le (days * n) 2000) TooLarge
 
--- two numbers, each behind its fixed word
+-- two numbers, each after its label
 unfoldable pub two_counts : List ℕ → ℕ → List ℕ → ℕ → Form ReadFault (ℕ × ℕ)
 two_counts first_label first_greatest second_label second_greatest = do
   first ← after Expected first_label (number_up_to first_greatest)
   second ← after Expected second_label (number_up_to second_greatest)
   done (first, second)
 
--- days, and periods per day
+-- the number of days, and of periods per day
 unfoldable pub calendar : Form ReadFault (ℕ × ℕ)
 calendar = do
   days ← after Expected (codes "Days:") (number_up_to 2000)
@@ -65,7 +65,7 @@ header = do
   lists ← two_counts (codes "Curricula:") 20000 (codes "Constraints:") 2000000
   done (record { name = name; courses = places.0; rooms = places.1; days = times.0; periods = times.1; curricula = lists.0; constraints = lists.1 })
 
--- the list with x, at its end if it is new
+-- the list, with x appended if it is new
 abbrev pub with_new : {X : Type 0} → (X → X → Bool) → List X → X → List X
 with_new same xs x = if list_any (same x) xs then xs else xs ++ x ∷ []
 
@@ -97,10 +97,11 @@ curriculum courses so_far = do
   members ← times (member courses) count []
   done (record { names = so_far.names ++ name ∷ []; members = so_far.members ++ members ∷ [] })
 
--- the day, and the period in the day
+-- a day below the number of days
 unfoldable pub day_below : ℕ → Form ReadFault ℕ
 day_below days = number_if BadNumber (λ n. nat_lt n days) DayOut
 
+-- a period below the number of periods per day
 unfoldable pub period_below : ℕ → Form ReadFault ℕ
 period_below periods = number_if BadNumber (λ n. nat_lt n periods) PeriodOut
 
@@ -120,7 +121,7 @@ no_rooms = record { names = []; capacities = [] }
 abbrev pub no_curricula : Curricula
 no_curricula = record { names = []; members = [] }
 
--- no course is unavailable anywhere
+-- no course is unavailable in any slot
 abbrev pub all_available : Header → List Bool
 all_available head = replicate (head.courses * (head.days * head.periods)) false
 
@@ -150,17 +151,19 @@ instance = do
   end ← fixed Expected (codes "END.")
   done (problem_of head courses rooms curricula unavailable)
 
+-- the fault of a missing word
 abbrev pub missing : ℕ → ReadFault
 missing k = Missing k
 
+-- whether the fault is that memory ran out
 abbrev pub wants_memory : ReadFault → Bool
 wants_memory NoMemory = true
 wants_memory _ = false
 
--- reading what is left of the text of an instance
+-- parsing the rest of the text of an instance by a form
 abbrev pub reads : {A : Type 0} → Form ReadFault A → Left → Result (A × Left) ReadFault
 reads form left = reading missing form left
 
--- What a function that reads a part of the text returned, is what the form of that part gives.
+-- The result of a parsing function is what its form gives, unless memory runs out.
 abbrev pub GivesRead : {X Y : Type 0} → (X → Y) → Result X ReadFault → Result Y ReadFault → Type 0
 GivesRead view result read = Gives wants_memory view result read

@@ -10,7 +10,7 @@ use Rattle.ctt_text.specs.Problem.{Problem, is_among, place_of, is_unavailable}
 use Rattle.ctt_text.specs.Forms.{BreaksAt}
 use Rattle.ctt_text.specs.InstancePlaces.{instance, missing}
 
--- The words of the entries, as they are given.
+-- the words of the header
 pub record HeaderWords : Type 0 where
   pub name : List ℕ
   pub courses : List ℕ
@@ -48,7 +48,7 @@ pub record Given : Type 0 where
   pub curricula : List CurriculumWords
   pub pairs : List PairWords
 
--- all of the words, in their order
+-- the words of the header in their order, with the labels
 abbrev pub spelled_header : HeaderWords → List (List ℕ)
 spelled_header h =
     codes "Name:" ∷ h.name
@@ -81,7 +81,7 @@ spelled g =
     ++ (codes "UNAVAILABILITY_CONSTRAINTS:" ∷ flat_map spelled_pair g.pairs
     ++ (codes "END." ∷ [])))))
 
--- no name stands before, or twice
+-- the names are distinct, and none is among the earlier ones
 abbrev pub AreNew : List (List ℕ) → List (List ℕ) → Type 0
 AreNew before [] = Unit {0}
 AreNew before (name ∷ names) = (is_among before name ≡ false) × AreNew (before ++ name ∷ []) names
@@ -92,15 +92,15 @@ AreDistinct names = AreNew [] names
 abbrev pub IsNumber : List ℕ → Type 0
 IsNumber word = is_number word ≡ true
 
--- a number of at most this
+-- the word is a number of at most this value
 abbrev pub IsUpTo : ℕ → List ℕ → Type 0
 IsUpTo greatest word = IsNumber word × (value word ≤ greatest)
 
--- a number below this
+-- the word is a number below this limit
 abbrev pub IsBelow : ℕ → List ℕ → Type 0
 IsBelow limit word = IsNumber word × (value word < limit)
 
--- the word is a number, which is so much
+-- the word is a number with this value
 abbrev pub Says : List ℕ → ℕ → Type 0
 Says word n = IsNumber word × (value word ≡ n)
 
@@ -161,11 +161,11 @@ facts_of teachers c = record { teacher = place_of teachers c.teacher; lectures =
 abbrev pub members_of : List (List ℕ) → CurriculumWords → List ℕ
 members_of names q = each_once ◌==◌ (map (place_of names) q.members)
 
--- a listed pair is of this course and this slot
+-- the pair names this course and this slot
 abbrev pub is_listed : List (List ℕ) → ℕ → ℕ → ℕ → PairWords → Bool
 is_listed names periods c s p = place_of names p.course == c && value p.day * periods + value p.period == s
 
--- what the given words say
+-- the words describe the instance
 pub record SaysInstance (g : Given) (i : Problem) : Type 0 where
   pub name : i.name ≡ g.head.name
   pub days : i.days ≡ value g.head.days
@@ -178,12 +178,13 @@ pub record SaysInstance (g : Given) (i : Problem) : Type 0 where
   pub curriculum_names : i.curriculum_names ≡ curriculum_names g.curricula
   pub curricula : i.curricula ≡ map (members_of i.course_names) g.curricula
   pub marks : length i.unavailable ≡ length i.courses * (i.days * i.periods)
-  -- the listed pairs alone
+  -- exactly in the listed pairs
   pub unavailable : (c s : ℕ) → c < length i.courses → s < i.days * i.periods → is_unavailable i c s ≡ list_any (is_listed i.course_names i.periods c s) g.pairs
-  -- which rooms are barred is said by another text
+  -- no room is barred: another text bars rooms
   pub barred : i.barred ≡ replicate (length i.courses * length i.capacities) false
 
--- The words begin with given words that obey the rules, and these say the instance; what follows them is ignored.
+-- The words begin with words that obey the rules and describe the instance; words after them are
+-- ignored.
 pub record Spells (words : List (List ℕ)) (i : Problem) : Type 0 where
   pub given : Given
   pub rest : List (List ℕ)
@@ -191,6 +192,7 @@ pub record Spells (words : List (List ℕ)) (i : Problem) : Type 0 where
   pub obey : Obey given
   pub says : SaysInstance given i
 
--- The words before word k obey their places, and word k breaks the rule of its place, or is missing there, by this fault.
+-- The words before word k obey the rules of their places, and word k breaks the rule of its place,
+-- or is missing, with this fault.
 abbrev pub InstanceBreaksAt : List (List ℕ) → ℕ → ReadFault → Type 0
 InstanceBreaksAt words k fault = BreaksAt missing instance words k fault

@@ -3,10 +3,11 @@ use Rattle.std.specs.Prelude.{◌≡◌, ℕ, ◌/◌, ◌%◌, ◌<◌, ◌≤�
 use Rattle.std.specs.Int.{bit_at}
 use Rattle.ctt_text.specs.Lists.{count_below}
 
+-- number n is marked by bit n % 64 of word n / 64
 unfoldable pub is_marked : List ℕ → ℕ → Bool
 is_marked words n = bit_at (get_or words (n / 64) 0) (n % 64) == 1
 
--- no number from 2,000 on is marked
+-- there are 32 words, and no number from 2,000 on is marked
 pub record AreMarks (words : List ℕ) : Type 0 where
   pub size : length words ≡ 32
   pub within : (n : ℕ) → 2000 ≤ n → is_marked words n ≡ false

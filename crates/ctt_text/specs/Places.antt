@@ -1,36 +1,37 @@
--- The kinds of places that a text has: the rule of one word, and what the word gives.
+-- The kinds of places in a text: the rule of one word, and the value that the word gives.
 use Rattle.std.specs.Prelude.{ℕ, List, Bool, Option, Some, None, if◌then◌else◌}
 use Rattle.std.specs.Str.{bytes_eq}
 use Rattle.ctt_text.specs.Numbers.{is_number, value, number_of}
 use Rattle.ctt_text.specs.Problem.{is_among, number_in}
 use Rattle.ctt_text.specs.Forms.{Rule, Form, done, place, ◌>>=◌}
 
--- a number that passes the test: where the word is none, the first fault; else the second
+-- the rule of a number that passes the test, with the faults of a word that is not a number and of
+-- a number that fails the test
 abbrev pub passing_number : {F : Type 0} → (ℕ → F) → (ℕ → Bool) → (ℕ → F) → Rule F
 passing_number bad test fault word = if is_number word then (if test (value word) then None else Some fault) else Some bad
 
--- a word that means nothing breaks its place
+-- the fault, unless the word has a meaning
 abbrev pub broken_unless : {F A : Type 0} → (ℕ → F) → Option A → Option (ℕ → F)
 broken_unless fault None = Some fault
 broken_unless fault (Some a) = None
 
--- what is meant, and something where nothing is
+-- the meaning, or a default if there is none
 abbrev pub meant : {A : Type 0} → A → Option A → A
 meant otherwise None = otherwise
 meant otherwise (Some a) = a
 
--- one word
+-- one word with its rule
 unfoldable pub one : {F A : Type 0} → Rule F → (List ℕ → A) → Form F A
 one rule gives = place rule (λ word. done (gives word))
 
 unfoldable pub any : {F : Type 0} → Form F (List ℕ)
 any = one (λ _. None) (λ word. word)
 
--- one word, which gives what it means (and something, where it means nothing)
+-- one word that has a meaning, and gives it (the default is never given)
 unfoldable pub known : {F A : Type 0} → (ℕ → F) → (List ℕ → Option A) → A → Form F A
 known fault meaning otherwise = one (λ word. broken_unless fault (meaning word)) (λ word. meant otherwise (meaning word))
 
--- a word of this text means that it stands there
+-- whether the word is this text
 abbrev pub exactly : List ℕ → List ℕ → Option Unit
 exactly text word = if bytes_eq word text then Some tt else None
 
@@ -49,6 +50,6 @@ new_name fault names = one (λ word. if is_among names word then Some fault else
 unfoldable pub known_name : {F : Type 0} → (ℕ → F) → List (List ℕ) → Form F ℕ
 known_name fault names = known fault (number_in names) 0
 
--- a fixed word before the form
+-- a fixed word, followed by the form
 abbrev pub after : {F A : Type 0} → (ℕ → F) → List ℕ → Form F A → Form F A
 after fault text form = fixed fault text >>= λ _. form

@@ -5,7 +5,8 @@ use Rattle.std.specs.Str.{bytes_eq}
 use Rattle.ctt_text.specs.Lists.{has, Pairwise}
 use Rattle.ctt_text.specs.declared.course_facts.CourseFacts.{CourseFacts}
 
--- Courses, rooms, teachers and curricula are numbered by their places in these lists. A name is the list of its bytes.
+-- Courses, rooms, teachers and curricula are numbered by their indices in these lists. A name is a
+-- list of bytes.
 pub record Problem : Type 0 where
   pub name : List ℕ
   pub course_names : List (List ℕ)
@@ -54,7 +55,7 @@ day_of i s = s / i.periods
 abbrev pub period_of : Problem → ℕ → ℕ
 period_of i s = s % i.periods
 
--- two courses are members of one curriculum
+-- the two courses are members of one curriculum
 abbrev pub mates : Problem → ℕ → ℕ → Bool
 mates i c d = list_any (λ q. has c q && has d q) i.curricula
 
@@ -74,10 +75,11 @@ is_barred i c r = nat_lt r (room_count i) && get_or i.barred (c * room_count i +
 abbrev pub has_barred : Problem → Bool
 has_barred i = list_any (λ b. b) i.barred
 
--- whether a word is among names, and the number of a name among them
+-- whether a word is one of the names
 abbrev pub is_among : List (List ℕ) → List ℕ → Bool
 is_among names word = list_any (bytes_eq word) names
 
+-- the number of a name that is one of them
 abbrev pub place_of : List (List ℕ) → List ℕ → ℕ
 place_of names word = position_or_len (bytes_eq word) names
 
@@ -85,19 +87,19 @@ place_of names word = position_or_len (bytes_eq word) names
 abbrev pub number_in : List (List ℕ) → List ℕ → Option ℕ
 number_in names word = if is_among names word then Some (place_of names word) else None
 
--- a number that a file can give
+-- a number that a text can contain
 abbrev pub IsSmall : ℕ → Type 0
 IsSmall n = n ≤ 999999999
 
--- the numbers of a course, with so many teachers
+-- the facts of a course are in range, for this number of teachers
 abbrev pub IsCourseFacts : ℕ → CourseFacts → Type 0
 IsCourseFacts teachers c = (c.teacher < teachers) × IsSmall c.lectures × IsSmall c.min_days × IsSmall c.students
 
--- members: known courses, each once
+-- the members of a curriculum are known courses, each once
 abbrev pub AreMembers : ℕ → List ℕ → Type 0
 AreMembers courses q = Each (λ c. c < courses) q × Pairwise (λ c d. (c == d) ≡ false) q
 
--- the limits of the format, and what else holds of each instance
+-- the limits of the format, and the other invariants of an instance
 pub record IsProblem (i : Problem) : Type 0 where
   pub courses_few : length i.courses ≤ 2000
   pub rooms_few : length i.capacities ≤ 1000

@@ -1,7 +1,7 @@
--- A room or a course, or none, as one number.
+-- An optional room or course as one number.
 use Rattle.std.specs.Prelude.{◌≡◌, ℕ, zero, suc, Option, Some, None, refl}
 
--- a room, or none, as one number: 0 for none, and else the one after the room's
+-- the optional room or course of a code: none for 0, otherwise the number before the code
 abbrev pub room_by_code : ℕ → Option ℕ
 room_by_code zero = None
 room_by_code (suc room) = Some room

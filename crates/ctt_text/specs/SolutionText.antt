@@ -11,34 +11,35 @@ use Rattle.ctt_text.specs.Forms.{BreaksAt}
 use Rattle.ctt_text.specs.InstanceText.{IsBelow}
 use Rattle.ctt_text.specs.SolutionPlaces.{solution, cut}
 
--- The words of an entry, as they are given.
+-- the words of an entry
 pub record EntryWords : Type 0 where
   pub course : List ℕ
   pub room : List ℕ
   pub day : List ℕ
   pub period : List ℕ
 
--- in their order
+-- the words of an entry in their order
 abbrev pub spelled_entry : EntryWords → List (List ℕ)
 spelled_entry w = w.course ∷ w.room ∷ w.day ∷ w.period ∷ []
 
--- a known course and a known room, and a day and a period in range
+-- the entry names a known course and a known room, and a day and a period in range
 abbrev pub IsEntry : Problem → EntryWords → Type 0
 IsEntry i w = (is_among i.course_names w.course ≡ true) × (is_among i.room_names w.room ≡ true) × IsBelow i.days w.day × IsBelow i.periods w.period
 
--- the lecture that an entry says
+-- the lecture that an entry describes
 abbrev pub lecture_of : Problem → EntryWords → Placed
 lecture_of i w = record { course = place_of i.course_names w.course; slot = slot_of i (value w.day) (value w.period); room = place_of i.room_names w.room }
 
--- no two of them are of one course in one slot
+-- no two lectures are of the same course in the same slot
 abbrev pub AreApart : List Placed → Type 0
 AreApart ls = Pairwise (λ a b. (a.course == b.course && a.slot == b.slot) ≡ false) ls
 
--- whatever is looked for is in both or in neither
+-- every test passes for some lecture of both lists or of neither
 abbrev pub SameLectures : List Placed → List Placed → Type 0
 SameLectures ls ms = (wanted : Placed → Bool) → list_any wanted ls ≡ list_any wanted ms
 
--- The words are entries of four words, of distinct pairs of course and slot, and t is the ascending list of their lectures.
+-- The words are entries of four words, with distinct pairs of course and slot, and t is the
+-- ascending list of their lectures.
 pub record SolSpells (i : Problem) (words : List (List ℕ)) (t : List Placed) : Type 0 where
   pub given : List EntryWords
   pub all : words ≡ flat_map spelled_entry given
@@ -47,6 +48,7 @@ pub record SolSpells (i : Problem) (words : List (List ℕ)) (t : List Placed) :
   pub ascending : Ascending t
   pub same : SameLectures t (map (lecture_of i) given)
 
--- The words before word k obey their places, and word k breaks the rule of its place, or is missing there, by this fault.
+-- The words before word k obey the rules of their places, and word k breaks the rule of its place,
+-- or is missing, with this fault.
 abbrev pub SolutionBreaksAt : Problem → List (List ℕ) → ℕ → SolutionFault → Type 0
 SolutionBreaksAt i words k fault = BreaksAt cut (solution i words) words k fault

@@ -15,10 +15,10 @@ words_of i l = record {
   period = decimal (period_of i l.slot);
 }
 
--- with one blank between, and the end of the line
+-- the words separated by single blanks, and a line feed
 abbrev pub line_of : EntryWords → List ℕ
 line_of w = line (spelled_entry w)
 
--- one line a lecture, in their order
+-- one line per lecture, in order
 abbrev pub soltext : Problem → List Placed → List ℕ
 soltext i t = flat_map (λ l. line_of (words_of i l)) t

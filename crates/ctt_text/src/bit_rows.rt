@@ -1,4 +1,4 @@
-//! Rows of bits, which mark small numbers in each row anew.
+//! A table of bits.
 
 ghost use Rattle.std.specs.Prelude.{◌≡◌, ◌<◌, ◌≤◌, ◌==◌, ◌&&◌, ℕ, true, false, IfOk};
 ghost use Rattle.std.specs.List.{list_any};
@@ -9,8 +9,9 @@ use crate::marks::Marks;
 use std::alloc::{AllocError, Global};
 use std::marker::Model;
 
-/// Which of the numbers below `width` are marked in each row: at most 2,000 rows of at most 2,000 numbers. A row
-/// has as many words as its numbers need, and all lie one after the other.
+/// A table of bits: which of the numbers below `width` are marked in each row. It has at most 2,000
+/// rows of at most 2,000 numbers. A row occupies whole words of 64 bits, and the rows are
+/// contiguous.
 #[derive(Drop)]
 pub struct BitRows {
     rows: usize,
@@ -29,7 +30,7 @@ impl Model for BitRows {
         IsBitTable (record { rows = b.rows; width = b.width; words = b.words.items }) };
 }
 
-/// How many words so many numbers need.
+/// Returns how many words a row of `width` numbers needs.
 fn words_for(width: usize) -> usize
     requires { width ≤ 2000 }
     ensures { result ≡ words_for width }
@@ -38,7 +39,7 @@ fn words_for(width: usize) -> usize
 }
 
 impl BitRows {
-    /// No number is marked. It fails where memory is refused.
+    /// Returns a table without marks. Fails if memory runs out.
     pub fn new(alloc: Global, rows: usize, width: usize) -> Result<Self, AllocError>
         requires rows { rows ≤ 2000 }
         requires width { width ≤ 2000 }
@@ -49,7 +50,7 @@ impl BitRows {
         Ok(BitRows { rows, width, words })
     }
 
-    /// Marks a number of a row.
+    /// Marks a number in a row. Allocates nothing.
     pub fn mark(&mut self, row: usize, number: usize)
         requires row { row < self.old.rows }
         requires number { number < self.old.width }
@@ -59,7 +60,7 @@ impl BitRows {
         self.words[place] |= 1 << (number % 64);
     }
 
-    /// Marks more numbers of a row.
+    /// Marks all numbers of `marks` in a row.
     pub(crate) fn mark_all(&mut self, row: usize, marks: &Marks)
         requires row { row < self.old.rows }
         requires within { (n : ℕ) → self.old.width ≤ n → is_marked marks.now n ≡ false }
@@ -72,7 +73,7 @@ impl BitRows {
         self.words[start..start + count].copy_from_slice(&all.words()[..count]);
     }
 
-    /// Takes the mark from a number of a row.
+    /// Unmarks a number in a row. Allocates nothing.
     pub fn unmark(&mut self, row: usize, number: usize)
         requires row { row < self.old.rows }
         requires number { number < self.old.width }
@@ -82,7 +83,7 @@ impl BitRows {
         self.words[place] &= !(1 << (number % 64));
     }
 
-    /// Whether a number of a row is marked.
+    /// Returns whether a number is marked in a row.
     pub fn is_marked(&self, row: usize, number: usize) -> bool
         requires row { row < self.now.rows }
         requires number { number < self.now.width }
@@ -92,7 +93,7 @@ impl BitRows {
         (self.words[place] >> (number % 64)) & 1 == 1
     }
 
-    /// Whether any number of any row is marked.
+    /// Returns whether any number is marked in any row.
     pub(crate) fn has_marks(&self) -> bool
         ensures { result ≡ list_any (λ b. b) (marks_of self.now) }
     {
@@ -104,7 +105,7 @@ impl BitRows {
         false
     }
 
-    /// The marks of a row.
+    /// Returns the marks of a row.
     #[inline(always)]
     pub fn row(&self, row: usize) -> Marks
         requires { row < self.now.rows }
@@ -115,7 +116,7 @@ impl BitRows {
         Marks::of_words(&self.words[start..start + count])
     }
 
-    /// It fails where memory is refused.
+    /// Returns a copy. Fails if memory runs out.
     pub fn copy(&self) -> Result<Self, AllocError>
         ensures { IfOk result (λ b. b ≡ self.now) }
     {

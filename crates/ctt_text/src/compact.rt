@@ -1,4 +1,4 @@
-//! A room or a course, or none, in two bytes.
+//! An optional room or course in two bytes.
 
 ghost use Rattle.std.specs.Prelude.{◌≡◌, ◌<◌, Some, None};
 ghost use Rattle.ctt_text.specs.RoomTable.{room_by_code};
@@ -6,10 +6,10 @@ ghost use Rattle.ctt_text.specs.RoomTable.{room_by_code};
 use crate::ids::{CourseNo, RoomNo};
 use std::marker::Model;
 
-/// The number of a room or a course, or none. An `Option` of it takes four bytes.
+/// An optional room or course number in two bytes. An `Option` of either takes four bytes.
 #[derive(Clone, Copy)]
 pub struct Compact {
-    /// 0 for none, and else the number after that of the room or course.
+    /// 0 for none, otherwise the number of the room or course plus 1.
     code: u16,
 }
 
@@ -28,14 +28,14 @@ impl Model for Compact {
 }
 
 impl Compact {
-    /// Neither a room nor a course.
+    /// Returns the value for neither a room nor a course.
     pub fn none() -> Self
         ensures { result ≡ None }
     {
         Compact { code: 0 }
     }
 
-    /// This room. Its number is below 65,535.
+    /// Wraps a room. Its number must be below 65,535.
     pub fn of_room(room: RoomNo) -> Self
         requires { room < 65535 }
         ensures { result ≡ Some room }
@@ -45,7 +45,7 @@ impl Compact {
         }
     }
 
-    /// This course. Its number is below 65,535.
+    /// Wraps a course. Its number must be below 65,535.
     pub fn of_course(course: CourseNo) -> Self
         requires { course < 65535 }
         ensures { result ≡ Some course }
@@ -55,7 +55,7 @@ impl Compact {
         }
     }
 
-    /// The room, if there is one.
+    /// Returns the room, if there is one.
     pub fn room(self) -> Option<RoomNo>
         ensures { result ≡ self }
     {
@@ -66,14 +66,14 @@ impl Compact {
         }
     }
 
-    /// The number that says it: 0 for none.
+    /// Returns the code: 0 for none, otherwise the number plus 1.
     pub fn code(self) -> u16
         ensures { self ≡ room_by_code result }
     {
         self.code
     }
 
-    /// The course, if there is one.
+    /// Returns the course, if there is one.
     pub fn course(self) -> Option<CourseNo>
         ensures { result ≡ self }
     {

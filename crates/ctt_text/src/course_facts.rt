@@ -1,16 +1,16 @@
-//! What an instance says of a course.
+//! The facts of a course.
 
 use crate::ids::TeacherNo;
 
-/// What an instance says of a course beside its name. The numbers are at most 999,999,999.
+/// What an instance states about a course, apart from its name. The counts are at most 999,999,999.
 #[derive(Clone, Copy, Debug, PartialEq, Eq, Hash)]
 pub struct CourseFacts {
-    /// Who teaches it.
+    /// The teacher of the course.
     pub teacher: TeacherNo,
-    /// How many lectures it has, each in a slot of its own.
+    /// The number of lectures, each in a slot of its own.
     pub lectures: u32,
-    /// On how many days its lectures should be spread at least.
+    /// The minimum number of days over which the lectures should be spread.
     pub min_days: u32,
-    /// How many students attend it.
+    /// The number of students who attend the course.
     pub students: u32,
 }

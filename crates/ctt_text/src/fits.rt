@@ -1,4 +1,4 @@
-//! Whether numbers are those of an instance.
+//! Range checks of numbers against an instance.
 
 ghost use Rattle.std.specs.Prelude.{◌↔◌, ◌<◌, IsTrue};
 ghost use Rattle.ctt_text.specs.Problem.{course_count, room_count, slot_count, teacher_count, curriculum_count};
@@ -9,7 +9,7 @@ use crate::instance::Instance;
 use crate::placed::Placed;
 
 impl CourseNo {
-    /// Whether the instance has a course of this number.
+    /// Returns whether the instance has a course with this number.
     pub fn fits(self, instance: &Instance) -> bool
         ensures { IsTrue result ↔ (self < course_count instance.now) }
     {
@@ -18,7 +18,7 @@ impl CourseNo {
 }
 
 impl RoomNo {
-    /// Whether the instance has a room of this number.
+    /// Returns whether the instance has a room with this number.
     pub fn fits(self, instance: &Instance) -> bool
         ensures { IsTrue result ↔ (self < room_count instance.now) }
     {
@@ -27,7 +27,7 @@ impl RoomNo {
 }
 
 impl SlotNo {
-    /// Whether the instance has a slot of this number.
+    /// Returns whether the instance has a slot with this number.
     pub fn fits(self, instance: &Instance) -> bool
         ensures { IsTrue result ↔ (self < slot_count instance.now) }
     {
@@ -36,7 +36,7 @@ impl SlotNo {
 }
 
 impl TeacherNo {
-    /// Whether the instance has a teacher of this number.
+    /// Returns whether the instance has a teacher with this number.
     pub fn fits(self, instance: &Instance) -> bool
         ensures { IsTrue result ↔ (self < teacher_count instance.now) }
     {
@@ -45,7 +45,7 @@ impl TeacherNo {
 }
 
 impl CurriculumNo {
-    /// Whether the instance has a curriculum of this number.
+    /// Returns whether the instance has a curriculum with this number.
     pub fn fits(self, instance: &Instance) -> bool
         ensures { IsTrue result ↔ (self < curriculum_count instance.now) }
     {
@@ -54,7 +54,7 @@ impl CurriculumNo {
 }
 
 impl Placed {
-    /// Whether the instance has the course, the slot and the room of the lecture.
+    /// Returns whether the instance has the course, the slot and the room of the lecture.
     pub fn fits(&self, instance: &Instance) -> bool
         ensures { IsTrue result ↔ Fits instance.now self.now }
     {

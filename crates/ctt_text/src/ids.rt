@@ -19,14 +19,14 @@ impl Model for CourseNo {
 }
 
 impl CourseNo {
-    /// The course with this number.
+    /// Returns the course with this number.
     pub fn new(number: u16) -> Self
         ensures { result ≡ number }
     {
         CourseNo(number)
     }
 
-    /// The number itself.
+    /// Returns the number.
     pub fn get(self) -> u16
         ensures { result ≡ self }
     {
@@ -50,14 +50,14 @@ impl Model for RoomNo {
 }
 
 impl RoomNo {
-    /// The room with this number.
+    /// Returns the room with this number.
     pub fn new(number: u16) -> Self
         ensures { result ≡ number }
     {
         RoomNo(number)
     }
 
-    /// The number itself.
+    /// Returns the number.
     pub fn get(self) -> u16
         ensures { result ≡ self }
     {
@@ -66,7 +66,7 @@ impl RoomNo {
     }
 }
 
-/// The number of a slot: the day times the periods of a day, plus the period.
+/// The number of a slot: the day times the number of periods per day, plus the period.
 #[derive(Clone, Copy, Debug, Default, PartialEq, Eq, PartialOrd, Ord, Hash)]
 pub struct SlotNo(u16);
 
@@ -81,14 +81,14 @@ impl Model for SlotNo {
 }
 
 impl SlotNo {
-    /// The slot with this number.
+    /// Returns the slot with this number.
     pub fn new(number: u16) -> Self
         ensures { result ≡ number }
     {
         SlotNo(number)
     }
 
-    /// The number itself.
+    /// Returns the number.
     pub fn get(self) -> u16
         ensures { result ≡ self }
     {
@@ -112,14 +112,14 @@ impl Model for TeacherNo {
 }
 
 impl TeacherNo {
-    /// The teacher with this number.
+    /// Returns the teacher with this number.
     pub fn new(number: u16) -> Self
         ensures { result ≡ number }
     {
         TeacherNo(number)
     }
 
-    /// The number itself.
+    /// Returns the number.
     pub fn get(self) -> u16
         ensures { result ≡ self }
     {
@@ -143,14 +143,14 @@ impl Model for CurriculumNo {
 }
 
 impl CurriculumNo {
-    /// The curriculum with this number.
+    /// Returns the curriculum with this number.
     pub fn new(number: u16) -> Self
         ensures { result ≡ number }
     {
         CurriculumNo(number)
     }
 
-    /// The number itself.
+    /// Returns the number.
     pub fn get(self) -> u16
         ensures { result ≡ self }
     {

@@ -1,4 +1,4 @@
-//! The instance, and what it says.
+//! An instance of the timetabling problem.
 
 ghost use Rattle.std.specs.Prelude.{◌≡◌, ◌<◌, ◌≤◌, ◌*◌, ◌&&◌, ℕ, length, nat_lt, IfSome};
 ghost use Rattle.std.specs.List.{AllByRecursion as Each};
@@ -32,8 +32,8 @@ pub use barred::read_barred;
 pub use read::read_instance;
 use std::marker::Model;
 
-/// An instance of curriculum-based course timetabling, as it was read from its file, with the rooms barred
-/// that [`read_barred`] read since.
+/// An instance of curriculum-based course timetabling, as parsed from its file, with the barred
+/// rooms that [`read_barred`] has set since.
 ///
 /// There are at most 2,000 courses, 1,000 rooms, 2,000 teachers, 20,000 curricula and 2,000 slots.
 pub struct Instance {
@@ -51,15 +51,15 @@ pub struct Instance {
     unavailable: BitRows,
     /// For each course, the rooms that are barred for it.
     barred: BitRows,
-    /// For each course, those that it clashes with.
+    /// For each course, the courses that it clashes with.
     clashes: BitRows,
     /// For each course, its curricula.
     belonging: Vec<Vec<CurriculumNo>>,
-    /// For each teacher, his courses.
+    /// For each teacher, the courses of that teacher.
     taught: Vec<Vec<CourseNo>>,
 }
 
-// A derived `Drop` is proved anew in each crate above.
+// A derived `Drop` would be proved again in each dependent crate.
 impl Drop for Instance {
     fn drop(self) {
         let Instance {
@@ -95,30 +95,30 @@ impl Model for Instance {
 }
 
 impl Instance {
-    /// A statement: each instance is within the limits, and its numbers are those of its lists.
+    /// States that each instance is within the limits, with its references in range.
     pub fn limits_hold(&self)
         ensures { IsProblem self.now }
     {
-        // Its contract is all that it is. What holds of an instance is known where one is read.
+        // Only the contract matters. Accessing a field makes the invariant available to the proof.
         let _days = &self.days;
     }
 
-    /// A statement: all names are words, distinct in their lists.
+    /// States that all names are words, distinct within each list.
     pub fn names_are_words(&self)
         ensures { IsNamed self.now }
     {
-        // Its contract is all that it is. What holds of an instance is known where one is read.
+        // Only the contract matters. Accessing a field makes the invariant available to the proof.
         let _days = &self.days;
     }
 
-    /// The name of the instance.
+    /// Returns the name of the instance.
     pub fn name(&self) -> &str
         ensures { result.now ≡ self.now.name }
     {
         self.name.as_str()
     }
 
-    /// How many courses there are, at most 2,000.
+    /// Returns the number of courses, at most 2,000.
     pub fn courses(&self) -> u16
         ensures exact { result ≡ course_count self.now }
         ensures few { result ≤ 2000 }
@@ -126,7 +126,7 @@ impl Instance {
         self.courses.len() as u16
     }
 
-    /// How many rooms there are, at most 1,000.
+    /// Returns the number of rooms, at most 1,000.
     pub fn rooms(&self) -> u16
         ensures exact { result ≡ room_count self.now }
         ensures few { result ≤ 1000 }
@@ -134,7 +134,7 @@ impl Instance {
         self.capacities.len() as u16
     }
 
-    /// How many teachers there are, at most one for each course.
+    /// Returns the number of teachers, at most the number of courses.
     pub fn teachers(&self) -> u16
         ensures exact { result ≡ teacher_count self.now }
         ensures few { result ≤ course_count self.now }
@@ -142,7 +142,7 @@ impl Instance {
         self.teacher_names.len() as u16
     }
 
-    /// How many curricula there are, at most 20,000.
+    /// Returns the number of curricula, at most 20,000.
     pub fn curricula(&self) -> u16
         ensures exact { result ≡ curriculum_count self.now }
         ensures few { result ≤ 20000 }
@@ -150,7 +150,7 @@ impl Instance {
         self.curricula.len() as u16
     }
 
-    /// How many days there are, at most 2,000.
+    /// Returns the number of days, at most 2,000.
     pub fn days(&self) -> u16
         ensures exact { result ≡ self.now.days }
         ensures few { result ≤ 2000 }
@@ -158,7 +158,7 @@ impl Instance {
         self.days
     }
 
-    /// How many periods a day has, at most 2,000.
+    /// Returns the number of periods per day, at most 2,000.
     pub fn periods(&self) -> u16
         ensures exact { result ≡ self.now.periods }
         ensures few { result ≤ 2000 }
@@ -166,7 +166,7 @@ impl Instance {
         self.periods
     }
 
-    /// How many slots there are, at most 2,000: the days times the periods of a day.
+    /// Returns the number of slots, at most 2,000: the days times the periods per day.
     pub fn slots(&self) -> u16
         ensures exact { result ≡ slot_count self.now }
         ensures few { result ≤ 2000 }
@@ -174,7 +174,7 @@ impl Instance {
         self.days * self.periods
     }
 
-    /// Who teaches a course.
+    /// Returns the teacher of a course.
     pub fn teacher(&self, course: CourseNo) -> TeacherNo
         requires { course < course_count self.now }
         ensures exact { result ≡ (course_of self.now course).teacher }
@@ -183,7 +183,7 @@ impl Instance {
         self.courses[course.get() as usize].teacher
     }
 
-    /// How many lectures a course has, at most 999,999,999.
+    /// Returns the number of lectures of a course, at most 999,999,999.
     pub fn lectures(&self, course: CourseNo) -> u32
         requires { course < course_count self.now }
         ensures exact { result ≡ (course_of self.now course).lectures }
@@ -192,7 +192,8 @@ impl Instance {
         self.courses[course.get() as usize].lectures
     }
 
-    /// On how many days the lectures of a course should be spread at least, at most 999,999,999.
+    /// Returns the minimum number of days over which the lectures of a course should be spread, at
+    /// most 999,999,999.
     pub fn min_days(&self, course: CourseNo) -> u32
         requires { course < course_count self.now }
         ensures exact { result ≡ (course_of self.now course).min_days }
@@ -201,7 +202,7 @@ impl Instance {
         self.courses[course.get() as usize].min_days
     }
 
-    /// How many students attend a course, at most 999,999,999.
+    /// Returns the number of students who attend a course, at most 999,999,999.
     pub fn students(&self, course: CourseNo) -> u32
         requires { course < course_count self.now }
         ensures exact { result ≡ (course_of self.now course).students }
@@ -210,7 +211,7 @@ impl Instance {
         self.courses[course.get() as usize].students
     }
 
-    /// How many seats a room has, at most 999,999,999.
+    /// Returns the number of seats in a room, at most 999,999,999.
     pub fn capacity(&self, room: RoomNo) -> u32
         requires { room < room_count self.now }
         ensures exact { result ≡ capacity_of self.now room }
@@ -219,7 +220,8 @@ impl Instance {
         self.capacities[room.get() as usize]
     }
 
-    /// The courses of a curriculum, in the order in which the file first names them, each once.
+    /// Returns the courses of a curriculum, each once, in the order in which the file first names
+    /// them.
     pub fn members(&self, curriculum: CurriculumNo) -> &[CourseNo]
         requires { curriculum < curriculum_count self.now }
         ensures exact { result.now ≡ members self.now curriculum }
@@ -228,7 +230,7 @@ impl Instance {
         &self.curricula[curriculum.get() as usize]
     }
 
-    /// The curricula of which a course is a member, ascending.
+    /// Returns the curricula that a course is a member of, ascending.
     pub fn curricula_of(&self, course: CourseNo) -> &[CurriculumNo]
         requires { course < course_count self.now }
         ensures exact { result.now ≡ curricula_of self.now course }
@@ -238,7 +240,7 @@ impl Instance {
         &self.belonging[course.get() as usize]
     }
 
-    /// The courses of a teacher, ascending.
+    /// Returns the courses of a teacher, ascending.
     pub fn taught_by(&self, teacher: TeacherNo) -> &[CourseNo]
         requires { teacher < teacher_count self.now }
         ensures exact { result.now ≡ courses_taught_by self.now teacher }
@@ -247,7 +249,8 @@ impl Instance {
         &self.taught[teacher.get() as usize]
     }
 
-    /// Whether two different courses have the same teacher or are members of one curriculum.
+    /// Returns whether two courses clash: they are different, and have the same teacher or are
+    /// members of one curriculum.
     pub fn clash(&self, course: CourseNo, other: CourseNo) -> bool
         requires course { course < course_count self.now }
         requires other { other < course_count self.now }
@@ -257,7 +260,7 @@ impl Instance {
             .is_marked(course.get() as usize, other.get() as usize)
     }
 
-    /// The courses that clash with a course.
+    /// Returns the courses that clash with a course.
     pub fn clashing(&self, course: CourseNo) -> Marks
         requires { course < course_count self.now }
         ensures { (d : ℕ)
@@ -267,7 +270,7 @@ impl Instance {
         self.clashes.row(course.get() as usize)
     }
 
-    /// Whether a course is unavailable in a slot.
+    /// Returns whether a course is unavailable in a slot.
     pub fn unavailable(&self, course: CourseNo, slot: SlotNo) -> bool
         requires course { course < course_count self.now }
         requires slot { slot < slot_count self.now }
@@ -277,7 +280,7 @@ impl Instance {
             .is_marked(course.get() as usize, slot.get() as usize)
     }
 
-    /// Whether a room is barred for a course.
+    /// Returns whether a room is barred for a course.
     pub fn barred(&self, course: CourseNo, room: RoomNo) -> bool
         requires course { course < course_count self.now }
         requires room { room < room_count self.now }
@@ -287,7 +290,7 @@ impl Instance {
             .is_marked(course.get() as usize, room.get() as usize)
     }
 
-    /// Bars the rooms that a table marks for each course, and no others.
+    /// Replaces the table of barred rooms.
     fn bar(&mut self, table: BitRows)
         requires { HasSize table (course_count self.old) (room_count self.old) }
         ensures { self.new ≡ record self.old { barred = marks_of table } }
@@ -295,14 +298,14 @@ impl Instance {
         self.barred = table;
     }
 
-    /// Whether some room is barred for some course.
+    /// Returns whether any room is barred for any course.
     pub fn has_barred(&self) -> bool
         ensures { result ≡ has_barred self.now }
     {
         self.barred.has_marks()
     }
 
-    /// The slot of a period in a day.
+    /// Returns the slot of a period of a day.
     pub fn slot_of(&self, day: u16, period: u16) -> SlotNo
         requires day { day < self.now.days }
         requires period { period < self.now.periods }
@@ -312,7 +315,7 @@ impl Instance {
         SlotNo::new(day * self.periods + period)
     }
 
-    /// The day of a slot.
+    /// Returns the day of a slot.
     pub fn day_of(&self, slot: SlotNo) -> u16
         requires { slot < slot_count self.now }
         ensures exact { result ≡ day_of self.now slot }
@@ -321,7 +324,7 @@ impl Instance {
         slot.get() / self.periods
     }
 
-    /// The period of a slot in its day.
+    /// Returns the period of a slot within its day.
     pub fn period_of(&self, slot: SlotNo) -> u16
         requires { slot < slot_count self.now }
         ensures exact { result ≡ period_of self.now slot }

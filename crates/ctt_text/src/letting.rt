@@ -1,7 +1,7 @@
-//! Letting a value go.
+//! Dropping a value.
 
-/// Lets a value go.
+/// Drops a value.
 ///
-/// A function that lets a value with many parts go at several exits is dear to prove, since each exit
-/// lets each part go. Here it goes as a whole.
+/// A function that drops a value with many fields at several exits is expensive to prove, since
+/// each exit drops each field. This function drops the value as a whole.
 pub fn let_go<T: Drop>(_value: T) {}

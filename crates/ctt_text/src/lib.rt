@@ -1,4 +1,4 @@
-//! The texts of curriculum-based course timetabling: instances, solutions and barred rooms.
+//! The text formats of curriculum-based course timetabling: instances, solutions and barred rooms.
 #![tactic(auto)]
 
 mod bit_rows;

@@ -1,11 +1,11 @@
-//! Marks on small numbers, such as those of courses, slots or rooms.
+//! A set of small numbers, such as those of courses, slots or rooms.
 
 ghost use Rattle.std.specs.Prelude.{◌≡◌, ℕ, ◌<◌, ◌≤◌, ◌==◌, ◌&&◌, ◌||◌, false, not, nat_le, nat_lt, length, IfSome};
 ghost use Rattle.ctt_text.specs.Marks.{is_marked, count_marked, IsLeast};
 
 use std::marker::Model;
 
-/// Which of the numbers below 2,000 are marked, a bit each. It takes no memory.
+/// A set of marked numbers below 2,000, one bit each. Allocates nothing.
 #[derive(Clone, Copy, PartialEq, Eq)]
 pub struct Marks {
     words: [u64; 32],
@@ -25,14 +25,14 @@ impl Model for Marks {
 }
 
 impl Marks {
-    /// No number is marked.
+    /// Returns a set in which no number is marked.
     pub fn new() -> Self
         ensures { (n : ℕ) → is_marked result n ≡ false }
     {
         Marks { words: [0; 32] }
     }
 
-    /// The marks that words hold, of which each has 64 numbers.
+    /// Returns the marks stored in words, each with the bits of 64 numbers.
     #[inline(always)]
     pub fn of_words(words: &[u64]) -> Self
         requires few { length words.now ≤ 32 }
@@ -44,7 +44,7 @@ impl Marks {
         Marks { words: all }
     }
 
-    /// The words, of which each has 64 numbers.
+    /// Returns the 32 words, each with the bits of 64 numbers.
     pub(crate) fn words(&self) -> &[u64]
         ensures value { result.now ≡ self.now }
         ensures size { length result.now ≡ 32 }
@@ -52,7 +52,7 @@ impl Marks {
         &self.words
     }
 
-    /// Marks a number, and answers whether it was new.
+    /// Marks a number, and returns whether it was unmarked before.
     pub fn mark(&mut self, number: usize) -> bool
         requires { number < 2000 }
         ensures fresh { result ≡ not (is_marked self.old number) }
@@ -64,7 +64,7 @@ impl Marks {
         word & bit == 0
     }
 
-    /// Takes the mark from a number, and answers whether it had one.
+    /// Unmarks a number, and returns whether it was marked before.
     pub fn unmark(&mut self, number: usize) -> bool
         requires { number < 2000 }
         ensures was { result ≡ is_marked self.old number }
@@ -77,7 +77,7 @@ impl Marks {
         word & bit != 0
     }
 
-    /// Whether a number is marked; none from 2,000 on is.
+    /// Returns whether a number is marked. No number from 2,000 on is.
     pub fn is_marked(&self, number: usize) -> bool
         ensures marked { result ≡ is_marked self.now number }
         ensures within { 2000 ≤ number → result ≡ false }
@@ -85,7 +85,7 @@ impl Marks {
         number < 2000 && (self.words[number / 64] >> (number % 64)) & 1 == 1
     }
 
-    /// Marks what other marks have too.
+    /// Marks all numbers that are marked in `other`.
     pub fn add(&mut self, other: &Self)
         ensures { (n : ℕ) → is_marked self.new n ≡ (is_marked self.old n || is_marked other.now n) }
     {
@@ -94,7 +94,7 @@ impl Marks {
         }
     }
 
-    /// Marks all numbers below `count`, whole words first.
+    /// Marks all numbers below `count`.
     pub fn mark_below(&mut self, count: usize)
         requires { count ≤ 2000 }
         ensures { (n : ℕ) → is_marked self.new n ≡ (is_marked self.old n || nat_lt n count) }
@@ -105,7 +105,8 @@ impl Marks {
         self.words[count / 64] |= (1 << (count % 64)) - 1;
     }
 
-    /// Whether any number is marked in both. All words are looked at at once, with no test between them.
+    /// Returns whether any number is marked in both. Looks at all words without an early exit, so
+    /// that the loop has no branches.
     fn has_common(&self, other: &Self) -> bool
         ensures { result ≡ false
             → (n : ℕ)
@@ -118,7 +119,7 @@ impl Marks {
         common != 0
     }
 
-    /// How many numbers are marked in both, word by word.
+    /// Counts the numbers that are marked in both, word by word.
     fn count_common(&self, other: &Self) -> u32
         ensures { result ≡ count_marked (λ n. is_marked self.now n && is_marked other.now n) }
     {
@@ -129,7 +130,8 @@ impl Marks {
         count
     }
 
-    /// How many numbers are marked in both. Of most two marks none is.
+    /// Counts the numbers that are marked in both. Optimized for the usual case, in which there are
+    /// none.
     #[tactic(auto, using(crate::proofs::MarkLemmas::count_none))]
     pub fn common_count(&self, other: &Self) -> u32
         ensures { result ≡ count_marked (λ n. is_marked self.now n && is_marked other.now n) }
@@ -141,7 +143,7 @@ impl Marks {
         }
     }
 
-    /// The least number below `count` that is marked in both.
+    /// Returns the least number below `count` that is marked in both.
     pub fn first_common_below(&self, other: &Self, count: usize) -> Option<usize>
         requires { count ≤ 2000 }
         ensures least { IsLeast
@@ -158,7 +160,7 @@ impl Marks {
         None
     }
 
-    /// The least marked number from `first` on and below `end`.
+    /// Returns the least marked number in `first..end`.
     pub fn next_between(&self, first: usize, end: usize) -> Option<usize>
         requires { end ≤ 2000 }
         ensures least { IsLeast (λ n. nat_lt n end && (nat_le first n && is_marked self.now n))

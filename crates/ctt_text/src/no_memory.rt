@@ -1,9 +1,9 @@
-//! Want of memory.
+//! The out-of-memory error.
 
 use std::alloc::{AllocError, AllocFailed};
 use thiserror::Error;
 
-/// There is not enough memory.
+/// The error of an allocation that failed.
 #[derive(Clone, Copy, Debug, PartialEq, Eq, Hash, Error)]
 #[error("no memory")]
 pub struct NoMemory;

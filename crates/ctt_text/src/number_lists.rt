@@ -1,11 +1,11 @@
-//! Lists of numbers, or of lectures, one in each place, to which more are added.
+//! A vector of lists, to which numbers or lectures are added.
 
 ghost use Rattle.std.specs.Prelude.{◌≡◌, ℕ, ◌<◌, ◌==◌, [], length, map, get_or, IfOk, OnOk, OnErr};
 ghost use Rattle.ctt_text.specs.NumberLists.{AddsNumber};
 
 use std::alloc::{AllocError, Global};
 
-/// Adds a number to the list in a place. After want of memory the lists are as they were.
+/// Appends a number to the list at index `place`. If memory runs out, the lists are unchanged.
 pub fn add_to<N: Drop>(lists: &mut [Vec<N>], place: usize, number: N) -> Result<(), AllocError>
     requires { place < length lists.old }
     ensures added { OnOk result
@@ -17,7 +17,7 @@ pub fn add_to<N: Drop>(lists: &mut [Vec<N>], place: usize, number: N) -> Result<
     Ok(())
 }
 
-/// In each of so many places, no number.
+/// Returns `count` empty lists. Fails if memory runs out.
 #[tactic(auto, using(crate::proofs::NumberListLemmas::none_more))]
 pub fn empty_lists<N: Drop>(alloc: Global, count: usize) -> Result<Vec<Vec<N>>, AllocError>
     ensures size { IfOk result (λ v. length v.items ≡ count) }

@@ -1,4 +1,4 @@
-//! One place of any text: one word, by the rule of its place, with the faults of that text.
+//! Parsers of a single word, generic over the faults of the text.
 
 ghost use Rattle.std.specs.Prelude.{◌≡◌, ◌<◌, nat_lt, IfOk};
 ghost use Rattle.ctt_text.specs.Places.{fixed, number, number_if, known_name};
@@ -10,28 +10,28 @@ use crate::ids::{CourseNo, RoomNo};
 use crate::instance::Instance;
 use crate::reader::Reader;
 
-/// The faults that the places of each text have. A fault is told the number of its word, from 1.
+/// The faults that every text has. A fault takes the number of its word, counted from 1.
 pub trait PlaceFault: Sized {
     ghost use Rattle.std.specs.Prelude.{ℕ};
 
-    /// The fault of a word that is not there.
+    /// The fault of a missing word.
     ghost missing: { ℕ → Self };
 
-    /// The fault of a word that is no number.
+    /// The fault of a word that is not a number.
     ghost bad_number: { ℕ → Self };
 
-    /// The fault of a word that is no course's name.
+    /// The fault of a word that is not the name of a course.
     ghost unknown_course: { ℕ → Self };
 
-    /// No word is there.
+    /// Returns the fault of a missing word.
     fn missing(at: u64) -> Self
         ensures { result ≡ missing at };
 
-    /// The word is no number.
+    /// Returns the fault of a word that is not a number.
     fn bad_number(at: u64) -> Self
         ensures { result ≡ bad_number at };
 
-    /// The word is no course's name.
+    /// Returns the fault of a word that is not the name of a course.
     fn unknown_course(at: u64) -> Self
         ensures { result ≡ unknown_course at };
 }
@@ -43,14 +43,14 @@ pub trait SlotFault: PlaceFault {
     /// The fault of a day that is not below the number of days.
     ghost day_out: { ℕ → Self };
 
-    /// The fault of a period that is not below the number of periods of a day.
+    /// The fault of a period that is not below the number of periods per day.
     ghost period_out: { ℕ → Self };
 
-    /// The day is not below the number of days.
+    /// Returns the fault of a day that is not below the number of days.
     fn day_out(at: u64) -> Self
         ensures { result ≡ day_out at };
 
-    /// The period is not below the number of periods of a day.
+    /// Returns the fault of a period that is not below the number of periods per day.
     fn period_out(at: u64) -> Self
         ensures { result ≡ period_out at };
 }
@@ -59,10 +59,10 @@ pub trait SlotFault: PlaceFault {
 pub trait FixedFault: PlaceFault {
     ghost use Rattle.std.specs.Prelude.{ℕ};
 
-    /// The fault of a word that is not the fixed one.
+    /// The fault of a word that is not the fixed word expected.
     ghost other_word: { ℕ → Self };
 
-    /// The word is not the fixed one.
+    /// Returns the fault of a word that is not the fixed word expected.
     fn other_word(at: u64) -> Self
         ensures { result ≡ other_word at };
 }
@@ -71,15 +71,15 @@ pub trait FixedFault: PlaceFault {
 pub trait RoomFault: PlaceFault {
     ghost use Rattle.std.specs.Prelude.{ℕ};
 
-    /// The fault of a word that is no room's name.
+    /// The fault of a word that is not the name of a room.
     ghost unknown_room: { ℕ → Self };
 
-    /// The word is no room's name.
+    /// Returns the fault of a word that is not the name of a room.
     fn unknown_room(at: u64) -> Self
         ensures { result ≡ unknown_room at };
 }
 
-/// The next word, whatever it is.
+/// Takes the next word, whatever it is.
 pub fn next_word<'a, F: PlaceFault + Drop>(reader: &mut Reader<'a>) -> Result<&'a str, F>
     ensures word { IfOk result (λ word. IsWord word.now) }
     ensures exact { Reads (λ word. (word.now, reader.new)) result (word_at F.missing reader.old) }
@@ -91,7 +91,7 @@ pub fn next_word<'a, F: PlaceFault + Drop>(reader: &mut Reader<'a>) -> Result<&'
     }
 }
 
-/// The fixed word of this place.
+/// Parses the fixed word `text`.
 #[tactic(auto, using(crate::proofs::Steps::read_known), unfolding(crate::specs::Places::fixed))]
 pub fn next_fixed<F: FixedFault + Drop>(reader: &mut Reader, text: &str) -> Result<(), F>
     ensures { Reads (λ _. (tt, reader.new)) result
@@ -105,7 +105,7 @@ pub fn next_fixed<F: FixedFault + Drop>(reader: &mut Reader, text: &str) -> Resu
     }
 }
 
-/// A number, at most 999,999,999.
+/// Parses a number, at most 999,999,999.
 #[tactic(auto, using(crate::proofs::Steps::read_known), unfolding(crate::specs::Places::number))]
 pub fn next_number<F: PlaceFault + Drop>(reader: &mut Reader) -> Result<u32, F>
     ensures { Reads (λ number. (number, reader.new)) result
@@ -119,7 +119,7 @@ pub fn next_number<F: PlaceFault + Drop>(reader: &mut Reader) -> Result<u32, F>
     }
 }
 
-/// A course by its name.
+/// Parses the name of a course.
 #[tactic(auto, using(crate::proofs::Steps::read_known), unfolding(crate::specs::Places::known_name))]
 pub fn next_course<F: PlaceFault + Drop>(
     reader: &mut Reader,
@@ -137,7 +137,7 @@ pub fn next_course<F: PlaceFault + Drop>(
     }
 }
 
-/// A room by its name.
+/// Parses the name of a room.
 #[tactic(auto, using(crate::proofs::Steps::read_known), unfolding(crate::specs::Places::known_name))]
 pub fn next_room<F: RoomFault + Drop>(reader: &mut Reader, instance: &Instance) -> Result<RoomNo, F>
     ensures within { IfOk result (λ room. room < room_count instance.now) }
@@ -152,7 +152,7 @@ pub fn next_room<F: RoomFault + Drop>(reader: &mut Reader, instance: &Instance) 
     }
 }
 
-/// A day below the number of days.
+/// Parses a day below `days`.
 #[tactic(auto, using(crate::proofs::Steps::read_number_if))]
 pub(crate) fn next_day_below<F: SlotFault + Drop>(reader: &mut Reader, days: u32) -> Result<u32, F>
     ensures within { IfOk result (λ day. day < days) }
@@ -168,7 +168,7 @@ pub(crate) fn next_day_below<F: SlotFault + Drop>(reader: &mut Reader, days: u32
     }
 }
 
-/// A period below the number of periods of a day.
+/// Parses a period below `periods`.
 #[tactic(auto, using(crate::proofs::Steps::read_number_if))]
 pub(crate) fn next_period_below<F: SlotFault + Drop>(
     reader: &mut Reader,
@@ -188,7 +188,7 @@ pub(crate) fn next_period_below<F: SlotFault + Drop>(
     }
 }
 
-/// A day of the instance.
+/// Parses a day of the instance.
 pub(crate) fn next_day<F: SlotFault + Drop>(
     reader: &mut Reader,
     instance: &Instance,

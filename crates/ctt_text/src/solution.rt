@@ -1,4 +1,4 @@
-//! The text of a solution.
+//! The text format of solutions.
 
 mod lectures;
 mod places;

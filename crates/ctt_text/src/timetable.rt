@@ -1,4 +1,4 @@
-//! What is a timetable: a list of lectures, strictly ascending by course and slot.
+//! Timetables: lists of lectures, strictly ascending by course and slot.
 
 ghost use Rattle.std.specs.Prelude.{◌≡◌, ◌↔◌, ◌<◌, IsTrue};
 ghost use Rattle.std.specs.Bool.{OnTrue, OnFalse};
@@ -7,7 +7,7 @@ ghost use Rattle.ctt_text.specs.Timetable.{IsTimetable, ByNeighbours, before};
 use crate::instance::Instance;
 use crate::placed::Placed;
 
-/// Whether a lecture comes before another, by course and then by slot.
+/// Returns whether a lecture comes before another in the order by course and then by slot.
 pub fn is_before(a: &Placed, b: &Placed) -> bool
     ensures { result ≡ before a.now b.now }
 {
@@ -15,7 +15,7 @@ pub fn is_before(a: &Placed, b: &Placed) -> bool
     a_course < b_course || (a_course == b_course && a.slot.get() < b.slot.get())
 }
 
-/// Whether each lecture fits, and comes after the one before it.
+/// Returns whether each lecture is in range and comes after the previous one.
 fn ascends(instance: &Instance, lectures: &[Placed]) -> bool
     ensures yes { OnTrue result (ByNeighbours instance.now lectures.now) }
     ensures no { OnFalse result (ByNeighbours instance.now lectures.now → ⊥) }
@@ -31,8 +31,8 @@ fn ascends(instance: &Instance, lectures: &[Placed]) -> bool
     true
 }
 
-/// Whether a list of lectures is a timetable of the instance: all numbers are in range, and the
-/// list is strictly ascending by course and slot. The empty list is one.
+/// Returns whether a list of lectures is a timetable of the instance: all numbers are in range, and
+/// the list is strictly ascending by course and slot. The empty list is a timetable.
 pub fn is_timetable(instance: &Instance, lectures: &[Placed]) -> bool
     ensures { IsTrue result ↔ IsTimetable instance.now lectures.now }
 {

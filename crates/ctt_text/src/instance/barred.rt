@@ -1,4 +1,4 @@
-//! Reading which rooms are barred for which courses.
+//! Parsing which rooms are barred for which courses.
 
 ghost use Rattle.std.specs.Prelude.{◌≡◌, ◌<◌, ◌*◌, ◌⊎◌, ℕ, List, Bool, OnOk, IfOk, IfErr, MatchResult, Err};
 ghost use Rattle.std.specs.Str.{IsUtf8};
@@ -21,7 +21,7 @@ use crate::places::{next_course, next_fixed, next_number, next_room};
 use crate::reader::Reader;
 use std::alloc::Global;
 
-/// How many pairs there are: a number of at most `greatest`.
+/// Parses the number of pairs, at most `greatest`.
 #[tactic(auto, using(crate::proofs::Steps::read_number_if), unfolding(crate::specs::BarredPlaces::pair_count))]
 fn read_count(reader: &mut Reader, greatest: u32) -> Result<u32, BarredFault>
     ensures { GivesBarred (λ number. (number, reader.new)) result
@@ -36,7 +36,7 @@ fn read_count(reader: &mut Reader, greatest: u32) -> Result<u32, BarredFault>
     }
 }
 
-/// Reads one pair, and marks it.
+/// Parses one pair, and marks it in the table.
 #[tactic(auto, using(crate::proofs::Steps::read_bind, crate::proofs::Steps::read_done, crate::proofs::BitRowLemmas::marks_set), unfolding(crate::specs::BarredPlaces::barred_pair))]
 fn read_pair(
     reader: &mut Reader,
@@ -54,7 +54,7 @@ fn read_pair(
     Ok(())
 }
 
-/// Reads so many pairs, and marks them.
+/// Parses `count` pairs, and marks them in the table.
 fn read_pairs(
     reader: &mut Reader,
     instance: &Instance,
@@ -72,7 +72,7 @@ fn read_pairs(
     Ok(())
 }
 
-/// Reads so many pairs.
+/// Parses `count` pairs into a new table.
 #[tactic(auto, using(crate::proofs::BitRowLemmas::marks_none))]
 fn read_table(
     alloc: Global,
@@ -95,7 +95,7 @@ fn read_table(
     Ok(table)
 }
 
-/// Reads the whole text, up to the word at the end.
+/// Parses the whole text, up to `END.`.
 #[tactic(auto, using(crate::proofs::Steps::read_bind, crate::proofs::Steps::read_done), unfolding(crate::specs::BarredPlaces::barred_rooms))]
 fn read_rooms(
     alloc: Global,
@@ -114,7 +114,7 @@ fn read_rooms(
     Ok(table)
 }
 
-/// Reads which rooms are barred from a text.
+/// Parses the table of barred rooms.
 fn read_text(alloc: Global, instance: &Instance, text: &str) -> Result<BitRows, BarredFault>
     ensures size { IfOk result (λ table.
         HasSize table (course_count instance.now) (room_count instance.now)) }
@@ -125,11 +125,11 @@ fn read_text(alloc: Global, instance: &Instance, text: &str) -> Result<BitRows, 
     read_rooms(alloc, &mut reader, instance)
 }
 
-/// Reads from the bytes of a file which rooms are barred for which courses: those of the file, and no
-/// others. After a fault the instance is as it was.
+/// Parses the bytes of a file that states which rooms are barred for which courses, and replaces
+/// the barred rooms of the instance by these. After a fault the instance is unchanged.
 ///
-/// A text that is not UTF-8 is refused as [`BarredFault::NotText`], whatever its words; else the fault
-/// names the first word that breaks the rule of its place, given the words before it.
+/// A text that is not UTF-8 is refused as [`BarredFault::NotText`], whatever its words. Any other
+/// fault except `NoMemory` names the first word that is not valid after the words before it.
 pub fn read_barred(alloc: Global, instance: &mut Instance, text: &[u8]) -> Result<(), BarredFault>
     ensures text { OnOk result (IsUtf8 text.now) }
     ensures spelled { OnOk result (BarSpells instance.old (words text.now) instance.new.barred) }

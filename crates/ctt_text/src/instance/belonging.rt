@@ -10,7 +10,7 @@ use crate::ids::{CourseNo, CurriculumNo};
 use crate::number_lists::{add_to, empty_lists};
 use std::alloc::{AllocError, Global};
 
-/// Adds a curriculum to the lists of its members.
+/// Appends a curriculum to the lists of its members.
 fn add_to_members(
     lists: &mut [Vec<CurriculumNo>],
     members: &[CourseNo],
@@ -27,7 +27,7 @@ fn add_to_members(
     Ok(())
 }
 
-/// Adds each curriculum to the lists of its members.
+/// Appends each curriculum to the lists of its members.
 fn add_all(lists: &mut [Vec<CurriculumNo>], curricula: &[Vec<CourseNo>]) -> Result<(), AllocError>
     requires few { length curricula.now ≤ 20000 }
     requires members { (k : ℕ)
@@ -48,7 +48,7 @@ fn add_all(lists: &mut [Vec<CurriculumNo>], curricula: &[Vec<CourseNo>]) -> Resu
     Ok(())
 }
 
-/// For each course, the curricula of which it is a member, ascending.
+/// Returns for each course the curricula that it is a member of, ascending.
 pub(crate) fn belonging(
     alloc: Global,
     courses: &[CourseFacts],

@@ -1,4 +1,4 @@
-//! Which courses clash: a row of bits a course.
+//! Which courses clash: a row of bits per course.
 
 ghost use Rattle.std.specs.Prelude.{◌≡◌, ℕ, ◌<◌, ◌≤◌, ◌==◌, ◌&&◌, ◌||◌, not, IfOk};
 ghost use Rattle.std.specs.List.{list_any, AllByRecursion as Each};
@@ -11,7 +11,7 @@ use crate::ids::CourseNo;
 use crate::marks::Marks;
 use std::alloc::{AllocError, Global};
 
-/// Marks of some courses.
+/// Returns the members as marks.
 fn marks_of(members: &[CourseNo]) -> Marks
     requires { Each (λ c. c < 2000) members.now }
     ensures { (n : ℕ) → is_marked result n ≡ has n members.now }
@@ -49,7 +49,7 @@ fn add_groups(rows: &mut BitRows, groups: &[Vec<CourseNo>])
     }
 }
 
-/// Takes the mark of its own number out of each row.
+/// Clears the diagonal, since no course clashes with itself.
 fn unmark_own(rows: &mut BitRows, courses: usize)
     requires { HasSize rows.old courses courses }
     ensures size { HasSize rows.new courses courses }
@@ -62,8 +62,8 @@ fn unmark_own(rows: &mut BitRows, courses: usize)
     }
 }
 
-/// For each course, a row of the courses that it clashes with: those that have its teacher, or are in
-/// a curriculum with it.
+/// Returns for each course a row of the courses that it clashes with: those that share its teacher
+/// or a curriculum with it.
 pub(crate) fn clash_rows(
     alloc: Global,
     courses: usize,

@@ -1,4 +1,4 @@
-//! The section of the courses.
+//! Parsing the section of courses.
 
 ghost use Rattle.std.specs.Prelude.{◌≡◌, ◌≤◌, ◌<◌, ◌+◌, length, IfOk, OnOk, codes};
 ghost use Rattle.ctt_text.specs.Places.{after};
@@ -16,7 +16,7 @@ use crate::reader::Reader;
 use std::alloc::Global;
 use std::marker::Model;
 
-/// The courses that were read, and the names of their teachers.
+/// The courses parsed so far, and the names of their teachers.
 #[derive(Drop)]
 pub(crate) struct CourseSection {
     pub(crate) names: Names,
@@ -32,7 +32,7 @@ impl Model for CourseSection {
     ghost view = { λ s. record { names = s.names; facts = s.facts.items; teachers = s.teachers } };
 }
 
-/// Reads one course, and adds it to those before it.
+/// Parses one course, and appends it to the section.
 #[tactic(auto, using(crate::proofs::Steps::read_bind, crate::proofs::Steps::read_done), unfolding(crate::specs::InstancePlaces::course))]
 fn read_one_course(
     alloc: Global,
@@ -62,7 +62,7 @@ fn read_one_course(
 }
 
 impl CourseSection {
-    /// No course.
+    /// Returns a section without courses.
     fn new(alloc: Global) -> Self
         ensures { result ≡ no_courses }
     {
@@ -74,7 +74,7 @@ impl CourseSection {
     }
 }
 
-/// Reads so many courses.
+/// Parses `count` courses.
 fn read_courses(alloc: Global, reader: &mut Reader, count: u32) -> Result<CourseSection, ReadFault>
     requires { count ≤ 2000 }
     ensures count { IfOk result (λ section. length section.names ≡ count) }
@@ -88,7 +88,7 @@ fn read_courses(alloc: Global, reader: &mut Reader, count: u32) -> Result<Course
     Ok(section)
 }
 
-/// Reads the section: its heading, and as many courses as the header says.
+/// Parses the section: its heading, and as many courses as the header states.
 #[tactic(auto, using(crate::proofs::Steps::read_bind))]
 pub(crate) fn read_course_section(
     alloc: Global,

@@ -1,4 +1,4 @@
-//! The section of the curricula.
+//! Parsing the section of curricula.
 
 ghost use Rattle.std.specs.Prelude.{◌≤◌, length, codes};
 ghost use Rattle.ctt_text.specs.Places.{after};
@@ -17,7 +17,7 @@ use crate::reader::Reader;
 use std::alloc::Global;
 use std::marker::Model;
 
-/// The curricula that were read.
+/// The curricula parsed so far.
 #[derive(Drop)]
 pub(crate) struct CurriculumSection {
     pub(crate) names: Names,
@@ -33,7 +33,7 @@ impl Model for CurriculumSection {
     ghost view = { λ s. record { names = s.names; members = map (λ m. m.items) s.members.items } };
 }
 
-/// Reads one curriculum, and adds it to those before it.
+/// Parses one curriculum, and appends it to the section.
 #[tactic(auto, using(crate::proofs::Steps::read_bind, crate::proofs::Steps::read_done, std::proofs::lemmas::List::map_push), unfolding(crate::specs::InstancePlaces::curriculum))]
 fn read_one_curriculum(
     alloc: Global,
@@ -53,7 +53,7 @@ fn read_one_curriculum(
     Ok(())
 }
 
-/// Reads so many curricula.
+/// Parses `count` curricula.
 fn read_curricula(
     alloc: Global,
     reader: &mut Reader,
@@ -74,7 +74,7 @@ fn read_curricula(
     Ok(section)
 }
 
-/// Reads the section: its heading, and as many curricula as the header says.
+/// Parses the section: its heading, and as many curricula as the header states.
 #[tactic(auto, using(crate::proofs::Steps::read_bind))]
 pub(crate) fn read_curriculum_section(
     alloc: Global,

@@ -10,7 +10,7 @@ use crate::instance::places::{read_any, read_count, read_fixed, read_period_coun
 use crate::reader::Reader;
 use std::marker::Model;
 
-/// The name of an instance, and how many there are of everything.
+/// The name of an instance, and the sizes of its sections.
 #[derive(Drop)]
 pub(crate) struct Header<'a> {
     pub(crate) name: &'a str,
@@ -38,7 +38,7 @@ impl<'a> Model for Header<'a> {
     } };
 }
 
-/// The name of the instance, behind its fixed word.
+/// Parses the name of the instance, after its label.
 #[tactic(auto, using(crate::proofs::Steps::read_bind))]
 fn read_name<'a>(reader: &mut Reader<'a>) -> Result<&'a str, ReadFault>
     ensures { GivesRead (λ name. (name.now, reader.new)) result
@@ -48,7 +48,7 @@ fn read_name<'a>(reader: &mut Reader<'a>) -> Result<&'a str, ReadFault>
     read_any(reader)
 }
 
-/// Two numbers, each behind its fixed word.
+/// Parses two counts, each after its label. An argument is a label and the greatest count allowed.
 #[tactic(auto, using(crate::proofs::Steps::read_bind, crate::proofs::Steps::read_done), unfolding(crate::specs::InstancePlaces::two_counts))]
 fn read_two_counts(
     reader: &mut Reader,
@@ -65,7 +65,7 @@ fn read_two_counts(
     Ok((first, second))
 }
 
-/// How many days there are, and how many periods a day has.
+/// Parses the number of days and the number of periods per day.
 #[tactic(auto, using(crate::proofs::Steps::read_bind, crate::proofs::Steps::read_done), unfolding(crate::specs::InstancePlaces::calendar))]
 fn read_calendar(reader: &mut Reader) -> Result<(u32, u32), ReadFault>
     ensures days { IfOk result (λ c. c.0 ≤ 2000) }
@@ -79,7 +79,7 @@ fn read_calendar(reader: &mut Reader) -> Result<(u32, u32), ReadFault>
     Ok((days, periods))
 }
 
-/// Reads the header.
+/// Parses the header.
 #[tactic(auto, using(crate::proofs::Steps::read_bind, crate::proofs::Steps::read_done), unfolding(crate::specs::InstancePlaces::header))]
 pub(crate) fn read_header<'a>(reader: &mut Reader<'a>) -> Result<Header<'a>, ReadFault>
     ensures courses { IfOk result (λ h. h.courses ≤ 2000) }

@@ -1,4 +1,4 @@
-//! The members of one curriculum.
+//! Parsing the members of one curriculum.
 
 ghost use Rattle.std.specs.Prelude.{◌≡◌, [], ◌≤◌, ◌<◌, ◌==◌, length, OnOk};
 ghost use Rattle.ctt_text.specs.Forms.{times};
@@ -42,7 +42,7 @@ impl Members {
         }
     }
 
-    /// Adds a member, unless it is one.
+    /// Adds a course, unless it is a member already.
     fn add(&mut self, course: CourseNo) -> Result<(), AllocError>
         requires { course < 2000 }
         ensures { OnOk result (self.new ≡ with_new ◌==◌ self.old course) }
@@ -62,7 +62,7 @@ impl Members {
     }
 }
 
-/// Reads one member, and adds it to those before it.
+/// Parses one member, and adds it to those so far.
 #[tactic(auto, using(crate::proofs::Steps::read_bind, crate::proofs::Steps::read_done), unfolding(crate::specs::InstancePlaces::member))]
 fn read_member(reader: &mut Reader, courses: &Names, members: &mut Members) -> Result<(), ReadFault>
     requires { length courses.now ≤ 2000 }
@@ -74,7 +74,7 @@ fn read_member(reader: &mut Reader, courses: &Names, members: &mut Members) -> R
     Ok(())
 }
 
-/// Reads so many members.
+/// Parses `count` members. A course that is named twice is stored once.
 pub(crate) fn read_members(
     alloc: Global,
     reader: &mut Reader,

@@ -1,4 +1,4 @@
-//! The names of an instance, and what they name.
+//! Looking up the names of an instance, by number and by name.
 
 ghost use Rattle.std.specs.Prelude.{◌≡◌, ◌<◌, [], slice_index_or, IfSome};
 ghost use Rattle.ctt_text.specs.Problem.{course_count, room_count, teacher_count, curriculum_count, number_in};
@@ -7,7 +7,7 @@ use crate::ids::{CourseNo, CurriculumNo, RoomNo, TeacherNo};
 use crate::instance::Instance;
 
 impl Instance {
-    /// The name of a course.
+    /// Returns the name of a course.
     pub fn course_name(&self, course: CourseNo) -> &str
         requires { course < course_count self.now }
         ensures { result.now ≡ slice_index_or self.now.course_names course [] }
@@ -15,7 +15,7 @@ impl Instance {
         self.course_names.name(course.get() as usize)
     }
 
-    /// The name of a room.
+    /// Returns the name of a room.
     pub fn room_name(&self, room: RoomNo) -> &str
         requires { room < room_count self.now }
         ensures { result.now ≡ slice_index_or self.now.room_names room [] }
@@ -23,7 +23,7 @@ impl Instance {
         self.room_names.name(room.get() as usize)
     }
 
-    /// The name of a teacher.
+    /// Returns the name of a teacher.
     pub fn teacher_name(&self, teacher: TeacherNo) -> &str
         requires { teacher < teacher_count self.now }
         ensures { result.now ≡ slice_index_or self.now.teacher_names teacher [] }
@@ -31,7 +31,7 @@ impl Instance {
         self.teacher_names.name(teacher.get() as usize)
     }
 
-    /// The name of a curriculum.
+    /// Returns the name of a curriculum.
     pub fn curriculum_name(&self, curriculum: CurriculumNo) -> &str
         requires { curriculum < curriculum_count self.now }
         ensures { result.now ≡ slice_index_or self.now.curriculum_names curriculum [] }
@@ -39,7 +39,7 @@ impl Instance {
         self.curriculum_names.name(curriculum.get() as usize)
     }
 
-    /// The number of a course by its name.
+    /// Finds a course by its name.
     pub fn find_course(&self, name: &str) -> Option<CourseNo>
         ensures number { result ≡ number_in self.now.course_names name.now }
         ensures within { IfSome result (λ course. course < course_count self.now) }
@@ -48,7 +48,7 @@ impl Instance {
         Some(CourseNo::new(number as u16))
     }
 
-    /// The number of a teacher by his name.
+    /// Finds a teacher by name.
     pub fn find_teacher(&self, name: &str) -> Option<TeacherNo>
         ensures number { result ≡ number_in self.now.teacher_names name.now }
         ensures within { IfSome result (λ teacher. teacher < teacher_count self.now) }
@@ -57,7 +57,7 @@ impl Instance {
         Some(TeacherNo::new(number as u16))
     }
 
-    /// The number of a curriculum by its name.
+    /// Finds a curriculum by its name.
     pub fn find_curriculum(&self, name: &str) -> Option<CurriculumNo>
         ensures number { result ≡ number_in self.now.curriculum_names name.now }
         ensures within { IfSome result (λ curriculum. curriculum < curriculum_count self.now) }
@@ -66,7 +66,7 @@ impl Instance {
         Some(CurriculumNo::new(number as u16))
     }
 
-    /// The number of a room by its name.
+    /// Finds a room by its name.
     pub fn find_room(&self, name: &str) -> Option<RoomNo>
         ensures number { result ≡ number_in self.now.room_names name.now }
         ensures within { IfSome result (λ room. room < room_count self.now) }

@@ -1,5 +1,4 @@
-//! One place of the text of an instance: one word, by the rule of its place, with the faults of
-//! that text.
+//! Parsers of a single word of an instance.
 
 ghost use Rattle.std.specs.Prelude.{◌≡◌, ◌<◌, ◌≤◌, ◌*◌, length, IfOk, false};
 ghost use Rattle.ctt_text.specs.Places.{any, fixed, number, new_name, known_name, after};
@@ -12,7 +11,7 @@ use crate::names::Names;
 use crate::places::{next_day_below, next_fixed, next_number, next_period_below, next_word};
 use crate::reader::Reader;
 
-/// Any word.
+/// Parses any word.
 #[tactic(auto, using(crate::proofs::Steps::read_one), unfolding(crate::specs::Places::any))]
 pub(crate) fn read_any<'a>(reader: &mut Reader<'a>) -> Result<&'a str, ReadFault>
     ensures { GivesRead (λ word. (word.now, reader.new)) result (reads any reader.old) }
@@ -20,7 +19,7 @@ pub(crate) fn read_any<'a>(reader: &mut Reader<'a>) -> Result<&'a str, ReadFault
     next_word(reader)
 }
 
-/// The fixed word of this place.
+/// Parses the fixed word `text`.
 pub(crate) fn read_fixed(reader: &mut Reader, text: &str) -> Result<(), ReadFault>
     ensures { GivesRead (λ _. (tt, reader.new)) result
         (reads (fixed Expected text.now) reader.old) }
@@ -28,7 +27,7 @@ pub(crate) fn read_fixed(reader: &mut Reader, text: &str) -> Result<(), ReadFaul
     next_fixed(reader, text)
 }
 
-/// A number.
+/// Parses a number, at most 999,999,999.
 pub(crate) fn read_number(reader: &mut Reader) -> Result<u32, ReadFault>
     ensures { GivesRead (λ number. (number, reader.new)) result
         (reads (number BadNumber) reader.old) }
@@ -36,7 +35,7 @@ pub(crate) fn read_number(reader: &mut Reader) -> Result<u32, ReadFault>
     next_number(reader)
 }
 
-/// A name that was not given before.
+/// Parses a name that is not among `names`.
 #[tactic(auto, using(crate::proofs::Steps::read_one), unfolding(crate::specs::Places::new_name))]
 pub(crate) fn read_new_name<'a>(
     reader: &mut Reader<'a>,
@@ -54,7 +53,7 @@ pub(crate) fn read_new_name<'a>(
     Ok(name)
 }
 
-/// The number of a course that was named.
+/// Parses the name of a course, and returns its number.
 #[tactic(auto, using(crate::proofs::Steps::read_known), unfolding(crate::specs::Places::known_name))]
 pub(crate) fn read_course(reader: &mut Reader, courses: &Names) -> Result<usize, ReadFault>
     ensures known { IfOk result (λ course. course < length courses.now) }
@@ -66,7 +65,7 @@ pub(crate) fn read_course(reader: &mut Reader, courses: &Names) -> Result<usize,
     courses.number(name).ok_or(ReadFault::UnknownCourse(at))
 }
 
-/// A number of at most `greatest`.
+/// Parses a number of at most `greatest`.
 #[tactic(auto, using(crate::proofs::Steps::read_number_if), unfolding(crate::specs::InstancePlaces::number_up_to))]
 pub(crate) fn read_number_up_to(reader: &mut Reader, greatest: u32) -> Result<u32, ReadFault>
     ensures limit { IfOk result (λ number. number ≤ greatest) }
@@ -82,7 +81,7 @@ pub(crate) fn read_number_up_to(reader: &mut Reader, greatest: u32) -> Result<u3
     }
 }
 
-/// How many periods a day has: at most 2,000, and so few that there are at most 2,000 slots.
+/// Parses the number of periods per day: at most 2,000, with at most 2,000 slots in all.
 #[tactic(auto, using(crate::proofs::Steps::read_number_if), unfolding(crate::specs::InstancePlaces::period_count))]
 pub(crate) fn read_period_count(reader: &mut Reader, days: u32) -> Result<u32, ReadFault>
     requires { days ≤ 2000 }
@@ -100,7 +99,7 @@ pub(crate) fn read_period_count(reader: &mut Reader, days: u32) -> Result<u32, R
     }
 }
 
-/// A day, which is below the number of days.
+/// Parses a day below `days`.
 #[tactic(auto, unfolding(crate::specs::InstancePlaces::day_below))]
 pub(crate) fn read_day(reader: &mut Reader, days: u32) -> Result<u32, ReadFault>
     ensures limit { IfOk result (λ number. number < days) }
@@ -110,7 +109,7 @@ pub(crate) fn read_day(reader: &mut Reader, days: u32) -> Result<u32, ReadFault>
     next_day_below(reader, days)
 }
 
-/// A period in the day, which is below the number of periods.
+/// Parses a period below `periods`.
 #[tactic(auto, unfolding(crate::specs::InstancePlaces::period_below))]
 pub(crate) fn read_period(reader: &mut Reader, periods: u32) -> Result<u32, ReadFault>
     ensures limit { IfOk result (λ number. number < periods) }
@@ -120,7 +119,7 @@ pub(crate) fn read_period(reader: &mut Reader, periods: u32) -> Result<u32, Read
     next_period_below(reader, periods)
 }
 
-/// A fixed word, and then a number of at most `greatest`.
+/// Parses the fixed word `label`, and then a number of at most `greatest`.
 #[tactic(auto, using(crate::proofs::Steps::read_bind))]
 pub(crate) fn read_count(reader: &mut Reader, label: &str, greatest: u32) -> Result<u32, ReadFault>
     ensures limit { IfOk result (λ number. number ≤ greatest) }

@@ -1,4 +1,4 @@
-//! Reading an instance from its text.
+//! Parsing an instance.
 
 ghost use Rattle.std.specs.Prelude.{◌≡◌, ◌≤◌, ◌*◌, ◌⊎◌, ℕ, IfOk, IfErr, OnOk, Ok, Err, map, length};
 ghost use Rattle.std.specs.Str.{IsUtf8};
@@ -37,7 +37,7 @@ use crate::reader::Reader;
 use std::alloc::{AllocError, Global};
 use std::marker::Model;
 
-/// All that a text says of an instance.
+/// The sections of an instance as parsed.
 #[derive(Drop)]
 struct Sections<'a> {
     header: Header<'a>,
@@ -61,7 +61,7 @@ impl<'a> Model for Sections<'a> {
         HasSize s.unavailable (length s.courses.names) (s.header.days * s.header.periods) };
 }
 
-/// What an instance has beside the sections of its text.
+/// The fields of an instance that are not moved out of its sections.
 #[derive(Drop)]
 struct Tables {
     name: String,
@@ -71,14 +71,14 @@ struct Tables {
     taught: Vec<Vec<CourseNo>>,
 }
 
-/// What stands behind the rooms.
+/// The sections after the rooms.
 #[derive(Drop)]
 struct LastSections {
     curricula: CurriculumSection,
     unavailable: BitRows,
 }
 
-/// Reads what stands behind the rooms, up to the word at the end.
+/// Parses the sections after the rooms, up to `END.`.
 #[tactic(auto, using(crate::proofs::Steps::read_bind, crate::proofs::Steps::read_done), unfolding(crate::specs::LastSections::last_sections))]
 fn read_last_sections<'a>(
     alloc: Global,
@@ -103,7 +103,7 @@ fn read_last_sections<'a>(
     })
 }
 
-/// Reads all sections, up to the word at the end.
+/// Parses all sections, up to `END.`.
 #[tactic(auto, using(crate::proofs::Steps::read_bind, crate::proofs::Steps::read_done), unfolding(crate::specs::InstancePlaces::instance))]
 fn read_sections<'a>(alloc: Global, reader: &mut Reader<'a>) -> Result<Sections<'a>, ReadFault>
     ensures { GivesRead (λ sections. (sections, reader.new)) result (reads instance reader.old) }
@@ -135,7 +135,7 @@ fn read_sections<'a>(alloc: Global, reader: &mut Reader<'a>) -> Result<Sections<
 }
 
 impl<'a> Sections<'a> {
-    /// The instance, with these tables.
+    /// Builds the instance from its sections and these tables.
     fn with_tables(self, tables: Tables) -> Instance
         requires problem { IsProblem self }
         requires named { IsNamed self }
@@ -173,7 +173,7 @@ impl<'a> Sections<'a> {
         }
     }
 
-    /// No room is barred for any course.
+    /// Returns a table in which no room is barred.
     #[tactic(auto, using(crate::proofs::BitRowLemmas::marks_none))]
     fn barred(&self, alloc: Global) -> Result<BitRows, AllocError>
         requires problem { IsProblem self.now }
@@ -185,7 +185,7 @@ impl<'a> Sections<'a> {
         Ok(table)
     }
 
-    /// For each course, those that it clashes with.
+    /// Returns for each course the courses that it clashes with.
     fn clashes(&self, alloc: Global, taught: &[Vec<CourseNo>]) -> Result<BitRows, AllocError>
         requires problem { IsProblem self.now }
         requires taught { AreTaught self.now (map (λ q. q.items) taught.now) }
@@ -196,7 +196,7 @@ impl<'a> Sections<'a> {
         Ok(rows)
     }
 
-    /// For each course, its curricula.
+    /// Returns the curricula of each course.
     fn belonging(&self, alloc: Global) -> Result<Vec<Vec<CurriculumNo>>, AllocError>
         requires problem { IsProblem self.now }
         ensures { IfOk result (λ lists. AreCurricula self.now (map (λ q. q.items) lists.items)) }
@@ -205,7 +205,7 @@ impl<'a> Sections<'a> {
         Ok(lists)
     }
 
-    /// For each teacher, his courses.
+    /// Returns the courses of each teacher.
     fn taught(&self, alloc: Global) -> Result<Vec<Vec<CourseNo>>, AllocError>
         requires problem { IsProblem self.now }
         ensures { IfOk result (λ lists. AreTaught self.now (map (λ q. q.items) lists.items)) }
@@ -215,8 +215,8 @@ impl<'a> Sections<'a> {
         Ok(lists)
     }
 
-    /// What the instance has beside the sections, which are lent: where memory is refused, none of
-    /// them is let go here.
+    /// Builds the fields that are not moved out of the sections. The sections are borrowed, so that
+    /// they are not dropped here if memory runs out.
     fn tables(&self, alloc: Global) -> Result<Tables, AllocError>
         requires problem { IsProblem self.now }
         ensures name { IfOk result (λ t. string_bytes t.name ≡ self.now.name) }
@@ -242,7 +242,7 @@ impl<'a> Sections<'a> {
         })
     }
 
-    /// The instance, with its tables.
+    /// Builds the instance. Fails if memory runs out.
     fn into_instance(self, alloc: Global) -> Result<Instance, AllocError>
         requires problem { IsProblem self }
         requires named { IsNamed self }
@@ -258,7 +258,7 @@ impl<'a> Sections<'a> {
     }
 }
 
-/// Reads an instance from a text.
+/// Parses an instance.
 fn read_text(alloc: Global, text: &str) -> Result<Instance, ReadFault>
     ensures { Gives wants_memory (λ i. i) result (answer (words text.now)) }
 {
@@ -267,11 +267,11 @@ fn read_text(alloc: Global, text: &str) -> Result<Instance, ReadFault>
     Ok(sections.into_instance(alloc)?)
 }
 
-/// Reads an instance from the bytes of its file.
+/// Parses an instance from the bytes of its file.
 ///
-/// What is read is what the text spells. A text that is not UTF-8 is refused as
-/// [`ReadFault::NotText`], whatever its words; else the fault names the first word that breaks the
-/// rule of its place, given the words before it.
+/// The result is the instance that the text spells. A text that is not UTF-8 is refused as
+/// [`ReadFault::NotText`], whatever its words. Any other fault except `NoMemory` names the first
+/// word that is not valid after the words before it.
 pub fn read_instance(alloc: Global, text: &[u8]) -> Result<Instance, ReadFault>
     ensures text { OnOk result (IsUtf8 text.now) }
     ensures spelled { IfOk result (λ i. Spells (words text.now) i) }

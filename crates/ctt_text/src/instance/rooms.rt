@@ -1,4 +1,4 @@
-//! The section of the rooms.
+//! Parsing the section of rooms.
 
 ghost use Rattle.std.specs.Prelude.{codes};
 ghost use Rattle.ctt_text.specs.Places.{after};
@@ -14,7 +14,7 @@ use crate::reader::Reader;
 use std::alloc::Global;
 use std::marker::Model;
 
-/// The rooms that were read.
+/// The rooms parsed so far.
 #[derive(Drop)]
 pub(crate) struct RoomSection {
     pub(crate) names: Names,
@@ -29,7 +29,7 @@ impl Model for RoomSection {
     ghost view = { λ s. record { names = s.names; capacities = s.capacities.items } };
 }
 
-/// Reads one room, and adds it to those before it.
+/// Parses one room, and appends it to the section.
 #[tactic(auto, using(crate::proofs::Steps::read_bind, crate::proofs::Steps::read_done), unfolding(crate::specs::InstancePlaces::room))]
 fn read_one_room(
     alloc: Global,
@@ -46,7 +46,7 @@ fn read_one_room(
     Ok(())
 }
 
-/// Reads so many rooms.
+/// Parses `count` rooms.
 fn read_rooms(alloc: Global, reader: &mut Reader, count: u32) -> Result<RoomSection, ReadFault>
     ensures { GivesRead (λ section. (section, reader.new)) result
         (reads (times room count no_rooms) reader.old) }
@@ -61,7 +61,7 @@ fn read_rooms(alloc: Global, reader: &mut Reader, count: u32) -> Result<RoomSect
     Ok(section)
 }
 
-/// Reads the section: its heading, and as many rooms as the header says.
+/// Parses the section: its heading, and as many rooms as the header states.
 #[tactic(auto, using(crate::proofs::Steps::read_bind))]
 pub(crate) fn read_room_section(
     alloc: Global,

@@ -1,4 +1,4 @@
-//! Which courses each teacher has.
+//! Which courses each teacher teaches.
 
 ghost use Rattle.std.specs.Prelude.{◌≡◌, ℕ, ◌<◌, ◌≤◌, ◌==◌, [], length, map, get_or, IfOk, OnOk};
 ghost use Rattle.std.specs.List.{AllByRecursion as Each};
@@ -10,7 +10,7 @@ use crate::ids::CourseNo;
 use crate::number_lists::{add_to, empty_lists};
 use std::alloc::{AllocError, Global};
 
-/// Adds each course to the list of its teacher.
+/// Appends each course to the list of its teacher.
 fn add_courses(lists: &mut [Vec<CourseNo>], courses: &[CourseFacts]) -> Result<(), AllocError>
     requires few { length courses.now ≤ 2000 }
     requires teachers { Each (λ f. f.teacher < length lists.old) courses.now }
@@ -29,7 +29,7 @@ fn add_courses(lists: &mut [Vec<CourseNo>], courses: &[CourseFacts]) -> Result<(
     Ok(())
 }
 
-/// For each of so many teachers, the courses that he has, ascending.
+/// Returns the courses of each teacher, ascending.
 pub(crate) fn taught(
     alloc: Global,
     courses: &[CourseFacts],

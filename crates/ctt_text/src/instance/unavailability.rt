@@ -1,4 +1,4 @@
-//! The section of the unavailable periods.
+//! Parsing the section of unavailable periods.
 
 ghost use Rattle.std.specs.Prelude.{◌≡◌, ◌<◌, ◌≤◌, ◌+◌, ◌*◌, length, codes, IfOk, Ok};
 ghost use Rattle.ctt_text.specs.Places.{after};
@@ -16,7 +16,7 @@ use crate::names::Names;
 use crate::reader::Reader;
 use std::alloc::Global;
 
-/// Reads one period in which a course is unavailable, and marks it.
+/// Parses one period in which a course is unavailable, and marks it in the table.
 #[tactic(auto, using(crate::proofs::Steps::read_bind, crate::proofs::Steps::read_done, crate::proofs::BitRowLemmas::marks_set), unfolding(crate::specs::InstancePlaces::unavailability))]
 fn read_one_period(
     reader: &mut Reader,
@@ -38,7 +38,7 @@ fn read_one_period(
     Ok(())
 }
 
-/// Reads so many periods in which a course is unavailable.
+/// Parses `count` periods in which a course is unavailable, and marks them in the table.
 fn read_periods(
     reader: &mut Reader,
     courses: &Names,
@@ -59,8 +59,8 @@ fn read_periods(
     Ok(())
 }
 
-/// Reads the section: its heading, and as many periods in which a course is
-/// unavailable as the header says.
+/// Parses the section: its heading, and as many periods in which a course is unavailable as the
+/// header states.
 #[tactic(auto, using(crate::proofs::Steps::read_bind, crate::proofs::BitRowLemmas::marks_none))]
 pub(crate) fn read_unavailability_section(
     alloc: Global,

@@ -1,4 +1,4 @@
-//! The lectures of a solution, as they are read.
+//! The lectures of a solution while it is parsed.
 
 ghost use Rattle.std.specs.Prelude.{◌≡◌, [], false, OnOk, IfOk};
 ghost use Rattle.ctt_text.specs.Timetable.{has_lecture, with};
@@ -9,7 +9,7 @@ use std::alloc::{AllocError, Global};
 use std::collections::BTreeMap;
 use std::marker::Model;
 
-/// The rooms of lectures, by course and then by slot.
+/// The rooms of lectures, by course and slot.
 #[derive(Drop)]
 pub(crate) struct Lectures {
     rooms: BTreeMap<(CourseNo, SlotNo), RoomNo>,
@@ -26,7 +26,7 @@ impl Model for Lectures {
 }
 
 impl Lectures {
-    /// No lecture.
+    /// Returns the empty collection.
     pub(crate) fn new(alloc: Global) -> Self
         ensures { result ≡ [] }
     {
@@ -35,14 +35,14 @@ impl Lectures {
         }
     }
 
-    /// Whether a course has a lecture in a slot.
+    /// Returns whether a course has a lecture in a slot.
     pub(crate) fn has(&self, course: CourseNo, slot: SlotNo) -> bool
         ensures { result ≡ has_lecture course slot self.now }
     {
         self.rooms.contains_key(&(course, slot))
     }
 
-    /// Adds a lecture, if its course has none in its slot.
+    /// Adds a lecture. Its course must not have a lecture in its slot already.
     pub(crate) fn add(&mut self, lecture: Placed) -> Result<(), AllocError>
         requires { has_lecture lecture.course lecture.slot self.old ≡ false }
         ensures { OnOk result (self.new ≡ with lecture self.old) }
@@ -52,7 +52,7 @@ impl Lectures {
         Ok(())
     }
 
-    /// All lectures, by course and then by slot.
+    /// Returns all lectures, ordered by course and then by slot.
     pub(crate) fn into_list(self, alloc: Global) -> Result<Vec<Placed>, AllocError>
         ensures { IfOk result (λ list. list.items ≡ self) }
     {

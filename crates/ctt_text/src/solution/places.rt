@@ -1,4 +1,4 @@
-//! The place of the text of a solution that other texts do not have: a free slot of a course.
+//! Parsing the period of a lecture, whose slot must be free for the course.
 
 ghost use Rattle.std.specs.Prelude.{◌≡◌, ◌<◌, IfOk, false};
 ghost use Rattle.ctt_text.specs.Problem.{slot_count};
@@ -12,7 +12,8 @@ use crate::places::next_number;
 use crate::reader::Reader;
 use crate::solution::lectures::Lectures;
 
-/// A period of the day, as a slot in which the course has no lecture.
+/// Parses a period of the day, and returns its slot. The course must not have a lecture in it
+/// already.
 #[tactic(auto, using(crate::proofs::SolutionSteps::read_free_slot))]
 pub(crate) fn read_slot(
     reader: &mut Reader,

@@ -1,4 +1,4 @@
-//! Reading a solution from its text.
+//! Parsing a solution.
 
 ghost use Rattle.std.specs.Prelude.{◌≡◌, ◌⊎◌, ℕ, List, IfOk, OnOk, IfErr, MatchResult};
 ghost use Rattle.std.specs.Str.{IsUtf8};
@@ -22,7 +22,7 @@ use crate::solution::lectures::Lectures;
 use crate::solution::places::read_slot;
 use std::alloc::Global;
 
-/// Reads one entry, and adds its lecture to those before it.
+/// Parses one entry, and adds its lecture.
 #[tactic(auto, using(crate::proofs::Steps::read_bind, crate::proofs::Steps::read_done), unfolding(crate::specs::SolutionPlaces::entry))]
 fn read_entry(
     reader: &mut Reader,
@@ -40,7 +40,7 @@ fn read_entry(
     Ok(())
 }
 
-/// Reads all entries.
+/// Parses all entries.
 fn read_lectures(
     alloc: Global,
     reader: &mut Reader,
@@ -56,7 +56,7 @@ fn read_lectures(
     Ok(lectures.into_list(alloc)?)
 }
 
-/// Reads a solution from a text.
+/// Parses a solution.
 fn read_text(alloc: Global, instance: &Instance, text: &str) -> Result<Vec<Placed>, SolutionFault>
     ensures { Gives lacks_memory (λ list. list.items) result
         (solution_answer instance.now (words text.now)) }
@@ -65,11 +65,11 @@ fn read_text(alloc: Global, instance: &Instance, text: &str) -> Result<Vec<Place
     read_lectures(alloc, &mut reader, instance)
 }
 
-/// Reads a solution from the bytes of its file.
+/// Parses a solution from the bytes of its file.
 ///
-/// What is read is the timetable that the text spells. A text that is not UTF-8 is refused as
-/// [`SolutionFault::NotText`], whatever its words; else the fault names the first word that breaks
-/// the rule of its place, given the words before it.
+/// The result is the timetable that the text spells. A text that is not UTF-8 is refused as
+/// [`SolutionFault::NotText`], whatever its words. Any other fault except `NoMemory` names the
+/// first word that is not valid after the words before it.
 pub fn read_solution(
     alloc: Global,
     instance: &Instance,

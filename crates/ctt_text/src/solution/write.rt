@@ -1,4 +1,4 @@
-//! Writing a solution as a text.
+//! Writing a solution.
 
 ghost use Rattle.std.specs.Prelude.{◌≡◌, ◌++◌, OnOk, IfOk, string_bytes};
 ghost use Rattle.std.specs.Str.{IsUtf8};
@@ -13,7 +13,7 @@ use crate::placed::Placed;
 use ctt_line::{Word, push_line};
 use std::alloc::{AllocError, Global};
 
-/// Adds the line of a lecture to the text.
+/// Appends the line of a lecture to the text.
 fn write_line(text: &mut String, instance: &Instance, lecture: &Placed) -> Result<(), AllocError>
     requires { Fits instance.now lecture.now }
     ensures { OnOk result
@@ -27,9 +27,9 @@ fn write_line(text: &mut String, instance: &Instance, lecture: &Placed) -> Resul
     push_line(text, &[course, room, day, period])
 }
 
-/// Writes a timetable as the text of a solution: one line a lecture, in their order.
+/// Writes a timetable as the text of a solution: one line per lecture, in order.
 ///
-/// Read again, the text gives the same timetable.
+/// Parsing the text gives the same timetable.
 pub fn write_solution(
     alloc: Global,
     instance: &Instance,

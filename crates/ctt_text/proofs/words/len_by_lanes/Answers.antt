@@ -7,7 +7,7 @@ use Rattle.ctt_text.specs.Words.{is_blank}
 use Rattle.ctt_text.proofs.LaneLemmas.{run_through, run_stops}
 use Rattle.ctt_text.proofs.words.len_by_lanes.Goals as goal
 
--- the length of the rest is that of what is left behind the lanes
+-- if no lane is blank, the length is the number of lanes plus the length of the rest
 behind : (g : _) (c : goal.After-len_by_bytes g) → g.row.N + c.len_by_bytes.result ≡ position_or_len is_blank c.args.bytes.now
 behind g c =
     let xs = c.args.bytes.now in

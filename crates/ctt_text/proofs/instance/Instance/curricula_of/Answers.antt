@@ -5,7 +5,7 @@ use Rattle.ctt_text.proofs.NumberListLemmas.{list_read}
 use Rattle.ctt_text.proofs.instance.Instance.curricula_of.Goals as goal
 
 module _ (c : goal.After-deref) where
-  -- what is given is the list of the definition
+  -- the result is the list of the definition
   exact : c.deref.result.now ≡ curricula_of c.args.self.now c.args.course
   exact =
       let lists : List (List ℕ) = map (λ q. q.items) c.self.inside.belonging.items in

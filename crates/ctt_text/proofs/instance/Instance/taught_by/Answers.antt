@@ -5,7 +5,7 @@ use Rattle.ctt_text.proofs.NumberListLemmas.{list_read, below_fit}
 use Rattle.ctt_text.proofs.instance.Instance.taught_by.Goals as goal
 
 module _ (c : goal.After-deref) where
-  -- what is given is the list of the definition
+  -- the result is the list of the definition
   exact : c.deref.result.now ≡ courses_taught_by c.args.self.now c.args.teacher
   exact =
       let lists : List (List ℕ) = map (λ q. q.items) c.self.inside.taught.items in

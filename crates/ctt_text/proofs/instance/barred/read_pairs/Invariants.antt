@@ -5,7 +5,7 @@ use Rattle.ctt_text.specs.Forms.{times}
 use Rattle.ctt_text.specs.BarredPlaces.{reads_barred, barred_pair}
 use Rattle.ctt_text.proofs.instance.barred.read_pairs.Given as goal
 
--- what was read so far, and the rest read after it, is all
+-- parsing so far, followed by parsing the rest, is parsing all
 abbrev pub invariant-loop : goal.invariant-loop
 invariant-loop l = record {
   size : HasSize l.table (course_count l.instance) (room_count l.instance);

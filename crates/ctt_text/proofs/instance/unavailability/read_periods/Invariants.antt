@@ -4,7 +4,7 @@ use Rattle.ctt_text.specs.Forms.{times}
 use Rattle.ctt_text.specs.InstancePlaces.{reads, unavailability}
 use Rattle.ctt_text.proofs.instance.unavailability.read_periods.Given as goal
 
--- what was read so far, and the rest read after it, is all
+-- parsing so far, followed by parsing the rest, is parsing all
 abbrev pub invariant-loop : goal.invariant-loop
 invariant-loop l = record {
   size : HasSize l.table (length l.courses) (l.days * l.periods);

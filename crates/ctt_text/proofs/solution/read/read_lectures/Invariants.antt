@@ -3,7 +3,7 @@ use Rattle.ctt_text.specs.SolutionPlaces.{reads_lectures, solution}
 use Rattle.ctt_text.proofs.SolutionSteps.{entries_left}
 use Rattle.ctt_text.proofs.solution.read.read_lectures.Given as goal
 
--- what was read so far, and the rest read after it, is all
+-- parsing so far, followed by parsing the rest, is parsing all
 abbrev pub invariant-loop-reader : goal.invariant-loop-reader
 invariant-loop-reader l = entries_left l.instance l.lectures l.reader ≡ reads_lectures (solution l.instance l.fn.reader.words) l.fn.reader
 
