@@ -4,6 +4,7 @@ use Rattle.std.specs.Fmt.{decimal, signed_decimal}
 use Rattle.ctt_line.specs.declared.word.Form.{Form}
 use Rattle.ctt_line.specs.declared.word.Form.TheVariants.{Text, Number, Amount}
 
+-- the bytes of a word, with numbers in decimal
 abbrev pub bytes_of : Form → List ℕ
 bytes_of (Text w) = w.now
 bytes_of (Number n) = decimal n

@@ -1,4 +1,4 @@
-//! Lines of words: what every text of the desk is made of.
+//! Lines of words, of which every text of the desk consists.
 #![tactic(auto)]
 
 mod line;

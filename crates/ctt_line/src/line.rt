@@ -1,4 +1,4 @@
-//! Words as text.
+//! Appending words and lines to a text.
 
 ghost use Rattle.std.specs.Prelude.{◌≡◌, ◌++◌, OnOk, string_bytes};
 ghost use Rattle.ctt_line.specs.Lines.{line, rest_of_line, words_part};
@@ -7,7 +7,7 @@ use crate::word::{Form, Word};
 use itoa::Buffer;
 use std::alloc::AllocError;
 
-/// Adds a word.
+/// Appends a word.
 fn push_word(text: &mut String, word: &Word<'_>) -> Result<(), AllocError>
     ensures { OnOk result (string_bytes text.new ≡ string_bytes text.old ++ word.now) }
 {
@@ -18,7 +18,7 @@ fn push_word(text: &mut String, word: &Word<'_>) -> Result<(), AllocError>
     }
 }
 
-/// Adds words, with a blank before each.
+/// Appends words, with a blank before each.
 pub fn push_words(text: &mut String, words: &[Word<'_>]) -> Result<(), AllocError>
     ensures { OnOk result (string_bytes text.new
         ≡ string_bytes text.old ++ words_part words.now) }
@@ -30,7 +30,7 @@ pub fn push_words(text: &mut String, words: &[Word<'_>]) -> Result<(), AllocErro
     Ok(())
 }
 
-/// Adds words as the rest of a line, with a blank before each.
+/// Appends the rest of a line: words with a blank before each, and a line feed.
 fn end_line(text: &mut String, words: &[Word<'_>]) -> Result<(), AllocError>
     ensures { OnOk result (string_bytes text.new
         ≡ string_bytes text.old ++ rest_of_line words.now) }
@@ -42,7 +42,7 @@ fn end_line(text: &mut String, words: &[Word<'_>]) -> Result<(), AllocError>
     text.push('\n')
 }
 
-/// Adds words as a line, with one blank between two.
+/// Appends a line: words separated by single blanks, and a line feed.
 pub fn push_line(text: &mut String, words: &[Word<'_>]) -> Result<(), AllocError>
     ensures { OnOk result (string_bytes text.new ≡ string_bytes text.old ++ line words.now) }
 {

@@ -2,7 +2,7 @@
 
 use std::marker::Model;
 
-/// What a word is made of.
+/// The content of a word.
 #[derive(Clone, Copy, Drop)]
 pub(crate) enum Form<'a> {
     Text(&'a str),
@@ -30,7 +30,7 @@ impl<'a> Word<'a> {
     ghost use Rattle.std.specs.Fmt.{decimal, signed_decimal};
     ghost use Rattle.ctt_line.specs.Words.{bytes_of};
 
-    /// A name, or a word of the program's own.
+    /// Returns a text as a word, such as a name or a keyword. It should have no blanks.
     pub fn text(text: &'a str) -> Self
         ensures { result ≡ text.now }
     {
@@ -39,7 +39,7 @@ impl<'a> Word<'a> {
         }
     }
 
-    /// A number.
+    /// Returns a number as a word, in decimal.
     pub fn number(number: u64) -> Self
         ensures { result ≡ decimal number }
     {
@@ -48,7 +48,7 @@ impl<'a> Word<'a> {
         }
     }
 
-    /// An amount, with `-` before it if it is negative.
+    /// Returns an amount as a word, in decimal, with a leading `-` if it is negative.
     pub fn amount(amount: i64) -> Self
         ensures { result ≡ signed_decimal amount }
     {
@@ -57,7 +57,7 @@ impl<'a> Word<'a> {
         }
     }
 
-    /// What the word is made of.
+    /// Returns the content of the word.
     pub(crate) fn form(&self) -> Form<'a>
         ensures { bytes_of result ≡ self.now }
     {
@@ -66,7 +66,7 @@ impl<'a> Word<'a> {
 }
 
 impl<'a> Default for Word<'a> {
-    /// The empty word.
+    /// Returns the empty word.
     fn default() -> Self {
         Word::text("")
     }
