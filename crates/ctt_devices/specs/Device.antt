@@ -10,6 +10,6 @@ inner_of device = device.inner
 abbrev pub is_marked : {T : Type 0} → Device T → Bool
 is_marked device = device.failed
 
--- how many reads were tried; from 2 ^ 64 - 1 on the count stays
+-- how many reads were tried; saturates at 2 ^ 64 - 1
 abbrev pub pulls_of : {T : Type 0} → Device T → ℕ
 pulls_of device = device.pulls

@@ -4,7 +4,7 @@ use crate::sink::Sink;
 use crate::source::{Failed, Source};
 use std::io::{Read, Write};
 
-/// A reader or a writer of std, with the mark of its failure.
+/// A reader or writer of std, with a failure mark.
 #[derive(Drop)]
 pub struct Device<T> {
     inner: T,
@@ -16,7 +16,7 @@ impl<T> Device<T> {
     ghost use Rattle.std.specs.Prelude.{◌≡◌, false, true};
     ghost use Rattle.ctt_devices.specs.Device.{inner_of, is_marked, pulls_of};
 
-    /// A reader or a writer, unmarked, that was not read from.
+    /// Wraps a reader or writer, unmarked and with no reads counted.
     pub fn new(inner: T) -> Self
         ensures inner { inner_of result ≡ inner }
         ensures unmarked { is_marked result ≡ false }
@@ -29,14 +29,14 @@ impl<T> Device<T> {
         }
     }
 
-    /// The reader or the writer of std.
+    /// Returns the reader or writer of std.
     pub fn inner(&self) -> &T
         ensures { result.now ≡ inner_of self.now }
     {
         &self.inner
     }
 
-    /// Sets the mark, where a call of std failed that is no read, write or flush.
+    /// Sets the mark, for a failed call of std that is not a read, a write or a flush.
     pub fn mark(&mut self)
         ensures inner { inner_of self.new ≡ inner_of self.old }
         ensures marked { is_marked self.new ≡ true }

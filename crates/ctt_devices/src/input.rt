@@ -1,11 +1,11 @@
-//! All that a reader gives.
+//! Reading a whole input.
 
 ghost use Rattle.std.specs.Prelude.{◌≡◌, ◌↔◌, ◌+◌, ◌<◌, ◌≤◌, [], true, false, length, IfOk, OnOk, IfSome, vec_len};
 
 use crate::source::Source;
 use std::alloc::{AllocError, Global};
 
-/// The most bytes that an input of the program may have: 64 MiB.
+/// The maximum size of an input of the program in bytes: 64 MiB.
 pub const INPUT_LIMIT: usize = 67_108_864;
 
 /// Why an input could not be read.
@@ -13,9 +13,9 @@ pub const INPUT_LIMIT: usize = 67_108_864;
 pub enum InputFault {
     /// A read failed.
     Read,
-    /// There are more bytes than are taken.
+    /// The input is longer than the limit.
     TooLong,
-    /// No memory was left for the bytes.
+    /// Memory ran out.
     NoMemory,
 }
 
@@ -30,15 +30,15 @@ impl From<AllocError> for InputFault {
     }
 }
 
-/// How many bytes are asked for at once: a large file takes few reads, and a short one pays little
-/// for the room.
+/// The buffer size of a read, in bytes: large enough to read a large file in few reads, and small
+/// enough to be cheap for a short one.
 const PIECE: usize = 16_384;
 
-/// Reads up to the end, and gives all the bytes, at most `limit` of them.
+/// Reads up to the end, and returns all the bytes, at most `limit` of them.
 ///
-/// `Read` where a read fails, and no read is tried after it. `TooLong` where there are more than
-/// `limit` bytes. `NoMemory` where the bytes find no room. Where the reader stands after the last two
-/// is left open.
+/// Fails with `Read` if a read fails, and tries no further read; with `TooLong` if there are more
+/// than `limit` bytes; and with `NoMemory` if memory runs out. After the last two, the position of
+/// the reader is unspecified.
 pub fn read_all<R: Source>(
     alloc: Global,
     reader: &mut R,

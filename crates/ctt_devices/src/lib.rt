@@ -1,4 +1,4 @@
-//! Readers and writers with a mark, and whole texts through them.
+//! Readers and writers with a failure mark, and functions that read and write whole texts.
 #![tactic(auto)]
 
 mod device;

@@ -1,4 +1,4 @@
-//! A writer, and whole texts for it.
+//! A writer, and functions that write whole texts to it.
 
 ghost use Rattle.std.specs.Prelude.{◌≡◌, ◌<◌, ◌≤◌, [], true, length, take, IfOk, OnOk, OnErr, string_bytes};
 ghost use Rattle.std.specs.Io.KnownBytes.{Appends, Keeps};
@@ -6,20 +6,20 @@ ghost use Rattle.ctt_devices.specs.Output.{AppendsFront, AppendsPart, WritesOut}
 
 use crate::source::Failed;
 
-/// A writer with a mark, which a failed write or flush sets, or a write that was given bytes and took
-/// none.
+/// A writer with a failure mark, which is set by a write or a flush that fails, and by a write that
+/// takes none of the bytes given to it.
 pub trait Sink {
     ghost use Rattle.std.specs.Prelude.{ℕ, List, Bool, Option};
 
     /// Whether a call has failed, or has taken none of the bytes that it was given.
     ghost has_failed: { Self → Bool };
 
-    /// All bytes that were taken, where the writer tells them.
+    /// All bytes that were taken, if they are known.
     ghost taken: { Self → Option (List ℕ) };
 
-    /// Takes bytes from the front of `bytes`, and answers how many.
+    /// Takes a prefix of `bytes`, and returns its length.
     ///
-    /// A write that fails is `Failed`, and has taken nothing.
+    /// Fails with `Failed` if the write fails, and then has taken nothing.
     fn put(&mut self, bytes: &[u8]) -> Result<usize, Failed>
         ensures within { IfOk result (λ n. n ≤ length bytes.now) }
         ensures took { IfOk result (λ n.
@@ -32,19 +32,19 @@ pub trait Sink {
         ensures unmarked { IfOk result (λ n. 0 < n → has_failed self.new ≡ has_failed self.old) }
         ensures empty { OnOk result (bytes.now ≡ [] → has_failed self.new ≡ has_failed self.old) };
 
-    /// Passes on what was taken.
+    /// Flushes the bytes that were taken.
     ///
-    /// A flush that fails is `Failed`.
+    /// Fails with `Failed` if the flush fails.
     fn flush(&mut self) -> Result<(), Failed>
         ensures kept { Keeps (taken self.old) (taken self.new) }
         ensures marked { OnErr result (has_failed self.new ≡ true) }
         ensures unmarked { OnOk result (has_failed self.new ≡ has_failed self.old) };
 }
 
-/// Writes all of `bytes`, by as many writes as it takes.
+/// Writes all of `bytes`, with as many writes as needed.
 ///
-/// `Failed` where a write fails or takes nothing. No write is tried after that, and what was taken is
-/// a front of the bytes.
+/// Fails with `Failed` if a write fails or takes nothing. No further write is tried, and a prefix
+/// of the bytes was taken.
 pub fn put_all<W: Sink>(writer: &mut W, bytes: &[u8]) -> Result<(), Failed>
     ensures all { OnOk result (Appends (W.taken writer.old) (W.taken writer.new) bytes.now) }
     ensures part { OnErr result (AppendsPart (W.taken writer.old) (W.taken writer.new) bytes.now) }
@@ -63,9 +63,10 @@ pub fn put_all<W: Sink>(writer: &mut W, bytes: &[u8]) -> Result<(), Failed>
     Ok(())
 }
 
-/// Writes all of `bytes` as `put_all` does, and passes them on.
+/// Writes all of `bytes` as `put_all` does, and flushes them.
 ///
-/// `Failed` also where they were all taken and the flush fails. No flush is tried after a failed write.
+/// Fails with `Failed` also if all bytes were taken and the flush fails. No flush is tried after a
+/// failed write.
 pub fn put_whole<W: Sink>(writer: &mut W, bytes: &[u8]) -> Result<(), Failed>
     ensures all { OnOk result (Appends (W.taken writer.old) (W.taken writer.new) bytes.now) }
     ensures front { OnErr result
@@ -78,12 +79,12 @@ pub fn put_whole<W: Sink>(writer: &mut W, bytes: &[u8]) -> Result<(), Failed>
     writer.flush()
 }
 
-/// From how many bytes on a text is long: few writes, and little memory.
+/// The length in bytes from which a text is long: it takes few writes, and little memory.
 const LONG: usize = 32_768;
 
-/// Writes a text that is long, and clears it; a shorter one stays as it is.
+/// Writes a text if it is long, and clears it. A shorter text is unchanged.
 ///
-/// `Failed` if a write fails or takes nothing.
+/// Fails with `Failed` if a write fails or takes nothing.
 pub fn put_long<W: Sink>(writer: &mut W, text: &mut String) -> Result<(), Failed>
     ensures written { OnOk result
         (WritesOut (W.taken writer.old) (W.taken writer.new) (string_bytes text.old)

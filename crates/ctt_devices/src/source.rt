@@ -1,29 +1,29 @@
-//! A reader.
+//! A reader with a failure mark.
 
 ghost use Rattle.std.specs.Prelude.{◌≡◌, ◌+◌, ◌-◌, ◌^◌, ◌<◌, ◌≤◌, min, true, length, take, IfOk, OnOk, OnErr};
 ghost use Rattle.std.specs.Io.KnownBytes.{Consumes, Keeps, IsAtEnd};
 
-/// A read or a write that failed.
+/// The error of a call to a reader, a writer or a file that failed.
 #[derive(Clone, Copy, PartialEq, Eq)]
 pub struct Failed;
 
-/// A reader with a mark, which a failed read alone sets.
+/// A reader with a failure mark, which only a failed read sets.
 pub trait Source {
     ghost use Rattle.std.specs.Prelude.{ℕ, List, Bool, Option};
 
     /// Whether a read has failed.
     ghost has_failed: { Self → Bool };
 
-    /// How many reads were tried. From 2 ^ 64 - 1 on the count stays.
+    /// How many reads were tried. The count saturates at 2 ^ 64 - 1.
     ghost pulls: { Self → ℕ };
 
-    /// The bytes that are still to be given, where the reader tells them.
+    /// The bytes that are still to be read, if they are known.
     ghost left: { Self → Option (List ℕ) };
 
-    /// Reads bytes into the front of `buffer`, and answers how many. None are read only at the end,
-    /// or into an empty buffer. What the buffer holds behind them is left open.
+    /// Reads bytes into the beginning of `buffer`, and returns how many. Returns 0 only at the end,
+    /// or if the buffer is empty. The contents of the buffer after these bytes are unspecified.
     ///
-    /// A read that fails is `Failed`.
+    /// Fails with `Failed` if the read fails.
     fn pull(&mut self, buffer: &mut [u8]) -> Result<usize, Failed>
         ensures within { IfOk result (λ n. n ≤ length buffer.new) }
         ensures given { IfOk result (λ n.
