@@ -22,16 +22,16 @@ use Rattle.ctt_files.specs.Texts.{IsNoBarred, IsNoInstance, IsNoSolution}
 use Rattle.ctt_files.specs.Faults.{fault_of_barred, fault_of_instance, fault_of_solution, status_of}
 use Rattle.ctt_files.specs.declared.fault.Fault.{Fault}
 
--- the want of memory is no refusal
+-- running out of memory is not a refusal
 pub three_is_one : {C : Type 0} → ◌≡◌ {A = ℕ} 3 1 → C
 three_is_one e = absurd (omega (arith, e))
 
--- a reading of bytes fails by this fault, and each instance that they spell would be read, but for want of memory
+-- if the bytes spell an instance, the fault can only be that memory ran out
 abbrev pub TakesInstances : List ℕ → ReadFault → Type 0
 TakesInstances bytes read = (problem : Problem) → IsUtf8 bytes → Spells (words bytes) problem
     → ◌⊎◌ (◌≡◌ {A = Result Problem ReadFault} (Err read) (Ok problem)) (◌≡◌ {A = Result Problem ReadFault} (Err read) (Err instance.NoMemory))
 
--- the same of solutions
+-- the same for solutions
 abbrev pub TakesSolutions : Problem → List ℕ → SolutionFault → Type 0
 TakesSolutions problem bytes read = (timetable : List Placed) → IsUtf8 bytes → SolSpells problem (words bytes) timetable → read ≡ solution.NoMemory
 
@@ -40,7 +40,7 @@ of_no_instance : {C : Type 0} (problem : Problem) (read : ReadFault) → status_
 of_no_instance problem read one (inl taken) = err_is_ok _ problem read taken
 of_no_instance problem read one (inr wanted) = three_is_one (subst (λ fault. status_of (fault_of_instance fault) ≡ 1) (err_same {A = Problem} read instance.NoMemory wanted) one)
 
--- so where the fault is no want of memory, the text is that of no instance
+-- if the fault is not that memory ran out, the text is not valid for any instance
 pub no_instance : (read : ReadFault) (bytes : List ℕ) → IsCauseOf bytes read → TakesInstances bytes read → (fault : Fault) → fault ≡ fault_of_instance read → IsNoText fault_of_instance IsCauseOf IsNoInstance bytes fault
 no_instance read bytes meets takes fault is = record {
   met = read;
@@ -49,7 +49,7 @@ no_instance read bytes meets takes fault is = record {
   is_none = λ one problem text. of_no_instance problem read (sym (ap status_of is) ∙ one) (takes problem text.is_text text.spells);
 }
 
--- that of no solution
+-- if the fault is not that memory ran out, the text is not valid for a solution
 pub no_solution : (read : SolutionFault) (problem : Problem) (bytes : List ℕ) → IsSolutionCauseOf problem bytes read → TakesSolutions problem bytes read → (fault : Fault) → fault ≡ fault_of_solution read → IsNoText fault_of_solution (IsSolutionCauseOf problem) (IsNoSolution problem) bytes fault
 no_solution read problem bytes meets takes fault is = record {
   met = read;
@@ -58,7 +58,7 @@ no_solution read problem bytes meets takes fault is = record {
   is_none = λ one timetable text. three_is_one (subst (λ other. status_of (fault_of_solution other) ≡ 1) (takes timetable text.is_text text.spells) (sym (ap status_of is) ∙ one));
 }
 
--- that bars no rooms
+-- the same for barred rooms
 abbrev pub TakesBarred : Problem → List ℕ → BarredFault → Type 0
 TakesBarred problem bytes read = (table : List Bool) → IsUtf8 bytes → BarSpells problem (words bytes) table → read ≡ barred.NoMemory
 

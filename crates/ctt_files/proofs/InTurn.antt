@@ -1,4 +1,4 @@
--- Files that are read in turn.
+-- Files that are read in order.
 use Rattle.std.proofs.Common.{◌≡◌, ◌++◌, ◌+◌, ℕ, List, [], ◌∷◌, inl, inr, refl, sym, ap, subst, map, length, arith}
 use Rattle.std.specs.Global.{Global}
 use Rattle.std.specs.declared.string.String.{String}
@@ -8,7 +8,7 @@ use Rattle.ctt_files.specs.Texts.{Held, Holds, HoldInTurn}
 use Rattle.ctt_files.specs.declared.fault.Fault.{Fault}
 use Rattle.ctt_files.specs.declared.fault.Fault.TheVariants.{NoMemory}
 
--- these texts are those of the files before the ones that are left
+-- these texts are those of the files already read
 pub record IsRead {X : Type 0} (bytes_of : X → List ℕ) (held : Held) (names left : List (String Global)) (texts : List X) : Type 0 where
   pub ahead : (rest : List (List ℕ)) → HoldInTurn held left rest → HoldInTurn held names (map bytes_of texts ++ rest)
   pub among : (fault : Fault) → IsOfFiles left held fault → IsOfFiles names held fault
@@ -40,7 +40,7 @@ pub next_is_among : {X : Type 0} (bytes_of : X → List ℕ) (held : Held) (name
     → IsRead bytes_of held names left texts → IsOfFile held name fault → IsOfFiles names held fault
 next_is_among bytes_of held names left later name texts fault same read is = read.among fault (subst (λ (files : List (String Global)). IsOfFiles files held fault) (sym same) (inl is))
 
--- memory may be wanted for any files
+-- memory may run out for any files
 pub memory_of_files : (names : List (String Global)) (held : Held) → IsOfFiles names held NoMemory
 memory_of_files [] held = refl
 memory_of_files (name ∷ names) held = inr (memory_of_files names held)

@@ -1,4 +1,4 @@
--- The faults of texts and files: none is of the words, nor of what is written.
+-- The faults of texts and files: none is of the command line or of writing.
 use Rattle.std.proofs.Common.{◌≡◌, ⊎_elim, ◌∷◌, [], ◌∙◌, inl, inr, sym, subst, ℕ, List, IfErr, IfSome, IsErrAnd, OnOk, Option, Some, None, Result, Ok, Err, Bool, true, false, if◌then◌else◌}
 use Rattle.std.specs.Global.{Global}
 use Rattle.std.specs.String.{string_bytes}
@@ -18,7 +18,7 @@ use Rattle.ctt_files.specs.Texts.{Held, Holds, IsInstanceIn}
 use Rattle.ctt_files.specs.declared.fault.Fault.{Fault}
 use Rattle.ctt_files.specs.declared.fault.Fault.TheVariants.{BadSeats, Barred, CannotRead, CannotWrite, Instance, Journal, MinutesExist, NoCourse, NoCurriculum, NoMemory, NoPlace, NoRoom, NoTeacher, NoThread, NotYours, Opening, Solution, TooLong, TooManyScripts, Words, WordsNotText}
 
--- the fault is of a text, a file, a place or a thread, or memory was wanted
+-- the fault is of a text, a file, a place or a thread, or memory ran out
 abbrev pub IsPlain : Fault → Type 0
 IsPlain CannotWrite = ⊥
 IsPlain (Words text) = ⊥
@@ -73,7 +73,7 @@ unwritten_more (NoTeacher name) P Q R S p q is = q is
 unwritten_more (NoCourse name) P Q R S p q is = q is
 unwritten_more (NoRoom name) P Q R S p q is = q is
 
--- want of memory, or else this fault
+-- memory ran out, or it is this fault
 plain_or_memory : (wants : Bool) (fault : Fault) → IsPlain fault → IsPlain (if wants then NoMemory else fault)
 plain_or_memory true fault plain = tt
 plain_or_memory false fault plain = plain
@@ -95,7 +95,7 @@ input_plain name input.NoMemory = tt
 pub file_plain : (held : Held) (name : String Global) (fault : Fault) → IsOfFile held name fault → IsPlain fault
 file_plain held name fault is = subst IsPlain (sym is.is) (input_plain name is.met)
 
--- memory may be wanted for any file
+-- memory may run out for any file
 pub memory_of_file : (held : Held) (name : String Global) (fault : Fault) → fault ≡ NoMemory → IsOfFile held name fault
 memory_of_file held name fault is = record { met = input.NoMemory; is = is; cause = tt }
 
@@ -129,7 +129,7 @@ files_plain (name ∷ names) held fault (inr others) = files_plain names held fa
 pub instance_in_plain : (held : Held) (instance : String Global) (barred : Option (String Global)) (fault : Fault) → IsOfInstanceIn held instance barred fault → IsPlain fault
 instance_in_plain held instance barred fault is = ⊎_elim (λ none. instance_file_plain held instance fault none) (λ bars. barred_file_plain held bars.0 barred fault bars.2) is
 
--- what is said of all that may lie behind an instance
+-- a fault of an instance, or of what comes after it, is of this kind
 pub behind_plain : (IsOther : Held → Problem → Fault → Type 0) → ((held : Held) (problem : Problem) (fault : Fault) → IsOther held problem fault → IsPlain fault)
     → (held : Held) (instance : String Global) (barred : Option (String Global)) (fault : Fault) → IsOfInstanceOr IsOther held instance barred fault → IsPlain fault
 behind_plain IsOther other held instance barred fault is = ⊎_elim (λ none. instance_in_plain held instance barred fault none) (λ behind. other held behind.0 fault behind.2) is
@@ -140,22 +140,22 @@ pub on_ok_weaker : {T E : Type 0} (r : Result T E) (P Q : Type 0) → (P → Q) 
 on_ok_weaker (Ok x) P Q more holds = more holds
 on_ok_weaker (Err e) P Q more holds = tt
 
--- what holds of a fault holds where it is passed on
+-- what holds of a fault holds after it is passed on
 pub passed_on : {T : Type 0} (r : Result T Fault) (fault : Fault) (P : Fault → Type 0) → IsErrAnd r (λ told. told ≡ fault) → P fault → IfErr r P
 passed_on (Ok x) fault P same holds = tt
 passed_on (Err told) fault P same holds = subst P (sym same) holds
 
--- what lies behind the instance
+-- a fault of what comes after the instance
 pub behind_instance : (IsOther : Held → Problem → Fault → Type 0) (held later : Held) (instance : String Global) (barred : Option (String Global)) (problem : Problem) (fault : Fault)
     → IsInstanceIn held instance barred problem → later ≡ held → IsOther later problem fault → IsOfInstanceOr IsOther held instance barred fault
 behind_instance IsOther held later instance barred problem fault is same other = inr (problem, is, subst (λ (known : Held). IsOther known problem fault) same other)
 
--- the bytes that were read are what the file tells
+-- the bytes that were read are those of the file
 pub told_of : (held : Option (List ℕ)) (bytes items : List ℕ) → bytes ≡ items → IfSome held (λ text. items ≡ text) → IfSome held (λ text. bytes ≡ text)
 told_of None bytes items same all = tt
 told_of (Some text) bytes items same all = same ∙ all
 
--- a text that reading refused is that of the file
+-- a text that parsing refused is that of the file
 pub of_text : {T E : Type 0} (r : Result T Fault) (told : E → Fault) (met : E) (IsNo : List ℕ → Fault → Type 0) (held : Held) (name : String Global) (bytes items : List ℕ)
     → IsErrAnd r (λ fault. fault ≡ told met) → ((fault : Fault) → fault ≡ told met → IsNo bytes fault) → bytes ≡ items → Holds held name (λ text. items ≡ text) → IfErr r (λ fault. IsOfText IsNo held name fault)
 of_text (Ok x) told met IsNo held name bytes items gives none copied all = tt

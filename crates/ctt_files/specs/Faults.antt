@@ -1,4 +1,4 @@
--- The faults of the program: their numbers and their statuses.
+-- The faults of the program, with their exit statuses and lines.
 use Rattle.std.specs.Prelude.{◌≡◌, ◌++◌, ℕ, List, codes, if◌then◌else◌}
 use Rattle.std.specs.Global.{Global}
 use Rattle.std.specs.String.{string_bytes}
@@ -14,25 +14,26 @@ use Rattle.ctt_text.specs.declared.fault.SolutionFault.{SolutionFault}
 use Rattle.ctt_files.specs.declared.fault.Fault.{Fault}
 use Rattle.ctt_files.specs.declared.fault.Fault.TheVariants.{BadSeats, Barred, CannotRead, CannotWrite, Instance, Journal, MinutesExist, NoCourse, NoCurriculum, NoMemory, NoPlace, NoRoom, NoTeacher, NoThread, NotYours, Opening, Solution, TooLong, TooManyScripts, Words, WordsNotText}
 
--- the fault of an instance, of which want of memory is the program's own
+-- the program's fault for a fault of an instance: running out of memory has a fault of its own
 abbrev pub fault_of_instance : ReadFault → Fault
 fault_of_instance met = if instance.wants_memory met then NoMemory else Instance met
 
--- the fault of a solution
+-- the program's fault for a fault of a solution
 abbrev pub fault_of_solution : SolutionFault → Fault
 fault_of_solution met = if lacks_memory met then NoMemory else Solution met
 
--- the fault of barred rooms
+-- the program's fault for a fault of barred rooms
 abbrev pub fault_of_barred : BarredFault → Fault
 fault_of_barred met = if barred.wants_memory met then NoMemory else Barred met
 
--- the fault of the file of this name, by that of reading it
+-- the program's fault for a fault of reading the file of this name
 abbrev pub fault_of_input : String Global → InputFault → Fault
 fault_of_input name input.Read = CannotRead name
 fault_of_input name input.TooLong = TooLong name
 fault_of_input name input.NoMemory = NoMemory
 
--- 1 where a text is refused, or has no such name, 2 where the words are refused, and 3 where the machine failed
+-- the exit status: 1 if a text is refused or a name is unknown, 2 if the command line is refused,
+-- and 3 if the system failed
 abbrev pub status_of : Fault → ℕ
 status_of (Instance met) = 1
 status_of (Solution met) = 1
@@ -56,22 +57,23 @@ status_of NoPlace = 3
 status_of BadSeats = 2
 status_of (MinutesExist name) = 3
 
--- P where standard output could not be written, and else Q
+-- P if standard output could not be written, otherwise Q
 abbrev pub IfUnwritten : Fault → Type 0 → Type 0 → Type 0
 IfUnwritten CannotWrite P Q = P
 IfUnwritten _ P Q = Q
 
--- a part of the answers may have been printed before
+-- a part of the answers may have been printed before the fault
 abbrev pub MayHaveWritten : Fault → Type 0
 MayHaveWritten CannotWrite = Unit {0}
 MayHaveWritten NoMemory = Unit {0}
 MayHaveWritten _ = ⊥
 
--- the bytes end with the end of a line
+-- the bytes end with a line feed
 abbrev pub EndsLine : List ℕ → Type 0
 EndsLine bytes = (front : List ℕ) × (bytes ≡ front ++ codes "\n")
 
--- what is said of the fault: the text of refused words and the line of an opening as they are, of wanted memory this line, and else a text with its line's end
+-- what is reported of a fault: the texts of Words and Opening unchanged, a fixed line if memory ran
+-- out, and otherwise a text that ends with a line feed
 abbrev pub IsLineOf : Fault → List ℕ → Type 0
 IsLineOf (Words text) bytes = bytes ≡ string_bytes text
 IsLineOf (Opening text) bytes = bytes ≡ string_bytes text

@@ -1,9 +1,10 @@
--- The statuses of jobs that were done.
+-- The exit statuses of jobs that ended without a fault.
 use Rattle.std.specs.Prelude.{ℕ}
 use Rattle.ctt_files.specs.declared.outcome.Outcome.{Outcome}
 use Rattle.ctt_files.specs.declared.outcome.Outcome.TheVariants.{Differs, Done, Incomplete, Unlawful}
 
--- 1 where an audit does not agree; where a solution is asked to be more, 4 where it is not lawful, and 5 where it is not complete
+-- 1 if an audit finds a different reply; under strict judging, 4 if the solution is not lawful and
+-- 5 if it is lawful but not complete
 abbrev pub outcome_status : Outcome → ℕ
 outcome_status Done = 0
 outcome_status Differs = 1

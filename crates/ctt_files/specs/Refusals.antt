@@ -1,4 +1,4 @@
--- Why a text is not taken: the file in which the fault lies, and what stands in its text.
+-- Why an input is refused: the file that the fault comes from, and the fault of its text.
 use Rattle.std.specs.Prelude.{◌≡◌, ◌⊎◌, ◌<◌, ℕ, List, [], ◌∷◌, Option, Some, None, IfSome, length}
 use Rattle.std.specs.Global.{Global}
 use Rattle.std.specs.String.{string_bytes}
@@ -14,66 +14,68 @@ use Rattle.ctt_files.specs.Texts.{Held, Holds, IsInstanceIn, IsInstanceText, IsN
 use Rattle.ctt_files.specs.declared.fault.Fault.{Fault}
 use Rattle.ctt_files.specs.declared.fault.Fault.TheVariants.{NoMemory, TooLong}
 
--- this file has more bytes than are taken
+-- the fault is that this file is too long, and it has more than 64 MiB
 abbrev pub IsTooLong : Held → String Global → Fault → Type 0
 IsTooLong held name fault = (fault ≡ TooLong name) × Holds held name (λ text. 67108864 < length text)
 
--- only a file with more bytes than are taken is too long
+-- if the input is too long, it has more than 64 MiB
 abbrev pub IsInputCause : Option (List ℕ) → InputFault → Type 0
 IsInputCause bytes input.TooLong = IfSome bytes (λ text. 67108864 < length text)
 IsInputCause bytes met = Unit {0}
 
--- reading the file of this name, of these bytes if they are known, met a fault, and it is reported as this one
+-- reading the file of this name, with these bytes if they are known, met a fault, which is reported
+-- as this one
 pub record IsOfInput (bytes : Option (List ℕ)) (name : String Global) (fault : Fault) : Type 0 where
   pub met : InputFault
   pub is : fault ≡ fault_of_input name met
   pub cause : IsInputCause bytes met
 
--- the fault lies in reading this file
+-- the fault comes from reading this file
 abbrev pub IsOfFile : Held → String Global → Fault → Type 0
 IsOfFile held name = IsOfInput (held (string_bytes name)) name
 
--- reading the text meets the fault, and where that is no want of memory the text is none of its kind
+-- parsing the text meets the fault, and if the status is 1, the text is not valid
 pub record IsNoText {E : Type 0} (told : E → Fault) (Meets : List ℕ → E → Type 0) (IsNone : List ℕ → Type 0) (text : List ℕ) (fault : Fault) : Type 0 where
   pub met : E
   pub is : fault ≡ told met
   pub meets : Meets text met
   pub is_none : status_of fault ≡ 1 → IsNone text
 
--- of this file, where its bytes are told; or it cannot be read
+-- the fault comes from reading this file, or from parsing its text
 abbrev pub IsOfText : (List ℕ → Fault → Type 0) → Held → String Global → Fault → Type 0
 IsOfText IsNo held name fault = IsOfFile held name fault
     ⊎ ((text : List ℕ) × Holds held name (λ bytes. text ≡ bytes) × IsNo text fault)
 
--- the fault lies in the instance's file
+-- the fault comes from the file of the instance
 abbrev pub IsOfInstance : Held → String Global → Fault → Type 0
 IsOfInstance held name fault = IsOfText (IsNoText fault_of_instance IsCauseOf IsNoInstance) held name fault
 
--- in the file of the rooms that are barred in the instance that was read, if one is given
+-- the fault comes from the file of the barred rooms of the parsed instance, if one is given
 abbrev pub IsOfBarred : Held → Problem → Option (String Global) → Fault → Type 0
 IsOfBarred held read None fault = ⊥
 IsOfBarred held read (Some name) fault = IsOfText (IsNoText fault_of_barred (IsBarredCauseOf read) (IsNoBarred read)) held name fault
 
--- in one of these two
+-- the fault comes from the file of the instance or, after that is parsed, from that of its barred
+-- rooms
 abbrev pub IsOfInstanceIn : Held → String Global → Option (String Global) → Fault → Type 0
 IsOfInstanceIn held instance barred fault = IsOfInstance held instance fault
     ⊎ ((read : Problem) × Holds held instance (λ text. IsInstanceText text read) × IsOfBarred held read barred fault)
 
--- in one of these two, or, once the instance is read, somewhere else
+-- the fault comes from one of these two files or, after they are parsed, from elsewhere
 abbrev pub IsOfInstanceOr : (Held → Problem → Fault → Type 0) → Held → String Global → Option (String Global) → Fault → Type 0
 IsOfInstanceOr IsOther held instance barred fault = IsOfInstanceIn held instance barred fault
     ⊎ ((problem : Problem) × IsInstanceIn held instance barred problem × IsOther held problem fault)
 
--- in a solution's file
+-- the fault comes from the file of a solution
 abbrev pub IsOfSolution : String Global → Held → Problem → Fault → Type 0
 IsOfSolution name held problem fault = IsOfText (IsNoText fault_of_solution (IsSolutionCauseOf problem) (IsNoSolution problem)) held name fault
 
--- in the file of the start, if one is given
+-- the fault comes from the file of the start, if one is given
 abbrev pub IsOfStart : Option (String Global) → Held → Problem → Fault → Type 0
 IsOfStart None held problem fault = ⊥
 IsOfStart (Some name) held problem fault = IsOfSolution name held problem fault
 
--- in one of these files, or memory was wanted
+-- the fault comes from one of these files, or memory ran out
 abbrev pub IsOfFiles : List (String Global) → Held → Fault → Type 0
 IsOfFiles [] held fault = fault ≡ NoMemory
 IsOfFiles (name ∷ names) held fault = IsOfFile held name fault ⊎ IsOfFiles names held fault

@@ -1,4 +1,4 @@
--- Which texts are taken, and which are refused.
+-- Which texts are valid.
 use Rattle.std.specs.Prelude.{◌≡◌, ℕ, Bool, List, [], ◌∷◌, Option, Some, None, IfSome}
 use Rattle.std.specs.Global.{Global}
 use Rattle.std.specs.Str.{IsUtf8}
@@ -11,62 +11,63 @@ use Rattle.ctt_text.specs.SolutionText.{SolSpells}
 use Rattle.ctt_text.specs.Words.{words}
 use Rattle.ctt_text.specs.declared.placed.Placed.{Placed}
 
--- the bytes of files by their names, where they are told
+-- the bytes of files by name, if they are known
 abbrev pub Held : Type 0
 Held = List ℕ → Option (List ℕ)
 
--- the text of this file, where it is told, is so
+-- P holds of the bytes of this file, if they are known
 abbrev pub Holds : Held → String Global → (List ℕ → Type 0) → Type 0
 Holds held name P = IfSome (held (string_bytes name)) P
 
--- the files, where they are told, hold these texts, one each
+-- the files hold these texts, one each, as far as their bytes are known
 abbrev pub HoldInTurn : Held → List (String Global) → List (List ℕ) → Type 0
 HoldInTurn held [] [] = Unit {0}
 HoldInTurn held [] (text ∷ texts) = ⊥
 HoldInTurn held (name ∷ names) [] = ⊥
 HoldInTurn held (name ∷ names) (text ∷ texts) = Holds held name (λ bytes. text ≡ bytes) × HoldInTurn held names texts
 
--- the text is that of the instance
+-- the text is UTF-8, and spells the instance
 pub record IsInstanceText (text : List ℕ) (problem : Problem) : Type 0 where
   pub is_text : IsUtf8 text
   pub spells : Spells (words text) problem
 
--- the text says which rooms are barred in the instance that was read, and with these it is this one
+-- the text is UTF-8 and spells a table of barred rooms; `read` with this table is the instance
 pub record IsBarredText (read : Problem) (text : List ℕ) (problem : Problem) : Type 0 where
   pub is_text : IsUtf8 text
   pub table : List Bool
   pub spells : BarSpells read (words text) table
   pub makes : problem ≡ record read { barred = table }
 
--- the text is that of the timetable, as a solution of the instance
+-- the text is UTF-8, and spells the timetable as a solution of the instance
 pub record IsSolutionText (problem : Problem) (text : List ℕ) (timetable : List Placed) : Type 0 where
   pub is_text : IsUtf8 text
   pub spells : SolSpells problem (words text) timetable
 
--- the text is that of no instance
+-- the text is not valid for any instance
 abbrev pub IsNoInstance : List ℕ → Type 0
 IsNoInstance text = (problem : Problem) → ¬ IsInstanceText text problem
 
--- the text does not say which rooms are barred in the instance
+-- the text is not valid for barred rooms of the instance
 abbrev pub IsNoBarred : Problem → List ℕ → Type 0
 IsNoBarred read text = (problem : Problem) → ¬ IsBarredText read text problem
 
--- the instance that was read with the rooms barred that the file says, or as it was read where no file is given
+-- the parsed instance with the barred rooms from the file, or unchanged if no file is given
 abbrev pub IsBarredBy : Held → Option (String Global) → Problem → Problem → Type 0
 IsBarredBy held None read problem = problem ≡ read
 IsBarredBy held (Some name) read problem = Holds held name (λ text. IsBarredText read text problem)
 
--- the instance in a file, with the rooms barred that another file says, if one is given
+-- the instance in a file, with the barred rooms from another file, if one is given
 pub record IsInstanceIn (held : Held) (instance : String Global) (barred : Option (String Global)) (problem : Problem) : Type 0 where
   pub read : Problem
   pub is_instance : Holds held instance (λ text. IsInstanceText text read)
   pub is_barred : IsBarredBy held barred read problem
 
--- the text is that of no timetable, as a solution of the instance
+-- the text is not valid for a solution of the instance
 abbrev pub IsNoSolution : Problem → List ℕ → Type 0
 IsNoSolution problem text = (timetable : List Placed) → ¬ IsSolutionText problem text timetable
 
--- the lectures that a desk opens with: those of the solution in the file, or none where no file is given
+-- the lectures that a desk opens with: those of the solution in the file, or none if no file is
+-- given
 abbrev pub IsStart : Problem → Held → Option (String Global) → List Placed → Type 0
 IsStart problem held None lectures = lectures ≡ []
 IsStart problem held (Some name) lectures = Holds held name (λ text. IsSolutionText problem text lectures)

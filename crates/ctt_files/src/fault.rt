@@ -1,4 +1,4 @@
-//! Why the program did not do its job.
+//! The faults of the program.
 
 ghost use Rattle.std.specs.Prelude.{◌≡◌, ◌++◌, IfOk, codes};
 ghost use Rattle.std.specs.String.{string_bytes};
@@ -9,44 +9,44 @@ use ctt_text::{BarredFault, ReadFault, SolutionFault};
 use std::alloc::{AllocError, AllocFailed, Global};
 use thiserror::Error;
 
-/// Why the program did not do its job. Its text is the line on standard error, without the end of the
-/// line; those of `Words` and `Opening` are whole.
+/// Why the program did not do its job. It displays as the line on standard error, without the line
+/// feed; the texts of `Words` and `Opening` are complete.
 #[derive(Debug, Drop, Error)]
 pub enum Fault {
-    /// The words ask for no job. The text says why.
+    /// The words of the command line ask for no job. The text says why.
     #[error("{0}")]
     Words(String),
-    /// A word of the command line is no text.
+    /// A word of the command line is not a text.
     #[error("timedesk: words that are not text")]
     WordsNotText,
-    /// The instance is not as it has to be.
+    /// The instance is invalid.
     #[error("timedesk: {0}")]
     Instance(ReadFault),
-    /// The solution is not as it has to be.
+    /// The solution is invalid.
     #[error("timedesk: {0}")]
     Solution(SolutionFault),
-    /// The barred rooms are not as they have to be.
+    /// The text of barred rooms is invalid.
     #[error("timedesk: {0}")]
     Barred(BarredFault),
-    /// The journal is not as it has to be, at this byte or word.
+    /// The journal is invalid, at this byte or word.
     #[error("timedesk: journal J{number} {at}")]
     Journal { number: u8, at: u64 },
-    /// A lecture of the opening cannot be placed. The text says which one, and what stands against it.
+    /// A lecture of the opening cannot be placed. The text says which one, and why.
     #[error("{0}")]
     Opening(String),
     /// The file of this name could not be opened or read.
     #[error("timedesk: cannot read {0}")]
     CannotRead(String),
-    /// The file of this name has more bytes than are taken.
+    /// The file of this name is longer than the limit.
     #[error("timedesk: too long {0}")]
     TooLong(String),
-    /// A write to standard output failed, or to a file that had to be stored.
+    /// A write to standard output, or to a file to be stored, failed.
     #[error("timedesk: cannot write")]
     CannotWrite,
-    /// No memory was left.
+    /// Memory ran out.
     #[error("timedesk: no memory")]
     NoMemory,
-    /// A crew has more scripts than are taken.
+    /// A crew has too many scripts.
     #[error("timedesk: too many scripts")]
     TooManyScripts,
     /// A planner was refused a place at the desk.
@@ -58,10 +58,10 @@ pub enum Fault {
     /// A planner had seen more drafts than the desk has.
     #[error("timedesk: not yours")]
     NotYours,
-    /// A desk has more seats than are taken, or one of them twice.
+    /// A desk has too many seats, or the same seat twice.
     #[error("timedesk: at most 64 seats, each once")]
     BadSeats,
-    /// The file of this name, which is to be minutes, has bytes already.
+    /// The file of this name, in which the minutes should be stored, is not empty.
     #[error("timedesk: minutes exist {0}")]
     MinutesExist(String),
     /// The instance has no curriculum of this name.
@@ -78,10 +78,10 @@ pub enum Fault {
     NoRoom(String),
 }
 
-/// The line of wanted memory, which has to be told without memory.
+/// The line of `NoMemory`. It is a constant, since it has to be reported without allocating.
 pub const NO_MEMORY: &str = "timedesk: no memory\n";
 
-/// A text with the end of its line.
+/// Returns the text with a line feed appended.
 fn ended(mut text: String) -> Result<String, AllocError>
     ensures { IfOk result (λ line. string_bytes line ≡ string_bytes text ++ codes "\n") }
 {
@@ -90,7 +90,7 @@ fn ended(mut text: String) -> Result<String, AllocError>
 }
 
 impl Fault {
-    /// The status with which the program ends.
+    /// Returns the exit status of the program.
     pub fn status(&self) -> u8
         ensures { result ≡ status_of self.now }
     {
@@ -116,7 +116,7 @@ impl Fault {
         }
     }
 
-    /// The line on standard error.
+    /// Returns what is reported on standard error, including the line feed.
     pub fn line(&self, alloc: Global) -> Result<String, AllocError>
         ensures { IfOk result (λ line. IsLineOf self.now (string_bytes line)) }
     {

@@ -12,24 +12,25 @@ use ctt_devices::{Device, Failed, INPUT_LIMIT, InputFault, Source, put_whole, re
 use std::alloc::Global;
 use std::{fs, rt};
 
-/// Files that are read and written by their names.
+/// Files that are read and written by name.
 pub trait Files {
     ghost use Rattle.std.specs.Prelude.{ℕ, List, Option};
 
-    /// A file to be read.
+    /// A file opened for reading.
     type Input: Source + Drop;
 
-    /// The bytes of the file of a name, where the files tell them.
+    /// The bytes of the file with a name, if they are known.
     ghost held: { Self → List ℕ → Option (List ℕ) };
 
-    /// A file to be read from its beginning, of which nothing was read.
+    /// Opens a file for reading from its beginning.
     fn fetch(&mut self, name: &str) -> Result<Self::Input, Failed>
         ensures unmarked { IfOk result (λ input. Self.Input.has_failed input ≡ false) }
         ensures whole { IfOk result (λ input.
             IfSome (held self.old name.now) (λ bytes. Self.Input.left input ≡ Some bytes)) }
         ensures kept { held self.new ≡ held self.old };
 
-    /// Writes a whole file in place of what it held. The files of other names stay, also where it fails.
+    /// Writes a whole file, which replaces its contents. The files with other names are unchanged,
+    /// even if it fails.
     fn store(&mut self, name: &str, bytes: &[u8]) -> Result<(), Failed>
         ensures stored { OnOk result
             (IfSome (held self.new name.now) (λ stored. stored ≡ bytes.now)) }
@@ -46,7 +47,7 @@ pub struct SystemFiles<'r, R> {
 impl<'r, R: rt::Files> SystemFiles<'r, R> {
     ghost use Rattle.ctt_files.specs.Files.{runtime_of};
 
-    /// The files that the runtime reaches.
+    /// Returns the files that the runtime can access.
     pub fn new(rt: &'r R) -> Self
         ensures { runtime_of result ≡ rt.now }
     {
@@ -74,7 +75,7 @@ impl<'r, R: rt::Files> Files for SystemFiles<'r, R> {
     }
 }
 
-/// The fault of the file of this name, by that of reading it.
+/// Returns the fault of the program for a file of this name that could not be read.
 fn fault_of(name: String, met: InputFault) -> Fault
     ensures { result ≡ fault_of_input name met }
 {
@@ -85,7 +86,7 @@ fn fault_of(name: String, met: InputFault) -> Fault
     }
 }
 
-/// All bytes that are left of the file of this name, of which no read is tried again.
+/// Reads all remaining bytes of the file of this name. No read is tried again.
 fn read_input<R: Source>(alloc: Global, input: &mut R, name: String) -> Result<Vec<u8>, Fault>
     requires { R.has_failed input.old ≡ false }
 
@@ -100,7 +101,7 @@ fn read_input<R: Source>(alloc: Global, input: &mut R, name: String) -> Result<V
     }
 }
 
-/// All bytes of a file.
+/// Reads all bytes of a file, at most 64 MiB.
 pub fn read_file<F: Files>(alloc: Global, files: &mut F, name: String) -> Result<Vec<u8>, Fault>
     ensures all { IfOk result (λ bytes.
         IfSome (F.held files.old (string_bytes name)) (λ held. bytes.items ≡ held)) }
@@ -114,7 +115,7 @@ pub fn read_file<F: Files>(alloc: Global, files: &mut F, name: String) -> Result
     }
 }
 
-/// All bytes of each of these files, which are read in their order up to the first that cannot be read.
+/// Reads all bytes of each of these files, in order, up to the first file that cannot be read.
 pub fn read_files<F: Files>(
     alloc: Global,
     files: &mut F,

@@ -1,4 +1,4 @@
-//! Files by name, and why the program did not do its job.
+//! Files by name, and the faults and outcomes of the program.
 #![tactic(auto)]
 
 mod fault;

@@ -1,15 +1,15 @@
-//! How a job that was done ended.
+//! The outcomes of a job.
 
-/// How a job that was done ended.
+/// The outcome of a job that ended without a fault.
 #[derive(Clone, Copy, PartialEq, Eq)]
 pub enum Outcome {
-    /// It was done.
+    /// The job was done.
     Done,
-    /// A journal was told something else than the audit was.
+    /// A reply in the journal differs from that of the audit.
     Differs,
-    /// A solution is not lawful, and that was asked.
+    /// A solution that was judged strictly is not lawful.
     Unlawful,
-    /// A solution is lawful and not complete, and that was asked.
+    /// A solution that was judged strictly is lawful but not complete.
     Incomplete,
 }
 
@@ -17,7 +17,7 @@ impl Outcome {
     ghost use Rattle.std.specs.Prelude.{◌≡◌};
     ghost use Rattle.ctt_files.specs.Outcomes.{outcome_status};
 
-    /// The status with which the program ends.
+    /// Returns the exit status of the program.
     pub fn status(self) -> u8
         ensures { result ≡ outcome_status self }
     {

@@ -1,4 +1,4 @@
-//! What the program prints, and what it says on standard error.
+//! Writing to standard output and standard error.
 
 ghost use Rattle.std.specs.Prelude.{◌≡◌, ◌⊎◌, true, OnOk, OnErr, IfErr};
 ghost use Rattle.std.specs.Io.KnownBytes.{Appends};
@@ -8,7 +8,7 @@ ghost use Rattle.ctt_files.specs.declared.fault.Fault.TheVariants.{CannotWrite};
 use crate::fault::Fault;
 use ctt_devices::{Sink, put_whole};
 
-/// Prints a whole text on standard output.
+/// Writes a whole text to standard output.
 pub fn print<W: Sink>(out: &mut W, text: &[u8]) -> Result<(), Fault>
     ensures printed { OnOk result (Appends (W.taken out.old) (W.taken out.new) text.now) }
     ensures front { OnErr result (AppendsFront (W.taken out.old) (W.taken out.new) text.now) }
@@ -22,7 +22,7 @@ pub fn print<W: Sink>(out: &mut W, text: &[u8]) -> Result<(), Fault>
     }
 }
 
-/// Writes a whole text on standard error, where that can be done.
+/// Writes a whole text to standard error. A failure only sets the mark of the writer.
 pub fn complain<V: Sink>(err: &mut V, text: &[u8])
     ensures { (V.has_failed err.new ≡ true)
         ⊎ ((V.has_failed err.new ≡ V.has_failed err.old)

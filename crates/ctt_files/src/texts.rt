@@ -1,4 +1,4 @@
-//! Instances and solutions by the names of their files.
+//! Loading instances and solutions from files by name.
 
 ghost use Rattle.std.specs.Prelude.{◌≡◌, IfOk, OnOk, IfErr, IfSome};
 ghost use Rattle.std.specs.String.{string_bytes};
@@ -12,7 +12,7 @@ use crate::files::{Files, read_file};
 use ctt_text::{Instance, Placed, let_go, read_barred, read_instance, read_solution};
 use std::alloc::Global;
 
-/// The instance that a file holds, in which no room is barred.
+/// Loads an instance from a file. No room is barred in it.
 fn fetch_alone<F: Files>(alloc: Global, files: &mut F, name: String) -> Result<Instance, Fault>
     ensures spelled { IfOk result (λ instance.
         IfSome (F.held files.old (string_bytes name)) (λ text. IsInstanceText text instance)) }
@@ -23,7 +23,7 @@ fn fetch_alone<F: Files>(alloc: Global, files: &mut F, name: String) -> Result<I
     Ok(read_instance(alloc, &text)?)
 }
 
-/// Bars the rooms in an instance that a file says, if one is given.
+/// Bars the rooms that a file lists in an instance, if a file is given.
 fn bar_rooms<F: Files>(
     alloc: Global,
     files: &mut F,
@@ -42,8 +42,8 @@ fn bar_rooms<F: Files>(
     Ok(read_barred(alloc, instance, &text)?)
 }
 
-/// The instance that a file holds, with the rooms barred that another file says, if one is given. That file
-/// is read right behind the instance.
+/// Loads an instance from a file, with the barred rooms from another file, if one is given. The
+/// second file is read right after the first.
 pub fn fetch_instance<F: Files>(
     alloc: Global,
     files: &mut F,
@@ -65,7 +65,7 @@ pub fn fetch_instance<F: Files>(
     }
 }
 
-/// The timetable that a file holds, as a solution of the instance.
+/// Loads a timetable from a file, as a solution of the instance.
 pub fn fetch_solution<F: Files>(
     alloc: Global,
     files: &mut F,
@@ -83,7 +83,8 @@ pub fn fetch_solution<F: Files>(
     Ok(read_solution(alloc, instance, &text)?)
 }
 
-/// The lectures that a desk opens with: those of the solution that a file holds, or none.
+/// Loads the lectures that a desk opens with: those of the solution in a file, or none if no file
+/// is given.
 pub fn fetch_start<F: Files>(
     alloc: Global,
     files: &mut F,
